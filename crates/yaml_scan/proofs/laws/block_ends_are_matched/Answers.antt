@@ -1,0 +1,5 @@
+use Rattle.yaml_scan.proofs.GoOn.{ends_never_outnumber, as_many}
+use Rattle.yaml_scan.proofs.laws.block_ends_are_matched.Goals as goal
+
+pub returns : goal.returns
+returns c = record { beginnings = ends_never_outnumber; whole = as_many }

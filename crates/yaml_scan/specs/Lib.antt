@@ -1,0 +1,17 @@
+pub mod Kind
+pub mod Token
+pub mod Lexeme
+pub mod Laid
+pub mod Levels
+pub mod Begins
+pub mod Offline
+pub mod Order
+pub mod Slots
+pub mod Queue
+pub mod Fault
+pub mod Source
+pub mod Step
+pub mod Cut
+pub mod Answers
+pub mod Session
+pub mod Laws
