@@ -15,7 +15,7 @@ use Rattle.yaml_scan.proofs.Queued.{up_to-more}
 use Rattle.yaml_scan.proofs.Falling.{candidate_completes_nothing}
 
 -- what is completed does not stand before the candidate of a depth entered
-completed_from : (limit : ℕ) (i : Laid) (H : List Laid) (k : ℕ) (c : Laid) → IsHistory limit (i ∷ H) → candidate H k ≡ Some c → k ≤ depth H → (n : ℕ) → i.completed ≡ Some n → c.number ≤ n
+pub completed_from : (limit : ℕ) (i : Laid) (H : List Laid) (k : ℕ) (c : Laid) → IsHistory limit (i ∷ H) → candidate H k ≡ Some c → k ≤ depth H → (n : ℕ) → i.completed ≡ Some n → c.number ≤ n
 completed_from limit i H k c h s l n e =
     let r = completed_is limit H i n h.0 e in
     elim (cases_eq k (depth H)) [

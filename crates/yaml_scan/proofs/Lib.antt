@@ -18,3 +18,9 @@ pub mod Closing
 pub mod Settled
 pub mod Cuts
 pub mod Next
+pub mod TokenOrder
+pub mod KeyValues
+pub mod Sizes
+pub mod Pacing
+pub mod Sessions
+pub mod Courses

@@ -76,7 +76,7 @@ candidate_is_live limit H k c s l =
     let u : names c.number (option_map (λ c. c.number) (candidate H c.depth)) ≡ true = rw q (eq-eqb _ _ refl) in
     and_from _ _ u l
 
-current_candidate : (limit : ℕ) (H A : List Laid) (w : Laid) (B : List Laid) → H ≡ A ++ w ∷ B → IsHistory limit H → is_current H w ≡ true → candidate H w.depth ≡ Some w
+pub current_candidate : (limit : ℕ) (H A : List Laid) (w : Laid) (B : List Laid) → H ≡ A ++ w ∷ B → IsHistory limit H → is_current H w ≡ true → candidate H w.depth ≡ Some w
 unfolding is_current
 current_candidate limit H A w B e h t =
     let r = named_is w.number (candidate H w.depth) t in

@@ -57,11 +57,11 @@ abbrev pub one_if : Bool → ℕ
 one_if true = 1
 one_if false = 0
 
-ends_in-append : (a b : List Token) → ends_in (a ++ b) ≡ ends_in a + ends_in b
+pub ends_in-append : (a b : List Token) → ends_in (a ++ b) ≡ ends_in a + ends_in b
 unfolding ends_in
 ends_in-append a b = rw (filter-append is_block_end a b) (length-append (filter is_block_end a) (filter is_block_end b))
 
-starts_in-append : (a b : List Token) → starts_in (a ++ b) ≡ starts_in a + starts_in b
+pub starts_in-append : (a b : List Token) → starts_in (a ++ b) ≡ starts_in a + starts_in b
 unfolding starts_in
 starts_in-append a b = rw (filter-append is_block_start a b) (length-append (filter is_block_start a) (filter is_block_start b))
 
@@ -97,11 +97,11 @@ rest_counts W i = cases (opens W i) (is_completed W i)
     cases false true = (refl, refl)
     cases false false = (refl, refl)
 
-group_starts : (W : List Laid) (i : Laid) → starts_in (group W i) ≡ (one_if (opens W i))
+pub group_starts : (W : List Laid) (i : Laid) → starts_in (group W i) ≡ (one_if (opens W i))
 unfolding group block_ends
 group_starts W i = let a = starts_in-append (block_ends i) (inserted W i ++ (OfLexeme i.lexeme ∷ [])) in let b = starts_in-ends i.lexeme i.closed in let r = (rest_counts W i).0 in omega arith
 
-group_ends : (W : List Laid) (i : Laid) → ends_in (group W i) ≡ length i.closed
+pub group_ends : (W : List Laid) (i : Laid) → ends_in (group W i) ≡ length i.closed
 unfolding group block_ends
 group_ends W i = let a = ends_in-append (block_ends i) (inserted W i ++ (OfLexeme i.lexeme ∷ [])) in let b = ends_in-ends i.lexeme i.closed in let r = (rest_counts W i).1 in omega arith
 

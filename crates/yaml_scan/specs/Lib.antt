@@ -15,3 +15,5 @@ pub mod Cut
 pub mod Answers
 pub mod Session
 pub mod Laws
+pub mod TokenLaws
+pub mod SessionLaws

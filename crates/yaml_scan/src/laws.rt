@@ -1,5 +1,7 @@
 //! What holds of the layout: each law is the contract of a function that does nothing.
 ghost use Rattle.yaml_scan.specs.Laws.{DepthGoesOn, CandidatesGoOn, CandidatesAreNested, AllowedGoesOn, ColumnsGoOn, ColumnsFall, LevelIsFirst, LevelStays, OfflineGoesOn, CandidateStandsThere, NeverRevised, FewWait, FewWaitOneStepOn, AllIsHandedOut, LexemesComeInOrder, EndsNeverOutnumber, AsManyEnds, CutIsLongest, CutIsHistory, CutIsShort};
+ghost use Rattle.yaml_scan.specs.TokenLaws.{TokensStandInOrder, KeysAreFollowed, FourTokensAStep};
+ghost use Rattle.yaml_scan.specs.SessionLaws.{CourseIsHistory, EndsOrFaults, RefusedHasFault, AcceptedIsCut, FrontIsCut, TakenAreBeginning, PeeksChangeNothing, NoneIsStuck, PaceSettles, PaceIsLeast, FewStepsQueued};
 
 /// What one lexeme more makes of the depth, the candidates, the open columns and the level: a machine that keeps a slot
 /// for each depth and a stack of columns keeps them.
@@ -53,4 +55,52 @@ pub fn lexemes_come_in_order()
 pub fn block_ends_are_matched()
     ensures beginnings { EndsNeverOutnumber }
     ensures whole { AsManyEnds }
+{}
+
+/// Tokens stand in order: none starts behind its end, or ends behind the start of the next.
+pub fn tokens_stand_in_order()
+    ensures { TokensStandInOrder }
+{}
+
+/// Behind every key that the layout puts in stands its `:`, on its line and within the key limit.
+pub fn keys_are_followed()
+    ensures { KeysAreFollowed }
+{}
+
+/// There are at most four tokens a step.
+pub fn tokens_are_few()
+    ensures { FourTokensAStep }
+{}
+
+/// What an input comes to: its steps are a history, and end with the stream end or with a fault; an accepted input has
+/// the cut of its text, and a refused one, which always has a fault, a beginning of what its front alone would have.
+pub fn course_of_an_input()
+    ensures history { CourseIsHistory }
+    ensures ends { EndsOrFaults }
+    ensures refused { RefusedHasFault }
+    ensures accepted { AcceptedIsCut }
+    ensures front { FrontIsCut }
+{}
+
+/// Whatever the calls, the tokens taken are in order a beginning of the list, and where none is next there is a fault to
+/// answer.
+pub fn taken_tokens_begin_the_list()
+    ensures beginning { TakenAreBeginning }
+    ensures goes_on { NoneIsStuck }
+{}
+
+/// Peeks change nothing: the same calls without them, with a scan for each skip, take the same tokens.
+pub fn peeks_change_nothing()
+    ensures { PeeksChangeNothing }
+{}
+
+/// No more steps are made than the next token asks for.
+pub fn pace_is_least()
+    ensures settles { PaceSettles }
+    ensures least { PaceIsLeast }
+{}
+
+/// After any calls at most as many steps are queued as the key limit has bytes, and one.
+pub fn few_steps_are_queued()
+    ensures { FewStepsQueued }
 {}
