@@ -1,8 +1,7 @@
 -- What an input comes to.
-use Rattle.std.proofs.Common.{◌≡◌, ℕ, zero, suc, ◌+◌, ◌-◌, ◌≤◌, ◌<◌, Bool, true, false, List, [], ◌∷◌, ◌++◌, length, length-append, slice_get, Option, Some, None, refl, ap, sym, ◌∙◌, subst, arith, inl, inr, ltb, lt-ltb, append_assoc}
-use Rattle.std.specs.Prelude.{◌⊎◌, if◌then◌else◌, option_map, nat_lt}
+use Rattle.std.proofs.Common.{◌≡◌, ℕ, zero, suc, ◌+◌, ◌≤◌, ◌<◌, Bool, true, false, List, [], ◌∷◌, ◌++◌, length, length-append, slice_get, Option, Some, None, refl, ap, sym, ◌∙◌, subst, arith, inl, inr, lt-ltb, append_assoc}
+use Rattle.std.specs.Prelude.{option_map}
 use Rattle.std.proofs.lemmas.Bool.{cases_Bool, cases_lt, cond_both, false≢true}
-use Rattle.yaml_scan.specs.Kind.{is_stream_end}
 use Rattle.yaml_scan.specs.Lexeme.{Lexeme}
 use Rattle.yaml_scan.specs.Laid.{Laid}
 use Rattle.yaml_scan.specs.Levels.{laid}
@@ -11,12 +10,12 @@ use Rattle.yaml_scan.specs.Offline.Token.{OfLexeme}
 use Rattle.yaml_scan.specs.Order.{IsHistory, ended}
 use Rattle.yaml_scan.specs.Fault.{Fault}
 use Rattle.yaml_scan.specs.Begins.{Begins}
-use Rattle.yaml_scan.specs.Source.{Source, Offence}
+use Rattle.yaml_scan.specs.Source.{Offence}
 use Rattle.yaml_scan.specs.Step.{Outcome, step}
 use Rattle.yaml_scan.specs.Step.Outcome.{Reads, Faults}
 use Rattle.yaml_scan.specs.Cut.{Cut, cut, cut_from, cut_on, oldest, IsRun, EndsWith, KeepsOrder}
 use Rattle.yaml_scan.specs.Answers.{Input, Course, next, unless_near, is_near, place_of, starts_near, course, course_from, tokens_of}
-use Rattle.yaml_scan.specs.Session.{Call, Session, new_session, next_token, is_last, paced, took, finished, after_scan, after_peek, after_skip, after, after_all}
+use Rattle.yaml_scan.specs.Session.{Call, Session, new_session, next_token, is_last, after_scan, after_peek, after_skip, after, after_all}
 use Rattle.yaml_scan.specs.Session.Call.{SCAN, PEEK, SKIP}
 use Rattle.yaml_scan.specs.SessionLaws.{CourseIsHistory, EndsOrFaults, RefusedHasFault, AcceptedIsCut, FrontIsCut, NoneIsStuck}
 use Rattle.yaml_scan.proofs.Cuts.{IsOrderly, orderly, IsHistory-from_run, cut_of, cut_is_longest}

@@ -1,23 +1,22 @@
 -- Behind every key that is put in stands its `:`.
-use Rattle.std.proofs.Common.{◌≡◌, ℕ, ◌+◌, ◌≤◌, ◌<◌, not, ◌&&◌, ◌||◌, Bool, true, false, List, [], ◌∷◌, ◌++◌, map, length, length-append, Option, Some, None, refl, ap, sym, ◌∙◌, subst, arith, inl, inr, append_assoc, append-nil}
+use Rattle.std.proofs.Common.{◌≡◌, ℕ, ◌≤◌, ◌&&◌, Bool, true, false, List, [], ◌∷◌, ◌++◌, map, length-append, Option, Some, None, refl, ap, sym, ◌∙◌, subst, arith, inl, inr, append_assoc}
 use Rattle.std.specs.Prelude.{◌⊎◌, if◌then◌else◌, nat_eq}
 use Rattle.std.specs.List.{list_any}
 use Rattle.std.proofs.lemmas.Bool.{cases_Bool, cases_lt, and_from, and_parts, or_left, or_right, false≢true}
-use Rattle.yaml_text.specs.declared.types.yaml_mark_t.{yaml_mark_t}
-use Rattle.yaml_scan.specs.Kind.{is_block_entry, is_value}
+use Rattle.yaml_scan.specs.Kind.{is_block_entry}
 use Rattle.yaml_scan.specs.Lexeme.{Lexeme}
-use Rattle.yaml_scan.specs.Laid.{Laid, column, candidate, depth, completed_by, live, reach}
+use Rattle.yaml_scan.specs.Laid.{Laid, column, candidate, depth, live, reach}
 use Rattle.yaml_scan.specs.Levels.{opens, is_completed, is_above}
-use Rattle.yaml_scan.specs.Offline.{Token, block_ends, block_start, end_mark, inserted, group, groups, offline, before, waiting, is_current}
+use Rattle.yaml_scan.specs.Offline.{Token, block_ends, end_mark, inserted, group, groups, offline, before, waiting, is_current}
 use Rattle.yaml_scan.specs.Offline.Token.{StreamStart, BlockEnd, BlockSequenceStart, BlockMappingStart, InsertedKey, OfLexeme}
 use Rattle.yaml_scan.specs.Order.{IsHistory}
 use Rattle.yaml_scan.specs.Laws.{key_tokens}
 use Rattle.yaml_scan.specs.TokenLaws.{is_value_near, HasValue, KeysHaveValues, KeysAreFollowed}
-use Rattle.yaml_scan.proofs.Candidates.{candidate-is, candidate_split, IsSaved, IsKept}
-use Rattle.yaml_scan.proofs.Histories.{IsHistory-older, number_at, completed_is, IsCompletion}
-use Rattle.yaml_scan.proofs.Stable.{AllOther, groups-other, other_below, is_live_candidate}
+use Rattle.yaml_scan.proofs.Candidates.{candidate-is, candidate_split}
+use Rattle.yaml_scan.proofs.Histories.{IsHistory-older, number_at, completed_is}
+use Rattle.yaml_scan.proofs.Stable.{AllOther, groups-other, other_below}
 use Rattle.yaml_scan.proofs.Extend.{waiting_is, before_all, before_part}
-use Rattle.yaml_scan.proofs.Insertion.{IsInsertion, offline-more_none, offline-more_some}
+use Rattle.yaml_scan.proofs.Insertion.{offline-more_none, offline-more_some}
 use Rattle.yaml_scan.proofs.Columns.{completed_self}
 use Rattle.yaml_scan.proofs.Falling.{candidate_completes_nothing}
 use Rattle.yaml_scan.proofs.Whole.{candidate_above}

@@ -24,3 +24,4 @@ pub mod Sizes
 pub mod Pacing
 pub mod Sessions
 pub mod Courses
+pub mod Rows

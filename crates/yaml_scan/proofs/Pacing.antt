@@ -1,8 +1,8 @@
 -- How many steps a token asks for.
-use Rattle.std.proofs.Common.{◌≡◌, ℕ, zero, suc, ◌+◌, ◌-◌, ◌≤◌, ◌<◌, max, Bool, true, false, List, [], ◌∷◌, ◌++◌, length, length-append, length-drop, drop-drop, drop, refl, ap, sym, ◌∙◌, subst, arith, inl, inr, ltb, ltb-true, ltb-false, lt-ltb, le-ltb}
-use Rattle.std.specs.Prelude.{◌⊎◌, ◌&&◌, if◌then◌else◌, nat_lt}
-use Rattle.std.proofs.lemmas.Bool.{cases_Bool, cases_eq, cases_lt, false≢true, and_from, and_parts}
-use Rattle.std.proofs.lemmas.List.{drop_at, drop_all}
+use Rattle.std.proofs.Common.{◌≡◌, ℕ, ◌+◌, ◌-◌, ◌≤◌, ◌<◌, max, true, List, [], ◌∷◌, ◌++◌, length, length-append, length-drop, drop-drop, drop, refl, ap, sym, ◌∙◌, subst, arith, inl, inr, ltb, ltb-true, ltb-false, lt-ltb}
+use Rattle.std.specs.Prelude.{nat_lt}
+use Rattle.std.proofs.lemmas.Bool.{cases_Bool, cases_eq, cases_lt, and_from, and_parts}
+use Rattle.std.proofs.lemmas.List.{drop_at}
 use Rattle.yaml_scan.specs.Laid.{Laid}
 use Rattle.yaml_scan.specs.Offline.{before}
 use Rattle.yaml_scan.specs.Order.{IsHistory}

@@ -1,20 +1,17 @@
 -- Sessions: what calls take, and how many steps are queued.
-use Rattle.std.proofs.Common.{◌≡◌, ℕ, zero, suc, ◌+◌, ◌-◌, ◌≤◌, ◌<◌, max, not, ◌&&◌, Bool, true, false, List, [], ◌∷◌, ◌++◌, length, length-append, take, drop, slice_get, take-append-drop, Option, Some, None, refl, ap, sym, ◌∙◌, subst, arith, inl, inr, eqb, ltb, append_assoc}
-use Rattle.std.specs.Prelude.{◌⊎◌, if◌then◌else◌, nat_eq}
+use Rattle.std.proofs.Common.{◌≡◌, ℕ, zero, suc, ◌+◌, ◌-◌, ◌≤◌, max, Bool, true, false, List, [], ◌∷◌, ◌++◌, length, drop, slice_get, Option, Some, None, refl, ap, sym, ◌∙◌, subst, arith, inl, inr, ltb}
+use Rattle.std.specs.Prelude.{if◌then◌else◌, nat_eq}
 use Rattle.std.specs.Option.{option_to_list}
-use Rattle.std.proofs.lemmas.Bool.{cases_Bool, cases_lt, cond_both, false≢true, and_parts}
+use Rattle.std.proofs.lemmas.Bool.{cases_lt, cond_both, false≢true, and_parts}
 use Rattle.std.proofs.lemmas.List.{drop_all}
-use Rattle.yaml_scan.specs.Kind.{is_stream_end}
 use Rattle.yaml_scan.specs.Laid.{Laid}
-use Rattle.yaml_scan.specs.Offline.{Token, before, offline, queued, groups}
-use Rattle.yaml_scan.specs.Order.{IsHistory, ended}
-use Rattle.yaml_scan.specs.Begins.{Begins}
-use Rattle.yaml_scan.specs.Cut.{oldest}
+use Rattle.yaml_scan.specs.Offline.{Token, before, queued, groups}
+use Rattle.yaml_scan.specs.Order.{IsHistory}
 use Rattle.yaml_scan.specs.Answers.{Course, tokens_of}
-use Rattle.yaml_scan.specs.Session.{Call, Session, new_session, first_steps, steps_for, pace, all_steps, next_token, is_last, paced, looked, took, finished, after_scan, after_peek, after_skip, after, after_all, session_queued}
+use Rattle.yaml_scan.specs.Session.{Call, Session, new_session, first_steps, steps_for, pace, next_token, is_last, paced, looked, took, finished, after_scan, after_peek, after_skip, after, after_all, session_queued}
 use Rattle.yaml_scan.specs.Session.Call.{SCAN, PEEK, SKIP}
 use Rattle.yaml_scan.specs.SessionLaws.{token_taken, taken_by, tokens_in, TakenAreBeginning, without_peeks, skips_peeked, PeeksChangeNothing, FewStepsQueued}
-use Rattle.yaml_scan.proofs.Bound.{queued_few, queued_none}
+use Rattle.yaml_scan.proofs.Bound.{queued_few}
 use Rattle.yaml_scan.proofs.GoOn.{few_wait}
 use Rattle.yaml_scan.proofs.Pacing.{steps_for_is, steps_for_least, oldest_of}
 use Rattle.yaml_scan.proofs.Histories.{IsHistory-older}

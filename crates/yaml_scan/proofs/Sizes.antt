@@ -1,12 +1,11 @@
 -- How many tokens there are.
-use Rattle.std.proofs.Common.{◌≡◌, ℕ, suc, ◌+◌, ◌*◌, ◌≤◌, Bool, true, false, List, [], ◌∷◌, ◌++◌, map, length, length-append, take, refl, ap, sym, ◌∙◌, arith}
+use Rattle.std.proofs.Common.{◌≡◌, ℕ, suc, ◌+◌, ◌*◌, ◌≤◌, Bool, true, false, List, [], ◌∷◌, ◌++◌, map, length, length-append, refl, ap, arith}
 use Rattle.std.specs.Prelude.{if◌then◌else◌}
 use Rattle.std.proofs.lemmas.List.{take_all}
 use Rattle.yaml_scan.specs.Laid.{Laid}
 use Rattle.yaml_scan.specs.Levels.{opens, is_completed}
 use Rattle.yaml_scan.specs.Offline.{Token, end_mark, block_ends, block_start, inserted, group, groups, offline}
 use Rattle.yaml_scan.specs.Offline.Token.{BlockEnd, InsertedKey, OfLexeme}
-use Rattle.yaml_scan.specs.Order.{IsHistory}
 use Rattle.yaml_scan.specs.Laws.{ends_in, starts_in}
 use Rattle.yaml_scan.specs.TokenLaws.{FourTokensAStep}
 use Rattle.yaml_scan.proofs.Tokens.{ends_in-append, starts_in-append, group_starts, group_ends, one_if, never_more_ends}

@@ -1,17 +1,15 @@
 -- Tokens stand in order.
-use Rattle.std.proofs.Common.{◌≡◌, ℕ, ◌+◌, ◌≤◌, Bool, true, false, List, [], ◌∷◌, ◌++◌, map, length, refl, ap, sym, ◌∙◌, subst, arith, ltb, inl, inr}
+use Rattle.std.proofs.Common.{◌≡◌, ℕ, ◌≤◌, Bool, true, false, List, [], ◌∷◌, ◌++◌, map, refl, sym, subst, arith, ltb}
 use Rattle.std.specs.Prelude.{if◌then◌else◌, ◌&&◌}
-use Rattle.std.proofs.lemmas.Bool.{cases_Bool}
 use Rattle.yaml_text.specs.declared.types.yaml_mark_t.{yaml_mark_t}
 use Rattle.yaml_scan.specs.Kind.{is_stream_end, is_block_entry}
 use Rattle.yaml_scan.specs.Lexeme.{Lexeme}
 use Rattle.yaml_scan.specs.Laid.{Laid, reach}
 use Rattle.yaml_scan.specs.Levels.{opens, is_completed}
 use Rattle.yaml_scan.specs.Offline.{Token, block_ends, block_start, end_mark, inserted, group, groups, offline, before}
-use Rattle.yaml_scan.specs.Offline.Token.{StreamStart, BlockEnd, BlockSequenceStart, BlockMappingStart, InsertedKey, OfLexeme}
+use Rattle.yaml_scan.specs.Offline.Token.{BlockEnd, BlockSequenceStart, BlockMappingStart, InsertedKey, OfLexeme}
 use Rattle.yaml_scan.specs.Order.{Follows, IsHistory}
-use Rattle.yaml_scan.specs.Begins.{Begins}
-use Rattle.yaml_scan.specs.TokenLaws.{start_of, end_of, AreInOrder, TokensStandInOrder}
+use Rattle.yaml_scan.specs.TokenLaws.{end_of, AreInOrder, TokensStandInOrder}
 use Rattle.yaml_scan.proofs.Extend.{before-offline}
 
 in_order_from : (n m l : ℕ) (ts : List Token) → n ≤ m → AreInOrder m ts l → AreInOrder n ts l
