@@ -27,3 +27,5 @@ pub mod Courses
 pub mod Rows
 pub mod Look
 pub mod Onward
+pub mod AnswerOrder
+pub mod Local

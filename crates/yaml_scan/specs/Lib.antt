@@ -17,3 +17,5 @@ pub mod Session
 pub mod Laws
 pub mod TokenLaws
 pub mod SessionLaws
+pub mod AnswerLaws
+pub mod Locality
