@@ -1,0 +1,6 @@
+//! Says of a YAML stream what its text is, or why it is none.
+#![tactic(auto)]
+
+mod devices;
+
+fn main() {}
