@@ -1,1 +1,4 @@
 pub mod Devices
+pub mod Listing
+pub mod Args
+pub mod Outcome

@@ -1,6 +1,9 @@
 //! Says of a YAML stream what its text is, or why it is none.
 #![tactic(auto)]
 
+mod args;
 mod devices;
+mod listing;
+mod outcome;
 
 fn main() {}
