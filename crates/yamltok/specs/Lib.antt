@@ -2,3 +2,4 @@ pub mod Devices
 pub mod Listing
 pub mod Args
 pub mod Outcome
+pub mod Run

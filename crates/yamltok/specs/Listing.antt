@@ -5,11 +5,12 @@ use Rattle.std.specs.Fmt.{decimal, signed_decimal}
 use Rattle.yaml_text.specs.declared.types.yaml_encoding_t.{yaml_encoding_t}
 use Rattle.yaml_text.specs.declared.types.yaml_encoding_t.TheVariants.{YAML_ANY_ENCODING, YAML_UTF8_ENCODING, YAML_UTF16LE_ENCODING, YAML_UTF16BE_ENCODING}
 use Rattle.yaml_text.specs.declared.types.yaml_error_type_t.{yaml_error_type_t}
-use Rattle.yaml_text.specs.declared.types.yaml_error_type_t.TheVariants.{YAML_NO_ERROR, YAML_MEMORY_ERROR, YAML_READER_ERROR, YAML_SCANNER_ERROR}
+use Rattle.yaml_text.specs.declared.types.yaml_error_type_t.TheVariants.{YAML_MEMORY_ERROR, YAML_READER_ERROR, YAML_SCANNER_ERROR}
 use Rattle.yaml_text.specs.declared.types.yaml_mark_t.{yaml_mark_t}
 use Rattle.yaml_text.specs.Chars.{utf8}
 use Rattle.yaml_text.specs.Mark.{mark_of}
-use Rattle.yaml_text.specs.Text.{Text, Fault}
+use Rattle.yaml_text.specs.Text.{Text}
+use Rattle.yaml_text.specs.Fault.{Fault}
 
 -- a line of these parts, with a space between each two
 abbrev pub line_by : {X : Type 0} → (X → List ℕ) → List X → List ℕ

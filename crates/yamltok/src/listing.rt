@@ -2,7 +2,7 @@
 //! ends with a line feed.
 ghost use Rattle.std.specs.Prelude.{◌≡◌, ◌≢◌, ◌++◌, OnOk, OnErr, IfOk, string_bytes};
 ghost use Rattle.yaml_text.specs.declared.types.yaml_encoding_t.TheVariants.{YAML_ANY_ENCODING};
-ghost use Rattle.yaml_text.specs.Text.{fault_of};
+ghost use Rattle.yaml_text.specs.Fault.{fault_of};
 ghost use Rattle.yamltok.specs.Listing.{line_by, mark_text, encoding_word, reader_line, scanner_line, fault_line, text_line, HasLine};
 
 use std::alloc::{AllocError, Global};
@@ -38,17 +38,15 @@ fn encoding_word(encoding: yaml_encoding_t) -> &'static str
     }
 }
 
-fn reader_line(
-    alloc: Global,
-    offset: u64,
-    value: i32,
-    problem: &str,
-) -> Result<String, AllocError>
+fn reader_line(alloc: Global, offset: u64, value: i32, problem: &str) -> Result<String, AllocError>
     ensures { IfOk result (λ text. string_bytes text ≡ reader_line offset value problem.now) }
 {
     let offset = offset.to_string(alloc)?;
     let value = value.to_string(alloc)?;
-    line_of(alloc, &["FAULT", "reader", offset.as_str(), value.as_str(), problem])
+    line_of(
+        alloc,
+        &["FAULT", "reader", offset.as_str(), value.as_str(), problem],
+    )
 }
 
 fn scanner_line(
@@ -63,7 +61,17 @@ fn scanner_line(
     let from = mark_text(alloc, context_mark)?;
     let at = mark_text(alloc, problem_mark)?;
     let context = format!(in alloc; "{context};")?;
-    line_of(alloc, &["FAULT", "scanner", from.as_str(), at.as_str(), context.as_str(), problem])
+    line_of(
+        alloc,
+        &[
+            "FAULT",
+            "scanner",
+            from.as_str(),
+            at.as_str(),
+            context.as_str(),
+            problem,
+        ],
+    )
 }
 
 fn fault_text(alloc: Global, fault: &yaml_fault_t) -> Result<String, AllocError>
@@ -77,7 +85,13 @@ fn fault_text(alloc: Global, fault: &yaml_fault_t) -> Result<String, AllocError>
         }
         yaml_error_type_t::YAML_SCANNER_ERROR => {
             let context = fault.context.unwrap_or("-");
-            scanner_line(alloc, fault.context_mark, context, fault.problem_mark, problem)
+            scanner_line(
+                alloc,
+                fault.context_mark,
+                context,
+                fault.problem_mark,
+                problem,
+            )
         }
         _ => String::from_str(alloc, "FAULT memory\n"),
     }
@@ -86,15 +100,33 @@ fn fault_text(alloc: Global, fault: &yaml_fault_t) -> Result<String, AllocError>
 /// Puts the line of a fault behind `out`: `FAULT reader`, offset, value and problem text; `FAULT
 /// scanner`, the marks of context and problem, the context text or `-` with `;` behind it, and the
 /// problem text; or `FAULT memory`. Where memory is refused, `out` is as before.
-pub fn list_fault(
-    alloc: Global,
-    fault: &yaml_fault_t,
-    out: &mut Vec<u8>,
-) -> Result<(), AllocError>
+pub fn list_fault(alloc: Global, fault: &yaml_fault_t, out: &mut Vec<u8>) -> Result<(), AllocError>
     requires { HasLine (fault_of fault.now) }
     ensures ok { OnOk result (out.new.items ≡ out.old.items ++ fault_line (fault_of fault.now)) }
     ensures err { OnErr result (out.new.items ≡ out.old.items) }
 {
     let text = fault_text(alloc, fault)?;
     out.extend_from_slice(text.as_bytes())
+}
+
+fn text_line(alloc: Global, text: &yaml_text_t) -> Result<String, AllocError>
+    requires { text.now.encoding ≢ YAML_ANY_ENCODING }
+    ensures { IfOk result (λ line. string_bytes line ≡ text_line text.now) }
+{
+    let count = text.bytes().len();
+    let end = mark_text(alloc, yaml_mark_at(text, count))?;
+    let count = count.to_string(alloc)?;
+    let encoding = encoding_word(text.encoding());
+    line_of(alloc, &["TEXT", encoding, count.as_str(), end.as_str()])
+}
+
+/// Puts the line of a decoded text behind `out`: `TEXT`, the encoding, the number of bytes in UTF-8
+/// and the mark of the end. Where memory is refused, `out` is as before.
+pub fn list_text(alloc: Global, text: &yaml_text_t, out: &mut Vec<u8>) -> Result<(), AllocError>
+    requires { text.now.encoding ≢ YAML_ANY_ENCODING }
+    ensures ok { OnOk result (out.new.items ≡ out.old.items ++ text_line text.now) }
+    ensures err { OnErr result (out.new.items ≡ out.old.items) }
+{
+    let line = text_line(alloc, text)?;
+    out.extend_from_slice(line.as_bytes())
 }

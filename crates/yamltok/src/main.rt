@@ -5,5 +5,6 @@ mod args;
 mod devices;
 mod listing;
 mod outcome;
+mod run;
 
 fn main() {}
