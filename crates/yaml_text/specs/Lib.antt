@@ -7,3 +7,4 @@ pub mod Fault
 pub mod Decode
 pub mod Classes
 pub mod Mark
+pub mod Token
