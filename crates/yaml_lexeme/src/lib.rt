@@ -9,6 +9,7 @@ pub mod laws;
 mod lex;
 mod plain;
 mod problem;
+mod runs;
 
 pub use kind::yaml_lexeme_kind_t;
 pub use lex::{yaml_context_t, yaml_lexeme_t};
