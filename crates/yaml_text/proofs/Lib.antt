@@ -1,0 +1,9 @@
+pub mod Spelling
+pub mod Fronts
+pub mod ClassLaws
+pub mod Places
+pub mod Indexes
+pub mod Starts
+pub mod Units
+pub mod Readings
+pub mod Decodings

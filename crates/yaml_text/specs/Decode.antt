@@ -1,0 +1,157 @@
+-- Decoding: the characters that an input spells, or what is wrong behind them (YAML 1.1, sections 5.1 and 5.2).
+use Rattle.std.specs.Prelude.{ℕ, zero, suc, ◌≡◌, ◌+◌, ◌<◌, ◌⊎◌, Bool, ◌&&◌, ◌==◌, slice_index, if◌then◌else◌, List, [], ◌∷◌, ◌++◌, length, take, drop, encode_utf8, Option, Some, None, Result, Ok, Err, option_map, false, true}
+use Rattle.std.specs.Str.{bytes_eq}
+use Rattle.yaml_text.specs.declared.types.yaml_encoding_t.{yaml_encoding_t}
+use Rattle.yaml_text.specs.declared.types.yaml_encoding_t.TheVariants.{YAML_ANY_ENCODING, YAML_UTF8_ENCODING, YAML_UTF16LE_ENCODING, YAML_UTF16BE_ENCODING}
+use Rattle.yaml_text.specs.declared.fault.yaml_fault_t.{yaml_fault_t}
+use Rattle.yaml_text.specs.declared.offence.offence_t.{offence_t}
+use Rattle.yaml_text.specs.Chars.{is_char, IsChar, AreChars, utf8}
+use Rattle.yaml_text.specs.Utf8.{value8, offence8}
+use Rattle.yaml_text.specs.Utf16.{spelling16, utf16, value16, offence16}
+use Rattle.yaml_text.specs.Fault.{Fault, fault_of, memory_fault, reader_fault}
+use Rattle.yaml_text.specs.Text.{Text}
+
+-- UTF-16 with the high byte of a unit first or last.
+abbrev pub order : Bool → yaml_encoding_t
+order false = YAML_UTF16LE_ENCODING
+order true = YAML_UTF16BE_ENCODING
+
+-- How a character is spelled.
+abbrev pub spelling : yaml_encoding_t → ℕ → List ℕ
+spelling YAML_ANY_ENCODING c = encode_utf8 c
+spelling YAML_UTF8_ENCODING c = encode_utf8 c
+spelling YAML_UTF16LE_ENCODING c = spelling16 false c
+spelling YAML_UTF16BE_ENCODING c = spelling16 true c
+
+-- The spellings of characters, joined.
+abbrev pub spelled : yaml_encoding_t → List ℕ → List ℕ
+spelled YAML_ANY_ENCODING cs = utf8 cs
+spelled YAML_UTF8_ENCODING cs = utf8 cs
+spelled YAML_UTF16LE_ENCODING cs = utf16 false cs
+spelled YAML_UTF16BE_ENCODING cs = utf16 true cs
+
+-- The spelling of c stands in front of the bytes.
+abbrev pub Begins : yaml_encoding_t → ℕ → List ℕ → Type 0
+Begins e c bytes = (more : List ℕ) × (bytes ≡ spelling e c ++ more)
+
+-- No character's does.
+abbrev pub BeginsWithNone : yaml_encoding_t → List ℕ → Type 0
+BeginsWithNone e bytes = (c : ℕ) → IsChar c → Begins e c bytes → ⊥
+
+-- The front of the bytes: the longest list of characters whose spellings, joined, begin them.
+pub record IsFront (e : yaml_encoding_t) (bytes chars rest : List ℕ) : Type 0 where
+  pub parts : bytes ≡ spelled e chars ++ rest
+  pub each : AreChars chars
+  pub longest : BeginsWithNone e rest
+
+-- The value that the octets or units in front have, whether a character has it or not.
+abbrev pub value_in_front : yaml_encoding_t → List ℕ → ℕ
+value_in_front YAML_ANY_ENCODING bytes = value8 bytes
+value_in_front YAML_UTF8_ENCODING bytes = value8 bytes
+value_in_front YAML_UTF16LE_ENCODING bytes = value16 false bytes
+value_in_front YAML_UTF16BE_ENCODING bytes = value16 true bytes
+
+-- The character c, if the bytes begin with its spelling.
+abbrev pub if_begins : yaml_encoding_t → ℕ → List ℕ → Option ℕ
+if_begins e c bytes = if is_char c && bytes_eq (take (length (spelling e c)) bytes) (spelling e c) then Some c else None
+
+-- The character whose spelling begins the bytes.
+unfoldable pub first : yaml_encoding_t → List ℕ → Option ℕ
+first e bytes = if_begins e (value_in_front e bytes) bytes
+
+abbrev pub and_then_list : Option ℕ → (ℕ → List ℕ) → List ℕ
+and_then_list None more = []
+and_then_list (Some c) more = c ∷ more c
+
+-- At most n characters from the front on.
+unfoldable pub front_of : yaml_encoding_t → ℕ → List ℕ → List ℕ
+front_of e zero bytes = []
+front_of e (suc n) bytes = and_then_list (first e bytes) (λ c. front_of e n (drop (length (spelling e c)) bytes))
+
+-- The two bytes stand in front. A place past the end reads as 0.
+abbrev pub begins_with : ℕ → ℕ → List ℕ → Bool
+begins_with a b bytes = slice_index bytes 0 == a && slice_index bytes 1 == b
+
+-- The encoding that is set or, where none is, told by a byte order mark in front; without one it is UTF-8.
+abbrev pub encoding_of : yaml_encoding_t → List ℕ → yaml_encoding_t
+encoding_of YAML_ANY_ENCODING input = if begins_with 0xFF 0xFE input then YAML_UTF16LE_ENCODING else if begins_with 0xFE 0xFF input then YAML_UTF16BE_ENCODING else YAML_UTF8_ENCODING
+encoding_of YAML_UTF8_ENCODING input = YAML_UTF8_ENCODING
+encoding_of YAML_UTF16LE_ENCODING input = YAML_UTF16LE_ENCODING
+encoding_of YAML_UTF16BE_ENCODING input = YAML_UTF16BE_ENCODING
+
+-- How many bytes of a mark are dropped: none where an encoding is set.
+abbrev pub dropped : yaml_encoding_t → List ℕ → ℕ
+dropped YAML_ANY_ENCODING input = if begins_with 0xFF 0xFE input then 2 else if begins_with 0xFE 0xFF input then 2 else if begins_with 0xEF 0xBB input && slice_index input 2 == 0xBF then 3 else 0
+dropped YAML_UTF8_ENCODING input = 0
+dropped YAML_UTF16LE_ENCODING input = 0
+dropped YAML_UTF16BE_ENCODING input = 0
+
+abbrev pub behind_mark : yaml_encoding_t → List ℕ → List ℕ
+behind_mark setting input = drop (dropped setting input) input
+
+-- What is wrong with bytes in front of which no character stands.
+abbrev pub offence : yaml_encoding_t → List ℕ → offence_t
+offence YAML_ANY_ENCODING bytes = offence8 bytes
+offence YAML_UTF8_ENCODING bytes = offence8 bytes
+offence YAML_UTF16LE_ENCODING bytes = offence16 false bytes
+offence YAML_UTF16BE_ENCODING bytes = offence16 true bytes
+
+-- The front of an input, as a text.
+unfoldable pub front : yaml_encoding_t → List ℕ → Text
+front setting input = record { encoding = encoding_of setting input; chars = front_of (encoding_of setting input) (length (behind_mark setting input)) (behind_mark setting input) }
+
+-- How many bytes of the input the mark and the front take.
+abbrev pub front_len : yaml_encoding_t → List ℕ → ℕ
+front_len setting input = dropped setting input + length (spelled (encoding_of setting input) (front setting input).chars)
+
+abbrev pub refusal_of : yaml_encoding_t → ℕ → List ℕ → Option Fault
+refusal_of e before [] = None
+refusal_of e before (b ∷ bytes) = Some (reader_fault before (offence e (b ∷ bytes)))
+
+-- The fault of what stands behind the front, if anything does.
+unfoldable pub refusal : yaml_encoding_t → List ℕ → Option Fault
+refusal setting input = refusal_of (encoding_of setting input) (front_len setting input) (drop (front_len setting input) input)
+
+abbrev pub unless_refused : Option Fault → Text → Result Text Fault
+unless_refused None text = Ok text
+unless_refused (Some fault) text = Err fault
+
+-- What an input decodes to.
+abbrev pub decoded : yaml_encoding_t → List ℕ → Result Text Fault
+decoded setting input = unless_refused (refusal setting input) (front setting input)
+
+-- A text of these bytes and a fault behind it, where so many bytes of the input were dropped in front: their front, and
+-- what is wrong with the rest.
+pub record Fronts (e : yaml_encoding_t) (before : ℕ) (bytes : List ℕ) (text : Text) (fault : Option Fault) : Type 0 where
+  pub rest : List ℕ
+  pub encoding : text.encoding ≡ e
+  pub front : IsFront e bytes text.chars rest
+  pub refusal : fault ≡ refusal_of e (before + length (spelled e text.chars)) rest
+
+-- The input spells the text.
+pub record Spells (setting : yaml_encoding_t) (input : List ℕ) (text : Text) : Type 0 where
+  pub encoding : text.encoding ≡ encoding_of setting input
+  pub each : AreChars text.chars
+  pub bytes : behind_mark setting input ≡ spelled text.encoding text.chars
+
+-- The input spells no text: the fault is what is wrong behind its front.
+pub record IsRefused (setting : yaml_encoding_t) (input : List ℕ) (fault : Fault) : Type 0 where
+  pub chars : List ℕ
+  pub rest : List ℕ
+  pub front : IsFront (encoding_of setting input) (behind_mark setting input) chars rest
+  pub left : 0 < length rest
+  pub fault_is : fault ≡ reader_fault (dropped setting input + length (spelled (encoding_of setting input) chars)) (offence (encoding_of setting input) rest)
+
+-- A fault of the code, if there is one, as the definitions see it.
+abbrev pub refusal_seen : Option yaml_fault_t → Option Fault
+refusal_seen fault = option_map fault_of fault
+
+-- A call answered what was asked for, or memory was refused.
+abbrev pub Decodes : Result Text yaml_fault_t → Result Text Fault → Type 0
+Decodes (Ok text) decoded = decoded ≡ Ok text
+Decodes (Err fault) decoded = (fault_of fault ≡ memory_fault) ⊎ (decoded ≡ Err (fault_of fault))
+
+-- What a call answered, with the fault's texts in place of where they lie.
+abbrev pub outcome : Result Text yaml_fault_t → Result Text Fault
+outcome (Ok text) = Ok text
+outcome (Err fault) = Err (fault_of fault)

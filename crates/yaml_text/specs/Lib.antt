@@ -1,0 +1,10 @@
+pub mod Chars
+pub mod Offence
+pub mod Utf8
+pub mod Utf16
+pub mod Text
+pub mod Fault
+pub mod Decode
+pub mod Classes
+pub mod Mark
+pub mod Token

@@ -1,0 +1,162 @@
+//! Decoding: the text that an input spells, or its longest front and what is wrong behind it.
+ghost use Rattle.std.specs.Prelude.{ℕ, ◌≡◌, ◌+◌, ◌<◌, ◌≤◌, ◌^◌, ◌⊎◌, option_map, length, take, drop, true, false, if◌then◌else◌, IfOk, IfErr, IsOk, IsNone, OnSome, IfSome};
+ghost use Rattle.yaml_text.specs.Chars.{IsText, utf8};
+ghost use Rattle.yaml_text.specs.Utf8.{offence8};
+ghost use Rattle.yaml_text.specs.Decode.{BeginsWithNone, Fronts, encoding_of, dropped, behind_mark, front, refusal, refusal_seen, decoded, Decodes, outcome, Spells, IsRefused, order};
+ghost use Rattle.yaml_text.specs.Fault.{fault_of, memory_fault, reader_fault};
+ghost use Rattle.yaml_text.specs.declared.types.yaml_encoding_t.TheVariants.{YAML_UTF8_ENCODING, YAML_UTF16LE_ENCODING, YAML_UTF16BE_ENCODING};
+
+use crate::fault::{make_reader_fault, yaml_fault_t};
+use crate::offence::offence_t;
+use crate::text::{borrowed_text, owned_text, yaml_text_t};
+use crate::types::yaml_encoding_t;
+use crate::utf8::first_char;
+use crate::utf16::front16;
+use std::alloc::{AllocError, Global};
+
+/// The bytes from a place on.
+pub(crate) fn from(bytes: &[u8], at: usize) -> &[u8]
+    requires { at ≤ length bytes.now }
+    ensures { result.now ≡ drop at bytes.now }
+{
+    &bytes[at..]
+}
+
+/// The bytes up to a place.
+fn up_to(bytes: &[u8], at: usize) -> &[u8]
+    requires { at ≤ length bytes.now }
+    ensures { result.now ≡ take at bytes.now }
+{
+    &bytes[..at]
+}
+
+/// How many bytes the front of a text has, and what is wrong behind it.
+fn front8(bytes: &[u8]) -> (usize, Option<offence_t>)
+    ensures within { result.0 ≤ length bytes.now }
+    ensures text { IsText (take result.0 bytes.now) }
+    ensures longest { BeginsWithNone YAML_UTF8_ENCODING (drop result.0 bytes.now) }
+    ensures whole { IsNone result.1 → result.0 ≡ length bytes.now }
+    ensures offence { IfSome result.1 (λ o. o ≡ offence8 (drop result.0 bytes.now)) }
+    ensures left { IfSome result.1 (λ o. result.0 + o.offset < length bytes.now) }
+{
+    let mut at = 0;
+    while at < bytes.len() {
+        match first_char(from(bytes, at)) {
+            Ok(width) => at += width,
+            Err(offence) => return (at, Some(offence)),
+        }
+    }
+    (at, None)
+}
+
+/// The encoding that is set or told by a byte order mark, and how many bytes of such a mark are dropped.
+fn told(setting: yaml_encoding_t, input: &[u8]) -> (yaml_encoding_t, usize)
+    ensures encoding { result.0 ≡ encoding_of setting input.now }
+    ensures dropped { result.1 ≡ dropped setting input.now }
+    ensures within { result.1 ≤ length input.now }
+{
+    match setting {
+        yaml_encoding_t::YAML_ANY_ENCODING => match input {
+            [0xFF, 0xFE, ..] => (yaml_encoding_t::YAML_UTF16LE_ENCODING, 2),
+            [0xFE, 0xFF, ..] => (yaml_encoding_t::YAML_UTF16BE_ENCODING, 2),
+            [0xEF, 0xBB, 0xBF, ..] => (yaml_encoding_t::YAML_UTF8_ENCODING, 3),
+            _ => (yaml_encoding_t::YAML_UTF8_ENCODING, 0),
+        },
+        _ => (setting, 0),
+    }
+}
+
+/// The fault of an offence that stands behind so many bytes.
+fn refusal(before: usize, offence: Option<offence_t>) -> Option<yaml_fault_t>
+    requires { IfSome offence (λ o. before + o.offset < 2 ^ 64) }
+    ensures { refusal_seen result ≡ option_map (reader_fault before) offence }
+{
+    match offence {
+        None => None,
+        Some(offence) => Some(make_reader_fault(before as u64, offence)),
+    }
+}
+
+/// The front in UTF-8, which is borrowed, behind so many bytes of the input.
+fn front_in_utf8<'a>(bytes: &'a [u8], before: usize) -> (yaml_text_t<'a>, Option<yaml_fault_t>)
+    requires { before + length bytes.now < 2 ^ 64 }
+    ensures { Fronts YAML_UTF8_ENCODING before bytes.now result.0 (refusal_seen result.1) }
+{
+    let (len, offence) = front8(bytes);
+    let text = borrowed_text(up_to(bytes, len));
+    (text, refusal(before + len, offence))
+}
+
+fn order(big: bool) -> yaml_encoding_t
+    ensures { result ≡ order big }
+{
+    if big {
+        yaml_encoding_t::YAML_UTF16BE_ENCODING
+    } else {
+        yaml_encoding_t::YAML_UTF16LE_ENCODING
+    }
+}
+
+/// The front in UTF-16, which is copied into UTF-8, behind so many bytes of the input.
+fn front_in_utf16<'a>(
+    alloc: Global,
+    bytes: &[u8],
+    big: bool,
+    before: usize,
+) -> Result<(yaml_text_t<'a>, Option<yaml_fault_t>), AllocError>
+    requires { before + length bytes.now < 2 ^ 64 }
+    ensures { IfOk result (λ r. Fronts (order big) before bytes.now r.0 (refusal_seen r.1)) }
+{
+    let (utf8, len, offence) = front16(alloc, bytes, big)?;
+    let text = owned_text(order(big), utf8);
+    Ok((text, refusal(before + len, offence)))
+}
+
+/// The front of an input, and the fault of what stands behind it.
+///
+/// The front is the longest list of characters whose spellings, joined, begin the input behind its byte order mark, which is
+/// dropped where no encoding is set. Where anything is left behind it the fault says what is wrong there: its kind is reader,
+/// its offset counts the bytes of the whole input. `Err` is a want of memory, which comes for UTF-16 alone: in UTF-8 the text
+/// borrows the input (YAML 1.1, sections 5.1 and 5.2).
+pub fn yaml_decode_front<'a>(
+    alloc: Global,
+    input: &'a [u8],
+    setting: yaml_encoding_t,
+) -> Result<(yaml_text_t<'a>, Option<yaml_fault_t>), yaml_fault_t>
+    ensures front { IfOk result (λ r. r.0 ≡ front setting input.now) }
+    ensures refusal { IfOk result (λ r. refusal_seen r.1 ≡ refusal setting input.now) }
+    ensures memory { IfErr result (λ fault. fault_of fault ≡ memory_fault) }
+    ensures borrowed { encoding_of setting input.now ≡ YAML_UTF8_ENCODING → IsOk result }
+{
+    let (encoding, before) = told(setting, input);
+    let bytes = from(input, before);
+    match encoding {
+        yaml_encoding_t::YAML_UTF16LE_ENCODING => Ok(front_in_utf16(alloc, bytes, false, before)?),
+        yaml_encoding_t::YAML_UTF16BE_ENCODING => Ok(front_in_utf16(alloc, bytes, true, before)?),
+        _ => Ok(front_in_utf8(bytes, before)),
+    }
+}
+
+/// The text that the input spells, or why it spells none.
+///
+/// `Err` is a fault of kind reader, with the offset in bytes of the whole input, the octet, unit or code point that is wrong
+/// there (-1 where there is none) and the problem; or a want of memory, which comes for UTF-16 alone. In UTF-8 the text
+/// borrows the input, without the byte order mark that is dropped where no encoding is set (YAML 1.1, sections 5.1 and 5.2).
+pub fn yaml_decode<'a>(
+    alloc: Global,
+    input: &'a [u8],
+    setting: yaml_encoding_t,
+) -> Result<yaml_text_t<'a>, yaml_fault_t>
+    ensures exact { Decodes result (decoded setting input.now) }
+    ensures text { IfOk result (λ text. Spells setting input.now text) }
+    ensures fault { IfErr result (λ fault. (fault_of fault ≡ memory_fault) ⊎ IsRefused setting input.now (fault_of fault)) }
+    // accepted UTF-8 is its own text, and no memory is taken for it
+    ensures own_text { IfOk result (λ text. text.encoding ≡ YAML_UTF8_ENCODING → utf8 text.chars ≡ behind_mark setting input.now) }
+    ensures borrowed { encoding_of setting input.now ≡ YAML_UTF8_ENCODING → outcome result ≡ decoded setting input.now }
+{
+    match yaml_decode_front(alloc, input, setting) {
+        Ok((text, None)) => Ok(text),
+        Ok((_, Some(fault))) => Err(fault),
+        Err(fault) => Err(fault),
+    }
+}

@@ -1,0 +1,102 @@
+//! Faults: why an input was refused, where, and in what context.
+ghost use Rattle.std.specs.Prelude.{◌≡◌, ◌+◌, ◌^◌, ◌<◌, Option, None, option_map};
+ghost use Rattle.std.specs.Option.{option_copied};
+ghost use Rattle.yaml_text.specs.Fault.{fault_of, memory_fault, reader_fault, scanner_fault};
+
+use crate::offence::{offence_t, problem_text};
+use crate::types::{yaml_error_type_t, yaml_mark_t};
+use std::alloc::{AllocError, AllocFailed};
+use thiserror::Error;
+
+/// Why an input was refused.
+///
+/// A fault of kind memory has no problem, no context and only zeros. A fault of kind reader has a problem, its offset and
+/// a value. A fault of kind scanner has a problem and its mark, and mostly a context and its mark.
+#[derive(Clone, Copy, Debug, PartialEq, Eq, Error)]
+#[error("YAML {error} fault")]
+pub struct yaml_fault_t {
+    pub error: yaml_error_type_t,
+    /// What is wrong.
+    pub problem: Option<&'static str>,
+    /// Bytes of the input that stand before what is wrong, for a reader fault.
+    pub problem_offset: u64,
+    /// The octet, unit or code point that is wrong, or -1 where there is none, for a reader fault.
+    pub problem_value: i32,
+    pub problem_mark: yaml_mark_t,
+    /// What was being read.
+    pub context: Option<&'static str>,
+    pub context_mark: yaml_mark_t,
+}
+
+const ZERO: yaml_mark_t = yaml_mark_t {
+    index: 0,
+    line: 0,
+    column: 0,
+};
+
+/// A want of memory.
+pub fn make_memory_fault() -> yaml_fault_t
+    ensures { fault_of result ≡ memory_fault }
+{
+    yaml_fault_t {
+        error: yaml_error_type_t::YAML_MEMORY_ERROR,
+        problem: None,
+        problem_offset: 0,
+        problem_value: 0,
+        problem_mark: ZERO,
+        context: None,
+        context_mark: ZERO,
+    }
+}
+
+/// An offence behind so many bytes of the input.
+pub(crate) fn make_reader_fault(before: u64, offence: offence_t) -> yaml_fault_t
+    requires { before + offence.offset < 2 ^ 64 }
+    ensures { fault_of result ≡ reader_fault before offence }
+{
+    yaml_fault_t {
+        error: yaml_error_type_t::YAML_READER_ERROR,
+        problem: Some(problem_text(offence.problem)),
+        problem_offset: before + offence.offset,
+        problem_value: offence.value,
+        problem_mark: ZERO,
+        context: None,
+        context_mark: ZERO,
+    }
+}
+
+/// A problem at a mark, with a context at another.
+pub fn make_scanner_fault(
+    problem: &'static str,
+    problem_mark: yaml_mark_t,
+    context: Option<&'static str>,
+    context_mark: yaml_mark_t,
+) -> yaml_fault_t
+    ensures { fault_of result ≡ scanner_fault problem.now problem_mark (option_copied context.entry) context_mark }
+{
+    yaml_fault_t {
+        error: yaml_error_type_t::YAML_SCANNER_ERROR,
+        problem: Some(problem),
+        problem_offset: 0,
+        problem_value: 0,
+        problem_mark,
+        context,
+        context_mark,
+    }
+}
+
+impl From<AllocError> for yaml_fault_t {
+    ghost from_gives = { λ _ e. fault_of e ≡ memory_fault };
+
+    fn from(_e: AllocError) -> yaml_fault_t {
+        make_memory_fault()
+    }
+}
+
+impl<T: Drop> From<AllocFailed<T>> for yaml_fault_t {
+    ghost from_gives = { λ _ e. fault_of e ≡ memory_fault };
+
+    fn from(_e: AllocFailed<T>) -> yaml_fault_t {
+        make_memory_fault()
+    }
+}

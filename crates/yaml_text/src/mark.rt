@@ -1,0 +1,146 @@
+//! The marks of a text's places.
+ghost use Rattle.std.specs.Prelude.{ℕ, ◌≡◌, ◌+◌, ◌-◌, ◌<◌, ◌≤◌, ◌↔◌, ◌&&◌, [], true, false, not, nat_le, nat_lt, length, slice_index, if◌then◌else◌, IsTrue};
+ghost use Rattle.yaml_text.specs.Classes.{is_break, is_crlf_at};
+ghost use Rattle.yaml_text.specs.Utf8.{width_of, continues};
+ghost use Rattle.yaml_text.specs.Mark.{mark_of, past, cuts_break, break_len, step_len, is_place_by, IsPlace, IsPlaceAt, mark_at};
+
+use crate::classes::{IS_BREAK, IS_CRLF, WIDTH};
+use crate::text::yaml_text_t;
+use crate::types::yaml_mark_t;
+use crate::utf8::continues;
+use std::marker::Model;
+
+/// A place that moves through a text.
+#[derive(Drop)]
+struct cursor_t<'a> {
+    bytes: &'a [u8],
+    mark: yaml_mark_t,
+}
+
+impl<'a> Model for cursor_t<'a> {
+    ghost use Rattle.yaml_text.specs.Mark.{At, IsAt, at_of};
+
+    ghost Value = { At };
+
+    ghost view = { λ c. at_of c.bytes.now c.mark };
+
+    ghost invariant = { λ c. IsAt c.bytes.now c.mark };
+}
+
+/// How many bytes the break there has.
+fn break_width(s: &[u8], at: usize) -> usize
+    ensures { result ≡ (if is_crlf_at s.now at then 2 else width_of (slice_index s.now at)) }
+{
+    if IS_CRLF(s, at) { 2 } else { WIDTH(s, at) }
+}
+
+impl<'a> cursor_t<'a> {
+    /// The front of a text.
+    fn new(text: &'a yaml_text_t<'_>) -> cursor_t<'a>
+        ensures { result ≡ record { before = []; left = text.now.chars } }
+    {
+        cursor_t {
+            bytes: text.bytes(),
+            mark: yaml_mark_t {
+                index: 0,
+                line: 0,
+                column: 0,
+            },
+        }
+    }
+
+    /// The mark of the place.
+    fn mark(&self) -> yaml_mark_t
+        ensures mark { result ≡ mark_of self.now.before }
+        ensures whole { cuts_break self.now.before self.now.left ≡ false }
+    {
+        self.mark
+    }
+
+    /// Whether a break stands here.
+    fn is_break(&self) -> bool
+        ensures { result ≡ is_break (slice_index self.now.left 0) }
+    {
+        IS_BREAK(self.bytes, self.mark.index as usize)
+    }
+
+    /// Goes past a character that is no break.
+    fn skip(&mut self)
+        requires some { 0 < length self.old.left }
+        requires no_break { is_break (slice_index self.old.left 0) ≡ false }
+        ensures { self.new ≡ past 1 self.old }
+    {
+        let width = WIDTH(self.bytes, self.mark.index as usize);
+        self.mark.index += width as u64;
+        self.mark.column += 1;
+    }
+
+    /// Goes past a break.
+    fn skip_line(&mut self)
+        requires { is_break (slice_index self.old.left 0) ≡ true }
+        ensures { self.new ≡ past (break_len self.old.left) self.old }
+    {
+        let at = self.mark.index as usize;
+        let width = break_width(self.bytes, at);
+        self.mark.index += width as u64;
+        self.mark.line += 1;
+        self.mark.column = 0;
+    }
+
+    /// Goes to the next place.
+    fn advance(&mut self)
+        requires { 0 < length self.old.left }
+        ensures place { self.new ≡ past (step_len self.old.left) self.old }
+        ensures shorter { length self.new.left < length self.old.left }
+    {
+        if self.is_break() {
+            self.skip_line();
+        } else {
+            self.skip();
+        }
+    }
+}
+
+/// Whether both sides of the index are text.
+fn is_start(bytes: &[u8], index: usize) -> bool
+    ensures { result ≡ (nat_le index (length bytes.now) && not (continues (slice_index bytes.now index))) }
+{
+    match bytes.get(index) {
+        Some(b) => !continues(*b),
+        None => index == bytes.len(),
+    }
+}
+
+/// Whether CR stands before the index, and LF there.
+fn parts_crlf(bytes: &[u8], index: usize) -> bool
+    ensures { result ≡ (nat_lt 0 index && is_crlf_at bytes.now (index - 1)) }
+{
+    index > 0 && IS_CRLF(bytes, index - 1)
+}
+
+fn is_place_by(bytes: &[u8], index: usize) -> bool
+    ensures { result ≡ is_place_by bytes.now index }
+{
+    is_start(bytes, index) && !parts_crlf(bytes, index)
+}
+
+/// Whether the index, in bytes of the text in UTF-8, is the start of a character or the end, and not between the two
+/// characters of a CR LF.
+pub fn yaml_is_place(text: &yaml_text_t, index: usize) -> bool
+    ensures { IsTrue result ↔ IsPlace text.now.chars index }
+{
+    is_place_by(text.bytes(), index)
+}
+
+/// The mark of the place at an index in bytes of the text in UTF-8: that index, the breaks that end before it, and the
+/// characters since the last of them. CR LF is one break (YAML 1.1, section 5.4). It is counted from the front.
+pub fn yaml_mark_at(text: &yaml_text_t, index: usize) -> yaml_mark_t
+    requires { IsPlace text.now.chars index }
+    ensures { (p : ℕ) → IsPlaceAt text.now.chars index p → result ≡ mark_at text.now.chars p }
+{
+    let mut cursor = cursor_t::new(text);
+    while (cursor.mark().index as usize) < index {
+        cursor.advance();
+    }
+    cursor.mark()
+}

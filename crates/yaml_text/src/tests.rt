@@ -1,0 +1,88 @@
+use super::*;
+use std::alloc::Global;
+use std::test::Fail;
+
+const ANY: yaml_encoding_t = yaml_encoding_t::YAML_ANY_ENCODING;
+
+const UTF8: yaml_encoding_t = yaml_encoding_t::YAML_UTF8_ENCODING;
+
+const UTF16BE: yaml_encoding_t = yaml_encoding_t::YAML_UTF16BE_ENCODING;
+
+/// The number of bytes and the mark at the end, or the fault's offset, value and problem.
+fn decoded(alloc: Global, input: &[u8], setting: yaml_encoding_t) -> Result<String, Fail> {
+    match yaml_decode(alloc, input, setting) {
+        Ok(text) => {
+            let count = text.bytes().len();
+            if !yaml_is_place(&text, count) {
+                return Ok(format!(in alloc; "no place")?);
+            }
+            let end = yaml_mark_at(&text, count);
+            let (index, line, column) = (end.index, end.line, end.column);
+            Ok(format!(in alloc; "{count} {index}:{line}:{column}")?)
+        }
+        Err(fault) => {
+            let (offset, value) = (fault.problem_offset, fault.problem_value);
+            let problem = fault.problem.unwrap_or("-");
+            Ok(format!(in alloc; "{offset} {value} {problem}")?)
+        }
+    }
+}
+
+#[test]
+fn texts(rt: HostRuntime) -> Result<(), Fail> {
+    let alloc = rt.alloc();
+    assert_eq!(rt; decoded(alloc, b"a: 1", ANY)?.as_str(), "4 4:0:4");
+    assert_eq!(rt; decoded(alloc, b"a\r\nb", ANY)?.as_str(), "4 4:1:1");
+    assert_eq!(rt; decoded(alloc, b"\xEF\xBB\xBFa", UTF8)?.as_str(), "4 4:0:2");
+    assert_eq!(rt;
+        decoded(alloc, b"\xFE\xFF\x26\x3A", ANY)?.as_str(),
+        "3 3:0:1"
+    );
+    Ok(())
+}
+
+#[test]
+fn refusals(rt: HostRuntime) -> Result<(), Fail> {
+    let alloc = rt.alloc();
+    assert_eq!(rt;
+        decoded(alloc, b"\xE0\x80\x80", ANY)?.as_str(),
+        "0 -1 invalid length of a UTF-8 sequence"
+    );
+    assert_eq!(rt;
+        decoded(alloc, b"\xD8\x00", UTF16BE)?.as_str(),
+        "0 -1 incomplete UTF-16 surrogate pair"
+    );
+    Ok(())
+}
+
+#[test]
+fn fronts(rt: HostRuntime) -> Result<(), Fail> {
+    let (text, refusal) = yaml_decode_front(rt.alloc(), b"ab\xFF", ANY).map_err(|_| "no memory")?;
+    assert_eq!(rt; text.bytes(), b"ab".as_slice());
+    assert_eq!(rt; text.encoding(), UTF8);
+    let fault = refusal.ok_or("a fault")?;
+    assert_eq!(rt; fault.problem_offset, 2);
+    assert_eq!(rt; fault.problem_value, 255);
+    Ok(())
+}
+
+#[test]
+fn places(rt: HostRuntime) -> Result<(), Fail> {
+    let text = yaml_decode(rt.alloc(), b"a\r\n\xC3\xA9", ANY).map_err(|_| "a text")?;
+    assert!(rt; yaml_is_place(&text, 0));
+    assert!(rt; !yaml_is_place(&text, 2));
+    assert!(rt; yaml_is_place(&text, 3));
+    assert!(rt; !yaml_is_place(&text, 4));
+    assert!(rt; yaml_is_place(&text, 5));
+    assert!(rt; !yaml_is_place(&text, 6));
+    Ok(())
+}
+
+#[test]
+fn shown(rt: HostRuntime) -> Result<(), Fail> {
+    let fault = yaml_decode(rt.alloc(), b"\xFF", ANY)
+        .err()
+        .ok_or("a fault")?;
+    assert_eq!(rt; fault.to_string(rt.alloc())?.as_str(), "YAML reader fault");
+    Ok(())
+}

@@ -1,0 +1,68 @@
+//! A decoded text.
+ghost use Rattle.std.specs.Prelude.{◌≡◌};
+ghost use Rattle.std.specs.Str.{chars};
+ghost use Rattle.yaml_text.specs.Chars.{utf8, AreChars, IsText};
+ghost use Rattle.yaml_text.specs.declared.types.yaml_encoding_t.TheVariants.{YAML_UTF8_ENCODING};
+
+use crate::types::yaml_encoding_t;
+use std::borrow::CowSlice;
+use std::marker::Model;
+
+/// A decoded text: how the input spelled it, and its characters. In UTF-8 it borrows the input.
+#[derive(Drop)]
+pub struct yaml_text_t<'a> {
+    encoding: yaml_encoding_t,
+    held: CowSlice<'a, u8>,
+}
+
+impl<'a> Model for yaml_text_t<'a> {
+    ghost use Rattle.std.specs.Str.{chars};
+    ghost use Rattle.std.specs.Cow.{cow_slice_items};
+    ghost use Rattle.yaml_text.specs.Chars.{IsText};
+    ghost use Rattle.yaml_text.specs.Text.{Text};
+
+    ghost Value = { Text };
+
+    ghost view = { λ t. record { encoding = t.encoding; chars = chars (cow_slice_items t.held) } };
+
+    ghost invariant = { λ t. IsText (cow_slice_items t.held) };
+}
+
+impl<'a> yaml_text_t<'a> {
+    /// How the input spelled the text: never `YAML_ANY_ENCODING`.
+    pub fn encoding(&self) -> yaml_encoding_t
+        ensures { result ≡ self.now.encoding }
+    {
+        self.encoding
+    }
+
+    /// The text in UTF-8.
+    pub fn bytes(&self) -> &[u8]
+        ensures utf8 { result.now ≡ utf8 self.now.chars }
+        ensures characters { AreChars self.now.chars }
+    {
+        self.held.as_slice()
+    }
+}
+
+/// A text in UTF-8, where it stands.
+pub(crate) fn borrowed_text<'a>(bytes: &'a [u8]) -> yaml_text_t<'a>
+    requires { IsText bytes.now }
+    ensures { result ≡ record { encoding = YAML_UTF8_ENCODING; chars = chars bytes.now } }
+{
+    yaml_text_t {
+        encoding: yaml_encoding_t::YAML_UTF8_ENCODING,
+        held: CowSlice::Borrowed(bytes),
+    }
+}
+
+/// A text that keeps its own bytes.
+pub(crate) fn owned_text<'a>(encoding: yaml_encoding_t, bytes: Vec<u8>) -> yaml_text_t<'a>
+    requires { IsText bytes.items }
+    ensures { result ≡ record { encoding = encoding; chars = chars bytes.items } }
+{
+    yaml_text_t {
+        encoding,
+        held: CowSlice::Owned(bytes),
+    }
+}

@@ -1,0 +1,157 @@
+//! Tokens: what a scanner answers.
+ghost use Rattle.std.specs.Prelude.{◌≡◌, List, ℕ};
+ghost use Rattle.yaml_text.specs.Token.{type_of, length_of};
+ghost use Rattle.yaml_text.specs.Fault.{zero_mark};
+ghost use Rattle.yaml_text.specs.declared.token.unnamed_yaml_token_t_data.TheVariants.{NO_TOKEN};
+
+use crate::bytes::yaml_bytes_t;
+use crate::types::{yaml_encoding_t, yaml_mark_t, yaml_scalar_style_t, yaml_token_type_t};
+
+/// What a token says: one variant a type.
+#[derive(Drop, PartialEq, Eq)]
+pub enum unnamed_yaml_token_t_data {
+    NO_TOKEN,
+    STREAM_START {
+        encoding: yaml_encoding_t,
+    },
+    STREAM_END,
+    VERSION_DIRECTIVE {
+        major: i32,
+        minor: i32,
+    },
+    TAG_DIRECTIVE {
+        handle: yaml_bytes_t,
+        prefix: yaml_bytes_t,
+    },
+    DOCUMENT_START,
+    DOCUMENT_END,
+    BLOCK_SEQUENCE_START,
+    BLOCK_MAPPING_START,
+    BLOCK_END,
+    FLOW_SEQUENCE_START,
+    FLOW_SEQUENCE_END,
+    FLOW_MAPPING_START,
+    FLOW_MAPPING_END,
+    BLOCK_ENTRY,
+    FLOW_ENTRY,
+    KEY,
+    VALUE,
+    ALIAS {
+        value: yaml_bytes_t,
+    },
+    ANCHOR {
+        value: yaml_bytes_t,
+    },
+    TAG {
+        handle: yaml_bytes_t,
+        suffix: yaml_bytes_t,
+    },
+    SCALAR {
+        value: yaml_bytes_t,
+        style: yaml_scalar_style_t,
+    },
+}
+
+impl unnamed_yaml_token_t_data {
+    ghost use Rattle.yaml_text.specs.Token.{type_of, length_of};
+
+    /// The length of a scalar's value, in bytes; 0 for what is no scalar.
+    pub fn length(&self) -> u64
+        ensures { result ≡ length_of self.now }
+    {
+        match self {
+            unnamed_yaml_token_t_data::SCALAR { value, style: _ } => value.as_slice().len() as u64,
+            _ => 0,
+        }
+    }
+
+    fn type_(&self) -> yaml_token_type_t
+        ensures { result ≡ type_of self.now }
+    {
+        match self {
+            unnamed_yaml_token_t_data::NO_TOKEN => yaml_token_type_t::YAML_NO_TOKEN,
+            unnamed_yaml_token_t_data::STREAM_START { encoding: _ } => {
+                yaml_token_type_t::YAML_STREAM_START_TOKEN
+            }
+            unnamed_yaml_token_t_data::STREAM_END => yaml_token_type_t::YAML_STREAM_END_TOKEN,
+            unnamed_yaml_token_t_data::VERSION_DIRECTIVE { major: _, minor: _ } => {
+                yaml_token_type_t::YAML_VERSION_DIRECTIVE_TOKEN
+            }
+            unnamed_yaml_token_t_data::TAG_DIRECTIVE {
+                handle: _,
+                prefix: _,
+            } => { yaml_token_type_t::YAML_TAG_DIRECTIVE_TOKEN }
+            unnamed_yaml_token_t_data::DOCUMENT_START => {
+                yaml_token_type_t::YAML_DOCUMENT_START_TOKEN
+            }
+            unnamed_yaml_token_t_data::DOCUMENT_END => yaml_token_type_t::YAML_DOCUMENT_END_TOKEN,
+            unnamed_yaml_token_t_data::BLOCK_SEQUENCE_START => {
+                yaml_token_type_t::YAML_BLOCK_SEQUENCE_START_TOKEN
+            }
+            unnamed_yaml_token_t_data::BLOCK_MAPPING_START => {
+                yaml_token_type_t::YAML_BLOCK_MAPPING_START_TOKEN
+            }
+            unnamed_yaml_token_t_data::BLOCK_END => yaml_token_type_t::YAML_BLOCK_END_TOKEN,
+            unnamed_yaml_token_t_data::FLOW_SEQUENCE_START => {
+                yaml_token_type_t::YAML_FLOW_SEQUENCE_START_TOKEN
+            }
+            unnamed_yaml_token_t_data::FLOW_SEQUENCE_END => {
+                yaml_token_type_t::YAML_FLOW_SEQUENCE_END_TOKEN
+            }
+            unnamed_yaml_token_t_data::FLOW_MAPPING_START => {
+                yaml_token_type_t::YAML_FLOW_MAPPING_START_TOKEN
+            }
+            unnamed_yaml_token_t_data::FLOW_MAPPING_END => {
+                yaml_token_type_t::YAML_FLOW_MAPPING_END_TOKEN
+            }
+            unnamed_yaml_token_t_data::BLOCK_ENTRY => yaml_token_type_t::YAML_BLOCK_ENTRY_TOKEN,
+            unnamed_yaml_token_t_data::FLOW_ENTRY => yaml_token_type_t::YAML_FLOW_ENTRY_TOKEN,
+            unnamed_yaml_token_t_data::KEY => yaml_token_type_t::YAML_KEY_TOKEN,
+            unnamed_yaml_token_t_data::VALUE => yaml_token_type_t::YAML_VALUE_TOKEN,
+            unnamed_yaml_token_t_data::ALIAS { value: _ } => yaml_token_type_t::YAML_ALIAS_TOKEN,
+            unnamed_yaml_token_t_data::ANCHOR { value: _ } => yaml_token_type_t::YAML_ANCHOR_TOKEN,
+            unnamed_yaml_token_t_data::TAG {
+                handle: _,
+                suffix: _,
+            } => { yaml_token_type_t::YAML_TAG_TOKEN }
+            unnamed_yaml_token_t_data::SCALAR { value: _, style: _ } => {
+                yaml_token_type_t::YAML_SCALAR_TOKEN
+            }
+        }
+    }
+}
+
+/// A token: what it says, and the marks where it starts and behind which it ends.
+#[derive(Drop, PartialEq, Eq)]
+pub struct yaml_token_t {
+    pub token_data: unnamed_yaml_token_t_data,
+    pub start_mark: yaml_mark_t,
+    pub end_mark: yaml_mark_t,
+}
+
+impl yaml_token_t {
+    ghost use Rattle.yaml_text.specs.Token.{type_of};
+
+    /// The token's type.
+    pub fn type_(&self) -> yaml_token_type_t
+        ensures { result ≡ type_of self.now.token_data }
+    {
+        self.token_data.type_()
+    }
+
+    /// The token that stands for none: of type `YAML_NO_TOKEN`, with zero marks.
+    pub fn empty() -> yaml_token_t
+        ensures { result ≡ record { token_data = NO_TOKEN; start_mark = zero_mark; end_mark = zero_mark } }
+    {
+        let zero = yaml_mark_t {
+            index: 0,
+            line: 0,
+            column: 0,
+        };
+        yaml_token_t {
+            token_data: unnamed_yaml_token_t_data::NO_TOKEN,
+            start_mark: zero,
+            end_mark: zero,
+        }
+    }
+}

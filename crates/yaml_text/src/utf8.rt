@@ -1,0 +1,137 @@
+//! Reading and writing UTF-8.
+ghost use Rattle.std.specs.Prelude.{ℕ, ◌≡◌, ◌+◌, ◌<◌, ◌≤◌, ◌^◌, ◌++◌, length, slice_index, IfOk, IfErr, OnErr, OnOk, encode_utf8};
+ghost use Rattle.std.specs.Char.{len_utf8, IsScalar};
+ghost use Rattle.yaml_text.specs.Chars.{is_char, IsChar};
+ghost use Rattle.yaml_text.specs.Utf8.{width_of, continues, stray_at, value_of, least_of, is_scalar, offence8};
+ghost use Rattle.yaml_text.specs.Decode.{Begins, BeginsWithNone};
+ghost use Rattle.yaml_text.specs.declared.types.yaml_encoding_t.TheVariants.{YAML_UTF8_ENCODING};
+
+use crate::offence::{offence_t, problem_t, refused};
+use std::alloc::AllocError;
+
+/// How many bytes a character has that begins with this one, and 0 where none does.
+pub(crate) fn width_of(b: u8) -> usize
+    ensures { result ≡ width_of b }
+{
+    match b {
+        0..=0x7F => 1,
+        0x80..=0xBF => 0,
+        0xC0..=0xDF => 2,
+        0xE0..=0xEF => 3,
+        0xF0..=0xF7 => 4,
+        _ => 0,
+    }
+}
+
+pub(crate) fn continues(b: u8) -> bool
+    ensures { result ≡ continues b }
+{
+    matches!(b, 0x80..=0xBF)
+}
+
+#[tactic(auto, unfolding(crate::specs::Utf8::stray_at))]
+fn stray_at(bytes: &[u8], width: usize) -> usize
+    requires { width ≤ length bytes.now }
+    ensures stray { result ≡ stray_at width bytes.now }
+    ensures within { 0 < result → result < width }
+{
+    if width > 1 && !continues(bytes[1]) {
+        1
+    } else if width > 2 && !continues(bytes[2]) {
+        2
+    } else if width > 3 && !continues(bytes[3]) {
+        3
+    } else {
+        0
+    }
+}
+
+#[tactic(auto, unfolding(crate::specs::Chars::is_char))]
+pub(crate) fn is_char(c: u32) -> bool
+    ensures { result ≡ is_char c }
+{
+    matches!(c, 0x20..=0x7E | 9 | 10 | 13 | 0x85 | 0xA0..=0xD7FF | 0xE000..=0xFFFD | 0x10000..=0x10FFFF)
+}
+
+#[tactic(auto, unfolding(crate::specs::Utf8::value_of))]
+fn value_of(bytes: &[u8], width: usize) -> u32
+    requires some { 0 < width }
+    requires whole { width ≤ length bytes.now }
+    requires four { width ≤ 4 }
+    ensures value { result ≡ value_of width bytes.now }
+    ensures bound { result < 2 ^ 21 }
+{
+    let b = bytes[0] as u32;
+    match width {
+        1 => b,
+        2 => b % 32 * 64 + bytes[1] as u32 % 64,
+        3 => b % 16 * 4096 + bytes[1] as u32 % 64 * 64 + bytes[2] as u32 % 64,
+        _ => {
+            b % 8 * 262144
+                + bytes[1] as u32 % 64 * 4096
+                + bytes[2] as u32 % 64 * 64
+                + bytes[3] as u32 % 64
+        }
+    }
+}
+
+fn least_of(width: usize) -> u32
+    ensures { result ≡ least_of width }
+{
+    match width {
+        2 => 0x80,
+        3 => 0x800,
+        4 => 0x10000,
+        _ => 0,
+    }
+}
+
+fn is_scalar(c: u32) -> bool
+    ensures { result ≡ is_scalar c }
+{
+    matches!(c, 0..=0xD7FF | 0xE000..=0x10FFFF)
+}
+
+/// The width of the character in front, or what is wrong where none stands.
+#[tactic(auto, unfolding(crate::specs::Utf8::offence8))]
+pub(crate) fn first_char(bytes: &[u8]) -> Result<usize, offence_t>
+    requires { 0 < length bytes.now }
+    ensures found { IfOk result (λ width. (c : ℕ) × IsChar c × Begins YAML_UTF8_ENCODING c bytes.now × (width ≡ len_utf8 c)) }
+    ensures offence { IfErr result (λ e. e ≡ offence8 bytes.now) }
+    ensures none { OnErr result (BeginsWithNone YAML_UTF8_ENCODING bytes.now) }
+    ensures within { IfErr result (λ e. e.offset < length bytes.now) }
+{
+    let width = width_of(bytes[0]);
+    if width == 0 {
+        return refused(problem_t::LEAD, 0, bytes[0] as i32);
+    }
+    if bytes.len() < width {
+        return refused(problem_t::SHORT, 0, -1);
+    }
+    let stray = stray_at(bytes, width);
+    if stray > 0 {
+        return refused(problem_t::TRAIL, stray as u64, bytes[stray] as i32);
+    }
+    let value = value_of(bytes, width);
+    if value < least_of(width) {
+        return refused(problem_t::LENGTH, 0, -1);
+    }
+    if !is_scalar(value) {
+        return refused(problem_t::VALUE, 0, value as i32);
+    }
+    if !is_char(value) {
+        return refused(problem_t::CONTROL, 0, value as i32);
+    }
+    Ok(width)
+}
+
+/// Puts a character behind bytes, in UTF-8.
+pub fn push_char(out: &mut Vec<u8>, c: u32) -> Result<(), AllocError>
+    requires { IsScalar c }
+    ensures ok { OnOk result (out.new.items ≡ out.old.items ++ encode_utf8 c) }
+    ensures err { OnErr result (out.new.items ≡ out.old.items) }
+{
+    let c = char::from_u32(c).unwrap();
+    let mut buffer = [0u8; 4];
+    out.extend_from_slice(c.encode_utf8(&mut buffer).as_bytes())
+}
