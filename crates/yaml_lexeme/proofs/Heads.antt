@@ -8,7 +8,7 @@ use Rattle.std.proofs.lemmas.List.{drop_at, length-append}
 use Rattle.std.proofs.lemmas.Str.{length-encode, len_utf8_bounds}
 use lib.Utf8.{encode}
 use Rattle.yaml_text.specs.Chars.{AreChars, IsText, utf8}
-use Rattle.yaml_text.specs.Decode.{width_of, value_of}
+use Rattle.yaml_text.specs.Utf8.{width_of, value_of}
 use Rattle.yaml_text.proofs.Spelling.{char_range, stands}
 use Rattle.yaml_text.proofs.Fronts.{chars-utf8, IsText-utf8}
 use Rattle.yaml_text.proofs.ClassLaws.{Leads, leads}

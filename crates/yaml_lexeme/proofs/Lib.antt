@@ -5,3 +5,8 @@ pub mod Places
 pub mod Heads
 pub mod Quiet
 pub mod Cursors
+pub mod Gaps
+pub mod Many
+pub mod Ahead
+pub mod Uris
+pub mod Numbers

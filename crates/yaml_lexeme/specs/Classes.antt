@@ -13,12 +13,12 @@ abbrev pub is_kept_break : ℕ → Bool
 is_kept_break c = c == 0x2028 || c == 0x2029
 
 -- a blank or a break
-abbrev pub is_space : ℕ → Bool
-is_space c = is_blank c || is_break c
+abbrev pub is_white : ℕ → Bool
+is_white c = is_blank c || is_break c
 
 -- what precedes c ends here
 abbrev pub ends : ℕ → Bool
-ends c = is_space c || is_z c
+ends c = is_white c || is_z c
 
 -- neither a break nor the end
 abbrev pub is_in_line : ℕ → Bool

@@ -2,7 +2,8 @@
 use Rattle.std.specs.Prelude.{ℕ, Bool, List, ◌++◌, Some, None, Result, Ok, Err, true, false, ◌≡◌}
 use Rattle.yaml_lexeme.specs.declared.problem.refusal_t.{refusal_t}
 use Rattle.yaml_lexeme.specs.declared.problem.refusal_t.TheVariants as errors
-use Rattle.yaml_lexeme.specs.Place.{Place}
+use Rattle.yaml_lexeme.specs.Place.{Place, skip}
+use Rattle.yaml_lexeme.specs.Uri.{octet}
 use Rattle.yaml_lexeme.specs.Reading.{Offence, Read, found, refuse, Part}
 
 -- What a function of the code returned, seen by view, is what reading gives, unless memory ran out. The cursor
@@ -38,3 +39,8 @@ Appends bytes (Err e) old new q read = Refuses e q read
 abbrev pub Moves : Result (Unit {0}) refusal_t → Place → Result Place Offence → Type 0
 Moves (Ok _) q read = read ≡ Ok q
 Moves (Err e) q read = Refuses e q read
+
+-- the octet that an escape at a place writes
+abbrev pub OctetIs : Result ℕ refusal_t → Place → Type 0
+OctetIs (Ok c) p = octet p ≡ found c (skip 3 p)
+OctetIs (Err e) p = Refuses e p (octet p)

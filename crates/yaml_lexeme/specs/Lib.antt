@@ -15,6 +15,7 @@ pub mod Directive
 pub mod Lex
 pub mod Texts
 pub mod Gives
+pub mod Answers
 pub mod Runs
 pub mod Order
 pub mod Locality

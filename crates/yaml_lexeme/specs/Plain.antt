@@ -6,7 +6,7 @@ use Rattle.yaml_text.specs.Chars.{utf8}
 use Rattle.yaml_text.specs.Classes.{is_break}
 use Rattle.yaml_lexeme.specs.declared.problem.problem_t.TheVariants.{COLON_IN_FLOW, TAB_IN_PLAIN}
 use Rattle.yaml_lexeme.specs.declared.plain.scalar_t.{scalar_t}
-use Rattle.yaml_lexeme.specs.Classes.{is_space, ends, is_one_of}
+use Rattle.yaml_lexeme.specs.Classes.{is_white, ends, is_one_of}
 use Rattle.yaml_lexeme.specs.Place.{Place, peek, first, skip, run, behind, mark_behind}
 use Rattle.yaml_lexeme.specs.Kind.{is_marker}
 use Rattle.yaml_lexeme.specs.Fold.{fold}
@@ -45,7 +45,7 @@ is_tab least broken p = (first p == 0x09 && broken) && nat_lt p.mark.column leas
 abbrev pub tab_from : ℕ → Bool → yaml_mark_t → List ℕ → Option Place
 tab_from least broken m [] = None
 tab_from least broken m (c ∷ cs) =
-    if not (is_space c) then None
+    if not (is_white c) then None
     else if (c == 0x09 && broken) && nat_lt m.column least then Some (record { mark = m; rest = c ∷ cs })
     else tab_from least (broken || is_break c) (mark_behind m c (slice_index cs 0)) cs
 
@@ -55,7 +55,7 @@ untabbed (Some tab) value p = refuse TAB_IN_PLAIN tab
 
 -- the longest run of blanks and breaks
 unfoldable pub separator : ℕ → Place → Read (List ℕ)
-separator least p = untabbed (tab_from least false p.mark p.rest) (fold (run is_space p)) (behind is_space p)
+separator least p = untabbed (tab_from least false p.mark p.rest) (fold (run is_white p)) (behind is_white p)
 
 -- the scalar is over behind a separator
 abbrev pub is_over : Bool → ℕ → Place → Bool
@@ -64,7 +64,7 @@ is_over flow least p = (not flow && nat_lt p.mark.column least) || (is_marker p 
 -- a separator and the chunk behind it
 unfoldable pub link : Bool → ℕ → Place → Part (List ℕ)
 link flow least p =
-    if not (is_space (first p)) then over
+    if not (is_white (first p)) then over
     else separator least p >>= λ gap.
     if is_over flow least gap.end then over
     else chunk flow gap.end >>= λ c.
@@ -77,4 +77,4 @@ plain flow least p = do
   head ← chunk flow p
   links ← many (link flow least) head.end
   let value = utf8 head.value ++ flat_map utf8 links.value
-  found (record { value = value; end = links.end.mark; passed_break = list_any is_break (run is_space links.end) }) (behind is_space links.end)
+  found (record { value = value; end = links.end.mark; passed_break = list_any is_break (run is_white links.end) }) (behind is_white links.end)

@@ -3,7 +3,7 @@ use Rattle.std.specs.Prelude.{ℕ, ◌/◌, Bool, true, false, not, ◌&&◌, �
 use Rattle.yaml_text.specs.Classes.{is_blank, is_alpha, is_digit}
 use Rattle.yaml_lexeme.specs.declared.runs.class_t.{class_t}
 use Rattle.yaml_lexeme.specs.declared.runs.class_t.TheVariants.{BLANK, GAP_BLANK, SPACE, BLANK_OR_BREAK, ALPHA, DIGIT, IN_LINE, DOUBLE, SINGLE, PLAIN, FLOW}
-use Rattle.yaml_lexeme.specs.Classes.{is_space, is_in_line}
+use Rattle.yaml_lexeme.specs.Classes.{is_white, is_in_line}
 use Rattle.yaml_lexeme.specs.Gap.{is_gap_blank}
 
 -- the characters of a line that mean something in a scalar, so that a run stops there
@@ -25,7 +25,7 @@ abbrev pub class_test : class_t → ℕ → Bool
 class_test BLANK c = is_blank c
 class_test (GAP_BLANK tabs) c = is_gap_blank tabs c
 class_test SPACE c = c == 0x20
-class_test BLANK_OR_BREAK c = is_space c
+class_test BLANK_OR_BREAK c = is_white c
 class_test ALPHA c = is_alpha c
 class_test DIGIT c = is_digit c
 class_test IN_LINE c = is_in_line c

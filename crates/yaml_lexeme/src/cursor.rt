@@ -3,7 +3,7 @@ ghost use Rattle.std.specs.Prelude.{ℕ, ◌≡◌, ◌+◌, ◌-◌, ◌^◌, �
 ghost use Rattle.std.specs.Str.{chars};
 ghost use Rattle.yaml_text.specs.Chars.{IsText, AreChars, utf8};
 ghost use Rattle.yaml_text.specs.Classes as classes;
-ghost use Rattle.yaml_text.specs.Decode.{value_of};
+ghost use Rattle.yaml_text.specs.Utf8.{value_of};
 ghost use Rattle.yaml_lexeme.specs.Classes as sets;
 ghost use Rattle.yaml_lexeme.specs.Place.{peek, first, place_at, IsMarkOf, skip, mark_behind, width, behind, run, break_len};
 ghost use Rattle.yaml_lexeme.specs.Runs.{class_test};
@@ -47,8 +47,8 @@ pub(crate) fn is_blank(c: char) -> bool
 }
 
 /// A blank or a break.
-pub(crate) fn is_space(c: char) -> bool
-    ensures { result ≡ sets.is_space c }
+pub(crate) fn is_white(c: char) -> bool
+    ensures { result ≡ sets.is_white c }
 {
     is_blank(c) || is_break(c)
 }
@@ -57,7 +57,7 @@ pub(crate) fn is_space(c: char) -> bool
 pub(crate) fn ends(c: char) -> bool
     ensures { result ≡ sets.ends c }
 {
-    is_space(c) || c == '\0'
+    is_white(c) || c == '\0'
 }
 
 /// A letter, a digit, `_` or `-`.
@@ -80,7 +80,7 @@ fn is_in(class: class_t, c: char) -> bool
         class_t::BLANK => is_blank(c),
         class_t::GAP_BLANK(tabs) => c == ' ' || c == '\t' && tabs,
         class_t::SPACE => c == ' ',
-        class_t::BLANK_OR_BREAK => is_space(c),
+        class_t::BLANK_OR_BREAK => is_white(c),
         class_t::ALPHA => is_alpha(c),
         class_t::DIGIT => c.is_ascii_digit(),
         class_t::IN_LINE => is_in_line(c),
@@ -112,7 +112,7 @@ fn rest(bytes: &[u8], n: usize) -> &[u8]
 }
 
 /// The code point that a lead byte and those behind it spell.
-#[tactic(auto, unfolding(yaml_text::specs::Decode::value_of))]
+#[tactic(auto, unfolding(yaml_text::specs::Utf8::value_of))]
 fn code_of(bytes: &[u8], width: usize) -> u32
     requires some { 0 < width }
     requires whole { width ≤ length bytes.now }

@@ -1,6 +1,5 @@
 //! Plain scalars.
-use yaml_text::token::yaml_bytes_t;
-use yaml_text::types::yaml_mark_t;
+use yaml_text::{yaml_bytes_t, yaml_mark_t};
 
 /// A scalar that was read.
 #[derive(Drop)]
