@@ -10,3 +10,11 @@ pub mod Many
 pub mod Ahead
 pub mod Uris
 pub mod Numbers
+pub mod Local
+pub mod Like
+pub mod Loop
+pub mod Orders
+pub mod KindLocal
+pub mod GapLocal
+pub mod NamesLocal
+pub mod DirectivesLocal
