@@ -10,3 +10,9 @@ pub mod Many
 pub mod Ahead
 pub mod Uris
 pub mod Numbers
+pub mod Spaces
+pub mod Body
+pub mod Hex
+pub mod Gather
+pub mod Plains
+pub mod Blocks

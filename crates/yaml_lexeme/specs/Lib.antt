@@ -15,6 +15,8 @@ pub mod Directive
 pub mod Lex
 pub mod Texts
 pub mod Gives
+pub mod Words
+pub mod Tails
 pub mod Answers
 pub mod Runs
 pub mod Order
