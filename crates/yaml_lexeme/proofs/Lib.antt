@@ -14,6 +14,8 @@ pub mod PlainLocal
 pub mod BlockLocal
 pub mod LexLocal
 pub mod CountLaws
+pub mod PartLaws
+pub mod ScalarParts
 mod Rows
 pub mod Lanes
 pub mod Vectors
