@@ -34,3 +34,6 @@ pub mod Hex
 pub mod Gather
 pub mod Plains
 pub mod Blocks
+pub mod Trims
+pub mod Parts
+pub mod WordRuns
