@@ -29,3 +29,6 @@ pub mod Look
 pub mod Onward
 pub mod AnswerOrder
 pub mod Local
+pub mod LexemeReads
+pub mod SourceOrder
+pub mod SourceLocal

@@ -18,4 +18,5 @@ pub mod Laws
 pub mod TokenLaws
 pub mod SessionLaws
 pub mod AnswerLaws
+pub mod SourceOf
 pub mod Locality

@@ -3,7 +3,7 @@ ghost use Rattle.yaml_scan.specs.Laws.{DepthGoesOn, CandidatesGoOn, CandidatesAr
 ghost use Rattle.yaml_scan.specs.TokenLaws.{TokensStandInOrder, KeysAreFollowed, FourTokensAStep};
 ghost use Rattle.yaml_scan.specs.SessionLaws.{CourseIsHistory, EndsOrFaults, RefusedHasFault, AcceptedIsCut, FrontIsCut, TakenAreBeginning, PeeksChangeNothing, NoneIsStuck, PaceSettles, PaceIsLeast, FewStepsQueued};
 ghost use Rattle.yaml_scan.specs.AnswerLaws.{AnswersStandInOrder, AnswersEndFewer, AnswersEndAll, AnswersFollowKeys};
-ghost use Rattle.yaml_scan.specs.Locality.{StepIsLocal, TokensBeforeRefusal, FaultBeforeRefusal};
+ghost use Rattle.yaml_scan.specs.Locality.{StepIsLocal, TokensBeforeRefusal, FaultBeforeRefusal, TextsAreLocal, TextsKeepOrder};
 
 /// What one lexeme more makes of the depth, the candidates, the open columns and the level: a machine that keeps a slot
 /// for each depth and a stack of columns keeps them.
@@ -117,4 +117,10 @@ pub fn step_is_local()
     ensures step { StepIsLocal }
     ensures tokens { TokensBeforeRefusal }
     ensures fault { FaultBeforeRefusal }
+    ensures texts { TextsAreLocal }
+{}
+
+/// What is read of a decoded text stands in its order: so the laws that ask for it hold of every decoded text.
+pub fn texts_keep_order()
+    ensures { TextsKeepOrder }
 {}
