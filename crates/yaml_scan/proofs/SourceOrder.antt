@@ -16,7 +16,8 @@ use Rattle.yaml_lexeme.specs.Kind.{kind_at, is_marker_of, starts_plain}
 use Rattle.yaml_lexeme.specs.Classes.{ends}
 use Rattle.yaml_lexeme.specs.Lex.{lex, whole_of, stream_end, at_end}
 use Rattle.yaml_lexeme.specs.Order.{IsAhead, IsAfter}
-use Rattle.yaml_lexeme.proofs.Places.{length_skip, skip_skip}
+use Rattle.yaml_lexeme.proofs.Places.{length_skip, skip_skip, stays}
+use Rattle.yaml_text.specs.declared.types.yaml_error_type_t.TheVariants.{YAML_SCANNER_ERROR}
 use Rattle.yaml_lexeme.proofs.Ahead.{spans_end}
 use Rattle.yaml_lexeme.proofs.Orders.{gap_order}
 use Rattle.yaml_lexeme.proofs.LexOrder.{lexeme_spans, lexeme_order}
@@ -183,6 +184,22 @@ module _ (cs : List ℕ) where
       let s = length_skip k (place_at cs p) in
       (omega arith, omega arith)
 
+  -- what one comes to is the place that is counted
+  at_count : (p k : ℕ) (q : Place) → p ≤ length cs → q ≡ skip k (place_at cs p) → q ≡ place_at cs (count_to (length cs) q)
+  at_count p k q l e =
+      let r = rest_length p in
+      let m = ap (λ (x : Place). length x.rest) e in
+      let t = length_skip k (place_at cs p) in
+      let i : q ≡ place_at cs (p + k) = e ∙ further p k in
+      elim (cases_lt (length cs) (p + k)) [
+        | inr w ↦ (let c : count_to (length cs) q ≡ p + k = omega arith in i ∙ ap (place_at cs) (sym c))
+        | inl w ↦ (let c : count_to (length cs) q ≡ length cs = omega arith in
+            let z : length (place_at cs (length cs)).rest ≡ 0 = (let n = rest_length (length cs) in omega arith) in
+            let v : length cs + (p + k - length cs) ≡ p + k = omega arith in
+            let y : place_at cs (p + k) ≡ place_at cs (length cs) = ap (place_at cs) (sym v) ∙ sym (further (length cs) (p + k - length cs)) ∙ sym (stays (p + k - length cs) (place_at cs (length cs)) z) in
+            i ∙ y ∙ ap (place_at cs) (sym c))
+      ]
+
   gap_there : (flow allowed : Bool) (p : ℕ) → p ≤ length cs → IsThere p 0 (gap flow allowed (place_at cs p)).0
   gap_there flow allowed p l = there p 0 (gap flow allowed (place_at cs p)).0 l (gap_order flow allowed (place_at cs p)).0
 
@@ -276,6 +293,22 @@ module _ (cs : List ℕ) where
         let t = ends_there p g.0 y.at w i in
         let u : o.place ≡ count_to (length cs) y.at = ap (λ (v : Offence). v.place) (sym (err_same (offence k here y (count_to (length cs) y.at)) o (reading_of (length cs) k here (Err y)) refl z)) in
         (omega (arith, t.0), omega (arith, t.1))
+
+-- the problem of an offence stands at its place
+pub problem_at : (cs : List ℕ) (k : Kind) (d : ℕ) (l : Option ℕ) (p : ℕ) (o : Offence) → p ≤ length cs → (source_of cs).read k d l p ≡ Err o
+    → (o.fault.error ≡ YAML_SCANNER_ERROR) × (o.fault.problem_mark ≡ (source_of cs).mark o.place)
+unfolding source_of
+problem_at cs k d l p o w q = go (lex k (record { depth = d; level = l }) (place_at cs p)) refl q
+  where
+    go : (x : Read yaml_lexeme_t) → lex k (record { depth = d; level = l }) (place_at cs p) ≡ x → reading_of (length cs) k (place_at cs p) x ≡ Err o
+        → (o.fault.error ≡ YAML_SCANNER_ERROR) × (o.fault.problem_mark ≡ (place_at cs o.place).mark)
+    go (Ok f) e z = absurd (ok_offence (reading f.value (count_to (length cs) f.end)) o (reading_of (length cs) k (place_at cs p) (Ok f)) refl z)
+    go (Err y) e z =
+        let g = lex_goes_on k (record { depth = d; level = l }) (place_at cs p) in
+        let i : y.at ≡ skip g.0 (place_at cs p) = subst (λ (r : Read yaml_lexeme_t). reach r ≡ skip g.0 (place_at cs p)) e g.1 in
+        let t = at_count cs p g.0 y.at w i in
+        let u : offence k (place_at cs p) y (count_to (length cs) y.at) ≡ o = err_same (offence k (place_at cs p) y (count_to (length cs) y.at)) o (reading_of (length cs) k (place_at cs p) (Err y)) refl z in
+        subst (λ (v : Offence). (v.fault.error ≡ YAML_SCANNER_ERROR) × (v.fault.problem_mark ≡ (place_at cs v.place).mark)) u (refl, ap (λ (v : Place). v.mark) t)
 
 pub texts_keep_order : TextsKeepOrder
 unfolding source_of skip
