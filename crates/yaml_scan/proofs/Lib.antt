@@ -32,3 +32,4 @@ pub mod Local
 pub mod LexemeReads
 pub mod SourceOrder
 pub mod SourceLocal
+pub mod InputLaws

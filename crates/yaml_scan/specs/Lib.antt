@@ -20,3 +20,4 @@ pub mod SessionLaws
 pub mod AnswerLaws
 pub mod SourceOf
 pub mod Locality
+pub mod Inputs

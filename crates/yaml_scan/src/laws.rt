@@ -18,6 +18,8 @@ pub fn one_lexeme_more()
     ensures required { LevelStays }
 {}
 
+ghost use Rattle.yaml_scan.specs.Inputs.{InputsKeepOrder, AllStandInOrder, AllEndFewer, AllEndAll, AllFollowKeys, LateFaults};
+
 /// One lexeme more puts at most one key, with its block start, into the offline list, in front of its candidate's
 /// token, and then its own group.
 pub fn offline_goes_on()
@@ -123,4 +125,15 @@ pub fn step_is_local()
 /// What is read of a decoded text stands in its order: so the laws that ask for it hold of every decoded text.
 pub fn texts_keep_order()
     ensures { TextsKeepOrder }
+{}
+
+/// The laws of tokens, for any bytes and setting: order, block ends, keys; and what is handed out before a late reader
+/// fault, and a fault in its place, are those of every accepted input that agrees up to the refused character.
+pub fn laws_of_any_input()
+    ensures order { InputsKeepOrder }
+    ensures tokens { AllStandInOrder }
+    ensures block_ends { AllEndFewer }
+    ensures whole { AllEndAll }
+    ensures keys { AllFollowKeys }
+    ensures late { LateFaults }
 {}
