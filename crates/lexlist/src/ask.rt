@@ -1,5 +1,6 @@
 //! What a line asks, and its answer.
 ghost use Rattle.std.specs.Prelude.{ℕ, ◌≤◌, IfSome, IsTrue, length};
+ghost use Rattle.yaml_text.specs.Chars.{utf8};
 ghost use Rattle.yaml_lexeme.specs.Place.{IsMarkOf};
 
 use crate::show::{show_fault, show_lexeme, show_mark};
@@ -11,7 +12,7 @@ use yaml_text::{
 };
 
 /// The mark of a place of the text, if the index is one.
-fn mark_at(text: &yaml_text_t, index: usize) -> Option<yaml_mark_t>
+pub fn mark_at(text: &yaml_text_t, index: usize) -> Option<yaml_mark_t>
     ensures { IfSome result (λ mark. (n : ℕ) × IsMarkOf text.now.chars mark n) }
 {
     if !yaml_is_place(text, index) {
@@ -56,7 +57,7 @@ fn ask_lexeme(
     context: yaml_context_t,
 ) -> Result<String, AllocError>
     requires place { (n : ℕ) × IsMarkOf text.now.chars at n }
-    requires level { IfSome context.level (λ l. l ≤ length text.now.chars) }
+    requires level { IfSome context.level (λ l. l ≤ length (utf8 text.now.chars)) }
 {
     let Some(kind) = yaml_lexeme_kind(text, at, context.depth > 0) else {
         return String::from_str(alloc, "-");
@@ -67,13 +68,13 @@ fn ask_lexeme(
     }
 }
 
-/// Whether the level is surely within the text, which has a character for each four bytes at least.
+/// Whether the level is at most the length of the text in bytes.
 fn is_within(text: &yaml_text_t, level: Option<u64>) -> bool
-    ensures { IsTrue result → IfSome level (λ l. l ≤ length text.now.chars) }
+    ensures { IsTrue result → IfSome level (λ l. l ≤ length (utf8 text.now.chars)) }
 {
     match level {
         None => true,
-        Some(level) => level <= text.bytes().len() as u64 / 4,
+        Some(level) => level <= text.bytes().len() as u64,
     }
 }
 

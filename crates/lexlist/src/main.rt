@@ -9,23 +9,43 @@
 //!
 //! FLOW and ALLOWED are 0 or 1, INDEX counts bytes, LEVEL is a column or `-`, TEXT is hexadecimal or `-`. A line that asks
 //! nothing of the kind is answered by `?`.
+//!
+//! With the word `measure` the input is a text of which the lexeme at the front is read nine times, and with `measure lines`
+//! it is one of each of its lines; the answer is how many bytes were read, and the best and the median time in nanoseconds.
 #![tactic(auto)]
 
 mod ask;
+mod measure;
 mod show;
 mod words;
 
 use ask::answer;
-use std::io;
-use std::io::{BufRead, BufReader, BufWriter, Write};
+use measure::measure;
+use std::io::{BufRead, BufReader, BufWriter, Read, Write};
+use std::{env, io};
 
-fn main(rt: HostRuntime) -> io::Result<()> {
+fn answer_lines(rt: &HostRuntime) -> io::Result<()> {
     let alloc = rt.alloc();
-    let mut out = BufWriter::new(alloc, io::writer(&rt))?;
+    let mut out = BufWriter::new(alloc, io::writer(rt))?;
     for line in BufReader::new(alloc, rt.reader())?.lines(alloc) {
         let mut text = answer(alloc, line?.as_str())?;
         text.push_str("\n")?;
         out.write_all(text.as_bytes())?;
     }
     out.flush()
+}
+
+fn measure_input(rt: &HostRuntime, by_lines: bool) -> io::Result<()> {
+    let mut input = Vec::new(rt.alloc());
+    rt.reader().read_to_end(&mut input)?;
+    let text = measure(rt, &input, by_lines)??;
+    io::writer(rt).write_all(text.as_bytes())
+}
+
+fn main(rt: HostRuntime) -> io::Result<()> {
+    let words: Vec<String> = env::args(&rt)?.skip(1).collect(rt.alloc())?;
+    match words.first() {
+        Some(word) if word.as_str() == "measure" => measure_input(&rt, words.len() > 1),
+        _ => answer_lines(&rt),
+    }
 }
