@@ -24,7 +24,6 @@ use Rattle.yaml_lexeme.specs.Tails.{TakesBlanks, TakesLine, Keeps, between_tail,
 use Rattle.yaml_text.specs.Chars.{utf8}
 use Rattle.yaml_text.specs.Classes.{is_break, is_blank, is_z}
 use Rattle.yaml_lexeme.specs.declared.block.tail_t.{tail_t}
-use Rattle.yaml_lexeme.specs.declared.block.blanks_t.{blanks_t}
 use Rattle.yaml_lexeme.specs.declared.block.chomp_t.{chomp_t}
 use Rattle.yaml_lexeme.specs.declared.block.chomp_t.TheVariants.{STRIP, CLIP, KEEP}
 use Rattle.yaml_lexeme.specs.declared.block.header_t.{header_t}

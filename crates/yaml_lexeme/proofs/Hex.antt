@@ -1,5 +1,5 @@
 -- Hex digits, one by one.
-use Rattle.std.proofs.Common.{◌≡◌, ℕ, ◌+◌, ◌*◌, ◌^◌, ◌<◌, ◌≤◌, true, false, ◌==◌, length, take, get_or, refl, sym, ◌∙◌, arith, lt-ltb, le-ltb, eq-eqb, ne_eqb, inl, inr, get_or-take, length-take}
+use Rattle.std.proofs.Common.{◌≡◌, ℕ, ◌+◌, ◌*◌, ◌^◌, ◌<◌, ◌≤◌, true, false, ◌==◌, length, take, get_or, refl, sym, ◌∙◌, arith, eq-eqb, ne_eqb, inl, inr, get_or-take, length-take}
 use Rattle.std.proofs.lemmas.Bool.{cases_lt, and_right}
 use Rattle.std.proofs.Math.Nat.{pow-le-pow_right}
 use Rattle.std.proofs.lemmas.Grind.{common_steps}

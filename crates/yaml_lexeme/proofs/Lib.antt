@@ -37,3 +37,5 @@ pub mod Blocks
 pub mod Trims
 pub mod Parts
 pub mod WordRuns
+pub mod PlainRuns
+pub mod Backs

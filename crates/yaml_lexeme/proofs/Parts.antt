@@ -1,13 +1,12 @@
 -- A run within a line is read as many parts of a quoted body at once.
-use Rattle.std.proofs.Common.{◌≡◌, ◌==◌, ℕ, zero, suc, ◌+◌, ◌-◌, ◌<◌, ◌≤◌, Bool, true, false, cond, List, [], ◌∷◌, ◌++◌, length, get_or, take, drop, refl, sym, ap, ◌∙◌, subst, arith, append_assoc, take-add, inl, inr}
-use Rattle.std.specs.Prelude.{not, ◌&&◌, ◌||◌}
-use Rattle.std.specs.List.{prefix_len, flat_map}
-use Rattle.std.specs.Char.{encode_utf8}
+use Rattle.std.proofs.Common.{◌≡◌, ◌==◌, ℕ, zero, suc, ◌+◌, ◌-◌, ◌<◌, ◌≤◌, Bool, true, false, List, [], ◌∷◌, ◌++◌, length, get_or, take, drop, refl, sym, ap, ◌∙◌, subst, arith, append_assoc, take-add, inl, inr}
+use Rattle.std.specs.Prelude.{not, ◌||◌}
+use Rattle.std.specs.List.{prefix_len}
 use Rattle.std.proofs.lemmas.Bool.{cases_Bool}
 use Rattle.std.proofs.lemmas.Bool.Decides.{nat_tests}
 use Rattle.std.proofs.lemmas.List.{append-nil, drop-drop, get_or-drop, length-drop}
 use Rattle.std.proofs.lemmas.Str.{encodes-append}
-use Rattle.std.proofs.lemmas.List.Sums.{prefix_len-le-length, prefix_len_passes}
+use Rattle.std.proofs.lemmas.List.Sums.{prefix_len-le-length}
 use Rattle.yaml_text.specs.declared.types.yaml_mark_t.{yaml_mark_t}
 use Rattle.yaml_lexeme.proofs.Body.{at_char, at_space, body_shortens}
 use Rattle.yaml_lexeme.proofs.Cursors.{rest_skip}
@@ -17,14 +16,13 @@ use Rattle.yaml_lexeme.specs.Classes.{is_white}
 use Rattle.yaml_lexeme.specs.Fold.{fold, breaks}
 use Rattle.yaml_lexeme.specs.Gives.{TakesPart}
 use Rattle.yaml_lexeme.specs.Kind.{is_marker}
-use Rattle.yaml_lexeme.specs.Place.{Place, first, skip_from, skip, run, behind, mark_behind}
-use Rattle.yaml_lexeme.specs.Quoted.{body_part, quote, unmarked}
+use Rattle.yaml_lexeme.specs.Place.{Place, first, skip_from, skip, mark_behind}
+use Rattle.yaml_lexeme.specs.Quoted.{body_part, quote}
 use Rattle.yaml_lexeme.specs.Reading.{Read, Part, part}
 use Rattle.yaml_lexeme.specs.Runs.{class_test, line_of}
 use Rattle.yaml_text.specs.Chars.{utf8}
-use Rattle.yaml_text.specs.Classes.{is_break, is_blank, is_z}
+use Rattle.yaml_text.specs.Classes.{is_break, is_z}
 use Rattle.yaml_lexeme.specs.declared.runs.class_t.{class_t}
-use Rattle.yaml_lexeme.specs.declared.runs.class_t.TheVariants.{DOUBLE, SINGLE}
 
 -- The k characters in front stand within a line, and no run of blanks and breaks goes over their end.
 pub record Whole (line : class_t) (k : ℕ) (cs : List ℕ) : Type 0 where
@@ -58,19 +56,19 @@ column_from (suc n) m (c ∷ cs) l h =
     let more : (skip_from n m' cs).mark.column ≡ m'.column + n = column_from n m' cs (omega arith) (λ i l. h (suc i) (omega arith)) in
     omega (arith, more, one)
 
-column_behind : (n : ℕ) (p : Place) → n ≤ length p.rest → ((i : ℕ) → i < n → is_break (get_or p.rest i 0) ≡ false) → (skip n p).mark.column ≡ p.mark.column + n
+pub column_behind : (n : ℕ) (p : Place) → n ≤ length p.rest → ((i : ℕ) → i < n → is_break (get_or p.rest i 0) ≡ false) → (skip n p).mark.column ≡ p.mark.column + n
 unfolding skip
 column_behind n p l h = column_from n p.mark p.rest l h
 
-no_marker : (p : Place) → 0 < p.mark.column → is_marker p ≡ false
+pub no_marker : (p : Place) → 0 < p.mark.column → is_marker p ≡ false
 no_marker p h = let z : (p.mark.column == 0) ≡ false = grind (arith, nat_tests) in rw z refl
 
-no_breaks : (n : ℕ) (cs : List ℕ) → ((i : ℕ) → i < n → is_break (get_or cs i 0) ≡ false) → breaks (take n cs) ≡ []
+pub no_breaks : (n : ℕ) (cs : List ℕ) → ((i : ℕ) → i < n → is_break (get_or cs i 0) ≡ false) → breaks (take n cs) ≡ []
 no_breaks zero cs h = refl
 no_breaks (suc n) [] h = refl
 no_breaks (suc n) (c ∷ cs) h = let b : is_break c ≡ false = h 0 (omega arith) in rw b (no_breaks n cs (λ i l. h (suc i) (omega arith)))
 
-fold_none : (cs : List ℕ) → breaks cs ≡ [] → fold cs ≡ cs
+pub fold_none : (cs : List ℕ) → breaks cs ≡ [] → fold cs ≡ cs
 unfolding fold
 fold_none cs h = rw h refl
 
@@ -94,7 +92,7 @@ first_one : (cs : List ℕ) → 0 < length cs → take 1 cs ≡ get_or cs 0 0 �
 first_one [] h = absurd (omega arith)
 first_one (c ∷ cs) h = refl
 
-space_first : (cs : List ℕ) → is_white (get_or cs 0 0) ≡ true → 0 < length cs → 0 < prefix_len is_white cs
+pub space_first : (cs : List ℕ) → is_white (get_or cs 0 0) ≡ true → 0 < length cs → 0 < prefix_len is_white cs
 space_first [] s h = absurd (omega arith)
 space_first (c ∷ cs) s h = let e : is_white c ≡ true = s in rw e (omega arith)
 

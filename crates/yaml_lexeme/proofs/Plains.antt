@@ -187,7 +187,7 @@ pub record Gap (flow : Bool) (least : ℕ) (p q : Place) : Type 0 where
   pub space : is_white (first p) ≡ true
   pub read : separator least p ≡ found (fold (run is_white p)) q
 
-at_gap : (flow : Bool) (least : ℕ) (p q : Place) → Gap flow least p q → link flow least p ≡ behind_gap flow least (fold (run is_white p)) q
+pub at_gap : (flow : Bool) (least : ℕ) (p q : Place) → Gap flow least p q → link flow least p ≡ behind_gap flow least (fold (run is_white p)) q
 at_gap flow least p q g = link_from flow least p (fold (run is_white p)) q g.space g.read
 
 pub is_over_there : (flow : Bool) (least : ℕ) (p q start : Place) (old : List ℕ) → Gap flow least p q → is_over flow least q ≡ true → start ≡ p → TakesPart utf8 (link flow least p) false old old p start
@@ -294,7 +294,7 @@ scalar_at bytes q = found (record { value = bytes; end = q.mark; passed_break = 
 abbrev after_head : Bool → ℕ → Read (List ℕ) → Read scalar_t
 after_head flow least r = r >>= λ head. many (link flow least) head.end >>= λ links. scalar_at (utf8 head.value ++ flat_map utf8 links.value) links.end
 
-plain_is : (flow : Bool) (least : ℕ) (p : Place) → plain flow least p ≡ after_head flow least (chunk flow p)
+pub plain_is : (flow : Bool) (least : ℕ) (p : Place) → plain flow least p ≡ after_head flow least (chunk flow p)
 unfolding plain
 plain_is flow least p = refl
 
@@ -305,11 +305,11 @@ abbrev refusal : Read (List ℕ) → Read scalar_t
 refusal (Ok r) = scalar_at r.value r.end
 refusal (Err e) = Err e
 
-tail_all : (m : Read (List (List ℕ))) (front out : List ℕ) (q : Place) → with_front front (joined utf8 m) ≡ found out q → (m >>= λ links. scalar_at (front ++ flat_map utf8 links.value) links.end) ≡ scalar_at out q
+pub tail_all : (m : Read (List (List ℕ))) (front out : List ℕ) (q : Place) → with_front front (joined utf8 m) ≡ found out q → (m >>= λ links. scalar_at (front ++ flat_map utf8 links.value) links.end) ≡ scalar_at out q
 tail_all (Ok links) front out q h = ap (λ (r : Read (List ℕ)). scalar_at (value_of r) (end_of r)) h
 tail_all (Err e) front out q h = absurd cc
 
-tail_none : (m : Read (List (List ℕ))) (front : List ℕ) (problem : problem_t) (q : Place) → with_front front (joined utf8 m) ≡ refuse problem q → (m >>= λ links. scalar_at (front ++ flat_map utf8 links.value) links.end) ≡ refuse problem q
+pub tail_none : (m : Read (List (List ℕ))) (front : List ℕ) (problem : problem_t) (q : Place) → with_front front (joined utf8 m) ≡ refuse problem q → (m >>= λ links. scalar_at (front ++ flat_map utf8 links.value) links.end) ≡ refuse problem q
 tail_none (Ok links) front problem q h = absurd cc
 tail_none (Err e) front problem q h = ap refusal h
 

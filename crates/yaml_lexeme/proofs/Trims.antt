@@ -1,5 +1,5 @@
 -- Blanks at the end of a list.
-use Rattle.std.proofs.Common.{◌≡◌, ◌==◌, ◌&&◌, ℕ, zero, suc, ◌+◌, ◌-◌, ◌/◌, ◌<◌, ◌≤◌, Bool, true, false, not, cond, List, [], ◌∷◌, ◌++◌, length, get_or, take, refl, sym, ap, ◌∙◌, subst, arith, inl, inr, append_assoc}
+use Rattle.std.proofs.Common.{◌≡◌, ◌&&◌, ℕ, suc, ◌+◌, ◌-◌, ◌/◌, ◌<◌, ◌≤◌, Bool, true, false, not, cond, List, [], ◌∷◌, ◌++◌, length, get_or, take, refl, sym, ap, ◌∙◌, arith, inl, inr}
 use Rattle.std.specs.List.{list_all}
 use Rattle.std.proofs.Math.Seq.{take-suc}
 use Rattle.std.proofs.lemmas.Bool.{cases_lt, cases_Bool, true≢false}
@@ -9,7 +9,7 @@ use lib.Utf8.{encode, next}
 use Rattle.yaml_text.specs.Chars.{utf8}
 use Rattle.yaml_text.specs.Classes.{is_blank}
 use Rattle.yaml_text.proofs.Spelling.{two, three, four}
-use Rattle.yaml_lexeme.specs.Words.{trim}
+use Rattle.yaml_lexeme.specs.Runs.{trim}
 
 abbrev all : List ℕ → Bool
 all xs = list_all is_blank xs

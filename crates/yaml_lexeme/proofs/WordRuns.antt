@@ -1,30 +1,28 @@
 -- What stands in a line unchanged.
-use Rattle.std.proofs.Common.{◌≡◌, ◌==◌, ◌&&◌, ℕ, zero, suc, ◌+◌, ◌-◌, ◌<◌, ◌≤◌, ◌⊎◌, inl, inr, Bool, true, false, cond, List, [], ◌∷◌, ◌++◌, length, get_or, take, drop, Ok, Err, refl, sym, ap, ◌∙◌, subst, arith, add-zero}
+use Rattle.std.proofs.Common.{◌≡◌, ◌==◌, ◌&&◌, ℕ, zero, suc, ◌+◌, ◌-◌, ◌<◌, ◌≤◌, inl, inr, Bool, true, false, List, [], ◌∷◌, ◌++◌, length, get_or, take, drop, refl, sym, ap, ◌∙◌, subst, arith, add-zero}
 use Rattle.std.specs.List.{prefix_len, list_all}
 use Rattle.std.proofs.lemmas.Bool.{cases_Bool, cases_lt, and_parts}
 use Rattle.std.proofs.lemmas.Bool.Decides.{nat_tests}
-use Rattle.std.proofs.lemmas.List.{append-nil, get_or-drop, get_or_past, take_at, length-append, length-take, length-drop, get_or-take, get_or-append-add, take-take}
+use Rattle.std.proofs.lemmas.List.{get_or-drop, get_or_past, take_at, length-append, length-take, length-drop, get_or-take, get_or-append-add, take-take}
 use Rattle.std.proofs.lemmas.List.Sums.{prefix_len-le-length, prefix_len_is, prefix_len_passes, prefix_len_stops}
 use Rattle.yaml_text.specs.Chars.{utf8}
 use Rattle.yaml_text.specs.Classes.{is_blank, is_break}
 use Rattle.yaml_lexeme.specs.declared.runs.class_t.{class_t}
-use Rattle.yaml_lexeme.specs.declared.runs.class_t.TheVariants.{DOUBLE, SINGLE}
-use Rattle.yaml_lexeme.specs.Classes.{is_white}
-use Rattle.yaml_lexeme.specs.Place.{Place, first, skip, run, behind, break_len}
-use Rattle.yaml_lexeme.specs.Fold.{fold, join_breaks, written}
-use Rattle.yaml_lexeme.specs.Kind.{is_marker}
-use Rattle.yaml_lexeme.specs.Reading.{Read, Part, part, refuse, ◌>>=◌, go_on, many, with_front}
-use Rattle.yaml_lexeme.specs.Quoted.{body_part, unmarked}
-use Rattle.yaml_lexeme.specs.Runs.{class_test, line_of}
-use Rattle.yaml_lexeme.specs.Words.{GoesOn, trim}
-use Rattle.yaml_lexeme.specs.declared.problem.problem_t.TheVariants.{DOCUMENT_MARKER}
 use Rattle.yaml_lexeme.proofs.Body.{at_space, body_shortens}
 use Rattle.yaml_lexeme.proofs.Cursors.{rest_skip}
 use Rattle.yaml_lexeme.proofs.Many.{Reading, joined, many_turn}
 use Rattle.yaml_lexeme.proofs.Parts.{Whole, parts_over, in_quotes}
 use Rattle.yaml_lexeme.proofs.Places.{class_end, skip_skip, behind_none}
 use Rattle.yaml_lexeme.proofs.Spaces.{fold_breaks, breaks_at}
-use Rattle.yaml_lexeme.proofs.Trims.{Trimmed, trimmed, trim_last, trim_bytes}
+use Rattle.yaml_lexeme.proofs.Trims.{trimmed, trim_last}
+use Rattle.yaml_lexeme.specs.Classes.{is_white}
+use Rattle.yaml_lexeme.specs.Fold.{fold, join_breaks, written}
+use Rattle.yaml_lexeme.specs.Kind.{is_marker}
+use Rattle.yaml_lexeme.specs.Place.{Place, first, skip, run, behind, break_len}
+use Rattle.yaml_lexeme.specs.Quoted.{body_part, unmarked}
+use Rattle.yaml_lexeme.specs.Reading.{Read, ◌>>=◌, go_on, many, with_front}
+use Rattle.yaml_lexeme.specs.Runs.{class_test, line_of, trim}
+use Rattle.yaml_lexeme.specs.Words.{GoesOn}
 
 stop_le : (p : ℕ → Bool) (xs : List ℕ) (j : ℕ) → p (get_or xs j 0) ≡ false → prefix_len p xs ≤ j
 stop_le p [] j h = omega arith

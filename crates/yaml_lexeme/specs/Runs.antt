@@ -1,5 +1,6 @@
 -- Runs of characters of a class, and of the bytes that spell them.
-use Rattle.std.specs.Prelude.{ℕ, ◌/◌, Bool, true, false, not, ◌&&◌, ◌||◌, ◌==◌}
+use Rattle.std.specs.Prelude.{ℕ, ◌/◌, Bool, true, false, not, ◌&&◌, ◌||◌, ◌==◌, if◌then◌else◌, List, [], ◌∷◌}
+use Rattle.std.specs.List.{list_all}
 use Rattle.yaml_text.specs.Classes.{is_blank, is_alpha, is_digit}
 use Rattle.yaml_lexeme.specs.declared.runs.class_t.{class_t}
 use Rattle.yaml_lexeme.specs.declared.runs.class_t.TheVariants.{BLANK, GAP_BLANK, SPACE, BLANK_OR_BREAK, ALPHA, DIGIT, IN_LINE, DOUBLE, SINGLE, PLAIN, FLOW}
@@ -77,3 +78,8 @@ begins b = not (b / 64 == 2)
 abbrev pub line_of : Bool → class_t
 line_of true = SINGLE
 line_of false = DOUBLE
+
+-- without the blanks at the end
+abbrev pub trim : List ℕ → List ℕ
+trim [] = []
+trim (c ∷ cs) = if list_all is_blank (c ∷ cs) then [] else c ∷ trim cs

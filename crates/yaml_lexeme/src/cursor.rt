@@ -1,14 +1,14 @@
 //! A place that moves through a text.
-ghost use Rattle.std.specs.Prelude.{ℕ, ◌≡◌, ◌+◌, ◌-◌, ◌^◌, ◌<◌, ◌≤◌, length, slice_index, take, drop, false};
+ghost use Rattle.std.specs.Prelude.{ℕ, ◌≡◌, ◌+◌, ◌-◌, ◌^◌, ◌<◌, ◌≤◌, length, slice_index, take, drop, false, true};
 ghost use Rattle.std.specs.Str.{chars};
 ghost use Rattle.yaml_text.specs.Chars.{IsText, AreChars, utf8};
 ghost use Rattle.yaml_text.specs.Classes as classes;
 ghost use Rattle.yaml_text.specs.Utf8.{value_of};
 ghost use Rattle.yaml_lexeme.specs.Classes as sets;
 ghost use Rattle.yaml_lexeme.specs.Place.{peek, first, place_at, IsMarkOf, skip, mark_behind, width, behind, run, break_len};
-ghost use Rattle.yaml_lexeme.specs.Runs.{class_test};
+ghost use Rattle.yaml_lexeme.specs.Runs.{class_test, is_line, trim};
 
-use crate::runs::{class_t, count_chars, quiet_len};
+use crate::runs::{class_t, count_chars, quiet_len, trimmed};
 use std::marker::Model;
 use yaml_text::{WIDTH, yaml_mark_t, yaml_text_t};
 
@@ -318,6 +318,29 @@ impl<'a> cursor_t<'a> {
         }
         let left = self.left();
         front(start, start.len() - left.len())
+    }
+
+    /// Takes a run of characters of a line, as long as can be, but for the blanks at its end, and gives its bytes.
+    #[inline(always)]
+    pub fn run_trimmed(&mut self, class: class_t) -> &'a [u8]
+        requires { is_line class ≡ true }
+        ensures value { result.now ≡ utf8 (trim (run (class_test class) self.old)) }
+        ensures end { self.new ≡ skip (length (trim (run (class_test class) self.old))) self.old }
+    {
+        let (bytes, from) = (self.bytes, self.mark);
+        let piece = self.run(class);
+        let kept = trimmed(piece);
+        let blanks = (piece.len() - kept.len()) as u64;
+        let column = self.mark().column - blanks;
+        *self = cursor_t {
+            mark: yaml_mark_t {
+                index: from.index + kept.len() as u64,
+                line: from.line,
+                column,
+            },
+            bytes: rest(bytes, kept.len()),
+        };
+        kept
     }
 
     /// Takes a run of characters of the class, as long as can be.

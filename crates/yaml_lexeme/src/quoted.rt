@@ -11,10 +11,10 @@ ghost use Rattle.yaml_lexeme.specs.Words.{GoesOn};
 
 use crate::cursor::{cursor_t, is_break, is_white};
 use crate::escape::take_escape;
-use crate::fold::{push_breaks, push_char, push_separator, trimmed};
+use crate::fold::{push_breaks, push_char, push_separator};
 use crate::kind::is_marker;
 use crate::problem::{problem_t, refusal_t};
-use crate::runs::class_t;
+use crate::runs::{class_t, trimmed};
 use std::alloc::{AllocError, Global};
 use yaml_text::yaml_bytes_t;
 

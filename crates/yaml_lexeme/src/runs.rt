@@ -3,7 +3,7 @@ ghost use Rattle.std.specs.Prelude.{◌≡◌, ◌+◌, ◌≤◌, true, length,
 ghost use Rattle.std.specs.List.{prefix_len, count_by};
 ghost use Rattle.std.specs.Simd.Lanes.{mask_l};
 ghost use Rattle.yaml_lexeme.specs.Runs as spec;
-ghost use Rattle.yaml_lexeme.specs.declared.runs.class_t.TheVariants.{ALPHA, IN_LINE, DOUBLE, SINGLE, PLAIN, FLOW};
+ghost use Rattle.yaml_lexeme.specs.declared.runs.class_t.TheVariants.{ALPHA, BLANK, IN_LINE, DOUBLE, SINGLE, PLAIN, FLOW};
 
 use std::simd::prelude::*;
 
@@ -211,4 +211,21 @@ pub(crate) fn count_chars(text: &[u8]) -> usize
         i += 1;
     }
     n
+}
+
+fn is_blank_byte(b: u8) -> bool
+    ensures { result ≡ spec.class_test BLANK b }
+{
+    b == b' ' || b == b'\t'
+}
+
+/// A piece of a line without the blanks at its end.
+pub(crate) fn trimmed(piece: &[u8]) -> &[u8]
+    ensures { result.now ≡ spec.trim piece.now }
+{
+    let mut n = piece.len();
+    'blanks: while n > 0 && is_blank_byte(piece[n - 1]) {
+        n -= 1;
+    }
+    &piece[..n]
 }

@@ -1,6 +1,6 @@
 use Rattle.std.proofs.Common.{◌≡◌, ◌≤◌, take, length}
-use Rattle.yaml_lexeme.specs.Words.{trim}
-use Rattle.yaml_lexeme.proofs.fold.trimmed.Given as goal
+use Rattle.yaml_lexeme.specs.Runs.{trim}
+use Rattle.yaml_lexeme.proofs.runs.trimmed.Given as goal
 
 abbrev pub invariant-blanks : goal.invariant-blanks
 invariant-blanks l = (trim (take l.n l.piece) ≡ trim l.piece) × (l.n ≤ length l.piece)

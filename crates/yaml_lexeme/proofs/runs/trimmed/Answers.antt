@@ -1,10 +1,9 @@
-use Rattle.std.proofs.Common.{◌≡◌, ◌+◌, ◌-◌, ◌≤◌, ◌<◌, suc, zero, length, take, get_or, true, false, sym, ap, ◌∙◌, arith, subst, ℕ, refl, List}
-use Rattle.std.proofs.lemmas.Grind.{common_steps}
+use Rattle.std.proofs.Common.{◌≡◌, ◌-◌, ◌≤◌, suc, zero, take, get_or, true, false, sym, ap, ◌∙◌, arith, ℕ, List}
 use Rattle.yaml_text.specs.Classes.{is_blank}
-use Rattle.yaml_lexeme.specs.Words.{trim}
 use Rattle.yaml_lexeme.proofs.Trims.{trim_step, trim_stop}
-use Rattle.yaml_lexeme.proofs.fold.trimmed.Goals as goal
-use Rattle.yaml_lexeme.proofs.fold.trimmed.Goals.{then-blanks-test+else-is_blank_byte, else-blanks-test}
+use Rattle.yaml_lexeme.specs.Runs.{trim}
+use Rattle.yaml_lexeme.proofs.runs.trimmed.Goals as goal
+use Rattle.yaml_lexeme.proofs.runs.trimmed.Goals.{then-blanks-test+else-is_blank_byte, else-blanks-test}
 
 pub blanks-preserved : goal.blanks-preserved
 blanks-preserved c =
