@@ -21,3 +21,4 @@ pub mod Parts
 pub mod WordRuns
 pub mod PlainRuns
 pub mod Backs
+pub mod Marks
