@@ -1,10 +1,10 @@
 -- How a place on bytes moves.
-use Rattle.std.proofs.Common.{false, ◌≡◌, ℕ, zero, suc, ◌+◌, ◌-◌, ◌<◌, ◌≤◌, Bool, List, [], ◌∷◌, ◌++◌, length, get_or, take, drop, refl, sym, ap, ◌∙◌, subst, arith, inl, inr}
+use Rattle.std.proofs.Common.{add-zero, false, ◌≡◌, ℕ, zero, suc, ◌+◌, ◌-◌, ◌<◌, ◌≤◌, Bool, List, [], ◌∷◌, ◌++◌, length, get_or, take, drop, refl, sym, ap, ◌∙◌, subst, arith, inl, inr}
 use Rattle.std.specs.List.{prefix_len, count_by}
 use Rattle.std.specs.Str.{chars}
 use Rattle.std.proofs.lemmas.Bool.{cases_Bool}
 use Rattle.std.proofs.lemmas.Bool.Decides.{nat_tests}
-use Rattle.std.proofs.lemmas.List.{take-append-drop, take_at, drop_at, length-append}
+use Rattle.std.proofs.lemmas.List.{get_or-drop, take-append-drop, take_at, drop_at, length-append}
 use Rattle.std.proofs.lemmas.Str.{encodes-append, length-encode, len_utf8_bounds}
 use lib.Utf8.{encode}
 use Rattle.yaml_text.specs.declared.types.yaml_mark_t.{yaml_mark_t}
@@ -12,7 +12,7 @@ use Rattle.yaml_text.specs.Chars.{AreChars, IsText, utf8}
 use Rattle.yaml_text.specs.Classes.{is_break}
 use Rattle.yaml_text.proofs.Fronts.{chars-utf8, IsText-utf8}
 use Rattle.yaml_text.proofs.Places.{AreChars-parts}
-use Rattle.yaml_lexeme.specs.Place.{Place, place_at, IsMarkOf, ends_line, skip_from, skip, behind, run, mark_behind, width}
+use Rattle.yaml_lexeme.specs.Place.{Place, peek, place_at, IsMarkOf, ends_line, skip_from, skip, behind, run, mark_behind, width}
 use Rattle.yaml_lexeme.specs.declared.runs.class_t.{class_t}
 use Rattle.yaml_lexeme.specs.Runs.{is_quiet, class_test, begins}
 use Rattle.yaml_lexeme.proofs.Places.{skip_skip, moved}
@@ -154,3 +154,7 @@ ascii_moves m bytes t some low a b =
 pub at_front : (cs : List ℕ) → IsMarkOf cs (record { index = 0; line = 0; column = 0 }) 0
 unfolding skip
 at_front cs = record { within = omega arith; mark_is = refl }
+
+-- the character k places on stands first at the place there
+pub peek_on : (k : ℕ) (p : Place) → peek (skip k p) 0 ≡ peek p k
+peek_on k p = ap (λ (x : List ℕ). get_or x 0 0) (rest_skip k p) ∙ get_or-drop k p.rest 0 0 ∙ ap (λ i. get_or p.rest i 0) (add-zero k)

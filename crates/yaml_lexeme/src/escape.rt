@@ -48,16 +48,18 @@ fn take_hex_escape(cursor: &mut cursor_t, n: usize) -> Result<char, refusal_t>
     ensures { Gives (λ c. c) result cursor.new (spec.hex_escape n cursor.old) }
 {
     let mut value: u32 = 0;
+    let mut at = cursor.again();
     'digits: for k in 0..n {
-        let Some(digit) = cursor.peek(k).to_digit(16) else {
+        let Some(digit) = at.peek(0).to_digit(16) else {
             return Err(refusal_t::OFFENCE(problem_t::NO_HEX_DIGIT));
         };
         value = value * 16 + digit;
+        at.advance();
     }
     let Some(c) = char::from_u32(value) else {
         return Err(refusal_t::OFFENCE(problem_t::NO_SCALAR_VALUE));
     };
-    cursor.skip(n);
+    *cursor = at;
     Ok(c)
 }
 

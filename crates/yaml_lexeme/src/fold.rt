@@ -13,6 +13,10 @@ use std::alloc::AllocError;
 pub(crate) fn push_char(out: &mut Vec<u8>, c: char) -> Result<(), AllocError>
     ensures { OnOk result (out.new.items ≡ out.old.items ++ encode_utf8 c) }
 {
+    if c < '\u{80}' {
+        out.push(c as u32 as u8)?;
+        return Ok(());
+    }
     let mut bytes = [0; 4];
     out.extend_from_slice(c.encode_utf8(&mut bytes).as_bytes())
 }

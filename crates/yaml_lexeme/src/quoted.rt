@@ -88,6 +88,9 @@ fn push_line(cursor: &mut cursor_t, single: bool, out: &mut Vec<u8>) -> Result<(
     ensures goes { OnOk result (GoesOn single cursor.old out.old.items cursor.new out.new.items) }
     ensures shorter { OnOk result (length cursor.new.rest ≤ length cursor.old.rest) }
 {
+    if matches!(cursor.peek(0), '\\' | '"') {
+        return Ok(());
+    }
     let piece = cursor.run(line_class(single));
     if !is_break(cursor.peek(0)) {
         out.extend_from_slice(piece)?;
