@@ -1,3 +1,21 @@
+pub mod Local
+pub mod Like
+pub mod Loop
+pub mod Orders
+pub mod Spans
+pub mod LexOrder
+pub mod KindLocal
+pub mod GapLocal
+pub mod NamesLocal
+pub mod DirectivesLocal
+pub mod BodyLocal
+pub mod ChunkLocal
+pub mod PlainLocal
+pub mod BlockLocal
+pub mod LexLocal
+pub mod CountLaws
+pub mod PartLaws
+pub mod ScalarParts
 mod Rows
 pub mod Lanes
 pub mod Vectors
@@ -21,4 +39,3 @@ pub mod Parts
 pub mod WordRuns
 pub mod PlainRuns
 pub mod Backs
-pub mod Marks

@@ -21,3 +21,5 @@ pub mod Answers
 pub mod Runs
 pub mod Order
 pub mod Locality
+pub mod Counted
+pub mod Parts

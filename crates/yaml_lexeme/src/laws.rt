@@ -1,10 +1,72 @@
-//! What holds of the definitions.
-ghost use Rattle.std.specs.Prelude.{ℕ, List};
-ghost use Rattle.yaml_text.specs.declared.types.yaml_mark_t.{yaml_mark_t};
-ghost use Rattle.yaml_text.specs.Mark.{IsMarkAt};
-ghost use Rattle.yaml_lexeme.specs.Place.{IsMarkOf};
+//! Laws about the definitions.
+ghost use Rattle.yaml_lexeme.specs.Counted.{PlacesAreCounted, MarksAreCounted};
+ghost use Rattle.yaml_lexeme.specs.Locality.{GapIsLocal, KindIsLocal, LexIsLocal};
+ghost use Rattle.yaml_lexeme.specs.Parts.{QuotedIsParts, QuotedIsRefused, PlainIsParts, PlainIsRefused, ChunkIsLongest, LinkIsLongest};
+ghost use Rattle.yaml_lexeme.specs.Order.{GapOrder, LexemeSpans, LexemeOrder, StreamEndOrder, LexemeFollows};
 
-/// A mark that `yaml_mark_at` gives is the mark of a place of the text, as the lexeme calls ask.
-pub fn marks_of_places()
-    ensures { (text : List ℕ) (mark : yaml_mark_t) (n : ℕ) → IsMarkAt text mark n → IsMarkOf text mark n }
+/// A gap ends where it starts or further on.
+pub fn gap_order()
+    ensures { GapOrder }
+{}
+
+/// A lexeme starts at its place, takes a character or more, and ends and reaches at places of the text.
+pub fn lexeme_spans()
+    ensures { LexemeSpans }
+{}
+
+/// The marks of a lexeme are in order, and it takes a byte, and a column where it stays on its line.
+pub fn lexeme_order()
+    ensures { LexemeOrder }
+{}
+
+/// A stream end is one mark, at column 0.
+pub fn stream_end_order()
+    ensures { StreamEndOrder }
+{}
+
+/// A lexeme behind a gap follows what was read up to the gap.
+pub fn lexeme_follows()
+    ensures { LexemeFollows }
+{}
+
+/// A gap depends on no character eight or more past its end.
+pub fn gap_is_local()
+    ensures { GapIsLocal }
+{}
+
+/// A kind depends on no character eight or more past its place.
+pub fn kind_is_local()
+    ensures { KindIsLocal }
+{}
+
+/// A lexeme depends on no character eight or more past its reach, or past the place of its problem.
+pub fn lex_is_local()
+    ensures { LexIsLocal }
+{}
+
+/// A place that parts no CR LF has the mark that is counted from the front of the text, and what is left there is what stands
+/// behind it: so a counted mark is one that gaps, kinds and lexemes can be asked at.
+pub fn marks_are_counted()
+    ensures places { PlacesAreCounted }
+    ensures marks { MarksAreCounted }
+{}
+
+/// The text between the quotes of a scalar is its parts, one behind the other and as many as can be, and its value is theirs.
+/// Where it is refused, the offence stands behind as many parts as can be.
+pub fn quoted_is_its_parts()
+    ensures parts { QuotedIsParts }
+    ensures refused { QuotedIsRefused }
+{}
+
+/// The text of a plain scalar is a chunk and links, one behind the other and as many as can be, and its value is theirs. Where
+/// it is refused, the offence is that of the chunk, or stands behind as many links as can be.
+pub fn plain_is_its_parts()
+    ensures parts { PlainIsParts }
+    ensures refused { PlainIsRefused }
+{}
+
+/// A chunk of a plain scalar is as many characters as can be. A link is as many blanks and breaks as can be, and a chunk.
+pub fn links_are_longest()
+    ensures chunk { ChunkIsLongest }
+    ensures link { LinkIsLongest }
 {}

@@ -1,0 +1,5 @@
+use Rattle.yaml_scan.proofs.GoOn as laws
+use Rattle.yaml_scan.proofs.laws.all_is_handed_out.Goals as goal
+
+pub returns : goal.returns
+returns c = laws.all_is_handed_out

@@ -1,0 +1,5 @@
+use Rattle.yaml_scan.proofs.Courses as laws
+use Rattle.yaml_scan.proofs.laws.course_of_an_input.Goals as goal
+
+pub returns : goal.returns
+returns c = record { history = laws.course_is_history; ends = laws.ends_or_faults; refused = laws.refused_has_fault; accepted = laws.accepted_is_cut; front = laws.front_is_cut }

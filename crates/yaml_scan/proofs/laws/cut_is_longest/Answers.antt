@@ -1,0 +1,5 @@
+use Rattle.yaml_scan.proofs.Cuts as laws
+use Rattle.yaml_scan.proofs.laws.cut_is_longest.Goals as goal
+
+pub returns : goal.returns
+returns c = record { longest = laws.cut_is_longest; history = laws.cut_is_history; short = laws.cut_is_short }

@@ -1,0 +1,5 @@
+use Rattle.yaml_scan.proofs.Sizes as laws
+use Rattle.yaml_scan.proofs.laws.tokens_are_few.Goals as goal
+
+pub returns : goal.returns
+returns c = laws.four_tokens_a_step

@@ -1,0 +1,63 @@
+-- What a decoded input is answered with: a list of tokens, and perhaps a fault.
+use Rattle.std.specs.Prelude.{ℕ, ◌+◌, Bool, true, false, List, [], map, nat_lt, Option, Some, None, option_map, if◌then◌else◌}
+use Rattle.yaml_text.specs.declared.types.yaml_encoding_t.{yaml_encoding_t}
+use Rattle.yaml_scan.specs.Token.{yaml_token_t}
+use Rattle.yaml_scan.specs.Laid.{Laid}
+use Rattle.yaml_scan.specs.Offline.{Token, before, handed_out}
+use Rattle.yaml_scan.specs.Fault.{Fault}
+use Rattle.yaml_scan.specs.Source.{Source}
+use Rattle.yaml_scan.specs.Step.{Outcome, step}
+use Rattle.yaml_scan.specs.Step.Outcome.{Reads, Faults}
+use Rattle.yaml_scan.specs.Cut.{Cut, cut_from}
+
+-- the text that the input spells, or its longest front that is text, and then the reader's fault behind it
+pub record Input : Type 0 where
+  pub encoding : yaml_encoding_t
+  pub source : Source
+  pub refusal : Option Fault
+
+-- eight characters on from a place the text is over
+abbrev pub is_near : ℕ → ℕ → Bool
+is_near size p = nat_lt size (p + 8)
+
+-- the place of a step: of its reach, or of its problem
+abbrev pub place_of : Outcome → ℕ
+place_of (Reads x) = x.place
+place_of (Faults o) = o.place
+
+-- near the end of a refused text the reader's fault comes in the place of a step
+abbrev pub unless_near : ℕ → Option Fault → Outcome → Outcome
+unless_near size None o = o
+unless_near size (Some f) o = if is_near size (place_of o) then Faults (record { fault = f; place = size }) else o
+
+unfoldable pub next : Input → ℕ → List Laid → Outcome
+next input limit H = unless_near input.source.size input.refusal (step input.source limit H)
+
+-- STREAM-START is a step at place 0
+abbrev pub starts_near : ℕ → Option Fault → Bool
+starts_near size None = false
+starts_near size (Some f) = is_near size 0
+
+-- the steps in front of the fault: STREAM-START, if that is one, and lexemes; and the fault
+pub record Course : Type 0 where
+  pub begun : Bool
+  pub read : List Laid
+  pub fault : Option Fault
+
+abbrev pub course_from : Bool → Option Fault → Cut → Course
+course_from true refusal c = record { begun = false; read = []; fault = refusal }
+course_from false refusal c = record { begun = true; read = c.read; fault = option_map (λ o. o.fault) c.fault }
+
+unfoldable pub course : ℕ → Input → Course
+course limit input = course_from (starts_near input.source.size input.refusal) input.refusal (cut_from (next input limit) (input.source.size + 1) limit [])
+
+-- the tokens of these steps that no further step revises; behind the stream end these are all
+abbrev pub tokens_of : ℕ → Course → List Token
+tokens_of limit c = if c.begun then before limit c.read else []
+
+pub record Answers : Type 0 where
+  pub tokens : List yaml_token_t
+  pub fault : Option Fault
+
+unfoldable pub answers : ℕ → Input → Answers
+answers limit input = record { tokens = map (handed_out input.encoding) (tokens_of limit (course limit input)); fault = (course limit input).fault }

@@ -1,0 +1,142 @@
+-- A session: scan, peek and skip, one after the other, on what an input comes to.
+use Rattle.std.specs.Prelude.{ℕ, ◌+◌, ◌-◌, Bool, true, false, ◌&&◌, List, [], ◌∷◌, length, max, nat_eq, nat_lt, slice_get, Option, Some, None, if◌then◌else◌}
+use Rattle.yaml_text.specs.declared.types.yaml_mark_t.{yaml_mark_t}
+use Rattle.yaml_text.specs.declared.types.yaml_encoding_t.{yaml_encoding_t}
+use Rattle.yaml_scan.specs.Kind.{is_stream_end}
+use Rattle.yaml_scan.specs.Token.{yaml_token_t, empty}
+use Rattle.yaml_scan.specs.Laid.{Laid, reach}
+use Rattle.yaml_scan.specs.Offline.{Token, before, queued, handed_out}
+use Rattle.yaml_scan.specs.Offline.Token.{StreamStart, BlockEnd, BlockSequenceStart, BlockMappingStart, InsertedKey, OfLexeme}
+use Rattle.yaml_scan.specs.Fault.{Fault}
+use Rattle.yaml_scan.specs.Cut.{oldest}
+use Rattle.yaml_scan.specs.Answers.{Course, tokens_of}
+
+pub data Call : Type 0 where
+  SCAN : Call
+  PEEK : Call
+  SKIP : Call
+
+pub data Answer : Type 0 where
+  TOKEN : yaml_token_t → Answer
+  PEEKED : yaml_token_t → Answer
+  SKIPPED : Answer
+  NOTHING : Answer
+  FAULT : Fault → Answer
+
+pub record Session : Type 0 where
+  -- how many tokens were taken
+  pub taken : ℕ
+  -- how many steps were made
+  pub steps : ℕ
+  -- the next token was peeked
+  pub peeked : Bool
+  pub over : Bool
+  pub fault : Option Fault
+
+abbrev pub new_session : Session
+new_session = record { taken = 0; steps = 0; peeked = false; over = false; fault = None }
+
+-- THE PACE
+-- the lexemes of the first s steps, of which one is STREAM-START
+abbrev pub first_steps : ℕ → List Laid → List Laid
+first_steps s H = oldest (s - 1) H
+
+-- token t is settled after s steps of H
+abbrev pub settled : ℕ → List Laid → ℕ → ℕ → Bool
+settled limit H t s = nat_lt 0 s && nat_lt t (length (before limit (first_steps s H)))
+
+-- the least number of steps of H after which token t is settled
+unfoldable pub steps_for : ℕ → List Laid → ℕ → ℕ
+steps_for limit [] t = 1
+steps_for limit (i ∷ H) t = if nat_lt t (length (before limit H)) then steps_for limit H t else length H + 2
+
+-- how many steps are made once token t is asked for, where s were made
+unfoldable pub pace : ℕ → List Laid → ℕ → ℕ → ℕ
+pace limit H t s = max s (steps_for limit H t)
+
+-- how many steps there are
+abbrev pub all_steps : Course → ℕ
+all_steps c = if c.begun then length c.read + 1 else 0
+
+-- CALLS
+abbrev pub next_token : ℕ → Course → Session → Option Token
+next_token limit c s = slice_get (tokens_of limit c) s.taken
+
+abbrev pub is_last : Token → Bool
+is_last (OfLexeme x) = is_stream_end x.kind
+is_last StreamStart = false
+is_last (BlockEnd m) = false
+is_last (BlockSequenceStart m) = false
+is_last (BlockMappingStart m) = false
+is_last (InsertedKey m) = false
+
+-- the next token was asked for
+abbrev pub paced : ℕ → Course → Session → Session
+paced limit c s = record { taken = s.taken; steps = pace limit c.read s.taken s.steps; peeked = s.peeked; over = s.over; fault = s.fault }
+
+-- and shown
+abbrev pub looked : Session → Session
+looked s = record { taken = s.taken; steps = s.steps; peeked = true; over = s.over; fault = s.fault }
+
+-- and taken; with the stream end the session is over
+abbrev pub took : Token → Session → Session
+took x s = record { taken = s.taken + 1; steps = s.steps; peeked = false; over = is_last x; fault = s.fault }
+
+-- there is none
+abbrev pub finished : Course → Session → Session
+finished c s = record { taken = s.taken; steps = all_steps c; peeked = false; over = true; fault = c.fault }
+
+abbrev pub why : Option Fault → Answer
+why None = TOKEN empty
+why (Some f) = FAULT f
+
+abbrev pub after_scan : ℕ → Course → Session → Option Token → Session
+after_scan limit c s None = finished c s
+after_scan limit c s (Some x) = took x (paced limit c s)
+
+abbrev pub after_peek : ℕ → Course → Session → Option Token → Session
+after_peek limit c s None = finished c s
+after_peek limit c s (Some x) = looked (paced limit c s)
+
+abbrev pub after_skip : Session → Option Token → Session
+after_skip s None = s
+after_skip s (Some x) = took x s
+
+-- what a call leaves
+abbrev pub after : ℕ → Course → Call → Session → Session
+after limit c SCAN s = if s.over then s else after_scan limit c s (next_token limit c s)
+after limit c PEEK s = if s.over then s else after_peek limit c s (next_token limit c s)
+after limit c SKIP s = if s.peeked then after_skip s (next_token limit c s) else s
+
+abbrev pub scan_answer : yaml_encoding_t → Course → Option Token → Answer
+scan_answer e c None = why c.fault
+scan_answer e c (Some x) = TOKEN (handed_out e x)
+
+abbrev pub peek_answer : yaml_encoding_t → Course → Option Token → Answer
+peek_answer e c None = why c.fault
+peek_answer e c (Some x) = PEEKED (handed_out e x)
+
+-- and what it answers
+abbrev pub answer : yaml_encoding_t → ℕ → Course → Call → Session → Answer
+answer e limit c SCAN s = if s.over then TOKEN empty else scan_answer e c (next_token limit c s)
+answer e limit c PEEK s = if s.over then PEEKED empty else peek_answer e c (next_token limit c s)
+answer e limit c SKIP s = if s.peeked then SKIPPED else NOTHING
+
+-- the answers to a list of calls
+unfoldable pub session : yaml_encoding_t → ℕ → Course → List Call → Session → List Answer
+session e limit c [] s = []
+session e limit c (call ∷ calls) s = answer e limit c call s ∷ session e limit c calls (after limit c call s)
+
+-- and what they leave
+unfoldable pub after_all : ℕ → Course → List Call → Session → Session
+after_all limit c [] s = s
+after_all limit c (call ∷ calls) s = after_all limit c calls (after limit c call s)
+
+-- WHAT CAN BE SEEN OF A SESSION
+-- how far the last step was read, and zero before any
+abbrev pub session_reach : Course → Session → yaml_mark_t
+session_reach c s = reach (first_steps s.steps c.read)
+
+-- how many of its steps have a token that was not taken
+abbrev pub session_queued : Course → Session → ℕ
+session_queued c s = if nat_eq s.steps 0 then 0 else queued (first_steps s.steps c.read) s.taken (first_steps s.steps c.read)

@@ -1,0 +1,139 @@
+//! What holds of the layout: each law is the contract of a function that does nothing.
+ghost use Rattle.yaml_scan.specs.Laws.{DepthGoesOn, CandidatesGoOn, CandidatesAreNested, AllowedGoesOn, ColumnsGoOn, ColumnsFall, LevelIsFirst, LevelStays, OfflineGoesOn, CandidateStandsThere, NeverRevised, FewWait, FewWaitOneStepOn, AllIsHandedOut, LexemesComeInOrder, EndsNeverOutnumber, AsManyEnds, CutIsLongest, CutIsHistory, CutIsShort};
+ghost use Rattle.yaml_scan.specs.TokenLaws.{TokensStandInOrder, KeysAreFollowed, FourTokensAStep};
+ghost use Rattle.yaml_scan.specs.SessionLaws.{CourseIsHistory, EndsOrFaults, RefusedHasFault, AcceptedIsCut, FrontIsCut, TakenAreBeginning, PeeksChangeNothing, NoneIsStuck, PaceSettles, PaceIsLeast, FewStepsQueued};
+ghost use Rattle.yaml_scan.specs.AnswerLaws.{AnswersStandInOrder, AnswersEndFewer, AnswersEndAll, AnswersFollowKeys};
+ghost use Rattle.yaml_scan.specs.Locality.{StepIsLocal, TokensBeforeRefusal, FaultBeforeRefusal, TextsAreLocal, TextsKeepOrder};
+
+/// What one lexeme more makes of the depth, the candidates, the open columns and the level: a machine that keeps a slot
+/// for each depth and a stack of columns keeps them.
+pub fn one_lexeme_more()
+    ensures depth { DepthGoesOn }
+    ensures candidates { CandidatesGoOn }
+    ensures nested { CandidatesAreNested }
+    ensures allowed { AllowedGoesOn }
+    ensures columns { ColumnsGoOn }
+    ensures falling { ColumnsFall }
+    ensures level { LevelIsFirst }
+    ensures required { LevelStays }
+{}
+
+ghost use Rattle.yaml_scan.specs.Inputs.{InputsKeepOrder, AllStandInOrder, AllEndFewer, AllEndAll, AllFollowKeys, LateFaults};
+
+/// One lexeme more puts at most one key, with its block start, into the offline list, in front of its candidate's
+/// token, and then its own group.
+pub fn offline_goes_on()
+    ensures list { OfflineGoesOn }
+    ensures candidate { CandidateStandsThere }
+{}
+
+/// Tokens that were handed out are never revised.
+pub fn never_revised()
+    ensures { NeverRevised }
+{}
+
+/// Few lexemes wait for a candidate: at most as many as the key limit has bytes, and one.
+pub fn few_lexemes_wait()
+    ensures settled { FewWait }
+    ensures one_step_on { FewWaitOneStepOn }
+{}
+
+/// Behind the stream end all of the offline list is handed out.
+pub fn all_is_handed_out()
+    ensures { AllIsHandedOut }
+{}
+
+/// The steps of a text: the longest list, and short.
+pub fn cut_is_longest()
+    ensures longest { CutIsLongest }
+    ensures history { CutIsHistory }
+    ensures short { CutIsShort }
+{}
+
+/// The tokens of the lexemes themselves come in the order of the text.
+pub fn lexemes_come_in_order()
+    ensures { LexemesComeInOrder }
+{}
+
+/// Block ends never outnumber block starts, and at the end of a text whose depth is 0 there are equally many.
+pub fn block_ends_are_matched()
+    ensures beginnings { EndsNeverOutnumber }
+    ensures whole { AsManyEnds }
+    ensures answered { AnswersEndFewer }
+    ensures answered_whole { AnswersEndAll }
+{}
+
+/// Tokens stand in order: none starts behind its end, or ends behind the start of the next.
+pub fn tokens_stand_in_order()
+    ensures list { TokensStandInOrder }
+    ensures answered { AnswersStandInOrder }
+{}
+
+/// Behind every key that the layout puts in stands its `:`, on its line and within the key limit.
+pub fn keys_are_followed()
+    ensures list { KeysAreFollowed }
+    ensures answered { AnswersFollowKeys }
+{}
+
+/// There are at most four tokens a step.
+pub fn tokens_are_few()
+    ensures { FourTokensAStep }
+{}
+
+/// What an input comes to: its steps are a history, and end with the stream end or with a fault; an accepted input has
+/// the cut of its text, and a refused one, which always has a fault, a beginning of what its front alone would have.
+pub fn course_of_an_input()
+    ensures history { CourseIsHistory }
+    ensures ends { EndsOrFaults }
+    ensures refused { RefusedHasFault }
+    ensures accepted { AcceptedIsCut }
+    ensures front { FrontIsCut }
+{}
+
+/// Whatever the calls, the tokens taken are in order a beginning of the list, and where none is next there is a fault to
+/// answer.
+pub fn taken_tokens_begin_the_list()
+    ensures beginning { TakenAreBeginning }
+    ensures goes_on { NoneIsStuck }
+{}
+
+/// Peeks change nothing: the same calls without them, with a scan for each skip, take the same tokens.
+pub fn peeks_change_nothing()
+    ensures { PeeksChangeNothing }
+{}
+
+/// No more steps are made than the next token asks for.
+pub fn pace_is_least()
+    ensures settles { PaceSettles }
+    ensures least { PaceIsLeast }
+{}
+
+/// After any calls at most as many steps are queued as the key limit has bytes, and one.
+pub fn few_steps_are_queued()
+    ensures { FewStepsQueued }
+{}
+
+/// A step depends on no character eight or more past its reach, or past its problem. So what is handed out of a refused
+/// input before the reader's fault, and a fault in its place, are those of every accepted input that agrees with it.
+pub fn step_is_local()
+    ensures step { StepIsLocal }
+    ensures tokens { TokensBeforeRefusal }
+    ensures fault { FaultBeforeRefusal }
+    ensures texts { TextsAreLocal }
+{}
+
+/// What is read of a decoded text stands in its order: so the laws that ask for it hold of every decoded text.
+pub fn texts_keep_order()
+    ensures { TextsKeepOrder }
+{}
+
+/// The laws of tokens, for any bytes and setting: order, block ends, keys; and what is handed out before a late reader
+/// fault, and a fault in its place, are those of every accepted input that agrees up to the refused character.
+pub fn laws_of_any_input()
+    ensures order { InputsKeepOrder }
+    ensures tokens { AllStandInOrder }
+    ensures block_ends { AllEndFewer }
+    ensures whole { AllEndAll }
+    ensures keys { AllFollowKeys }
+    ensures late { LateFaults }
+{}
