@@ -76,10 +76,6 @@ pub if_ahead : {A : Type 0} → (b : Bool) (n : ℕ) (p : Place) (x y : Read A) 
 if_ahead true n p x y hx hy = hx
 if_ahead false n p x y hx hy = hy
 
-pub if_part : {A : Type 0} → (b : Bool) (n : ℕ) (p : Place) (x y : Part A) → PartAhead n p x → PartAhead n p y → PartAhead n p (cond b x y)
-if_part true n p x y hx hy = hx
-if_part false n p x y hx hy = hy
-
 pub bind_ahead : {A B : Type 0} → (m n : ℕ) (p : Place) (r : Read A) (f : Found A → Read B) → Ahead m p r → ((x : Found A) → IsAhead m p x.end → Ahead n p (f x)) → Ahead n p (r >>= f)
 bind_ahead m n p (Ok x) f h g = g x h
 bind_ahead m n p (Err e) f h g = tt
@@ -101,9 +97,6 @@ pub part_shorter : {A : Type 0} → (p : Place) (r : Part A) → PartAhead 1 p r
 part_shorter p (Ok (Some f)) a = shorter p f.end a
 part_shorter p (Ok None) a = tt
 part_shorter p (Err e) a = tt
-
-front_ahead : {A : Type 0} → (n : ℕ) (p : Place) (r : Read A) → Ahead n p r → Ahead n p r
-front_ahead n p r h = h
 
 turn_ahead : {A : Type 0} → (one : Place → Part A) (p : Place) (r : Part A) → PartAhead 1 p r → ((x : Place) → length x.rest < length p.rest → Ahead 0 x (many one x)) → Ahead 0 p (r >>= λ a. go_on (many one) p a)
 turn_ahead one p (Ok (Some f)) a more =
@@ -138,11 +131,6 @@ bind_goes {A} {B} {n} {p} {r} {f} m h g = record { goes = bind_ahead m n p r f h
 
 pub then_goes : {A : Type 0} {p q : Place} {r : Read A} → (m n : ℕ) → IsAhead m p q → Goes n q r → Goes (m + n) p r
 then_goes {A} {p} {q} {r} m n a b = record { goes = then_ahead m n p q r a b.goes }
-
--- by what the test says
-pub if_goes_by : {A : Type 0} {n : ℕ} {p : Place} {x y : Read A} → (b : Bool) → (b ≡ true → Goes n p x) → (b ≡ false → Goes n p y) → Goes n p (if b then x else y)
-if_goes_by {A} {n} {p} {x} {y} true hx hy = hx refl
-if_goes_by {A} {n} {p} {x} {y} false hx hy = hy refl
 
 pub record PartGoes {A : Type 0} (n : ℕ) (p : Place) (r : Part A) : Type 0 where
   pub goes : PartAhead n p r

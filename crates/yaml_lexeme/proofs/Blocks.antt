@@ -29,9 +29,6 @@ use Rattle.yaml_lexeme.specs.declared.block.chomp_t.TheVariants.{STRIP, CLIP, KE
 use Rattle.yaml_lexeme.specs.declared.block.header_t.{header_t}
 use Rattle.yaml_lexeme.specs.declared.plain.scalar_t.{scalar_t}
 
-is_blank_space : ℕ → Bool
-is_blank_space c = c == 0x20
-
 space_run : (m : yaml_mark_t) (cs : List ℕ) → let p : Place = record { mark = m; rest = cs } in first p ≡ 0x20 → (run_len (λ c. c == 0x20) p ≡ suc (run_len (λ c. c == 0x20) (skip 1 p))) × ((skip 1 p).mark.column ≡ m.column + 1)
 unfolding skip
 space_run m [] h = absurd (omega arith)
@@ -201,9 +198,6 @@ blanks_offence : (error : refusal_t) (limit : Option ℕ) (start p q : Place) (o
     → Refuses error q (after_indent limit p) → Refuses error q (blank_lines limit start)
 blanks_offence errors.MEMORY limit start p q old s h e = tt
 blanks_offence (errors.OFFENCE problem) limit start p q old s h e = blanks_refused limit start p old s (record { problem = problem; at = q }) h e
-
-error_takes : (error : refusal_t) (old new : List ℕ) (q : Place) (read : Read Blanks) → Refuses error q read → TakesBlanks (Err error) old new q read
-error_takes error old new q read h = h
 
 pub first_refused : (error : refusal_t) (limit : Option ℕ) (start q : Place) (old : List ℕ) → Refuses error q (after_indent limit start) → Refuses error q (blank_lines limit start)
 first_refused error limit start q old e = blanks_offence error limit start start q old (old, 0) refl e

@@ -97,12 +97,6 @@ bind_move : (r : Read ℕ) (q : Place) → (move r q >>= λ x. part (x.value ∷
 bind_move (Ok r) q = refl
 bind_move (Err r) q = refl
 
--- reading at x, k characters behind p
-record LocalAt (read : Place → Read ℕ) (k : ℕ) (p : Place) : Type 0 where
-  pub count : ℕ
-  pub ends : EndsAt count p (read (skip k p))
-  pub same : (q : Place) → Agree (count + 8) p q → read (skip k q) ≡ move (read (skip k p)) (skip count q)
-
 -- what n hex digits give, from the digits
 abbrev of_digits : ℕ → List ℕ → Place → Read ℕ
 of_digits n ds p =

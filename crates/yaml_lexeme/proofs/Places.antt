@@ -99,14 +99,6 @@ class_end FLOW = refl
 abbrev pub Goes : class_t → Place → Place → Type 0
 Goes class p q = behind (class_test class) p ≡ behind (class_test class) q
 
-pub run_goes : (class : class_t) (p q : Place) → class_test class (first p) ≡ true → Goes class p q → (length (skip 1 p).rest < length p.rest) × Goes class (skip 1 p) q
-run_goes class p q h e =
-    let t = behind_more (class_test class) p h (class_end class) in
-    (omega (arith, length_one p, t.0), sym t.1 ∙ e)
-
-pub run_ends : (class : class_t) (p q : Place) → class_test class (first p) ≡ false → Goes class p q → p ≡ behind (class_test class) q
-run_ends class p q h e = sym (behind_none (class_test class) p h) ∙ e
-
 left_by : (n : ℕ) (m : yaml_mark_t) (cs : List ℕ) → length (skip_from n m cs).rest ≡ length cs - n
 left_by zero m cs = omega arith
 left_by (suc n) m [] = omega arith

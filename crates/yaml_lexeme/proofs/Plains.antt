@@ -1,11 +1,8 @@
 -- Plain scalars, a character at a time.
-use Rattle.std.proofs.Common.{◌≡◌, ℕ, zero, suc, ◌+◌, ◌<◌, ◌≤◌, Bool, true, false, cond, not, ◌==◌, ◌&&◌, ◌||◌, if◌then◌else◌, inl, inr, List, [], ◌∷◌, ◌++◌, length, take, slice_index, Option, Some, None, Ok, Err, refl, sym, ap, ◌∙◌, arith, append_assoc, ne_eqb}
+use Rattle.std.proofs.Common.{◌≡◌, ℕ, zero, suc, ◌+◌, ◌<◌, ◌≤◌, Bool, true, false, cond, not, ◌==◌, ◌&&◌, ◌||◌, if◌then◌else◌, inl, inr, List, [], ◌∷◌, ◌++◌, length, take, slice_index, Option, Some, None, Ok, Err, refl, sym, ap, ◌∙◌, arith}
 use Rattle.std.proofs.lemmas.Bool.{cases_Bool}
 use Rattle.std.proofs.lemmas.Bool.Decides.{nat_tests}
-use Rattle.std.proofs.lemmas.List.{append-nil}
-use Rattle.std.proofs.lemmas.List.Concat.{flat_map-append}
 use Rattle.std.specs.List.{flat_map, list_any}
-use Rattle.std.specs.Char.{encode_utf8}
 use Rattle.yaml_text.specs.declared.types.yaml_mark_t.{yaml_mark_t}
 use Rattle.yaml_lexeme.specs.declared.problem.refusal_t.{refusal_t}
 use Rattle.yaml_lexeme.specs.declared.problem.refusal_t.TheVariants as errors
@@ -23,10 +20,6 @@ use Rattle.yaml_lexeme.specs.Plain.{is_tab, is_flow_indicator, is_bad_colon, is_
 use Rattle.yaml_lexeme.specs.Reading.{Read, found, Part, part, refuse, over, many, with_front, ◌>>=◌}
 use Rattle.yaml_text.specs.Chars.{utf8}
 use Rattle.yaml_text.specs.Classes.{is_break, is_blank}
-
--- the bytes of what was read
-abbrev pub in_bytes : Read (List ℕ) → Read (List ℕ)
-in_bytes r = r >>= λ x. found (utf8 x.value) x.end
 
 -- what a chunk gives where it ends
 abbrev stopped_at : Bool → List ℕ → Place → Read (List ℕ)
@@ -62,17 +55,6 @@ chunk_char flow c next h = grind (arith, nat_tests)
 pub chunk_there : (flow : Bool) (p : Place) → is_chunk flow (first p) (peek p 1) ≡ true → 0 < length p.rest
 chunk_there flow p h = is_there p 0 (chunk_char flow (first p) (peek p 1) h)
 
--- A chunk is being copied: what was copied, what is left, and what that makes.
-abbrev pub CopiesChunk : Bool → Place → List ℕ → Read (List ℕ) → Type 0
-CopiesChunk flow p out whole = with_front out (in_bytes (chunk flow p)) ≡ whole
-
-push : (out : List ℕ) (c : ℕ) (r : Read (List ℕ)) → with_front out (in_bytes (with_front (c ∷ []) r)) ≡ with_front (out ++ encode_utf8 c) (in_bytes r)
-push out c (Ok r) = ap (λ (bs : List ℕ). found bs r.end) (sym (append_assoc out (encode_utf8 c) (utf8 r.value)))
-push out c (Err e) = refl
-
-pub copies_more : (flow : Bool) (p : Place) (out : List ℕ) (whole : Read (List ℕ)) → is_chunk flow (first p) (peek p 1) ≡ true → CopiesChunk flow p out whole → CopiesChunk flow (skip 1 p) (out ++ encode_utf8 (first p)) whole
-copies_more flow p out whole h c = sym (push out (first p) (chunk flow (skip 1 p))) ∙ ap (λ r. with_front out (in_bytes r)) (sym (chunk_more flow p h)) ∙ c
-
 abbrev value_of : Read (List ℕ) → List ℕ
 value_of (Ok r) = r.value
 value_of (Err e) = []
@@ -80,26 +62,6 @@ value_of (Err e) = []
 abbrev end_of : Read (List ℕ) → Place
 end_of (Ok r) = r.end
 end_of (Err e) = e.at
-
-takes : (r : Read (List ℕ)) (old new : List ℕ) (q : Place) → with_front old (in_bytes r) ≡ found new q → TakesRead utf8 r old new q
-takes (Ok r) old new q h = (sym (ap value_of h), sym (ap end_of h))
-takes (Err e) old new q h = absurd cc
-
-refuses : (r : Read (List ℕ)) (old : List ℕ) (problem : problem_t) (q : Place) → with_front old (in_bytes r) ≡ refuse problem q → r ≡ refuse problem q
-refuses (Ok r) old problem q h = absurd cc
-refuses (Err e) old problem q h = h
-
-pub copies_all : (flow : Bool) (p start : Place) (out old : List ℕ) → is_chunk flow (first p) (peek p 1) ≡ false → is_bad_colon flow (first p) (peek p 1) ≡ false
-    → CopiesChunk flow p out (with_front old (in_bytes (chunk flow start))) → TakesRead utf8 (chunk flow start) old out p
-copies_all flow p start out old h b c =
-    let here : with_front out (in_bytes (chunk flow p)) ≡ found out p = ap (λ (r : Read (List ℕ)). with_front out (in_bytes r)) (chunk_stop flow p h) ∙ rw b (ap (λ (bs : List ℕ). found bs p) (append-nil out)) in
-    takes (chunk flow start) old out p (sym c ∙ here)
-
-pub copies_none : (flow : Bool) (p start : Place) (out old : List ℕ) → is_chunk flow (first p) (peek p 1) ≡ false → is_bad_colon flow (first p) (peek p 1) ≡ true
-    → CopiesChunk flow p out (with_front old (in_bytes (chunk flow start))) → chunk flow start ≡ refuse COLON_IN_FLOW p
-copies_none flow p start out old h b c =
-    let here : with_front out (in_bytes (chunk flow p)) ≡ refuse COLON_IN_FLOW p = ap (λ (r : Read (List ℕ)). with_front out (in_bytes r)) (chunk_stop flow p h) ∙ rw b refl in
-    refuses (chunk flow start) old COLON_IN_FLOW p (sym c ∙ here)
 
 -- a place's tab is found
 abbrev pub tab_at : ℕ → Bool → Place → Option Place
@@ -211,24 +173,6 @@ nothing_there flow least p q start old g o b h e =
     let c : chunk flow q ≡ found [] q = chunk_stop flow q h ∙ rw b refl in
     same_none (link flow least p) old p start (at_gap flow least p q g ∙ rw (o, c) refl) e
 
-pub chunk_refused : (error : refusal_t) (flow : Bool) (least : ℕ) (p q r : Place) → Gap flow least p q → is_over flow least q ≡ false → Refuses error r (chunk flow q) → Refuses error r (link flow least p)
-chunk_refused errors.MEMORY flow least p q r g o h = tt
-chunk_refused (errors.OFFENCE problem) flow least p q r g o h = at_gap flow least p q g ∙ rw (o, h) refl
-
-front_some : (c : ℕ) (x : Read (List ℕ)) (gap : List ℕ) (old mid new : List ℕ) (p r : Place) → mid ≡ old ++ utf8 gap → TakesRead utf8 (with_front (c ∷ []) x) mid new r
-    → TakesPart utf8 (with_front (c ∷ []) x >>= λ c. if length c.value == 0 then over else part (gap ++ c.value) c.end) true old new p r
-front_some c (Ok f) gap old mid new p r m h =
-    let some : (suc (length f.value) == 0) ≡ false = ne_eqb (suc (length f.value)) 0 (λ e. omega arith) in
-    let cs = c ∷ f.value in
-    rw some (h.0 ∙ ap (λ (xs : List ℕ). xs ++ utf8 cs) m ∙ append_assoc old (utf8 gap) (utf8 cs) ∙ ap (λ (xs : List ℕ). old ++ xs) (sym (flat_map-append encode_utf8 gap cs)), h.1)
-front_some c (Err e) gap old mid new p r m h = absurd h
-
-pub link_taken : (flow : Bool) (least : ℕ) (p q r : Place) (old mid new : List ℕ) → Gap flow least p q → is_over flow least q ≡ false → is_chunk flow (first q) (peek q 1) ≡ true
-    → mid ≡ old ++ utf8 (fold (run is_white p)) → TakesRead utf8 (chunk flow q) mid new r → TakesPart utf8 (link flow least p) true old new p r
-link_taken flow least p q r old mid new g o h m t =
-    let c = chunk_more flow q h in
-    rw (at_gap flow least p q g, o, c) (front_some (first q) (chunk flow (skip 1 q)) (fold (run is_white p)) old mid new p r m (rw c at t))
-
 -- what was read ends nearer to the text's end
 abbrev EndsNear : Place → Read (List ℕ) → Type 0
 EndsNear p (Ok f) = length f.end.rest < length p.rest
@@ -298,9 +242,6 @@ pub plain_is : (flow : Bool) (least : ℕ) (p : Place) → plain flow least p �
 unfolding plain
 plain_is flow least p = refl
 
-abbrev links_of : Bool → ℕ → Place → Read (List ℕ)
-links_of flow least p = joined utf8 (many (link flow least) p)
-
 abbrev refusal : Read (List ℕ) → Read scalar_t
 refusal (Ok r) = scalar_at r.value r.end
 refusal (Err e) = Err e
@@ -312,25 +253,6 @@ tail_all (Err e) front out q h = absurd cc
 pub tail_none : (m : Read (List (List ℕ))) (front : List ℕ) (problem : problem_t) (q : Place) → with_front front (joined utf8 m) ≡ refuse problem q → (m >>= λ links. scalar_at (front ++ flat_map utf8 links.value) links.end) ≡ refuse problem q
 tail_none (Ok links) front problem q h = absurd cc
 tail_none (Err e) front problem q h = ap refusal h
-
-head_all : (flow : Bool) (least : ℕ) (r : Read (List ℕ)) (out₀ out : List ℕ) (start q : Place) → TakesRead utf8 r [] out₀ start → with_front out₀ (links_of flow least start) ≡ found out q → after_head flow least r ≡ scalar_at out q
-head_all flow least (Ok head) out₀ out start q t h = tail_all (many (link flow least) head.end) (utf8 head.value) out q (rw (← t.0, ← t.1) h)
-head_all flow least (Err e) out₀ out start q t h = absurd t
-
-head_none : (flow : Bool) (least : ℕ) (r : Read (List ℕ)) (out₀ : List ℕ) (problem : problem_t) (start q : Place) → TakesRead utf8 r [] out₀ start → with_front out₀ (links_of flow least start) ≡ refuse problem q → after_head flow least r ≡ refuse problem q
-head_none flow least (Ok head) out₀ problem start q t h = tail_none (many (link flow least) head.end) (utf8 head.value) problem q (rw (← t.0, ← t.1) h)
-head_none flow least (Err e) out₀ problem start q t h = absurd t
-
-pub plain_all : (flow : Bool) (least : ℕ) (p start q : Place) (out₀ out : List ℕ) → TakesRead utf8 (chunk flow p) [] out₀ start → with_front out₀ (links_of flow least start) ≡ found out q → plain flow least p ≡ scalar_at out q
-plain_all flow least p start q out₀ out t h = plain_is flow least p ∙ head_all flow least (chunk flow p) out₀ out start q t h
-
-pub plain_refused : (error : refusal_t) (flow : Bool) (least : ℕ) (p start q : Place) (out₀ : List ℕ) → TakesRead utf8 (chunk flow p) [] out₀ start → Refuses error q (with_front out₀ (links_of flow least start)) → Refuses error q (plain flow least p)
-plain_refused errors.MEMORY flow least p start q out₀ t h = tt
-plain_refused (errors.OFFENCE problem) flow least p start q out₀ t h = plain_is flow least p ∙ head_none flow least (chunk flow p) out₀ problem start q t h
-
-pub head_refused : (error : refusal_t) (flow : Bool) (least : ℕ) (p q : Place) → Refuses error q (chunk flow p) → Refuses error q (plain flow least p)
-head_refused errors.MEMORY flow least p q h = tt
-head_refused (errors.OFFENCE problem) flow least p q h = plain_is flow least p ∙ ap (after_head flow least) h
 
 any_behind : (n : ℕ) (p : Place) → length p.rest ≤ n → list_any is_break (run is_white p) ≡ list_any is_break (run is_white (behind is_blank p))
 any_behind zero p h =

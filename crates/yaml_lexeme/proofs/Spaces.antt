@@ -7,12 +7,10 @@ use Rattle.std.proofs.lemmas.Str.{encode_ascii}
 use Rattle.std.specs.List.{prefix_len}
 use Rattle.std.specs.Char.{encode_utf8}
 use Rattle.yaml_text.specs.declared.types.yaml_mark_t.{yaml_mark_t}
-use Rattle.yaml_lexeme.specs.declared.runs.class_t.{class_t}
-use Rattle.yaml_lexeme.proofs.Places.{skip_one, skip_more, behind_more, behind_none, class_end, length_skip, length_one, break_within}
+use Rattle.yaml_lexeme.proofs.Places.{skip_one, skip_more, behind_more, behind_none, length_skip, length_one, break_within}
 use Rattle.yaml_lexeme.specs.Classes.{is_white}
 use Rattle.yaml_lexeme.specs.Fold.{written, breaks, fold, join_breaks}
 use Rattle.yaml_lexeme.specs.Place.{Place, first, peek, skip, run, run_len, behind, break_len}
-use Rattle.yaml_lexeme.specs.Runs.{class_test}
 use Rattle.yaml_text.specs.Chars.{utf8}
 use Rattle.yaml_text.specs.Classes.{is_blank, is_break}
 
@@ -33,30 +31,9 @@ stops test (c ∷ cs) h = rw h refl
 pub run_none : (test : ℕ → Bool) (p : Place) → test (first p) ≡ false → run test p ≡ []
 run_none test p h = stops test p.rest h
 
--- A run is being copied: what was copied, and what is left.
-pub record Copies (class : class_t) (p q : Place) (out whole : List ℕ) : Type 0 where
-  pub value : out ++ utf8 (run (class_test class) p) ≡ whole
-  pub end : behind (class_test class) p ≡ q
-
-pub copy_more : (class : class_t) (p q : Place) (out whole : List ℕ) → class_test class (first p) ≡ true → Copies class p q out whole
-    → Copies class (skip 1 p) q (out ++ encode_utf8 (first p)) whole
-copy_more class p q out whole h c =
-    let t = behind_more (class_test class) p h (class_end class) in
-    record {
-      value = append_assoc out (encode_utf8 (first p)) (utf8 (run (class_test class) (skip 1 p))) ∙ ap (λ (cs : List ℕ). out ++ utf8 cs) (sym (run_more (class_test class) p h (class_end class))) ∙ c.value;
-      end = sym t.1 ∙ c.end;
-    }
-
-pub copy_end : (class : class_t) (p q : Place) (out whole : List ℕ) → class_test class (first p) ≡ false → Copies class p q out whole → (out ≡ whole) × (p ≡ q)
-copy_end class p q out whole h c =
-    (sym (append-nil out) ∙ ap (λ (cs : List ℕ). out ++ utf8 cs) (sym (run_none (class_test class) p h)) ∙ c.value, sym (behind_none (class_test class) p h) ∙ c.end)
-
 -- the breaks of the run that stands at a place
 abbrev pub breaks_at : Place → List ℕ
 breaks_at p = breaks (run is_white p)
-
-spaces : List ℕ → List ℕ
-spaces cs = take (prefix_len is_white cs) cs
 
 -- the breaks of a run that goes on with a blank
 blank_first : (p : Place) → is_blank (first p) ≡ true → (breaks_at p ≡ breaks_at (skip 1 p)) × (behind is_white p ≡ behind is_white (skip 1 p))
