@@ -7,3 +7,4 @@ pub mod Starts
 pub mod Units
 pub mod Readings
 pub mod Decodings
+pub mod Running

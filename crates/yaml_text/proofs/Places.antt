@@ -24,10 +24,10 @@ use Rattle.yaml_text.proofs.Fronts.{AreChars-append, chars-utf8, IsText-utf8}
 no_lf : (x : ℕ) → is_crlf x 0 ≡ false
 no_lf x = elim (cases_Bool (x == 13)) [ inl e ↦ rw e refl | inr e ↦ rw e refl ]
 
-ends_whole : (x : ℕ) (after : List ℕ) → is_crlf x (get_or after 0 0) ≡ false → ends_break x after ≡ is_break x
+pub ends_whole : (x : ℕ) (after : List ℕ) → is_crlf x (get_or after 0 0) ≡ false → ends_break x after ≡ is_break x
 ends_whole x after whole = rw whole (elim (cases_Bool (is_break x)) [ inl e ↦ rw e refl | inr e ↦ rw e refl ])
 
-ends_last : (x : ℕ) → ends_break x [] ≡ is_break x
+pub ends_last : (x : ℕ) → ends_break x [] ≡ is_break x
 ends_last x = ends_whole x [] (no_lf x)
 
 more_plus : (b : Bool) (m n : ℕ) → one_more_if b (m + n) ≡ one_more_if b m + n
@@ -174,7 +174,7 @@ line_of_one bytes mark c cs h e is single =
     let end : cuts_break (before ++ c ∷ []) cs ≡ false = rw (last_push before c) single in
     moves bytes mark (c ∷ []) cs _ 1 _ _ h e (front_width bytes mark.index c cs h.rest e ∙ sym (length-utf8-one c)) refl (omega (arith, h.line, line)) (sym col) end
 
-two_bytes : 2 ≡ length (utf8 (13 ∷ 10 ∷ []))
+pub two_bytes : 2 ≡ length (utf8 (13 ∷ 10 ∷ []))
 unfolding encode
 two_bytes = refl
 

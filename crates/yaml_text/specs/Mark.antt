@@ -1,5 +1,6 @@
--- Marks: how far into a text a place is, and in which line and column.
-use Rattle.std.specs.Prelude.{ℕ, suc, ◌≡◌, ◌-◌, ◌≤◌, Bool, false, ◌&&◌, not, nat_le, nat_lt, List, [], ◌∷◌, ◌++◌, length, take, drop, reverse, slice_index, if◌then◌else◌}
+-- Marks: how far into a text a place is, and in which line and column (YAML 1.1, section 5.4).
+use Rattle.std.specs.Char.{len_utf8}
+use Rattle.std.specs.Prelude.{ℕ, zero, suc, ◌≡◌, ◌+◌, ◌-◌, ◌≤◌, Bool, false, ◌&&◌, not, nat_le, nat_lt, List, [], ◌∷◌, ◌++◌, length, take, drop, reverse, slice_index, if◌then◌else◌}
 use Rattle.std.specs.List.{prefix_len}
 use Rattle.yaml_text.specs.Chars.{utf8, IsText}
 use Rattle.yaml_text.specs.Classes.{is_break, is_crlf, is_crlf_at}
@@ -26,6 +27,16 @@ column cs = prefix_len (λ c. not (is_break c)) (reverse cs)
 -- the mark behind these characters
 abbrev pub mark_of : List ℕ → yaml_mark_t
 mark_of before = record { index = length (utf8 before); line = breaks before; column = column before }
+
+-- The mark behind one character more, before others.
+abbrev pub mark_behind : yaml_mark_t → ℕ → List ℕ → yaml_mark_t
+mark_behind m c after = if ends_break c after then record { index = m.index + len_utf8 c; line = m.line + 1; column = 0 } else record { index = m.index + len_utf8 c; line = m.line; column = m.column + 1 }
+
+-- The mark behind n characters more, kept as one goes.
+abbrev pub mark_on : ℕ → yaml_mark_t → List ℕ → yaml_mark_t
+mark_on zero m cs = m
+mark_on (suc n) m [] = m
+mark_on (suc n) m (c ∷ cs) = mark_on n (mark_behind m c cs) cs
 
 -- CR and LF of one break stand on the two sides
 abbrev pub cuts_break : List ℕ → List ℕ → Bool

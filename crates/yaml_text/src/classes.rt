@@ -1,14 +1,20 @@
 //! The classes of characters, told by the bytes at a place. A place at or past the end reads as a byte 0.
-ghost use Rattle.std.specs.Prelude.{ℕ, ◌≡◌, ◌+◌, List, slice_index};
+//!
+//! Each class says two things: which bytes it holds for, on any bytes and at any place; and, at the start of a character of
+//! valid UTF-8 or at the end of it, for which characters, where the end counts as character 0.
+ghost use Rattle.std.specs.Prelude.{ℕ, ◌≡◌, ◌+◌, ◌-◌, ◌<◌, ◌≤◌, ◌||◌, true, pos, List, slice_index};
+ghost use Rattle.std.specs.Char.{len_utf8};
 ghost use Rattle.yaml_text.specs.Utf8.{width_of};
-ghost use Rattle.yaml_text.specs.Classes.{is_break, is_blank, is_crlf, is_break_at, is_blank_at, is_crlf_at, is_printable, is_printable_at, Stands};
+ghost use Rattle.yaml_text.specs.Classes.{is_digit, is_hex, is_alpha, is_ascii, is_printable, is_z, is_bom, is_space, is_tab, is_blank, is_break, is_crlf, is_breakz, is_blankz, hex_value, is_break_at, is_bom_at, is_printable_at, is_crlf_at, is_breakz_at, is_blankz_at, Stands};
 
+#[inline(always)]
 fn byte_at(s: &[u8], at: usize) -> u8
     ensures { result ≡ slice_index s.now at }
 {
     s.get(at).copied().unwrap_or(0)
 }
 
+#[inline(always)]
 fn byte_behind(s: &[u8], at: usize, more: usize) -> u8
     ensures { result ≡ slice_index s.now (at + more) }
 {
@@ -18,6 +24,7 @@ fn byte_behind(s: &[u8], at: usize, more: usize) -> u8
     }
 }
 
+#[inline(always)]
 fn breaks_at(s: &[u8], at: usize) -> bool
     ensures { result ≡ is_break_at s.now at }
 {
@@ -29,50 +36,17 @@ fn breaks_at(s: &[u8], at: usize) -> bool
     }
 }
 
-fn blank_at(s: &[u8], at: usize) -> bool
-    ensures { result ≡ is_blank_at s.now at }
-{
-    matches!(byte_at(s, at), b' ' | b'\t')
-}
-
+#[inline(always)]
 fn crlf_at(s: &[u8], at: usize) -> bool
     ensures { result ≡ is_crlf_at s.now at }
 {
     byte_at(s, at) == b'\r' && byte_behind(s, at, 1) == b'\n'
 }
 
-/// Whether a break stands there.
-#[tactic(auto, using(crate::proofs::ClassLaws::break_law))]
-pub fn IS_BREAK(s: &[u8], at: usize) -> bool
-    ensures bytes { result ≡ is_break_at s.now at }
-    ensures character { (left : List ℕ) → Stands s.now at left → result ≡ is_break (slice_index left 0) }
+fn bom_at(s: &[u8], at: usize) -> bool
+    ensures { result ≡ is_bom_at s.now at }
 {
-    breaks_at(s, at)
-}
-
-/// Whether a space or a tab stands there.
-#[tactic(auto, using(crate::proofs::ClassLaws::blank_law))]
-pub fn IS_BLANK(s: &[u8], at: usize) -> bool
-    ensures bytes { result ≡ is_blank_at s.now at }
-    ensures character { (left : List ℕ) → Stands s.now at left → result ≡ is_blank (slice_index left 0) }
-{
-    blank_at(s, at)
-}
-
-/// Whether a carriage return and a line feed stand there.
-#[tactic(auto, using(crate::proofs::ClassLaws::crlf_law))]
-pub fn IS_CRLF(s: &[u8], at: usize) -> bool
-    ensures bytes { result ≡ is_crlf_at s.now at }
-    ensures character { (left : List ℕ) → Stands s.now at left → result ≡ is_crlf (slice_index left 0) (slice_index left 1) }
-{
-    crlf_at(s, at)
-}
-
-/// How many bytes the character there has, and 0 where none begins so.
-pub fn WIDTH(s: &[u8], at: usize) -> usize
-    ensures { result ≡ width_of (slice_index s.now at) }
-{
-    crate::utf8::width_of(byte_at(s, at))
+    byte_at(s, at) == 0xEF && byte_behind(s, at, 1) == 0xBB && byte_behind(s, at, 2) == 0xBF
 }
 
 fn printable_at(s: &[u8], at: usize) -> bool
@@ -91,10 +65,210 @@ fn printable_at(s: &[u8], at: usize) -> bool
     }
 }
 
+fn is_digit_byte(b: u8) -> bool
+    ensures { result ≡ is_digit b }
+{
+    b.is_ascii_digit()
+}
+
+fn is_hex_byte(b: u8) -> bool
+    ensures { result ≡ is_hex b }
+{
+    matches!(b, b'0'..=b'9' | b'A'..=b'F' | b'a'..=b'f')
+}
+
+/// How much a hexadecimal digit is above its value.
+fn hex_excess(b: u8) -> u8
+    requires { is_hex b ≡ true }
+    ensures value { b - result ≡ hex_value b }
+    ensures within { result ≤ b }
+{
+    match b {
+        b'0'..=b'9' => b'0',
+        b'A'..=b'F' => b'A' - 10,
+        _ => b'a' - 10,
+    }
+}
+
+#[inline(always)]
+fn is_alpha_byte(b: u8) -> bool
+    ensures { result ≡ is_alpha b }
+{
+    matches!(b, b'0'..=b'9' | b'A'..=b'Z' | b'a'..=b'z' | b'_' | b'-')
+}
+
+#[inline(always)]
+fn is_blank_byte(b: u8) -> bool
+    ensures { result ≡ is_blank b }
+{
+    matches!(b, b' ' | b'\t')
+}
+
+/// Whether a letter, a digit, `_` or `-` stands there.
+#[inline(always)]
+#[tactic(auto, using(crate::proofs::ClassLaws::alpha_law))]
+pub fn IS_ALPHA(s: &[u8], at: usize) -> bool
+    ensures bytes { result ≡ is_alpha (slice_index s.now at) }
+    ensures character { (left : List ℕ) → Stands s.now at left → result ≡ is_alpha (slice_index left 0) }
+{
+    is_alpha_byte(byte_at(s, at))
+}
+
+/// Whether a decimal digit stands there.
+#[inline(always)]
+#[tactic(auto, using(crate::proofs::ClassLaws::digit_law))]
+pub fn IS_DIGIT(s: &[u8], at: usize) -> bool
+    ensures bytes { result ≡ is_digit (slice_index s.now at) }
+    ensures character { (left : List ℕ) → Stands s.now at left → result ≡ is_digit (slice_index left 0) }
+{
+    is_digit_byte(byte_at(s, at))
+}
+
+/// The value of the decimal digit there, from 0 to 9.
+pub fn AS_DIGIT(s: &[u8], at: usize) -> i32
+    requires { is_digit (slice_index s.now at) ≡ true }
+    ensures bytes { result ≡ pos (slice_index s.now at - 0x30) }
+    ensures character { (left : List ℕ) → Stands s.now at left → result ≡ pos (slice_index left 0 - 0x30) }
+{
+    i32::from(byte_at(s, at) - b'0')
+}
+
+/// Whether a hexadecimal digit stands there.
+#[inline(always)]
+#[tactic(auto, using(crate::proofs::ClassLaws::hex_law))]
+pub fn IS_HEX(s: &[u8], at: usize) -> bool
+    ensures bytes { result ≡ is_hex (slice_index s.now at) }
+    ensures character { (left : List ℕ) → Stands s.now at left → result ≡ is_hex (slice_index left 0) }
+{
+    is_hex_byte(byte_at(s, at))
+}
+
+/// The value of the hexadecimal digit there, from 0 to 15.
+pub fn AS_HEX(s: &[u8], at: usize) -> i32
+    requires { is_hex (slice_index s.now at) ≡ true }
+    ensures bytes { result ≡ pos (hex_value (slice_index s.now at)) }
+    ensures character { (left : List ℕ) → Stands s.now at left → result ≡ pos (hex_value (slice_index left 0)) }
+{
+    let b = byte_at(s, at);
+    i32::from(b - hex_excess(b))
+}
+
+/// Whether a character of ASCII stands there, or the end.
+#[inline(always)]
+#[tactic(auto, using(crate::proofs::ClassLaws::ascii_law))]
+pub fn IS_ASCII(s: &[u8], at: usize) -> bool
+    ensures bytes { result ≡ is_ascii (slice_index s.now at) }
+    ensures character { (left : List ℕ) → Stands s.now at left → result ≡ is_ascii (slice_index left 0) }
+{
+    byte_at(s, at) <= 0x7F
+}
+
 /// Whether a character stands there that can be shown.
+#[inline(always)]
+#[tactic(auto, using(crate::proofs::ClassLaws::printable_law))]
 pub fn IS_PRINTABLE(s: &[u8], at: usize) -> bool
     ensures bytes { result ≡ is_printable_at s.now at }
     ensures character { (left : List ℕ) → Stands s.now at left → result ≡ is_printable (slice_index left 0) }
 {
     printable_at(s, at)
+}
+
+/// Whether the end is there, or a byte 0.
+#[inline(always)]
+#[tactic(auto, using(crate::proofs::ClassLaws::z_law))]
+pub fn IS_Z(s: &[u8], at: usize) -> bool
+    ensures bytes { result ≡ is_z (slice_index s.now at) }
+    ensures character { (left : List ℕ) → Stands s.now at left → result ≡ is_z (slice_index left 0) }
+{
+    byte_at(s, at) == 0
+}
+
+/// Whether a byte order mark stands there.
+#[inline(always)]
+#[tactic(auto, using(crate::proofs::ClassLaws::bom_law))]
+pub fn IS_BOM(s: &[u8], at: usize) -> bool
+    ensures bytes { result ≡ is_bom_at s.now at }
+    ensures character { (left : List ℕ) → Stands s.now at left → result ≡ is_bom (slice_index left 0) }
+{
+    bom_at(s, at)
+}
+
+/// Whether a space stands there.
+#[inline(always)]
+#[tactic(auto, using(crate::proofs::ClassLaws::space_law))]
+pub fn IS_SPACE(s: &[u8], at: usize) -> bool
+    ensures bytes { result ≡ is_space (slice_index s.now at) }
+    ensures character { (left : List ℕ) → Stands s.now at left → result ≡ is_space (slice_index left 0) }
+{
+    byte_at(s, at) == b' '
+}
+
+/// Whether a tab stands there.
+#[inline(always)]
+#[tactic(auto, using(crate::proofs::ClassLaws::tab_law))]
+pub fn IS_TAB(s: &[u8], at: usize) -> bool
+    ensures bytes { result ≡ is_tab (slice_index s.now at) }
+    ensures character { (left : List ℕ) → Stands s.now at left → result ≡ is_tab (slice_index left 0) }
+{
+    byte_at(s, at) == b'\t'
+}
+
+/// Whether a space or a tab stands there.
+#[inline(always)]
+#[tactic(auto, using(crate::proofs::ClassLaws::blank_law))]
+pub fn IS_BLANK(s: &[u8], at: usize) -> bool
+    ensures bytes { result ≡ is_blank (slice_index s.now at) }
+    ensures character { (left : List ℕ) → Stands s.now at left → result ≡ is_blank (slice_index left 0) }
+{
+    is_blank_byte(byte_at(s, at))
+}
+
+/// Whether a break stands there: a carriage return, a line feed, U+0085, U+2028 or U+2029.
+#[inline(always)]
+#[tactic(auto, using(crate::proofs::ClassLaws::break_law))]
+pub fn IS_BREAK(s: &[u8], at: usize) -> bool
+    ensures bytes { result ≡ is_break_at s.now at }
+    ensures character { (left : List ℕ) → Stands s.now at left → result ≡ is_break (slice_index left 0) }
+{
+    breaks_at(s, at)
+}
+
+/// Whether a carriage return and a line feed stand there.
+#[inline(always)]
+#[tactic(auto, using(crate::proofs::ClassLaws::crlf_law))]
+pub fn IS_CRLF(s: &[u8], at: usize) -> bool
+    ensures bytes { result ≡ is_crlf_at s.now at }
+    ensures character { (left : List ℕ) → Stands s.now at left → result ≡ is_crlf (slice_index left 0) (slice_index left 1) }
+{
+    crlf_at(s, at)
+}
+
+/// Whether a break stands there, or the end.
+#[inline(always)]
+#[tactic(auto, using(crate::proofs::ClassLaws::breakz_law))]
+pub fn IS_BREAKZ(s: &[u8], at: usize) -> bool
+    ensures bytes { result ≡ is_breakz_at s.now at }
+    ensures character { (left : List ℕ) → Stands s.now at left → result ≡ is_breakz (slice_index left 0) }
+{
+    IS_BREAK(s, at) || IS_Z(s, at)
+}
+
+/// Whether a space, a tab or a break stands there, or the end.
+#[inline(always)]
+#[tactic(auto, using(crate::proofs::ClassLaws::blankz_law))]
+pub fn IS_BLANKZ(s: &[u8], at: usize) -> bool
+    ensures bytes { result ≡ is_blankz_at s.now at }
+    ensures character { (left : List ℕ) → Stands s.now at left → result ≡ is_blankz (slice_index left 0) }
+{
+    IS_BLANK(s, at) || IS_BREAKZ(s, at)
+}
+
+/// How many bytes the character has that begins with the byte there, and 0 where none does.
+#[inline(always)]
+#[tactic(auto, using(crate::proofs::ClassLaws::width_law))]
+pub fn WIDTH(s: &[u8], at: usize) -> usize
+    ensures bytes { result ≡ width_of (slice_index s.now at) }
+    ensures character { (left : List ℕ) → Stands s.now at left → result ≡ len_utf8 (slice_index left 0) }
+{
+    crate::utf8::width_of(byte_at(s, at))
 }

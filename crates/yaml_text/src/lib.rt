@@ -17,7 +17,10 @@ mod utf16;
 mod utf8;
 
 pub use bytes::yaml_bytes_t;
-pub use classes::{IS_BLANK, IS_BREAK, IS_CRLF, IS_PRINTABLE, WIDTH};
+pub use classes::{
+    AS_DIGIT, AS_HEX, IS_ALPHA, IS_ASCII, IS_BLANK, IS_BLANKZ, IS_BOM, IS_BREAK, IS_BREAKZ,
+    IS_CRLF, IS_DIGIT, IS_HEX, IS_PRINTABLE, IS_SPACE, IS_TAB, IS_Z, WIDTH,
+};
 pub use decode::{yaml_decode, yaml_decode_front};
 pub use fault::{make_memory_fault, make_scanner_fault, yaml_fault_t};
 pub use mark::{yaml_is_place, yaml_mark_at};

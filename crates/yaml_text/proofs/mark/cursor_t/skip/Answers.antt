@@ -6,7 +6,7 @@ pub overflow_add-self-2 : goal.overflow_add-self-2
 overflow_add-self-2 c = omega (arith, at_bounds _ _ c.self.invariant)
 
 pub invariant_of-self : goal.invariant_of-self
-invariant_of-self c = (skip_lands _ _ _ _ c.self.invariant c.self.view_is c.requires.some c.requires.no_break c.WIDTH-width.ensures).is_at
+invariant_of-self c = (skip_lands _ _ _ _ c.self.invariant c.self.view_is c.requires.some c.requires.no_break c.WIDTH-width.ensures.bytes).is_at
 
 pub returns : goal.returns
-returns c = (skip_lands _ _ _ _ c.self.invariant c.self.view_is c.requires.some c.requires.no_break c.WIDTH-width.ensures).place
+returns c = (skip_lands _ _ _ _ c.self.invariant c.self.view_is c.requires.some c.requires.no_break c.WIDTH-width.ensures.bytes).place

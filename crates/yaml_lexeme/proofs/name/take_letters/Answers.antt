@@ -1,0 +1,6 @@
+use Rattle.std.proofs.Common.{◌∙◌}
+use Rattle.yaml_lexeme.proofs.Uris.{name_bytes}
+use Rattle.yaml_lexeme.proofs.name.take_letters.Goals as goal
+
+pub returns-clause-value : goal.returns-clause-value
+returns-clause-value c = c.run.ensures.value ∙ name_bytes c.args.cursor.now

@@ -1,0 +1,13 @@
+use Rattle.std.proofs.Common.{arith}
+use Rattle.std.proofs.lemmas.Simd.{zip2_splat}
+use Rattle.yaml_lexeme.specs.Runs.{is_stop}
+use Rattle.yaml_lexeme.specs.declared.runs.class_t.TheVariants.{FLOW}
+use Rattle.yaml_lexeme.proofs.Lanes.{hit, either, equal, masked}
+use lib.Bits.{bit_or}
+use Rattle.yaml_lexeme.proofs.runs.stops_flow.Goals as goal
+
+pub returns : goal.returns
+returns c =
+    let v = c.args.v in
+    let long = c.fits-v.0 in
+    masked _ (is_stop FLOW) v _ (omega arith) c.fits-v.1 (either _ _ v (either _ _ v (equal (λ x. bit_or x 32) 123 v long (zip2_splat bit_or v 16 32 long)) (equal (λ x. bit_or x 32) 125 v long (zip2_splat bit_or v 16 32 long))) (either _ _ v (either _ _ v (zip2_splat hit v 16 58 long) (zip2_splat hit v 16 35 long)) (either _ _ v (zip2_splat hit v 16 44 long) (either _ _ v (either _ _ v (zip2_splat hit v 16 10 long) (zip2_splat hit v 16 13 long)) (either _ _ v (zip2_splat hit v 16 194 long) (zip2_splat hit v 16 226 long)))))) tt

@@ -1,0 +1,29 @@
+-- Sets of characters that lexemes ask for, beside those of a text. The end of a text counts as character 0.
+use Rattle.std.specs.Prelude.{ℕ, Bool, false, not, ◌||◌, ◌==◌, List, [], ◌∷◌}
+use Rattle.yaml_text.specs.Classes.{is_blank, is_break, is_z}
+
+abbrev pub line_feed : ℕ
+line_feed = 0x0A
+
+abbrev pub carriage_return : ℕ
+carriage_return = 0x0D
+
+-- the two breaks that stand in a value as themselves: line and paragraph separator (YAML 1.1, section 5.4)
+abbrev pub is_kept_break : ℕ → Bool
+is_kept_break c = c == 0x2028 || c == 0x2029
+
+-- a blank or a break
+abbrev pub is_white : ℕ → Bool
+is_white c = is_blank c || is_break c
+
+-- what precedes c ends here
+abbrev pub ends : ℕ → Bool
+ends c = is_white c || is_z c
+
+-- neither a break nor the end
+abbrev pub is_in_line : ℕ → Bool
+is_in_line c = not (is_break c || is_z c)
+
+abbrev pub is_one_of : List ℕ → ℕ → Bool
+is_one_of [] c = false
+is_one_of (x ∷ xs) c = x == c || is_one_of xs c

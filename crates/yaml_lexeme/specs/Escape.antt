@@ -1,0 +1,55 @@
+-- Escapes in double quotes (YAML 1.1, section 5.6).
+use Rattle.std.specs.Prelude.{ℕ, Bool, not, ◌&&◌, ◌||◌, ◌==◌, nat_lt, nat_le, if◌then◌else◌, length, take, Option, Some, None}
+use Rattle.std.specs.List.{list_all}
+use Rattle.std.specs.Str.Parse.{digits_value}
+use Rattle.yaml_text.specs.Classes.{is_hex}
+use Rattle.yaml_lexeme.specs.declared.problem.problem_t.TheVariants.{UNKNOWN_ESCAPE, NO_HEX_DIGIT, NO_SCALAR_VALUE}
+use Rattle.yaml_lexeme.specs.Place.{Place, peek, skip}
+use Rattle.yaml_lexeme.specs.Reading.{Read, found, refuse}
+
+abbrev pub backslash : ℕ
+backslash = 0x5C
+
+-- the character that one behind a backslash gives
+abbrev pub simple_escape : ℕ → Option ℕ
+simple_escape c =
+    if c == 0x30 then Some 0x00
+    else if c == 0x61 then Some 0x07
+    else if c == 0x62 then Some 0x08
+    else if c == 0x74 || c == 0x09 then Some 0x09
+    else if c == 0x6E then Some 0x0A
+    else if c == 0x76 then Some 0x0B
+    else if c == 0x66 then Some 0x0C
+    else if c == 0x72 then Some 0x0D
+    else if c == 0x65 then Some 0x1B
+    else if c == 0x20 || (c == 0x22 || (c == 0x2F || c == 0x5C)) then Some c
+    else if c == 0x4E then Some 0x85
+    else if c == 0x5F then Some 0xA0
+    else if c == 0x4C then Some 0x2028
+    else if c == 0x50 then Some 0x2029
+    else None
+
+-- how many hex digits follow `x`, `u` and `U`
+abbrev pub hex_len : ℕ → ℕ
+hex_len c = if c == 0x78 then 2 else if c == 0x75 then 4 else if c == 0x55 then 8 else 0
+
+abbrev pub is_scalar : ℕ → Bool
+is_scalar c = nat_lt c 0xD800 || (nat_le 0xE000 c && nat_le c 0x10_FFFF)
+
+-- n hex digits that write a character
+unfoldable pub hex_escape : ℕ → Place → Read ℕ
+hex_escape n p =
+    let digits = take n p.rest in
+    if not (length digits == n && list_all is_hex digits) then refuse NO_HEX_DIGIT p
+    else if not (is_scalar (digits_value 16 digits)) then refuse NO_SCALAR_VALUE p
+    else found (digits_value 16 digits) (skip n p)
+
+abbrev pub simple_at : Option ℕ → Place → Read ℕ
+simple_at None p = refuse UNKNOWN_ESCAPE p
+simple_at (Some c) p = found c (skip 2 p)
+
+-- the character that is written at a backslash
+unfoldable pub escape : Place → Read ℕ
+escape p =
+    if nat_lt 0 (hex_len (peek p 1)) then hex_escape (hex_len (peek p 1)) (skip 2 p)
+    else simple_at (simple_escape (peek p 1)) p

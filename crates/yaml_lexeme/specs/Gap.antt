@@ -1,0 +1,36 @@
+-- What stands between lexemes.
+use Rattle.std.specs.Prelude.{ℕ, zero, suc, length, Bool, not, ◌&&◌, ◌||◌, ◌==◌, nat_lt, if◌then◌else◌}
+use Rattle.yaml_lexeme.specs.Classes.{is_in_line}
+use Rattle.yaml_lexeme.specs.Place.{Place, first, skip, behind, break_len}
+
+abbrev pub byte_order_mark : ℕ
+byte_order_mark = 0xFEFF
+
+-- spaces, and tabs where these may stand too
+abbrev pub is_gap_blank : Bool → ℕ → Bool
+is_gap_blank tabs c = c == 0x20 || (c == 0x09 && tabs)
+
+-- a byte order mark may stand at the start of a line
+abbrev pub after_mark : Place → Place
+after_mark p = if p.mark.column == 0 && first p == byte_order_mark then skip 1 p else p
+
+-- a comment goes on to the end of its line (YAML 1.1, section 6.6)
+abbrev pub after_comment : Place → Place
+after_comment p = if first p == 0x23 then behind is_in_line p else p
+
+-- behind a gap line, without its break
+unfoldable pub after_gap_line : Bool → Place → Place
+after_gap_line tabs p = after_comment (behind (is_gap_blank tabs) (after_mark p))
+
+-- Behind at most n more gap lines, each behind a break. The place is behind a gap line.
+unfoldable pub after_gap_lines : ℕ → Bool → Place → Place
+after_gap_lines zero flow p = p
+after_gap_lines (suc n) flow p =
+    if break_len p == 0 then p else after_gap_lines n flow (after_gap_line flow (skip (break_len p) p))
+
+-- Gap lines joined by breaks, as long as can be: the place behind, and whether a break is in it. Tabs may stand in flow,
+-- and on the first line where no key is allowed.
+unfoldable pub gap : Bool → Bool → Place → Place × Bool
+gap flow allowed p =
+    let line = after_gap_line (flow || not allowed) p in
+    (after_gap_lines (length line.rest) flow line, nat_lt 0 (break_len line))

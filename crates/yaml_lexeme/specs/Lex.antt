@@ -1,0 +1,133 @@
+-- Lexemes of every kind.
+use Rattle.std.specs.Prelude.{ℕ, ◌+◌, Bool, true, false, ◌==◌, nat_lt, if◌then◌else◌, List, Option, Some, None, Result, Ok, Err}
+use Rattle.yaml_text.specs.declared.types.yaml_mark_t.{yaml_mark_t}
+use Rattle.yaml_text.specs.declared.types.yaml_scalar_style_t.{yaml_scalar_style_t}
+use Rattle.yaml_text.specs.declared.types.yaml_scalar_style_t.TheVariants.{YAML_PLAIN_SCALAR_STYLE, YAML_SINGLE_QUOTED_SCALAR_STYLE, YAML_DOUBLE_QUOTED_SCALAR_STYLE, YAML_LITERAL_SCALAR_STYLE, YAML_FOLDED_SCALAR_STYLE}
+use Rattle.yaml_text.specs.declared.token.unnamed_yaml_token_t_data.{unnamed_yaml_token_t_data}
+use Rattle.yaml_text.specs.declared.token.unnamed_yaml_token_t_data.TheVariants as token
+use Rattle.yaml_text.specs.Fault.{Fault, scanner_fault}
+use Rattle.yaml_lexeme.specs.declared.kind.yaml_lexeme_kind_t.{yaml_lexeme_kind_t}
+use Rattle.yaml_lexeme.specs.declared.kind.yaml_lexeme_kind_t.TheVariants as kind
+use Rattle.yaml_lexeme.specs.declared.lex.yaml_context_t.{yaml_context_t}
+use Rattle.yaml_lexeme.specs.declared.lex.yaml_lexeme_t.{yaml_lexeme_t}
+use Rattle.yaml_lexeme.specs.declared.plain.scalar_t.{scalar_t}
+use Rattle.yaml_lexeme.specs.declared.directive.directive_t.{directive_t}
+use Rattle.yaml_lexeme.specs.Place.{Place, skip}
+use Rattle.yaml_lexeme.specs.Reading.{Read, found, ◌>>=◌}
+use Rattle.yaml_lexeme.specs.Quoted.{quoted}
+use Rattle.yaml_lexeme.specs.Plain.{plain}
+use Rattle.yaml_lexeme.specs.Block.{block}
+use Rattle.yaml_lexeme.specs.Name.{name}
+use Rattle.yaml_lexeme.specs.Tag.{tag}
+use Rattle.yaml_lexeme.specs.Directive.{directive}
+use Rattle.yaml_lexeme.specs.Texts.{problem_text, context_text}
+
+abbrev pub in_flow : yaml_context_t → Bool
+in_flow context = nat_lt 0 context.depth
+
+abbrev pub above : Option ℕ → ℕ
+above None = 0
+above (Some level) = level + 1
+
+-- the least column of a line that goes on: the greatest open level + 1, or 0 where none is open
+abbrev pub least : yaml_context_t → ℕ
+least context = above context.level
+
+-- the mark of a stream end: at the start of a line
+abbrev pub stream_end : yaml_mark_t → yaml_mark_t
+stream_end m = if m.column == 0 then m else record { index = m.index; line = m.line + 1; column = 0 }
+
+-- what stands between two marks, of which the second is the reach too
+abbrev pub whole_of : unnamed_yaml_token_t_data → yaml_mark_t → yaml_mark_t → yaml_lexeme_t
+whole_of data_is start end = record { token_data = data_is; start_mark = start; end_mark = end; reach = end; passed_break = false }
+
+-- what was read from p on, the token's end being the reach
+abbrev pub whole : {A : Type 0} → (A → unnamed_yaml_token_t_data) → Place → Read A → Read yaml_lexeme_t
+whole says p r = r >>= λ x. found (whole_of (says x.value) p.mark x.end.mark) x.end
+
+-- a scalar that ends before the reach
+abbrev pub scalar_to : yaml_scalar_style_t → yaml_mark_t → scalar_t → yaml_mark_t → yaml_lexeme_t
+scalar_to style start s reach = record { token_data = token.SCALAR s.value style; start_mark = start; end_mark = s.end; reach = reach; passed_break = s.passed_break }
+
+abbrev pub scalar : yaml_scalar_style_t → Place → Read scalar_t → Read yaml_lexeme_t
+scalar style p r = r >>= λ x. found (scalar_to style p.mark x.value x.end.mark) x.end
+
+abbrev pub quoted_as : yaml_scalar_style_t → List ℕ → unnamed_yaml_token_t_data
+quoted_as style value = token.SCALAR value style
+
+-- n characters
+abbrev pub characters : unnamed_yaml_token_t_data → ℕ → Place → Read yaml_lexeme_t
+characters says n p = found (whole_of says p.mark (skip n p).mark) (skip n p)
+
+-- a directive, which ends before the rest of its line
+abbrev pub directive_to : yaml_mark_t → directive_t → yaml_mark_t → yaml_lexeme_t
+directive_to start d reach = record { token_data = d.says; start_mark = start; end_mark = d.end; reach = reach; passed_break = false }
+
+abbrev pub ended : Place → Read directive_t → Read yaml_lexeme_t
+ended p r = r >>= λ x. found (directive_to p.mark x.value x.end.mark) x.end
+
+abbrev pub at_end : Place → Read yaml_lexeme_t
+at_end p = found (whole_of token.STREAM_END (stream_end p.mark) (stream_end p.mark)) p
+
+-- the lexeme of the kind that stands at a place, or its first offence
+unfoldable pub lex : yaml_lexeme_kind_t → yaml_context_t → Place → Read yaml_lexeme_t
+lex kind.STREAM_END context p = at_end p
+lex kind.DIRECTIVE context p = ended p (directive p)
+lex kind.DOCUMENT_START context p = characters token.DOCUMENT_START 3 p
+lex kind.DOCUMENT_END context p = characters token.DOCUMENT_END 3 p
+lex kind.FLOW_SEQUENCE_START context p = characters token.FLOW_SEQUENCE_START 1 p
+lex kind.FLOW_MAPPING_START context p = characters token.FLOW_MAPPING_START 1 p
+lex kind.FLOW_SEQUENCE_END context p = characters token.FLOW_SEQUENCE_END 1 p
+lex kind.FLOW_MAPPING_END context p = characters token.FLOW_MAPPING_END 1 p
+lex kind.FLOW_ENTRY context p = characters token.FLOW_ENTRY 1 p
+lex kind.BLOCK_ENTRY context p = characters token.BLOCK_ENTRY 1 p
+lex kind.KEY context p = characters token.KEY 1 p
+lex kind.VALUE context p = characters token.VALUE 1 p
+lex kind.ALIAS context p = whole token.ALIAS p (name p)
+lex kind.ANCHOR context p = whole token.ANCHOR p (name p)
+lex kind.TAG context p = whole (λ t. t) p (tag (in_flow context) p)
+lex kind.LITERAL context p = scalar YAML_LITERAL_SCALAR_STYLE p (block false (least context) p)
+lex kind.FOLDED context p = scalar YAML_FOLDED_SCALAR_STYLE p (block true (least context) p)
+lex kind.SINGLE_QUOTED context p = whole (quoted_as YAML_SINGLE_QUOTED_SCALAR_STYLE) p (quoted true p)
+lex kind.DOUBLE_QUOTED context p = whole (quoted_as YAML_DOUBLE_QUOTED_SCALAR_STYLE) p (quoted false p)
+lex kind.PLAIN context p = scalar YAML_PLAIN_SCALAR_STYLE p (plain (in_flow context) (least context) p)
+
+-- kinds whose lexemes need no memory, and are never refused
+abbrev pub is_bare : yaml_lexeme_kind_t → Bool
+is_bare kind.STREAM_END = true
+is_bare kind.DOCUMENT_START = true
+is_bare kind.DOCUMENT_END = true
+is_bare kind.FLOW_SEQUENCE_START = true
+is_bare kind.FLOW_MAPPING_START = true
+is_bare kind.FLOW_SEQUENCE_END = true
+is_bare kind.FLOW_MAPPING_END = true
+is_bare kind.FLOW_ENTRY = true
+is_bare kind.BLOCK_ENTRY = true
+is_bare kind.KEY = true
+is_bare kind.VALUE = true
+is_bare kind.DIRECTIVE = false
+is_bare kind.ALIAS = false
+is_bare kind.ANCHOR = false
+is_bare kind.TAG = false
+is_bare kind.LITERAL = false
+is_bare kind.FOLDED = false
+is_bare kind.SINGLE_QUOTED = false
+is_bare kind.DOUBLE_QUOTED = false
+is_bare kind.PLAIN = false
+
+-- the lexeme, or the fault of its offence, whose context stands at the lexeme's start
+abbrev pub answer : yaml_lexeme_kind_t → Place → Read yaml_lexeme_t → Result yaml_lexeme_t Fault
+answer k p (Ok f) = Ok f.value
+answer k p (Err e) = Err (scanner_fault (problem_text e.problem) e.at.mark (Some (context_text k e.problem)) p.mark)
+
+abbrev pub lexeme_at : yaml_lexeme_kind_t → yaml_context_t → Place → Result yaml_lexeme_t Fault
+lexeme_at k context p = answer k p (lex k context p)
+
+-- kinds whose lexemes are read
+abbrev pub is_built : yaml_lexeme_kind_t → Bool
+is_built kind.LITERAL = false
+is_built kind.FOLDED = false
+is_built kind.SINGLE_QUOTED = false
+is_built kind.DOUBLE_QUOTED = false
+is_built kind.PLAIN = false
+is_built k = true

@@ -1,0 +1,80 @@
+-- Plain scalars (YAML 1.1, section 9.1.3).
+use Rattle.std.specs.Prelude.{ℕ, ◌+◌, Bool, false, not, ◌&&◌, ◌||◌, ◌==◌, nat_lt, if◌then◌else◌, List, [], ◌∷◌, ◌++◌, length, take, slice_index, codes, Option, Some, None}
+use Rattle.std.specs.List.{list_any, flat_map}
+use Rattle.yaml_text.specs.declared.types.yaml_mark_t.{yaml_mark_t}
+use Rattle.yaml_text.specs.Chars.{utf8}
+use Rattle.yaml_text.specs.Classes.{is_break}
+use Rattle.yaml_lexeme.specs.declared.problem.problem_t.TheVariants.{COLON_IN_FLOW, TAB_IN_PLAIN}
+use Rattle.yaml_lexeme.specs.declared.plain.scalar_t.{scalar_t}
+use Rattle.yaml_lexeme.specs.Classes.{is_white, ends, is_one_of}
+use Rattle.yaml_lexeme.specs.Place.{Place, peek, first, skip, run, behind, mark_behind}
+use Rattle.yaml_lexeme.specs.Kind.{is_marker}
+use Rattle.yaml_lexeme.specs.Fold.{fold}
+use Rattle.yaml_lexeme.specs.Reading.{Read, found, refuse, ◌>>=◌, Part, part, over, many}
+
+-- `least` is everywhere the least column of a line that goes on: the greatest open level + 1, or 0.
+
+abbrev pub is_flow_indicator : ℕ → Bool
+is_flow_indicator c = is_one_of (codes ",[]{}") c
+
+-- in flow, a `:` that may not stand in a chunk
+abbrev pub is_bad_colon : Bool → ℕ → ℕ → Bool
+is_bad_colon flow c next = flow && (c == 0x3A && (next == 0x3F || is_flow_indicator next))
+
+-- c, which `next` follows, belongs to a chunk
+abbrev pub is_chunk : Bool → ℕ → ℕ → Bool
+is_chunk flow c next =
+    (not (ends c || (c == 0x3A && ends next)) && not (flow && is_flow_indicator c)) && not (is_bad_colon flow c next)
+
+abbrev pub chunk_len : Bool → List ℕ → ℕ
+chunk_len flow [] = 0
+chunk_len flow (c ∷ cs) = if is_chunk flow c (slice_index cs 0) then 1 + chunk_len flow cs else 0
+
+-- as many characters of a chunk as can be
+unfoldable pub chunk : Bool → Place → Read (List ℕ)
+chunk flow p =
+    let end = skip (chunk_len flow p.rest) p in
+    if is_bad_colon flow (first end) (peek end 1) then refuse COLON_IN_FLOW end
+    else found (take (chunk_len flow p.rest) p.rest) end
+
+-- a tab stands in indentation
+abbrev pub is_tab : ℕ → Bool → Place → Bool
+is_tab least broken p = (first p == 0x09 && broken) && nat_lt p.mark.column least
+
+-- the first tab of a separator that stands behind a break, at a column below `least`
+abbrev pub tab_from : ℕ → Bool → yaml_mark_t → List ℕ → Option Place
+tab_from least broken m [] = None
+tab_from least broken m (c ∷ cs) =
+    if not (is_white c) then None
+    else if (c == 0x09 && broken) && nat_lt m.column least then Some (record { mark = m; rest = c ∷ cs })
+    else tab_from least (broken || is_break c) (mark_behind m c (slice_index cs 0)) cs
+
+abbrev pub untabbed : Option Place → List ℕ → Place → Read (List ℕ)
+untabbed None value p = found value p
+untabbed (Some tab) value p = refuse TAB_IN_PLAIN tab
+
+-- the longest run of blanks and breaks
+unfoldable pub separator : ℕ → Place → Read (List ℕ)
+separator least p = untabbed (tab_from least false p.mark p.rest) (fold (run is_white p)) (behind is_white p)
+
+-- the scalar is over behind a separator
+abbrev pub is_over : Bool → ℕ → Place → Bool
+is_over flow least p = (not flow && nat_lt p.mark.column least) || (is_marker p || first p == 0x23)
+
+-- a separator and the chunk behind it
+unfoldable pub link : Bool → ℕ → Place → Part (List ℕ)
+link flow least p =
+    if not (is_white (first p)) then over
+    else separator least p >>= λ gap.
+    if is_over flow least gap.end then over
+    else chunk flow gap.end >>= λ c.
+    if length c.value == 0 then over else part (gap.value ++ c.value) c.end
+
+-- A chunk, then separators and chunks: the value, the mark behind the last chunk, and whether a break stands in the
+-- separator behind it, which is read too.
+unfoldable pub plain : Bool → ℕ → Place → Read scalar_t
+plain flow least p = do
+  head ← chunk flow p
+  links ← many (link flow least) head.end
+  let value = utf8 head.value ++ flat_map utf8 links.value
+  found (record { value = value; end = links.end.mark; passed_break = list_any is_break (run is_white links.end) }) (behind is_white links.end)

@@ -1,0 +1,37 @@
+-- Tags (YAML 1.1, section 6.8.1).
+use Rattle.std.specs.Prelude.{Bool, true, false, ◌&&◌, ◌||◌, ◌==◌, if◌then◌else◌, ℕ, List, [], ◌∷◌, ◌++◌, codes}
+use Rattle.yaml_text.specs.Classes.{is_alpha}
+use Rattle.yaml_text.specs.declared.token.unnamed_yaml_token_t_data.{unnamed_yaml_token_t_data}
+use Rattle.yaml_text.specs.declared.token.unnamed_yaml_token_t_data.TheVariants.{TAG}
+use Rattle.yaml_lexeme.specs.declared.problem.problem_t.TheVariants.{NO_BLANK_OR_BREAK, NO_CLOSING_ANGLE}
+use Rattle.yaml_lexeme.specs.Classes.{ends}
+use Rattle.yaml_lexeme.specs.Place.{Place, first, skip, run, behind}
+use Rattle.yaml_lexeme.specs.Uri.{uri, some_uri}
+use Rattle.yaml_lexeme.specs.Reading.{Read, found, refuse, ◌>>=◌}
+
+-- the suffix behind a lone `!`, of which nothing may be there
+abbrev pub lone : List ℕ → unnamed_yaml_token_t_data
+lone [] = TAG [] (codes "!")
+lone (c ∷ cs) = TAG (codes "!") (c ∷ cs)
+
+-- behind `!`, at `<`
+unfoldable pub angled : Place → Read unnamed_yaml_token_t_data
+angled p =
+    some_uri true (skip 1 p) >>= λ r.
+    if first r.end == 0x3E then found (TAG [] r.value) (skip 1 r.end) else refuse NO_CLOSING_ANGLE r.end
+
+-- behind `!`
+unfoldable pub handled : Place → Read unnamed_yaml_token_t_data
+handled p =
+    let letters = run is_alpha p in
+    let end = behind is_alpha p in
+    if first end == 0x21 then (some_uri false (skip 1 end) >>= λ r. found (TAG (codes "!" ++ letters ++ codes "!") r.value) r.end)
+    else uri false end >>= λ r. found (lone (letters ++ r.value)) r.end
+
+abbrev pub tag_parts : Place → Read unnamed_yaml_token_t_data
+tag_parts p = if first (skip 1 p) == 0x3C then angled (skip 1 p) else handled (skip 1 p)
+
+-- handle and suffix, at `!`
+unfoldable pub tag : Bool → Place → Read unnamed_yaml_token_t_data
+tag flow p = tag_parts p >>= λ t.
+    if ends (first t.end) || (flow && first t.end == 0x2C) then found t.value t.end else refuse NO_BLANK_OR_BREAK t.end

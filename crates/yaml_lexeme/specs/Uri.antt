@@ -1,0 +1,57 @@
+-- Uris of tags, and their escapes (YAML 1.1, section 5.3).
+use Rattle.std.specs.Prelude.{ℕ, zero, suc, ◌-◌, Bool, ◌&&◌, ◌||◌, ◌==◌, nat_lt, nat_le, if◌then◌else◌, List, [], ◌∷◌, length, codes}
+use Rattle.std.specs.List.{concat}
+use Rattle.std.specs.Str.Parse.{digits_value}
+use Rattle.yaml_text.specs.Classes.{is_alpha, is_hex}
+use Rattle.yaml_lexeme.specs.declared.problem.problem_t.TheVariants.{NO_URI, NO_OCTET, BAD_LEAD_OCTET, BAD_NEXT_OCTET}
+use Rattle.yaml_lexeme.specs.Classes.{is_one_of}
+use Rattle.yaml_lexeme.specs.Place.{Place, peek, first, skip}
+use Rattle.yaml_lexeme.specs.Reading.{Read, found, refuse, ◌>>=◌, Part, part, over, many}
+
+-- the characters of a uri; commas and brackets only where they are listed
+abbrev pub is_uri : Bool → ℕ → Bool
+is_uri listed c = is_alpha c || (is_one_of (codes ";/?:@&=+$.!~*'()") c || (listed && is_one_of (codes ",[]") c))
+
+-- `%` and two hex digits
+unfoldable pub octet : Place → Read ℕ
+octet p =
+    if first p == 0x25 && (is_hex (peek p 1) && is_hex (peek p 2)) then found (digits_value 16 (peek p 1 ∷ peek p 2 ∷ [])) (skip 3 p)
+    else refuse NO_OCTET p
+
+-- how many octets a lead octet begins, or 0
+abbrev pub octet_width : ℕ → ℕ
+octet_width c =
+    if nat_lt c 0x80 then 1 else if nat_lt c 0xC0 then 0 else if nat_lt c 0xE0 then 2 else if nat_lt c 0xF0 then 3
+    else if nat_lt c 0xF8 then 4 else 0
+
+-- no later octet of a character
+abbrev pub is_bad_next : ℕ → Bool
+is_bad_next c = nat_lt c 0x80 || nat_le 0xC0 c
+
+unfoldable pub next_octets : ℕ → Place → Read (List ℕ)
+next_octets zero p = found [] p
+next_octets (suc n) p =
+    octet p >>= λ c.
+    if is_bad_next c.value then refuse BAD_NEXT_OCTET p
+    else next_octets n c.end >>= λ more. found (c.value ∷ more.value) more.end
+
+-- a lead octet and as many later ones as it asks for
+unfoldable pub uri_escape : Place → Read (List ℕ)
+uri_escape p =
+    octet p >>= λ lead.
+    if octet_width lead.value == 0 then refuse BAD_LEAD_OCTET p
+    else next_octets (octet_width lead.value - 1) lead.end >>= λ more. found (lead.value ∷ more.value) more.end
+
+unfoldable pub uri_part : Bool → Place → Part (List ℕ)
+uri_part listed p =
+    if first p == 0x25 then (uri_escape p >>= λ r. part r.value r.end)
+    else if is_uri listed (first p) then part (first p ∷ []) (skip 1 p)
+    else over
+
+-- as long as can be
+unfoldable pub uri : Bool → Place → Read (List ℕ)
+uri listed p = many (uri_part listed) p >>= λ parts. found (concat parts.value) parts.end
+
+-- a uri of a character or more
+unfoldable pub some_uri : Bool → Place → Read (List ℕ)
+some_uri listed p = uri listed p >>= λ r. if length r.value == 0 then refuse NO_URI r.end else found r.value r.end

@@ -1,0 +1,313 @@
+//! A place that moves through a text.
+ghost use Rattle.std.specs.Prelude.{ℕ, ◌≡◌, ◌+◌, ◌-◌, ◌^◌, ◌<◌, ◌≤◌, length, slice_index, take, drop, false};
+ghost use Rattle.std.specs.Str.{chars};
+ghost use Rattle.yaml_text.specs.Chars.{IsText, AreChars, utf8};
+ghost use Rattle.yaml_text.specs.Classes as classes;
+ghost use Rattle.yaml_text.specs.Utf8.{value_of};
+ghost use Rattle.yaml_lexeme.specs.Classes as sets;
+ghost use Rattle.yaml_lexeme.specs.Place.{peek, first, place_at, IsMarkOf, skip, mark_behind, width, behind, run, break_len};
+ghost use Rattle.yaml_lexeme.specs.Runs.{class_test};
+
+use crate::runs::{class_t, count_chars, quiet_len};
+use std::marker::Model;
+use yaml_text::{WIDTH, yaml_mark_t, yaml_text_t};
+
+/// A place in a text: a mark and the bytes from it on.
+#[derive(Drop)]
+pub(crate) struct cursor_t<'a> {
+    mark: yaml_mark_t,
+    bytes: &'a [u8],
+}
+
+impl<'a> Model for cursor_t<'a> {
+    ghost use Rattle.std.specs.Prelude.{◌+◌, ◌^◌, ◌<◌, ◌≤◌, length};
+    ghost use Rattle.std.specs.Str.{chars};
+    ghost use Rattle.yaml_text.specs.Chars.{IsText};
+    ghost use Rattle.yaml_lexeme.specs.Place.{Place};
+
+    ghost Value = { Place };
+
+    ghost view = { λ c. record { mark = c.mark; rest = chars c.bytes.now } };
+
+    ghost invariant = { λ c. IsText c.bytes.now × (c.mark.index + length c.bytes.now < 2 ^ 64) × (c.mark.line + c.mark.column ≤ c.mark.index) };
+}
+
+/// A line break.
+pub(crate) fn is_break(c: char) -> bool
+    ensures { result ≡ classes.is_break c }
+{
+    matches!(c, '\n' | '\r' | '\u{85}' | '\u{2028}' | '\u{2029}')
+}
+
+/// A space or a tab.
+pub(crate) fn is_blank(c: char) -> bool
+    ensures { result ≡ classes.is_blank c }
+{
+    c == ' ' || c == '\t'
+}
+
+/// A blank or a break.
+pub(crate) fn is_white(c: char) -> bool
+    ensures { result ≡ sets.is_white c }
+{
+    is_blank(c) || is_break(c)
+}
+
+/// A blank, a break or the end.
+pub(crate) fn ends(c: char) -> bool
+    ensures { result ≡ sets.ends c }
+{
+    is_white(c) || c == '\0'
+}
+
+/// A letter, a digit, `_` or `-`.
+pub(crate) fn is_alpha(c: char) -> bool
+    ensures { result ≡ classes.is_alpha c }
+{
+    matches!(c, '0'..='9' | 'A'..='Z' | 'a'..='z' | '_' | '-')
+}
+
+fn is_in_line(c: char) -> bool
+    ensures { result ≡ sets.is_in_line c }
+{
+    !(is_break(c) || c == '\0')
+}
+
+fn is_in(class: class_t, c: char) -> bool
+    ensures { result ≡ class_test class c }
+{
+    match class {
+        class_t::BLANK => is_blank(c),
+        class_t::GAP_BLANK(tabs) => c == ' ' || c == '\t' && tabs,
+        class_t::SPACE => c == ' ',
+        class_t::BLANK_OR_BREAK => is_white(c),
+        class_t::ALPHA => is_alpha(c),
+        class_t::DIGIT => c.is_ascii_digit(),
+        class_t::IN_LINE => is_in_line(c),
+        class_t::DOUBLE => is_in_line(c) && !(c == '"' || c == '\\'),
+        class_t::SINGLE => is_in_line(c) && !(c == '\''),
+        class_t::PLAIN => is_in_line(c) && !(c == ':' || c == '#'),
+        class_t::FLOW => {
+            is_in_line(c)
+                && !((c == ':' || c == '#')
+                    || (c == ',' || ((c == '[' || c == ']') || (c == '{' || c == '}'))))
+        }
+    }
+}
+
+#[inline(always)]
+fn front(bytes: &[u8], n: usize) -> &[u8]
+    requires { n ≤ length bytes.now }
+    ensures { result.now ≡ take n bytes.now }
+{
+    &bytes[..n]
+}
+
+#[inline(always)]
+fn rest(bytes: &[u8], n: usize) -> &[u8]
+    requires { n ≤ length bytes.now }
+    ensures { result.now ≡ drop n bytes.now }
+{
+    &bytes[n..]
+}
+
+/// The code point that a lead byte and those behind it spell.
+#[tactic(auto, unfolding(yaml_text::specs::Utf8::value_of))]
+fn code_of(bytes: &[u8], width: usize) -> u32
+    requires some { 0 < width }
+    requires whole { width ≤ length bytes.now }
+    requires four { width ≤ 4 }
+    ensures { result ≡ value_of width bytes.now }
+{
+    let b = bytes[0] as u32;
+    match width {
+        1 => b,
+        2 => b % 32 * 64 + bytes[1] as u32 % 64,
+        3 => b % 16 * 4096 + bytes[1] as u32 % 64 * 64 + bytes[2] as u32 % 64,
+        _ => {
+            b % 8 * 262144
+                + bytes[1] as u32 % 64 * 4096
+                + bytes[2] as u32 % 64 * 64
+                + bytes[3] as u32 % 64
+        }
+    }
+}
+
+/// The character in front, or 0 at the end.
+#[inline(always)]
+fn first_char(bytes: &[u8]) -> char
+    requires { IsText bytes.now }
+    ensures { result ≡ slice_index (chars bytes.now) 0 }
+{
+    if bytes.is_empty() {
+        return '\0';
+    }
+    let b = bytes[0];
+    if b < 0x80 {
+        return char::from(b);
+    }
+    char::from_u32(code_of(bytes, WIDTH(bytes, 0))).unwrap()
+}
+
+/// The bytes behind the character in front.
+#[inline(always)]
+fn past_char(bytes: &[u8]) -> &[u8]
+    requires { IsText bytes.now }
+    ensures text { IsText result.now }
+    ensures rest { chars result.now ≡ drop 1 (chars bytes.now) }
+{
+    let width = WIDTH(bytes, 0).min(bytes.len());
+    rest(bytes, width)
+}
+
+fn mark_behind(mark: yaml_mark_t, c: char, next: char) -> yaml_mark_t
+    requires index { mark.index + width c < 2 ^ 64 }
+    requires sums { mark.line + mark.column ≤ mark.index }
+    ensures value { result ≡ mark_behind mark c next }
+    ensures sums { result.line + result.column ≤ result.index }
+{
+    let index = mark.index + c.len_utf8() as u64;
+    if is_break(c) && !(c == '\r' && next == '\n') {
+        yaml_mark_t {
+            index,
+            line: mark.line + 1,
+            column: 0,
+        }
+    } else {
+        yaml_mark_t {
+            index,
+            line: mark.line,
+            column: mark.column + 1,
+        }
+    }
+}
+
+impl<'a> cursor_t<'a> {
+    /// The place of a mark.
+    pub fn at(text: &'a yaml_text_t<'_>, mark: yaml_mark_t) -> cursor_t<'a>
+        requires { (n : ℕ) × IsMarkOf text.now.chars mark n }
+        ensures { (n : ℕ) → IsMarkOf text.now.chars mark n → result ≡ place_at text.now.chars n }
+    {
+        cursor_t {
+            mark,
+            bytes: rest(text.bytes(), mark.index as usize),
+        }
+    }
+
+    /// A second cursor at the same place.
+    #[inline(always)]
+    pub fn again(&self) -> cursor_t<'a>
+        ensures { result ≡ self.now }
+    {
+        cursor_t {
+            mark: self.mark,
+            bytes: self.bytes,
+        }
+    }
+
+    #[inline(always)]
+    pub fn mark(&self) -> yaml_mark_t
+        ensures value { result ≡ self.now.mark }
+        ensures room { result.line + result.column < 2 ^ 64 }
+    {
+        self.mark
+    }
+
+    /// The character `k` places on, or 0 past the end.
+    #[inline(always)]
+    pub fn peek(&self, k: usize) -> char
+        ensures { result ≡ peek self.now k }
+    {
+        let mut left = self.bytes;
+        'count: for _ in 0..k {
+            left = past_char(left);
+        }
+        first_char(left)
+    }
+
+    /// Takes a character, if one is left.
+    #[inline(always)]
+    pub fn advance(&mut self)
+        ensures { self.new ≡ skip 1 self.old }
+    {
+        if self.bytes.is_empty() {
+            return;
+        }
+        let c = first_char(self.bytes);
+        let next = self.peek(1);
+        self.mark = mark_behind(self.mark, c, next);
+        self.bytes = past_char(self.bytes);
+    }
+
+    /// Takes `n` characters, or all that are left.
+    #[inline(always)]
+    pub fn skip(&mut self, n: usize)
+        ensures { self.new ≡ skip n self.old }
+    {
+        'count: for _ in 0..n {
+            self.advance();
+        }
+    }
+
+    /// How many characters the break takes that stands here, or 0.
+    #[inline(always)]
+    pub fn break_len(&self) -> usize
+        ensures { result ≡ break_len self.now }
+    {
+        let c = self.peek(0);
+        if c == '\r' && self.peek(1) == '\n' {
+            2
+        } else if is_break(c) {
+            1
+        } else {
+            0
+        }
+    }
+
+    /// What is left of the text.
+    fn left(&self) -> &'a [u8]
+        ensures { result.now ≡ utf8 self.now.rest }
+    {
+        self.bytes
+    }
+
+    /// Takes characters of a run, up to a byte that needs a closer look.
+    #[inline(always)]
+    fn skip_quiet(&mut self, class: class_t)
+        ensures goes { behind (class_test class) self.new ≡ behind (class_test class) self.old }
+        ensures shorter { length self.new.rest ≤ length self.old.rest }
+    {
+        let n = quiet_len(class, self.bytes);
+        let count = count_chars(front(self.bytes, n));
+        self.mark = yaml_mark_t {
+            index: self.mark.index + n as u64,
+            line: self.mark.line,
+            column: self.mark.column + count as u64,
+        };
+        self.bytes = rest(self.bytes, n);
+    }
+
+    /// Takes a run of characters of the class, as long as can be, and gives its bytes.
+    #[inline(always)]
+    pub fn run(&mut self, class: class_t) -> &'a [u8]
+        ensures value { result.now ≡ utf8 (run (class_test class) self.old) }
+        ensures end { self.new ≡ behind (class_test class) self.old }
+    {
+        let start = self.left();
+        self.skip_quiet(class);
+        'run: while is_in(class, self.peek(0)) {
+            self.advance();
+            self.skip_quiet(class);
+        }
+        let left = self.left();
+        front(start, start.len() - left.len())
+    }
+
+    /// Takes a run of characters of the class, as long as can be.
+    #[inline(always)]
+    pub fn skip_run(&mut self, class: class_t)
+        ensures { self.new ≡ behind (class_test class) self.old }
+    {
+        let _ = self.run(class);
+    }
+}

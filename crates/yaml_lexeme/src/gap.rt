@@ -1,0 +1,61 @@
+//! What stands between lexemes.
+ghost use Rattle.std.specs.Prelude.{ℕ, ◌≡◌};
+ghost use Rattle.yaml_lexeme.specs.Place.{IsMarkOf, place_at};
+ghost use Rattle.yaml_lexeme.specs.Gap as spec;
+
+use crate::cursor::cursor_t;
+use crate::runs::class_t;
+use yaml_text::{yaml_mark_t, yaml_text_t};
+
+/// Takes a comment, if one stands here.
+pub(crate) fn skip_comment(cursor: &mut cursor_t)
+    ensures { cursor.new ≡ spec.after_comment cursor.old }
+{
+    if cursor.peek(0) == '#' {
+        cursor.skip_run(class_t::IN_LINE);
+    }
+}
+
+#[tactic(auto, unfolding(crate::specs::Gap::after_gap_line))]
+fn skip_gap_line(cursor: &mut cursor_t, tabs: bool)
+    ensures { cursor.new ≡ spec.after_gap_line tabs cursor.old }
+{
+    if cursor.mark().column == 0 && cursor.peek(0) == '\u{FEFF}' {
+        cursor.advance();
+    }
+    cursor.skip_run(class_t::GAP_BLANK(tabs));
+    skip_comment(cursor);
+}
+
+/// Takes the gap that stands here, and tells whether a break is in it.
+fn skip_gap(cursor: &mut cursor_t, in_flow: bool, allowed: bool) -> bool
+    ensures { (cursor.new, result) ≡ spec.gap in_flow allowed cursor.old }
+{
+    skip_gap_line(cursor, in_flow || !allowed);
+    let broken = cursor.break_len() > 0;
+    'lines: while cursor.break_len() > 0 {
+        cursor.skip(cursor.break_len());
+        skip_gap_line(cursor, in_flow);
+    }
+    broken
+}
+
+/// The gap from a place on: the mark behind it, and whether a break stands in it (YAML 1.1, sections 5.4, 6.2 and 6.6).
+///
+/// A gap is lines of blanks and perhaps a comment, as many as can be. `in_flow` tells whether the flow depth is above 0,
+/// `allowed` whether a key may stand here: tabs count as blanks in flow, and on the first line where none may. A byte
+/// order mark at the start of a line belongs to the gap. No memory is taken.
+pub fn yaml_gap(
+    text: &yaml_text_t,
+    at: yaml_mark_t,
+    in_flow: bool,
+    allowed: bool,
+) -> (yaml_mark_t, bool)
+    requires { (n : ℕ) × IsMarkOf text.now.chars at n }
+    ensures mark { (n : ℕ) → IsMarkOf text.now.chars at n → result.0 ≡ (spec.gap in_flow allowed (place_at text.now.chars n)).0.mark }
+    ensures broken { (n : ℕ) → IsMarkOf text.now.chars at n → result.1 ≡ (spec.gap in_flow allowed (place_at text.now.chars n)).1 }
+{
+    let mut cursor = cursor_t::at(text, at);
+    let broken = skip_gap(&mut cursor, in_flow, allowed);
+    (cursor.mark(), broken)
+}

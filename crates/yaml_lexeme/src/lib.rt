@@ -1,0 +1,21 @@
+//! The lexemes of a YAML text: gaps, kinds, and what each lexeme says.
+#![tactic(auto)]
+
+mod block;
+mod cursor;
+mod directive;
+mod gap;
+mod kind;
+pub mod laws;
+mod lex;
+mod name;
+mod plain;
+mod problem;
+mod runs;
+mod tag;
+mod texts;
+mod uri;
+
+pub use gap::yaml_gap;
+pub use kind::{yaml_lexeme_kind, yaml_lexeme_kind_t};
+pub use lex::{yaml_context_t, yaml_lexeme_at, yaml_lexeme_t};

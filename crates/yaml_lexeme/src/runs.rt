@@ -1,0 +1,214 @@
+//! Runs of bytes that need no closer look.
+ghost use Rattle.std.specs.Prelude.{◌≡◌, ◌+◌, ◌≤◌, true, length, drop, map};
+ghost use Rattle.std.specs.List.{prefix_len, count_by};
+ghost use Rattle.std.specs.Simd.Lanes.{mask_l};
+ghost use Rattle.yaml_lexeme.specs.Runs as spec;
+ghost use Rattle.yaml_lexeme.specs.declared.runs.class_t.TheVariants.{ALPHA, IN_LINE, DOUBLE, SINGLE, PLAIN, FLOW};
+
+use std::simd::prelude::*;
+
+/// A set of characters, to take a run of them.
+#[derive(Clone, Copy)]
+pub(crate) enum class_t {
+    /// Spaces and tabs.
+    BLANK,
+    /// Spaces, and tabs where the flag is set.
+    GAP_BLANK(bool),
+    SPACE,
+    BLANK_OR_BREAK,
+    /// Letters, digits, `_` and `-`.
+    ALPHA,
+    DIGIT,
+    /// All but breaks.
+    IN_LINE,
+    /// Of a line, what stands unchanged in double quotes.
+    DOUBLE,
+    /// The same in single quotes.
+    SINGLE,
+    /// Of a line, all but what may end a plain scalar.
+    PLAIN,
+    /// The same in flow.
+    FLOW,
+}
+
+#[inline(always)]
+fn is_line(class: class_t) -> bool
+    ensures { result ≡ spec.is_line class }
+{
+    match class {
+        class_t::IN_LINE | class_t::DOUBLE | class_t::SINGLE | class_t::PLAIN | class_t::FLOW =>
+            true,
+        _ => false,
+    }
+}
+
+#[inline(always)]
+fn may_break(b: u8) -> bool
+    ensures { result ≡ spec.may_break b }
+{
+    (b == b'\n' || b == b'\r') || (b == 0xC2 || b == 0xE2)
+}
+
+#[inline(always)]
+fn is_alpha(b: u8) -> bool
+    ensures { result ≡ spec.class_test ALPHA b }
+{
+    matches!(b, b'0'..=b'9' | b'A'..=b'Z' | b'a'..=b'z' | b'_' | b'-')
+}
+
+#[inline(always)]
+fn is_mark(class: class_t, b: u8) -> bool
+    ensures { result ≡ spec.is_mark class b }
+{
+    match class {
+        class_t::DOUBLE => b == b'"' || b == b'\\',
+        class_t::SINGLE => b == b'\'',
+        class_t::PLAIN => b == b':' || b == b'#',
+        class_t::FLOW => {
+            (b == b':' || b == b'#')
+                || (b == b',' || ((b == b'[' || b == b']') || (b == b'{' || b == b'}')))
+        }
+        _ => false,
+    }
+}
+
+#[inline(always)]
+fn is_stop(class: class_t, b: u8) -> bool
+    ensures { result ≡ spec.is_stop class b }
+{
+    match class {
+        class_t::BLANK | class_t::BLANK_OR_BREAK => !(b == b' ' || b == b'\t'),
+        class_t::GAP_BLANK(tabs) => !(b == b' ' || (b == b'\t' && tabs)),
+        class_t::SPACE => !(b == b' '),
+        class_t::ALPHA => !is_alpha(b),
+        class_t::DIGIT => !matches!(b, b'0'..=b'9'),
+        _ => is_mark(class, b) || may_break(b),
+    }
+}
+
+#[inline(always)]
+fn stops_any(v: u8x16) -> u64
+    ensures { result ≡ mask_l (map (spec.is_stop IN_LINE) v) }
+{
+    ((v.simd_eq(u8x16::splat(b'\n')) | v.simd_eq(u8x16::splat(b'\r')))
+        | (v.simd_eq(u8x16::splat(0xC2)) | v.simd_eq(u8x16::splat(0xE2)))).to_bitmask()
+}
+
+#[inline(always)]
+fn stops_double(v: u8x16) -> u64
+    ensures { result ≡ mask_l (map (spec.is_stop DOUBLE) v) }
+{
+    ((v.simd_eq(u8x16::splat(b'"')) | v.simd_eq(u8x16::splat(b'\\')))
+        | ((v.simd_eq(u8x16::splat(b'\n')) | v.simd_eq(u8x16::splat(b'\r')))
+            | (v.simd_eq(u8x16::splat(0xC2)) | v.simd_eq(u8x16::splat(0xE2))))).to_bitmask()
+}
+
+#[inline(always)]
+fn stops_single(v: u8x16) -> u64
+    ensures { result ≡ mask_l (map (spec.is_stop SINGLE) v) }
+{
+    (v.simd_eq(u8x16::splat(b'\''))
+        | ((v.simd_eq(u8x16::splat(b'\n')) | v.simd_eq(u8x16::splat(b'\r')))
+            | (v.simd_eq(u8x16::splat(0xC2)) | v.simd_eq(u8x16::splat(0xE2))))).to_bitmask()
+}
+
+#[inline(always)]
+fn stops_plain(v: u8x16) -> u64
+    ensures { result ≡ mask_l (map (spec.is_stop PLAIN) v) }
+{
+    ((v.simd_eq(u8x16::splat(b':')) | v.simd_eq(u8x16::splat(b'#')))
+        | ((v.simd_eq(u8x16::splat(b'\n')) | v.simd_eq(u8x16::splat(b'\r')))
+            | (v.simd_eq(u8x16::splat(0xC2)) | v.simd_eq(u8x16::splat(0xE2))))).to_bitmask()
+}
+
+#[inline(always)]
+fn stops_flow(v: u8x16) -> u64
+    ensures { result ≡ mask_l (map (spec.is_stop FLOW) v) }
+{
+    let w = v | u8x16::splat(0x20);
+    ((w.simd_eq(u8x16::splat(b'{')) | w.simd_eq(u8x16::splat(b'}')))
+        | ((v.simd_eq(u8x16::splat(b':')) | v.simd_eq(u8x16::splat(b'#')))
+            | (v.simd_eq(u8x16::splat(b','))
+                | ((v.simd_eq(u8x16::splat(b'\n')) | v.simd_eq(u8x16::splat(b'\r')))
+                    | (v.simd_eq(u8x16::splat(0xC2))
+                        | v.simd_eq(u8x16::splat(0xE2))))))).to_bitmask()
+}
+
+#[inline(always)]
+fn stops(class: class_t, v: u8x16) -> u64
+    requires { spec.is_line class ≡ true }
+    ensures { result ≡ mask_l (map (spec.is_stop class) v) }
+{
+    match class {
+        class_t::IN_LINE => stops_any(v),
+        class_t::DOUBLE => stops_double(v),
+        class_t::SINGLE => stops_single(v),
+        class_t::PLAIN => stops_plain(v),
+        class_t::FLOW => stops_flow(v),
+        _ => unreachable!(),
+    }
+}
+
+#[inline(never)]
+fn slow_end(class: class_t, text: &[u8], from: usize) -> usize
+    requires { from ≤ length text.now }
+    ensures { result ≡ from + prefix_len (spec.is_quiet class) (drop from text.now) }
+{
+    let mut i = from;
+    'bytes: while i < text.len() && !is_stop(class, text[i]) {
+        i += 1;
+    }
+    i
+}
+
+/// How many bytes in front need no closer look.
+#[inline(always)]
+pub(crate) fn quiet_len(class: class_t, text: &[u8]) -> usize
+    ensures value { result ≡ prefix_len (spec.is_quiet class) text.now }
+    ensures bound { result ≤ length text.now }
+{
+    let mut i = 0;
+    'wide: while is_line(class) && text.len() - i >= 16 {
+        let found = stops(class, u8x16::from_slice(&text[i..]));
+        if found != 0 {
+            return i + found.trailing_zeros() as usize;
+        }
+        i += 16;
+    }
+    slow_end(class, text, i)
+}
+
+#[inline(always)]
+fn starts(v: u8x16) -> u64
+    ensures { result ≡ mask_l (map spec.begins v) }
+{
+    (v.simd_lt(u8x16::splat(0x80)) | v.simd_ge(u8x16::splat(0xC0))).to_bitmask()
+}
+
+#[inline(always)]
+fn begins(b: u8) -> bool
+    ensures { result ≡ spec.begins b }
+{
+    b / 64 != 2
+}
+
+/// How many bytes begin a character.
+#[inline(always)]
+pub(crate) fn count_chars(text: &[u8]) -> usize
+    ensures value { result ≡ count_by spec.begins text.now }
+    ensures bound { result ≤ length text.now }
+{
+    let mut n: usize = 0;
+    let mut i = 0;
+    'wide: while text.len() - i >= 16 {
+        n += starts(u8x16::from_slice(&text[i..])).count_ones() as usize;
+        i += 16;
+    }
+    'bytes: while i < text.len() {
+        if begins(text[i]) {
+            n += 1;
+        }
+        i += 1;
+    }
+    n
+}

@@ -1,0 +1,94 @@
+//! Tags.
+ghost use Rattle.std.specs.Prelude.{◌≡◌};
+ghost use Rattle.yaml_text.specs.declared.token.unnamed_yaml_token_t_data.TheVariants.{TAG};
+ghost use Rattle.yaml_lexeme.specs.Tag as spec;
+ghost use Rattle.yaml_lexeme.specs.Gives.{Gives};
+
+use crate::cursor::{cursor_t, ends};
+use crate::name::take_letters;
+use crate::problem::{problem_t, refusal_t};
+use crate::uri::{push_byte, take_some_uri, take_uri};
+use std::alloc::Global;
+use yaml_text::{unnamed_yaml_token_t_data, yaml_bytes_t};
+
+fn make_tag(handle: Vec<u8>, suffix: Vec<u8>) -> unnamed_yaml_token_t_data
+    ensures { result ≡ TAG handle.items suffix.items }
+{
+    unnamed_yaml_token_t_data::TAG {
+        handle: yaml_bytes_t::from_vec(handle),
+        suffix: yaml_bytes_t::from_vec(suffix),
+    }
+}
+
+/// Takes `<`, a uri and `>`, behind a tag's `!`.
+#[tactic(auto, unfolding(crate::specs::Tag::angled))]
+fn take_angled(alloc: Global, cursor: &mut cursor_t) -> Result<unnamed_yaml_token_t_data, refusal_t>
+    ensures { Gives (λ t. t) result cursor.new (spec.angled cursor.old) }
+{
+    cursor.advance();
+    let suffix = take_some_uri(alloc, cursor, true)?;
+    if cursor.peek(0) != '>' {
+        return Err(refusal_t::OFFENCE(problem_t::NO_CLOSING_ANGLE));
+    }
+    cursor.advance();
+    Ok(make_tag(Vec::new(alloc), suffix))
+}
+
+/// Takes letters, and a `!` and a uri, or a uri alone, behind a tag's `!`.
+#[tactic(auto, unfolding(crate::specs::Tag::handled))]
+fn take_handled(
+    alloc: Global,
+    cursor: &mut cursor_t,
+) -> Result<unnamed_yaml_token_t_data, refusal_t>
+    ensures { Gives (λ t. t) result cursor.new (spec.handled cursor.old) }
+{
+    let letters = take_letters(cursor);
+    if cursor.peek(0) == '!' {
+        cursor.advance();
+        let suffix = take_some_uri(alloc, cursor, false)?;
+        let mut handle = Vec::new(alloc);
+        push_byte(&mut handle, b'!')?;
+        handle.extend_from_slice(letters)?;
+        push_byte(&mut handle, b'!')?;
+        return Ok(make_tag(handle, suffix));
+    }
+    let mut suffix = Vec::from_slice(alloc, letters)?;
+    take_uri(cursor, false, &mut suffix)?;
+    let mut sign = Vec::new(alloc);
+    push_byte(&mut sign, b'!')?;
+    if suffix.is_empty() {
+        return Ok(make_tag(suffix, sign));
+    }
+    Ok(make_tag(sign, suffix))
+}
+
+fn take_tag_parts(
+    alloc: Global,
+    cursor: &mut cursor_t,
+) -> Result<unnamed_yaml_token_t_data, refusal_t>
+    ensures { Gives (λ t. t) result cursor.new (spec.tag_parts cursor.old) }
+{
+    cursor.advance();
+    if cursor.peek(0) == '<' {
+        take_angled(alloc, cursor)
+    } else {
+        take_handled(alloc, cursor)
+    }
+}
+
+/// Takes a tag.
+#[tactic(auto, unfolding(crate::specs::Tag::tag))]
+pub(crate) fn take_tag(
+    alloc: Global,
+    cursor: &mut cursor_t,
+    in_flow: bool,
+) -> Result<unnamed_yaml_token_t_data, refusal_t>
+    ensures { Gives (λ t. t) result cursor.new (spec.tag in_flow cursor.old) }
+{
+    let tag = take_tag_parts(alloc, cursor)?;
+    let c = cursor.peek(0);
+    if !(ends(c) || in_flow && c == ',') {
+        return Err(refusal_t::OFFENCE(problem_t::NO_BLANK_OR_BREAK));
+    }
+    Ok(tag)
+}

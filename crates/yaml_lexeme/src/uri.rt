@@ -1,0 +1,151 @@
+//! Uris of tags, and their escapes.
+ghost use Rattle.std.specs.Prelude.{◌≡◌, ◌++◌, ◌∷◌, [], ◌<◌, ◌≤◌, true, OnOk};
+ghost use Rattle.yaml_lexeme.specs.Uri as spec;
+ghost use Rattle.yaml_lexeme.specs.Gives.{Gives, Takes, Appends, OctetIs};
+
+use crate::cursor::{cursor_t, is_alpha};
+use crate::problem::{problem_t, refusal_t};
+use std::alloc::{AllocError, Global};
+
+fn is_uri(listed: bool, c: char) -> bool
+    ensures same { result ≡ spec.is_uri listed c }
+    ensures ascii { result ≡ true → c < 128 }
+{
+    is_alpha(c)
+        || c == ';'
+        || c == '/'
+        || c == '?'
+        || c == ':'
+        || c == '@'
+        || c == '&'
+        || c == '='
+        || c == '+'
+        || c == '$'
+        || c == '.'
+        || c == '!'
+        || c == '~'
+        || c == '*'
+        || c == '\''
+        || c == '('
+        || c == ')'
+        || listed && (c == ',' || c == '[' || c == ']')
+}
+
+pub(crate) fn push_byte(out: &mut Vec<u8>, byte: u8) -> Result<(), AllocError>
+    ensures { OnOk result (out.new.items ≡ out.old.items ++ byte ∷ []) }
+{
+    out.push(byte)?;
+    Ok(())
+}
+
+/// The octet that `%` and two hex digits write here.
+#[tactic(auto, unfolding(crate::specs::Uri::octet))]
+fn octet_at(cursor: &cursor_t) -> Result<u8, refusal_t>
+    ensures { OctetIs result cursor.now }
+{
+    if cursor.peek(0) != '%' {
+        return Err(refusal_t::OFFENCE(problem_t::NO_OCTET));
+    }
+    let Some(high) = cursor.peek(1).to_digit(16) else {
+        return Err(refusal_t::OFFENCE(problem_t::NO_OCTET));
+    };
+    let Some(low) = cursor.peek(2).to_digit(16) else {
+        return Err(refusal_t::OFFENCE(problem_t::NO_OCTET));
+    };
+    Ok((high * 16 + low) as u8)
+}
+
+/// How many octets a lead octet begins, or 0.
+fn octet_width(c: u8) -> usize
+    ensures { result ≡ spec.octet_width c }
+{
+    match c {
+        0..=0x7F => 1,
+        0xC0..=0xDF => 2,
+        0xE0..=0xEF => 3,
+        0xF0..=0xF7 => 4,
+        _ => 0,
+    }
+}
+
+fn is_bad_next(c: u8) -> bool
+    ensures { result ≡ spec.is_bad_next c }
+{
+    !(0x80..0xC0).contains(&c)
+}
+
+/// Takes `n` later octets, and puts them behind `out`.
+fn take_next_octets(cursor: &mut cursor_t, n: usize, out: &mut Vec<u8>) -> Result<(), refusal_t>
+    ensures { Appends (λ cs. cs) result out.old.items out.new.items cursor.new (spec.next_octets n cursor.old) }
+{
+    'octets: for _ in 0..n {
+        let c = octet_at(cursor)?;
+        if is_bad_next(c) {
+            return Err(refusal_t::OFFENCE(problem_t::BAD_NEXT_OCTET));
+        }
+        push_byte(out, c)?;
+        cursor.skip(3);
+    }
+    Ok(())
+}
+
+/// Takes the octets that write a character, and puts them behind `out`.
+fn take_escape(cursor: &mut cursor_t, out: &mut Vec<u8>) -> Result<(), refusal_t>
+    ensures { Appends (λ cs. cs) result out.old.items out.new.items cursor.new (spec.uri_escape cursor.old) }
+{
+    let lead = octet_at(cursor)?;
+    let width = octet_width(lead);
+    if width == 0 {
+        return Err(refusal_t::OFFENCE(problem_t::BAD_LEAD_OCTET));
+    }
+    push_byte(out, lead)?;
+    cursor.skip(3);
+    take_next_octets(cursor, width - 1, out)
+}
+
+/// Takes a character of a uri, or an escape, and puts it behind `out`. The flag is false where the uri is over.
+#[tactic(auto, unfolding(crate::specs::Uri::uri_part))]
+fn take_uri_part(cursor: &mut cursor_t, listed: bool, out: &mut Vec<u8>) -> Result<bool, refusal_t>
+    ensures { Takes (λ cs. cs) result out.old.items out.new.items cursor.old cursor.new (spec.uri_part listed cursor.old) }
+{
+    let c = cursor.peek(0);
+    if c == '%' {
+        take_escape(cursor, out)?;
+        return Ok(true);
+    }
+    if !is_uri(listed, c) {
+        return Ok(false);
+    }
+    push_byte(out, c as u8)?;
+    cursor.advance();
+    Ok(true)
+}
+
+/// Takes a uri, and puts it behind `out`.
+pub(crate) fn take_uri(
+    cursor: &mut cursor_t,
+    listed: bool,
+    out: &mut Vec<u8>,
+) -> Result<(), refusal_t>
+    ensures { Appends (λ cs. cs) result out.old.items out.new.items cursor.new (spec.uri listed cursor.old) }
+{
+    'parts: while take_uri_part(cursor, listed, out)? {}
+    Ok(())
+}
+
+/// Takes a uri of a character or more.
+#[tactic(auto, unfolding(crate::specs::Uri::some_uri))]
+pub(crate) fn take_some_uri(
+    alloc: Global,
+    cursor: &mut cursor_t,
+    listed: bool,
+) -> Result<Vec<u8>, refusal_t>
+    ensures { Gives (λ v. v.items) result cursor.new (spec.some_uri listed cursor.old) }
+{
+    let mut out = Vec::new(alloc);
+    take_uri(cursor, listed, &mut out)?;
+    if out.is_empty() {
+        return Err(refusal_t::OFFENCE(problem_t::NO_URI));
+    }
+    Ok(out)
+}

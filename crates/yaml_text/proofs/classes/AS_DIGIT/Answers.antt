@@ -1,0 +1,10 @@
+use Rattle.std.proofs.Common.{◌≡◌, ◌∙◌, ◌-◌, arith}
+use Rattle.std.proofs.lemmas.Int.{ints, to_z-of_z}
+use Rattle.std.specs.Prelude.{slice_index}
+use Rattle.yaml_text.proofs.ClassLaws.{same_digit}
+use Rattle.yaml_text.proofs.classes.AS_DIGIT.Goals as goal
+
+pub returns-clause-character : goal.returns-clause-character
+returns-clause-character c = λ left stands.
+    let same : c.byte_at.result ≡ slice_index left 0 = c.byte_at.ensures ∙ same_digit _ left _ stands c.requires in
+    omega (arith, ints)

@@ -1,0 +1,7 @@
+use Rattle.std.proofs.Common.{◌∙◌, ap}
+use Rattle.yaml_text.specs.Classes.{is_hex}
+use Rattle.yaml_text.proofs.ClassLaws.{hex_law}
+use Rattle.yaml_text.proofs.classes.IS_HEX.Goals as goal
+
+pub returns-clause-character : goal.returns-clause-character
+returns-clause-character c = λ left stands. c.is_hex_byte.ensures ∙ ap is_hex c.byte_at.ensures ∙ hex_law _ left _ stands

@@ -1,0 +1,7 @@
+use Rattle.std.proofs.Common.{◌∙◌, ap}
+use Rattle.yaml_text.specs.Utf8.{width_of}
+use Rattle.yaml_text.proofs.ClassLaws.{width_law}
+use Rattle.yaml_text.proofs.classes.WIDTH.Goals as goal
+
+pub returns-clause-character : goal.returns-clause-character
+returns-clause-character c = λ left stands. c.width_of.ensures ∙ ap width_of c.byte_at.ensures ∙ width_law _ left _ stands

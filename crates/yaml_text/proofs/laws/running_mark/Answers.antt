@@ -1,0 +1,5 @@
+use Rattle.yaml_text.proofs.Running.{running}
+use Rattle.yaml_text.proofs.laws.running_mark.Goals as goal
+
+pub returns : goal.returns
+returns c = running
