@@ -1,27 +1,7 @@
 -- The kinds of lexemes, and what the layout asks of them.
 use Rattle.std.specs.Prelude.{Bool, true, false}
-
-pub data Kind : Type 0 where
-  STREAM_END : Kind
-  DIRECTIVE : Kind
-  DOCUMENT_START : Kind
-  DOCUMENT_END : Kind
-  FLOW_SEQUENCE_START : Kind
-  FLOW_MAPPING_START : Kind
-  FLOW_SEQUENCE_END : Kind
-  FLOW_MAPPING_END : Kind
-  FLOW_ENTRY : Kind
-  BLOCK_ENTRY : Kind
-  KEY : Kind
-  VALUE : Kind
-  ALIAS : Kind
-  ANCHOR : Kind
-  TAG : Kind
-  LITERAL : Kind
-  FOLDED : Kind
-  SINGLE_QUOTED : Kind
-  DOUBLE_QUOTED : Kind
-  PLAIN : Kind
+pub use Rattle.yaml_lexeme.specs.declared.kind.yaml_lexeme_kind_t.{yaml_lexeme_kind_t as Kind}
+use Rattle.yaml_lexeme.specs.declared.kind.yaml_lexeme_kind_t.TheVariants.{STREAM_END, DIRECTIVE, DOCUMENT_START, DOCUMENT_END, FLOW_SEQUENCE_START, FLOW_MAPPING_START, FLOW_SEQUENCE_END, FLOW_MAPPING_END, FLOW_ENTRY, BLOCK_ENTRY, KEY, VALUE, ALIAS, ANCHOR, TAG, LITERAL, FOLDED, SINGLE_QUOTED, DOUBLE_QUOTED, PLAIN}
 
 abbrev pub is_stream_end : Kind → Bool
 is_stream_end STREAM_END = true

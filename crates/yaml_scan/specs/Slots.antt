@@ -2,15 +2,11 @@
 use Rattle.std.specs.Prelude.{ℕ, zero, suc, ◌+◌, Bool, false, not, ◌&&◌, List, [], ◌∷◌, ◌++◌, length, nat_eq, nat_le, Option, Some, None, option_map, if◌then◌else◌}
 use Rattle.yaml_text.specs.declared.types.yaml_mark_t.{yaml_mark_t}
 use Rattle.yaml_scan.specs.Kind.{Kind, is_candidate_kind}
+-- what is kept of a candidate: the number of its token, its start, and whether it is required
+pub use Rattle.yaml_scan.specs.declared.keys.held_t.{held_t as Held}
 use Rattle.yaml_scan.specs.Laid.{Laid, candidate, reach, only_live}
 use Rattle.yaml_scan.specs.Levels.{is_required}
 use Rattle.yaml_scan.specs.Offline.{up_to}
-
--- what is kept of a candidate: the number of its token, its start, and whether it is required
-pub record Held : Type 0 where
-  pub at : ℕ
-  pub start : yaml_mark_t
-  pub required : Bool
 
 abbrev pub held_of : List Laid → Laid → Held
 held_of H c = record { at = length (up_to H (Some c)); start = c.lexeme.start; required = is_required c }
