@@ -120,3 +120,8 @@ finds bytes cs m n e each at =
 
 pub index_behind : (m : yaml_mark_t) (c next : ℕ) → (mark_behind m c next).index ≡ m.index + width c
 index_behind m c next = elim (cases_Bool (ends_line c next)) [ inl t ↦ rw t refl | inr f ↦ rw f refl ]
+
+-- a text has no more characters than bytes
+pub short : (cs : List ℕ) → length cs ≤ length (utf8 cs)
+short [] = omega arith
+short (c ∷ cs) = omega (arith, short cs, length-append (encode c) (utf8 cs), length-encode c, len_utf8_bounds c)

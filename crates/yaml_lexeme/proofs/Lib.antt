@@ -1,3 +1,19 @@
+pub mod Local
+pub mod Like
+pub mod Loop
+pub mod Orders
+pub mod Spans
+pub mod LexOrder
+pub mod KindLocal
+pub mod GapLocal
+pub mod NamesLocal
+pub mod DirectivesLocal
+pub mod BodyLocal
+pub mod ChunkLocal
+pub mod PlainLocal
+pub mod BlockLocal
+pub mod LexLocal
+pub mod CountLaws
 mod Rows
 pub mod Lanes
 pub mod Vectors
@@ -10,3 +26,9 @@ pub mod Many
 pub mod Ahead
 pub mod Uris
 pub mod Numbers
+pub mod Spaces
+pub mod Body
+pub mod Hex
+pub mod Gather
+pub mod Plains
+pub mod Blocks

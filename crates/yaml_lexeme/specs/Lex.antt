@@ -122,12 +122,3 @@ answer k p (Err e) = Err (scanner_fault (problem_text e.problem) e.at.mark (Some
 
 abbrev pub lexeme_at : yaml_lexeme_kind_t → yaml_context_t → Place → Result yaml_lexeme_t Fault
 lexeme_at k context p = answer k p (lex k context p)
-
--- kinds whose lexemes are read
-abbrev pub is_built : yaml_lexeme_kind_t → Bool
-is_built kind.LITERAL = false
-is_built kind.FOLDED = false
-is_built kind.SINGLE_QUOTED = false
-is_built kind.DOUBLE_QUOTED = false
-is_built kind.PLAIN = false
-is_built k = true

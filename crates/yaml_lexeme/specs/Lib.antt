@@ -15,7 +15,10 @@ pub mod Directive
 pub mod Lex
 pub mod Texts
 pub mod Gives
+pub mod Words
+pub mod Tails
 pub mod Answers
 pub mod Runs
 pub mod Order
 pub mod Locality
+pub mod Counted

@@ -7,7 +7,6 @@ use Rattle.yaml_lexeme.specs.Gap.{gap}
 use Rattle.yaml_lexeme.specs.Kind.{kind_at}
 use Rattle.yaml_lexeme.specs.declared.lex.yaml_context_t.{yaml_context_t}
 use Rattle.yaml_lexeme.specs.Lex.{lex}
-use Rattle.yaml_lexeme.specs.Quoted.{quoted}
 
 -- two places with the same mark and the same n characters next
 pub record Agree (n : ℕ) (p q : Place) : Type 0 where
@@ -29,9 +28,6 @@ move (Err e) q = refuse e.problem q
 -- If reading from p on ended k characters on, a place with the same k + 8 characters next gives the same.
 abbrev pub IsLocal : {A : Type 0} → (Place → Read A) → Type 0
 IsLocal read = (p q : Place) (k : ℕ) → reach (read p) ≡ skip k p → Agree (k + 8) p q → read q ≡ move (read p) (skip k q)
-
-abbrev pub QuotedIsLocal : Type 0
-QuotedIsLocal = (single : Bool) → IsLocal (quoted single)
 
 -- a gap, up to its end
 abbrev pub GapIsLocal : Type 0

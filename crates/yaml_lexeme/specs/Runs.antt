@@ -72,3 +72,8 @@ is_quiet class b = not (is_stop class b)
 -- a byte that begins a character
 abbrev pub begins : ℕ → Bool
 begins b = not (b / 64 == 2)
+
+-- the class of what stands unchanged between quotes
+abbrev pub line_of : Bool → class_t
+line_of true = SINGLE
+line_of false = DOUBLE

@@ -1,11 +1,18 @@
 //! Literal and folded scalars.
+ghost use Rattle.std.specs.Prelude.{◌≡◌, ◌+◌, ◌++◌, ◌<◌, ◌^◌, OnOk, IfOk, IfSome};
+ghost use Rattle.yaml_text.specs.Chars.{utf8};
 ghost use Rattle.yaml_lexeme.specs.Block as spec;
-ghost use Rattle.yaml_lexeme.specs.Gives.{Moves};
+ghost use Rattle.yaml_lexeme.specs.Gives.{Gives, Moves};
+ghost use Rattle.yaml_lexeme.specs.Tails.{TakesBlanks, TakesLine, between_tail, chomped_tail};
 
-use crate::cursor::{cursor_t, is_break};
+use crate::cursor::{cursor_t, is_blank, is_break};
+use crate::fold::{push_char, written};
 use crate::gap::skip_comment;
+use crate::plain::scalar_t;
 use crate::problem::{problem_t, refusal_t};
 use crate::runs::class_t;
+use std::alloc::{AllocError, Global};
+use yaml_text::{yaml_bytes_t, yaml_mark_t};
 
 /// What is kept behind the last text line.
 #[derive(Clone, Copy)]
@@ -22,6 +29,91 @@ pub(crate) struct header_t {
     pub digit: Option<u64>,
 }
 
+/// Empty lines that were read.
+#[derive(Clone, Copy)]
+pub(crate) struct blanks_t {
+    /// The greatest column that spaces reach on them.
+    pub column: u64,
+    /// The mark behind them.
+    pub end: yaml_mark_t,
+}
+
+/// What is kept of a text line.
+#[derive(Drop)]
+pub(crate) struct tail_t {
+    /// Its break, as it is written.
+    pub lead: Option<char>,
+    /// The breaks of the empty lines behind it.
+    pub empties: Vec<u8>,
+    /// Whether it begins with a blank.
+    pub indented: bool,
+    /// The mark behind them.
+    pub end: yaml_mark_t,
+}
+
+fn is_sign(c: char) -> bool
+    ensures { result ≡ spec.is_sign c }
+{
+    c == '+' || c == '-'
+}
+
+fn sign_of(c: char) -> chomp_t
+    ensures { result ≡ spec.sign_of c }
+{
+    if c == '+' {
+        chomp_t::KEEP
+    } else {
+        chomp_t::STRIP
+    }
+}
+
+/// Takes the digit that stands here, if one does.
+#[tactic(auto, unfolding(crate::specs::Block::digit_at))]
+fn take_digit(cursor: &mut cursor_t) -> Result<Option<u64>, refusal_t>
+    ensures value { Gives (λ d. d) result cursor.new (spec.digit_at cursor.old) }
+    ensures small { IfOk result (λ o. IfSome o (λ d. d < 10)) }
+{
+    let c = cursor.peek(0);
+    if !('0'..='9').contains(&c) {
+        return Ok(None);
+    }
+    if c == '0' {
+        return Err(refusal_t::OFFENCE(problem_t::INDICATOR_ZERO));
+    }
+    cursor.advance();
+    Ok(Some(u64::from(c as u32 - '0' as u32)))
+}
+
+/// Takes the header, behind its first character.
+#[tactic(auto, unfolding(crate::specs::Block::header_at))]
+fn take_header(cursor: &mut cursor_t) -> Result<header_t, refusal_t>
+    ensures value { Gives (λ h. h) result cursor.new (spec.header_at cursor.old) }
+    ensures small { IfOk result (λ h. IfSome h.digit (λ d. d < 10)) }
+{
+    let c = cursor.peek(0);
+    if is_sign(c) {
+        cursor.advance();
+        let digit = take_digit(cursor)?;
+        return Ok(header_t {
+            chomp: sign_of(c),
+            digit,
+        });
+    }
+    let digit = take_digit(cursor)?;
+    let c = cursor.peek(0);
+    if digit.is_some() && is_sign(c) {
+        cursor.advance();
+        return Ok(header_t {
+            chomp: sign_of(c),
+            digit,
+        });
+    }
+    Ok(header_t {
+        chomp: chomp_t::CLIP,
+        digit,
+    })
+}
+
 /// Takes blanks, a comment and the break that ends the line.
 #[tactic(auto, unfolding(crate::specs::Block::after_line))]
 pub(crate) fn take_line_end(cursor: &mut cursor_t) -> Result<(), refusal_t>
@@ -35,4 +127,198 @@ pub(crate) fn take_line_end(cursor: &mut cursor_t) -> Result<(), refusal_t>
     }
     cursor.skip(cursor.break_len());
     Ok(())
+}
+
+fn is_below(limit: Option<u64>, column: u64) -> bool
+    ensures { result ≡ spec.is_below limit column }
+{
+    match limit {
+        None => true,
+        Some(n) => column < n,
+    }
+}
+
+fn is_indenting(cursor: &cursor_t, c: char, limit: Option<u64>) -> bool
+    ensures { result ≡ spec.is_indenting c limit cursor.now }
+{
+    cursor.peek(0) == c && is_below(limit, cursor.mark().column)
+}
+
+/// Takes the spaces that are indentation, where no tab may stand.
+fn take_indent(cursor: &mut cursor_t, limit: Option<u64>) -> Result<(), refusal_t>
+    ensures { Moves result cursor.new (spec.after_indent limit cursor.old) }
+{
+    'spaces: while is_indenting(cursor, ' ', limit) {
+        cursor.advance();
+    }
+    if is_indenting(cursor, '\t', limit) {
+        return Err(refusal_t::OFFENCE(problem_t::TAB_IN_INDENTATION));
+    }
+    Ok(())
+}
+
+/// Takes empty lines and the indentation of the line that follows, and puts their breaks behind `breaks`.
+fn take_blank_lines(
+    cursor: &mut cursor_t,
+    limit: Option<u64>,
+    breaks: &mut Vec<u8>,
+) -> Result<blanks_t, refusal_t>
+    ensures { TakesBlanks result breaks.old.items breaks.new.items cursor.new (spec.blank_lines limit cursor.old) }
+{
+    let mut column: u64 = 0;
+    let mut end = cursor.mark();
+    take_indent(cursor, limit)?;
+    'lines: while cursor.break_len() > 0 {
+        column = column.max(cursor.mark().column);
+        push_char(breaks, written(cursor.peek(0)))?;
+        cursor.skip(cursor.break_len());
+        end = cursor.mark();
+        take_indent(cursor, limit)?;
+    }
+    Ok(blanks_t { column, end })
+}
+
+/// The break that stands here, as it is written.
+fn break_at(cursor: &cursor_t) -> Option<char>
+    ensures { result ≡ spec.break_at cursor.now }
+{
+    if cursor.break_len() > 0 {
+        Some(written(cursor.peek(0)))
+    } else {
+        None
+    }
+}
+
+/// Takes a text line whose indentation is read, and puts its text behind `out`.
+fn take_line(
+    alloc: Global,
+    cursor: &mut cursor_t,
+    indent: u64,
+    out: &mut Vec<u8>,
+) -> Result<tail_t, refusal_t>
+    ensures { TakesLine result out.old.items out.new.items cursor.new (spec.line_at indent cursor.old) }
+{
+    let indented = is_blank(cursor.peek(0));
+    let text = cursor.run(class_t::IN_LINE);
+    out.extend_from_slice(text)?;
+    let lead = break_at(cursor);
+    cursor.skip(cursor.break_len());
+    let mut empties = Vec::new(alloc);
+    let blanks = take_blank_lines(cursor, Some(indent), &mut empties)?;
+    Ok(tail_t {
+        lead,
+        empties,
+        indented,
+        end: blanks.end,
+    })
+}
+
+fn push_lead(out: &mut Vec<u8>, lead: Option<char>) -> Result<(), AllocError>
+    ensures { OnOk result (out.new.items ≡ out.old.items ++ utf8 (spec.or_none lead)) }
+{
+    if let Some(c) = lead {
+        push_char(out, c)?;
+    }
+    Ok(())
+}
+
+/// Puts behind `out` what stands between a text line and the next, of which the flag says that it begins with a blank.
+fn push_between(
+    out: &mut Vec<u8>,
+    folded: bool,
+    tail: &tail_t,
+    next: bool,
+) -> Result<(), AllocError>
+    ensures { OnOk result (out.new.items ≡ out.old.items ++ between_tail folded tail.now next) }
+{
+    if folded && tail.lead == Some('\n') && !(tail.indented || next) {
+        if tail.empties.is_empty() {
+            out.push(b' ')?;
+        } else {
+            out.extend_from_slice(&tail.empties)?;
+        }
+    } else {
+        push_lead(out, tail.lead)?;
+        out.extend_from_slice(&tail.empties)?;
+    }
+    Ok(())
+}
+
+/// Puts behind `out` what stands behind the last text line.
+fn push_chomped(out: &mut Vec<u8>, chomp: chomp_t, tail: &tail_t) -> Result<(), AllocError>
+    ensures { OnOk result (out.new.items ≡ out.old.items ++ chomped_tail chomp tail.now) }
+{
+    match chomp {
+        chomp_t::STRIP => {}
+        chomp_t::CLIP => push_lead(out, tail.lead)?,
+        chomp_t::KEEP => {
+            push_lead(out, tail.lead)?;
+            out.extend_from_slice(&tail.empties)?;
+        }
+    }
+    Ok(())
+}
+
+fn leading_limit(least: u64, digit: Option<u64>) -> Option<u64>
+    requires room { least + 10 < 2 ^ 64 }
+    requires small { IfSome digit (λ d. d < 10) }
+    ensures { result ≡ spec.leading_limit least digit }
+{
+    match digit {
+        Some(d) => Some(least.saturating_sub(1) + d),
+        None => None,
+    }
+}
+
+fn block_indent(least: u64, digit: Option<u64>, leading: u64, column: u64) -> u64
+    requires room { least + 10 < 2 ^ 64 }
+    requires small { IfSome digit (λ d. d < 10) }
+    ensures { result ≡ spec.block_indent least digit leading column }
+{
+    match digit {
+        Some(d) => least.saturating_sub(1) + d,
+        None => least.max(1).max(leading.max(column)),
+    }
+}
+
+/// Whether a text line stands here, with its indentation read.
+fn is_text(cursor: &cursor_t, indent: u64) -> bool
+    ensures { result ≡ spec.is_text indent cursor.now }
+{
+    cursor.mark().column == indent && cursor.peek(0) != '\0'
+}
+
+/// Takes a literal or folded scalar, at its first character. `least` is the greatest open level + 1, or 0.
+pub(crate) fn take_block(
+    alloc: Global,
+    cursor: &mut cursor_t,
+    folded: bool,
+    least: u64,
+) -> Result<scalar_t, refusal_t>
+    requires { least + 10 < 2 ^ 64 }
+    ensures { Gives (λ s. s) result cursor.new (spec.block folded least cursor.old) }
+{
+    cursor.advance();
+    let header = take_header(cursor)?;
+    take_line_end(cursor)?;
+    let mut empties = Vec::new(alloc);
+    let leading = take_blank_lines(cursor, leading_limit(least, header.digit), &mut empties)?;
+    let indent = block_indent(least, header.digit, leading.column, cursor.mark().column);
+    let mut tail = tail_t {
+        lead: None,
+        empties,
+        indented: false,
+        end: leading.end,
+    };
+    let mut out = Vec::new(alloc);
+    'lines: while is_text(cursor, indent) {
+        push_between(&mut out, folded, &tail, is_blank(cursor.peek(0)))?;
+        tail = take_line(alloc, cursor, indent, &mut out)?;
+    }
+    push_chomped(&mut out, header.chomp, &tail)?;
+    Ok(scalar_t {
+        value: yaml_bytes_t::from_vec(out),
+        end: tail.end,
+        passed_break: false,
+    })
 }

@@ -186,7 +186,8 @@ impl<'a> cursor_t<'a> {
     /// The place of a mark.
     pub fn at(text: &'a yaml_text_t<'_>, mark: yaml_mark_t) -> cursor_t<'a>
         requires { (n : ℕ) × IsMarkOf text.now.chars mark n }
-        ensures { (n : ℕ) → IsMarkOf text.now.chars mark n → result ≡ place_at text.now.chars n }
+        ensures place { (n : ℕ) → IsMarkOf text.now.chars mark n → result ≡ place_at text.now.chars n }
+        ensures size { length text.now.chars < 2 ^ 63 }
     {
         cursor_t {
             mark,

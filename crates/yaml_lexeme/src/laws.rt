@@ -1,1 +1,51 @@
 //! Laws about the definitions.
+ghost use Rattle.yaml_lexeme.specs.Counted.{PlacesAreCounted, MarksAreCounted};
+ghost use Rattle.yaml_lexeme.specs.Locality.{GapIsLocal, KindIsLocal, LexIsLocal};
+ghost use Rattle.yaml_lexeme.specs.Order.{GapOrder, LexemeSpans, LexemeOrder, StreamEndOrder, LexemeFollows};
+
+/// A gap ends where it starts or further on.
+pub fn gap_order()
+    ensures { GapOrder }
+{}
+
+/// A lexeme starts at its place, takes a character or more, and ends and reaches at places of the text.
+pub fn lexeme_spans()
+    ensures { LexemeSpans }
+{}
+
+/// The marks of a lexeme are in order, and it takes a byte, and a column where it stays on its line.
+pub fn lexeme_order()
+    ensures { LexemeOrder }
+{}
+
+/// A stream end is one mark, at column 0.
+pub fn stream_end_order()
+    ensures { StreamEndOrder }
+{}
+
+/// A lexeme behind a gap follows what was read up to the gap.
+pub fn lexeme_follows()
+    ensures { LexemeFollows }
+{}
+
+/// A gap depends on no character eight or more past its end.
+pub fn gap_is_local()
+    ensures { GapIsLocal }
+{}
+
+/// A kind depends on no character eight or more past its place.
+pub fn kind_is_local()
+    ensures { KindIsLocal }
+{}
+
+/// A lexeme depends on no character eight or more past its reach, or past the place of its problem.
+pub fn lex_is_local()
+    ensures { LexIsLocal }
+{}
+
+/// A place that parts no CR LF has the mark that is counted from the front of the text, and what is left there is what stands
+/// behind it: so a counted mark is one that gaps, kinds and lexemes can be asked at.
+pub fn marks_are_counted()
+    ensures places { PlacesAreCounted }
+    ensures marks { MarksAreCounted }
+{}

@@ -7,18 +7,20 @@ ghost use Rattle.yaml_lexeme.specs.Reading.{found};
 ghost use Rattle.yaml_lexeme.specs.Gives.{Gives};
 ghost use Rattle.yaml_lexeme.specs.Answers.{Answers};
 
+use crate::block::take_block;
 use crate::cursor::cursor_t;
 use crate::directive::{directive_t, take_directive};
 use crate::kind::yaml_lexeme_kind_t;
 use crate::name::take_name;
-use crate::plain::scalar_t;
+use crate::plain::{scalar_t, take_plain};
 use crate::problem::refusal_t;
+use crate::quoted::take_quoted;
 use crate::tag::take_tag;
 use crate::texts::{context_text, problem_text};
 use std::alloc::Global;
 use yaml_text::{
-    make_memory_fault, make_scanner_fault, unnamed_yaml_token_t_data, yaml_fault_t, yaml_mark_t,
-    yaml_scalar_style_t, yaml_text_t,
+    make_memory_fault, make_scanner_fault, unnamed_yaml_token_t_data, yaml_bytes_t, yaml_fault_t,
+    yaml_mark_t, yaml_scalar_style_t, yaml_text_t,
 };
 
 /// Where a lexeme stands.
@@ -86,6 +88,40 @@ fn characters(cursor: &mut cursor_t, says: unnamed_yaml_token_t_data, n: usize) 
     whole(says, start, cursor.mark())
 }
 
+fn scalar_of(value: yaml_bytes_t, style: yaml_scalar_style_t) -> unnamed_yaml_token_t_data
+    ensures { result ≡ spec.quoted_as style value }
+{
+    unnamed_yaml_token_t_data::SCALAR { value, style }
+}
+
+fn scalar(
+    style: yaml_scalar_style_t,
+    start: yaml_mark_t,
+    scalar: scalar_t,
+    reach: yaml_mark_t,
+) -> yaml_lexeme_t
+    ensures { result ≡ spec.scalar_to style start scalar reach }
+{
+    yaml_lexeme_t {
+        token_data: scalar_of(scalar.value, style),
+        start_mark: start,
+        end_mark: scalar.end,
+        reach,
+        passed_break: scalar.passed_break,
+    }
+}
+
+/// The least column of a line that goes on.
+fn least(context: yaml_context_t) -> u64
+    requires { spec.least context < 2 ^ 64 }
+    ensures { result ≡ spec.least context }
+{
+    match context.level {
+        None => 0,
+        Some(level) => level + 1,
+    }
+}
+
 fn directive(start: yaml_mark_t, directive: directive_t, reach: yaml_mark_t) -> yaml_lexeme_t
     ensures { result ≡ spec.directive_to start directive reach }
 {
@@ -106,7 +142,7 @@ fn take_lexeme(
     kind: yaml_lexeme_kind_t,
     context: yaml_context_t,
 ) -> Result<yaml_lexeme_t, refusal_t>
-    requires { spec.is_built kind ≡ true }
+    requires { spec.least context + 10 < 2 ^ 64 }
     ensures value { Gives (λ l. l) result cursor.new (spec.lex kind context cursor.old) }
     ensures bare { spec.is_bare kind ≡ true → IsOk result }
 {
@@ -157,11 +193,43 @@ fn take_lexeme(
             let says = take_tag(alloc, cursor, context.depth > 0)?;
             Ok(whole(says, start, cursor.mark()))
         }
-        yaml_lexeme_kind_t::LITERAL
-        | yaml_lexeme_kind_t::FOLDED
-        | yaml_lexeme_kind_t::SINGLE_QUOTED
-        | yaml_lexeme_kind_t::DOUBLE_QUOTED
-        | yaml_lexeme_kind_t::PLAIN => unreachable!(),
+        yaml_lexeme_kind_t::LITERAL => {
+            let s = take_block(alloc, cursor, false, least(context))?;
+            Ok(scalar(
+                yaml_scalar_style_t::YAML_LITERAL_SCALAR_STYLE,
+                start,
+                s,
+                cursor.mark(),
+            ))
+        }
+        yaml_lexeme_kind_t::FOLDED => {
+            let s = take_block(alloc, cursor, true, least(context))?;
+            Ok(scalar(
+                yaml_scalar_style_t::YAML_FOLDED_SCALAR_STYLE,
+                start,
+                s,
+                cursor.mark(),
+            ))
+        }
+        yaml_lexeme_kind_t::SINGLE_QUOTED => {
+            let value = take_quoted(alloc, cursor, true)?;
+            let says = scalar_of(value, yaml_scalar_style_t::YAML_SINGLE_QUOTED_SCALAR_STYLE);
+            Ok(whole(says, start, cursor.mark()))
+        }
+        yaml_lexeme_kind_t::DOUBLE_QUOTED => {
+            let value = take_quoted(alloc, cursor, false)?;
+            let says = scalar_of(value, yaml_scalar_style_t::YAML_DOUBLE_QUOTED_SCALAR_STYLE);
+            Ok(whole(says, start, cursor.mark()))
+        }
+        yaml_lexeme_kind_t::PLAIN => {
+            let s = take_plain(alloc, cursor, context.depth > 0, least(context))?;
+            Ok(scalar(
+                yaml_scalar_style_t::YAML_PLAIN_SCALAR_STYLE,
+                start,
+                s,
+                cursor.mark(),
+            ))
+        }
     }
 }
 
@@ -179,7 +247,6 @@ pub fn yaml_lexeme_at(
 ) -> Result<yaml_lexeme_t, yaml_fault_t>
     requires place { (n : ℕ) × IsMarkOf text.now.chars at n × (kinds.kind_at (spec.in_flow context) (place_at text.now.chars n) ≡ Some kind) }
     requires level { IfSome context.level (λ l. l ≤ length text.now.chars) }
-    requires built { spec.is_built kind ≡ true }
     ensures value { (n : ℕ) → IsMarkOf text.now.chars at n → Answers result (spec.lexeme_at kind context (place_at text.now.chars n)) }
     ensures bare { spec.is_bare kind ≡ true → IsOk result }
 {

@@ -4,6 +4,8 @@
 mod block;
 mod cursor;
 mod directive;
+mod escape;
+mod fold;
 mod gap;
 mod kind;
 pub mod laws;
@@ -11,6 +13,7 @@ mod lex;
 mod name;
 mod plain;
 mod problem;
+mod quoted;
 mod runs;
 mod tag;
 mod texts;

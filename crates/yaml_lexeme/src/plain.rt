@@ -1,4 +1,15 @@
 //! Plain scalars.
+ghost use Rattle.std.specs.Prelude.{◌≡◌, []};
+ghost use Rattle.yaml_text.specs.Chars.{utf8};
+ghost use Rattle.yaml_lexeme.specs.Plain as spec;
+ghost use Rattle.yaml_lexeme.specs.Gives.{Gives, Takes, Appends};
+
+use crate::cursor::{cursor_t, ends, is_break, is_white};
+use crate::fold::{push_char, push_separator};
+use crate::kind::is_marker;
+use crate::problem::{problem_t, refusal_t};
+use crate::runs::class_t;
+use std::alloc::Global;
 use yaml_text::{yaml_bytes_t, yaml_mark_t};
 
 /// A scalar that was read.
@@ -9,4 +20,118 @@ pub(crate) struct scalar_t {
     pub end: yaml_mark_t,
     /// A break stands in the separator behind it.
     pub passed_break: bool,
+}
+
+fn is_flow_indicator(c: char) -> bool
+    ensures { result ≡ spec.is_flow_indicator c }
+{
+    c == ',' || c == '[' || c == ']' || c == '{' || c == '}'
+}
+
+fn is_bad_colon(in_flow: bool, c: char, next: char) -> bool
+    ensures { result ≡ spec.is_bad_colon in_flow c next }
+{
+    in_flow && c == ':' && (next == '?' || is_flow_indicator(next))
+}
+
+fn is_chunk(in_flow: bool, c: char, next: char) -> bool
+    ensures { result ≡ spec.is_chunk in_flow c next }
+{
+    !(ends(c) || c == ':' && ends(next))
+        && !(in_flow && is_flow_indicator(c))
+        && !is_bad_colon(in_flow, c, next)
+}
+
+/// Takes a chunk, and puts it behind `out`.
+fn take_chunk(cursor: &mut cursor_t, in_flow: bool, out: &mut Vec<u8>) -> Result<(), refusal_t>
+    ensures { Appends utf8 result out.old.items out.new.items cursor.new (spec.chunk in_flow cursor.old) }
+{
+    'chunk: while is_chunk(in_flow, cursor.peek(0), cursor.peek(1)) {
+        push_char(out, cursor.peek(0))?;
+        cursor.advance();
+    }
+    if is_bad_colon(in_flow, cursor.peek(0), cursor.peek(1)) {
+        return Err(refusal_t::OFFENCE(problem_t::COLON_IN_FLOW));
+    }
+    Ok(())
+}
+
+fn is_bad_tab(cursor: &cursor_t, broken: bool, least: u64) -> bool
+    ensures { result ≡ spec.is_tab least broken cursor.now }
+{
+    cursor.peek(0) == '\t' && broken && cursor.mark().column < least
+}
+
+/// Takes a separator, where no tab may stand in indentation.
+fn skip_separator(cursor: &mut cursor_t, least: u64) -> Result<(), refusal_t>
+    ensures { Appends (λ run. []) result [] [] cursor.new (spec.separator least cursor.old) }
+{
+    let mut broken = false;
+    'run: while is_white(cursor.peek(0)) {
+        if is_bad_tab(cursor, broken, least) {
+            return Err(refusal_t::OFFENCE(problem_t::TAB_IN_PLAIN));
+        }
+        broken |= is_break(cursor.peek(0));
+        cursor.advance();
+    }
+    Ok(())
+}
+
+fn is_over(cursor: &cursor_t, in_flow: bool, least: u64) -> bool
+    ensures { result ≡ spec.is_over in_flow least cursor.now }
+{
+    !in_flow && cursor.mark().column < least || is_marker(cursor) || cursor.peek(0) == '#'
+}
+
+/// Takes a separator and the chunk behind it, and puts them behind `out`. The flag is false where the scalar is over.
+fn take_link(
+    cursor: &mut cursor_t,
+    in_flow: bool,
+    least: u64,
+    out: &mut Vec<u8>,
+) -> Result<bool, refusal_t>
+    ensures { Takes utf8 result out.old.items out.new.items cursor.old cursor.new (spec.link in_flow least cursor.old) }
+{
+    if !is_white(cursor.peek(0)) {
+        return Ok(false);
+    }
+    let mut start = cursor.again();
+    skip_separator(cursor, least)?;
+    if is_over(cursor, in_flow, least) {
+        *cursor = start;
+        return Ok(false);
+    }
+    if is_bad_colon(in_flow, cursor.peek(0), cursor.peek(1)) {
+        return Err(refusal_t::OFFENCE(problem_t::COLON_IN_FLOW));
+    }
+    if !is_chunk(in_flow, cursor.peek(0), cursor.peek(1)) {
+        *cursor = start;
+        return Ok(false);
+    }
+    push_separator(&mut start, out)?;
+    take_chunk(cursor, in_flow, out)?;
+    Ok(true)
+}
+
+/// Takes a plain scalar. `least` is the least column of a line that goes on.
+pub(crate) fn take_plain(
+    alloc: Global,
+    cursor: &mut cursor_t,
+    in_flow: bool,
+    least: u64,
+) -> Result<scalar_t, refusal_t>
+    ensures { Gives (λ s. s) result cursor.new (spec.plain in_flow least cursor.old) }
+{
+    let mut out = Vec::new(alloc);
+    take_chunk(cursor, in_flow, &mut out)?;
+    'links: while take_link(cursor, in_flow, least, &mut out)? {}
+    let end = cursor.mark();
+    cursor.skip_run(class_t::BLANK);
+    let passed_break = is_break(cursor.peek(0));
+    cursor.skip_run(class_t::BLANK_OR_BREAK);
+    Ok(scalar_t {
+        value: yaml_bytes_t::from_vec(out),
+        end,
+        passed_break,
+    })
 }

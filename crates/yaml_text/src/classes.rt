@@ -180,7 +180,7 @@ pub fn IS_Z(s: &[u8], at: usize) -> bool
     ensures bytes { result ≡ is_z (slice_index s.now at) }
     ensures character { (left : List ℕ) → Stands s.now at left → result ≡ is_z (slice_index left 0) }
 {
-    byte_at(s, at) == 0
+    byte_at(s, at) == b'\0'
 }
 
 /// Whether a byte order mark stands there.

@@ -1,0 +1,362 @@
+-- Plain scalars, a character at a time.
+use Rattle.std.proofs.Common.{◌≡◌, ℕ, zero, suc, ◌+◌, ◌<◌, ◌≤◌, Bool, true, false, cond, not, ◌==◌, ◌&&◌, ◌||◌, if◌then◌else◌, inl, inr, List, [], ◌∷◌, ◌++◌, length, take, slice_index, Option, Some, None, Ok, Err, refl, sym, ap, ◌∙◌, arith, append_assoc, ne_eqb}
+use Rattle.std.proofs.lemmas.Bool.{cases_Bool}
+use Rattle.std.proofs.lemmas.Bool.Decides.{nat_tests}
+use Rattle.std.proofs.lemmas.List.{append-nil}
+use Rattle.std.proofs.lemmas.List.Concat.{flat_map-append}
+use Rattle.std.specs.List.{flat_map, list_any}
+use Rattle.std.specs.Char.{encode_utf8}
+use Rattle.yaml_text.specs.declared.types.yaml_mark_t.{yaml_mark_t}
+use Rattle.yaml_lexeme.specs.declared.problem.refusal_t.{refusal_t}
+use Rattle.yaml_lexeme.specs.declared.problem.refusal_t.TheVariants as errors
+use Rattle.yaml_lexeme.specs.declared.problem.problem_t.{problem_t}
+use Rattle.yaml_lexeme.specs.declared.plain.scalar_t.{scalar_t}
+use Rattle.yaml_lexeme.specs.declared.problem.problem_t.TheVariants.{COLON_IN_FLOW, TAB_IN_PLAIN}
+use Rattle.yaml_lexeme.proofs.Many.{IsShorter, Shortens, joined}
+use Rattle.yaml_lexeme.proofs.Places.{length_skip, length_one, is_there, behind_more, behind_none}
+use Rattle.yaml_lexeme.proofs.Spaces.{run_more, run_none, behind_blanks, stopped as run_stopped}
+use Rattle.yaml_lexeme.specs.Classes.{is_white, ends}
+use Rattle.yaml_lexeme.specs.Fold.{fold}
+use Rattle.yaml_lexeme.specs.Gives.{Refuses, TakesPart, TakesRead}
+use Rattle.yaml_lexeme.specs.Place.{Place, first, peek, skip, skip_from, run, run_len, behind, mark_behind}
+use Rattle.yaml_lexeme.specs.Plain.{is_tab, is_flow_indicator, is_bad_colon, is_chunk, chunk_len, chunk, tab_from, untabbed, separator, is_over, link, plain}
+use Rattle.yaml_lexeme.specs.Reading.{Read, found, Part, part, refuse, over, many, with_front, ◌>>=◌}
+use Rattle.yaml_text.specs.Chars.{utf8}
+use Rattle.yaml_text.specs.Classes.{is_break, is_blank}
+
+-- the bytes of what was read
+abbrev pub in_bytes : Read (List ℕ) → Read (List ℕ)
+in_bytes r = r >>= λ x. found (utf8 x.value) x.end
+
+-- what a chunk gives where it ends
+abbrev stopped_at : Bool → List ℕ → Place → Read (List ℕ)
+stopped_at b value p = cond b (refuse COLON_IN_FLOW p) (found value p)
+
+one_front : (b : Bool) (c : ℕ) (value : List ℕ) (p : Place) → stopped_at b (c ∷ value) p ≡ with_front (c ∷ []) (stopped_at b value p)
+one_front true c value p = refl
+one_front false c value p = refl
+
+chunk_step : (flow : Bool) (m : yaml_mark_t) (cs : List ℕ) → let p : Place = record { mark = m; rest = cs } in is_chunk flow (first p) (peek p 1) ≡ true → chunk flow p ≡ with_front (first p ∷ []) (chunk flow (skip 1 p))
+unfolding chunk skip
+chunk_step flow m [] h = absurd cc
+chunk_step flow m (c ∷ cs) h =
+    let k : 1 + chunk_len flow cs ≡ suc (chunk_len flow cs) = omega arith in
+    let end : Place = skip_from (chunk_len flow cs) (mark_behind m c (slice_index cs 0)) cs in
+    rw (h, k) (one_front (is_bad_colon flow (first end) (peek end 1)) c (take (chunk_len flow cs) cs) end)
+
+-- a chunk's first character, and the others
+pub chunk_more : (flow : Bool) (p : Place) → is_chunk flow (first p) (peek p 1) ≡ true → chunk flow p ≡ with_front (first p ∷ []) (chunk flow (skip 1 p))
+chunk_more flow p h = chunk_step flow p.mark p.rest h
+
+chunk_last : (flow : Bool) (m : yaml_mark_t) (cs : List ℕ) → let p : Place = record { mark = m; rest = cs } in is_chunk flow (first p) (peek p 1) ≡ false → chunk flow p ≡ stopped_at (is_bad_colon flow (first p) (peek p 1)) [] p
+unfolding chunk skip
+chunk_last flow m [] h = refl
+chunk_last flow m (c ∷ cs) h = rw h refl
+
+pub chunk_stop : (flow : Bool) (p : Place) → is_chunk flow (first p) (peek p 1) ≡ false → chunk flow p ≡ stopped_at (is_bad_colon flow (first p) (peek p 1)) [] p
+chunk_stop flow p h = chunk_last flow p.mark p.rest h
+
+chunk_char : (flow : Bool) (c next : ℕ) → is_chunk flow c next ≡ true → 0 < c
+chunk_char flow c next h = grind (arith, nat_tests)
+
+pub chunk_there : (flow : Bool) (p : Place) → is_chunk flow (first p) (peek p 1) ≡ true → 0 < length p.rest
+chunk_there flow p h = is_there p 0 (chunk_char flow (first p) (peek p 1) h)
+
+-- A chunk is being copied: what was copied, what is left, and what that makes.
+abbrev pub CopiesChunk : Bool → Place → List ℕ → Read (List ℕ) → Type 0
+CopiesChunk flow p out whole = with_front out (in_bytes (chunk flow p)) ≡ whole
+
+push : (out : List ℕ) (c : ℕ) (r : Read (List ℕ)) → with_front out (in_bytes (with_front (c ∷ []) r)) ≡ with_front (out ++ encode_utf8 c) (in_bytes r)
+push out c (Ok r) = ap (λ (bs : List ℕ). found bs r.end) (sym (append_assoc out (encode_utf8 c) (utf8 r.value)))
+push out c (Err e) = refl
+
+pub copies_more : (flow : Bool) (p : Place) (out : List ℕ) (whole : Read (List ℕ)) → is_chunk flow (first p) (peek p 1) ≡ true → CopiesChunk flow p out whole → CopiesChunk flow (skip 1 p) (out ++ encode_utf8 (first p)) whole
+copies_more flow p out whole h c = sym (push out (first p) (chunk flow (skip 1 p))) ∙ ap (λ r. with_front out (in_bytes r)) (sym (chunk_more flow p h)) ∙ c
+
+abbrev value_of : Read (List ℕ) → List ℕ
+value_of (Ok r) = r.value
+value_of (Err e) = []
+
+abbrev end_of : Read (List ℕ) → Place
+end_of (Ok r) = r.end
+end_of (Err e) = e.at
+
+takes : (r : Read (List ℕ)) (old new : List ℕ) (q : Place) → with_front old (in_bytes r) ≡ found new q → TakesRead utf8 r old new q
+takes (Ok r) old new q h = (sym (ap value_of h), sym (ap end_of h))
+takes (Err e) old new q h = absurd cc
+
+refuses : (r : Read (List ℕ)) (old : List ℕ) (problem : problem_t) (q : Place) → with_front old (in_bytes r) ≡ refuse problem q → r ≡ refuse problem q
+refuses (Ok r) old problem q h = absurd cc
+refuses (Err e) old problem q h = h
+
+pub copies_all : (flow : Bool) (p start : Place) (out old : List ℕ) → is_chunk flow (first p) (peek p 1) ≡ false → is_bad_colon flow (first p) (peek p 1) ≡ false
+    → CopiesChunk flow p out (with_front old (in_bytes (chunk flow start))) → TakesRead utf8 (chunk flow start) old out p
+copies_all flow p start out old h b c =
+    let here : with_front out (in_bytes (chunk flow p)) ≡ found out p = ap (λ (r : Read (List ℕ)). with_front out (in_bytes r)) (chunk_stop flow p h) ∙ rw b (ap (λ (bs : List ℕ). found bs p) (append-nil out)) in
+    takes (chunk flow start) old out p (sym c ∙ here)
+
+pub copies_none : (flow : Bool) (p start : Place) (out old : List ℕ) → is_chunk flow (first p) (peek p 1) ≡ false → is_bad_colon flow (first p) (peek p 1) ≡ true
+    → CopiesChunk flow p out (with_front old (in_bytes (chunk flow start))) → chunk flow start ≡ refuse COLON_IN_FLOW p
+copies_none flow p start out old h b c =
+    let here : with_front out (in_bytes (chunk flow p)) ≡ refuse COLON_IN_FLOW p = ap (λ (r : Read (List ℕ)). with_front out (in_bytes r)) (chunk_stop flow p h) ∙ rw b refl in
+    refuses (chunk flow start) old COLON_IN_FLOW p (sym c ∙ here)
+
+-- a place's tab is found
+abbrev pub tab_at : ℕ → Bool → Place → Option Place
+tab_at least broken p = tab_from least broken p.mark p.rest
+
+tab_step : (least : ℕ) (broken : Bool) (m : yaml_mark_t) (cs : List ℕ) → let p : Place = record { mark = m; rest = cs } in is_white (first p) ≡ true → is_tab least broken p ≡ false
+    → tab_at least broken p ≡ tab_at least (broken || is_break (first p)) (skip 1 p)
+unfolding skip
+tab_step least broken m [] h t = absurd cc
+tab_step least broken m (c ∷ cs) h t = rw (h, t) refl
+
+pub tab_more : (least : ℕ) (broken : Bool) (p : Place) → is_white (first p) ≡ true → is_tab least broken p ≡ false → tab_at least broken p ≡ tab_at least (broken || is_break (first p)) (skip 1 p)
+tab_more least broken p h t = tab_step least broken p.mark p.rest h t
+
+tab_found : (least : ℕ) (broken : Bool) (m : yaml_mark_t) (cs : List ℕ) → let p : Place = record { mark = m; rest = cs } in is_white (first p) ≡ true → is_tab least broken p ≡ true → tab_at least broken p ≡ Some p
+tab_found least broken m [] h t = absurd cc
+tab_found least broken m (c ∷ cs) h t = rw (h, t) refl
+
+pub tab_here : (least : ℕ) (broken : Bool) (p : Place) → is_white (first p) ≡ true → is_tab least broken p ≡ true → tab_at least broken p ≡ Some p
+tab_here least broken p h t = tab_found least broken p.mark p.rest h t
+
+pub tab_over : (least : ℕ) (broken : Bool) (m : yaml_mark_t) (cs : List ℕ) → is_white (slice_index cs 0) ≡ false → tab_from least broken m cs ≡ None
+tab_over least broken m [] h = refl
+tab_over least broken m (c ∷ cs) h = rw h refl
+
+-- a separator is being passed
+pub record Passes (least : ℕ) (broken : Bool) (p start : Place) : Type 0 where
+  pub tab : tab_at least broken p ≡ tab_at least false start
+  pub end : behind is_white p ≡ behind is_white start
+
+pub passes_more : (least : ℕ) (broken : Bool) (p start : Place) → is_white (first p) ≡ true → is_tab least broken p ≡ false → Passes least broken p start → Passes least (broken || is_break (first p)) (skip 1 p) start
+passes_more least broken p start h t s = record { tab = sym (tab_more least broken p h t) ∙ s.tab; end = sym (behind_more is_white p h refl).1 ∙ s.end }
+
+pub passes_none : (least : ℕ) (broken : Bool) (p start : Place) → is_white (first p) ≡ true → is_tab least broken p ≡ true → Passes least broken p start → separator least start ≡ refuse TAB_IN_PLAIN p
+unfolding separator
+passes_none least broken p start h t s = ap (λ o. untabbed o (fold (run is_white start)) (behind is_white start)) (sym s.tab ∙ tab_here least broken p h t)
+
+pub passes_all : (least : ℕ) (broken : Bool) (p start : Place) → is_white (first p) ≡ false → Passes least broken p start → (separator least start ≡ found (fold (run is_white start)) (behind is_white start)) × (p ≡ behind is_white start)
+unfolding separator
+passes_all least broken p start h s =
+    (ap (λ o. untabbed o (fold (run is_white start)) (behind is_white start)) (sym s.tab ∙ tab_over least broken p.mark p.rest h), sym (behind_none is_white p h) ∙ s.end)
+
+pub takes_found : (read : Read (List ℕ)) (value : List ℕ) (p q : Place) → (read ≡ found value q) × (p ≡ q) → TakesRead (λ run. []) read [] [] p
+takes_found read value p q h = rw (h.0) (refl, h.1)
+
+link_none : (flow : Bool) (least : ℕ) (p : Place) → is_white (first p) ≡ false → link flow least p ≡ over
+unfolding link
+link_none flow least p h = rw h refl
+
+-- the part of a link behind its separator
+abbrev behind_gap : Bool → ℕ → List ℕ → Place → Part (List ℕ)
+behind_gap flow least gap q =
+    if is_over flow least q then over
+    else chunk flow q >>= λ c.
+    if length c.value == 0 then over else part (gap ++ c.value) c.end
+
+link_gap : (flow : Bool) (least : ℕ) (p : Place) → is_white (first p) ≡ true → link flow least p ≡ separator least p >>= λ gap. behind_gap flow least gap.value gap.end
+unfolding link
+link_gap flow least p h = rw h refl
+
+link_from : (flow : Bool) (least : ℕ) (p : Place) (gap : List ℕ) (q : Place) → is_white (first p) ≡ true → separator least p ≡ found gap q → link flow least p ≡ behind_gap flow least gap q
+link_from flow least p gap q h e = link_gap flow least p h ∙ ap (λ (r : Read (List ℕ)). r >>= λ gap. behind_gap flow least gap.value gap.end) e
+
+same_none : (read : Part (List ℕ)) (old : List ℕ) (p q : Place) → read ≡ over → q ≡ p → TakesPart utf8 read false old old p q
+same_none read old p q h e = rw h (refl, e)
+
+pub ends_here : (flow : Bool) (least : ℕ) (p : Place) (old : List ℕ) → is_white (first p) ≡ false → TakesPart utf8 (link flow least p) false old old p p
+ends_here flow least p old h = same_none (link flow least p) old p p (link_none flow least p h) refl
+
+gap_by : (o : Option Place) (value : List ℕ) (end q : Place) → TakesRead (λ run. []) (untabbed o value end) [] [] q → (untabbed o value end ≡ found value q) × (q ≡ end)
+gap_by None value end q h = (rw h.1 refl, h.1)
+gap_by (Some t) value end q h = absurd h
+
+-- what passing a separator said
+pub gap_is : (least : ℕ) (p q : Place) → TakesRead (λ run. []) (separator least p) [] [] q → (separator least p ≡ found (fold (run is_white p)) q) × (q ≡ behind is_white p)
+unfolding separator
+gap_is least p q h = gap_by (tab_at least false p) (fold (run is_white p)) (behind is_white p) q h
+
+pub link_refused : (error : refusal_t) (flow : Bool) (least : ℕ) (p q : Place) → is_white (first p) ≡ true → Refuses error q (separator least p) → Refuses error q (link flow least p)
+link_refused errors.MEMORY flow least p q h e = tt
+link_refused (errors.OFFENCE problem) flow least p q h e = link_gap flow least p h ∙ ap (λ (r : Read (List ℕ)). r >>= λ gap. behind_gap flow least gap.value gap.end) e
+
+-- what taking a link knows of its separator, which ends at q
+pub record Gap (flow : Bool) (least : ℕ) (p q : Place) : Type 0 where
+  pub space : is_white (first p) ≡ true
+  pub read : separator least p ≡ found (fold (run is_white p)) q
+
+at_gap : (flow : Bool) (least : ℕ) (p q : Place) → Gap flow least p q → link flow least p ≡ behind_gap flow least (fold (run is_white p)) q
+at_gap flow least p q g = link_from flow least p (fold (run is_white p)) q g.space g.read
+
+pub is_over_there : (flow : Bool) (least : ℕ) (p q start : Place) (old : List ℕ) → Gap flow least p q → is_over flow least q ≡ true → start ≡ p → TakesPart utf8 (link flow least p) false old old p start
+is_over_there flow least p q start old g o e = same_none (link flow least p) old p start (at_gap flow least p q g ∙ rw o refl) e
+
+not_both : (b : Bool) → (b && not true) ≡ false
+not_both true = refl
+not_both false = refl
+
+chunk_is : (flow : Bool) (q : Place) → is_bad_colon flow (first q) (peek q 1) ≡ true → is_chunk flow (first q) (peek q 1) ≡ false
+chunk_is flow q b = rw b (not_both (not (ends (first q) || (first q == 0x3A && ends (peek q 1))) && not (flow && is_flow_indicator (first q))))
+
+pub colon_there : (flow : Bool) (least : ℕ) (p q : Place) → Gap flow least p q → is_over flow least q ≡ false → is_bad_colon flow (first q) (peek q 1) ≡ true → link flow least p ≡ refuse COLON_IN_FLOW q
+colon_there flow least p q g o b =
+    let c : chunk flow q ≡ refuse COLON_IN_FLOW q = chunk_stop flow q (chunk_is flow q b) ∙ rw b refl in
+    at_gap flow least p q g ∙ rw (o, c) refl
+
+pub nothing_there : (flow : Bool) (least : ℕ) (p q start : Place) (old : List ℕ) → Gap flow least p q → is_over flow least q ≡ false → is_bad_colon flow (first q) (peek q 1) ≡ false → is_chunk flow (first q) (peek q 1) ≡ false → start ≡ p
+    → TakesPart utf8 (link flow least p) false old old p start
+nothing_there flow least p q start old g o b h e =
+    let c : chunk flow q ≡ found [] q = chunk_stop flow q h ∙ rw b refl in
+    same_none (link flow least p) old p start (at_gap flow least p q g ∙ rw (o, c) refl) e
+
+pub chunk_refused : (error : refusal_t) (flow : Bool) (least : ℕ) (p q r : Place) → Gap flow least p q → is_over flow least q ≡ false → Refuses error r (chunk flow q) → Refuses error r (link flow least p)
+chunk_refused errors.MEMORY flow least p q r g o h = tt
+chunk_refused (errors.OFFENCE problem) flow least p q r g o h = at_gap flow least p q g ∙ rw (o, h) refl
+
+front_some : (c : ℕ) (x : Read (List ℕ)) (gap : List ℕ) (old mid new : List ℕ) (p r : Place) → mid ≡ old ++ utf8 gap → TakesRead utf8 (with_front (c ∷ []) x) mid new r
+    → TakesPart utf8 (with_front (c ∷ []) x >>= λ c. if length c.value == 0 then over else part (gap ++ c.value) c.end) true old new p r
+front_some c (Ok f) gap old mid new p r m h =
+    let some : (suc (length f.value) == 0) ≡ false = ne_eqb (suc (length f.value)) 0 (λ e. omega arith) in
+    let cs = c ∷ f.value in
+    rw some (h.0 ∙ ap (λ (xs : List ℕ). xs ++ utf8 cs) m ∙ append_assoc old (utf8 gap) (utf8 cs) ∙ ap (λ (xs : List ℕ). old ++ xs) (sym (flat_map-append encode_utf8 gap cs)), h.1)
+front_some c (Err e) gap old mid new p r m h = absurd h
+
+pub link_taken : (flow : Bool) (least : ℕ) (p q r : Place) (old mid new : List ℕ) → Gap flow least p q → is_over flow least q ≡ false → is_chunk flow (first q) (peek q 1) ≡ true
+    → mid ≡ old ++ utf8 (fold (run is_white p)) → TakesRead utf8 (chunk flow q) mid new r → TakesPart utf8 (link flow least p) true old new p r
+link_taken flow least p q r old mid new g o h m t =
+    let c = chunk_more flow q h in
+    rw (at_gap flow least p q g, o, c) (front_some (first q) (chunk flow (skip 1 q)) (fold (run is_white p)) old mid new p r m (rw c at t))
+
+-- what was read ends nearer to the text's end
+abbrev EndsNear : Place → Read (List ℕ) → Type 0
+EndsNear p (Ok f) = length f.end.rest < length p.rest
+EndsNear p (Err e) = Unit {0}
+
+near_if : (b : Bool) (value : List ℕ) (p q : Place) → length q.rest < length p.rest → EndsNear p (stopped_at b value q)
+near_if true value p q h = tt
+near_if false value p q h = h
+
+nothing_or : (b : Bool) (value : List ℕ) (p q : Place) → length q.rest < length p.rest → IsShorter p (if b then over else part value q)
+nothing_or true value p q h = tt
+nothing_or false value p q h = h
+
+blank_space : (c : ℕ) → is_blank c ≡ true → is_white c ≡ true
+blank_space c h = grind (arith, nat_tests)
+
+blank_no_break : (c : ℕ) → is_blank c ≡ true → is_break c ≡ false
+blank_no_break c h = grind (arith, nat_tests)
+
+break_space : (c : ℕ) → is_break c ≡ true → is_white c ≡ true
+break_space c h = grind (arith, nat_tests)
+
+neither_space : (c : ℕ) → is_break c ≡ false → is_blank c ≡ false → is_white c ≡ false
+neither_space c e h = grind (arith, nat_tests)
+
+shorter_gap : (o : Bool) (r : Read (List ℕ)) (gap : List ℕ) (p : Place) → EndsNear p r → IsShorter p (if o then over else r >>= λ c. if length c.value == 0 then over else part (gap ++ c.value) c.end)
+shorter_gap true r gap p h = tt
+shorter_gap false (Ok f) gap p h = nothing_or (length f.value == 0) (gap ++ f.value) p f.end h
+shorter_gap false (Err e) gap p h = tt
+
+chunk_near : (flow : Bool) (p q : Place) → length q.rest < length p.rest → EndsNear p (chunk flow q)
+unfolding chunk
+chunk_near flow p q h =
+    let n = chunk_len flow q.rest in
+    let end = skip n q in
+    near_if (is_bad_colon flow (first end) (peek end 1)) (take n q.rest) p end (omega (arith, length_skip n q))
+
+shorter_tab : (o : Option Place) (flow : Bool) (least : ℕ) (gap : List ℕ) (p q : Place) → length q.rest < length p.rest → IsShorter p (untabbed o gap q >>= λ g. behind_gap flow least g.value g.end)
+shorter_tab None flow least gap p q h = shorter_gap (is_over flow least q) (chunk flow q) gap p (chunk_near flow p q h)
+shorter_tab (Some t) flow least gap p q h = tt
+
+separator_is : (least : ℕ) (p : Place) → separator least p ≡ untabbed (tab_at least false p) (fold (run is_white p)) (behind is_white p)
+unfolding separator
+separator_is least p = refl
+
+-- each link takes a character or more
+pub link_shortens : (flow : Bool) (least : ℕ) → Shortens (link flow least)
+link_shortens flow least p =
+    elim (cases_Bool (is_white (first p))) [
+      | inl space ↦
+          let t = behind_more is_white p space refl in
+          let q = behind is_white p in
+          let near : length q.rest < length p.rest = rw t.1 (omega (arith, t.0, length_skip (run_len is_white (skip 1 p)) (skip 1 p), length_skip 1 p)) in
+          rw (link_gap flow least p space, separator_is least p) (shorter_tab (tab_at least false p) flow least (fold (run is_white p)) p q near)
+      | inr other ↦ rw (link_none flow least p other) tt
+    ]
+
+-- a scalar, from the bytes and the place where its last chunk ends
+abbrev pub scalar_at : List ℕ → Place → Read scalar_t
+scalar_at bytes q = found (record { value = bytes; end = q.mark; passed_break = list_any is_break (run is_white q) }) (behind is_white q)
+
+-- what follows the first chunk
+abbrev after_head : Bool → ℕ → Read (List ℕ) → Read scalar_t
+after_head flow least r = r >>= λ head. many (link flow least) head.end >>= λ links. scalar_at (utf8 head.value ++ flat_map utf8 links.value) links.end
+
+plain_is : (flow : Bool) (least : ℕ) (p : Place) → plain flow least p ≡ after_head flow least (chunk flow p)
+unfolding plain
+plain_is flow least p = refl
+
+abbrev links_of : Bool → ℕ → Place → Read (List ℕ)
+links_of flow least p = joined utf8 (many (link flow least) p)
+
+abbrev refusal : Read (List ℕ) → Read scalar_t
+refusal (Ok r) = scalar_at r.value r.end
+refusal (Err e) = Err e
+
+tail_all : (m : Read (List (List ℕ))) (front out : List ℕ) (q : Place) → with_front front (joined utf8 m) ≡ found out q → (m >>= λ links. scalar_at (front ++ flat_map utf8 links.value) links.end) ≡ scalar_at out q
+tail_all (Ok links) front out q h = ap (λ (r : Read (List ℕ)). scalar_at (value_of r) (end_of r)) h
+tail_all (Err e) front out q h = absurd cc
+
+tail_none : (m : Read (List (List ℕ))) (front : List ℕ) (problem : problem_t) (q : Place) → with_front front (joined utf8 m) ≡ refuse problem q → (m >>= λ links. scalar_at (front ++ flat_map utf8 links.value) links.end) ≡ refuse problem q
+tail_none (Ok links) front problem q h = absurd cc
+tail_none (Err e) front problem q h = ap refusal h
+
+head_all : (flow : Bool) (least : ℕ) (r : Read (List ℕ)) (out₀ out : List ℕ) (start q : Place) → TakesRead utf8 r [] out₀ start → with_front out₀ (links_of flow least start) ≡ found out q → after_head flow least r ≡ scalar_at out q
+head_all flow least (Ok head) out₀ out start q t h = tail_all (many (link flow least) head.end) (utf8 head.value) out q (rw (← t.0, ← t.1) h)
+head_all flow least (Err e) out₀ out start q t h = absurd t
+
+head_none : (flow : Bool) (least : ℕ) (r : Read (List ℕ)) (out₀ : List ℕ) (problem : problem_t) (start q : Place) → TakesRead utf8 r [] out₀ start → with_front out₀ (links_of flow least start) ≡ refuse problem q → after_head flow least r ≡ refuse problem q
+head_none flow least (Ok head) out₀ problem start q t h = tail_none (many (link flow least) head.end) (utf8 head.value) problem q (rw (← t.0, ← t.1) h)
+head_none flow least (Err e) out₀ problem start q t h = absurd t
+
+pub plain_all : (flow : Bool) (least : ℕ) (p start q : Place) (out₀ out : List ℕ) → TakesRead utf8 (chunk flow p) [] out₀ start → with_front out₀ (links_of flow least start) ≡ found out q → plain flow least p ≡ scalar_at out q
+plain_all flow least p start q out₀ out t h = plain_is flow least p ∙ head_all flow least (chunk flow p) out₀ out start q t h
+
+pub plain_refused : (error : refusal_t) (flow : Bool) (least : ℕ) (p start q : Place) (out₀ : List ℕ) → TakesRead utf8 (chunk flow p) [] out₀ start → Refuses error q (with_front out₀ (links_of flow least start)) → Refuses error q (plain flow least p)
+plain_refused errors.MEMORY flow least p start q out₀ t h = tt
+plain_refused (errors.OFFENCE problem) flow least p start q out₀ t h = plain_is flow least p ∙ head_none flow least (chunk flow p) out₀ problem start q t h
+
+pub head_refused : (error : refusal_t) (flow : Bool) (least : ℕ) (p q : Place) → Refuses error q (chunk flow p) → Refuses error q (plain flow least p)
+head_refused errors.MEMORY flow least p q h = tt
+head_refused (errors.OFFENCE problem) flow least p q h = plain_is flow least p ∙ ap (after_head flow least) h
+
+any_behind : (n : ℕ) (p : Place) → length p.rest ≤ n → list_any is_break (run is_white p) ≡ list_any is_break (run is_white (behind is_blank p))
+any_behind zero p h =
+    elim (cases_Bool (is_blank (first p))) [
+      | inl blank ↦ absurd (omega (arith, (behind_more is_blank p blank refl).0))
+      | inr other ↦ rw (behind_none is_blank p other) refl
+    ]
+any_behind (suc n) p h =
+    elim (cases_Bool (is_blank (first p))) [
+      | inl blank ↦
+          let t = behind_more is_blank p blank refl in
+          let space : is_white (first p) ≡ true = blank_space (first p) blank in
+          let other : is_break (first p) ≡ false = blank_no_break (first p) blank in
+          rw t.1 (ap (list_any is_break) (run_more is_white p space refl) ∙ rw other (any_behind n (skip 1 p) (omega (arith, t.0, length_one p))))
+      | inr other ↦ rw (behind_none is_blank p other) refl
+    ]
+
+break_any : (b : Bool) (q : Place) → is_break (first q) ≡ b → is_blank (first q) ≡ false → list_any is_break (run is_white q) ≡ b
+break_any true q e h = ap (list_any is_break) (run_more is_white q (break_space (first q) e) refl) ∙ rw e refl
+break_any false q e h = ap (list_any is_break) (run_none is_white q (neither_space (first q) e h))
+
+-- whether a break stands in a run
+pub passed : (p : Place) → list_any is_break (run is_white p) ≡ is_break (first (behind is_blank p))
+passed p = any_behind (length p.rest) p (omega arith) ∙ break_any (is_break (first (behind is_blank p))) (behind is_blank p) refl (run_stopped is_blank p refl)
+
+-- the scalar as the code makes it
+pub scalar_made : (flow : Bool) (least : ℕ) (p q r : Place) (out : List ℕ) (end : yaml_mark_t) (b : Bool) → plain flow least p ≡ scalar_at out q → end ≡ q.mark → b ≡ is_break (first (behind is_blank q)) → r ≡ behind is_white (behind is_blank q)
+    → plain flow least p ≡ found (record { value = out; end = end; passed_break = b }) r
+scalar_made flow least p q r out end b h m e f = rw (m, e, f, ← passed q, ← (behind_blanks q).1) h

@@ -1,0 +1,5 @@
+use Rattle.yaml_lexeme.proofs.KindLocal as law
+use Rattle.yaml_lexeme.proofs.laws.kind_is_local.Goals as goal
+
+pub returns : goal.returns
+returns c = law.kind_local

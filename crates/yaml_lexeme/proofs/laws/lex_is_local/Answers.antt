@@ -1,0 +1,5 @@
+use Rattle.yaml_lexeme.proofs.LexLocal as law
+use Rattle.yaml_lexeme.proofs.laws.lex_is_local.Goals as goal
+
+pub returns : goal.returns
+returns c = law.lex_is_local

@@ -1,0 +1,5 @@
+use Rattle.yaml_lexeme.proofs.LexOrder as law
+use Rattle.yaml_lexeme.proofs.laws.lexeme_follows.Goals as goal
+
+pub returns : goal.returns
+returns c = law.lexeme_follows

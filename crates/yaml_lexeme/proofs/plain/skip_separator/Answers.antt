@@ -1,0 +1,40 @@
+use Rattle.std.proofs.Common.{◌≡◌, true, false, refl, arith}
+use Rattle.yaml_lexeme.proofs.Places.{behind_more, length_one}
+use Rattle.yaml_lexeme.proofs.Plains.{passes_more, passes_none, passes_all, takes_found}
+use Rattle.yaml_lexeme.specs.Classes.{is_white}
+use Rattle.yaml_lexeme.specs.Fold.{fold}
+use Rattle.yaml_lexeme.specs.Place.{first, run, behind}
+use Rattle.yaml_lexeme.specs.Plain.{is_tab, separator}
+use Rattle.yaml_text.specs.Classes.{is_break}
+use Rattle.yaml_lexeme.proofs.plain.skip_separator.Goals as goal
+
+pub run-init : goal.run-init
+run-init c = record { tab = refl; end = refl }
+
+pub returns-then-is_bad_tab : goal.returns-then-is_bad_tab
+returns-then-is_bad_tab c =
+    let p = c.run.cursor in
+    let space : is_white (first p) ≡ true = cc in
+    let tab : is_tab c.args.least c.run.broken p ≡ true = cc in
+    passes_none c.args.least c.run.broken p c.args.cursor.now space tab c.run.invariant
+
+pub run-preserved : goal.run-preserved
+run-preserved c =
+    let p = c.run.cursor in
+    let space : is_white (first p) ≡ true = cc in
+    let fine : is_tab c.args.least c.run.broken p ≡ false = cc in
+    let same : c.is_break-broken.result ≡ is_break (first p) = cc in
+    rw (c.advance.ensures, same) (passes_more c.args.least c.run.broken p c.args.cursor.now space fine c.run.invariant)
+
+pub run-smaller : goal.run-smaller
+run-smaller c =
+    let p = c.run.cursor in
+    let space : is_white (first p) ≡ true = cc in
+    rw c.advance.ensures (omega (arith, length_one p, (behind_more is_white p space refl).0))
+
+pub returns : goal.returns
+returns c =
+    let p = c.run.cursor in
+    let other : is_white (first p) ≡ false = cc in
+    let start = c.args.cursor.now in
+    takes_found (separator c.args.least start) (fold (run is_white start)) p (behind is_white start) (passes_all c.args.least c.run.broken p start other c.run.invariant)

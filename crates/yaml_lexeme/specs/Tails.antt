@@ -1,0 +1,43 @@
+-- What the code keeps of the lines of a block scalar, and what was read of them.
+use Rattle.std.specs.Prelude.{◌≡◌, ℕ, ◌++◌, List, [], Result, Ok, Err, Bool, not, ◌&&◌, ◌||◌, if◌then◌else◌}
+use Rattle.yaml_text.specs.Chars.{utf8}
+use Rattle.yaml_lexeme.specs.declared.block.blanks_t.{blanks_t}
+use Rattle.yaml_lexeme.specs.declared.block.tail_t.{tail_t}
+use Rattle.yaml_lexeme.specs.declared.block.chomp_t.{chomp_t}
+use Rattle.yaml_lexeme.specs.declared.block.chomp_t.TheVariants.{STRIP, CLIP, KEEP}
+use Rattle.yaml_lexeme.specs.declared.problem.refusal_t.{refusal_t}
+use Rattle.yaml_lexeme.specs.Place.{Place}
+use Rattle.yaml_lexeme.specs.Reading.{Read}
+use Rattle.yaml_lexeme.specs.Gives.{Refuses}
+use Rattle.yaml_lexeme.specs.Block.{Blanks, Line, is_more_indented, or_none, or_space, is_line_feed}
+
+-- empty lines were read, and their breaks put behind `old`
+abbrev pub TakesBlanks : Result blanks_t refusal_t → List ℕ → List ℕ → Place → Read Blanks → Type 0
+TakesBlanks (Ok b) old new q (Ok f) = (b.column ≡ f.value.column) × (new ≡ old ++ utf8 f.value.breaks) × (b.end ≡ f.value.end) × (q ≡ f.end)
+TakesBlanks (Ok b) old new q (Err e) = ⊥
+TakesBlanks (Err e) old new q read = Refuses e q read
+
+-- what is kept of a text line
+pub record Keeps (tail : tail_t) (line : Line) : Type 0 where
+  pub lead : tail.lead ≡ line.break
+  pub empties : tail.empties.items ≡ utf8 line.empties
+  pub indented : tail.indented ≡ is_more_indented line
+  pub end : tail.end ≡ line.end
+
+-- a text line was read, and its text put behind `old`
+abbrev pub TakesLine : Result tail_t refusal_t → List ℕ → List ℕ → Place → Read Line → Type 0
+TakesLine (Ok t) old new q (Ok f) = Keeps t f.value × (new ≡ old ++ utf8 f.value.text) × (q ≡ f.end)
+TakesLine (Ok t) old new q (Err e) = ⊥
+TakesLine (Err e) old new q read = Refuses e q read
+
+-- what stands between a line and the next, in bytes
+abbrev pub between_tail : Bool → tail_t → Bool → List ℕ
+between_tail folded t next =
+    if (folded && is_line_feed t.lead) && not (t.indented || next) then or_space t.empties.items
+    else utf8 (or_none t.lead) ++ t.empties.items
+
+-- what stands behind the last line, in bytes
+abbrev pub chomped_tail : chomp_t → tail_t → List ℕ
+chomped_tail STRIP t = []
+chomped_tail CLIP t = utf8 (or_none t.lead)
+chomped_tail KEEP t = utf8 (or_none t.lead) ++ t.empties.items

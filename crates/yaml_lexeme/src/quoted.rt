@@ -1,0 +1,85 @@
+//! Quoted scalars.
+ghost use Rattle.std.specs.Prelude.{◌≡◌, true, Ok, Err, if◌then◌else◌};
+ghost use Rattle.yaml_text.specs.Chars.{utf8};
+ghost use Rattle.yaml_lexeme.specs.declared.problem.refusal_t.TheVariants.{OFFENCE};
+ghost use Rattle.yaml_lexeme.specs.declared.problem.problem_t.TheVariants.{DOCUMENT_MARKER};
+ghost use Rattle.yaml_lexeme.specs.Kind as kind;
+ghost use Rattle.yaml_lexeme.specs.Quoted as spec;
+ghost use Rattle.yaml_lexeme.specs.Gives.{Gives, Takes};
+
+use crate::cursor::{cursor_t, is_break, is_white};
+use crate::escape::take_escape;
+use crate::fold::{push_breaks, push_char, push_separator};
+use crate::kind::is_marker;
+use crate::problem::{problem_t, refusal_t};
+use std::alloc::Global;
+use yaml_text::yaml_bytes_t;
+
+/// No document marker may stand here.
+fn unmarked(cursor: &cursor_t) -> Result<bool, refusal_t>
+    ensures { result ≡ (if kind.is_marker cursor.now then Err (OFFENCE DOCUMENT_MARKER) else Ok true) }
+{
+    if is_marker(cursor) {
+        Err(refusal_t::OFFENCE(problem_t::DOCUMENT_MARKER))
+    } else {
+        Ok(true)
+    }
+}
+
+fn quote(single: bool) -> char
+    ensures { result ≡ spec.quote single }
+{
+    if single { '\'' } else { '"' }
+}
+
+/// Takes a part of the body, and puts its bytes behind `out`. The flag is false at the closing quote.
+#[tactic(auto, unfolding(crate::specs::Quoted::body_part))]
+fn take_part(cursor: &mut cursor_t, single: bool, out: &mut Vec<u8>) -> Result<bool, refusal_t>
+    ensures { Takes utf8 result out.old.items out.new.items cursor.old cursor.new (spec.body_part single cursor.old) }
+{
+    let c = cursor.peek(0);
+    if c == '\0' {
+        return Err(refusal_t::OFFENCE(problem_t::END_OF_TEXT));
+    }
+    if is_white(c) {
+        push_separator(cursor, out)?;
+        return unmarked(cursor);
+    }
+    if c == quote(single) {
+        if !(single && cursor.peek(1) == c) {
+            return Ok(false);
+        }
+        push_char(out, c)?;
+        cursor.skip(2);
+        return Ok(true);
+    }
+    if single || c != '\\' {
+        push_char(out, c)?;
+        cursor.advance();
+        return Ok(true);
+    }
+    if is_break(cursor.peek(1)) {
+        cursor.advance();
+        cursor.skip(cursor.break_len());
+        push_breaks(cursor, out)?;
+        return unmarked(cursor);
+    }
+    let c = take_escape(cursor)?;
+    push_char(out, c)?;
+    Ok(true)
+}
+
+/// Takes a quoted scalar, at its opening quote.
+pub(crate) fn take_quoted(
+    alloc: Global,
+    cursor: &mut cursor_t,
+    single: bool,
+) -> Result<yaml_bytes_t, refusal_t>
+    ensures { Gives (λ v. v) result cursor.new (spec.quoted single cursor.old) }
+{
+    cursor.advance();
+    let mut out = Vec::new(alloc);
+    'parts: while take_part(cursor, single, &mut out)? {}
+    cursor.advance();
+    Ok(yaml_bytes_t::from_vec(out))
+}

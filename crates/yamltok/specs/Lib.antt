@@ -1,0 +1,5 @@
+pub mod Devices
+pub mod Listing
+pub mod Args
+pub mod Outcome
+pub mod Run

@@ -1,0 +1,48 @@
+//! Says of a YAML stream what its text is, or why it is none.
+//!
+//! `yamltok decode ENC` reads standard input to its end and writes one line. ENC is `any`, `utf8`,
+//! `utf16le` or `utf16be`. The exit status is 0 where the input is a text, 1 where the line is that
+//! of a fault, 2 for wrong arguments, and 3 where a read or a write failed or memory was refused.
+#![tactic(auto)]
+
+mod args;
+mod devices;
+mod listing;
+mod outcome;
+mod run;
+#[cfg(test)]
+mod tests;
+
+use args::parse_args;
+use devices::{yaml_sink_of_t, yaml_source_of_t};
+use outcome::{tool_fault_t, yaml_status};
+use std::alloc::Global;
+use std::env;
+use std::env::Env;
+use std::io::ErrorKind;
+use std::process::ExitCode;
+
+/// The words of the command line, without the program's name.
+fn command_words<R: Env + AllocGlobal>(rt: &R) -> Result<Vec<String>, tool_fault_t> {
+    match env::args(rt) {
+        Ok(words) => Ok(words.skip(1).collect(rt.alloc())?),
+        Err(error) if error.kind() == ErrorKind::OutOfMemory => Err(tool_fault_t::Memory),
+        Err(_) => Err(tool_fault_t::Args),
+    }
+}
+
+fn outcome_of(rt: &HostRuntime) -> Result<bool, tool_fault_t> {
+    let words = command_words(rt)?;
+    let command = parse_args(&words).ok_or(tool_fault_t::Args)?;
+    let mut reader = yaml_source_of_t::new(rt.stdin());
+    let mut writer = yaml_sink_of_t::new(rt.stdout());
+    run::run(rt.alloc(), &command, &mut reader, &mut writer)
+}
+
+fn main(rt: HostRuntime) -> ExitCode {
+    let outcome = outcome_of(&rt);
+    if let Err(fault) = &outcome {
+        let _ = eprintln!(rt; "yamltok: {fault}");
+    }
+    ExitCode::from(yaml_status(&outcome))
+}

@@ -1,0 +1,123 @@
+//! Reads all there is, and writes the listing of the answer to it.
+ghost use Rattle.std.specs.Prelude.{◌≡◌, ◌≢◌, ℕ, ◌<◌, ◌⊎◌, ◌++◌, ◌↔◌, List, true, false, length, take, drop, vec_len, IfOk, IfErr, OnOk, OnErr, IsErrOf, is_err};
+ghost use Rattle.std.specs.Io.KnownBytes.{Appends, Consumes, IsAtEnd, Keeps};
+ghost use Rattle.yamltok.specs.Outcome.{is_read_fault, is_write_fault};
+ghost use Rattle.yamltok.specs.Run.{IsWrong, Lists, ListsDecode, Writes, WritesBeginning};
+
+use crate::args::yaml_command_t;
+use crate::devices::{yaml_sink_t, yaml_source_t};
+use crate::listing::{list_fault, list_text};
+use crate::outcome::tool_fault_t;
+use std::alloc::{AllocError, Global};
+use yaml_text::{yaml_decode, yaml_encoding_t};
+
+const CHUNK: usize = 4096;
+
+/// Reads once, and answers whether there was anything left to read.
+fn read_chunk<R: yaml_source_t>(reader: &mut R, input: &mut Vec<u8>) -> Result<bool, tool_fault_t>
+    requires { R.failed reader.old ≡ false }
+    ensures bytes { OnOk result ((bytes : List ℕ) × (input.new.items ≡ input.old.items ++ bytes) × Consumes (R.remaining reader.old) (R.remaining reader.new) bytes) }
+    ensures more { IfOk result (λ more. more ≡ true → vec_len input.old < vec_len input.new) }
+    ensures end { IfOk result (λ more. more ≡ false → IsAtEnd (R.remaining reader.new)) }
+    ensures read { is_read_fault result ≡ R.failed reader.new }
+    ensures faults { IfErr result (λ fault. (fault ≡ tool_fault_t.Read) ⊎ (fault ≡ tool_fault_t.Memory)) }
+{
+    let mut buffer = [0u8; CHUNK];
+    let Ok(count) = reader.pull(&mut buffer) else {
+        return Err(tool_fault_t::Read);
+    };
+    input.extend_from_slice(&buffer[..count])?;
+    Ok(count > 0)
+}
+
+/// Reads to the end.
+fn read_all<R: yaml_source_t>(alloc: Global, reader: &mut R) -> Result<Vec<u8>, tool_fault_t>
+    requires { R.failed reader.old ≡ false }
+    ensures bytes { IfOk result (λ input. Consumes (R.remaining reader.old) (R.remaining reader.new) input.items) }
+    ensures end { OnOk result (IsAtEnd (R.remaining reader.new)) }
+    ensures read { is_read_fault result ≡ R.failed reader.new }
+    ensures faults { IfErr result (λ fault. (fault ≡ tool_fault_t.Read) ⊎ (fault ≡ tool_fault_t.Memory)) }
+{
+    let mut input = Vec::new(alloc);
+    while read_chunk(reader, &mut input)? {}
+    Ok(input)
+}
+
+/// The line of what the input decodes to, and whether it is that of a fault.
+fn list_decoded(
+    alloc: Global,
+    input: &[u8],
+    setting: yaml_encoding_t,
+) -> Result<(Vec<u8>, bool), AllocError>
+    ensures { IfOk result (λ answer. ListsDecode setting input.now answer.0.items answer.1) }
+{
+    let mut lines = Vec::new(alloc);
+    match yaml_decode(alloc, input, setting) {
+        Ok(text) => {
+            list_text(alloc, &text, &mut lines)?;
+            Ok((lines, false))
+        }
+        Err(fault) => {
+            list_fault(alloc, &fault, &mut lines)?;
+            Ok((lines, true))
+        }
+    }
+}
+
+/// The listing of what the command answers to the input, and whether a fault's line is in it.
+fn list_answer(
+    alloc: Global,
+    input: &[u8],
+    command: &yaml_command_t,
+) -> Result<(Vec<u8>, bool), AllocError>
+    ensures { IfOk result (λ answer. Lists command.now input.now answer.0.items answer.1) }
+{
+    match command {
+        yaml_command_t::Decode(setting) => list_decoded(alloc, input, *setting),
+    }
+}
+
+/// Writes all the bytes, in as many calls as it takes. After an `Err` a part of them, which is not
+/// all, was written.
+fn write_all<W: yaml_sink_t>(writer: &mut W, bytes: &[u8]) -> Result<(), tool_fault_t>
+    requires { W.failed writer.old ≡ false }
+    ensures all { OnOk result (Appends (W.contents writer.old) (W.contents writer.new) bytes.now) }
+    ensures part { OnErr result ((count : ℕ) × (count < length bytes.now) × Appends (W.contents writer.old) (W.contents writer.new) (take count bytes.now)) }
+    ensures fault { IfErr result (λ fault. fault ≡ tool_fault_t.Write) }
+    ensures write { is_write_fault result ≡ W.failed writer.new }
+{
+    let mut at = 0;
+    while at < bytes.len() {
+        let Ok(count) = writer.put(&bytes[at..]) else {
+            return Err(tool_fault_t::Write);
+        };
+        at += count;
+    }
+    Ok(())
+}
+
+/// Does what the command asks for: reads all there is, and writes the listing of the answer to it.
+///
+/// Answers whether the line of a fault was written. `Read` comes where the reader failed and `Memory`
+/// where there was none for the input or for the listing; then nothing was written. `Write` comes
+/// where the writer failed; then a beginning of the listing was written. Nothing is tried again.
+pub fn run<R: yaml_source_t, W: yaml_sink_t>(
+    alloc: Global,
+    command: &yaml_command_t,
+    reader: &mut R,
+    writer: &mut W,
+) -> Result<bool, tool_fault_t>
+    requires reader { R.failed reader.old ≡ false }
+    requires writer { W.failed writer.old ≡ false }
+    ensures done { IfOk result (λ has_fault. Writes command.now (R.remaining reader.old) (R.remaining reader.new) (W.contents writer.old) (W.contents writer.new) has_fault) }
+    ensures cut { IsErrOf result tool_fault_t.Write → WritesBeginning command.now (R.remaining reader.old) (R.remaining reader.new) (W.contents writer.old) (W.contents writer.new) }
+    ensures untouched { IfErr result (λ fault. fault ≢ tool_fault_t.Write → writer.new ≡ writer.old) }
+    ensures read { is_read_fault result ≡ R.failed reader.new }
+    ensures write { is_write_fault result ≡ W.failed writer.new }
+    ensures args { IsErrOf result tool_fault_t.Args ↔ IsWrong command.now }
+{
+    let input = read_all(alloc, reader)?;
+    let (lines, has_fault) = list_answer(alloc, &input, command)?;
+    write_all(writer, &lines)?;
+    Ok(has_fault)
+}

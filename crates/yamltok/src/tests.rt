@@ -1,0 +1,371 @@
+//! The program over devices in memory.
+ghost use Rattle.std.specs.Prelude.{◌≡◌, false};
+ghost use Rattle.yamltok.specs.Devices.{source_failed, sink_failed};
+
+use crate::args::parse_args;
+use crate::devices::{yaml_sink_of_t, yaml_source_of_t};
+use crate::listing::list_fault;
+use crate::outcome::{tool_fault_t, yaml_status};
+use crate::run::run;
+use std::alloc::Global;
+use std::io;
+use std::io::{Read, Write};
+use std::process::Abort;
+use std::test::Fail;
+use yaml_text::{make_memory_fault, make_scanner_fault, yaml_mark_t};
+
+/// Gives one byte a call, and fails behind so many calls.
+#[derive(Drop)]
+struct slow_reader_t<'a> {
+    bytes: &'a [u8],
+    calls: usize,
+}
+
+impl Read for slow_reader_t<'_> {
+    fn read(&mut self, buf: &mut [u8]) -> io::Result<usize> {
+        if self.calls == 0 {
+            return Err(io::Error::from(io::ErrorKind::Other));
+        }
+        self.calls -= 1;
+        let bytes = self.bytes;
+        match (bytes.first(), buf.first_mut()) {
+            (Some(byte), Some(slot)) => {
+                *slot = *byte;
+                self.bytes = &bytes[1..];
+                Ok(1)
+            }
+            _ => Ok(0),
+        }
+    }
+}
+
+/// Takes one byte a call, and behind so many calls fails or takes none.
+#[derive(Drop)]
+struct slow_writer_t {
+    taken: Vec<u8>,
+    calls: usize,
+    fails: bool,
+}
+
+impl Write for slow_writer_t {
+    fn write(&mut self, buf: &[u8]) -> io::Result<usize> {
+        if self.calls > 0 && !buf.is_empty() {
+            self.calls -= 1;
+            self.taken.push(buf[0])?;
+            return Ok(1);
+        }
+        if self.fails {
+            return Err(io::Error::from(io::ErrorKind::Other));
+        }
+        Ok(0)
+    }
+
+    fn flush(&mut self) -> io::Result<()> {
+        Ok(())
+    }
+}
+
+fn words_of(alloc: Global, command: &str) -> Result<Vec<String>, Fail> {
+    let mut words = Vec::new(alloc);
+    for word in command.split(' ') {
+        words.push(String::from_str(alloc, word)?)?;
+    }
+    Ok(words)
+}
+
+/// The outcome of a command, and what was written.
+fn outcome_of<R: Read + Drop, W: Write + Drop>(
+    alloc: Global,
+    command: &str,
+    reader: R,
+    writer: W,
+) -> Result<(Result<bool, tool_fault_t>, W), Fail> {
+    let words = words_of(alloc, command)?;
+    let mut source = yaml_source_of_t::new(reader);
+    let mut sink = yaml_sink_of_t::new(writer);
+    let outcome = match parse_args(&words) {
+        Some(command) => run(alloc, &command, &mut source, &mut sink),
+        None => Err(tool_fault_t::Args),
+    };
+    Ok((outcome, sink.inner))
+}
+
+/// Asserts the status of a command on an input, and what it writes.
+fn expect(
+    rt: &(impl Abort + AllocGlobal),
+    command: &str,
+    input: &[u8],
+    status: u8,
+    lines: &str,
+) -> Result<(), Fail> {
+    let alloc = rt.alloc();
+    let (outcome, written) = outcome_of(alloc, command, input, Vec::new(alloc))?;
+    assert_eq!(rt; yaml_status(&outcome), status, "{command}: {lines}");
+    assert_eq!(rt; written.as_slice(), lines.as_bytes(), "{command}: {lines}");
+    Ok(())
+}
+
+#[test]
+fn decodes(rt: HostRuntime) -> Result<(), Fail> {
+    let rows: [(&str, &[u8], &str); 14] = [
+        ("decode any", b"a: 1", "TEXT UTF8 4 4:0:4\n"),
+        ("decode any", b"", "TEXT UTF8 0 0:0:0\n"),
+        ("decode any", b"a\r\nb", "TEXT UTF8 4 4:1:1\n"),
+        ("decode any", b"\xE2\x80\xA8", "TEXT UTF8 3 3:1:0\n"),
+        ("decode any", b"\xEF\xBB\xBFa", "TEXT UTF8 1 1:0:1\n"),
+        ("decode utf8", b"\xEF\xBB\xBFa", "TEXT UTF8 4 4:0:2\n"),
+        ("decode any", b"\xFE\xFF\x26\x3A", "TEXT UTF16BE 3 3:0:1\n"),
+        (
+            "decode utf16be",
+            b"\xFE\xFF\x26\x3A",
+            "TEXT UTF16BE 6 6:0:2\n",
+        ),
+        ("decode any", b"\xFE\xFF", "TEXT UTF16BE 0 0:0:0\n"),
+        (
+            "decode utf16be",
+            b"\xD8\x00\xDC\x00",
+            "TEXT UTF16BE 4 4:0:1\n",
+        ),
+        ("decode any", b"\xFF\xFE\x61\x00", "TEXT UTF16LE 1 1:0:1\n"),
+        (
+            "decode utf16le",
+            b"\xFF\xFE\x61\x00",
+            "TEXT UTF16LE 4 4:0:2\n",
+        ),
+        (
+            "decode any",
+            b"\xFF\xFE\x3D\xD8\x00\xDE",
+            "TEXT UTF16LE 4 4:0:1\n",
+        ),
+        ("decode utf16le", b"", "TEXT UTF16LE 0 0:0:0\n"),
+    ];
+    for (command, input, lines) in rows {
+        expect(&rt, command, input, 0, lines)?;
+    }
+    Ok(())
+}
+
+#[test]
+fn refuses(rt: HostRuntime) -> Result<(), Fail> {
+    let rows: [(&str, &[u8], &str); 19] = [
+        (
+            "decode any",
+            b"\xEF\xBB\xBF\xFF",
+            "FAULT reader 3 255 invalid leading UTF-8 octet\n",
+        ),
+        (
+            "decode any",
+            b"\xE0\x80\x80",
+            "FAULT reader 0 -1 invalid length of a UTF-8 sequence\n",
+        ),
+        (
+            "decode any",
+            b"\xF4\x90\x80\x80",
+            "FAULT reader 0 1114112 invalid Unicode character\n",
+        ),
+        (
+            "decode any",
+            b"\xC2\x80",
+            "FAULT reader 0 128 control characters are not allowed\n",
+        ),
+        (
+            "decode any",
+            b"\xEF\xBF\xBF",
+            "FAULT reader 0 65535 control characters are not allowed\n",
+        ),
+        (
+            "decode any",
+            b"a\xFF",
+            "FAULT reader 1 255 invalid leading UTF-8 octet\n",
+        ),
+        (
+            "decode any",
+            b"a:\xE2\x82",
+            "FAULT reader 2 -1 incomplete UTF-8 octet sequence\n",
+        ),
+        (
+            "decode any",
+            b"\xE2(",
+            "FAULT reader 0 -1 incomplete UTF-8 octet sequence\n",
+        ),
+        (
+            "decode any",
+            b"\xC3(",
+            "FAULT reader 1 40 invalid trailing UTF-8 octet\n",
+        ),
+        (
+            "decode any",
+            b"\xC0\x80",
+            "FAULT reader 0 -1 invalid length of a UTF-8 sequence\n",
+        ),
+        (
+            "decode any",
+            b"\xED\xA0\x80",
+            "FAULT reader 0 55296 invalid Unicode character\n",
+        ),
+        (
+            "decode any",
+            b"a\x00",
+            "FAULT reader 1 0 control characters are not allowed\n",
+        ),
+        (
+            "decode any",
+            b"\xFF\xFEa",
+            "FAULT reader 2 -1 incomplete UTF-16 character\n",
+        ),
+        (
+            "decode any",
+            b"\xFF\xFE\x00\xDC",
+            "FAULT reader 2 56320 unexpected low surrogate area\n",
+        ),
+        (
+            "decode any",
+            b"\xFF\xFE\x00\xD8",
+            "FAULT reader 2 -1 incomplete UTF-16 surrogate pair\n",
+        ),
+        (
+            "decode any",
+            b"\xFF\xFE\x00\xD8A\x00",
+            "FAULT reader 4 65 expected low surrogate area\n",
+        ),
+        (
+            "decode any",
+            b"\xFE\xFF\xFF\xFF",
+            "FAULT reader 2 65535 control characters are not allowed\n",
+        ),
+        (
+            "decode utf16be",
+            b"\xD8\x00",
+            "FAULT reader 0 -1 incomplete UTF-16 surrogate pair\n",
+        ),
+        (
+            "decode utf8",
+            b"\xFF\xFE",
+            "FAULT reader 0 255 invalid leading UTF-8 octet\n",
+        ),
+    ];
+    for (command, input, lines) in rows {
+        expect(&rt, command, input, 1, lines)?;
+    }
+    Ok(())
+}
+
+#[test]
+fn wrong_words(rt: HostRuntime) -> Result<(), Fail> {
+    let rows = [
+        "",
+        "decode",
+        "decode ",
+        "decode utf",
+        "decode utf16",
+        "decode UTF8",
+        "decode any any",
+        "Decode any",
+        "decoded any",
+        "any",
+        "any decode",
+        " decode any",
+        "decode  any",
+    ];
+    for command in rows {
+        expect(&rt, command, b"a: 1", 2, "")?;
+    }
+    assert_eq!(rt; parse_args(&[]).is_none(), true);
+    Ok(())
+}
+
+/// A read that fails before the end is met, at any call, and one byte a call.
+#[test]
+fn reads_fail(rt: HostRuntime) -> Result<(), Fail> {
+    let alloc = rt.alloc();
+    let input = b"a: 1";
+    for calls in 0..6 {
+        let reader = slow_reader_t {
+            bytes: input,
+            calls,
+        };
+        let (outcome, written) = outcome_of(alloc, "decode any", reader, Vec::new(alloc))?;
+        if calls > input.len() {
+            assert_eq!(rt; yaml_status(&outcome), 0);
+            assert_eq!(rt; written.as_slice(), b"TEXT UTF8 4 4:0:4\n".as_slice());
+        } else {
+            assert_eq!(rt; outcome, Err(tool_fault_t::Read));
+            assert_eq!(rt; yaml_status(&outcome), 3);
+            assert_eq!(rt; written.len(), 0);
+        }
+    }
+    Ok(())
+}
+
+/// A write that fails or takes nothing, at any call, and one byte a call.
+#[test]
+fn writes_fail(rt: HostRuntime) -> Result<(), Fail> {
+    let alloc = rt.alloc();
+    let line = b"TEXT UTF8 4 4:0:4\n";
+    for fails in [true, false] {
+        for calls in 0..20 {
+            let writer = slow_writer_t {
+                taken: Vec::new(alloc),
+                calls,
+                fails,
+            };
+            let (outcome, writer) = outcome_of(alloc, "decode any", b"a: 1".as_slice(), writer)?;
+            let count = calls.min(line.len());
+            assert_eq!(rt; writer.taken.as_slice(), &line[..count]);
+            if count == line.len() {
+                assert_eq!(rt; outcome, Ok(false));
+            } else {
+                assert_eq!(rt; outcome, Err(tool_fault_t::Write));
+                assert_eq!(rt; yaml_status(&outcome), 3);
+            }
+        }
+    }
+    Ok(())
+}
+
+#[test]
+fn fault_lines(rt: HostRuntime) -> Result<(), Fail> {
+    let alloc = rt.alloc();
+    let at = yaml_mark_t {
+        index: 9,
+        line: 1,
+        column: 2,
+    };
+    let from = yaml_mark_t {
+        index: 7,
+        line: 1,
+        column: 0,
+    };
+    let mut out = Vec::new(alloc);
+    out.push(b'>')?;
+    list_fault(alloc, &make_memory_fault(), &mut out)?;
+    let fault = make_scanner_fault("found no end", at, Some("while reading"), from);
+    list_fault(alloc, &fault, &mut out)?;
+    list_fault(
+        alloc,
+        &make_scanner_fault("found no end", at, None, at),
+        &mut out,
+    )?;
+    let lines = "\
+>FAULT memory
+FAULT scanner 7:1:0 9:1:2 while reading; found no end
+FAULT scanner 9:1:2 9:1:2 -; found no end
+";
+    assert_eq!(rt; out.as_slice(), lines.as_bytes());
+    Ok(())
+}
+
+#[test]
+fn words_of_faults(rt: HostRuntime) -> Result<(), Fail> {
+    let rows = [
+        (tool_fault_t::Args, "wrong arguments", 2),
+        (tool_fault_t::Read, "read failed", 3),
+        (tool_fault_t::Write, "write failed", 3),
+        (tool_fault_t::Memory, "out of memory", 3),
+    ];
+    for (fault, words, status) in rows {
+        assert_eq!(rt; fault.to_string(rt.alloc())?.as_str(), words);
+        assert_eq!(rt; yaml_status(&Err(fault)), status);
+    }
+    Ok(())
+}
