@@ -44,7 +44,7 @@ module _ (limit : ℕ) (input : Input) where
     pub next_orderly : IsOrderly (next input limit) limit input.source.size
     next_orderly H x r e s = orderly input.source k limit H x (run_of_text H r) e (next_reads H x s)
 
-    abbrev steps_of : Cut
+    abbrev pub steps_of : Cut
     steps_of = cut_from (next input limit) (input.source.size + 1) limit []
 
     pub steps_are : IsRun (next input limit) limit steps_of.read × EndsWith (next input limit) steps_of.read steps_of.fault
@@ -150,7 +150,7 @@ module _ (step : List Laid → Outcome) (limit : ℕ) where
       ap (λ (z : Laid). z ∷ A) y ∙ ap (λ (X : List Laid). j ∷ X) q
 
   -- behind the longest one no lexeme follows
-  not_longer : (Y P : List Laid) (o : Option Offence) → IsRun step limit (Y ++ P) → EndsWith step P o → 0 < length Y → ⊥
+  pub not_longer : (Y P : List Laid) (o : Option Offence) → IsRun step limit (Y ++ P) → EndsWith step P o → 0 < length Y → ⊥
   not_longer [] P o r w l = omega arith
   not_longer (y ∷ []) P None r w l = false≢true (sym r.3 ∙ w)
   not_longer (y ∷ []) P (Some o) r w l = faults_reads o y.lexeme (sym w.1 ∙ r.1)

@@ -12,7 +12,7 @@ use Rattle.yaml_scan.specs.Source.{Source, Reading, Offence}
 use Rattle.yaml_scan.specs.Step.{Outcome, place_behind, step, kind_step, read_step, after_read, unless, refuse, stale, refused, clears, start_at, lexeme_of, front_of}
 use Rattle.yaml_scan.specs.Laws.{CutIsLongest, CutIsHistory, CutIsShort}
 use Rattle.yaml_scan.specs.Step.Outcome.{Reads, Faults}
-use Rattle.yaml_scan.specs.Cut.{Cut, cut, cut_from, cut_on, IsRun, EndsWith, KeepsOrder}
+use Rattle.yaml_scan.specs.Cut.{SaysKind, Cut, cut, cut_from, cut_on, IsRun, EndsWith, KeepsOrder}
 
 -- WHAT A STEP READS
 unless_reads : (o : Option Laid) (m : yaml_mark_t) (p : ℕ) (y : Outcome) (x : Lexeme) → unless o m p y ≡ Reads x → y ≡ Reads x
@@ -61,6 +61,7 @@ module _ (S : Source) (limit : ℕ) (H : List Laid) (x : Lexeme) where
 -- THE ORDER OF STEPS
 pub record IsNext (so_far : yaml_mark_t) (place size : ℕ) (x : Lexeme) : Type 0 where
   pub follows : Follows so_far x
+  pub says : SaysKind x.kind x.token_data
   pub within : x.place ≤ size
   pub takes_a_character : is_stream_end x.kind ≡ false → place < x.place
   pub ends : is_stream_end x.kind ≡ true → x.place ≡ size
@@ -85,6 +86,7 @@ module _ (S : Source) (k : KeepsOrder S) (limit : ℕ) where
       let w : IsNext (reach H) (place_behind H) S.size (lexeme_of s.kind (S.mark (front_of S H)) s.reading) × (is_stream_end s.kind ≡ false → s.reading.reach ≡ S.mark s.reading.place) = (
         record {
           follows = record { front = rw a.mark m; start = f.start; at_once = f.at_once; end = f.end; reach = f.reach; takes_a_byte = f.takes_a_byte; takes_a_column = f.takes_a_column; ends_at_margin = f.ends_at_margin };
+          says = r.says;
           within = r.within;
           takes_a_character = λ n. let t = r.takes_a_character n in let l = g.0 in omega arith;
           ends = r.ends;
@@ -120,9 +122,9 @@ module _ (step : List Laid → Outcome) (limit size : ℕ) (k : IsOrderly step l
   unfolding laid
   laid_at H x = refl
 
-  run_within : (H : List Laid) → IsRun step limit H → place_behind H ≤ size
-  run_within [] r = omega arith
-  run_within (i ∷ H) r = (k H i.lexeme r.2 r.3 r.1).within
+  pub run_at : (H : List Laid) → IsRun step limit H → place_behind H ≤ size
+  run_at [] r = omega arith
+  run_at (i ∷ H) r = (k H i.lexeme r.2 r.3 r.1).within
 
   -- what the next step leaves to read
   less : (n : ℕ) (H : List Laid) (x : Lexeme) → IsRun step limit H → ended H ≡ false → step H ≡ Reads x → size < suc n + place_behind H → ended (laid limit H x ∷ H) ≡ false → size < n + place_behind (laid limit H x ∷ H)
@@ -144,7 +146,7 @@ module _ (step : List Laid → Outcome) (limit size : ℕ) (k : IsOrderly step l
   pub cut_is : (n : ℕ) (H : List Laid) → IsRun step limit H → (ended H ≡ false → size < n + place_behind H) → IsCut (cut_from step n limit H)
   cut_is zero H r l = elim (cases_Bool (ended H)) [
     | inl e ↦ (r, e)
-    | inr e ↦ (let a = l e in let b = run_within H r in absurd (omega arith))
+    | inr e ↦ (let a = l e in let b = run_at H r in absurd (omega arith))
   ]
   cut_is (suc n) H r l = elim (cases_Bool (ended H)) [
     | inl e ↦ rw e (r, e)
@@ -162,7 +164,7 @@ module _ (step : List Laid → Outcome) (limit size : ℕ) (k : IsOrderly step l
 
   pub run_short : (H : List Laid) → IsRun step limit H → length H ≤ size + 1
   run_short [] r = omega arith
-  run_short (i ∷ H) r = let a = run_length H r.2 r.3 in let b = run_within H r.2 in omega arith
+  run_short (i ∷ H) r = let a = run_length H r.2 r.3 in let b = run_at H r.2 in omega arith
 
 pub cut_is_longest : CutIsLongest
 unfolding cut

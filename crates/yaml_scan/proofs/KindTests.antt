@@ -1,6 +1,6 @@
 -- What the tests of kinds have to do with one another.
 use Rattle.std.proofs.Common.{◌≡◌, Bool, true, false, arith}
-use Rattle.yaml_scan.specs.Kind.{Kind, is_value, is_stream_end, is_block_entry, is_candidate_kind, is_flow_start, is_flow_end, closes_all}
+use Rattle.yaml_scan.specs.Kind.{Kind, is_key, is_value, is_stream_end, is_block_entry, is_candidate_kind, is_flow_start, is_flow_end, closes_all}
 use Rattle.yaml_scan.specs.Levels.{opens_level}
 
 pub value_not_candidate : (k : Kind) → is_value k ≡ true → is_candidate_kind k ≡ false
@@ -45,3 +45,6 @@ end_no_start k e = grind arith
 
 pub end_no_end : (k : Kind) → is_stream_end k ≡ true → is_flow_end k ≡ false
 end_no_end k e = grind arith
+
+pub key_not_end : (k : Kind) → is_key k ≡ true → is_stream_end k ≡ false
+key_not_end k e = grind arith

@@ -25,3 +25,7 @@ pub mod Pacing
 pub mod Sessions
 pub mod Courses
 pub mod Rows
+pub mod Look
+pub mod Onward
+pub mod AnswerOrder
+pub mod Local

@@ -8,14 +8,17 @@ use Rattle.yaml_text.specs.declared.types.yaml_scalar_style_t.TheVariants.{YAML_
 use Rattle.yaml_text.specs.declared.token.unnamed_yaml_token_t_data.TheVariants as token
 use Rattle.yaml_scan.specs.Kind.{Kind}
 use Rattle.yaml_lexeme.specs.declared.kind.yaml_lexeme_kind_t.TheVariants.{STREAM_END, FLOW_SEQUENCE_START, FLOW_MAPPING_START, FLOW_SEQUENCE_END, FLOW_MAPPING_END, FLOW_ENTRY, BLOCK_ENTRY, KEY, VALUE, ANCHOR, TAG, DOUBLE_QUOTED, PLAIN}
-use Rattle.yaml_scan.specs.Token.{yaml_token_t, unnamed_yaml_token_t_data, zero_mark, at_mark}
+use Rattle.yaml_scan.specs.Token.{yaml_token_t, unnamed_yaml_token_t_data, zero_mark, at_mark, empty}
 use Rattle.yaml_scan.specs.Fault.{Fault, scanner_fault}
 use Rattle.yaml_scan.specs.Source.{Source, Reading, Offence}
 use Rattle.yaml_scan.specs.Laid.{depth, allowed, candidate, completed_by}
 use Rattle.yaml_scan.specs.Levels.{is_completed, opens, still_open, open_columns, kept_columns, level, laid}
-use Rattle.yaml_scan.specs.Offline.{block_ends, inserted, group, groups, offline, is_current, waiting, up_to, before}
+use Rattle.yaml_scan.specs.Offline.{block_ends, inserted, group, groups, offline, is_current, waiting, up_to, before, queued}
 use Rattle.yaml_scan.specs.Step.{required, stale, refused, clears, read_step, step, end_of}
 use Rattle.yaml_scan.specs.Answers.{Answers, next, course, answers}
+use Rattle.yaml_scan.specs.Session.{Call, Answer, new_session, steps_for, pace, session, after_all, session_queued, session_reach}
+use Rattle.yaml_scan.specs.Session.Call.{SCAN, PEEK, SKIP}
+use Rattle.yaml_scan.specs.Session.Answer.{TOKEN, PEEKED, SKIPPED, NOTHING, FAULT}
 
 abbrev m : ℕ → ℕ → ℕ → yaml_mark_t
 m i l c = record { index = i; line = l; column = c }
@@ -689,3 +692,106 @@ limit_one_required : scan 1 10 (5 ∷ []) None
     }
 unfolding scan
 limit_one_required = refl
+
+-- SESSIONS
+called : ℕ → ℕ → List ℕ → List Entry → List Call → List Answer
+unfolding session pace steps_for answers course next step read_step required stale refused clears before up_to waiting is_current offline groups group inserted block_ends laid level kept_columns open_columns still_open opens is_completed completed_by candidate allowed depth
+called limit size starts es calls = session YAML_UTF8_ENCODING limit (course limit (record { encoding = YAML_UTF8_ENCODING; source = source size starts es; refusal = None })) calls new_session
+
+-- how many steps are queued, and how far the last one was read
+seen : ℕ → ℕ → List ℕ → List Entry → List Call → ℕ × yaml_mark_t
+unfolding after_all queued pace steps_for course next step read_step required stale refused clears before up_to waiting is_current offline groups group inserted block_ends laid level kept_columns open_columns still_open opens is_completed completed_by candidate allowed depth
+seen limit size starts es calls =
+    let c = course limit (record { encoding = YAML_UTF8_ENCODING; source = source size starts es; refusal = None }) in
+    let s = after_all limit c calls new_session in
+    (session_queued c s, session_reach c s)
+
+-- `a: b: c`, and behind the fault a peek, a skip and a scan
+a_fault_is_answered_once : called 1024 7 []
+    (Lexed 0 0 PLAIN (token.SCALAR (97 ∷ []) YAML_PLAIN_SCALAR_STYLE) 1 1 false
+    ∷ Lexed 1 1 VALUE token.VALUE 2 2 false
+    ∷ Lexed 2 3 PLAIN (token.SCALAR (98 ∷ []) YAML_PLAIN_SCALAR_STYLE) 4 4 false
+    ∷ Lexed 4 4 VALUE token.VALUE 5 5 false ∷ [])
+    (SCAN ∷ SCAN ∷ SCAN ∷ SCAN ∷ SCAN ∷ SCAN ∷ PEEK ∷ PEEK ∷ SKIP ∷ SCAN ∷ [])
+    ≡ TOKEN (at_mark (token.STREAM_START YAML_UTF8_ENCODING) (m 0 0 0))
+    ∷ TOKEN (at_mark token.BLOCK_MAPPING_START (m 0 0 0))
+    ∷ TOKEN (at_mark token.KEY (m 0 0 0))
+    ∷ TOKEN (tok (token.SCALAR (97 ∷ []) YAML_PLAIN_SCALAR_STYLE) (m 0 0 0) (m 1 0 1))
+    ∷ TOKEN (tok token.VALUE (m 1 0 1) (m 2 0 2))
+    ∷ TOKEN (tok (token.SCALAR (98 ∷ []) YAML_PLAIN_SCALAR_STYLE) (m 3 0 3) (m 4 0 4))
+    ∷ FAULT (scanner_fault (codes "mapping values are not allowed in this context") (m 4 0 4) None (m 4 0 4))
+    ∷ PEEKED empty
+    ∷ NOTHING
+    ∷ TOKEN empty ∷ []
+unfolding called
+a_fault_is_answered_once = refl
+
+-- `[a]`, with peeks and skips
+peeks_and_skips : called 1024 3 []
+    (Lexed 0 0 FLOW_SEQUENCE_START token.FLOW_SEQUENCE_START 1 1 false
+    ∷ Lexed 1 1 PLAIN (token.SCALAR (97 ∷ []) YAML_PLAIN_SCALAR_STYLE) 2 2 false
+    ∷ Lexed 2 2 FLOW_SEQUENCE_END token.FLOW_SEQUENCE_END 3 3 false
+    ∷ Ends 3 3 ∷ [])
+    (PEEK ∷ PEEK ∷ SKIP ∷ SCAN ∷ SKIP ∷ PEEK ∷ SCAN ∷ SCAN ∷ SCAN ∷ SCAN ∷ [])
+    ≡ PEEKED (at_mark (token.STREAM_START YAML_UTF8_ENCODING) (m 0 0 0))
+    ∷ PEEKED (at_mark (token.STREAM_START YAML_UTF8_ENCODING) (m 0 0 0))
+    ∷ SKIPPED
+    ∷ TOKEN (tok token.FLOW_SEQUENCE_START (m 0 0 0) (m 1 0 1))
+    ∷ NOTHING
+    ∷ PEEKED (tok (token.SCALAR (97 ∷ []) YAML_PLAIN_SCALAR_STYLE) (m 1 0 1) (m 2 0 2))
+    ∷ TOKEN (tok (token.SCALAR (97 ∷ []) YAML_PLAIN_SCALAR_STYLE) (m 1 0 1) (m 2 0 2))
+    ∷ TOKEN (tok token.FLOW_SEQUENCE_END (m 2 0 2) (m 3 0 3))
+    ∷ TOKEN (at_mark token.STREAM_END (m 3 1 0))
+    ∷ TOKEN empty ∷ []
+unfolding called
+peeks_and_skips = refl
+
+-- `&a b: c` after a scan
+one_step_made : seen 1024 7 []
+    (Lexed 0 0 ANCHOR (token.ANCHOR (97 ∷ [])) 2 2 false
+    ∷ Lexed 2 3 PLAIN (token.SCALAR (98 ∷ []) YAML_PLAIN_SCALAR_STYLE) 4 4 false
+    ∷ Lexed 4 4 VALUE token.VALUE 5 5 false
+    ∷ Lexed 5 6 PLAIN (token.SCALAR (99 ∷ []) YAML_PLAIN_SCALAR_STYLE) 7 7 false
+    ∷ Ends 7 7 ∷ [])
+    (SCAN ∷ [])
+    ≡ (0, m 0 0 0)
+unfolding seen
+one_step_made = refl
+
+-- and a peek
+steps_up_to_the_colon : seen 1024 7 []
+    (Lexed 0 0 ANCHOR (token.ANCHOR (97 ∷ [])) 2 2 false
+    ∷ Lexed 2 3 PLAIN (token.SCALAR (98 ∷ []) YAML_PLAIN_SCALAR_STYLE) 4 4 false
+    ∷ Lexed 4 4 VALUE token.VALUE 5 5 false
+    ∷ Lexed 5 6 PLAIN (token.SCALAR (99 ∷ []) YAML_PLAIN_SCALAR_STYLE) 7 7 false
+    ∷ Ends 7 7 ∷ [])
+    (SCAN ∷ PEEK ∷ [])
+    ≡ (3, m 5 0 5)
+unfolding seen
+steps_up_to_the_colon = refl
+
+-- and three scans
+steps_taken : seen 1024 7 []
+    (Lexed 0 0 ANCHOR (token.ANCHOR (97 ∷ [])) 2 2 false
+    ∷ Lexed 2 3 PLAIN (token.SCALAR (98 ∷ []) YAML_PLAIN_SCALAR_STYLE) 4 4 false
+    ∷ Lexed 4 4 VALUE token.VALUE 5 5 false
+    ∷ Lexed 5 6 PLAIN (token.SCALAR (99 ∷ []) YAML_PLAIN_SCALAR_STYLE) 7 7 false
+    ∷ Ends 7 7 ∷ [])
+    (SCAN ∷ PEEK ∷ SCAN ∷ SCAN ∷ SCAN ∷ [])
+    ≡ (2, m 5 0 5)
+unfolding seen
+steps_taken = refl
+
+-- six times `[` with a key limit of 4, after a scan and a peek
+one_more_than_the_limit : seen 4 6 []
+    (Lexed 0 0 FLOW_SEQUENCE_START token.FLOW_SEQUENCE_START 1 1 false
+    ∷ Lexed 1 1 FLOW_SEQUENCE_START token.FLOW_SEQUENCE_START 2 2 false
+    ∷ Lexed 2 2 FLOW_SEQUENCE_START token.FLOW_SEQUENCE_START 3 3 false
+    ∷ Lexed 3 3 FLOW_SEQUENCE_START token.FLOW_SEQUENCE_START 4 4 false
+    ∷ Lexed 4 4 FLOW_SEQUENCE_START token.FLOW_SEQUENCE_START 5 5 false
+    ∷ Lexed 5 5 FLOW_SEQUENCE_START token.FLOW_SEQUENCE_START 6 6 false
+    ∷ Ends 6 6 ∷ [])
+    (SCAN ∷ PEEK ∷ [])
+    ≡ (5, m 5 0 5)
+unfolding seen
+one_more_than_the_limit = refl

@@ -1,7 +1,7 @@
 -- The longest list of steps.
-use Rattle.std.specs.Prelude.{◌≡◌, ℕ, zero, suc, ◌+◌, ◌-◌, ◌≤◌, ◌<◌, Bool, true, false, List, [], ◌∷◌, length, drop, Option, Some, None, Ok, nat_lt, if◌then◌else◌}
-use Rattle.yaml_scan.specs.Kind.{Kind, is_stream_end}
-use Rattle.yaml_scan.specs.Token.{zero_mark}
+use Rattle.std.specs.Prelude.{◌≡◌, ℕ, zero, suc, ◌+◌, ◌-◌, ◌≤◌, ◌<◌, Bool, true, false, List, [], ◌∷◌, length, drop, Option, Some, None, Ok, Err, nat_lt, if◌then◌else◌}
+use Rattle.yaml_scan.specs.Kind.{Kind, is_stream_end, is_key, is_value}
+use Rattle.yaml_scan.specs.Token.{unnamed_yaml_token_t_data, type_of, is_end_type, is_start_type, is_key_type, is_value_type, is_last_type, zero_mark}
 use Rattle.yaml_scan.specs.Laid.{Laid}
 use Rattle.yaml_scan.specs.Levels.{laid}
 use Rattle.yaml_scan.specs.Order.{IsNotBefore, Follows, ended}
@@ -41,9 +41,18 @@ EndsWith step H (Some o) = (ended H ≡ false) × (step H ≡ Faults o)
 abbrev pub oldest : ℕ → List Laid → List Laid
 oldest n H = drop (length H - n) H
 
+-- the token of a lexeme is a KEY, a VALUE or the end of the stream where the lexeme is one, and none that the layout puts in
+pub record SaysKind (k : Kind) (says : unnamed_yaml_token_t_data) : Type 0 where
+  pub key : is_key_type (type_of says) ≡ is_key k
+  pub value : is_value_type (type_of says) ≡ is_value k
+  pub last : is_last_type (type_of says) ≡ is_stream_end k
+  pub no_start : is_start_type (type_of says) ≡ false
+  pub no_end : is_end_type (type_of says) ≡ false
+
 -- what is read at place p follows what was read up to there, and stands in the text
 pub record IsReadInOrder (S : Source) (k : Kind) (p : ℕ) (r : Reading) : Type 0 where
   pub follows : Follows (S.mark p) (lexeme_of k (S.mark p) r)
+  pub says : SaysKind k r.token_data
   pub within : r.place ≤ S.size
   pub takes_a_character : is_stream_end k ≡ false → p < r.place
   pub reach : is_stream_end k ≡ false → r.reach ≡ S.mark r.place
@@ -55,3 +64,4 @@ pub record KeepsOrder (S : Source) : Type 0 where
   pub gap_within : (flow allowed : Bool) (p : ℕ) → p ≤ S.size → (p ≤ S.gap flow allowed p) × (S.gap flow allowed p ≤ S.size)
   pub gap_marks : (flow allowed : Bool) (p : ℕ) → p ≤ S.size → IsNotBefore (S.mark p) (S.mark (S.gap flow allowed p))
   pub reads : (k : Kind) (d : ℕ) (l : Option ℕ) (p : ℕ) (r : Reading) → p ≤ S.size → S.kind (nat_lt 0 d) p ≡ Some k → S.read k d l p ≡ Ok r → IsReadInOrder S k p r
+  pub offends : (k : Kind) (d : ℕ) (l : Option ℕ) (p : ℕ) (o : Offence) → p ≤ S.size → S.kind (nat_lt 0 d) p ≡ Some k → S.read k d l p ≡ Err o → (p ≤ o.place) × (o.place ≤ S.size)

@@ -23,3 +23,5 @@ pub mod Numbered
 pub mod Near
 pub mod Moves
 pub mod Scanning
+pub mod AnswerLaws
+pub mod Locality

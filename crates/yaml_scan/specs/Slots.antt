@@ -1,12 +1,12 @@
 -- The key slots of a running scanner, in the words of the definitions.
-use Rattle.std.specs.Prelude.{ℕ, zero, suc, ◌+◌, Bool, false, not, ◌&&◌, List, [], ◌∷◌, ◌++◌, length, nat_eq, nat_le, Option, Some, None, option_map, if◌then◌else◌}
+use Rattle.std.specs.Prelude.{ℕ, zero, suc, ◌+◌, ◌-◌, take, slice_get, Bool, false, not, ◌&&◌, List, [], ◌∷◌, ◌++◌, length, nat_eq, nat_le, Option, Some, None, option_map, if◌then◌else◌}
 use Rattle.yaml_text.specs.declared.types.yaml_mark_t.{yaml_mark_t}
-use Rattle.yaml_scan.specs.Kind.{Kind, is_candidate_kind}
--- what is kept of a candidate: the number of its token, its start, and whether it is required
-pub use Rattle.yaml_scan.specs.declared.keys.held_t.{held_t as Held}
-use Rattle.yaml_scan.specs.Laid.{Laid, candidate, reach, only_live}
+use Rattle.yaml_scan.specs.Kind.{Kind, is_flow_start, is_flow_end, is_value, is_candidate_kind}
+use Rattle.yaml_scan.specs.Laid.{Laid, names, candidate, reach, only_live}
 use Rattle.yaml_scan.specs.Levels.{is_required}
 use Rattle.yaml_scan.specs.Offline.{up_to}
+-- what is kept of a candidate: the number of its token, its start, and whether it is required
+pub use Rattle.yaml_scan.specs.declared.keys.held_t.{held_t as Held}
 
 abbrev pub held_of : List Laid → Laid → Held
 held_of H c = record { at = length (up_to H (Some c)); start = c.lexeme.start; required = is_required c }
@@ -51,3 +51,24 @@ root_of (h ∷ hs) top = h
 abbrev pub waits : ℕ → Option Held → Bool
 waits t None = false
 waits t (Some h) = nat_eq h.at t
+
+-- the candidate that a lexeme of kind k completes at m, of that of its depth
+abbrev pub completed_held : Kind → ℕ → yaml_mark_t → Option Held → Option Held
+completed_held k limit m top = if is_value k then still_held limit m top else None
+
+-- a column at depth 0 (margin) is the level
+abbrev pub is_margin_level : Bool → Option ℕ → ℕ → Bool
+is_margin_level margin l c = margin && names c l
+
+-- THE NEXT DEPTH
+-- the outer slots behind a lexeme of kind k
+abbrev pub nested_outer : Kind → List (Option Held) → Option Held → List (Option Held)
+nested_outer k outer top = if is_flow_start k then outer ++ top ∷ [] else (if is_flow_end k then take (length outer - 1) outer else outer)
+
+abbrev pub or_top : Option Held → Option (Option Held) → Option Held
+or_top top None = top
+or_top top (Some h) = h
+
+-- and the slot of the new depth
+abbrev pub nested_top : Kind → List (Option Held) → Option Held → Option Held
+nested_top k outer top = if is_flow_start k then None else (if is_flow_end k then or_top top (slice_get outer (length outer - 1)) else top)

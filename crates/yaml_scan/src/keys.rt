@@ -2,7 +2,7 @@
 ghost use Rattle.std.specs.Prelude.{◌≡◌, ◌+◌, ◌-◌, ◌&&◌, not, List, Option, None, map, IfOk, OnOk, if◌then◌else◌};
 ghost use Rattle.std.specs.List.{list_any};
 ghost use Rattle.yaml_scan.specs.Slots.{is_live, still_held, lost_held, needed, slot_behind, root_of, waits};
-ghost use Rattle.yaml_scan.specs.Moves.{completed_held, nested_outer, nested_top};
+ghost use Rattle.yaml_scan.specs.Slots.{completed_held, nested_outer, nested_top};
 
 use crate::kind::{is_candidate, is_colon, is_flow_end, is_flow_start};
 use std::alloc::AllocError;

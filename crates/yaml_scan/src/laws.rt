@@ -2,6 +2,8 @@
 ghost use Rattle.yaml_scan.specs.Laws.{DepthGoesOn, CandidatesGoOn, CandidatesAreNested, AllowedGoesOn, ColumnsGoOn, ColumnsFall, LevelIsFirst, LevelStays, OfflineGoesOn, CandidateStandsThere, NeverRevised, FewWait, FewWaitOneStepOn, AllIsHandedOut, LexemesComeInOrder, EndsNeverOutnumber, AsManyEnds, CutIsLongest, CutIsHistory, CutIsShort};
 ghost use Rattle.yaml_scan.specs.TokenLaws.{TokensStandInOrder, KeysAreFollowed, FourTokensAStep};
 ghost use Rattle.yaml_scan.specs.SessionLaws.{CourseIsHistory, EndsOrFaults, RefusedHasFault, AcceptedIsCut, FrontIsCut, TakenAreBeginning, PeeksChangeNothing, NoneIsStuck, PaceSettles, PaceIsLeast, FewStepsQueued};
+ghost use Rattle.yaml_scan.specs.AnswerLaws.{AnswersStandInOrder, AnswersEndFewer, AnswersEndAll, AnswersFollowKeys};
+ghost use Rattle.yaml_scan.specs.Locality.{StepIsLocal, TokensBeforeRefusal, FaultBeforeRefusal};
 
 /// What one lexeme more makes of the depth, the candidates, the open columns and the level: a machine that keeps a slot
 /// for each depth and a stack of columns keeps them.
@@ -55,16 +57,20 @@ pub fn lexemes_come_in_order()
 pub fn block_ends_are_matched()
     ensures beginnings { EndsNeverOutnumber }
     ensures whole { AsManyEnds }
+    ensures answered { AnswersEndFewer }
+    ensures answered_whole { AnswersEndAll }
 {}
 
 /// Tokens stand in order: none starts behind its end, or ends behind the start of the next.
 pub fn tokens_stand_in_order()
-    ensures { TokensStandInOrder }
+    ensures list { TokensStandInOrder }
+    ensures answered { AnswersStandInOrder }
 {}
 
 /// Behind every key that the layout puts in stands its `:`, on its line and within the key limit.
 pub fn keys_are_followed()
-    ensures { KeysAreFollowed }
+    ensures list { KeysAreFollowed }
+    ensures answered { AnswersFollowKeys }
 {}
 
 /// There are at most four tokens a step.
@@ -103,4 +109,12 @@ pub fn pace_is_least()
 /// After any calls at most as many steps are queued as the key limit has bytes, and one.
 pub fn few_steps_are_queued()
     ensures { FewStepsQueued }
+{}
+
+/// A step depends on no character eight or more past its reach, or past its problem. So what is handed out of a refused
+/// input before the reader's fault, and a fault in its place, are those of every accepted input that agrees with it.
+pub fn step_is_local()
+    ensures step { StepIsLocal }
+    ensures tokens { TokensBeforeRefusal }
+    ensures fault { FaultBeforeRefusal }
 {}

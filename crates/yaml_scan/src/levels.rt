@@ -6,7 +6,7 @@ ghost use Rattle.yaml_scan.specs.Offline.{end_at};
 ghost use Rattle.yaml_scan.specs.Offline.Token.{BlockEnd, OfLexeme};
 ghost use Rattle.yaml_scan.specs.Queue.{put_in, is_new, key_at, opened, put_starts, Fitting};
 ghost use Rattle.yaml_scan.specs.Numbered.{Appends, Changes, IsTokenOf, closing};
-ghost use Rattle.yaml_scan.specs.Moves.{is_margin_level};
+ghost use Rattle.yaml_scan.specs.Slots.{is_margin_level};
 
 use crate::keys::held_t;
 use crate::kind::{is_last, is_opener, stays_open};

@@ -1,5 +1,6 @@
 use Rattle.yaml_scan.proofs.KeyValues as laws
+use Rattle.yaml_scan.proofs.AnswerOrder as answers
 use Rattle.yaml_scan.proofs.laws.keys_are_followed.Goals as goal
 
 pub returns : goal.returns
-returns c = laws.keys_are_followed
+returns c = record { list = laws.keys_are_followed; answered = answers.answers_follow_keys }

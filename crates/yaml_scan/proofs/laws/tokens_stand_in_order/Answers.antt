@@ -1,5 +1,6 @@
 use Rattle.yaml_scan.proofs.TokenOrder as laws
+use Rattle.yaml_scan.proofs.AnswerOrder as answers
 use Rattle.yaml_scan.proofs.laws.tokens_stand_in_order.Goals as goal
 
 pub returns : goal.returns
-returns c = laws.tokens_stand_in_order
+returns c = record { list = laws.tokens_stand_in_order; answered = answers.answers_stand_in_order }

@@ -1,0 +1,291 @@
+-- What a scanner holds behind one lexeme more.
+use Rattle.std.proofs.Common.{◌≡◌, ℕ, zero, suc, ◌+◌, ◌-◌, ◌≤◌, not, ◌&&◌, Bool, true, false, List, [], ◌∷◌, ◌++◌, map, filter, drop, take, slice_get, length, Option, Some, None, refl, ap, sym, ◌∙◌, subst, arith, inl, inr, eqb, append_assoc, append-nil, ne_eqb, lt-ltb, eq-eqb}
+use Rattle.std.specs.Prelude.{if◌then◌else◌, option_map, nat_eq, nat_lt}
+use Rattle.std.proofs.lemmas.Bool.{cases_Bool, cases_eq}
+use Rattle.std.proofs.lemmas.List.{take_at, map-append}
+use Rattle.yaml_scan.specs.Kind.{Kind, is_candidate_kind, is_flow_start, is_flow_end}
+use Rattle.yaml_text.specs.declared.types.yaml_mark_t.{yaml_mark_t}
+use Rattle.yaml_scan.specs.Slots.{Held, held, held_of, still_held, outer_to, slot_behind, nested_outer, nested_top, or_top, is_margin_level}
+use Rattle.yaml_scan.specs.Lexeme.{Lexeme}
+use Rattle.yaml_scan.specs.Offline.{Token, end_at, start_token, block_ends, group, inserted, offline, before, up_to, groups}
+use Rattle.yaml_scan.specs.Offline.Token.{BlockEnd, OfLexeme}
+use Rattle.yaml_scan.specs.Laid.{Laid, depth, live, reach, completed_by, is_none, allowed, allowed_behind, allows, column, is_candidate, enters}
+use Rattle.yaml_scan.specs.Levels.{laid, is_required, stays, open_columns, kept_columns, level, greatest_level, is_above, opens_level}
+use Rattle.yaml_scan.specs.Order.{IsHistory}
+use Rattle.yaml_scan.specs.Queue.{put_in, is_new, key_at, opened, put_starts, Fitting}
+use Rattle.yaml_scan.proofs.Histories.{to_start, laid_completed, completion_is, IsCompletion, live_earlier}
+use Rattle.yaml_scan.proofs.KindTests.{flow_kinds}
+use Rattle.yaml_scan.proofs.Candidates.{candidate_split}
+use Rattle.yaml_scan.proofs.HeldMore.{held-entered, held-cleared, held-other, held-kept, held-saved}
+use Rattle.yaml_scan.specs.Begins.{Begins}
+use Rattle.yaml_scan.proofs.Stable.{groups-ends, up_to-split, start_in}
+use Rattle.yaml_scan.proofs.Bound.{length-begins}
+use Rattle.yaml_scan.proofs.Extend.{before-before, before-offline}
+use Rattle.yaml_scan.proofs.Columns.{opens_itself, open_columns-none, open_columns-some, opens_self, completed_self, completes_not_opener}
+use Rattle.yaml_scan.proofs.Insertion.{and_false}
+use Rattle.yaml_scan.proofs.Falling.{kept_columns-whole, level-candidate'}
+use Rattle.yaml_scan.proofs.Queued.{queue-more_none, queue-more_some, not_settled}
+use Rattle.yaml_scan.proofs.DepthMore.{depth-start, depth-end, depth-same}
+use Rattle.yaml_scan.proofs.Look.{outer_length}
+
+and_assoc : (a b c : Bool) → (a && (b && c)) ≡ ((a && b) && c)
+and_assoc true b c = refl
+and_assoc false b c = refl
+
+filter_nothing : (k : Kind) (m : yaml_mark_t) (cs : List ℕ) → filter (λ c. not (stays true k m c)) cs ≡ []
+filter_nothing k m [] = refl
+filter_nothing k m (c ∷ cs) = filter_nothing k m cs
+
+none_number : (o : Option Laid) → is_none (option_map (λ (i : Laid). i.number) o) ≡ is_none o
+none_number None = refl
+none_number (Some c) = refl
+
+none_held : (H : List Laid) (o : Option Laid) → is_none (option_map (held_of H) o) ≡ is_none o
+none_held H None = refl
+none_held H (Some c) = refl
+
+module _ (limit : ℕ) (H : List Laid) (x : Lexeme) (h : IsHistory limit (laid limit H x ∷ H)) where
+  lexeme_is : (laid limit H x).lexeme ≡ x
+  unfolding laid
+  lexeme_is = refl
+
+  pub depth_is : (laid limit H x).depth ≡ depth H
+  unfolding laid
+  depth_is = refl
+
+  pub kept_levels : filter (stays (nat_lt 0 (depth H)) x.kind x.start) (open_columns H) ≡ kept_columns H x.kind x.start
+  unfolding kept_columns
+  kept_levels = refl
+
+  pub ends_are : map (λ c. BlockEnd (end_at x.kind x.front x.start c)) (filter (λ c. not (stays (nat_lt 0 (depth H)) x.kind x.start c)) (open_columns H)) ≡ block_ends (laid limit H x)
+  unfolding laid block_ends
+  ends_are = refl
+
+  completed_none : completed_by limit H x.kind x.start ≡ None → (laid limit H x).completed ≡ None
+  completed_none e = laid_completed limit H x ∙ ap (option_map (λ (c : Laid). c.number)) e
+
+  itself_is : (laid limit H x).completed ≡ None → opens_itself (laid limit H x) ≡ (is_new (nat_eq (depth H) 0) x.start.column (kept_columns H x.kind x.start) && opens_level x.kind true)
+  unfolding laid level
+  itself_is e = ap (λ (o : Option ℕ). nat_eq (depth H) 0 && (is_above x.start.column (greatest_level (kept_columns H x.kind x.start)) && opens_level x.kind (is_none o))) e ∙ and_assoc (eqb (depth H) 0) (is_above x.start.column (greatest_level (kept_columns H x.kind x.start))) (opens_level x.kind true)
+
+  levels_none : completed_by limit H x.kind x.start ≡ None → (if is_new (nat_eq (depth H) 0) x.start.column (kept_columns H x.kind x.start) && opens_level x.kind true then x.start.column ∷ [] else []) ++ kept_columns H x.kind x.start ≡ open_columns (laid limit H x ∷ H)
+  levels_none e = let n = completed_none e in
+      sym (open_columns-none limit (laid limit H x) H h n ∙ (rw (itself_is n, lexeme_is) refl))
+
+  module _ (c : Laid) (s : completed_by limit H x.kind x.start ≡ Some c) where
+    is_completion : IsCompletion limit H (laid limit H x).lexeme c
+    unfolding laid
+    is_completion = completion_is limit H x c s
+
+    completed : (laid limit H x).completed ≡ Some c.number
+    completed = laid_completed limit H x ∙ ap (option_map (λ (j : Laid). j.number)) s
+
+    candidate_depth : c.depth ≡ depth H
+    candidate_depth = (candidate_split H (depth H) c is_completion.candidate).saved.depth
+
+    new_same : (nat_eq c.depth 0 && is_above (column c) c.level) ≡ is_new (nat_eq (depth H) 0) (column c) (kept_columns H x.kind x.start)
+    new_same = elim (cases_eq (depth H) 0) [
+      | inl z ↦ (let l : c.level ≡ greatest_level (kept_columns H (laid limit H x).lexeme.kind (laid limit H x).lexeme.start) = level-candidate' limit (laid limit H x) H c h is_completion (candidate_depth ∙ z) in
+          let k : c.level ≡ greatest_level (kept_columns H x.kind x.start) = rw lexeme_is at l in rw (candidate_depth, k) refl)
+      | inr z ↦ (let e : nat_eq (depth H) 0 ≡ false = ne_eqb _ _ z in rw (candidate_depth, e) refl)
+    ]
+
+    levels_some : (if is_new (nat_eq (depth H) 0) (column c) (kept_columns H x.kind x.start) then column c ∷ [] else []) ++ kept_columns H x.kind x.start ≡ open_columns (laid limit H x ∷ H)
+    levels_some = sym (open_columns-some limit (laid limit H x) H c h is_completion completed ∙ (rw (new_same, lexeme_is) refl))
+
+    no_ends : block_ends (laid limit H x) ≡ []
+    no_ends = sym ends_are ∙ ap (λ (cs : List ℕ). map (λ c. BlockEnd (end_at x.kind x.front x.start c)) cs) none
+      where
+        split : (t : ℕ → Bool) (cs : List ℕ) → filter t cs ≡ cs → filter (λ d. not (t d)) cs ≡ []
+        split t [] e = refl
+        split t (d ∷ cs) e = elim (cases_Bool (t d)) [
+          | inl q ↦ (let f : d ∷ filter t cs ≡ d ∷ cs = rw q at e in rw q (split t cs (tails d _ _ f)))
+          | inr q ↦ (let f : filter t cs ≡ d ∷ cs = rw q at e in let n = ap (λ (l : List ℕ). length l) f in let m = shorter t cs in absurd (omega arith))
+        ]
+          where
+            tails : (d : ℕ) (a b : List ℕ) → d ∷ a ≡ d ∷ b → a ≡ b
+            tails d a b q = cc
+
+            shorter : (t : ℕ → Bool) (cs : List ℕ) → length (filter t cs) ≤ length cs
+            shorter t [] = omega arith
+            shorter t (d ∷ cs) = let r = shorter t cs in elim (cases_Bool (t d)) [ inl q ↦ rw q (omega arith) | inr q ↦ rw q (omega arith) ]
+
+        none : filter (λ c. not (stays (nat_lt 0 (depth H)) x.kind x.start c)) (open_columns H) ≡ []
+        none = elim (cases_eq (depth H) 0) [
+          | inl z ↦ (let w : kept_columns H (laid limit H x).lexeme.kind (laid limit H x).lexeme.start ≡ open_columns H = kept_columns-whole limit (laid limit H x) H c h is_completion (candidate_depth ∙ z) in
+              let v : kept_columns H x.kind x.start ≡ open_columns H = rw lexeme_is at w in split (stays (nat_lt 0 (depth H)) x.kind x.start) (open_columns H) (kept_levels ∙ v))
+          | inr z ↦ subst (λ (f : Bool). filter (λ c. not (stays f x.kind x.start c)) (open_columns H) ≡ []) (sym (lt-ltb 0 (depth H) (omega arith))) (filter_nothing x.kind x.start (open_columns H))
+        ]
+
+    group_some : group (laid limit H x ∷ H) (laid limit H x) ≡ OfLexeme x ∷ []
+    unfolding group inserted
+    group_some =
+        let o : opens_itself (laid limit H x) ≡ false = rw (completes_not_opener (laid limit H x) c.number is_completion.value completed) (and_false _ _) in
+        rw (no_ends, opens_self limit (laid limit H x) H h, o, completed_self limit (laid limit H x) H h, lexeme_is) refl
+
+    was_live : live limit c (reach H) ≡ true
+    was_live = let a = candidate_split H (depth H) c is_completion.candidate in live_earlier limit c (reach H) (laid limit H x).lexeme.start (start_in limit H a.newer c a.older a.is h.2) (to_start h.1) is_completion.live
+
+    module _ (t : ℕ) (T : t ≤ length (before limit H)) where
+      taken_some : t ≤ length (up_to H (Some c))
+      taken_some = let n = not_settled limit H (depth H) c h.2 is_completion.candidate was_live in omega arith
+
+      within : length (up_to H (Some c)) ≤ length (offline H)
+      unfolding offline
+      within =
+          let a = candidate_split H (depth H) c is_completion.candidate in
+          rw (up_to-split limit H a.newer c a.older a.is h.2) (length-begins _ _ (subst (λ (X : List Laid). Begins (groups H a.older ++ block_ends c) (groups H X)) (sym a.is) (groups-ends H a.newer c a.older)))
+
+      fits_some : (n : ℕ) → length (offline H) - t ≤ n → Fitting (Some (held_of H c)) t n
+      fits_some n l = let w = within in (taken_some, omega arith)
+
+      queue_some : put_in (length (up_to H (Some c)) - t) (key_at (is_new (nat_eq (depth H) 0) (column c) (kept_columns H x.kind x.start)) c.lexeme.start) (drop t (offline H) ++ block_ends (laid limit H x)) ++ OfLexeme x ∷ []
+          ≡ drop t (offline (laid limit H x ∷ H))
+      queue_some = sym (queue-more_some limit (laid limit H x) H c t h is_completion.candidate completed taken_some ∙ (rw (group_some, new_same, no_ends) (rw (append-nil (drop t (offline H))) refl)))
+
+  group_none : completed_by limit H x.kind x.start ≡ None → group (laid limit H x ∷ H) (laid limit H x)
+      ≡ block_ends (laid limit H x) ++ ((if is_new (nat_eq (depth H) 0) x.start.column (kept_columns H x.kind x.start) && opens_level x.kind true then start_token x.kind x.start ∷ [] else []) ++ OfLexeme x ∷ [])
+  unfolding group inserted laid block_ends kept_columns depth
+  group_none e = rw (opens_self limit (laid limit H x) H h, itself_is (completed_none e), completed_self limit (laid limit H x) H h, lexeme_is)
+      (ap (λ (l : List Token). block_ends (laid limit H x) ++ (l ++ OfLexeme x ∷ [])) (append-nil _))
+
+  queue_none : (t : ℕ) → t ≤ length (before limit H) → completed_by limit H x.kind x.start ≡ None
+      → ((drop t (offline H) ++ block_ends (laid limit H x)) ++ (if is_new (nat_eq (depth H) 0) x.start.column (kept_columns H x.kind x.start) && opens_level x.kind true then start_token x.kind x.start ∷ [] else [])) ++ OfLexeme x ∷ []
+      ≡ drop t (offline (laid limit H x ∷ H))
+  queue_none t l e =
+      let b = before-offline limit H h.2 in
+      let w = length-begins _ _ b in
+      let u : t ≤ length (offline H) = omega arith in
+      sym (queue-more_none limit (laid limit H x) H t h (completed_none e) u ∙ ap (λ (l : List Token). drop t (offline H) ++ l) (group_none e)
+      ∙ sym (append_assoc (drop t (offline H)) (block_ends (laid limit H x)) _) ∙ sym (append_assoc (drop t (offline H) ++ block_ends (laid limit H x)) _ (OfLexeme x ∷ [])))
+
+  -- THE LEVELS AND THE QUEUE
+  pub levels_more : opened (nat_eq (depth H) 0) (option_map (held_of H) (completed_by limit H x.kind x.start)) x.kind x.start (kept_columns H x.kind x.start) ≡ open_columns (laid limit H x ∷ H)
+  levels_more = go (completed_by limit H x.kind x.start) refl
+    where
+      go : (o : Option Laid) → completed_by limit H x.kind x.start ≡ o → opened (nat_eq (depth H) 0) (option_map (held_of H) o) x.kind x.start (kept_columns H x.kind x.start) ≡ open_columns (laid limit H x ∷ H)
+      go None e = levels_none e
+      go (Some c) e = levels_some c e
+
+  pub queue_more : (t : ℕ) → t ≤ length (before limit H)
+      → put_starts (nat_eq (depth H) 0) (option_map (held_of H) (completed_by limit H x.kind x.start)) x.kind x.start (kept_columns H x.kind x.start) t (drop t (offline H) ++ block_ends (laid limit H x)) ++ OfLexeme x ∷ []
+      ≡ drop t (offline (laid limit H x ∷ H))
+  queue_more t l = go (completed_by limit H x.kind x.start) refl
+    where
+      go : (o : Option Laid) → completed_by limit H x.kind x.start ≡ o → put_starts (nat_eq (depth H) 0) (option_map (held_of H) o) x.kind x.start (kept_columns H x.kind x.start) t (drop t (offline H) ++ block_ends (laid limit H x)) ++ OfLexeme x ∷ [] ≡ drop t (offline (laid limit H x ∷ H))
+      go None e = queue_none t l e
+      go (Some c) e = queue_some c e t l
+
+  pub fits : (t n : ℕ) → t ≤ length (before limit H) → length (offline H) - t ≤ n → Fitting (option_map (held_of H) (completed_by limit H x.kind x.start)) t n
+  fits t n l m = go (completed_by limit H x.kind x.start) refl
+    where
+      go : (o : Option Laid) → completed_by limit H x.kind x.start ≡ o → Fitting (option_map (held_of H) o) t n
+      go None e = tt
+      go (Some c) e = fits_some c e t l n m
+
+  pub taken_more : (t : ℕ) → t ≤ length (before limit H) → t ≤ length (before limit (laid limit H x ∷ H))
+  taken_more t l = let b = before-before limit (laid limit H x ∷ []) H h in let w = length-begins _ _ b in omega arith
+
+  pub allowed_more : (none : Bool) → none ≡ is_none (completed_by limit H x.kind x.start) → allows x.kind (depth H) none x.passed_break ≡ allowed_behind (laid limit H x ∷ H)
+  unfolding laid
+  allowed_more none e = ap (λ (b : Bool). allows x.kind (depth H) b x.passed_break) (e ∙ sym (none_number (completed_by limit H x.kind x.start)))
+
+  -- THE SLOTS
+  pub kind_is : (laid limit H x).lexeme.kind ≡ x.kind
+  unfolding laid
+  kind_is = refl
+
+  pub reach_is : (laid limit H x).lexeme.reach ≡ x.reach
+  unfolding laid
+  reach_is = refl
+
+  flow_start_is : is_flow_start (laid limit H x).lexeme.kind ≡ is_flow_start x.kind
+  flow_start_is = ap is_flow_start kind_is
+
+  flow_end_is : is_flow_end (laid limit H x).lexeme.kind ≡ is_flow_end x.kind
+  flow_end_is = ap is_flow_end kind_is
+
+  pub enters_below : (k : ℕ) → k ≤ depth H → enters k (laid limit H x) ≡ false
+  enters_below k l = let n : eqb ((laid limit H x).depth + 1) k ≡ false = ne_eqb _ _ (λ q. let d = depth_is in omega arith) in rw n (cases (is_flow_start (laid limit H x).lexeme.kind))
+    where
+      cases : (b : Bool) → (b && false) ≡ false
+      cases true = refl
+      cases false = refl
+
+  pub outer_swept : (n : ℕ) → n ≤ depth H → map (still_held limit x.reach) (outer_to limit H n) ≡ outer_to limit (laid limit H x ∷ H) n
+  outer_swept zero l = refl
+  outer_swept (suc n) l =
+      let d = depth_is in
+      let e : eqb (laid limit H x).depth n ≡ false = ne_eqb _ _ (λ q. omega arith) in
+      let o : held limit (laid limit H x ∷ H) n ≡ still_held limit (laid limit H x).lexeme.reach (held limit H n) = held-other limit (laid limit H x) H n h (omega arith) (enters_below n (omega arith)) e in
+      let r : held limit (laid limit H x ∷ H) n ≡ still_held limit x.reach (held limit H n) = o ∙ ap (λ (m : yaml_mark_t). still_held limit m (held limit H n)) reach_is in
+      map-append (still_held limit x.reach) (outer_to limit H n) (held limit H n ∷ []) ∙ (rw (outer_swept n (omega arith), r) refl)
+
+  pub required_is : is_required (laid limit H x) ≡ is_margin_level (nat_eq (depth H) 0) (greatest_level (kept_columns H x.kind x.start)) x.start.column
+  unfolding laid level
+  required_is = refl
+
+  pub candidate_is : is_candidate (laid limit H x) ≡ is_candidate_kind x.kind
+  candidate_is = ap is_candidate_kind kind_is
+
+  pub allowed_of : (laid limit H x).key_allowed ≡ allowed H x.front
+  unfolding laid
+  allowed_of = refl
+
+  pub at_depth : eqb (laid limit H x).depth (depth H) ≡ true
+  at_depth = eq-eqb _ _ depth_is
+
+  module _ (a : Bool) (A : a ≡ allowed H x.front) (new : Held) (N : new ≡ record { at = length (offline H) + length (block_ends (laid limit H x)); start = x.start; required = is_margin_level (nat_eq (depth H) 0) (greatest_level (kept_columns H x.kind x.start)) x.start.column }) where
+    pub top_swept : still_held limit x.reach (slot_behind x.kind a new (held limit H (depth H))) ≡ held limit (laid limit H x ∷ H) (depth H)
+    unfolding laid level
+    top_swept = elim (cases_Bool (is_candidate_kind x.kind)) [
+      | inl c ↦ elim (cases_Bool a) [
+        | inl b ↦ (let s = held-saved limit (laid limit H x) H (depth H) h (enters_below (depth H) (omega arith)) at_depth (candidate_is ∙ c) (allowed_of ∙ sym A ∙ b) in
+            rw (c, b, N) (sym s))
+        | inr b ↦ (let s = held-kept limit (laid limit H x) H (depth H) h (omega arith) (enters_below (depth H) (omega arith)) at_depth (candidate_is ∙ c) (allowed_of ∙ sym A ∙ b) in
+            rw (c, b) (sym (s ∙ ap (λ (m : yaml_mark_t). still_held limit m (held limit H (depth H))) reach_is)))
+      ]
+      | inr c ↦ (let s = held-cleared limit (laid limit H x) H (depth H) (enters_below (depth H) (omega arith)) at_depth (candidate_is ∙ c) in rw c (sym s))
+    ]
+
+  -- the depth
+  pub nested_outer_is : nested_outer x.kind (outer_to limit (laid limit H x ∷ H) (depth H)) (held limit (laid limit H x ∷ H) (depth H)) ≡ outer_to limit (laid limit H x ∷ H) (depth (laid limit H x ∷ H))
+  nested_outer_is = elim (cases_Bool (is_flow_start x.kind)) [
+    | inl s ↦ (let e : is_flow_end x.kind ≡ false = flow_kinds x.kind s in
+        let d : depth (laid limit H x ∷ H) ≡ suc (depth H) = depth-start (laid limit H x) H (flow_start_is ∙ s) (flow_end_is ∙ e) ∙ omega arith in rw (s, d) refl)
+    | inr s ↦ elim (cases_Bool (is_flow_end x.kind)) [
+      | inl e ↦ (let d : depth (laid limit H x ∷ H) ≡ depth H - 1 = depth-end (laid limit H x) H (flow_start_is ∙ s) (flow_end_is ∙ e) in
+          rw (s, e, d, outer_length limit (laid limit H x ∷ H) (depth H)) (take_outer (depth H)))
+      | inr e ↦ (let d : depth (laid limit H x ∷ H) ≡ depth H = depth-same (laid limit H x) H (flow_start_is ∙ s) (flow_end_is ∙ e) in rw (s, e, d) refl)
+    ]
+  ]
+    where
+      take_outer : (n : ℕ) → take (n - 1) (outer_to limit (laid limit H x ∷ H) n) ≡ outer_to limit (laid limit H x ∷ H) (n - 1)
+      take_outer zero = refl
+      take_outer (suc n) = let e : suc n - 1 ≡ n = omega arith in rw e (take_at (outer_to limit (laid limit H x ∷ H) n) (held limit (laid limit H x ∷ H) n ∷ []) n (outer_length limit (laid limit H x ∷ H) n))
+
+  pub nested_top_is : nested_top x.kind (outer_to limit (laid limit H x ∷ H) (depth H)) (held limit (laid limit H x ∷ H) (depth H)) ≡ held limit (laid limit H x ∷ H) (depth (laid limit H x ∷ H))
+  nested_top_is = elim (cases_Bool (is_flow_start x.kind)) [
+    | inl s ↦ (let e : is_flow_end x.kind ≡ false = flow_kinds x.kind s in
+        let d : depth (laid limit H x ∷ H) ≡ depth H + 1 = depth-start (laid limit H x) H (flow_start_is ∙ s) (flow_end_is ∙ e) in
+        let m = depth_is in
+        let q : eqb ((laid limit H x).depth + 1) (depth H + 1) ≡ true = eq-eqb _ _ (omega arith) in
+        let t : enters (depth H + 1) (laid limit H x) ≡ true = rw (flow_start_is, s, q) refl in
+        rw (s, d) (sym (held-entered limit (laid limit H x) H (depth H + 1) t)))
+    | inr s ↦ elim (cases_Bool (is_flow_end x.kind)) [
+      | inl e ↦ (let d : depth (laid limit H x ∷ H) ≡ depth H - 1 = depth-end (laid limit H x) H (flow_start_is ∙ s) (flow_end_is ∙ e) in
+          rw (s, e, d, outer_length limit (laid limit H x ∷ H) (depth H)) (last_outer (depth H)))
+      | inr e ↦ (let d : depth (laid limit H x ∷ H) ≡ depth H = depth-same (laid limit H x) H (flow_start_is ∙ s) (flow_end_is ∙ e) in rw (s, e, d) refl)
+    ]
+  ]
+    where
+      get_last : (a : List (Option Held)) (y : Option Held) → slice_get (a ++ y ∷ []) (length a) ≡ Some y
+      get_last [] y = refl
+      get_last (z ∷ a) y = get_last a y
+
+      last_outer : (n : ℕ) → or_top (held limit (laid limit H x ∷ H) n) (slice_get (outer_to limit (laid limit H x ∷ H) n) (n - 1)) ≡ held limit (laid limit H x ∷ H) (n - 1)
+      last_outer zero = refl
+      last_outer (suc n) = let e : suc n - 1 ≡ n = omega arith in
+          let g = get_last (outer_to limit (laid limit H x ∷ H) n) (held limit (laid limit H x ∷ H) n) in
+          let f : slice_get (outer_to limit (laid limit H x ∷ H) n ++ held limit (laid limit H x ∷ H) n ∷ []) n ≡ Some (held limit (laid limit H x ∷ H) n) = subst (λ (k : ℕ). slice_get (outer_to limit (laid limit H x ∷ H) n ++ held limit (laid limit H x ∷ H) n ∷ []) k ≡ Some (held limit (laid limit H x ∷ H) n)) (outer_length limit (laid limit H x ∷ H) n) g in
+          rw (e, f) refl
