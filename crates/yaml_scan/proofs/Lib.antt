@@ -29,3 +29,5 @@ pub mod Look
 pub mod Onward
 pub mod AnswerOrder
 pub mod Local
+pub mod Queues
+pub mod Stacks

@@ -107,6 +107,14 @@ fn is_new_level(levels: &[u64], margin: bool, column: u64) -> bool
         }
 }
 
+/// Whether a lexeme that completes nothing opens its column.
+fn opens_at(levels: &[u64], margin: bool, kind: yaml_lexeme_kind_t, column: u64) -> bool
+    requires { IsFalling (reverse levels.now) }
+    ensures { result ≡ (is_new margin column (reverse levels.now) && opens_level kind true) }
+{
+    is_new_level(levels, margin, column) && is_opener(kind)
+}
+
 /// Opens a level, or none.
 fn open_level(levels: &mut Vec<u64>, opens: bool, column: u64) -> Result<(), AllocError>
     ensures { OnOk result (reverse levels.new.items ≡ (if opens then column ∷ [] else []) ++ reverse levels.old.items) }
@@ -134,7 +142,8 @@ fn complete(
 {
     let opens = is_new_level(levels, margin, held.start.column);
     insert_key(queue, (held.at - taken) as usize, opens, held.start, step)?;
-    open_level(levels, opens, held.start.column)
+    open_level(levels, opens, held.start.column)?;
+    Ok(())
 }
 
 /// Opens a level at a lexeme that completes nothing, if it does.
@@ -150,9 +159,10 @@ fn begin(
     ensures levels { OnOk result (reverse levels.new.items ≡ opened margin None kind start (reverse levels.old.items)) }
     ensures queue { OnOk result (Changes step step queue.old.items queue.new.items (put_starts margin None kind start (reverse levels.old.items) 0)) }
 {
-    let opens = is_new_level(levels, margin, start.column) && is_opener(kind);
+    let opens = opens_at(levels, margin, kind, start.column);
     put_block_start(queue, opens, kind, start, step)?;
-    open_level(levels, opens, start.column)
+    open_level(levels, opens, start.column)?;
+    Ok(())
 }
 
 ghost use Rattle.std.specs.Prelude.{None, Some};
@@ -205,5 +215,6 @@ pub(crate) fn queue_lexeme(
         taken,
         step,
     )?;
-    put_lexeme(queue, token, step)
+    put_lexeme(queue, token, step)?;
+    Ok(())
 }
