@@ -31,3 +31,6 @@ pub mod AnswerOrder
 pub mod Local
 pub mod Queues
 pub mod Stacks
+pub mod Places
+pub mod TextOrder
+pub mod Refusals

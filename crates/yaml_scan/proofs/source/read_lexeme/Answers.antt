@@ -1,0 +1,10 @@
+use Rattle.yaml_scan.specs.SourceOf.{source_of}
+use Rattle.yaml_scan.proofs.Places.{read_is}
+use Rattle.yaml_scan.proofs.source.read_lexeme.Goals as goal
+
+pub yaml_lexeme_at-requires-clause-place : goal.yaml_lexeme_at-requires-clause-place
+unfolding source_of
+yaml_lexeme_at-requires-clause-place c = c.requires.place
+
+pub returns : goal.returns
+returns c = λ p i. read_is c.args.text.now.chars c.args.kind c.args.depth c.args.level p c.yaml_lexeme_at.result (c.yaml_lexeme_at.ensures.value p i)
