@@ -34,3 +34,4 @@ pub mod Stacks
 pub mod Places
 pub mod TextOrder
 pub mod Refusals
+pub mod Advances

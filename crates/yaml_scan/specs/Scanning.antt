@@ -70,7 +70,7 @@ pub record Same (s t : scanner_t) : Type 0 where
 pub record Advances (H : List Laid) (s t : scanner_t) : Type 0 where
   pub lexeme : Lexeme
   pub step : step (text_of s) s.limit H ≡ Reads lexeme
-  pub holds : Holds (laid s.limit H lexeme ∷ H) (s.made + 2) t
+  pub holds : Holds (laid s.limit H lexeme ∷ H) (s.made + 1 + 1) t
   pub index : t.reach.index ≡ ((text_of s).mark lexeme.place).index
   pub within : lexeme.place ≤ length s.text.chars
   pub same : Same s t
