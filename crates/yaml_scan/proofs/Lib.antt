@@ -35,3 +35,5 @@ pub mod Places
 pub mod TextOrder
 pub mod Refusals
 pub mod Advances
+pub mod Stepped
+pub mod Paces

@@ -98,7 +98,7 @@ pub(crate) fn settle_head(alloc: Global, scanner: &mut scanner_t) -> Result<(), 
     requires not_ended { IsOpen scanner.old }
     ensures { MatchResult result (λ _. Settles scanner.old scanner.new) (λ f. ((fault_of f ≡ memory_fault) ⊎ Fails scanner.old (fault_of f)) × Stops scanner.old scanner.new) }
 {
-    while !is_settled(scanner) {
+    'steps: while !is_settled(scanner) {
         advance(alloc, scanner)?;
     }
     Ok(())
