@@ -1,19 +1,22 @@
 -- How a place on bytes moves.
-use Rattle.std.proofs.Common.{◌≡◌, ℕ, zero, suc, ◌+◌, ◌-◌, ◌≤◌, Bool, List, [], ◌∷◌, ◌++◌, length, get_or, take, drop, refl, sym, ap, ◌∙◌, subst, arith, inl, inr}
+use Rattle.std.proofs.Common.{false, ◌≡◌, ℕ, zero, suc, ◌+◌, ◌-◌, ◌<◌, ◌≤◌, Bool, List, [], ◌∷◌, ◌++◌, length, get_or, take, drop, refl, sym, ap, ◌∙◌, subst, arith, inl, inr}
 use Rattle.std.specs.List.{prefix_len, count_by}
 use Rattle.std.specs.Str.{chars}
 use Rattle.std.proofs.lemmas.Bool.{cases_Bool}
+use Rattle.std.proofs.lemmas.Bool.Decides.{nat_tests}
 use Rattle.std.proofs.lemmas.List.{take-append-drop, take_at, drop_at, length-append}
 use Rattle.std.proofs.lemmas.Str.{encodes-append, length-encode, len_utf8_bounds}
 use lib.Utf8.{encode}
 use Rattle.yaml_text.specs.declared.types.yaml_mark_t.{yaml_mark_t}
 use Rattle.yaml_text.specs.Chars.{AreChars, IsText, utf8}
+use Rattle.yaml_text.specs.Classes.{is_break}
 use Rattle.yaml_text.proofs.Fronts.{chars-utf8, IsText-utf8}
 use Rattle.yaml_text.proofs.Places.{AreChars-parts}
 use Rattle.yaml_lexeme.specs.Place.{Place, place_at, IsMarkOf, ends_line, skip_from, skip, behind, run, mark_behind, width}
 use Rattle.yaml_lexeme.specs.declared.runs.class_t.{class_t}
 use Rattle.yaml_lexeme.specs.Runs.{is_quiet, class_test, begins}
-use Rattle.yaml_lexeme.proofs.Places.{skip_skip}
+use Rattle.yaml_lexeme.proofs.Places.{skip_skip, moved}
+use Rattle.yaml_lexeme.proofs.Heads.{head, ascii_head, past_ascii}
 use Rattle.yaml_lexeme.proofs.Quiet.{Over, over, along, count_chars}
 
 pub record QuietMove (class : class_t) (m : yaml_mark_t) (bytes : List ℕ) (n k : ℕ) : Type 0 where
@@ -121,7 +124,33 @@ finds bytes cs m n e each at =
 pub index_behind : (m : yaml_mark_t) (c next : ℕ) → (mark_behind m c next).index ≡ m.index + width c
 index_behind m c next = elim (cases_Bool (ends_line c next)) [ inl t ↦ rw t refl | inr f ↦ rw f refl ]
 
--- a text has no more characters than bytes
-pub short : (cs : List ℕ) → length cs ≤ length (utf8 cs)
-short [] = omega arith
-short (c ∷ cs) = omega (arith, short cs, length-append (encode c) (utf8 cs), length-encode c, len_utf8_bounds c)
+-- a character of ASCII that is no break is one byte and one column
+pub record AsciiMove (m : yaml_mark_t) (bytes : List ℕ) : Type 0 where
+  pub text : IsText (drop 1 bytes)
+  pub place : let p : Place = record { mark = m; rest = chars bytes } in let q : Place = record { mark = along m 1 1; rest = chars (drop 1 bytes) } in q ≡ skip 1 p
+
+ascii_mark : (m : yaml_mark_t) (c next : ℕ) → c < 128 → (c ≡ 10 → ⊥) → (c ≡ 13 → ⊥) → along m 1 1 ≡ mark_behind m c next
+ascii_mark m c next low a b =
+    let none : is_break c ≡ false = grind (arith, nat_tests) in
+    let one : width c ≡ 1 = grind (arith, nat_tests) in
+    rw (none, one) refl
+
+pub ascii_moves : (m : yaml_mark_t) (bytes : List ℕ) → IsText bytes → 0 < length bytes → get_or bytes 0 0 < 128 → (get_or bytes 0 0 ≡ 10 → ⊥) → (get_or bytes 0 0 ≡ 13 → ⊥) → AsciiMove m bytes
+ascii_moves m bytes t some low a b =
+    let h = head bytes t some in
+    let same : get_or bytes 0 0 ≡ get_or (chars bytes) 0 0 = ascii_head bytes t low in
+    let k = past_ascii bytes t some low in
+    let p : Place = record { mark = m; rest = chars bytes } in
+    let c = get_or (chars bytes) 0 0 in
+    let low' : c < 128 = omega (arith, same) in
+    let a' : c ≡ 10 → ⊥ = λ e. a (same ∙ e) in
+    let b' : c ≡ 13 → ⊥ = λ e. b (same ∙ e) in
+    record {
+      text = k.text;
+      place = moved p m (along m 1 1) (chars bytes) (chars (drop 1 bytes)) (get_or p.rest 1 0) refl h.some refl (ascii_mark m c (get_or p.rest 1 0) low' a' b') k.rest;
+    }
+
+-- a text's front is a place of it
+pub at_front : (cs : List ℕ) → IsMarkOf cs (record { index = 0; line = 0; column = 0 }) 0
+unfolding skip
+at_front cs = record { within = omega arith; mark_is = refl }

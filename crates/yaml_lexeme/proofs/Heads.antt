@@ -103,3 +103,13 @@ shrinks_from bytes left (c ∷ cs) e t u d some = omega (arith, ap length (bytes
 -- how many bytes are left behind the first character
 pub shrinks : (bytes left : List ℕ) → IsText bytes → IsText left → chars left ≡ drop 1 (chars bytes) → 0 < length bytes → length left + len_utf8 (get_or (chars bytes) 0 0) ≡ length bytes
 shrinks bytes left t u d some = shrinks_from bytes left (chars bytes) refl t u d some
+
+one_byte : (b : ℕ) → b < 128 → width_of b ≡ 1
+one_byte b h = grind (arith, nat_tests)
+
+-- behind a byte of ASCII
+pub past_ascii : (bytes : List ℕ) → IsText bytes → 0 < length bytes → get_or bytes 0 0 < 128 → Past bytes 1
+past_ascii bytes t some low = past bytes 1 t (omega (arith, one_byte (get_or bytes 0 0) low))
+
+pub none_past : (bytes : List ℕ) → IsText bytes → length bytes ≤ 0 → chars bytes ≡ drop 1 (chars bytes)
+none_past bytes t none = let n = none_left bytes t none in n ∙ ap (λ (x : List ℕ). drop 1 x) (sym n)

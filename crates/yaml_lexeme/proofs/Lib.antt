@@ -14,6 +14,8 @@ pub mod PlainLocal
 pub mod BlockLocal
 pub mod LexLocal
 pub mod CountLaws
+pub mod PartLaws
+pub mod ScalarParts
 mod Rows
 pub mod Lanes
 pub mod Vectors
@@ -32,3 +34,6 @@ pub mod Hex
 pub mod Gather
 pub mod Plains
 pub mod Blocks
+pub mod Trims
+pub mod Parts
+pub mod WordRuns

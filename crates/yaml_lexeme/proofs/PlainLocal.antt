@@ -54,7 +54,7 @@ turn_like flow least n p q a =
     (like_if (not (is_white (first p))) (not (is_white (first q))) (λ h. rw (a.same 0 (omega arith)) refl) found_here
     (like_bind _ _ a (sep_like least n p q a) (λ x z i b. then_like flow least p.mark x.value i x.end z b)))
 
-chunk_within : (flow : Bool) (cs : List ℕ) → chunk_len flow cs ≤ length cs
+pub chunk_within : (flow : Bool) (cs : List ℕ) → chunk_len flow cs ≤ length cs
 chunk_within flow [] = omega arith
 chunk_within flow (c ∷ cs) =
     elim (cases_Bool (is_chunk flow c (slice_index cs 0))) [
@@ -70,7 +70,7 @@ abbrev end_or : Place → Read (List ℕ) → Place
 end_or e (Ok f) = f.end
 end_or e (Err o) = e
 
-unless_bad : (b : Bool) (v : List ℕ) (e : Place) (c : Found (List ℕ)) → (if b then refuse COLON_IN_FLOW e else found v e) ≡ Ok c → (c.value ≡ v) × (c.end ≡ e)
+pub unless_bad : (b : Bool) (v : List ℕ) (e : Place) (c : Found (List ℕ)) → (if b then refuse COLON_IN_FLOW e else found v e) ≡ Ok c → (c.value ≡ v) × (c.end ≡ e)
 unless_bad true v e c h = absurd cc
 unless_bad false v e c h = (ap value_of (sym h), ap (end_or e) (sym h))
 

@@ -51,7 +51,7 @@ escape_goes : (p : Place) → 0 < length p.rest → Goes 1 p (escape p)
 unfolding escape
 escape_goes p h = if_goes (nat_lt 0 (hex_len (peek p 1))) (then_goes 1 0 (ahead_some 1 2 p (omega arith) (omega arith)) (hex_goes (hex_len (peek p 1)) (skip 2 p))) (simple_goes (simple_escape (peek p 1)) p h)
 
-body_goes : (single : Bool) (p : Place) → PartGoes 1 p (body_part single p)
+pub body_goes : (single : Bool) (p : Place) → PartGoes 1 p (body_part single p)
 unfolding body_part
 body_goes single p =
     let c = first p in
@@ -94,7 +94,7 @@ space_of : (b : Bool) → not b ≡ false → b ≡ true
 space_of true h = refl
 space_of false h = sym h
 
-link_goes : (flow : Bool) (least : ℕ) (p : Place) → PartGoes 1 p (link flow least p)
+pub link_goes : (flow : Bool) (least : ℕ) (p : Place) → PartGoes 1 p (link flow least p)
 unfolding link
 link_goes flow least p =
     part_if (not (is_white (first p))) (λ e. over_goes) (λ e.

@@ -2,7 +2,7 @@
 use Rattle.std.specs.Prelude.{ℕ, ◌≡◌, ◌↔◌, List, drop}
 use Rattle.yaml_text.specs.declared.types.yaml_mark_t.{yaml_mark_t}
 use Rattle.yaml_text.specs.Mark.{IsPlaceAt, mark_at}
-use Rattle.yaml_lexeme.specs.Place.{Place, place_at, IsMarkOf}
+use Rattle.yaml_lexeme.specs.Place.{place_at, IsMarkOf}
 
 -- A place that parts no CR LF has the mark that is counted from the front of the text, and what is left is what stands behind it.
 abbrev pub PlacesAreCounted : Type 0

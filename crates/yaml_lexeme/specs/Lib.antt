@@ -22,3 +22,4 @@ pub mod Runs
 pub mod Order
 pub mod Locality
 pub mod Counted
+pub mod Parts

@@ -156,6 +156,12 @@ fn past_char(bytes: &[u8]) -> &[u8]
     ensures text { IsText result.now }
     ensures rest { chars result.now ≡ drop 1 (chars bytes.now) }
 {
+    if bytes.is_empty() {
+        return bytes;
+    }
+    if bytes[0] < 0x80 {
+        return rest(bytes, 1);
+    }
     let width = WIDTH(bytes, 0).min(bytes.len());
     rest(bytes, width)
 }
@@ -187,7 +193,7 @@ impl<'a> cursor_t<'a> {
     pub fn at(text: &'a yaml_text_t<'_>, mark: yaml_mark_t) -> cursor_t<'a>
         requires { (n : ℕ) × IsMarkOf text.now.chars mark n }
         ensures place { (n : ℕ) → IsMarkOf text.now.chars mark n → result ≡ place_at text.now.chars n }
-        ensures size { length text.now.chars < 2 ^ 63 }
+        ensures size { length (utf8 text.now.chars) < 2 ^ 63 }
     {
         cursor_t {
             mark,
@@ -232,6 +238,16 @@ impl<'a> cursor_t<'a> {
         ensures { self.new ≡ skip 1 self.old }
     {
         if self.bytes.is_empty() {
+            return;
+        }
+        let b = self.bytes[0];
+        if b < 0x80 && b != b'\n' && b != b'\r' {
+            self.mark = yaml_mark_t {
+                index: self.mark.index + 1,
+                line: self.mark.line,
+                column: self.mark.column + 1,
+            };
+            self.bytes = rest(self.bytes, 1);
             return;
         }
         let c = first_char(self.bytes);

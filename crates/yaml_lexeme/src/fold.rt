@@ -1,9 +1,11 @@
 //! What a run of blanks and breaks is worth in a value.
 ghost use Rattle.std.specs.Prelude.{◌≡◌, ◌++◌, OnOk, encode_utf8};
 ghost use Rattle.yaml_text.specs.Chars.{utf8};
+ghost use Rattle.yaml_text.specs.Classes as classes;
 ghost use Rattle.yaml_lexeme.specs.Classes as sets;
 ghost use Rattle.yaml_lexeme.specs.Place as place;
 ghost use Rattle.yaml_lexeme.specs.Fold as spec;
+ghost use Rattle.yaml_lexeme.specs.Words.{trim};
 
 use crate::cursor::cursor_t;
 use crate::runs::class_t;
@@ -15,6 +17,12 @@ pub(crate) fn push_char(out: &mut Vec<u8>, c: char) -> Result<(), AllocError>
 {
     let mut bytes = [0; 4];
     out.extend_from_slice(c.encode_utf8(&mut bytes).as_bytes())
+}
+
+fn is_blank_byte(b: u8) -> bool
+    ensures { result ≡ classes.is_blank b }
+{
+    b == b' ' || b == b'\t'
 }
 
 /// A break as it is written in a value.
@@ -65,4 +73,15 @@ pub(crate) fn push_separator(cursor: &mut cursor_t, out: &mut Vec<u8>) -> Result
         push_char(out, ' ')?;
     }
     Ok(())
+}
+
+/// A piece of a line without the blanks at its end.
+pub(crate) fn trimmed(piece: &[u8]) -> &[u8]
+    ensures { result.now ≡ trim piece.now }
+{
+    let mut n = piece.len();
+    'blanks: while n > 0 && is_blank_byte(piece[n - 1]) {
+        n -= 1;
+    }
+    &piece[..n]
 }

@@ -1,6 +1,7 @@
 //! Laws about the definitions.
 ghost use Rattle.yaml_lexeme.specs.Counted.{PlacesAreCounted, MarksAreCounted};
 ghost use Rattle.yaml_lexeme.specs.Locality.{GapIsLocal, KindIsLocal, LexIsLocal};
+ghost use Rattle.yaml_lexeme.specs.Parts.{QuotedIsParts, QuotedIsRefused, PlainIsParts, PlainIsRefused, ChunkIsLongest, LinkIsLongest};
 ghost use Rattle.yaml_lexeme.specs.Order.{GapOrder, LexemeSpans, LexemeOrder, StreamEndOrder, LexemeFollows};
 
 /// A gap ends where it starts or further on.
@@ -48,4 +49,24 @@ pub fn lex_is_local()
 pub fn marks_are_counted()
     ensures places { PlacesAreCounted }
     ensures marks { MarksAreCounted }
+{}
+
+/// The text between the quotes of a scalar is its parts, one behind the other and as many as can be, and its value is theirs.
+/// Where it is refused, the offence stands behind as many parts as can be.
+pub fn quoted_is_its_parts()
+    ensures parts { QuotedIsParts }
+    ensures refused { QuotedIsRefused }
+{}
+
+/// The text of a plain scalar is a chunk and links, one behind the other and as many as can be, and its value is theirs. Where
+/// it is refused, the offence is that of the chunk, or stands behind as many links as can be.
+pub fn plain_is_its_parts()
+    ensures parts { PlainIsParts }
+    ensures refused { PlainIsRefused }
+{}
+
+/// A chunk of a plain scalar is as many characters as can be. A link is as many blanks and breaks as can be, and a chunk.
+pub fn links_are_longest()
+    ensures chunk { ChunkIsLongest }
+    ensures link { LinkIsLongest }
 {}

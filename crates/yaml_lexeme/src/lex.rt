@@ -1,6 +1,9 @@
 //! Lexemes of every kind.
 ghost use Rattle.std.specs.Prelude.{ℕ, ◌≡◌, ◌+◌, ◌<◌, ◌≤◌, ◌^◌, true, Some, IsOk, IfSome, length};
+ghost use Rattle.yaml_text.specs.Chars.{utf8};
+ghost use Rattle.yaml_text.specs.Fault.{fault_of, scanner_fault};
 ghost use Rattle.yaml_lexeme.specs.Kind as kinds;
+ghost use Rattle.yaml_lexeme.specs.Texts as texts;
 ghost use Rattle.yaml_lexeme.specs.Lex as spec;
 ghost use Rattle.yaml_lexeme.specs.Place.{IsMarkOf, place_at};
 ghost use Rattle.yaml_lexeme.specs.Reading.{found};
@@ -13,7 +16,7 @@ use crate::directive::{directive_t, take_directive};
 use crate::kind::yaml_lexeme_kind_t;
 use crate::name::take_name;
 use crate::plain::{scalar_t, take_plain};
-use crate::problem::refusal_t;
+use crate::problem::{problem_t, refusal_t};
 use crate::quoted::take_quoted;
 use crate::tag::take_tag;
 use crate::texts::{context_text, problem_text};
@@ -233,10 +236,27 @@ fn take_lexeme(
     }
 }
 
+/// The fault of a problem in a lexeme.
+fn make_fault(
+    kind: yaml_lexeme_kind_t,
+    problem: problem_t,
+    start: yaml_mark_t,
+    there: yaml_mark_t,
+) -> yaml_fault_t
+    ensures { fault_of result ≡ scanner_fault (texts.problem_text problem) there (Some (texts.context_text kind problem)) start }
+{
+    make_scanner_fault(
+        problem_text(problem),
+        there,
+        Some(context_text(kind, problem)),
+        start,
+    )
+}
+
 /// The lexeme that stands at a place, or the fault of its first offence.
 ///
 /// `kind` is what `yaml_lexeme_kind` answers there with `in_flow` for a depth above 0, and the level is at most the
-/// length of the text. A fault of kind memory comes only where a growth was refused. Stream ends, document markers and
+/// number of the text's bytes. A fault of kind memory comes only where a growth was refused. Stream ends, document markers and
 /// lexemes of one character take no memory and are never refused.
 pub fn yaml_lexeme_at(
     alloc: Global,
@@ -246,7 +266,7 @@ pub fn yaml_lexeme_at(
     context: yaml_context_t,
 ) -> Result<yaml_lexeme_t, yaml_fault_t>
     requires place { (n : ℕ) × IsMarkOf text.now.chars at n × (kinds.kind_at (spec.in_flow context) (place_at text.now.chars n) ≡ Some kind) }
-    requires level { IfSome context.level (λ l. l ≤ length text.now.chars) }
+    requires level { IfSome context.level (λ l. l ≤ length (utf8 text.now.chars)) }
     ensures value { (n : ℕ) → IsMarkOf text.now.chars at n → Answers result (spec.lexeme_at kind context (place_at text.now.chars n)) }
     ensures bare { spec.is_bare kind ≡ true → IsOk result }
 {
@@ -254,11 +274,6 @@ pub fn yaml_lexeme_at(
     match take_lexeme(alloc, &mut cursor, kind, context) {
         Ok(lexeme) => Ok(lexeme),
         Err(refusal_t::MEMORY) => Err(make_memory_fault()),
-        Err(refusal_t::OFFENCE(problem)) => Err(make_scanner_fault(
-            problem_text(problem),
-            cursor.mark(),
-            Some(context_text(kind, problem)),
-            at,
-        )),
+        Err(refusal_t::OFFENCE(problem)) => Err(make_fault(kind, problem, at, cursor.mark())),
     }
 }

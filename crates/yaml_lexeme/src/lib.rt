@@ -16,6 +16,8 @@ mod problem;
 mod quoted;
 mod runs;
 mod tag;
+#[cfg(test)]
+mod tests;
 mod texts;
 mod uri;
 

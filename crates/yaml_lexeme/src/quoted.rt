@@ -1,18 +1,21 @@
 //! Quoted scalars.
-ghost use Rattle.std.specs.Prelude.{◌≡◌, true, Ok, Err, if◌then◌else◌};
+ghost use Rattle.std.specs.Prelude.{◌≡◌, ◌≤◌, true, Ok, Err, if◌then◌else◌, OnOk, length};
 ghost use Rattle.yaml_text.specs.Chars.{utf8};
 ghost use Rattle.yaml_lexeme.specs.declared.problem.refusal_t.TheVariants.{OFFENCE};
 ghost use Rattle.yaml_lexeme.specs.declared.problem.problem_t.TheVariants.{DOCUMENT_MARKER};
 ghost use Rattle.yaml_lexeme.specs.Kind as kind;
 ghost use Rattle.yaml_lexeme.specs.Quoted as spec;
+ghost use Rattle.yaml_lexeme.specs.Runs as runs;
 ghost use Rattle.yaml_lexeme.specs.Gives.{Gives, Takes};
+ghost use Rattle.yaml_lexeme.specs.Words.{GoesOn};
 
 use crate::cursor::{cursor_t, is_break, is_white};
 use crate::escape::take_escape;
-use crate::fold::{push_breaks, push_char, push_separator};
+use crate::fold::{push_breaks, push_char, push_separator, trimmed};
 use crate::kind::is_marker;
 use crate::problem::{problem_t, refusal_t};
-use std::alloc::Global;
+use crate::runs::class_t;
+use std::alloc::{AllocError, Global};
 use yaml_text::yaml_bytes_t;
 
 /// No document marker may stand here.
@@ -69,6 +72,31 @@ fn take_part(cursor: &mut cursor_t, single: bool, out: &mut Vec<u8>) -> Result<b
     Ok(true)
 }
 
+fn line_class(single: bool) -> class_t
+    ensures { result ≡ runs.line_of single }
+{
+    if single {
+        class_t::SINGLE
+    } else {
+        class_t::DOUBLE
+    }
+}
+
+/// Takes what stands in this line unchanged, and puts it behind `out` as one piece, without the blanks before a break.
+#[inline(always)]
+fn push_line(cursor: &mut cursor_t, single: bool, out: &mut Vec<u8>) -> Result<(), AllocError>
+    ensures goes { OnOk result (GoesOn single cursor.old out.old.items cursor.new out.new.items) }
+    ensures shorter { OnOk result (length cursor.new.rest ≤ length cursor.old.rest) }
+{
+    let piece = cursor.run(line_class(single));
+    if !is_break(cursor.peek(0)) {
+        out.extend_from_slice(piece)?;
+        return Ok(());
+    }
+    out.extend_from_slice(trimmed(piece))?;
+    Ok(())
+}
+
 /// Takes a quoted scalar, at its opening quote.
 pub(crate) fn take_quoted(
     alloc: Global,
@@ -79,7 +107,10 @@ pub(crate) fn take_quoted(
 {
     cursor.advance();
     let mut out = Vec::new(alloc);
-    'parts: while take_part(cursor, single, &mut out)? {}
+    push_line(cursor, single, &mut out)?;
+    'parts: while take_part(cursor, single, &mut out)? {
+        push_line(cursor, single, &mut out)?;
+    }
     cursor.advance();
     Ok(yaml_bytes_t::from_vec(out))
 }

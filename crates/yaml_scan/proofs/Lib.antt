@@ -37,3 +37,7 @@ pub mod Refusals
 pub mod Advances
 pub mod Stepped
 pub mod Paces
+pub mod LexemeReads
+pub mod SourceOrder
+pub mod SourceLocal
+pub mod InputLaws

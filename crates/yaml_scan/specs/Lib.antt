@@ -24,4 +24,6 @@ pub mod Near
 pub mod Moves
 pub mod Scanning
 pub mod AnswerLaws
+pub mod SourceOf
 pub mod Locality
+pub mod Inputs

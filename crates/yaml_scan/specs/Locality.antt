@@ -1,10 +1,12 @@
 -- What depends on no character eight or more past the place where a step ends.
-use Rattle.std.specs.Prelude.{◌≡◌, ◌⊎◌, ℕ, ◌+◌, ◌≤◌, Bool, List, Option, Some, None, Result, Ok, Err}
+use Rattle.std.specs.Prelude.{◌≡◌, ◌⊎◌, ℕ, ◌+◌, ◌<◌, ◌≤◌, slice_get, Bool, List, Option, Some, None, Result, Ok, Err}
+use Rattle.yaml_text.specs.Chars.{AreChars}
 use Rattle.yaml_scan.specs.Kind.{Kind}
 use Rattle.yaml_scan.specs.Laid.{Laid}
 use Rattle.yaml_scan.specs.Fault.{Fault}
 use Rattle.yaml_scan.specs.Begins.{Begins}
 use Rattle.yaml_scan.specs.Source.{Source, Reading, Offence}
+use Rattle.yaml_scan.specs.SourceOf.{source_of}
 use Rattle.yaml_scan.specs.Step.{step, place_behind}
 use Rattle.yaml_scan.specs.Cut.{KeepsOrder}
 use Rattle.yaml_scan.specs.Answers.{Input, place_of, course, tokens_of}
@@ -41,3 +43,15 @@ TokensBeforeRefusal = (limit : ℕ) (a b : Input) (refusal : Fault) → KeepsOrd
 abbrev pub FaultBeforeRefusal : Type 0
 FaultBeforeRefusal = (limit : ℕ) (a b : Input) (refusal f : Fault) → KeepsOrder a.source → KeepsOrder b.source → AgreesWith a b refusal → (course limit a).fault ≡ Some f
     → (f ≡ refusal) ⊎ (((course limit b).fault ≡ Some f) × ((course limit b).read ≡ (course limit a).read) × (tokens_of limit (course limit b) ≡ tokens_of limit (course limit a)))
+
+-- the characters below place m are the same, the end counted as one
+abbrev pub SameBelow : ℕ → List ℕ → List ℕ → Type 0
+SameBelow m a b = (i : ℕ) → i < m → slice_get a i ≡ slice_get b i
+
+-- what is read up to place r depends on no character eight or more past it
+abbrev pub TextsAreLocal : Type 0
+TextsAreLocal = (r : ℕ) (a b : List ℕ) → SameBelow (r + 8) a b → ReadsSame r (source_of a) (source_of b)
+
+-- Reading a decoded text keeps to its order.
+abbrev pub TextsKeepOrder : Type 0
+TextsKeepOrder = (cs : List ℕ) → AreChars cs → KeepsOrder (source_of cs)

@@ -3,7 +3,7 @@ ghost use Rattle.yaml_scan.specs.Laws.{DepthGoesOn, CandidatesGoOn, CandidatesAr
 ghost use Rattle.yaml_scan.specs.TokenLaws.{TokensStandInOrder, KeysAreFollowed, FourTokensAStep};
 ghost use Rattle.yaml_scan.specs.SessionLaws.{CourseIsHistory, EndsOrFaults, RefusedHasFault, AcceptedIsCut, FrontIsCut, TakenAreBeginning, PeeksChangeNothing, NoneIsStuck, PaceSettles, PaceIsLeast, FewStepsQueued};
 ghost use Rattle.yaml_scan.specs.AnswerLaws.{AnswersStandInOrder, AnswersEndFewer, AnswersEndAll, AnswersFollowKeys};
-ghost use Rattle.yaml_scan.specs.Locality.{StepIsLocal, TokensBeforeRefusal, FaultBeforeRefusal};
+ghost use Rattle.yaml_scan.specs.Locality.{StepIsLocal, TokensBeforeRefusal, FaultBeforeRefusal, TextsAreLocal, TextsKeepOrder};
 
 /// What one lexeme more makes of the depth, the candidates, the open columns and the level: a machine that keeps a slot
 /// for each depth and a stack of columns keeps them.
@@ -17,6 +17,8 @@ pub fn one_lexeme_more()
     ensures level { LevelIsFirst }
     ensures required { LevelStays }
 {}
+
+ghost use Rattle.yaml_scan.specs.Inputs.{InputsKeepOrder, AllStandInOrder, AllEndFewer, AllEndAll, AllFollowKeys, LateFaults};
 
 /// One lexeme more puts at most one key, with its block start, into the offline list, in front of its candidate's
 /// token, and then its own group.
@@ -117,4 +119,21 @@ pub fn step_is_local()
     ensures step { StepIsLocal }
     ensures tokens { TokensBeforeRefusal }
     ensures fault { FaultBeforeRefusal }
+    ensures texts { TextsAreLocal }
+{}
+
+/// What is read of a decoded text stands in its order: so the laws that ask for it hold of every decoded text.
+pub fn texts_keep_order()
+    ensures { TextsKeepOrder }
+{}
+
+/// The laws of tokens, for any bytes and setting: order, block ends, keys; and what is handed out before a late reader
+/// fault, and a fault in its place, are those of every accepted input that agrees up to the refused character.
+pub fn laws_of_any_input()
+    ensures order { InputsKeepOrder }
+    ensures tokens { AllStandInOrder }
+    ensures block_ends { AllEndFewer }
+    ensures whole { AllEndAll }
+    ensures keys { AllFollowKeys }
+    ensures late { LateFaults }
 {}

@@ -1,8 +1,8 @@
 -- The functions of decoding give the front, what is wrong behind it, and what an input decodes to.
-use Rattle.std.proofs.Common.{◌≡◌, ◌==◌, ℕ, zero, suc, ◌+◌, ◌-◌, ◌<◌, ◌≤◌, ◌⊎◌, Bool, true, false, cond, List, [], ◌∷◌, ◌++◌, length, take, drop, Option, Some, None, Result, Ok, Err, refl, sym, ap, ◌∙◌, subst, append_assoc, inl, inr, arith}
+use Rattle.std.proofs.Common.{◌≡◌, ℕ, zero, suc, ◌+◌, ◌<◌, ◌≤◌, ◌⊎◌, Bool, true, false, cond, List, [], ◌∷◌, ◌++◌, length, take, drop, Option, Some, None, Ok, Err, refl, sym, ap, ◌∙◌, subst, append_assoc, inl, inr, arith}
 use Rattle.std.specs.Prelude.{option_map, ◌&&◌, IsNone, IfSome}
 use Rattle.std.specs.Str.{chars, bytes_eq}
-use Rattle.std.proofs.lemmas.Bool.{and_parts, and_from, true≢false, cases_Bool}
+use Rattle.std.proofs.lemmas.Bool.{and_parts, and_from, true≢false}
 use Rattle.std.proofs.lemmas.Slice.Eq.{bytes_eq-Decides}
 use Rattle.std.proofs.lemmas.List.{append-nil, length-append, length-take, length-drop, drop-drop, take-append-drop, take_at, drop_at}
 use Rattle.yaml_text.specs.declared.types.yaml_encoding_t.{yaml_encoding_t}
@@ -12,9 +12,9 @@ use Rattle.yaml_text.specs.declared.offence.offence_t.{offence_t}
 use Rattle.yaml_text.specs.Chars.{is_char, IsChar, AreChars, IsText, utf8}
 use Rattle.yaml_text.specs.Utf8.{offence8}
 use Rattle.yaml_text.specs.Utf16.{Reads16, BeginsWithNone16, offence16}
-use Rattle.yaml_text.specs.Fault.{Fault, fault_of, memory_fault, reader_fault}
+use Rattle.yaml_text.specs.Fault.{Fault, fault_of, reader_fault}
 use Rattle.yaml_text.specs.Text.{Text}
-use Rattle.yaml_text.specs.Decode.{order, spelling, spelled, Begins, BeginsWithNone, IsFront, value_in_front, if_begins, first, and_then_list, front_of, encoding_of, dropped, behind_mark, offence, front, front_len, refusal, refusal_of, refusal_seen, unless_refused, decoded, Fronts, Spells, IsRefused, Decodes, outcome}
+use Rattle.yaml_text.specs.Decode.{order, spelling, spelled, Begins, BeginsWithNone, IsFront, value_in_front, first, and_then_list, front_of, encoding_of, dropped, behind_mark, offence, front, front_len, refusal, refusal_of, refusal_seen, unless_refused, decoded, Fronts, Spells, IsRefused}
 use Rattle.yaml_text.proofs.Readings.{value_is, some_spelling, spelled-cons, spelled-nil, none_at_end, one_front}
 
 -- what stands in front, if anything

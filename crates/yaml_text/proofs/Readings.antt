@@ -1,13 +1,12 @@
 -- There is one reading of an input, and its front is the longest.
-use Rattle.std.proofs.Common.{◌≡◌, ℕ, ◌+◌, ◌<◌, ◌≤◌, true, false, List, [], ◌∷◌, ◌++◌, length, get_or, refl, sym, ap, ◌∙◌, subst, append_assoc, arith}
-use Rattle.std.specs.Char.{len_utf8}
+use Rattle.std.proofs.Common.{◌≡◌, ℕ, ◌<◌, ◌≤◌, true, false, List, [], ◌∷◌, ◌++◌, length, refl, sym, ap, ◌∙◌, subst, append_assoc, arith}
 use Rattle.std.proofs.lemmas.List.{append-nil, length-append, append_cancel_left, nil_from_length}
 use Rattle.std.proofs.lemmas.Str.{length-encode, len_utf8_bounds}
 use lib.Utf8.{encode}
 use Rattle.yaml_text.specs.declared.types.yaml_encoding_t.{yaml_encoding_t}
 use Rattle.yaml_text.specs.declared.types.yaml_encoding_t.TheVariants.{YAML_ANY_ENCODING, YAML_UTF8_ENCODING, YAML_UTF16LE_ENCODING, YAML_UTF16BE_ENCODING}
-use Rattle.yaml_text.specs.Chars.{is_char, IsChar, AreChars}
-use Rattle.yaml_text.specs.Utf8.{width_of, value_of, value8}
+use Rattle.yaml_text.specs.Chars.{IsChar, AreChars}
+use Rattle.yaml_text.specs.Utf8.{value_of, value8}
 use Rattle.yaml_text.specs.Decode.{spelling, spelled, Begins, BeginsWithNone, IsFront, value_in_front}
 use Rattle.yaml_text.proofs.Spelling.{Stands, stands, char_range}
 use Rattle.yaml_text.proofs.Units.{value16_is, some_units}

@@ -1,8 +1,8 @@
 -- A mark that is kept as one goes is the one that is counted.
-use Rattle.std.proofs.Common.{◌≡◌, ◌==◌, ℕ, zero, suc, ◌+◌, ◌-◌, ◌<◌, ◌≤◌, Bool, true, false, cond, List, [], ◌∷◌, ◌++◌, length, get_or, take, drop, refl, sym, ap, ◌∙◌, subst, append_assoc, inl, inr, arith}
+use Rattle.std.proofs.Common.{◌≡◌, ℕ, zero, suc, ◌+◌, ◌≤◌, Bool, true, false, cond, List, [], ◌∷◌, ◌++◌, length, get_or, take, drop, refl, sym, ap, ◌∙◌, subst, append_assoc, inl, inr, arith}
 use Rattle.std.specs.Char.{len_utf8}
 use Rattle.std.specs.Str.{chars}
-use Rattle.std.proofs.lemmas.Bool.{cases_Bool, true≢false}
+use Rattle.std.proofs.lemmas.Bool.{cases_Bool}
 use Rattle.std.proofs.lemmas.Bool.Decides.{nat_tests}
 use Rattle.std.proofs.lemmas.List.{append-nil, length-append, take_at, drop_at}
 use Rattle.std.proofs.lemmas.Str.{encodes-append, length-encode}

@@ -1,11 +1,10 @@
 //! What holds of the definitions.
-ghost use Rattle.std.specs.Prelude.{ℕ, ◌≡◌, ◌≤◌, ◌++◌, ◌⊎◌, ◌↔◌, List, length, Ok, Err};
+ghost use Rattle.std.specs.Prelude.{ℕ, ◌≡◌, ◌≤◌, ◌++◌, ◌↔◌, false, List, length, take, drop, Ok, Err};
 ghost use Rattle.yaml_text.specs.Chars.{AreChars, utf8};
 ghost use Rattle.yaml_text.specs.Text.{Text};
 ghost use Rattle.yaml_text.specs.Fault.{Fault};
 ghost use Rattle.yaml_text.specs.Decode.{spelled, IsFront, Spells, IsRefused, decoded};
 ghost use Rattle.yaml_text.specs.Mark.{cuts_break, mark_of, mark_on};
-ghost use Rattle.std.specs.Prelude.{false, take, drop};
 ghost use Rattle.std.specs.Str.{chars};
 ghost use Rattle.yaml_text.specs.declared.types.yaml_encoding_t.{yaml_encoding_t};
 

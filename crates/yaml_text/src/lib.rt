@@ -2,6 +2,8 @@
 #![tactic(auto)]
 
 mod bytes;
+#[cfg(test)]
+mod class_tests;
 mod classes;
 mod decode;
 mod fault;

@@ -86,3 +86,37 @@ fn shown(rt: HostRuntime) -> Result<(), Fail> {
     assert_eq!(rt; fault.to_string(rt.alloc())?.as_str(), "YAML reader fault");
     Ok(())
 }
+
+#[test]
+fn tokens(rt: HostRuntime) -> Result<(), Fail> {
+    let value = yaml_bytes_t::from_vec(Vec::from_slice(rt.alloc(), b"abc")?);
+    let other = yaml_bytes_t::from_vec(Vec::from_slice(rt.alloc(), b"abc")?);
+    let style = yaml_scalar_style_t::YAML_PLAIN_SCALAR_STYLE;
+    let says = unnamed_yaml_token_t_data::SCALAR { value, style };
+    assert_eq!(rt; says.length(), 3);
+    let same = unnamed_yaml_token_t_data::SCALAR {
+        value: other,
+        style,
+    };
+    assert!(rt; says == same);
+    let empty = yaml_token_t::empty();
+    assert_eq!(rt; empty.type_(), yaml_token_type_t::YAML_NO_TOKEN);
+    let token = yaml_token_t {
+        token_data: says,
+        start_mark: empty.start_mark,
+        end_mark: empty.end_mark,
+    };
+    assert_eq!(rt; token.type_(), yaml_token_type_t::YAML_SCALAR_TOKEN);
+    assert!(rt; token != empty);
+    Ok(())
+}
+
+#[test]
+fn written(rt: HostRuntime) -> Result<(), Fail> {
+    let mut out = Vec::new(rt.alloc());
+    push_char(&mut out, 0x20AC)?;
+    assert_eq!(rt; out.as_slice(), b"\xE2\x82\xAC".as_slice());
+    let text = yaml_bytes_t::from_vec(out).into_vec();
+    assert_eq!(rt; text.len(), 3);
+    Ok(())
+}

@@ -1,12 +1,21 @@
 -- The lines that the program writes.
-use Rattle.std.specs.Prelude.{ℕ, ℤ, List, [], ◌∷◌, ◌++◌, length, Option, Some, None, Result, Ok, Err, IsSome, codes}
+use Rattle.std.specs.Prelude.{ℕ, ◌/◌, ◌%◌, ℤ, ◌≢◌, List, [], ◌∷◌, ◌++◌, length, flat_map, Option, Some, None, Result, Ok, Err, IsSome, codes}
 use Rattle.std.specs.List.{join_by}
+use Rattle.std.specs.Char.{digit_char}
 use Rattle.std.specs.Fmt.{decimal, signed_decimal}
 use Rattle.yaml_text.specs.declared.types.yaml_encoding_t.{yaml_encoding_t}
 use Rattle.yaml_text.specs.declared.types.yaml_encoding_t.TheVariants.{YAML_ANY_ENCODING, YAML_UTF8_ENCODING, YAML_UTF16LE_ENCODING, YAML_UTF16BE_ENCODING}
 use Rattle.yaml_text.specs.declared.types.yaml_error_type_t.{yaml_error_type_t}
 use Rattle.yaml_text.specs.declared.types.yaml_error_type_t.TheVariants.{YAML_MEMORY_ERROR, YAML_READER_ERROR, YAML_SCANNER_ERROR}
 use Rattle.yaml_text.specs.declared.types.yaml_mark_t.{yaml_mark_t}
+use Rattle.yaml_text.specs.declared.types.yaml_scalar_style_t.{yaml_scalar_style_t}
+use Rattle.yaml_text.specs.declared.types.yaml_scalar_style_t.TheVariants.{YAML_ANY_SCALAR_STYLE, YAML_PLAIN_SCALAR_STYLE, YAML_SINGLE_QUOTED_SCALAR_STYLE, YAML_DOUBLE_QUOTED_SCALAR_STYLE, YAML_LITERAL_SCALAR_STYLE, YAML_FOLDED_SCALAR_STYLE}
+use Rattle.yaml_text.specs.declared.types.yaml_token_type_t.{yaml_token_type_t}
+use Rattle.yaml_text.specs.declared.types.yaml_token_type_t.TheVariants.{YAML_NO_TOKEN, YAML_STREAM_START_TOKEN, YAML_STREAM_END_TOKEN, YAML_VERSION_DIRECTIVE_TOKEN, YAML_TAG_DIRECTIVE_TOKEN, YAML_DOCUMENT_START_TOKEN, YAML_DOCUMENT_END_TOKEN, YAML_BLOCK_SEQUENCE_START_TOKEN, YAML_BLOCK_MAPPING_START_TOKEN, YAML_BLOCK_END_TOKEN, YAML_FLOW_SEQUENCE_START_TOKEN, YAML_FLOW_SEQUENCE_END_TOKEN, YAML_FLOW_MAPPING_START_TOKEN, YAML_FLOW_MAPPING_END_TOKEN, YAML_BLOCK_ENTRY_TOKEN, YAML_FLOW_ENTRY_TOKEN, YAML_KEY_TOKEN, YAML_VALUE_TOKEN, YAML_ALIAS_TOKEN, YAML_ANCHOR_TOKEN, YAML_TAG_TOKEN, YAML_SCALAR_TOKEN}
+use Rattle.yaml_text.specs.declared.token.yaml_token_t.{yaml_token_t}
+use Rattle.yaml_text.specs.declared.token.unnamed_yaml_token_t_data.{unnamed_yaml_token_t_data}
+use Rattle.yaml_text.specs.declared.token.unnamed_yaml_token_t_data.TheVariants.{STREAM_START, VERSION_DIRECTIVE, TAG_DIRECTIVE, ALIAS, ANCHOR, TAG, SCALAR}
+use Rattle.yaml_text.specs.Token.{type_of}
 use Rattle.yaml_text.specs.Chars.{utf8}
 use Rattle.yaml_text.specs.Mark.{mark_of}
 use Rattle.yaml_text.specs.Text.{Text}
@@ -15,6 +24,10 @@ use Rattle.yaml_text.specs.Fault.{Fault}
 -- a line of these parts, with a space between each two
 abbrev pub line_by : {X : Type 0} → (X → List ℕ) → List X → List ℕ
 line_by text parts = join_by text (codes " ") parts ++ 10 ∷ []
+
+-- parts with a space between each two
+abbrev pub parted : List (List ℕ) → List ℕ
+parted parts = join_by (λ part. part) (codes " ") parts
 
 abbrev pub line : List (List ℕ) → List ℕ
 line parts = line_by (λ part. part) parts
@@ -72,3 +85,81 @@ text_line t = line (codes "TEXT" ∷ encoding_word t.encoding ∷ decimal (lengt
 abbrev pub decode_line : Result Text Fault → List ℕ
 decode_line (Ok text) = text_line text
 decode_line (Err fault) = fault_line fault
+
+-- TOKENS
+-- a byte as two hexadecimal digits, in lower case
+abbrev pub byte_text : ℕ → List ℕ
+byte_text b = digit_char (b / 16) ∷ digit_char (b % 16) ∷ []
+
+-- the bytes of a token's text, or `-` where there are none
+abbrev pub bytes_text : List ℕ → List ℕ
+bytes_text [] = codes "-"
+bytes_text (b ∷ bs) = flat_map byte_text (b ∷ bs)
+
+-- the name of a type of tokens
+abbrev pub type_name : yaml_token_type_t → List ℕ
+type_name YAML_NO_TOKEN = codes "NO-TOKEN"
+type_name YAML_STREAM_START_TOKEN = codes "STREAM-START"
+type_name YAML_STREAM_END_TOKEN = codes "STREAM-END"
+type_name YAML_VERSION_DIRECTIVE_TOKEN = codes "VERSION-DIRECTIVE"
+type_name YAML_TAG_DIRECTIVE_TOKEN = codes "TAG-DIRECTIVE"
+type_name YAML_DOCUMENT_START_TOKEN = codes "DOCUMENT-START"
+type_name YAML_DOCUMENT_END_TOKEN = codes "DOCUMENT-END"
+type_name YAML_BLOCK_SEQUENCE_START_TOKEN = codes "BLOCK-SEQUENCE-START"
+type_name YAML_BLOCK_MAPPING_START_TOKEN = codes "BLOCK-MAPPING-START"
+type_name YAML_BLOCK_END_TOKEN = codes "BLOCK-END"
+type_name YAML_FLOW_SEQUENCE_START_TOKEN = codes "FLOW-SEQUENCE-START"
+type_name YAML_FLOW_SEQUENCE_END_TOKEN = codes "FLOW-SEQUENCE-END"
+type_name YAML_FLOW_MAPPING_START_TOKEN = codes "FLOW-MAPPING-START"
+type_name YAML_FLOW_MAPPING_END_TOKEN = codes "FLOW-MAPPING-END"
+type_name YAML_BLOCK_ENTRY_TOKEN = codes "BLOCK-ENTRY"
+type_name YAML_FLOW_ENTRY_TOKEN = codes "FLOW-ENTRY"
+type_name YAML_KEY_TOKEN = codes "KEY"
+type_name YAML_VALUE_TOKEN = codes "VALUE"
+type_name YAML_ALIAS_TOKEN = codes "ALIAS"
+type_name YAML_ANCHOR_TOKEN = codes "ANCHOR"
+type_name YAML_TAG_TOKEN = codes "TAG"
+type_name YAML_SCALAR_TOKEN = codes "SCALAR"
+
+-- the word of a style that a scalar has
+abbrev pub style_word : yaml_scalar_style_t → List ℕ
+style_word YAML_ANY_SCALAR_STYLE = []
+style_word YAML_PLAIN_SCALAR_STYLE = codes "plain"
+style_word YAML_SINGLE_QUOTED_SCALAR_STYLE = codes "single"
+style_word YAML_DOUBLE_QUOTED_SCALAR_STYLE = codes "double"
+style_word YAML_LITERAL_SCALAR_STYLE = codes "literal"
+style_word YAML_FOLDED_SCALAR_STYLE = codes "folded"
+
+-- the marks of a token; the empty token has none
+abbrev pub mark_parts : yaml_token_type_t → yaml_mark_t → yaml_mark_t → List (List ℕ)
+mark_parts YAML_NO_TOKEN start end = []
+mark_parts _ start end = mark_text start ∷ mark_text end ∷ []
+
+-- a token's type and marks
+abbrev pub head_parts : yaml_token_type_t → yaml_mark_t → yaml_mark_t → List (List ℕ)
+head_parts kind start end = type_name kind ∷ mark_parts kind start end
+
+-- what a token says, beside its type
+abbrev pub data_parts : unnamed_yaml_token_t_data → List (List ℕ)
+data_parts (STREAM_START encoding) = encoding_word encoding ∷ []
+data_parts (VERSION_DIRECTIVE major minor) = signed_decimal major ∷ signed_decimal minor ∷ []
+data_parts (TAG_DIRECTIVE handle prefix) = bytes_text handle ∷ bytes_text prefix ∷ []
+data_parts (ALIAS value) = bytes_text value ∷ []
+data_parts (ANCHOR value) = bytes_text value ∷ []
+data_parts (TAG handle suffix) = bytes_text handle ∷ bytes_text suffix ∷ []
+data_parts (SCALAR value style) = style_word style ∷ bytes_text value ∷ []
+data_parts _ = []
+
+-- the line of a token
+abbrev pub token_line : yaml_token_t → List ℕ
+token_line t = line (head_parts (type_of t.token_data) t.start_mark t.end_mark ++ data_parts t.token_data)
+
+-- the line of a token that is shown and stays
+abbrev pub peek_line : yaml_token_type_t → yaml_mark_t → yaml_mark_t → List ℕ
+peek_line kind start end = line (codes "PEEK" ∷ head_parts kind start end)
+
+-- a token has a line if the encoding of a stream and the style of a scalar are told
+abbrev pub HasWords : unnamed_yaml_token_t_data → Type 0
+HasWords (STREAM_START encoding) = encoding ≢ YAML_ANY_ENCODING
+HasWords (SCALAR value style) = style ≢ YAML_ANY_SCALAR_STYLE
+HasWords _ = Unit {0}

@@ -10,23 +10,23 @@ use Rattle.yamltok.specs.declared.args.yaml_command_t.{yaml_command_t}
 use Rattle.yamltok.specs.declared.args.yaml_command_t.TheVariants.{Decode}
 use Rattle.yamltok.specs.Listing.{decode_line}
 
--- A command that is made by hand may be wrong. This one never is.
+-- The words inside a command are none that it takes. Decoding has none inside.
 abbrev pub IsWrong : yaml_command_t → Type 0
 IsWrong (Decode setting) = ⊥
 
--- The answer is what the input decodes to, or that memory was refused, which UTF-8 takes none of.
+-- The answer is what the input decodes to, or that memory was refused. In UTF-8 none is taken, so none is refused.
 pub record AnswersDecode (setting : yaml_encoding_t) (input : List ℕ) (answer : Result Text Fault) : Type 0 where
   pub answer_is : (answer ≡ decoded setting input) ⊎ (answer ≡ Err memory_fault)
   pub in_utf8 : encoding_of setting input ≡ YAML_UTF8_ENCODING → answer ≡ decoded setting input
 
--- The lines are the listing of such an answer, and say whether it is a fault.
+-- The lines are the listing of such an answer, and it is a fault or not.
 pub record ListsDecode (setting : yaml_encoding_t) (input lines : List ℕ) (has_fault : Bool) : Type 0 where
   pub answer : Result Text Fault
   pub answers : AnswersDecode setting input answer
   pub lines_are : lines ≡ decode_line answer
   pub fault_is : has_fault ≡ is_err answer
 
--- The lines list what the command answers to the input, and say whether a fault's line is among them.
+-- The lines list what the command answers to the input, and a fault's line is among them or not.
 abbrev pub Lists : yaml_command_t → List ℕ → List ℕ → Bool → Type 0
 Lists (Decode setting) input lines has_fault = ListsDecode setting input lines has_fault
 

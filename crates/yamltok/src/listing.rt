@@ -1,14 +1,17 @@
 //! The lines that the program writes: numbers are decimal, parts are parted by one space, and a line
 //! ends with a line feed.
-ghost use Rattle.std.specs.Prelude.{◌≡◌, ◌≢◌, ◌++◌, OnOk, OnErr, IfOk, string_bytes};
+ghost use Rattle.std.specs.Prelude.{◌≡◌, ◌≢◌, ◌<◌, ◌++◌, codes, flat_map, OnOk, OnErr, IfOk, string_bytes};
+ghost use Rattle.std.specs.Char.{digit_char};
+ghost use Rattle.std.specs.Fmt.{signed_decimal};
 ghost use Rattle.yaml_text.specs.declared.types.yaml_encoding_t.TheVariants.{YAML_ANY_ENCODING};
+ghost use Rattle.yaml_text.specs.declared.types.yaml_scalar_style_t.TheVariants.{YAML_ANY_SCALAR_STYLE};
 ghost use Rattle.yaml_text.specs.Fault.{fault_of};
-ghost use Rattle.yamltok.specs.Listing.{line_by, mark_text, encoding_word, reader_line, scanner_line, fault_line, text_line, HasLine};
+ghost use Rattle.yamltok.specs.Listing.{line_by, parted, mark_text, encoding_word, reader_line, scanner_line, fault_line, text_line, HasLine, bytes_text, type_name, style_word, head_parts, data_parts, token_line, peek_line, HasWords};
 
 use std::alloc::{AllocError, Global};
 use yaml_text::{
-    yaml_encoding_t, yaml_error_type_t, yaml_fault_t, yaml_is_place, yaml_mark_at, yaml_mark_t,
-    yaml_text_t,
+    unnamed_yaml_token_t_data, yaml_encoding_t, yaml_error_type_t, yaml_fault_t, yaml_is_place,
+    yaml_mark_at, yaml_mark_t, yaml_scalar_style_t, yaml_text_t, yaml_token_t, yaml_token_type_t,
 };
 
 fn line_of(alloc: Global, parts: &[&str]) -> Result<String, AllocError>
@@ -129,4 +132,193 @@ pub fn list_text(alloc: Global, text: &yaml_text_t, out: &mut Vec<u8>) -> Result
 {
     let line = text_line(alloc, text)?;
     out.extend_from_slice(line.as_bytes())
+}
+
+fn hex_digit(value: u8) -> u8
+    requires { value < 16 }
+    ensures { result ≡ digit_char value }
+{
+    if value < 10 {
+        b'0' + value
+    } else {
+        b'a' + (value - 10)
+    }
+}
+
+/// Two hexadecimal digits a byte, or `-` where there is none.
+fn bytes_text(alloc: Global, bytes: &[u8]) -> Result<String, AllocError>
+    ensures { IfOk result (λ text. string_bytes text ≡ bytes_text bytes.now) }
+{
+    if bytes.is_empty() {
+        return String::from_str(alloc, "-");
+    }
+    let mut text = String::new(alloc);
+    for byte in bytes {
+        text.push(char::from(hex_digit(byte / 16)))?;
+        text.push(char::from(hex_digit(byte % 16)))?;
+    }
+    Ok(text)
+}
+
+fn type_name(kind: yaml_token_type_t) -> &'static str
+    ensures { result.now ≡ type_name kind }
+{
+    match kind {
+        yaml_token_type_t::YAML_NO_TOKEN => "NO-TOKEN",
+        yaml_token_type_t::YAML_STREAM_START_TOKEN => "STREAM-START",
+        yaml_token_type_t::YAML_STREAM_END_TOKEN => "STREAM-END",
+        yaml_token_type_t::YAML_VERSION_DIRECTIVE_TOKEN => "VERSION-DIRECTIVE",
+        yaml_token_type_t::YAML_TAG_DIRECTIVE_TOKEN => "TAG-DIRECTIVE",
+        yaml_token_type_t::YAML_DOCUMENT_START_TOKEN => "DOCUMENT-START",
+        yaml_token_type_t::YAML_DOCUMENT_END_TOKEN => "DOCUMENT-END",
+        yaml_token_type_t::YAML_BLOCK_SEQUENCE_START_TOKEN => "BLOCK-SEQUENCE-START",
+        yaml_token_type_t::YAML_BLOCK_MAPPING_START_TOKEN => "BLOCK-MAPPING-START",
+        yaml_token_type_t::YAML_BLOCK_END_TOKEN => "BLOCK-END",
+        yaml_token_type_t::YAML_FLOW_SEQUENCE_START_TOKEN => "FLOW-SEQUENCE-START",
+        yaml_token_type_t::YAML_FLOW_SEQUENCE_END_TOKEN => "FLOW-SEQUENCE-END",
+        yaml_token_type_t::YAML_FLOW_MAPPING_START_TOKEN => "FLOW-MAPPING-START",
+        yaml_token_type_t::YAML_FLOW_MAPPING_END_TOKEN => "FLOW-MAPPING-END",
+        yaml_token_type_t::YAML_BLOCK_ENTRY_TOKEN => "BLOCK-ENTRY",
+        yaml_token_type_t::YAML_FLOW_ENTRY_TOKEN => "FLOW-ENTRY",
+        yaml_token_type_t::YAML_KEY_TOKEN => "KEY",
+        yaml_token_type_t::YAML_VALUE_TOKEN => "VALUE",
+        yaml_token_type_t::YAML_ALIAS_TOKEN => "ALIAS",
+        yaml_token_type_t::YAML_ANCHOR_TOKEN => "ANCHOR",
+        yaml_token_type_t::YAML_TAG_TOKEN => "TAG",
+        yaml_token_type_t::YAML_SCALAR_TOKEN => "SCALAR",
+    }
+}
+
+fn style_word(style: yaml_scalar_style_t) -> &'static str
+    requires { style ≢ YAML_ANY_SCALAR_STYLE }
+    ensures { result.now ≡ style_word style }
+{
+    match style {
+        yaml_scalar_style_t::YAML_ANY_SCALAR_STYLE => unreachable!(),
+        yaml_scalar_style_t::YAML_PLAIN_SCALAR_STYLE => "plain",
+        yaml_scalar_style_t::YAML_SINGLE_QUOTED_SCALAR_STYLE => "single",
+        yaml_scalar_style_t::YAML_DOUBLE_QUOTED_SCALAR_STYLE => "double",
+        yaml_scalar_style_t::YAML_LITERAL_SCALAR_STYLE => "literal",
+        yaml_scalar_style_t::YAML_FOLDED_SCALAR_STYLE => "folded",
+    }
+}
+
+/// The type and the marks of a token; the empty token has none.
+fn head_text(
+    alloc: Global,
+    kind: yaml_token_type_t,
+    start_mark: yaml_mark_t,
+    end_mark: yaml_mark_t,
+) -> Result<String, AllocError>
+    ensures { IfOk result (λ text. string_bytes text ≡ parted (head_parts kind start_mark end_mark)) }
+{
+    let name = type_name(kind);
+    match kind {
+        yaml_token_type_t::YAML_NO_TOKEN => String::from_str(alloc, name),
+        _ => {
+            let start = mark_text(alloc, start_mark)?;
+            let end = mark_text(alloc, end_mark)?;
+            [name, start.as_str(), end.as_str()].join(alloc, " ")
+        }
+    }
+}
+
+/// A part with a space in front.
+fn part_text(alloc: Global, part: &str) -> Result<String, AllocError>
+    ensures { IfOk result (λ text. string_bytes text ≡ codes " " ++ part.now) }
+{
+    format!(in alloc; " {part}")
+}
+
+/// Two parts with a space in front of each.
+fn parts_text(alloc: Global, first: &str, second: &str) -> Result<String, AllocError>
+    ensures { IfOk result (λ text. string_bytes text ≡ (codes " " ++ first.now) ++ (codes " " ++ second.now)) }
+{
+    format!(in alloc; " {first} {second}")
+}
+
+fn version_text(alloc: Global, major: i32, minor: i32) -> Result<String, AllocError>
+    ensures { IfOk result (λ text. string_bytes text ≡ (codes " " ++ signed_decimal major) ++ (codes " " ++ signed_decimal minor)) }
+{
+    let major = major.to_string(alloc)?;
+    let minor = minor.to_string(alloc)?;
+    parts_text(alloc, major.as_str(), minor.as_str())
+}
+
+fn pair_text(alloc: Global, first: &[u8], second: &[u8]) -> Result<String, AllocError>
+    ensures { IfOk result (λ text. string_bytes text ≡ (codes " " ++ bytes_text first.now) ++ (codes " " ++ bytes_text second.now)) }
+{
+    let first = bytes_text(alloc, first)?;
+    let second = bytes_text(alloc, second)?;
+    parts_text(alloc, first.as_str(), second.as_str())
+}
+
+/// What a token says, beside its type, with a space in front of each part.
+fn data_text(alloc: Global, said: &unnamed_yaml_token_t_data) -> Result<String, AllocError>
+    requires { HasWords said.now }
+    ensures { IfOk result (λ text. string_bytes text ≡ flat_map (λ part. codes " " ++ part) (data_parts said.now)) }
+{
+    match said {
+        unnamed_yaml_token_t_data::STREAM_START { encoding } => {
+            part_text(alloc, encoding_word(*encoding))
+        }
+        unnamed_yaml_token_t_data::VERSION_DIRECTIVE { major, minor } => {
+            version_text(alloc, *major, *minor)
+        }
+        unnamed_yaml_token_t_data::TAG_DIRECTIVE { handle, prefix } => {
+            pair_text(alloc, handle.as_slice(), prefix.as_slice())
+        }
+        unnamed_yaml_token_t_data::ALIAS { value } | unnamed_yaml_token_t_data::ANCHOR { value } =>
+            {
+                let value = bytes_text(alloc, value.as_slice())?;
+                part_text(alloc, value.as_str())
+            }
+        unnamed_yaml_token_t_data::TAG { handle, suffix } => {
+            pair_text(alloc, handle.as_slice(), suffix.as_slice())
+        }
+        unnamed_yaml_token_t_data::SCALAR { value, style } => {
+            let value = bytes_text(alloc, value.as_slice())?;
+            parts_text(alloc, style_word(*style), value.as_str())
+        }
+        _ => Ok(String::new(alloc)),
+    }
+}
+
+fn token_text(alloc: Global, token: &yaml_token_t) -> Result<String, AllocError>
+    requires { HasWords token.now.token_data }
+    ensures { IfOk result (λ text. string_bytes text ≡ token_line token.now) }
+{
+    let head = head_text(alloc, token.type_(), token.start_mark, token.end_mark)?;
+    let said = data_text(alloc, &token.token_data)?;
+    format!(in alloc; "{head}{said}\n")
+}
+
+/// Puts the line of a token behind `out`: the name of its type, the marks of its start and end, and
+/// what it says: the encoding of a stream; the two numbers of a `%YAML` directive; the texts of other
+/// tokens, two hexadecimal digits a byte or `-` for none, with the style in front of a scalar's. The
+/// empty token is `NO-TOKEN`. Where memory is refused, `out` is as before.
+pub fn list_token(alloc: Global, token: &yaml_token_t, out: &mut Vec<u8>) -> Result<(), AllocError>
+    requires { HasWords token.now.token_data }
+    ensures ok { OnOk result (out.new.items ≡ out.old.items ++ token_line token.now) }
+    ensures err { OnErr result (out.new.items ≡ out.old.items) }
+{
+    let text = token_text(alloc, token)?;
+    out.extend_from_slice(text.as_bytes())
+}
+
+/// Puts the line of a token that is shown and stays behind `out`: `PEEK`, the name of its type and its
+/// marks, or `PEEK NO-TOKEN` for the empty token. Where memory is refused, `out` is as before.
+pub fn list_peek(
+    alloc: Global,
+    kind: yaml_token_type_t,
+    start_mark: yaml_mark_t,
+    end_mark: yaml_mark_t,
+    out: &mut Vec<u8>,
+) -> Result<(), AllocError>
+    ensures ok { OnOk result (out.new.items ≡ out.old.items ++ peek_line kind start_mark end_mark) }
+    ensures err { OnErr result (out.new.items ≡ out.old.items) }
+{
+    let head = head_text(alloc, kind, start_mark, end_mark)?;
+    let text = format!(in alloc; "PEEK {head}\n")?;
+    out.extend_from_slice(text.as_bytes())
 }

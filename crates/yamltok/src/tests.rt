@@ -4,7 +4,7 @@ ghost use Rattle.yamltok.specs.Devices.{source_failed, sink_failed};
 
 use crate::args::parse_args;
 use crate::devices::{yaml_sink_of_t, yaml_source_of_t};
-use crate::listing::list_fault;
+use crate::listing::{list_fault, list_peek, list_token};
 use crate::outcome::{tool_fault_t, yaml_status};
 use crate::run::run;
 use std::alloc::Global;
@@ -12,7 +12,10 @@ use std::io;
 use std::io::{Read, Write};
 use std::process::Abort;
 use std::test::Fail;
-use yaml_text::{make_memory_fault, make_scanner_fault, yaml_mark_t};
+use yaml_text::{
+    make_memory_fault, make_scanner_fault, unnamed_yaml_token_t_data, yaml_bytes_t,
+    yaml_encoding_t, yaml_mark_t, yaml_scalar_style_t, yaml_token_t, yaml_token_type_t,
+};
 
 /// Gives one byte a call, and fails behind so many calls.
 #[derive(Drop)]
@@ -366,6 +369,137 @@ fn words_of_faults(rt: HostRuntime) -> Result<(), Fail> {
     for (fault, words, status) in rows {
         assert_eq!(rt; fault.to_string(rt.alloc())?.as_str(), words);
         assert_eq!(rt; yaml_status(&Err(fault)), status);
+    }
+    Ok(())
+}
+
+fn bytes_of(alloc: Global, bytes: &[u8]) -> Result<yaml_bytes_t, Fail> {
+    Ok(yaml_bytes_t::from_vec(Vec::from_slice(alloc, bytes)?))
+}
+
+/// One token that says something, of each type.
+fn tokens_with_data(alloc: Global) -> Result<Vec<unnamed_yaml_token_t_data>, Fail> {
+    let mut said = Vec::new(alloc);
+    said.push(unnamed_yaml_token_t_data::TAG {
+        handle: bytes_of(alloc, b"!")?,
+        suffix: bytes_of(alloc, b"\0")?,
+    })?;
+    said.push(unnamed_yaml_token_t_data::TAG {
+        handle: bytes_of(alloc, b"")?,
+        suffix: bytes_of(alloc, b"!")?,
+    })?;
+    for encoding in [
+        yaml_encoding_t::YAML_UTF8_ENCODING,
+        yaml_encoding_t::YAML_UTF16LE_ENCODING,
+        yaml_encoding_t::YAML_UTF16BE_ENCODING,
+    ] {
+        said.push(unnamed_yaml_token_t_data::STREAM_START { encoding })?;
+    }
+    said.push(unnamed_yaml_token_t_data::VERSION_DIRECTIVE {
+        major: 1,
+        minor: -20,
+    })?;
+    said.push(unnamed_yaml_token_t_data::TAG_DIRECTIVE {
+        handle: bytes_of(alloc, b"!e!")?,
+        prefix: bytes_of(alloc, b"tag:")?,
+    })?;
+    said.push(unnamed_yaml_token_t_data::ALIAS {
+        value: bytes_of(alloc, b"a")?,
+    })?;
+    said.push(unnamed_yaml_token_t_data::ANCHOR {
+        value: bytes_of(alloc, b"b")?,
+    })?;
+    for style in [
+        yaml_scalar_style_t::YAML_PLAIN_SCALAR_STYLE,
+        yaml_scalar_style_t::YAML_SINGLE_QUOTED_SCALAR_STYLE,
+        yaml_scalar_style_t::YAML_DOUBLE_QUOTED_SCALAR_STYLE,
+        yaml_scalar_style_t::YAML_LITERAL_SCALAR_STYLE,
+        yaml_scalar_style_t::YAML_FOLDED_SCALAR_STYLE,
+    ] {
+        said.push(unnamed_yaml_token_t_data::SCALAR {
+            value: bytes_of(alloc, b"\x00\x09\x9f\xa0\xff")?,
+            style,
+        })?;
+    }
+    said.push(unnamed_yaml_token_t_data::SCALAR {
+        value: bytes_of(alloc, b"")?,
+        style: yaml_scalar_style_t::YAML_LITERAL_SCALAR_STYLE,
+    })?;
+    said.push(unnamed_yaml_token_t_data::BLOCK_MAPPING_START)?;
+    Ok(said)
+}
+
+const FROM: yaml_mark_t = yaml_mark_t {
+    index: 0,
+    line: 0,
+    column: 0,
+};
+
+const TO: yaml_mark_t = yaml_mark_t {
+    index: 4,
+    line: 0,
+    column: 4,
+};
+
+#[test]
+fn token_lines(rt: HostRuntime) -> Result<(), Fail> {
+    let alloc = rt.alloc();
+    let mut out = Vec::new(alloc);
+    out.push(b'>')?;
+    list_token(alloc, &yaml_token_t::empty(), &mut out)?;
+    for token_data in tokens_with_data(alloc)? {
+        let token = yaml_token_t {
+            token_data,
+            start_mark: FROM,
+            end_mark: TO,
+        };
+        list_token(alloc, &token, &mut out)?;
+    }
+    let lines = "\
+>NO-TOKEN
+TAG 0:0:0 4:0:4 21 00
+TAG 0:0:0 4:0:4 - 21
+STREAM-START 0:0:0 4:0:4 UTF8
+STREAM-START 0:0:0 4:0:4 UTF16LE
+STREAM-START 0:0:0 4:0:4 UTF16BE
+VERSION-DIRECTIVE 0:0:0 4:0:4 1 -20
+TAG-DIRECTIVE 0:0:0 4:0:4 216521 7461673a
+ALIAS 0:0:0 4:0:4 61
+ANCHOR 0:0:0 4:0:4 62
+SCALAR 0:0:0 4:0:4 plain 00099fa0ff
+SCALAR 0:0:0 4:0:4 single 00099fa0ff
+SCALAR 0:0:0 4:0:4 double 00099fa0ff
+SCALAR 0:0:0 4:0:4 literal 00099fa0ff
+SCALAR 0:0:0 4:0:4 folded 00099fa0ff
+SCALAR 0:0:0 4:0:4 literal -
+BLOCK-MAPPING-START 0:0:0 4:0:4
+";
+    assert_eq!(rt; out.as_slice(), lines.as_bytes());
+    Ok(())
+}
+
+#[test]
+fn peek_lines(rt: HostRuntime) -> Result<(), Fail> {
+    let alloc = rt.alloc();
+    let rows = [
+        (yaml_token_type_t::YAML_NO_TOKEN, "PEEK NO-TOKEN\n"),
+        (
+            yaml_token_type_t::YAML_STREAM_START_TOKEN,
+            "PEEK STREAM-START 0:0:0 4:0:4\n",
+        ),
+        (
+            yaml_token_type_t::YAML_SCALAR_TOKEN,
+            "PEEK SCALAR 0:0:0 4:0:4\n",
+        ),
+        (
+            yaml_token_type_t::YAML_FLOW_MAPPING_END_TOKEN,
+            "PEEK FLOW-MAPPING-END 0:0:0 4:0:4\n",
+        ),
+    ];
+    for (kind, line) in rows {
+        let mut out = Vec::new(alloc);
+        list_peek(alloc, kind, FROM, TO, &mut out)?;
+        assert_eq!(rt; out.as_slice(), line.as_bytes());
     }
     Ok(())
 }

@@ -1,12 +1,25 @@
-use Rattle.std.proofs.Common.{◌∙◌, ap, sym, subst, arith}
+use Rattle.std.proofs.Common.{◌<◌, length, ◌∙◌, ap, sym, subst, arith}
 use Rattle.std.specs.Str.{chars}
 use Rattle.yaml_text.specs.Chars.{IsText}
 use Rattle.std.proofs.lemmas.Grind.{common_steps}
-use Rattle.yaml_lexeme.proofs.Heads.{past}
+use Rattle.yaml_lexeme.proofs.Heads.{past, past_ascii, none_past}
 use Rattle.yaml_lexeme.proofs.cursor.past_char.Goals as goal
 
+pub returns-then-is_empty-clause-rest : goal.returns-then-is_empty-clause-rest
+returns-then-is_empty-clause-rest c = none_past c.args.bytes.now c.requires (grind (arith, common_steps))
+
+pub returns-then-bytes-lt128-clause-text : goal.returns-then-bytes-lt128-clause-text
+returns-then-bytes-lt128-clause-text c =
+    let some : 0 < length c.args.bytes.now = grind (arith, common_steps) in
+    subst IsText (sym c.rest.ensures) (past_ascii c.args.bytes.now c.requires some c.if-bytes-lt128.true).text
+
+pub returns-then-bytes-lt128-clause-rest : goal.returns-then-bytes-lt128-clause-rest
+returns-then-bytes-lt128-clause-rest c =
+    let some : 0 < length c.args.bytes.now = grind (arith, common_steps) in
+    ap chars c.rest.ensures ∙ (past_ascii c.args.bytes.now c.requires some c.if-bytes-lt128.true).rest
+
 pub returns-clause-text : goal.returns-clause-text
-returns-clause-text c = subst IsText (sym c.rest.ensures) (past c.args.bytes.now c.min-width.result c.requires (grind (arith, common_steps))).text
+returns-clause-text c = subst IsText (sym c.rest-2.ensures) (past c.args.bytes.now c.min-width.result c.requires (grind (arith, common_steps))).text
 
 pub returns-clause-rest : goal.returns-clause-rest
-returns-clause-rest c = ap chars c.rest.ensures ∙ (past c.args.bytes.now c.min-width.result c.requires (grind (arith, common_steps))).rest
+returns-clause-rest c = ap chars c.rest-2.ensures ∙ (past c.args.bytes.now c.min-width.result c.requires (grind (arith, common_steps))).rest

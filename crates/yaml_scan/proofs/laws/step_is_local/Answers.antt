@@ -1,5 +1,6 @@
 use Rattle.yaml_scan.proofs.Local as laws
+use Rattle.yaml_scan.proofs.SourceLocal as texts
 use Rattle.yaml_scan.proofs.laws.step_is_local.Goals as goal
 
 pub returns : goal.returns
-returns c = record { step = laws.step_is_local; tokens = laws.tokens_before_refusal; fault = laws.fault_before_refusal }
+returns c = record { step = laws.step_is_local; tokens = laws.tokens_before_refusal; fault = laws.fault_before_refusal; texts = texts.texts_are_local }

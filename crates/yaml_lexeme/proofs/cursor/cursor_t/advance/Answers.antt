@@ -1,10 +1,11 @@
 use Rattle.std.proofs.Common.{◌<◌, ◌≤◌, ◌∙◌, length, arith, ap, ℕ, List}
 use Rattle.std.specs.Char.{len_utf8}
 use Rattle.std.proofs.lemmas.Grind.{common_steps}
-use Rattle.yaml_lexeme.specs.Place.{Place, mark_behind}
+use Rattle.std.proofs.lemmas.List.{length-drop}
+use Rattle.yaml_lexeme.specs.Place.{Place, mark_behind, skip}
 use Rattle.yaml_lexeme.proofs.Places.{moved, stays}
 use Rattle.yaml_text.specs.declared.types.yaml_mark_t.{yaml_mark_t}
-use Rattle.yaml_lexeme.proofs.Cursors.{index_behind}
+use Rattle.yaml_lexeme.proofs.Cursors.{index_behind, ascii_moves}
 use Rattle.yaml_lexeme.proofs.Heads.{head, none_left, shrinks}
 use Rattle.yaml_lexeme.proofs.cursor.cursor_t.advance.Goals as goal
 
@@ -29,9 +30,21 @@ mark_behind-self-inside-requires-clause-index c =
     let h = head c.self.inside.bytes.now c.self.invariant.0 some in
     omega (arith, h.within, ap len_utf8 c.first_char-c.ensures, c.self.invariant.1)
 
-pub invariant_of-self : goal.invariant_of-self
-invariant_of-self c =
+pub invariant_of-self-2 : goal.invariant_of-self-2
+invariant_of-self-2 c =
     let some : 0 < length c.self.inside.bytes.now = grind (arith, common_steps) in
     let s = shrinks c.self.inside.bytes.now c.past_char-self-inside.result.now c.self.invariant.0 c.past_char-self-inside.ensures.text c.past_char-self-inside.ensures.rest some in
     let i = index_behind c.self.inside.mark c.first_char-c.result c.peek-next.result in
     (c.past_char-self-inside.ensures.text, omega (arith, s, ap len_utf8 c.first_char-c.ensures, i, ap (λ (m : yaml_mark_t). m.index) c.mark_behind-self-inside.ensures.value, c.self.invariant.1), c.mark_behind-self-inside.ensures.sums)
+
+pub invariant_of-self : goal.invariant_of-self
+invariant_of-self c =
+    let some : 0 < length c.self.inside.bytes.now = grind (arith, common_steps) in
+    let m = ascii_moves c.self.inside.mark c.self.inside.bytes.now c.self.invariant.0 some c.if-b-lt128.true c.if-b-ne10.true c.if-b-ne13.true in
+    rw c.rest-self-inside.ensures (m.text, omega (arith, length-drop 1 c.self.inside.bytes.now, c.self.invariant.1), omega (arith, c.self.invariant.2))
+
+pub returns-then-b-ne13 : goal.returns-then-b-ne13
+returns-then-b-ne13 c =
+    let some : 0 < length c.self.inside.bytes.now = grind (arith, common_steps) in
+    let m = ascii_moves c.self.inside.mark c.self.inside.bytes.now c.self.invariant.0 some c.if-b-lt128.true c.if-b-ne10.true c.if-b-ne13.true in
+    rw c.rest-self-inside.ensures (m.place ∙ ap (λ (p : Place). skip 1 p) c.self.view_is)

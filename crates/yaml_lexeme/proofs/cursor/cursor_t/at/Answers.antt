@@ -1,6 +1,6 @@
 use Rattle.std.proofs.Common.{ap, length, rules, ◌<◌, ◌^◌, arith}
 use Rattle.std.proofs.lemmas.List.{length-drop}
-use Rattle.yaml_lexeme.proofs.Cursors.{finds, short}
+use Rattle.yaml_lexeme.proofs.Cursors.{finds}
 use Rattle.yaml_lexeme.proofs.cursor.cursor_t.at.Goals as goal
 
 pub rest-requires : goal.rest-requires
@@ -18,4 +18,4 @@ returns-clause-place c =
 pub returns-clause-size : goal.returns-clause-size
 returns-clause-size c =
     let fits : length c.bytes.result.now < 2 ^ 63 = search rules in
-    omega (arith, ap length c.bytes.ensures.utf8, short c.args.text.now.chars)
+    omega (arith, ap length c.bytes.ensures.utf8)

@@ -1,0 +1,138 @@
+//! What a line asks, and its answer.
+ghost use Rattle.std.specs.Prelude.{ℕ, ◌≤◌, IfSome, IsTrue, length};
+ghost use Rattle.yaml_lexeme.specs.Place.{IsMarkOf};
+
+use crate::show::{show_fault, show_lexeme, show_mark};
+use crate::words::{bytes_of, flag_of, level_of};
+use std::alloc::{AllocError, Global};
+use yaml_lexeme::{yaml_context_t, yaml_gap, yaml_lexeme_at, yaml_lexeme_kind};
+use yaml_text::{
+    yaml_decode, yaml_encoding_t, yaml_is_place, yaml_mark_at, yaml_mark_t, yaml_text_t,
+};
+
+/// The mark of a place of the text, if the index is one.
+fn mark_at(text: &yaml_text_t, index: usize) -> Option<yaml_mark_t>
+    ensures { IfSome result (λ mark. (n : ℕ) × IsMarkOf text.now.chars mark n) }
+{
+    if !yaml_is_place(text, index) {
+        return None;
+    }
+    Some(yaml_mark_at(text, index))
+}
+
+fn ask_gap(
+    alloc: Global,
+    text: &yaml_text_t,
+    at: yaml_mark_t,
+    in_flow: bool,
+    allowed: bool,
+) -> Result<String, AllocError>
+    requires { (n : ℕ) × IsMarkOf text.now.chars at n }
+{
+    let (end, broken) = yaml_gap(text, at, in_flow, allowed);
+    let mut shown = show_mark(alloc, end)?;
+    shown.push_str(if broken { " true" } else { " false" })?;
+    Ok(shown)
+}
+
+fn ask_kind(
+    alloc: Global,
+    text: &yaml_text_t,
+    at: yaml_mark_t,
+    in_flow: bool,
+) -> Result<String, AllocError>
+    requires { (n : ℕ) × IsMarkOf text.now.chars at n }
+{
+    match yaml_lexeme_kind(text, at, in_flow) {
+        Some(kind) => format!(in alloc; "{kind:?}"),
+        None => String::from_str(alloc, "-"),
+    }
+}
+
+fn ask_lexeme(
+    alloc: Global,
+    text: &yaml_text_t,
+    at: yaml_mark_t,
+    context: yaml_context_t,
+) -> Result<String, AllocError>
+    requires place { (n : ℕ) × IsMarkOf text.now.chars at n }
+    requires level { IfSome context.level (λ l. l ≤ length text.now.chars) }
+{
+    let Some(kind) = yaml_lexeme_kind(text, at, context.depth > 0) else {
+        return String::from_str(alloc, "-");
+    };
+    match yaml_lexeme_at(alloc, text, at, kind, context) {
+        Ok(lexeme) => show_lexeme(alloc, &lexeme),
+        Err(fault) => show_fault(alloc, &fault),
+    }
+}
+
+/// Whether the level is surely within the text, which has a character for each four bytes at least.
+fn is_within(text: &yaml_text_t, level: Option<u64>) -> bool
+    ensures { IsTrue result → IfSome level (λ l. l ≤ length text.now.chars) }
+{
+    match level {
+        None => true,
+        Some(level) => level <= text.bytes().len() as u64 / 4,
+    }
+}
+
+/// What the words ask of the text.
+fn ask(alloc: Global, words: &[&str], text: &yaml_text_t) -> Result<Option<String>, AllocError> {
+    match words {
+        ["gap", in_flow, allowed, index, _] => {
+            let (Some(in_flow), Some(allowed)) = (flag_of(in_flow), flag_of(allowed)) else {
+                return Ok(None);
+            };
+            match mark_of(text, index) {
+                Some(at) => Ok(Some(ask_gap(alloc, text, at, in_flow, allowed)?)),
+                None => Ok(None),
+            }
+        }
+        ["kind", in_flow, index, _] => {
+            let (Some(in_flow), Some(at)) = (flag_of(in_flow), mark_of(text, index)) else {
+                return Ok(None);
+            };
+            Ok(Some(ask_kind(alloc, text, at, in_flow)?))
+        }
+        ["lex", depth, level, index, _] => {
+            let (Ok(depth), Some(level)) = (depth.parse(), level_of(level)) else {
+                return Ok(None);
+            };
+            if !is_within(text, level) {
+                return Ok(None);
+            }
+            match mark_of(text, index) {
+                Some(at) => Ok(Some(ask_lexeme(alloc, text, at, yaml_context_t { depth, level })?)),
+                None => Ok(None),
+            }
+        }
+        _ => Ok(None),
+    }
+}
+
+fn mark_of(text: &yaml_text_t, index: &str) -> Option<yaml_mark_t>
+    ensures { IfSome result (λ mark. (n : ℕ) × IsMarkOf text.now.chars mark n) }
+{
+    match index.parse() {
+        Ok(index) => mark_at(text, index),
+        Err(_) => None,
+    }
+}
+
+/// The answer to a line.
+pub fn answer(alloc: Global, line: &str) -> Result<String, AllocError> {
+    let words: Vec<&str> = line.split(' ').collect(alloc)?;
+    let bytes = match words.last() {
+        Some(word) => bytes_of(alloc, word)?,
+        None => None,
+    };
+    if let Some(bytes) = bytes {
+        if let Ok(text) = yaml_decode(alloc, &bytes, yaml_encoding_t::YAML_UTF8_ENCODING) {
+            if let Some(answer) = ask(alloc, &words, &text)? {
+                return Ok(answer);
+            }
+        }
+    }
+    String::from_str(alloc, "?")
+}

@@ -1,0 +1,69 @@
+//! What a lexeme and a fault look like in a line.
+use std::alloc::{AllocError, Global};
+use yaml_lexeme::yaml_lexeme_t;
+use yaml_text::{unnamed_yaml_token_t_data, yaml_bytes_t, yaml_fault_t, yaml_mark_t};
+
+pub fn show_mark(alloc: Global, mark: yaml_mark_t) -> Result<String, AllocError> {
+    let (index, line, column) = (mark.index, mark.line, mark.column);
+    format!(in alloc; "{index}:{line}:{column}")
+}
+
+fn show_bytes(alloc: Global, bytes: &yaml_bytes_t) -> Result<String, AllocError> {
+    let mut text = String::new(alloc);
+    for b in bytes.as_slice() {
+        let b = *b;
+        text.push_str(format!(in alloc; "{b:02x}")?.as_str())?;
+    }
+    if text.is_empty() {
+        text.push_str("-")?;
+    }
+    Ok(text)
+}
+
+/// The parts of what a lexeme says.
+fn show_parts(alloc: Global, says: &unnamed_yaml_token_t_data) -> Result<String, AllocError> {
+    match says {
+        unnamed_yaml_token_t_data::VERSION_DIRECTIVE { major, minor } => {
+            let (major, minor) = (*major, *minor);
+            format!(in alloc; " {major} {minor}")
+        }
+        unnamed_yaml_token_t_data::TAG_DIRECTIVE { handle, prefix } => {
+            let (handle, prefix) = (show_bytes(alloc, handle)?, show_bytes(alloc, prefix)?);
+            format!(in alloc; " {handle} {prefix}")
+        }
+        unnamed_yaml_token_t_data::ALIAS { value } => {
+            let value = show_bytes(alloc, value)?;
+            format!(in alloc; " {value}")
+        }
+        unnamed_yaml_token_t_data::ANCHOR { value } => {
+            let value = show_bytes(alloc, value)?;
+            format!(in alloc; " {value}")
+        }
+        unnamed_yaml_token_t_data::TAG { handle, suffix } => {
+            let (handle, suffix) = (show_bytes(alloc, handle)?, show_bytes(alloc, suffix)?);
+            format!(in alloc; " {handle} {suffix}")
+        }
+        unnamed_yaml_token_t_data::SCALAR { value, style } => {
+            let (value, style) = (show_bytes(alloc, value)?, *style);
+            format!(in alloc; " {value} {style:?}")
+        }
+        _ => Ok(String::new(alloc)),
+    }
+}
+
+pub fn show_lexeme(alloc: Global, lexeme: &yaml_lexeme_t) -> Result<String, AllocError> {
+    let parts = show_parts(alloc, &lexeme.token_data)?;
+    let start = show_mark(alloc, lexeme.start_mark)?;
+    let end = show_mark(alloc, lexeme.end_mark)?;
+    let reach = show_mark(alloc, lexeme.reach)?;
+    let passed = lexeme.passed_break;
+    format!(in alloc; "LEXEME{parts} {start} {end} {reach} {passed}")
+}
+
+pub fn show_fault(alloc: Global, fault: &yaml_fault_t) -> Result<String, AllocError> {
+    let problem = fault.problem.unwrap_or("-");
+    let context = fault.context.unwrap_or("-");
+    let at = show_mark(alloc, fault.problem_mark)?;
+    let from = show_mark(alloc, fault.context_mark)?;
+    format!(in alloc; "FAULT {from} {at} {context}; {problem}")
+}

@@ -1,0 +1,52 @@
+//! The words of a line.
+use std::alloc::{AllocError, Global};
+
+fn digit_of(b: u8) -> Option<u8> {
+    match b {
+        b'0'..=b'9' => Some(b - b'0'),
+        b'a'..=b'f' => Some(b - b'a' + 10),
+        _ => None,
+    }
+}
+
+/// The bytes that a word writes in hexadecimal, `-` being none.
+pub fn bytes_of(alloc: Global, word: &str) -> Result<Option<Vec<u8>>, AllocError> {
+    let mut bytes = Vec::new(alloc);
+    if word == "-" {
+        return Ok(Some(bytes));
+    }
+    let mut high = None;
+    for b in word.bytes() {
+        let Some(digit) = digit_of(b) else {
+            return Ok(None);
+        };
+        match high {
+            None => high = Some(digit),
+            Some(first) => {
+                bytes.push((first & 15) << 4 | digit & 15)?;
+                high = None;
+            }
+        }
+    }
+    Ok(Some(bytes))
+}
+
+/// 0 or 1.
+pub fn flag_of(word: &str) -> Option<bool> {
+    match word {
+        "0" => Some(false),
+        "1" => Some(true),
+        _ => None,
+    }
+}
+
+/// A column, or `-` for none.
+pub fn level_of(word: &str) -> Option<Option<u64>> {
+    if word == "-" {
+        return Some(None);
+    }
+    match word.parse() {
+        Ok(level) => Some(Some(level)),
+        Err(_) => None,
+    }
+}

@@ -1,0 +1,566 @@
+use super::*;
+use std::alloc::Global;
+use std::test::Fail;
+use yaml_text::{
+    unnamed_yaml_token_t_data, yaml_decode, yaml_encoding_t, yaml_fault_t, yaml_mark_t,
+    yaml_scalar_style_t,
+};
+
+const ANY: yaml_encoding_t = yaml_encoding_t::YAML_ANY_ENCODING;
+
+const FRONT: yaml_mark_t = yaml_mark_t {
+    index: 0,
+    line: 0,
+    column: 0,
+};
+
+fn show_mark(alloc: Global, mark: yaml_mark_t) -> Result<String, Fail> {
+    let (index, line, column) = (mark.index, mark.line, mark.column);
+    Ok(format!(in alloc; "{index}:{line}:{column}")?)
+}
+
+fn show_bytes(alloc: Global, bytes: &[u8]) -> Result<String, Fail> {
+    let mut shown = String::new(alloc);
+    for byte in bytes {
+        let pair = format!(in alloc; "{byte:02x}")?;
+        shown.push_str(&pair)?;
+    }
+    if shown.is_empty() {
+        shown.push('-')?;
+    }
+    Ok(shown)
+}
+
+fn show_two(alloc: Global, name: &str, first: &[u8], second: &[u8]) -> Result<String, Fail> {
+    let (first, second) = (show_bytes(alloc, first)?, show_bytes(alloc, second)?);
+    Ok(format!(in alloc; "{name} {first} {second}")?)
+}
+
+fn show_one(alloc: Global, name: &str, value: &[u8]) -> Result<String, Fail> {
+    let value = show_bytes(alloc, value)?;
+    Ok(format!(in alloc; "{name} {value}")?)
+}
+
+fn style_name(style: yaml_scalar_style_t) -> &'static str {
+    match style {
+        yaml_scalar_style_t::YAML_PLAIN_SCALAR_STYLE => "plain",
+        yaml_scalar_style_t::YAML_SINGLE_QUOTED_SCALAR_STYLE => "single",
+        yaml_scalar_style_t::YAML_DOUBLE_QUOTED_SCALAR_STYLE => "double",
+        yaml_scalar_style_t::YAML_LITERAL_SCALAR_STYLE => "literal",
+        yaml_scalar_style_t::YAML_FOLDED_SCALAR_STYLE => "folded",
+        _ => "no style",
+    }
+}
+
+fn show_data(alloc: Global, data: &unnamed_yaml_token_t_data) -> Result<String, Fail> {
+    match data {
+        unnamed_yaml_token_t_data::VERSION_DIRECTIVE { major, minor } => {
+            Ok(format!(in alloc; "version {major} {minor}")?)
+        }
+        unnamed_yaml_token_t_data::TAG_DIRECTIVE { handle, prefix } => {
+            show_two(alloc, "handle", handle.as_slice(), prefix.as_slice())
+        }
+        unnamed_yaml_token_t_data::TAG { handle, suffix } => {
+            show_two(alloc, "tag", handle.as_slice(), suffix.as_slice())
+        }
+        unnamed_yaml_token_t_data::ALIAS { value } => show_one(alloc, "alias", value.as_slice()),
+        unnamed_yaml_token_t_data::ANCHOR { value } => show_one(alloc, "anchor", value.as_slice()),
+        unnamed_yaml_token_t_data::SCALAR { value, style } => {
+            show_one(alloc, style_name(*style), value.as_slice())
+        }
+        unnamed_yaml_token_t_data::STREAM_END => Ok(String::from_str(alloc, "end")?),
+        unnamed_yaml_token_t_data::DOCUMENT_START => Ok(String::from_str(alloc, "---")?),
+        _ => Ok(String::from_str(alloc, "other")?),
+    }
+}
+
+/// Data, start, end, reach and flag.
+fn show_lexeme(alloc: Global, lexeme: &yaml_lexeme_t) -> Result<String, Fail> {
+    let data = show_data(alloc, &lexeme.token_data)?;
+    let start = show_mark(alloc, lexeme.start_mark)?;
+    let end = show_mark(alloc, lexeme.end_mark)?;
+    let reach = show_mark(alloc, lexeme.reach)?;
+    let passed = lexeme.passed_break;
+    Ok(format!(in alloc; "{data} {start} {end} {reach} {passed}")?)
+}
+
+/// Context with its mark, problem with its mark.
+fn show_fault(alloc: Global, fault: &yaml_fault_t) -> Result<String, Fail> {
+    let context = fault.context.unwrap_or("-");
+    let at = show_mark(alloc, fault.context_mark)?;
+    let problem = fault.problem.unwrap_or("-");
+    let there = show_mark(alloc, fault.problem_mark)?;
+    Ok(format!(in alloc; "{context} {at}; {problem} {there}")?)
+}
+
+/// The gap in front of a text, and whether a break is in it.
+fn show_gap(alloc: Global, bytes: &[u8], in_flow: bool, allowed: bool) -> Result<String, Fail> {
+    let text = yaml_decode(alloc, bytes, ANY).map_err(|_| "refused")?;
+    let (mark, broken) = yaml_gap(&text, FRONT, in_flow, allowed);
+    let mark = show_mark(alloc, mark)?;
+    Ok(format!(in alloc; "{mark} {broken}")?)
+}
+
+fn kind_of(alloc: Global, bytes: &[u8], in_flow: bool) -> Result<Option<yaml_lexeme_kind_t>, Fail> {
+    let text = yaml_decode(alloc, bytes, ANY).map_err(|_| "refused")?;
+    Ok(yaml_lexeme_kind(&text, FRONT, in_flow))
+}
+
+/// The lexeme in front of a text.
+fn lexed(alloc: Global, bytes: &[u8], depth: u64, level: Option<u64>) -> Result<String, Fail> {
+    let text = yaml_decode(alloc, bytes, ANY).map_err(|_| "refused")?;
+    let Some(kind) = yaml_lexeme_kind(&text, FRONT, depth > 0) else {
+        return Ok(String::from_str(alloc, "no kind")?);
+    };
+    if let Some(column) = level
+        && column > text.bytes().len() as u64
+    {
+        return Ok(String::from_str(alloc, "no level")?);
+    }
+    let context = yaml_context_t { depth, level };
+    match yaml_lexeme_at(alloc, &text, FRONT, kind, context) {
+        Ok(lexeme) => show_lexeme(alloc, &lexeme),
+        Err(fault) => show_fault(alloc, &fault),
+    }
+}
+
+#[test]
+fn names_tags_and_directives(rt: HostRuntime) -> Result<(), Fail> {
+    let alloc = rt.alloc();
+    let rows: [(&str, u64, Option<u64>, &str); 13] = [
+        ("", 0, None, "end 0:0:0 0:0:0 0:0:0 false"),
+        ("---", 0, None, "--- 0:0:0 3:0:3 3:0:3 false"),
+        ("@", 0, None, "no kind"),
+        ("|", 1, None, "no kind"),
+        (
+            "%YAML 1.1 # c\n",
+            0,
+            None,
+            "version 1 1 0:0:0 9:0:9 14:1:0 false",
+        ),
+        ("%TAG ! x", 0, None, "handle 21 78 0:0:0 8:0:8 8:0:8 false"),
+        ("&a]", 0, None, "anchor 61 0:0:0 2:0:2 2:0:2 false"),
+        ("*a]", 0, None, "alias 61 0:0:0 2:0:2 2:0:2 false"),
+        ("!%00 x", 0, None, "tag 21 00 0:0:0 4:0:4 4:0:4 false"),
+        ("!%C0%80 x", 0, None, "tag 21 c080 0:0:0 7:0:7 7:0:7 false"),
+        ("! x", 0, None, "tag - 21 0:0:0 1:0:1 1:0:1 false"),
+        (
+            "!!str x",
+            0,
+            None,
+            "tag 2121 737472 0:0:0 5:0:5 5:0:5 false",
+        ),
+        (
+            "!<tag:x,2000:y> z",
+            0,
+            None,
+            "tag - 7461673a782c323030303a79 0:0:0 15:0:15 15:0:15 false",
+        ),
+    ];
+    for (text, depth, level, want) in rows {
+        let shown = lexed(alloc, text.as_bytes(), depth, level)?;
+        assert_eq!(rt; shown.as_str(), want, "{text}");
+    }
+    Ok(())
+}
+
+#[test]
+fn offences_of_names_and_tags(rt: HostRuntime) -> Result<(), Fail> {
+    let alloc = rt.alloc();
+    let rows: [(&str, u64, Option<u64>, &str); 10] = [
+        (
+            "&",
+            0,
+            None,
+            "while scanning an anchor 0:0:0; did not find expected alphabetic or numeric character 1:0:1",
+        ),
+        (
+            "*a.b",
+            0,
+            None,
+            "while scanning an alias 0:0:0; did not find expected alphabetic or numeric character 2:0:2",
+        ),
+        (
+            "!<x",
+            0,
+            None,
+            "while scanning a tag 0:0:0; did not find the expected '>' 3:0:3",
+        ),
+        (
+            "!<>",
+            0,
+            None,
+            "while parsing a tag 0:0:0; did not find expected tag URI 2:0:2",
+        ),
+        (
+            "!!",
+            0,
+            None,
+            "while parsing a tag 0:0:0; did not find expected tag URI 2:0:2",
+        ),
+        (
+            "!a%4",
+            0,
+            None,
+            "while parsing a tag 0:0:0; did not find URI escaped octet 2:0:2",
+        ),
+        (
+            "!%80",
+            0,
+            None,
+            "while parsing a tag 0:0:0; found an incorrect leading UTF-8 octet 1:0:1",
+        ),
+        (
+            "!%C3%41",
+            0,
+            None,
+            "while parsing a tag 0:0:0; found an incorrect trailing UTF-8 octet 4:0:4",
+        ),
+        (
+            "!%C3x",
+            0,
+            None,
+            "while parsing a tag 0:0:0; did not find URI escaped octet 4:0:4",
+        ),
+        (
+            "!!str]",
+            1,
+            None,
+            "while scanning a tag 0:0:0; did not find expected whitespace or line break 5:0:5",
+        ),
+    ];
+    for (text, depth, level, want) in rows {
+        let shown = lexed(alloc, text.as_bytes(), depth, level)?;
+        assert_eq!(rt; shown.as_str(), want, "{text}");
+    }
+    Ok(())
+}
+
+#[test]
+fn offences_of_directives(rt: HostRuntime) -> Result<(), Fail> {
+    let alloc = rt.alloc();
+    let rows: [(&str, u64, Option<u64>, &str); 12] = [
+        (
+            "%",
+            0,
+            None,
+            "while scanning a directive 0:0:0; could not find expected directive name 1:0:1",
+        ),
+        (
+            "%A!",
+            0,
+            None,
+            "while scanning a directive 0:0:0; found unexpected non-alphabetical character 2:0:2",
+        ),
+        (
+            "%FOO x",
+            0,
+            None,
+            "while scanning a directive 0:0:0; found unknown directive name 4:0:4",
+        ),
+        (
+            "%YAML x",
+            0,
+            None,
+            "while scanning a %YAML directive 0:0:0; did not find expected version number 6:0:6",
+        ),
+        (
+            "%YAML 1 .1",
+            0,
+            None,
+            "while scanning a %YAML directive 0:0:0; did not find expected digit or '.' character 7:0:7",
+        ),
+        (
+            "%YAML 1234567890.1",
+            0,
+            None,
+            "while scanning a %YAML directive 0:0:0; found extremely long version number 15:0:15",
+        ),
+        (
+            "%YAML 1.1x",
+            0,
+            None,
+            "while scanning a directive 0:0:0; did not find expected comment or line break 9:0:9",
+        ),
+        (
+            "%TAG x",
+            0,
+            None,
+            "while scanning a tag directive 0:0:0; did not find expected '!' 5:0:5",
+        ),
+        (
+            "%TAG !a b",
+            0,
+            None,
+            "while parsing a tag directive 0:0:0; did not find expected '!' 7:0:7",
+        ),
+        (
+            "%TAG !a!x",
+            0,
+            None,
+            "while scanning a %TAG directive 0:0:0; did not find expected whitespace 8:0:8",
+        ),
+        (
+            "%TAG !a! ",
+            0,
+            None,
+            "while parsing a %TAG directive 0:0:0; did not find expected tag URI 9:0:9",
+        ),
+        (
+            "%TAG !a! x\"",
+            0,
+            None,
+            "while scanning a %TAG directive 0:0:0; did not find expected whitespace or line break 10:0:10",
+        ),
+    ];
+    for (text, depth, level, want) in rows {
+        let shown = lexed(alloc, text.as_bytes(), depth, level)?;
+        assert_eq!(rt; shown.as_str(), want, "{text}");
+    }
+    Ok(())
+}
+
+#[test]
+fn plain_scalars(rt: HostRuntime) -> Result<(), Fail> {
+    let alloc = rt.alloc();
+    let rows: [(&str, u64, Option<u64>, &str); 10] = [
+        ("a b # c", 0, None, "plain 612062 0:0:0 3:0:3 4:0:4 false"),
+        ("a#b", 0, None, "plain 612362 0:0:0 3:0:3 3:0:3 false"),
+        ("a\n\nb", 0, None, "plain 610a62 0:0:0 4:2:1 4:2:1 false"),
+        ("a\nb", 0, Some(0), "plain 61 0:0:0 1:0:1 2:1:0 true"),
+        ("a\n--- b", 0, None, "plain 61 0:0:0 1:0:1 2:1:0 true"),
+        ("a:b", 1, None, "plain 613a62 0:0:0 3:0:3 3:0:3 false"),
+        (
+            "a :]",
+            1,
+            None,
+            "while scanning a plain scalar 0:0:0; found unexpected ':' 2:0:2",
+        ),
+        (
+            "a\n\tb",
+            1,
+            Some(0),
+            "while scanning a plain scalar 0:0:0; found a tab character that violates indentation 2:1:0",
+        ),
+        (
+            "a\u{2028}b",
+            0,
+            None,
+            "plain 61e280a862 0:0:0 5:1:1 5:1:1 false",
+        ),
+        ("a\r\nb", 0, None, "plain 612062 0:0:0 4:1:1 4:1:1 false"),
+    ];
+    for (text, depth, level, want) in rows {
+        let shown = lexed(alloc, text.as_bytes(), depth, level)?;
+        assert_eq!(rt; shown.as_str(), want, "{text}");
+    }
+    Ok(())
+}
+
+#[test]
+fn quoted_scalars(rt: HostRuntime) -> Result<(), Fail> {
+    let alloc = rt.alloc();
+    let rows: [(&str, u64, Option<u64>, &str); 14] = [
+        (
+            "\"a\\\n\n b\"",
+            0,
+            None,
+            "double 610a62 0:0:0 8:2:3 8:2:3 false",
+        ),
+        (
+            "\"a\u{2028}\nb\"",
+            0,
+            None,
+            "double 61e280a80a62 0:0:0 8:2:2 8:2:2 false",
+        ),
+        (
+            "\"a\n\n  b\"",
+            0,
+            None,
+            "double 610a62 0:0:0 8:2:4 8:2:4 false",
+        ),
+        (
+            "\"a\\\n  b\"",
+            0,
+            None,
+            "double 6162 0:0:0 8:1:4 8:1:4 false",
+        ),
+        (
+            "\"a\\x41\\u00e9\"",
+            0,
+            None,
+            "double 6141c3a9 0:0:0 13:0:13 13:0:13 false",
+        ),
+        (
+            "'it''s'",
+            0,
+            None,
+            "single 69742773 0:0:0 7:0:7 7:0:7 false",
+        ),
+        (
+            "\"a  b \t\n c\"",
+            0,
+            None,
+            "double 612020622063 0:0:0 11:1:3 11:1:3 false",
+        ),
+        (
+            "\"a\n--- b\"",
+            0,
+            None,
+            "while scanning a quoted scalar 0:0:0; found unexpected document indicator 3:1:0",
+        ),
+        (
+            "'a",
+            0,
+            None,
+            "while scanning a quoted scalar 0:0:0; found unexpected end of stream 2:0:2",
+        ),
+        (
+            "\"\\q\"",
+            0,
+            None,
+            "while parsing a quoted scalar 0:0:0; found unknown escape character 1:0:1",
+        ),
+        (
+            "\"\\",
+            0,
+            None,
+            "while parsing a quoted scalar 0:0:0; found unknown escape character 1:0:1",
+        ),
+        (
+            "\"\\uD800\"",
+            0,
+            None,
+            "while parsing a quoted scalar 0:0:0; found invalid Unicode character escape code 3:0:3",
+        ),
+        (
+            "\"\\U00110000\"",
+            0,
+            None,
+            "while parsing a quoted scalar 0:0:0; found invalid Unicode character escape code 3:0:3",
+        ),
+        (
+            "\"\\x4g\"",
+            0,
+            None,
+            "while parsing a quoted scalar 0:0:0; did not find expected hexadecimal number 3:0:3",
+        ),
+    ];
+    for (text, depth, level, want) in rows {
+        let shown = lexed(alloc, text.as_bytes(), depth, level)?;
+        assert_eq!(rt; shown.as_str(), want, "{text}");
+    }
+    Ok(())
+}
+
+#[test]
+fn block_scalars(rt: HostRuntime) -> Result<(), Fail> {
+    let alloc = rt.alloc();
+    let rows: [(&str, u64, Option<u64>, &str); 16] = [
+        ("|2\n  a", 0, Some(1), "literal - 0:0:0 3:1:0 5:1:2 false"),
+        ("|", 0, None, "literal - 0:0:0 1:0:1 1:0:1 false"),
+        ("|#c\n a\n", 0, None, "literal 610a 0:0:0 7:2:0 7:2:0 false"),
+        ("|\n a\n ", 0, None, "literal 610a 0:0:0 5:2:0 6:2:1 false"),
+        (
+            "|\n a\n   \n b\n",
+            0,
+            None,
+            "literal 610a20200a620a 0:0:0 12:4:0 12:4:0 false",
+        ),
+        (
+            "|-\n a\n\n b\n\n",
+            0,
+            None,
+            "literal 610a0a62 0:0:0 11:5:0 11:5:0 false",
+        ),
+        (
+            ">\n a\n b\n",
+            0,
+            None,
+            "folded 6120620a 0:0:0 8:3:0 8:3:0 false",
+        ),
+        (
+            ">\n a\n  b\n c\n",
+            0,
+            None,
+            "folded 610a20620a630a 0:0:0 12:4:0 12:4:0 false",
+        ),
+        (
+            ">\n\n a\n",
+            0,
+            None,
+            "folded 0a610a 0:0:0 6:3:0 6:3:0 false",
+        ),
+        (
+            "|0",
+            0,
+            None,
+            "while scanning a block scalar 0:0:0; found an indentation indicator equal to 0 1:0:1",
+        ),
+        (
+            "|+0",
+            0,
+            None,
+            "while scanning a block scalar 0:0:0; found an indentation indicator equal to 0 2:0:2",
+        ),
+        (
+            "|2x",
+            0,
+            None,
+            "while scanning a block scalar 0:0:0; did not find expected comment or line break 2:0:2",
+        ),
+        (
+            "|\n\ta",
+            0,
+            None,
+            "while scanning a block scalar 0:0:0; found a tab character where an indentation space is expected 2:1:0",
+        ),
+        ("|\n   \n a", 0, None, "literal - 0:0:0 6:2:0 7:2:1 false"),
+        (
+            ">-\n a\n\n b\n",
+            0,
+            None,
+            "folded 610a62 0:0:0 10:4:0 10:4:0 false",
+        ),
+        (
+            "|+\n a\n\n",
+            0,
+            None,
+            "literal 610a0a 0:0:0 7:3:0 7:3:0 false",
+        ),
+    ];
+    for (text, depth, level, want) in rows {
+        let shown = lexed(alloc, text.as_bytes(), depth, level)?;
+        assert_eq!(rt; shown.as_str(), want, "{text}");
+    }
+    Ok(())
+}
+
+#[test]
+fn gaps_and_kinds(rt: HostRuntime) -> Result<(), Fail> {
+    let alloc = rt.alloc();
+    let gaps: [(&str, bool, bool, &str); 5] = [
+        ("\t#c\n  x", false, false, "6:1:2 true"),
+        ("\t#c\n  x", false, true, "0:0:0 false"),
+        ("\n\tx", false, false, "1:1:0 true"),
+        ("\n\tx", true, false, "2:1:1 true"),
+        ("\n\u{FEFF} x", false, false, "5:1:2 true"),
+    ];
+    for (bytes, in_flow, allowed, want) in gaps {
+        let shown = show_gap(alloc, bytes.as_bytes(), in_flow, allowed)?;
+        assert_eq!(rt; shown.as_str(), want, "{bytes}");
+    }
+    let kinds: [(&str, bool, yaml_lexeme_kind_t); 6] = [
+        ("-x", false, yaml_lexeme_kind_t::PLAIN),
+        ("-", false, yaml_lexeme_kind_t::BLOCK_ENTRY),
+        ("---x", false, yaml_lexeme_kind_t::PLAIN),
+        ("---", false, yaml_lexeme_kind_t::DOCUMENT_START),
+        ("?x", false, yaml_lexeme_kind_t::PLAIN),
+        ("?x", true, yaml_lexeme_kind_t::KEY),
+    ];
+    for (bytes, in_flow, want) in kinds {
+        let found = kind_of(alloc, bytes.as_bytes(), in_flow)?;
+        assert!(rt; found == Some(want), "{bytes}");
+    }
+    Ok(())
+}

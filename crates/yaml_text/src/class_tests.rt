@@ -1,0 +1,108 @@
+use super::*;
+use std::test::Fail;
+
+/// How many texts of one byte a class holds for, and the sum of those bytes.
+fn of_one<F: Fn(&[u8], usize) -> bool>(class: &F) -> (u64, u64)
+    requires { F.IsAlwaysCallable class.now }
+{
+    let (mut count, mut sum) = (0u64, 0u64);
+    for a in 0..=255u8 {
+        if class(&[a], 0) {
+            count = count.saturating_add(1);
+            sum = sum.saturating_add(u64::from(a));
+        }
+    }
+    (count, sum)
+}
+
+/// The same of two bytes, read as a number.
+fn of_two<F: Fn(&[u8], usize) -> bool>(class: &F) -> (u64, u64)
+    requires { F.IsAlwaysCallable class.now }
+{
+    let (mut count, mut sum) = (0u64, 0u64);
+    for n in 0..=0xFFFFu16 {
+        if class(&n.to_be_bytes(), 0) {
+            count = count.saturating_add(1);
+            sum = sum.saturating_add(u64::from(n));
+        }
+    }
+    (count, sum)
+}
+
+/// The same of three bytes, of which the first is one with which more than one byte counts.
+fn of_three<F: Fn(&[u8], usize) -> bool>(class: &F) -> (u64, u64)
+    requires { F.IsAlwaysCallable class.now }
+{
+    let (mut count, mut sum) = (0u64, 0u64);
+    for lead in [0xC2u8, 0xE2, 0xED, 0xEF] {
+        for n in 0..=0xFFFFu16 {
+            let [b, c] = n.to_be_bytes();
+            if class(&[lead, b, c], 0) {
+                count = count.saturating_add(1);
+                sum = sum.saturating_add(u64::from(u32::from_be_bytes([0, lead, b, c])));
+            }
+        }
+    }
+    (count, sum)
+}
+
+fn tallies<F: Fn(&[u8], usize) -> bool>(class: F) -> [(u64, u64); 3]
+    requires { F.IsAlwaysCallable class }
+{
+    [of_one(&class), of_two(&class), of_three(&class)]
+}
+
+// The numbers are counted by the tables as they are written down, in another language.
+#[test]
+fn tables(rt: HostRuntime) {
+    assert_eq!(rt; tallies(IS_ALPHA), [(64, 5527), (16384, 364306432), (0, 0)]);
+    assert_eq!(rt; tallies(IS_DIGIT), [(10, 525), (2560, 34732800), (0, 0)]);
+    assert_eq!(rt; tallies(IS_HEX), [(22, 1527), (5632, 100791552), (0, 0)]);
+    assert_eq!(rt;
+        tallies(IS_ASCII),
+        [(128, 8128), (32768, 536854528), (0, 0)]
+    );
+    assert_eq!(rt;
+        tallies(IS_PRINTABLE),
+        [(146, 18490), (37312, 1212276512), (180221, 2742960481476)]
+    );
+    assert_eq!(rt; tallies(IS_Z), [(1, 0), (256, 32640), (0, 0)]);
+    assert_eq!(rt; tallies(IS_BOM), [(0, 0), (0, 0), (1, 15711167)]);
+    assert_eq!(rt; tallies(IS_SPACE), [(1, 32), (256, 2129792), (0, 0)]);
+    assert_eq!(rt; tallies(IS_TAB), [(1, 9), (256, 622464), (0, 0)]);
+    assert_eq!(rt; tallies(IS_BLANK), [(2, 41), (512, 2752256), (0, 0)]);
+    assert_eq!(rt;
+        tallies(IS_BREAK),
+        [(2, 23), (513, 1622405), (258, 3293216977)]
+    );
+    assert_eq!(rt; tallies(IS_CRLF), [(0, 0), (1, 3338), (0, 0)]);
+    assert_eq!(rt;
+        tallies(IS_BREAKZ),
+        [(3, 23), (769, 1655045), (258, 3293216977)]
+    );
+    assert_eq!(rt;
+        tallies(IS_BLANKZ),
+        [(5, 64), (1281, 4407301), (258, 3293216977)]
+    );
+}
+
+#[test]
+fn edges(rt: HostRuntime) {
+    assert!(rt; IS_Z(b"a", 1));
+    assert!(rt; IS_Z(b"a", 9));
+    assert_eq!(rt; WIDTH(b"a", 1), 1);
+    assert_eq!(rt; WIDTH(b"a", 9), 1);
+    assert_eq!(rt; WIDTH(b"\x80", 0), 0);
+    assert_eq!(rt; WIDTH(b"\xF8", 0), 0);
+    assert!(rt; !IS_BOM(b"\xEF\xBB\xBF", usize::MAX));
+    assert!(rt; !IS_BREAK(b"\xE2\x80", 0));
+    assert!(rt; !IS_CRLF(b"\r", 0));
+    assert!(rt; IS_PRINTABLE(b"\xEF\xBF\xBD", 0));
+    assert!(rt; !IS_PRINTABLE(b"\xEF\xBB\xBF", 0));
+    assert!(rt; !IS_PRINTABLE(b"\xC2\x85", 0));
+    assert!(rt; !IS_PRINTABLE(b"\t", 0));
+    assert!(rt; !IS_PRINTABLE(b"\r", 0));
+    assert_eq!(rt; AS_HEX(b"f", 0), 15);
+    assert_eq!(rt; AS_HEX(b"0F", 1), 15);
+    assert_eq!(rt; AS_DIGIT(b"7", 0), 7);
+}
