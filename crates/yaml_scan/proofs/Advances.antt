@@ -73,10 +73,12 @@ module _ (limit : ℕ) (H : List Laid) (x : Lexeme) (h : IsHistory limit (laid l
   saved_root : (n : ℕ) (i : Laid) → candidate (laid limit H x ∷ H) 0 ≡ Some i → lost_held limit x.reach (Some (new_at n i)) ≡ option_map (new_at n) (stale limit (laid limit H x ∷ H) x.reach)
   unfolding stale required
   saved_root n i e = elim (cases_Bool (is_required i)) [
-    inl r ↦ elim (cases_Bool (live limit i x.reach)) [
-      inl t ↦ rw (r, t) (rw (e) (rw r (rw t refl)))
-      | inr t ↦ rw (r, t) (rw (e) (rw r (rw t (ap (λ (q : Bool). new_with q) (sym r))))) ]
-    | inr r ↦ rw r (rw e (rw r refl)) ]
+    | inl r ↦ elim (cases_Bool (live limit i x.reach)) [
+      | inl t ↦ rw (r, t) (rw (e) (rw r (rw t refl)))
+      | inr t ↦ rw (r, t) (rw (e) (rw r (rw t (ap (λ (q : Bool). new_with q) (sym r)))))
+    ]
+    | inr r ↦ rw r (rw e (rw r refl))
+  ]
     where
       new_with : Bool → Option Held
       new_with q = Some record { at = n; start = i.lexeme.start; required = q }
@@ -91,24 +93,27 @@ module _ (limit : ℕ) (H : List Laid) (x : Lexeme) (h : IsHistory limit (laid l
 
     pub root_agrees : Agrees (lost_held limit x.reach settled_root) (stale limit (laid limit H x ∷ H) x.reach)
     root_agrees = elim (cases_eq (depth H) 0) [
-      inr z ↦ (let d : eqb (laid limit H x).depth 0 ≡ false = ne_eqb _ _ (λ q. z (sym (eqb-true _ _ (at_depth limit H x h)) ∙ q)) in
-        let e : candidate (laid limit H x ∷ H) 0 ≡ candidate H 0 = candidate-other (laid limit H x) H 0 (enters_below limit H x h 0 (omega arith)) d in
-        let w : settled_root ≡ held limit H 0 = root_is limit H (depth H) _ (λ q. absurd (z q)) in
-        agrees_map (held_of H) (λ c. refl) _ _ (rw w (same_root e)))
+      | inr z ↦ (let d : eqb (laid limit H x).depth 0 ≡ false = ne_eqb _ _ (λ q. z (sym (eqb-true _ _ (at_depth limit H x h)) ∙ q)) in
+          let e : candidate (laid limit H x ∷ H) 0 ≡ candidate H 0 = candidate-other (laid limit H x) H 0 (enters_below limit H x h 0 (omega arith)) d in
+          let w : settled_root ≡ held limit H 0 = root_is limit H (depth H) _ (λ q. absurd (z q)) in
+          agrees_map (held_of H) (λ c. refl) _ _ (rw w (same_root e)))
       | inl z ↦ (let d : eqb (laid limit H x).depth 0 ≡ true = eq-eqb _ _ (eqb-true _ _ (at_depth limit H x h) ∙ z) in
-        let o : outer_to limit H (depth H) ≡ [] = rw z refl in
-        let u : settled_root ≡ slot_behind x.kind a (new_at n (laid limit H x)) (held limit H 0) = rw (o, z) refl in
-        elim (cases_Bool (is_candidate_kind x.kind)) [
-          inl c ↦ elim (cases_Bool a) [
-            inl b ↦ (let e : candidate (laid limit H x ∷ H) 0 ≡ Some (laid limit H x) = candidate-saved (laid limit H x) H 0 (enters_below limit H x h 0 (omega arith)) d (candidate_is limit H x h ∙ c) (allowed_of limit H x h ∙ sym A ∙ b) in
-              let w : settled_root ≡ Some (new_at n (laid limit H x)) = u ∙ (rw (c, b) refl) in
-              agrees_map (new_at n) (λ c. refl) _ _ (rw w (saved_root n (laid limit H x) e)))
-            | inr b ↦ (let e : candidate (laid limit H x ∷ H) 0 ≡ candidate H 0 = candidate-kept (laid limit H x) H 0 (enters_below limit H x h 0 (omega arith)) d (candidate_is limit H x h ∙ c) (allowed_of limit H x h ∙ sym A ∙ b) in
-              let w : settled_root ≡ held limit H 0 = u ∙ (rw (c, b) refl) in
-              agrees_map (held_of H) (λ c. refl) _ _ (rw w (same_root e))) ]
-          | inr c ↦ (let e : candidate (laid limit H x ∷ H) 0 ≡ None = candidate-cleared (laid limit H x) H 0 (enters_below limit H x h 0 (omega arith)) d (candidate_is limit H x h ∙ c) in
-              let w : settled_root ≡ None = u ∙ (rw c refl) in
-              agrees_map (held_of H) (λ c. refl) _ _ (rw (w, none_root e) refl)) ]) ]
+          let o : outer_to limit H (depth H) ≡ [] = rw z refl in
+          let u : settled_root ≡ slot_behind x.kind a (new_at n (laid limit H x)) (held limit H 0) = rw (o, z) refl in
+          elim (cases_Bool (is_candidate_kind x.kind)) [
+            | inl c ↦ elim (cases_Bool a) [
+              | inl b ↦ (let e : candidate (laid limit H x ∷ H) 0 ≡ Some (laid limit H x) = candidate-saved (laid limit H x) H 0 (enters_below limit H x h 0 (omega arith)) d (candidate_is limit H x h ∙ c) (allowed_of limit H x h ∙ sym A ∙ b) in
+                  let w : settled_root ≡ Some (new_at n (laid limit H x)) = u ∙ (rw (c, b) refl) in
+                  agrees_map (new_at n) (λ c. refl) _ _ (rw w (saved_root n (laid limit H x) e)))
+              | inr b ↦ (let e : candidate (laid limit H x ∷ H) 0 ≡ candidate H 0 = candidate-kept (laid limit H x) H 0 (enters_below limit H x h 0 (omega arith)) d (candidate_is limit H x h ∙ c) (allowed_of limit H x h ∙ sym A ∙ b) in
+                  let w : settled_root ≡ held limit H 0 = u ∙ (rw (c, b) refl) in
+                  agrees_map (held_of H) (λ c. refl) _ _ (rw w (same_root e)))
+            ]
+            | inr c ↦ (let e : candidate (laid limit H x ∷ H) 0 ≡ None = candidate-cleared (laid limit H x) H 0 (enters_below limit H x h 0 (omega arith)) d (candidate_is limit H x h ∙ c) in
+                let w : settled_root ≡ None = u ∙ (rw c refl) in
+                agrees_map (held_of H) (λ c. refl) _ _ (rw (w, none_root e) refl))
+          ])
+    ]
 
 -- THE COLUMNS
 less_filter : (n : ℕ) (t : ℕ → Bool) (cs : List ℕ) → AllLess n cs → AllLess n (filter t cs)
@@ -217,7 +222,7 @@ module _ (H : List Laid) (N : ℕ) (s : scanner_t) (r : Holds H N s) (running : 
 
       -- row 5
       pub row_offence : (f : Fault) → IsOffence s.text.chars m.kind n level' P f → Offends H s f
-      row_offence f o = record { offence = o.0; step = step_read (Err o.0) o.1; fault = o.2; problem = text_problem s.text.chars m.kind n level' P o.0 front_within kind_there o.1 }
+      row_offence f o = record { offence = o.0; step = step_read (Err o.0) o.1; fault = o.2; problem = text_problem s.text.chars r.text m.kind n level' P o.0 front_within kind_there o.1 }
 
       module _ (b : yaml_lexeme_t) (read : IsRead s.text.chars m.kind n level' P b) where
         abbrev X : Lexeme
@@ -234,7 +239,7 @@ module _ (H : List Laid) (N : ℕ) (s : scanner_t) (r : Holds H N s) (running : 
         size_is = refl
 
         in_order : IsReadInOrder S m.kind P R
-        in_order = (text_order s.text.chars).reads m.kind n level' P R (let z = size_is in let v = front_within in omega arith) kind_there read.1
+        in_order = (text_order s.text.chars r.text).reads m.kind n level' P R (let z = size_is in let v = front_within in omega arith) kind_there read.1
 
         follows : Follows (reach H) X
         follows = let q : Follows (S.mark P) X = subst (λ (z : Lexeme). Follows (S.mark P) z) (sym x_is) in_order.follows in
@@ -248,7 +253,7 @@ module _ (H : List Laid) (N : ℕ) (s : scanner_t) (r : Holds H N s) (running : 
         place_within = let z = size_is in let v = in_order.within in omega arith
 
         pub index_is : b.reach.index ≡ (S.mark read.0).index
-        index_is = text_reach s.text.chars m.kind n level' P R front_within kind_there read.1
+        index_is = text_reach s.text.chars r.text m.kind n level' P R front_within kind_there read.1
 
         laid_place : place_behind (laid s.limit H X ∷ H) ≡ read.0
         unfolding laid
@@ -295,7 +300,7 @@ module _ (H : List Laid) (N : ℕ) (s : scanner_t) (r : Holds H N s) (running : 
           pub columns_then : AllLess (length s.text.chars + 1) (open_columns (laid s.limit H X ∷ H))
           columns_then = subst (λ (z : List ℕ). AllLess (length s.text.chars + 1) z) (levels_more s.limit H X history)
               (opened_less s.limit H X (length s.text.chars + 1) (nat_eq (depth H) 0) (kept_columns H X.kind X.start) (completed_by s.limit H X.kind X.start) refl history follows
-                (rw START (start_less m.kind m.front (length s.text.chars) front_column)) (kept_less X.kind X.start))
+              (rw START (start_less m.kind m.front (length s.text.chars) front_column)) (kept_less X.kind X.start))
 
           pub queue_then : (q2 : List queued_t) → ((x : Lexeme) → IsTokenOf (record { token_data = b.token_data; start_mark = start; end_mark = b.end_mark }) x → Changes N (N + 1) q1 q2 (λ q. put_starts margin c m.kind start (reverse l) s.taken q ++ OfLexeme x ∷ []))
               → IsQueue s.text.encoding r.first (N + 1) q2 (drop s.taken (offline (laid s.limit H X ∷ H)))

@@ -41,3 +41,6 @@ pub mod LexemeReads
 pub mod SourceOrder
 pub mod SourceLocal
 pub mod InputLaws
+pub mod Octets
+pub mod Takings
+pub mod Beginnings

@@ -13,6 +13,9 @@ use Rattle.yaml_lexeme.specs.Reading as lexemes
 use Rattle.yaml_lexeme.specs.Gap.{gap}
 use Rattle.yaml_lexeme.specs.Lex.{lex, lexeme_at, answer}
 use Rattle.yaml_lexeme.proofs.Places.{skip_skip, length_skip}
+use Rattle.std.specs.Option.{IfSome}
+use Rattle.yaml_text.specs.Chars.{utf8}
+use Rattle.yaml_scan.proofs.Octets.{short}
 use Rattle.yaml_lexeme.proofs.Orders.{gap_order}
 use Rattle.yaml_scan.specs.Kind.{Kind}
 use Rattle.yaml_scan.specs.SourceOf.{source_of, count_to, reading, reading_of}
@@ -73,3 +76,8 @@ read_is cs k d l p (Err x) (inr a) = inr (go (lex k (record { depth = d; level =
     go : (r : lexemes.Read yaml_lexeme_t) → answer k (place_at cs p) r ≡ Err (fault_of x) → (o : Rattle.yaml_scan.specs.Source.Offence) × (reading_of (length cs) k (place_at cs p) r ≡ Err o) × (o.fault ≡ fault_of x)
     go (Ok f) e = cc
     go (Err f) e = (_, refl, same_fault _ (fault_of x) e)
+
+-- characters take a byte or more
+pub level_bytes : (cs : List ℕ) (o : Option ℕ) → IfSome o (λ l. l ≤ length cs) → IfSome o (λ l. l ≤ length (utf8 cs))
+level_bytes cs None a = tt
+level_bytes cs (Some l) a = let s = short cs in omega arith

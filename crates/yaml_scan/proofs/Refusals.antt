@@ -96,7 +96,7 @@ module _ (H : List Laid) (n : ℕ) (s : scanner_t) (r : Holds H n s) (running : 
     size_is = refl
 
     pub later : IsNotBefore (reach H) g
-    later = rw (reach_is, mark_is) ((text_order s.text.chars).gap_marks (nat_lt 0 (depth H)) (allowed_behind H) (place_behind H) within_text)
+    later = rw (reach_is, mark_is) ((text_order s.text.chars r.text).gap_marks (nat_lt 0 (depth H)) (allowed_behind H) (place_behind H) within_text)
 
     abbrev kind_from : yaml_mark_t → Option Kind → Outcome
     kind_from m None = Faults (no_kind m P)

@@ -93,16 +93,16 @@ module _ (s : scanner_t) (r : Runs s) where
   fault_is = ap (λ (c : Course). c.fault) course_is
 
   pub is_run : IsRun (next (input_of s) s.limit) s.limit (course_of s).read
-  is_run = rw read_is (steps_are s.limit (input_of s) (text_order s.text.chars)).0
+  is_run = rw read_is (steps_are s.limit (input_of s) (text_order s.text.chars r.holds.text)).0
 
   ends_with : EndsWith (next (input_of s) s.limit) (course_of s).read cut_of.fault
-  ends_with = rw read_is (steps_are s.limit (input_of s) (text_order s.text.chars)).1
+  ends_with = rw read_is (steps_are s.limit (input_of s) (text_order s.text.chars r.holds.text)).1
 
   pub read_history : IsHistory s.limit (course_of s).read
-  read_history = IsHistory-from_run (next (input_of s) s.limit) s.limit (source_of s.text.chars).size (next_orderly s.limit (input_of s) (text_order s.text.chars)) (course_of s).read is_run
+  read_history = IsHistory-from_run (next (input_of s) s.limit) s.limit (source_of s.text.chars).size (next_orderly s.limit (input_of s) (text_order s.text.chars r.holds.text)) (course_of s).read is_run
 
   pub read_short : length (course_of s).read ≤ length s.text.chars + 1
-  read_short = let a = run_short (next (input_of s) s.limit) s.limit (source_of s.text.chars).size (next_orderly s.limit (input_of s) (text_order s.text.chars)) (course_of s).read is_run in let z = size_of s.text.chars in omega arith
+  read_short = let a = run_short (next (input_of s) s.limit) s.limit (source_of s.text.chars).size (next_orderly s.limit (input_of s) (text_order s.text.chars r.holds.text)) (course_of s).read is_run in let z = size_of s.text.chars in omega arith
 
   pub inside : s.made - 1 ≤ length (course_of s).read
   inside = let a = r.within in let b = r.begun in omega arith
@@ -167,8 +167,20 @@ module _ (s : scanner_t) (r : Runs s) where
 
         u_holds : Holds (laid s.limit (history s) a.lexeme ∷ history s) (u.made + 1) u
         u_holds = let h = a.holds in record {
-          is_history = subst (λ (k : ℕ). IsHistory k (laid s.limit (history s) a.lexeme ∷ history s)) (sym L) h.is_history; fresh = rw L h.fresh; levels = rw V h.levels; columns = rw H h.columns; outer = rw (O, L) h.outer; top = rw (P, L) h.top; allowed = rw A h.allowed;
-          first = h.first; queue = rw (H, Q, T, u_made) h.queue; reach = rw R h.reach; taken = rw (T, L) h.taken; place = rw (H, R) h.place }
+          text = rw H h.text;
+          is_history = subst (λ (k : ℕ). IsHistory k (laid s.limit (history s) a.lexeme ∷ history s)) (sym L) h.is_history;
+          fresh = rw L h.fresh;
+          levels = rw V h.levels;
+          columns = rw H h.columns;
+          outer = rw (O, L) h.outer;
+          top = rw (P, L) h.top;
+          allowed = rw A h.allowed;
+          first = h.first;
+          queue = rw (H, Q, T, u_made) h.queue;
+          reach = rw R h.reach;
+          taken = rw (T, L) h.taken;
+          place = rw (H, R) h.place;
+        }
 
         pub stepped : Steps s u
         stepped = record {
@@ -181,7 +193,8 @@ module _ (s : scanner_t) (r : Runs s) where
             within = (let k = u_made in let l = not_all a.lexeme reads in rw (course_same s u u_same) (omega arith));
           };
           made = u_made;
-          same = u_same }
+          same = u_same;
+        }
 
     -- a problem, unless it is near
     pub problem_last : (f g : Fault) → Offends (history s) s f → g ≡ instead s.near (refusal_seen s.refusal) f → IsLast s g

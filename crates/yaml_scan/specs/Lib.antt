@@ -23,7 +23,8 @@ pub mod Numbered
 pub mod Near
 pub mod Moves
 pub mod Scanning
+pub mod Ready
+pub mod Parser
 pub mod AnswerLaws
-pub mod SourceOf
 pub mod Locality
 pub mod Inputs

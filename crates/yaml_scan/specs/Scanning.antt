@@ -3,6 +3,7 @@ use Rattle.std.specs.Prelude.{◌≡◌, ◌⊎◌, ℕ, ◌+◌, ◌-◌, ◌�
 use Rattle.yaml_text.specs.declared.types.yaml_mark_t.{yaml_mark_t}
 use Rattle.yaml_text.specs.declared.fault.yaml_fault_t.{yaml_fault_t}
 use Rattle.yaml_text.specs.Fault.{Fault, fault_of, memory_fault}
+use Rattle.yaml_text.specs.Chars.{AreChars}
 use Rattle.yaml_text.specs.Decode.{refusal_seen}
 use Rattle.yaml_lexeme.specs.Place.{IsMarkOf}
 use Rattle.yaml_scan.specs.declared.step.scanner_t.{scanner_t}
@@ -38,6 +39,7 @@ IsNearFrom cs near = (p : ℕ) → p ≤ length cs → (near ≤ ((source_of cs)
 
 -- n is the number of the next step
 pub record Holds (H : List Laid) (n : ℕ) (s : scanner_t) : Type 0 where
+  pub text : AreChars s.text.chars
   pub is_history : IsHistory s.limit H
   pub fresh : stale s.limit H (reach H) ≡ None
   pub levels : reverse s.levels.items ≡ open_columns H

@@ -14,11 +14,12 @@ ghost use Rattle.yaml_text.specs.Utf8.{continues};
 
 /// The least index whose place has fewer than eight characters behind it.
 pub(crate) fn near_from(bytes: &[u8]) -> u64
-    ensures { (cs : List ℕ) → AreChars cs → bytes.now ≡ utf8 cs → IsNearFrom cs result }
+    ensures small { length bytes.now + 1 < 2 ^ 64 }
+    ensures near { (cs : List ℕ) → AreChars cs → bytes.now ≡ utf8 cs → IsNearFrom cs result }
 {
     let mut at = bytes.len();
-    let mut left = 0;
-    while at > 0 && left < 8 {
+    let mut left: usize = 0;
+    'back: while at > 0 && left < 8 {
         at -= 1;
         if !continues(bytes[at]) {
             left += 1;

@@ -17,7 +17,10 @@ pub returns-in-None : goal.returns-in-None
 returns-in-None c = let a = c.in-Ok.ensures in stepped c.args.scanner.now c.requires.runs c.requires.running c.step.new.scanner a _ refl refl refl refl refl refl refl refl refl refl refl refl c.step.new.scanner.reach.index refl (near_moved c.args.scanner.now.near c.step.new.scanner.near c.step.new.scanner.reach.index c.args.scanner.now.refusal c.step.new.scanner.refusal None a.same.near a.same.refusal c.in-None.ensures)
 
 pub returns-in-Err : goal.returns-in-Err
-returns-in-Err c = let e = c.in-Err.ensures in let k = e.1.same in (elim e.0 [
-  | inl m ↦ inl (c.near_problem.ensures ∙ memory_stays c.step.new.scanner.near (refusal_seen c.step.new.scanner.refusal) (fault_of c.in-Err.fault) m)
-  | inr o ↦ inr (problem_last c.args.scanner.now c.requires.runs c.requires.running _ _ o (instead_moved c.args.scanner.now.near c.step.new.scanner.near c.args.scanner.now.refusal c.step.new.scanner.refusal (fault_of c.in-Err.fault) _ k.near k.refusal c.near_problem.ensures))
-], e.1)
+returns-in-Err c = let e = c.in-Err.ensures in let k = e.1.same in (
+  elim e.0 [
+    | inl m ↦ inl (c.near_problem.ensures ∙ memory_stays c.step.new.scanner.near (refusal_seen c.step.new.scanner.refusal) (fault_of c.in-Err.fault) m)
+    | inr o ↦ inr (problem_last c.args.scanner.now c.requires.runs c.requires.running _ _ o (instead_moved c.args.scanner.now.near c.step.new.scanner.near c.args.scanner.now.refusal c.step.new.scanner.refusal (fault_of c.in-Err.fault) _ k.near k.refusal c.near_problem.ensures))
+  ],
+  e.1,
+)

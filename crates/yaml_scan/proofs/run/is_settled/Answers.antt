@@ -13,4 +13,4 @@ returns c = let s = c.args.scanner.now in let r = c.requires.holds in
     let l = same_length s.text.encoding r.first (s.made + 1) s.queue.items (drop s.taken (offline (history s))) r.queue in
     let n : deque_len s.queue ≡ length (drop s.taken (offline (history s))) = omega arith in
     c.is_none_of.ensures ∙ settled_test s.limit (history s) r.is_history s.taken r.taken (drop s.taken (offline (history s))) refl c.is_empty-empty.result (c.is_empty-empty.ensures ∙ ap (λ (k : ℕ). nat_eq k 0) n) c.is_any_awaited-outer.result
-      (c.is_any_awaited-outer.ensures ∙ ap (λ (l : List (Option Held)). list_any (waits s.taken) l) (c.deref.ensures.value ∙ r.outer)) c.is_awaited-top.result (c.is_awaited-top.ensures ∙ ap (λ (o : Option Held). waits s.taken o) r.top)
+    (c.is_any_awaited-outer.ensures ∙ ap (λ (l : List (Option Held)). list_any (waits s.taken) l) (c.deref.ensures.value ∙ r.outer)) c.is_awaited-top.result (c.is_awaited-top.ensures ∙ ap (λ (o : Option Held). waits s.taken o) r.top)

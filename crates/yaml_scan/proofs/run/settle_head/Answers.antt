@@ -10,20 +10,24 @@ use Rattle.yaml_scan.proofs.run.settle_head.Goals as goal
 pub advance-requires-clause-running : goal.advance-requires-clause-running
 advance-requires-clause-running c = let v = c.steps.invariant in
     still_running c.steps.scanner v.runs (open_too c.args.scanner.now c.steps.scanner v.runs v.same c.requires.not_ended)
-      (ltb-false _ _ (sym c.is_settled.ensures ∙ c.steps-test.true))
+    (ltb-false _ _ (sym c.is_settled.ensures ∙ c.steps-test.true))
 
 pub steps-preserved : goal.steps-preserved
 steps-preserved c = let v = c.steps.invariant in let k = c.in_ok-advance.ensures in record {
-  runs = k.runs; same = same_trans c.args.scanner.now c.steps.scanner _ v.same k.same;
+  runs = k.runs;
+  same = same_trans c.args.scanner.now c.steps.scanner _ v.same k.same;
   least = (let a = v.least in let b = k.made in omega arith);
-  most = one_more c.args.scanner.now c.steps.scanner v.runs v.same _ k (ltb-false _ _ (sym c.is_settled.ensures ∙ c.steps-test.true)) }
+  most = one_more c.args.scanner.now c.steps.scanner v.runs v.same _ k (ltb-false _ _ (sym c.is_settled.ensures ∙ c.steps-test.true));
+}
 
 pub returns : goal.returns
 returns c = let v = c.steps.invariant in
-  let l : c.steps.scanner.taken < length (before c.steps.scanner.limit (history c.steps.scanner)) = ltb-true _ _ (sym c.is_settled.ensures ∙ c.steps-test.false) in record {
-  runs = v.runs; settled = l;
-  made = made_is c.args.scanner.now c.steps.scanner v.runs v.same v.least v.most l;
-  same = v.same }
+    let l : c.steps.scanner.taken < length (before c.steps.scanner.limit (history c.steps.scanner)) = ltb-true _ _ (sym c.is_settled.ensures ∙ c.steps-test.false) in record {
+      runs = v.runs;
+      settled = l;
+      made = made_is c.args.scanner.now c.steps.scanner v.runs v.same v.least v.most l;
+      same = v.same;
+    }
 
 pub steps-init : goal.steps-init
 steps-init c = record { runs = c.requires.runs; same = record { text = refl; refusal = refl; near = refl; limit = refl; taken = refl }; least = omega arith; most = least_pace c.args.scanner.now }

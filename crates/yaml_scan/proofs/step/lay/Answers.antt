@@ -46,6 +46,7 @@ returns g c = record {
   lexeme = _;
   step = step_reads g.before (c.args.scanner.now.made + 1) c.args.scanner.now c.requires.0 c.requires.1.0 c.args.met c.requires.1.1.1.1.1 c.is_empty-margin.result c.is_empty-margin.ensures c.start_behind-start.result c.start_behind-start.ensures c.close_levels.new.levels.items c.in_ok-close_levels.ensures.levels c.top_level-level.result (c.top_level-level.ensures ∙ ap (λ (l : List ℕ). greatest_level (reverse l)) c.deref.ensures.value) c.len.result c.len.ensures c.in_ok-x.x (c.in_ok-x.ensures (front_of (source_of c.args.scanner.now.text.chars) g.before) c.requires.1.1.1.1.1.front) c.completed_by-completed.result c.completed_by-completed.ensures c.close_levels.new.queue.items c.in_ok-close_levels.ensures.queue record { at = c.args.scanner.now.taken + c.len-2.result; start = c.start_behind-start.result; required = c.is_level.result } (omega (arith, c.len-2.ensures)) refl c.is_level.ensures c.args.met.allowed c.requires.1.1.1.1.1.allowed c.settle-top.result c.settle-top.ensures c.root-root.result c.deref-2.result.now c.deref-2.ensures.value c.root-root.ensures c.lost_at.result c.lost_at.ensures c.in_ok-refuse_lost.ensures;
   holds = record {
+    text = c.requires.0.text;
     is_history = history g.before (c.args.scanner.now.made + 1) c.args.scanner.now c.requires.0 c.requires.1.0 c.args.met c.requires.1.1.1.1.1 c.is_empty-margin.result c.is_empty-margin.ensures c.start_behind-start.result c.start_behind-start.ensures c.close_levels.new.levels.items c.in_ok-close_levels.ensures.levels c.top_level-level.result (c.top_level-level.ensures ∙ ap (λ (l : List ℕ). greatest_level (reverse l)) c.deref.ensures.value) c.len.result c.len.ensures c.in_ok-x.x (c.in_ok-x.ensures (front_of (source_of c.args.scanner.now.text.chars) g.before) c.requires.1.1.1.1.1.front);
     fresh = fresh_then g.before (c.args.scanner.now.made + 1) c.args.scanner.now c.requires.0 c.requires.1.0 c.args.met c.requires.1.1.1.1.1 c.is_empty-margin.result c.is_empty-margin.ensures c.start_behind-start.result c.start_behind-start.ensures c.close_levels.new.levels.items c.in_ok-close_levels.ensures.levels c.top_level-level.result (c.top_level-level.ensures ∙ ap (λ (l : List ℕ). greatest_level (reverse l)) c.deref.ensures.value) c.len.result c.len.ensures c.in_ok-x.x (c.in_ok-x.ensures (front_of (source_of c.args.scanner.now.text.chars) g.before) c.requires.1.1.1.1.1.front) c.completed_by-completed.result c.completed_by-completed.ensures c.close_levels.new.queue.items c.in_ok-close_levels.ensures.queue record { at = c.args.scanner.now.taken + c.len-2.result; start = c.start_behind-start.result; required = c.is_level.result } (omega (arith, c.len-2.ensures)) refl c.is_level.ensures c.args.met.allowed c.requires.1.1.1.1.1.allowed c.settle-top.result c.settle-top.ensures c.root-root.result c.deref-2.result.now c.deref-2.ensures.value c.root-root.ensures c.lost_at.result c.lost_at.ensures c.in_ok-refuse_lost.ensures;
     levels = levels_then g.before (c.args.scanner.now.made + 1) c.args.scanner.now c.requires.0 c.requires.1.0 c.args.met c.requires.1.1.1.1.1 c.is_empty-margin.result c.is_empty-margin.ensures c.start_behind-start.result c.start_behind-start.ensures c.close_levels.new.levels.items c.in_ok-close_levels.ensures.levels c.top_level-level.result (c.top_level-level.ensures ∙ ap (λ (l : List ℕ). greatest_level (reverse l)) c.deref.ensures.value) c.len.result c.len.ensures c.in_ok-x.x (c.in_ok-x.ensures (front_of (source_of c.args.scanner.now.text.chars) g.before) c.requires.1.1.1.1.1.front) c.completed_by-completed.result c.completed_by-completed.ensures c.close_levels.new.queue.items c.in_ok-close_levels.ensures.queue c.queue_lexeme.new.levels.items c.in_ok-queue_lexeme.ensures.levels;
@@ -57,8 +58,10 @@ returns g c = record {
     queue = queue_then g.before (c.args.scanner.now.made + 1) c.args.scanner.now c.requires.0 c.requires.1.0 c.args.met c.requires.1.1.1.1.1 c.is_empty-margin.result c.is_empty-margin.ensures c.start_behind-start.result c.start_behind-start.ensures c.close_levels.new.levels.items c.in_ok-close_levels.ensures.levels c.top_level-level.result (c.top_level-level.ensures ∙ ap (λ (l : List ℕ). greatest_level (reverse l)) c.deref.ensures.value) c.len.result c.len.ensures c.in_ok-x.x (c.in_ok-x.ensures (front_of (source_of c.args.scanner.now.text.chars) g.before) c.requires.1.1.1.1.1.front) c.completed_by-completed.result c.completed_by-completed.ensures c.close_levels.new.queue.items c.in_ok-close_levels.ensures.queue c.queue_lexeme.new.queue.items c.in_ok-queue_lexeme.ensures.queue;
     reach = reach_then g.before (c.args.scanner.now.made + 1) c.args.scanner.now c.requires.0 c.requires.1.0 c.args.met c.requires.1.1.1.1.1 c.is_empty-margin.result c.is_empty-margin.ensures c.start_behind-start.result c.start_behind-start.ensures c.close_levels.new.levels.items c.in_ok-close_levels.ensures.levels c.top_level-level.result (c.top_level-level.ensures ∙ ap (λ (l : List ℕ). greatest_level (reverse l)) c.deref.ensures.value) c.len.result c.len.ensures c.in_ok-x.x (c.in_ok-x.ensures (front_of (source_of c.args.scanner.now.text.chars) g.before) c.requires.1.1.1.1.1.front);
     taken = taken_then g.before (c.args.scanner.now.made + 1) c.args.scanner.now c.requires.0 c.requires.1.0 c.args.met c.requires.1.1.1.1.1 c.is_empty-margin.result c.is_empty-margin.ensures c.start_behind-start.result c.start_behind-start.ensures c.close_levels.new.levels.items c.in_ok-close_levels.ensures.levels c.top_level-level.result (c.top_level-level.ensures ∙ ap (λ (l : List ℕ). greatest_level (reverse l)) c.deref.ensures.value) c.len.result c.len.ensures c.in_ok-x.x (c.in_ok-x.ensures (front_of (source_of c.args.scanner.now.text.chars) g.before) c.requires.1.1.1.1.1.front);
-    place = place_then g.before (c.args.scanner.now.made + 1) c.args.scanner.now c.requires.0 c.requires.1.0 c.args.met c.requires.1.1.1.1.1 c.is_empty-margin.result c.is_empty-margin.ensures c.start_behind-start.result c.start_behind-start.ensures c.close_levels.new.levels.items c.in_ok-close_levels.ensures.levels c.top_level-level.result (c.top_level-level.ensures ∙ ap (λ (l : List ℕ). greatest_level (reverse l)) c.deref.ensures.value) c.len.result c.len.ensures c.in_ok-x.x (c.in_ok-x.ensures (front_of (source_of c.args.scanner.now.text.chars) g.before) c.requires.1.1.1.1.1.front) };
+    place = place_then g.before (c.args.scanner.now.made + 1) c.args.scanner.now c.requires.0 c.requires.1.0 c.args.met c.requires.1.1.1.1.1 c.is_empty-margin.result c.is_empty-margin.ensures c.start_behind-start.result c.start_behind-start.ensures c.close_levels.new.levels.items c.in_ok-close_levels.ensures.levels c.top_level-level.result (c.top_level-level.ensures ∙ ap (λ (l : List ℕ). greatest_level (reverse l)) c.deref.ensures.value) c.len.result c.len.ensures c.in_ok-x.x (c.in_ok-x.ensures (front_of (source_of c.args.scanner.now.text.chars) g.before) c.requires.1.1.1.1.1.front);
+  };
   index = index_is g.before (c.args.scanner.now.made + 1) c.args.scanner.now c.requires.0 c.requires.1.0 c.args.met c.requires.1.1.1.1.1 c.is_empty-margin.result c.is_empty-margin.ensures c.start_behind-start.result c.start_behind-start.ensures c.close_levels.new.levels.items c.in_ok-close_levels.ensures.levels c.top_level-level.result (c.top_level-level.ensures ∙ ap (λ (l : List ℕ). greatest_level (reverse l)) c.deref.ensures.value) c.len.result c.len.ensures c.in_ok-x.x (c.in_ok-x.ensures (front_of (source_of c.args.scanner.now.text.chars) g.before) c.requires.1.1.1.1.1.front);
   within = place_within g.before (c.args.scanner.now.made + 1) c.args.scanner.now c.requires.0 c.requires.1.0 c.args.met c.requires.1.1.1.1.1 c.is_empty-margin.result c.is_empty-margin.ensures c.start_behind-start.result c.start_behind-start.ensures c.close_levels.new.levels.items c.in_ok-close_levels.ensures.levels c.top_level-level.result (c.top_level-level.ensures ∙ ap (λ (l : List ℕ). greatest_level (reverse l)) c.deref.ensures.value) c.len.result c.len.ensures c.in_ok-x.x (c.in_ok-x.ensures (front_of (source_of c.args.scanner.now.text.chars) g.before) c.requires.1.1.1.1.1.front);
   same = record { text = refl; refusal = refl; near = refl; limit = refl; taken = refl };
-  made = refl }
+  made = refl;
+}

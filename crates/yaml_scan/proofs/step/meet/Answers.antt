@@ -27,4 +27,5 @@ returns g c = let front = front_mark g.before (c.args.scanner.now.made + 1) c.ar
   front = front;
   allowed = allowed_is g.before (c.args.scanner.now.made + 1) c.args.scanner.now c.requires.0 c.requires.1.0 c.is_empty-margin.result c.is_empty-margin.ensures c.gap_end-front.result front c.root-root.result c.lost_at.result (root_held g.before (c.args.scanner.now.made + 1) c.args.scanner.now c.requires.0 c.requires.1.0 c.is_empty-margin.result c.is_empty-margin.ensures c.root-root.result c.deref.result.now c.deref.ensures.value c.root-root.ensures) c.lost_at.ensures c.in_ok-refuse_lost.ensures c.kind_at.result (c.kind_at.ensures (front_of (source_of c.args.scanner.now.text.chars) g.before) front) c.in_ok-kind.kind c.in_ok-kind.ensures c.is_key_allowed-allowed.result c.is_key_allowed-allowed.ensures;
   kind = sym (kind_is g.before (c.args.scanner.now.made + 1) c.args.scanner.now c.requires.0 c.requires.1.0 c.is_empty-margin.result c.is_empty-margin.ensures c.gap_end-front.result front c.root-root.result c.lost_at.result (root_held g.before (c.args.scanner.now.made + 1) c.args.scanner.now c.requires.0 c.requires.1.0 c.is_empty-margin.result c.is_empty-margin.ensures c.root-root.result c.deref.result.now c.deref.ensures.value c.root-root.ensures) c.lost_at.ensures c.in_ok-refuse_lost.ensures c.kind_at.result (c.kind_at.ensures (front_of (source_of c.args.scanner.now.text.chars) g.before) front)) ∙ c.in_ok-kind.ensures;
-  step = row_met g.before (c.args.scanner.now.made + 1) c.args.scanner.now c.requires.0 c.requires.1.0 c.is_empty-margin.result c.is_empty-margin.ensures c.gap_end-front.result front c.root-root.result c.lost_at.result (root_held g.before (c.args.scanner.now.made + 1) c.args.scanner.now c.requires.0 c.requires.1.0 c.is_empty-margin.result c.is_empty-margin.ensures c.root-root.result c.deref.result.now c.deref.ensures.value c.root-root.ensures) c.lost_at.ensures c.in_ok-refuse_lost.ensures c.kind_at.result (c.kind_at.ensures (front_of (source_of c.args.scanner.now.text.chars) g.before) front) c.in_ok-kind.kind c.in_ok-kind.ensures c.is_key_allowed-allowed.result c.is_key_allowed-allowed.ensures c.completed_by-completed.result c.completed_by-completed.ensures c.is_none.result c.is_none.ensures c.in_ok-refuse_kind.ensures c.start_behind-start.result c.start_behind-start.ensures c.cleared.result c.cleared.ensures c.in_ok-refuse_lost-2.ensures }
+  step = row_met g.before (c.args.scanner.now.made + 1) c.args.scanner.now c.requires.0 c.requires.1.0 c.is_empty-margin.result c.is_empty-margin.ensures c.gap_end-front.result front c.root-root.result c.lost_at.result (root_held g.before (c.args.scanner.now.made + 1) c.args.scanner.now c.requires.0 c.requires.1.0 c.is_empty-margin.result c.is_empty-margin.ensures c.root-root.result c.deref.result.now c.deref.ensures.value c.root-root.ensures) c.lost_at.ensures c.in_ok-refuse_lost.ensures c.kind_at.result (c.kind_at.ensures (front_of (source_of c.args.scanner.now.text.chars) g.before) front) c.in_ok-kind.kind c.in_ok-kind.ensures c.is_key_allowed-allowed.result c.is_key_allowed-allowed.ensures c.completed_by-completed.result c.completed_by-completed.ensures c.is_none.result c.is_none.ensures c.in_ok-refuse_kind.ensures c.start_behind-start.result c.start_behind-start.ensures c.cleared.result c.cleared.ensures c.in_ok-refuse_lost-2.ensures;
+}
