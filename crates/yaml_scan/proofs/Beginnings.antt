@@ -139,7 +139,9 @@ module _ (setting : yaml_encoding_t) (input : List ℕ) (s t : scanner_t) (n : I
 
   holds : Holds [] (t.made + 1) t
   holds = let k : t.taken ≡ 0 = K ∙ n.taken in let q : t.made + 1 ≡ 2 = omega (arith, M) in record {
-    text = C; is_history = tt; fresh = empty_fresh t.limit;
+    text = C;
+    is_history = tt;
+    fresh = empty_fresh t.limit;
     levels = ap reverse V ∙ ap reverse n.levels ∙ sym empty_columns;
     columns = rw empty_columns tt;
     outer = O ∙ n.outer ∙ sym (empty_outer t.limit);
@@ -149,7 +151,8 @@ module _ (setting : yaml_encoding_t) (input : List ℕ) (s t : scanner_t) (n : I
     queue = rw (k, q, empty_offline) Q;
     reach = J ∙ n.reach;
     taken = omega (arith, k);
-    place = λ z. rw (J, n.reach) (start_mark t.text.chars) }
+    place = λ z. rw (J, n.reach) (start_mark t.text.chars);
+  }
 
   runs : Runs t
   runs = record { small = small; near = N; holds = subst (λ (Z : List Laid). Holds Z (t.made + 1) t) (sym history_none) holds; begun = omega (arith, M); start = begun; within = omega (arith, M) }

@@ -44,3 +44,5 @@ pub mod InputLaws
 pub mod Octets
 pub mod Takings
 pub mod Beginnings
+pub mod Settlings
+pub mod Scans

@@ -44,7 +44,7 @@ module _ (s : scanner_t) (r : Runs s) where
         absurd (omega arith))
   ]
 
-  enough_made : s.taken < length (before s.limit (history s)) → steps_for s.limit (course_of s).read s.taken ≤ s.made
+  pub enough_made : s.taken < length (before s.limit (history s)) → steps_for s.limit (course_of s).read s.taken ≤ s.made
   unfolding history
   enough_made l = let e = enough s.limit (course_of s).read s.taken (s.made - 1) (read_history s r) (inside s r) l in let b = r.begun in omega arith
 
@@ -67,15 +67,15 @@ module _ (s t : scanner_t) (r : Runs t) (S : Same s t) where
   pub open_too : IsOpen s → IsOpen t
   open_too o = λ e. let f : ended (course_of s).read ≡ true = sym (ap (λ (c : Course). ended c.read) course_is) ∙ e in let a = o f in let b = ap (λ (c : Course). length (offline c.read)) course_is in let d = S.taken in omega arith
 
-  pub fails : (f : Fault) → IsLast t f → length (before t.limit (history t)) ≤ t.taken → Fails s f
+  pub fails : (u : scanner_t) (f : Fault) → Stays t u → IsLast t f → length (before t.limit (history t)) ≤ t.taken → Fails s u f
   unfolding history
-  fails f i l =
+  fails u f z i l =
       let k : t.made - 1 ≡ length (course_of t).read = (let m = i.made in omega arith) in
       let a = oldest_all (course_of t).read (t.made - 1) k in
       let b : length (before t.limit (course_of t).read) ≤ t.taken = rw a at l in
       let c = ap (λ (x : Course). length (before t.limit x.read)) course_is in
       let d = ap (λ (n : ℕ). length (before n (course_of s).read)) S.limit in
-      record { none = (let e = S.taken in omega arith); fault = sym (ap (λ (x : Course). x.fault) course_is) ∙ i.fault }
+      record { made = (let m = i.made in let n = z.made in let w = ap (λ (x : Course). length x.read) course_is in omega arith); none = (let e = S.taken in omega arith); fault = sym (ap (λ (x : Course). x.fault) course_is) ∙ i.fault }
 
   pub made_is : s.made ≤ t.made → t.made ≤ pace s.limit (course_of s).read s.taken s.made → t.taken < length (before t.limit (history t)) → t.made ≡ pace s.limit (course_of s).read s.taken s.made
   unfolding pace

@@ -88,14 +88,37 @@ module _ (s : scanner_t) (r : Runs s) (l : s.taken < length (before s.limit (his
 
       held : Holds (history s) (u.made + 1) u
       held = let g = r.holds in record {
-        text = rw H g.text; is_history = subst (λ (k : ℕ). IsHistory k (history s)) (sym L) g.is_history; fresh = rw L g.fresh; levels = rw V g.levels; columns = rw H g.columns; outer = rw (O, L) g.outer; top = rw (P, L) g.top; allowed = rw A g.allowed;
-        first = step_behind h.token g.first; queue = (let p = parts in rw (H, I, T, M) (subst (λ (z : List Token). IsQueue s.text.encoding (step_behind h.token g.first) (s.made + 1) ys z) (sym p.1) h.queue)); reach = rw R g.reach; taken = rw (T, L) (omega (arith, l)); place = rw (H, R) g.place }
+        text = rw H g.text;
+        is_history = subst (λ (k : ℕ). IsHistory k (history s)) (sym L) g.is_history;
+        fresh = rw L g.fresh;
+        levels = rw V g.levels;
+        columns = rw H g.columns;
+        outer = rw (O, L) g.outer;
+        top = rw (P, L) g.top;
+        allowed = rw A g.allowed;
+        first = step_behind h.token g.first;
+        queue = (let p = parts in rw (H, I, T, M) (subst (λ (z : List Token). IsQueue s.text.encoding (step_behind h.token g.first) (s.made + 1) ys z) (sym p.1) h.queue));
+        reach = rw R g.reach;
+        taken = rw (T, L) (omega (arith, l));
+        place = rw (H, R) g.place;
+      }
 
       pub pops : Pops s u y.token
       pops = record {
-        token = next_token; is = token_is; answer = token_told;
+        token = next_token;
+        is = token_is;
+        answer = token_told;
         runs = record {
-          small = rw H r.small; near = rw (H, K) r.near;
+          small = rw H r.small;
+          near = rw (H, K) r.near;
           holds = subst (λ (Z : List Laid). Holds Z (u.made + 1) u) (sym history_same) held;
-          begun = rw M r.begun; start = rw course_same r.start; within = (let w = r.within in let c = ap (λ (x : Course). length x.read) course_same in omega (arith, M)) };
-        text = H; refusal = J; limit = L; made = M; taken = T }
+          begun = rw M r.begun;
+          start = rw course_same r.start;
+          within = (let w = r.within in let c = ap (λ (x : Course). length x.read) course_same in omega (arith, M));
+        };
+        text = H;
+        refusal = J;
+        limit = L;
+        made = M;
+        taken = T;
+      }

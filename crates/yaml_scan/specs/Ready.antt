@@ -1,5 +1,5 @@
 -- A scanner that is new, or stands in an input.
-use Rattle.std.specs.Prelude.{◌≡◌, ◌⊎◌, ℕ, ◌+◌, ◌-◌, ◌≤◌, ◌<◌, true, false, List, [], length, slice_get, Option, None, Some, option_map}
+use Rattle.std.specs.Prelude.{◌≡◌, ◌⊎◌, ℕ, ◌+◌, ◌-◌, ◌≤◌, ◌<◌, max, true, false, List, [], length, slice_get, Option, None, Some, option_map}
 use Rattle.yaml_text.specs.declared.types.yaml_encoding_t.{yaml_encoding_t}
 use Rattle.yaml_text.specs.Fault.{Fault, zero_mark}
 use Rattle.yaml_scan.specs.declared.step.scanner_t.{scanner_t}
@@ -33,6 +33,12 @@ pub record IsIn (setting : yaml_encoding_t) (input : List ℕ) (s : scanner_t) :
 -- it can be asked for the next token
 abbrev pub IsReady : yaml_encoding_t → List ℕ → scanner_t → Type 0
 IsReady setting input s = IsNew s ⊎ (IsIn setting input s × IsOpen s)
+
+-- the next token is at the head of its queue
+pub record IsShown (setting : yaml_encoding_t) (input : List ℕ) (s : scanner_t) : Type 0 where
+  pub stands : IsIn setting input s
+  pub still_open : IsOpen s
+  pub settled : s.taken < length (before s.limit (history s))
 
 abbrev pub course_in : ℕ → yaml_encoding_t → List ℕ → Course
 course_in limit setting input = course limit (decoded_input setting input)
@@ -83,7 +89,7 @@ parser_of p = record {
 
 pub record Sound (p : Inside) : Type 0 where
   pub ready : p.over ≡ false → IsReady p.setting p.input.now p.scanner
-  pub peeked : p.peeked ≡ true → (p.over ≡ false) × IsIn p.setting p.input.now p.scanner × (p.scanner.taken < length (before p.scanner.limit (history p.scanner)))
+  pub peeked : p.peeked ≡ true → (p.over ≡ false) × IsShown p.setting p.input.now p.scanner
   pub reach : p.scanner.reach ≡ reach (first_steps p.scanner.made (course_in p.scanner.limit p.setting p.input.now).read)
   pub empty : p.empty ≡ empty
 
@@ -92,5 +98,13 @@ pub record Begins (setting : yaml_encoding_t) (input : List ℕ) (s t : scanner_
   pub stands : IsIn setting input t
   pub still_open : IsOpen t
   pub made : t.made ≡ 1
+  pub limit : t.limit ≡ s.limit
+  pub taken : t.taken ≡ s.taken
+
+-- the first step was made, now or before
+pub record IsStarted (setting : yaml_encoding_t) (input : List ℕ) (s t : scanner_t) : Type 0 where
+  pub stands : IsIn setting input t
+  pub still_open : IsOpen t
+  pub made : t.made ≡ max 1 s.made
   pub limit : t.limit ≡ s.limit
   pub taken : t.taken ≡ s.taken

@@ -131,7 +131,8 @@ pub record Settles (s t : scanner_t) : Type 0 where
   pub same : Same s t
 
 -- there is no next token, and f is why
-pub record Fails (s : scanner_t) (f : Fault) : Type 0 where
+pub record Fails (s t : scanner_t) (f : Fault) : Type 0 where
+  pub made : t.made ≡ length (course_of s).read + 1
   pub none : length (before s.limit (course_of s).read) ≤ s.taken
   pub fault : (course_of s).fault ≡ Some f
 
@@ -141,15 +142,3 @@ pub record Stops (s t : scanner_t) : Type 0 where
   pub least : s.made ≤ t.made
   pub most : t.made ≤ pace s.limit (course_of s).read s.taken s.made
   pub reach : t.reach ≡ reach (history t)
-
--- a scan that takes x
-pub record Takes (s t : scanner_t) (x : yaml_token_t) : Type 0 where
-  pub runs : Runs t
-  pub token : Token
-  pub is : slice_get (before s.limit (course_of s).read) s.taken ≡ Some token
-  pub answer : x ≡ handed_out s.text.encoding token
-  pub made : t.made ≡ pace s.limit (course_of s).read s.taken s.made
-  pub text : t.text ≡ s.text
-  pub refusal : t.refusal ≡ s.refusal
-  pub limit : t.limit ≡ s.limit
-  pub taken : t.taken ≡ s.taken + 1

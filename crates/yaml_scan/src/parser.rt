@@ -113,6 +113,27 @@ fn begin<'a>(
 
 ghost use Rattle.yaml_scan.specs.Ready.{Begins};
 
+/// Makes the first step, if it was not made.
+fn start<'a>(
+    alloc: Global,
+    scanner: &mut scanner_t<'a>,
+    input: &'a [u8],
+    setting: yaml_encoding_t,
+) -> Result<(), yaml_fault_t>
+    requires { IsReady setting input.now scanner.old }
+    ensures { MatchResult result (λ _. IsStarted setting input.now scanner.old scanner.new) (λ f. ((fault_of f ≡ memory_fault) ⊎ IsEnded setting input.now scanner.old scanner.new (fault_of f)) × IsStopped setting input.now scanner.old scanner.new) }
+{
+    if scanner.made > 0 {
+        return Ok(());
+    }
+    match begin(alloc, scanner, input, setting) {
+        Ok(_) => Ok(()),
+        Err(fault) => Err(fault),
+    }
+}
+
+ghost use Rattle.yaml_scan.specs.Ready.{IsStarted};
+
 /// Makes the steps that the next token asks for.
 fn settle<'a>(
     alloc: Global,
@@ -123,11 +144,37 @@ fn settle<'a>(
     requires { IsReady setting input.now scanner.old }
     ensures { MatchResult result (λ _. IsSettled setting input.now scanner.old scanner.new) (λ f. ((fault_of f ≡ memory_fault) ⊎ IsEnded setting input.now scanner.old scanner.new (fault_of f)) × IsStopped setting input.now scanner.old scanner.new) }
 {
-    if scanner.made == 0 {
-        begin(alloc, scanner, input, setting)?;
+    match start(alloc, scanner, input, setting) {
+        Ok(_) => match settle_head(alloc, scanner) {
+            Ok(_) => Ok(()),
+            Err(fault) => Err(fault),
+        },
+        Err(fault) => Err(fault),
     }
-    settle_head(alloc, scanner)
 }
+
+/// Makes the steps that the next token asks for, unless it was peeked.
+fn look<'a>(
+    alloc: Global,
+    scanner: &mut scanner_t<'a>,
+    input: &'a [u8],
+    setting: yaml_encoding_t,
+    peeked: bool,
+) -> Result<(), yaml_fault_t>
+    requires ready { IsReady setting input.now scanner.old }
+    requires shown { peeked ≡ true → IsShown setting input.now scanner.old }
+    ensures { MatchResult result (λ _. IsSettled setting input.now scanner.old scanner.new) (λ f. ((fault_of f ≡ memory_fault) ⊎ IsEnded setting input.now scanner.old scanner.new (fault_of f)) × IsStopped setting input.now scanner.old scanner.new × (peeked ≡ false)) }
+{
+    if peeked {
+        return Ok(());
+    }
+    match settle(alloc, scanner, input, setting) {
+        Ok(_) => Ok(()),
+        Err(fault) => Err(fault),
+    }
+}
+
+ghost use Rattle.yaml_scan.specs.Ready.{IsShown};
 
 /// Takes the head of the queue.
 fn take_head(scanner: &mut scanner_t) -> yaml_token_t
@@ -185,11 +232,12 @@ pub fn yaml_parser_scan(parser: &mut yaml_parser_t) -> Result<yaml_token_t, yaml
     if parser.over {
         return Ok(yaml_token_t::empty());
     }
-    match settle(
+    match look(
         parser.alloc,
         &mut parser.scanner,
         parser.input,
         parser.setting,
+        parser.peeked,
     ) {
         Ok(_) => {
             let token = take_head(&mut parser.scanner);

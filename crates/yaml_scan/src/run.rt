@@ -4,7 +4,7 @@ ghost use Rattle.std.specs.List.{list_any};
 ghost use Rattle.yaml_text.specs.Fault.{fault_of, memory_fault};
 ghost use Rattle.yaml_scan.specs.Offline.{before};
 ghost use Rattle.yaml_scan.specs.Order.{ended};
-ghost use Rattle.yaml_scan.specs.Scanning.{Runs, Steps, IsLast, Stays, IsOpen, Settles, Fails, Stops, Takes, history};
+ghost use Rattle.yaml_scan.specs.Scanning.{Runs, Steps, IsLast, Stays, IsOpen, Settles, Fails, Stops, history};
 
 use crate::keys::{is_any_awaited, is_awaited};
 use crate::step::{lay, meet, scanner_t};
@@ -96,7 +96,7 @@ fn advance(alloc: Global, scanner: &mut scanner_t) -> Result<(), yaml_fault_t>
 pub(crate) fn settle_head(alloc: Global, scanner: &mut scanner_t) -> Result<(), yaml_fault_t>
     requires runs { Runs scanner.old }
     requires not_ended { IsOpen scanner.old }
-    ensures { MatchResult result (λ _. Settles scanner.old scanner.new) (λ f. ((fault_of f ≡ memory_fault) ⊎ Fails scanner.old (fault_of f)) × Stops scanner.old scanner.new) }
+    ensures { MatchResult result (λ _. Settles scanner.old scanner.new) (λ f. ((fault_of f ≡ memory_fault) ⊎ Fails scanner.old scanner.new (fault_of f)) × Stops scanner.old scanner.new) }
 {
     'steps: while !is_settled(scanner) {
         advance(alloc, scanner)?;
