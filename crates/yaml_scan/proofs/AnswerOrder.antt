@@ -51,7 +51,7 @@ course_fits limit input k = cases (starts_near input.source.size input.refusal)
     cases false = run_fits (next input limit) limit input.source.size (next_orderly limit input k) (steps_of limit input k).read (steps_are limit input k).0
 
 -- and so their tokens
-abbrev TokenFits : Token → Type 0
+abbrev pub TokenFits : Token → Type 0
 TokenFits (OfLexeme x) = Fits x
 TokenFits StreamStart = Unit {0}
 TokenFits (BlockEnd m) = Unit {0}
@@ -59,7 +59,7 @@ TokenFits (BlockSequenceStart m) = Unit {0}
 TokenFits (BlockMappingStart m) = Unit {0}
 TokenFits (InsertedKey m) = Unit {0}
 
-abbrev TokensFit : List Token → Type 0
+abbrev pub TokensFit : List Token → Type 0
 TokensFit [] = Unit {0}
 TokensFit (t ∷ ts) = TokenFits t × TokensFit ts
 

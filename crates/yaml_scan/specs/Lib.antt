@@ -10,6 +10,8 @@ pub mod Slots
 pub mod Queue
 pub mod Fault
 pub mod Source
+pub mod SourceOf
+pub mod TextReads
 pub mod Step
 pub mod Cut
 pub mod Answers
@@ -17,7 +19,12 @@ pub mod Session
 pub mod Laws
 pub mod TokenLaws
 pub mod SessionLaws
+pub mod Numbered
+pub mod Near
+pub mod Moves
+pub mod Scanning
+pub mod Ready
+pub mod Parser
 pub mod AnswerLaws
-pub mod SourceOf
 pub mod Locality
 pub mod Inputs

@@ -5,12 +5,8 @@ use Rattle.yaml_scan.specs.Kind.{Kind, is_flow_start, is_flow_end, is_value, is_
 use Rattle.yaml_scan.specs.Laid.{Laid, names, candidate, reach, only_live}
 use Rattle.yaml_scan.specs.Levels.{is_required}
 use Rattle.yaml_scan.specs.Offline.{up_to}
-
 -- what is kept of a candidate: the number of its token, its start, and whether it is required
-pub record Held : Type 0 where
-  pub at : ℕ
-  pub start : yaml_mark_t
-  pub required : Bool
+pub use Rattle.yaml_scan.specs.declared.keys.held_t.{held_t as Held}
 
 abbrev pub held_of : List Laid → Laid → Held
 held_of H c = record { at = length (up_to H (Some c)); start = c.lexeme.start; required = is_required c }

@@ -1,4 +1,17 @@
 //! The scanner of a YAML stream: its layout, its tokens.
 #![tactic(auto)]
 
+mod keys;
+mod kind;
 pub mod laws;
+mod levels;
+mod near;
+mod parser;
+mod queue;
+mod run;
+mod source;
+mod step;
+#[cfg(test)]
+mod tests;
+
+pub use parser::{yaml_parser_scan, yaml_parser_t};

@@ -1,0 +1,16 @@
+use Rattle.std.proofs.Common.{◌≡◌, ◌≤◌, ◌<◌, ◌+◌, ℕ, refl, sym, ap, ◌∙◌, subst, arith, length, deque_len, inl, inr, List, ◌∷◌, [], ◌++◌, true, false}
+use Rattle.std.proofs.lemmas.Bool.{cases_lt, false≢true}
+use Rattle.yaml_text.specs.declared.types.yaml_encoding_t.{yaml_encoding_t}
+use Rattle.yaml_scan.specs.declared.queue.queued_t.{queued_t}
+use Rattle.yaml_scan.specs.Offline.{Token}
+use Rattle.yaml_scan.specs.Queue.{put_in, key_at}
+use Rattle.yaml_scan.specs.Numbered.{IsQueue}
+use Rattle.yaml_scan.proofs.Queues.{put_behind, put_nothing, put_key, put_key_and_start, step_some, step_none}
+use Rattle.yaml_scan.proofs.queue.insert_key.Goals as goal
+
+pub returns-in_ok-insert-2 : goal.returns-in_ok-insert-2
+returns-in_ok-insert-2 c = λ e n q i. let l = c.in_ok-insert.ensures.len in let m = c.requires in
+    rw (c.if-opens.true, c.in_ok-insert-2.ensures.items) (put_key_and_start e n c.args.step c.args.queue.now.items c.insert.new.self.items q c.args.at _ _ c.args.mark i m c.token_at-token.ensures c.step_at-step.ensures c.token_at-token-then-opens.ensures refl c.in_ok-insert.ensures.items (omega arith))
+
+pub returns-else-opens : goal.returns-else-opens
+returns-else-opens c = λ e n q i. rw (c.if-opens.false, c.in_ok-insert.ensures.items) (put_key e n c.args.step c.args.queue.now.items q c.args.at _ c.args.mark i c.requires c.token_at-token.ensures c.step_at-step.ensures)

@@ -1,0 +1,12 @@
+use Rattle.std.proofs.Common.{◌≡◌, ◌≤◌, ◌<◌, ◌+◌, ℕ, refl, sym, ap, ◌∙◌, subst, arith, length, deque_len, inl, inr, List, ◌∷◌, [], ◌++◌, true, false}
+use Rattle.std.proofs.lemmas.Bool.{cases_lt, false≢true}
+use Rattle.yaml_text.specs.declared.types.yaml_encoding_t.{yaml_encoding_t}
+use Rattle.yaml_scan.specs.declared.queue.queued_t.{queued_t}
+use Rattle.yaml_scan.specs.Offline.{Token}
+use Rattle.yaml_scan.specs.Queue.{put_in, key_at}
+use Rattle.yaml_scan.specs.Numbered.{IsQueue}
+use Rattle.yaml_scan.proofs.Queues.{put_behind, start_step}
+use Rattle.yaml_scan.proofs.queue.put_block_start.Goals as goal
+
+pub returns-in_ok-push_back : goal.returns-in_ok-push_back
+returns-in_ok-push_back c = λ e n q i. rw (c.if-opens.true, c.in_ok-push_back.ensures.items) (put_behind e n _ _ _ q _ _ i (c.token_at-token.ensures ∙ c.block_start.ensures e c.args.mark) refl (start_step c.args.kind c.args.mark c.args.step))

@@ -1,0 +1,110 @@
+-- A scanner that is new, or stands in an input.
+use Rattle.std.specs.Prelude.{◌≡◌, ◌⊎◌, ℕ, ◌+◌, ◌-◌, ◌≤◌, ◌<◌, max, true, false, List, [], length, slice_get, Option, None, Some, option_map}
+use Rattle.yaml_text.specs.declared.types.yaml_encoding_t.{yaml_encoding_t}
+use Rattle.yaml_text.specs.Fault.{Fault, zero_mark}
+use Rattle.yaml_scan.specs.declared.step.scanner_t.{scanner_t}
+use Rattle.yaml_scan.specs.declared.parser.yaml_parser_t.TheInside.{Inside}
+use Rattle.yaml_text.specs.Fault.{fault_of}
+use Rattle.yaml_scan.specs.Laid.{reach}
+use Rattle.yaml_scan.specs.Token.{yaml_token_t, empty}
+use Rattle.yaml_scan.specs.Offline.{Token, before, offline, handed_out}
+use Rattle.yaml_scan.specs.Answers.{Input, Course, course, tokens_of}
+use Rattle.yaml_scan.specs.Session.{Session, pace, all_steps, first_steps}
+use Rattle.yaml_scan.specs.Inputs.{decoded_input}
+use Rattle.yaml_scan.specs.Scanning.{Runs, IsOpen, history, course_of, input_of}
+use Rattle.yaml_scan.specs.Parser.{Parser, course_read}
+
+-- nothing was read yet
+pub record IsNew (s : scanner_t) : Type 0 where
+  pub levels : s.levels.items ≡ []
+  pub outer : s.outer.items ≡ []
+  pub top : s.top ≡ None
+  pub allowed : s.allowed ≡ true
+  pub queue : s.queue.items ≡ []
+  pub reach : s.reach ≡ zero_mark
+  pub taken : s.taken ≡ 0
+  pub made : s.made ≡ 0
+
+-- it stands in the input
+pub record IsIn (setting : yaml_encoding_t) (input : List ℕ) (s : scanner_t) : Type 0 where
+  pub runs : Runs s
+  pub reads : input_of s ≡ decoded_input setting input
+
+-- it can be asked for the next token
+abbrev pub IsReady : yaml_encoding_t → List ℕ → scanner_t → Type 0
+IsReady setting input s = IsNew s ⊎ (IsIn setting input s × IsOpen s)
+
+-- the next token is at the head of its queue
+pub record IsShown (setting : yaml_encoding_t) (input : List ℕ) (s : scanner_t) : Type 0 where
+  pub stands : IsIn setting input s
+  pub still_open : IsOpen s
+  pub settled : s.taken < length (before s.limit (history s))
+
+abbrev pub course_in : ℕ → yaml_encoding_t → List ℕ → Course
+course_in limit setting input = course limit (decoded_input setting input)
+
+-- the next token is at the head of the queue
+pub record IsSettled (setting : yaml_encoding_t) (input : List ℕ) (s t : scanner_t) : Type 0 where
+  pub stands : IsIn setting input t
+  pub still_open : IsOpen t
+  pub settled : t.taken < length (before t.limit (history t))
+  pub made : t.made ≡ pace s.limit (course_in s.limit setting input).read s.taken s.made
+  pub limit : t.limit ≡ s.limit
+  pub taken : t.taken ≡ s.taken
+
+-- a scanner that has stopped: no more steps were made than the next token asks for
+pub record IsStopped (setting : yaml_encoding_t) (input : List ℕ) (s t : scanner_t) : Type 0 where
+  pub limit : t.limit ≡ s.limit
+  pub taken : t.taken ≡ s.taken
+  pub least : s.made ≤ t.made
+  pub most : t.made ≤ pace s.limit (course_in s.limit setting input).read s.taken s.made
+  pub reach : t.reach ≡ reach (first_steps t.made (course_in s.limit setting input).read)
+
+-- there is no next token, and f is why
+pub record IsEnded (setting : yaml_encoding_t) (input : List ℕ) (s t : scanner_t) (f : Fault) : Type 0 where
+  pub none : length (tokens_of s.limit (course_in s.limit setting input)) ≤ s.taken
+  pub fault : (course_in s.limit setting input).fault ≡ Some f
+  pub made : t.made ≡ all_steps (course_in s.limit setting input)
+
+-- the head of the queue is taken
+pub record Pops (s t : scanner_t) (x : yaml_token_t) : Type 0 where
+  pub token : Token
+  pub is : slice_get (before s.limit (course_of s).read) s.taken ≡ Some token
+  pub answer : x ≡ handed_out s.text.encoding token
+  pub runs : Runs t
+  pub text : t.text ≡ s.text
+  pub refusal : t.refusal ≡ s.refusal
+  pub limit : t.limit ≡ s.limit
+  pub made : t.made ≡ s.made
+  pub taken : t.taken ≡ s.taken + 1
+
+-- THE PARSER
+abbrev pub parser_of : Inside → Parser
+parser_of p = record {
+  input = p.input.now;
+  setting = p.setting;
+  limit = p.scanner.limit;
+  session = record { taken = p.scanner.taken; steps = p.scanner.made; peeked = p.peeked; over = p.over; fault = option_map fault_of p.fault };
+}
+
+pub record Sound (p : Inside) : Type 0 where
+  pub ready : p.over ≡ false → IsReady p.setting p.input.now p.scanner
+  pub peeked : p.peeked ≡ true → (p.over ≡ false) × IsShown p.setting p.input.now p.scanner
+  pub reach : p.scanner.reach ≡ reach (first_steps p.scanner.made (course_in p.scanner.limit p.setting p.input.now).read)
+  pub empty : p.empty ≡ empty
+
+-- STREAM-START was made
+pub record Begins (setting : yaml_encoding_t) (input : List ℕ) (s t : scanner_t) : Type 0 where
+  pub stands : IsIn setting input t
+  pub still_open : IsOpen t
+  pub made : t.made ≡ 1
+  pub limit : t.limit ≡ s.limit
+  pub taken : t.taken ≡ s.taken
+
+-- the first step was made, now or before
+pub record IsStarted (setting : yaml_encoding_t) (input : List ℕ) (s t : scanner_t) : Type 0 where
+  pub stands : IsIn setting input t
+  pub still_open : IsOpen t
+  pub made : t.made ≡ max 1 s.made
+  pub limit : t.limit ≡ s.limit
+  pub taken : t.taken ≡ s.taken

@@ -1,0 +1,144 @@
+-- What a running scanner holds behind the lexemes H.
+use Rattle.std.specs.Prelude.{◌≡◌, ◌⊎◌, ℕ, ◌+◌, ◌-◌, ◌≤◌, ◌<◌, ◌^◌, max, Bool, true, false, List, [], ◌∷◌, reverse, drop, length, slice_get, Option, None, Some, nat_lt}
+use Rattle.yaml_text.specs.declared.types.yaml_mark_t.{yaml_mark_t}
+use Rattle.yaml_text.specs.declared.fault.yaml_fault_t.{yaml_fault_t}
+use Rattle.yaml_text.specs.Fault.{Fault, fault_of, memory_fault}
+use Rattle.yaml_text.specs.Chars.{AreChars}
+use Rattle.yaml_text.specs.Decode.{refusal_seen}
+use Rattle.yaml_lexeme.specs.Place.{IsMarkOf}
+use Rattle.yaml_scan.specs.declared.step.scanner_t.{scanner_t}
+use Rattle.yaml_scan.specs.declared.step.met_t.{met_t}
+use Rattle.yaml_scan.specs.declared.queue.queued_t.{queued_t}
+use Rattle.yaml_scan.specs.Lexeme.{Lexeme}
+use Rattle.yaml_scan.specs.Token.{yaml_token_t}
+use Rattle.yaml_scan.specs.Source.{Source, Offence}
+use Rattle.yaml_scan.specs.SourceOf.{source_of}
+use Rattle.yaml_scan.specs.TextReads.{IsProblem}
+use Rattle.yaml_scan.specs.Laid.{Laid, reach, depth, allowed, allowed_behind}
+use Rattle.yaml_scan.specs.Levels.{AllLess, laid, open_columns}
+use Rattle.yaml_scan.specs.Order.{IsHistory, ended}
+use Rattle.yaml_scan.specs.Offline.{Token, offline, before, handed_out}
+use Rattle.yaml_scan.specs.Slots.{held, outer_to}
+use Rattle.yaml_scan.specs.Numbered.{IsQueue}
+use Rattle.yaml_scan.specs.Step.{Outcome, step, read_step, stale, place_behind, front_of}
+use Rattle.yaml_scan.specs.Step.Outcome.{Reads, Faults}
+use Rattle.yaml_scan.specs.Cut.{oldest}
+use Rattle.yaml_scan.specs.Answers.{Input, Course, course, next, is_near, tokens_of}
+use Rattle.yaml_scan.specs.Session.{pace}
+
+-- what it scans
+abbrev pub text_of : scanner_t → Source
+text_of s = source_of s.text.chars
+
+abbrev pub input_of : scanner_t → Input
+input_of s = record { encoding = s.text.encoding; source = source_of s.text.chars; refusal = refusal_seen s.refusal }
+
+-- where steps are near
+abbrev pub IsNearFrom : List ℕ → ℕ → Type 0
+IsNearFrom cs near = (p : ℕ) → p ≤ length cs → (near ≤ ((source_of cs).mark p).index → is_near (length cs) p ≡ true) × (((source_of cs).mark p).index < near → is_near (length cs) p ≡ false)
+
+-- n is the number of the next step
+pub record Holds (H : List Laid) (n : ℕ) (s : scanner_t) : Type 0 where
+  pub text : AreChars s.text.chars
+  pub is_history : IsHistory s.limit H
+  pub fresh : stale s.limit H (reach H) ≡ None
+  pub levels : reverse s.levels.items ≡ open_columns H
+  pub columns : AllLess (length s.text.chars + 1) (open_columns H)
+  pub outer : s.outer.items ≡ outer_to s.limit H (depth H)
+  pub top : s.top ≡ held s.limit H (depth H)
+  pub allowed : s.allowed ≡ allowed_behind H
+  pub first : ℕ
+  pub queue : IsQueue s.text.encoding first n s.queue.items (drop s.taken (offline H))
+  pub reach : s.reach ≡ reach H
+  pub taken : s.taken ≤ length (before s.limit H)
+  pub place : ended H ≡ false → IsMarkOf s.text.chars s.reach (place_behind H)
+
+-- the kind of lexeme that was met behind the gap
+pub record IsMet (H : List Laid) (s : scanner_t) (m : met_t) : Type 0 where
+  pub front : IsMarkOf s.text.chars m.front (front_of (text_of s) H)
+  pub allowed : m.allowed ≡ allowed H m.front
+  pub kind : (text_of s).kind (nat_lt 0 (depth H)) (front_of (text_of s) H) ≡ Some m.kind
+  pub step : step (text_of s) s.limit H ≡ read_step (text_of s) s.limit H m.kind (front_of (text_of s) H)
+
+-- what is not changed by a step
+pub record Same (s t : scanner_t) : Type 0 where
+  pub text : t.text ≡ s.text
+  pub refusal : t.refusal ≡ s.refusal
+  pub near : t.near ≡ s.near
+  pub limit : t.limit ≡ s.limit
+  pub taken : t.taken ≡ s.taken
+
+-- the next lexeme
+pub record Advances (H : List Laid) (s t : scanner_t) : Type 0 where
+  pub lexeme : Lexeme
+  pub step : step (text_of s) s.limit H ≡ Reads lexeme
+  pub holds : Holds (laid s.limit H lexeme ∷ H) (s.made + 1 + 1) t
+  pub index : t.reach.index ≡ ((text_of s).mark lexeme.place).index
+  pub within : lexeme.place ≤ length s.text.chars
+  pub same : Same s t
+  pub made : t.made ≡ s.made
+
+-- the offence of a step
+pub record Offends (H : List Laid) (s : scanner_t) (f : Fault) : Type 0 where
+  pub offence : Offence
+  pub step : step (text_of s) s.limit H ≡ Faults offence
+  pub fault : offence.fault ≡ f
+  pub problem : IsProblem (text_of s) offence
+
+-- the steps that an input comes to
+unfoldable pub course_of : scanner_t → Course
+course_of s = course s.limit (input_of s)
+
+-- the lexemes behind which a scanner stands
+unfoldable pub history : scanner_t → List Laid
+history s = oldest (s.made - 1) (course_of s).read
+
+-- STREAM-START was made, and the session is not over
+pub record Runs (s : scanner_t) : Type 0 where
+  pub small : length s.text.chars + 1 < 2 ^ 64
+  pub near : IsNearFrom s.text.chars s.near
+  pub holds : Holds (history s) (s.made + 1) s
+  pub begun : 0 < s.made
+  pub start : (course_of s).begun ≡ true
+  pub within : s.made ≤ length (course_of s).read + 1
+
+-- one step more
+pub record Steps (s t : scanner_t) : Type 0 where
+  pub runs : Runs t
+  pub made : t.made ≡ s.made + 1
+  pub same : Same s t
+
+-- the step behind the last one is faulty
+pub record IsLast (s : scanner_t) (f : Fault) : Type 0 where
+  pub made : s.made ≡ length (course_of s).read + 1
+  pub fault : (course_of s).fault ≡ Some f
+
+-- a scanner that has stopped
+pub record Stays (s t : scanner_t) : Type 0 where
+  pub same : Same s t
+  pub made : t.made ≡ s.made
+  pub reach : t.reach ≡ s.reach
+
+-- STREAM-END was not taken
+abbrev pub IsOpen : scanner_t → Type 0
+IsOpen s = ended (course_of s).read ≡ true → s.taken < length (offline (course_of s).read)
+
+-- the steps that a look at the next token makes
+pub record Settles (s t : scanner_t) : Type 0 where
+  pub runs : Runs t
+  pub settled : t.taken < length (before t.limit (history t))
+  pub made : t.made ≡ pace s.limit (course_of s).read s.taken s.made
+  pub same : Same s t
+
+-- there is no next token, and f is why
+pub record Fails (s t : scanner_t) (f : Fault) : Type 0 where
+  pub made : t.made ≡ length (course_of s).read + 1
+  pub none : length (before s.limit (course_of s).read) ≤ s.taken
+  pub fault : (course_of s).fault ≡ Some f
+
+-- what is left of a scanner that has stopped: how far the last step was read stays to be seen
+pub record Stops (s t : scanner_t) : Type 0 where
+  pub same : Same s t
+  pub least : s.made ≤ t.made
+  pub most : t.made ≤ pace s.limit (course_of s).read s.taken s.made
+  pub reach : t.reach ≡ reach (history t)

@@ -1,0 +1,22 @@
+-- What the calls on a text answer, by what the text gives to read.
+use Rattle.std.specs.Prelude.{◌≡◌, ℕ, ◌+◌, ◌<◌, ◌≤◌, ◌^◌, List, length, Option, Some, Ok, Err}
+use Rattle.yaml_text.specs.declared.types.yaml_error_type_t.TheVariants.{YAML_SCANNER_ERROR}
+use Rattle.yaml_text.specs.Fault.{Fault}
+use Rattle.yaml_lexeme.specs.declared.lex.yaml_lexeme_t.{yaml_lexeme_t}
+use Rattle.yaml_scan.specs.Kind.{Kind}
+use Rattle.yaml_scan.specs.Source.{Source, Reading, Offence}
+use Rattle.yaml_scan.specs.SourceOf.{source_of, reading}
+
+-- the lexeme was read
+abbrev pub IsRead : List ℕ → Kind → ℕ → Option ℕ → ℕ → yaml_lexeme_t → Type 0
+IsRead cs k d l p x = (n : ℕ) × ((source_of cs).read k d l p ≡ Ok (reading x n))
+
+-- the fault of an offence
+abbrev pub IsOffence : List ℕ → Kind → ℕ → Option ℕ → ℕ → Fault → Type 0
+IsOffence cs k d l p f = (o : Offence) × ((source_of cs).read k d l p ≡ Err o) × (o.fault ≡ f)
+
+-- the problem of an offence stands at its place
+pub record IsProblem (S : Source) (o : Offence) : Type 0 where
+  pub kind : o.fault.error ≡ YAML_SCANNER_ERROR
+  pub within : o.place ≤ S.size
+  pub index : o.fault.problem_mark.index ≡ (S.mark o.place).index

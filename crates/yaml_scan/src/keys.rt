@@ -1,0 +1,179 @@
+//! Simple keys: the candidate of each flow depth, which a `:` may yet make a key (YAML 1.1, section 7.4).
+ghost use Rattle.std.specs.Prelude.{◌≡◌, ◌+◌, ◌-◌, ◌&&◌, not, List, Option, None, map, IfOk, OnOk, if◌then◌else◌};
+ghost use Rattle.std.specs.List.{list_any};
+ghost use Rattle.yaml_scan.specs.Slots.{is_live, still_held, lost_held, needed, slot_behind, root_of, waits};
+ghost use Rattle.yaml_scan.specs.Slots.{completed_held, nested_outer, nested_top};
+
+use crate::kind::{is_candidate, is_colon, is_flow_end, is_flow_start};
+use std::alloc::AllocError;
+use yaml_lexeme::yaml_lexeme_kind_t;
+use yaml_text::yaml_mark_t;
+
+/// What is kept of a candidate: how many tokens stand before its own, where it starts, and whether a `:` has to come.
+#[derive(Clone, Copy)]
+pub(crate) struct held_t {
+    pub at: u128,
+    pub start: yaml_mark_t,
+    pub required: bool,
+}
+
+/// Whether a candidate is live at a mark: on its line, and at most `limit` bytes from its start.
+fn is_still_live(limit: u64, mark: yaml_mark_t, held: held_t) -> bool
+    ensures { result ≡ is_live limit mark held }
+{
+    mark.line == held.start.line && mark.index.saturating_sub(held.start.index) <= limit
+}
+
+/// A candidate, unless it is stale at a mark.
+pub(crate) fn kept(slot: Option<held_t>, limit: u64, mark: yaml_mark_t) -> Option<held_t>
+    ensures { result ≡ still_held limit mark slot }
+{
+    match slot {
+        None => None,
+        Some(held) => if is_still_live(limit, mark, held) {
+            Some(held)
+        } else {
+            None
+        },
+    }
+}
+
+/// A required candidate that is stale at a mark.
+pub(crate) fn lost_at(slot: Option<held_t>, limit: u64, mark: yaml_mark_t) -> Option<held_t>
+    ensures { result ≡ lost_held limit mark slot }
+{
+    match slot {
+        None => None,
+        Some(held) => if held.required && !is_still_live(limit, mark, held) {
+            Some(held)
+        } else {
+            None
+        },
+    }
+}
+
+/// A required candidate that is live at a mark.
+pub(crate) fn needed_at(slot: Option<held_t>, limit: u64, mark: yaml_mark_t) -> Option<held_t>
+    ensures { result ≡ needed limit mark slot }
+{
+    match slot {
+        None => None,
+        Some(held) => if held.required && is_still_live(limit, mark, held) {
+            Some(held)
+        } else {
+            None
+        },
+    }
+}
+
+/// Gives up the candidates that are stale at a mark.
+fn give_up_stale(slots: &mut Vec<Option<held_t>>, limit: u64, mark: yaml_mark_t)
+    ensures { slots.new.items ≡ map (still_held limit mark) slots.old.items }
+{
+    for slot in slots.iter_mut() {
+        *slot = kept(*slot, limit, mark);
+    }
+}
+
+/// The candidate of depth 0.
+pub(crate) fn root(outer: &[Option<held_t>], top: Option<held_t>) -> Option<held_t>
+    ensures { result ≡ root_of outer.now top }
+{
+    match outer.first() {
+        None => top,
+        Some(held) => *held,
+    }
+}
+
+/// The candidate of a depth behind a lexeme that was read at it.
+pub(crate) fn settle(
+    kind: yaml_lexeme_kind_t,
+    allowed: bool,
+    new: held_t,
+    old: Option<held_t>,
+) -> Option<held_t>
+    ensures { result ≡ slot_behind kind allowed new old }
+{
+    if is_candidate(kind) {
+        if allowed { Some(new) } else { old }
+    } else {
+        None
+    }
+}
+
+/// The candidate that a lexeme completes, which starts at a mark.
+pub(crate) fn completed_by(
+    kind: yaml_lexeme_kind_t,
+    top: Option<held_t>,
+    limit: u64,
+    start: yaml_mark_t,
+) -> Option<held_t>
+    ensures { result ≡ completed_held kind limit start top }
+{
+    if is_colon(kind) {
+        kept(top, limit, start)
+    } else {
+        None
+    }
+}
+
+/// Enters a depth, or gives one up.
+fn nest(
+    outer: &mut Vec<Option<held_t>>,
+    top: Option<held_t>,
+    kind: yaml_lexeme_kind_t,
+) -> Result<Option<held_t>, AllocError>
+    ensures outer { OnOk result (outer.new.items ≡ nested_outer kind outer.old.items top) }
+    ensures top { IfOk result (λ r. r ≡ nested_top kind outer.old.items top) }
+{
+    if is_flow_start(kind) {
+        outer.push(top)?;
+        return Ok(None);
+    }
+    if is_flow_end(kind) {
+        return match outer.pop() {
+            None => Ok(top),
+            Some(held) => Ok(held),
+        };
+    }
+    Ok(top)
+}
+
+/// Gives up what is stale at a mark, and changes the depth behind a lexeme.
+pub(crate) fn move_slots(
+    outer: &mut Vec<Option<held_t>>,
+    top: Option<held_t>,
+    kind: yaml_lexeme_kind_t,
+    limit: u64,
+    mark: yaml_mark_t,
+) -> Result<Option<held_t>, AllocError>
+    ensures outer { OnOk result (outer.new.items ≡ nested_outer kind (map (still_held limit mark) outer.old.items) (still_held limit mark top)) }
+    ensures top { IfOk result (λ r. r ≡ nested_top kind (map (still_held limit mark) outer.old.items) (still_held limit mark top)) }
+{
+    give_up_stale(outer, limit, mark);
+    let top = kept(top, limit, mark);
+    nest(outer, top, kind)
+}
+
+fn waits_for(slot: Option<held_t>, taken: u128) -> bool
+    ensures { result ≡ waits taken slot }
+{
+    match slot {
+        None => false,
+        Some(held) => held.at == taken,
+    }
+}
+
+/// Whether the token with so many before it is that of a candidate.
+pub(crate) fn is_awaited(top: Option<held_t>, taken: u128) -> bool
+    ensures { result ≡ waits taken top }
+{
+    waits_for(top, taken)
+}
+
+/// The same of the outer depths.
+pub(crate) fn is_any_awaited(slots: &[Option<held_t>], taken: u128) -> bool
+    ensures { result ≡ list_any (waits taken) slots.now }
+{
+    slots.iter().any(|slot| waits_for(*slot, taken))
+}

@@ -1,0 +1,142 @@
+//! What the layout asks of a kind of lexeme.
+ghost use Rattle.std.specs.Prelude.{◌≡◌, ℕ, nat_eq, true};
+ghost use Rattle.yaml_scan.specs.Kind.{is_candidate_kind, is_value, is_stream_end, closes_all};
+ghost use Rattle.yaml_scan.specs.Kind as kinds;
+ghost use Rattle.yaml_scan.specs.Laid.{allows};
+ghost use Rattle.yaml_scan.specs.Levels.{opens_level, stays};
+ghost use Rattle.yaml_scan.specs.Step.{end_of, start_at};
+ghost use Rattle.std.specs.Prelude.{◌+◌, ◌<◌, ◌^◌};
+
+use yaml_lexeme::yaml_lexeme_kind_t;
+use yaml_text::yaml_mark_t;
+
+pub(crate) fn is_candidate(kind: yaml_lexeme_kind_t) -> bool
+    ensures { result ≡ is_candidate_kind kind }
+{
+    matches!(
+        kind,
+        yaml_lexeme_kind_t::FLOW_SEQUENCE_START
+            | yaml_lexeme_kind_t::FLOW_MAPPING_START
+            | yaml_lexeme_kind_t::ALIAS
+            | yaml_lexeme_kind_t::ANCHOR
+            | yaml_lexeme_kind_t::TAG
+            | yaml_lexeme_kind_t::SINGLE_QUOTED
+            | yaml_lexeme_kind_t::DOUBLE_QUOTED
+            | yaml_lexeme_kind_t::PLAIN
+    )
+}
+
+pub(crate) fn is_colon(kind: yaml_lexeme_kind_t) -> bool
+    ensures { result ≡ is_value kind }
+{
+    matches!(kind, yaml_lexeme_kind_t::VALUE)
+}
+
+pub(crate) fn is_flow_start(kind: yaml_lexeme_kind_t) -> bool
+    ensures { result ≡ kinds.is_flow_start kind }
+{
+    matches!(
+        kind,
+        yaml_lexeme_kind_t::FLOW_SEQUENCE_START | yaml_lexeme_kind_t::FLOW_MAPPING_START
+    )
+}
+
+pub(crate) fn is_flow_end(kind: yaml_lexeme_kind_t) -> bool
+    ensures { result ≡ kinds.is_flow_end kind }
+{
+    matches!(
+        kind,
+        yaml_lexeme_kind_t::FLOW_SEQUENCE_END | yaml_lexeme_kind_t::FLOW_MAPPING_END
+    )
+}
+
+pub(crate) fn is_last(kind: yaml_lexeme_kind_t) -> bool
+    ensures { result ≡ is_stream_end kind }
+{
+    matches!(kind, yaml_lexeme_kind_t::STREAM_END)
+}
+
+fn is_closer(kind: yaml_lexeme_kind_t) -> bool
+    ensures { result ≡ closes_all kind }
+{
+    matches!(
+        kind,
+        yaml_lexeme_kind_t::STREAM_END
+            | yaml_lexeme_kind_t::DIRECTIVE
+            | yaml_lexeme_kind_t::DOCUMENT_START
+            | yaml_lexeme_kind_t::DOCUMENT_END
+    )
+}
+
+/// Whether it opens a block collection, where it completes no key.
+pub(crate) fn is_opener(kind: yaml_lexeme_kind_t) -> bool
+    ensures { result ≡ opens_level kind true }
+{
+    matches!(
+        kind,
+        yaml_lexeme_kind_t::BLOCK_ENTRY | yaml_lexeme_kind_t::KEY | yaml_lexeme_kind_t::VALUE
+    )
+}
+
+/// Whether a key is allowed behind it. `margin` tells whether it was read at depth 0, `none` whether it completed nothing,
+/// and `passed_break`, for a plain scalar, whether a break stands in the separator behind it.
+pub(crate) fn is_allowed_after(
+    kind: yaml_lexeme_kind_t,
+    margin: bool,
+    none: bool,
+    passed_break: bool,
+) -> bool
+    ensures { (d : ℕ) → margin ≡ nat_eq d 0 → result ≡ allows kind d none passed_break }
+{
+    match kind {
+        yaml_lexeme_kind_t::FLOW_SEQUENCE_START
+        | yaml_lexeme_kind_t::FLOW_MAPPING_START
+        | yaml_lexeme_kind_t::FLOW_ENTRY
+        | yaml_lexeme_kind_t::BLOCK_ENTRY
+        | yaml_lexeme_kind_t::LITERAL
+        | yaml_lexeme_kind_t::FOLDED => true,
+        yaml_lexeme_kind_t::KEY => margin,
+        yaml_lexeme_kind_t::VALUE => margin && none,
+        yaml_lexeme_kind_t::PLAIN => passed_break,
+        _ => false,
+    }
+}
+
+/// Whether a column stays open at a lexeme that starts at a mark.
+pub(crate) fn stays_open(
+    in_flow: bool,
+    kind: yaml_lexeme_kind_t,
+    start: yaml_mark_t,
+    column: u64,
+) -> bool
+    ensures { result ≡ stays in_flow kind start column }
+{
+    in_flow || (!is_closer(kind) && column <= start.column)
+}
+
+fn end_mark(front: yaml_mark_t) -> yaml_mark_t
+    requires { front.line + 1 < 2 ^ 64 }
+    ensures { result ≡ end_of front }
+{
+    if front.column == 0 {
+        front
+    } else {
+        yaml_mark_t {
+            index: front.index,
+            line: front.line + 1,
+            column: 0,
+        }
+    }
+}
+
+/// Where a lexeme starts behind a gap.
+pub(crate) fn start_behind(kind: yaml_lexeme_kind_t, front: yaml_mark_t) -> yaml_mark_t
+    requires { front.line + 1 < 2 ^ 64 }
+    ensures { result ≡ start_at kind front }
+{
+    if is_last(kind) {
+        end_mark(front)
+    } else {
+        front
+    }
+}

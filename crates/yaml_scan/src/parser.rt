@@ -1,0 +1,255 @@
+//! The parser: scan, peek and skip, one call after the other.
+ghost use Rattle.std.specs.Prelude.{◌≡◌, ◌⊎◌, ℕ, ◌+◌, ◌≤◌, ◌<◌, [], length, MatchResult, Some, true, false};
+ghost use Rattle.yaml_text.specs.Fault.{fault_of, memory_fault, zero_mark};
+ghost use Rattle.yaml_text.specs.declared.types.yaml_encoding_t.TheVariants.{YAML_UTF8_ENCODING};
+ghost use Rattle.yaml_scan.specs.Offline.{before};
+ghost use Rattle.yaml_scan.specs.Session.{new_session};
+ghost use Rattle.yaml_scan.specs.Scanning.{Runs, IsOpen, history};
+ghost use Rattle.yaml_scan.specs.Ready.{IsNew, IsReady, IsSettled, IsStopped, IsEnded, Pops};
+ghost use Rattle.yaml_scan.specs.Parser.{Scans};
+ghost use Rattle.yaml_scan.specs.Token.{is_last_type, type_of};
+
+use crate::near::near_from;
+use crate::queue::{put_stream_start, queued_t};
+use crate::run::settle_head;
+use crate::step::scanner_t;
+use std::alloc::Global;
+use std::collections::VecDeque;
+use std::marker::Model;
+use yaml_text::{
+    unnamed_yaml_token_t_data, yaml_decode_front, yaml_encoding_t, yaml_fault_t, yaml_mark_t,
+    yaml_text_t, yaml_token_t,
+};
+
+/// A parser of an input: its tokens are asked for one after the other.
+#[derive(Drop)]
+pub struct yaml_parser_t<'a> {
+    alloc: Global,
+    input: &'a [u8],
+    setting: yaml_encoding_t,
+    scanner: scanner_t<'a>,
+    peeked: bool,
+    over: bool,
+    fault: Option<yaml_fault_t>,
+    empty: yaml_token_t,
+}
+
+impl<'a> Model for yaml_parser_t<'a> {
+    ghost use Rattle.yaml_scan.specs.Parser.{Parser};
+    ghost use Rattle.yaml_scan.specs.Ready.{parser_of, Sound};
+
+    ghost Value = { Parser };
+
+    ghost view = { parser_of };
+
+    ghost invariant = { Sound };
+}
+
+/// The text of no characters.
+fn empty_text<'a>(alloc: Global) -> yaml_text_t<'a> {
+    match yaml_decode_front(alloc, b"", yaml_encoding_t::YAML_UTF8_ENCODING) {
+        Ok((text, _)) => text,
+        Err(_) => unreachable!(),
+    }
+}
+
+fn new_scanner<'a>(alloc: Global, limit: u64) -> scanner_t<'a>
+    ensures new { IsNew result }
+    ensures limit { result.limit ≡ limit }
+{
+    scanner_t {
+        text: empty_text(alloc),
+        refusal: None,
+        near: 0,
+        limit,
+        levels: Vec::new(alloc),
+        outer: Vec::new(alloc),
+        top: None,
+        allowed: true,
+        queue: VecDeque::new(alloc),
+        reach: yaml_mark_t {
+            index: 0,
+            line: 0,
+            column: 0,
+        },
+        taken: 0,
+        made: 0,
+    }
+}
+
+/// The reader's fault, where the first step is near.
+fn near_start(refusal: Option<yaml_fault_t>, near: u64) -> Option<yaml_fault_t>
+    ensures { refusal_seen result ≡ near_fault near 0 (refusal_seen refusal) }
+{
+    if near == 0 { refusal } else { None }
+}
+
+ghost use Rattle.yaml_text.specs.Decode.{refusal_seen};
+ghost use Rattle.yaml_scan.specs.Near.{near_fault};
+
+/// Decodes the input, and makes the first step.
+fn begin<'a>(
+    alloc: Global,
+    scanner: &mut scanner_t<'a>,
+    input: &'a [u8],
+    setting: yaml_encoding_t,
+) -> Result<(), yaml_fault_t>
+    requires { IsNew scanner.old }
+    ensures { MatchResult result (λ _. Begins setting input.now scanner.old scanner.new) (λ f. ((fault_of f ≡ memory_fault) ⊎ IsEnded setting input.now scanner.old scanner.new (fault_of f)) × IsStopped setting input.now scanner.old scanner.new) }
+{
+    let (text, refusal) = yaml_decode_front(alloc, input, setting)?;
+    let near = near_from(text.bytes());
+    let encoding = text.encoding();
+    if let Some(fault) = near_start(refusal, near) {
+        return Err(fault);
+    }
+    put_stream_start(&mut scanner.queue, encoding)?;
+    scanner.text = text;
+    scanner.refusal = refusal;
+    scanner.near = near;
+    scanner.made = 1;
+    Ok(())
+}
+
+ghost use Rattle.yaml_scan.specs.Ready.{Begins};
+
+/// Makes the first step, if it was not made.
+fn start<'a>(
+    alloc: Global,
+    scanner: &mut scanner_t<'a>,
+    input: &'a [u8],
+    setting: yaml_encoding_t,
+) -> Result<(), yaml_fault_t>
+    requires { IsReady setting input.now scanner.old }
+    ensures { MatchResult result (λ _. IsStarted setting input.now scanner.old scanner.new) (λ f. ((fault_of f ≡ memory_fault) ⊎ IsEnded setting input.now scanner.old scanner.new (fault_of f)) × IsStopped setting input.now scanner.old scanner.new) }
+{
+    if scanner.made > 0 {
+        return Ok(());
+    }
+    match begin(alloc, scanner, input, setting) {
+        Ok(_) => Ok(()),
+        Err(fault) => Err(fault),
+    }
+}
+
+ghost use Rattle.yaml_scan.specs.Ready.{IsStarted};
+
+/// Makes the steps that the next token asks for.
+fn settle<'a>(
+    alloc: Global,
+    scanner: &mut scanner_t<'a>,
+    input: &'a [u8],
+    setting: yaml_encoding_t,
+) -> Result<(), yaml_fault_t>
+    requires { IsReady setting input.now scanner.old }
+    ensures { MatchResult result (λ _. IsSettled setting input.now scanner.old scanner.new) (λ f. ((fault_of f ≡ memory_fault) ⊎ IsEnded setting input.now scanner.old scanner.new (fault_of f)) × IsStopped setting input.now scanner.old scanner.new) }
+{
+    match start(alloc, scanner, input, setting) {
+        Ok(_) => match settle_head(alloc, scanner) {
+            Ok(_) => Ok(()),
+            Err(fault) => Err(fault),
+        },
+        Err(fault) => Err(fault),
+    }
+}
+
+/// Makes the steps that the next token asks for, unless it was peeked.
+fn look<'a>(
+    alloc: Global,
+    scanner: &mut scanner_t<'a>,
+    input: &'a [u8],
+    setting: yaml_encoding_t,
+    peeked: bool,
+) -> Result<(), yaml_fault_t>
+    requires ready { IsReady setting input.now scanner.old }
+    requires shown { peeked ≡ true → IsShown setting input.now scanner.old }
+    ensures { MatchResult result (λ _. IsSettled setting input.now scanner.old scanner.new) (λ f. ((fault_of f ≡ memory_fault) ⊎ IsEnded setting input.now scanner.old scanner.new (fault_of f)) × IsStopped setting input.now scanner.old scanner.new × (peeked ≡ false)) }
+{
+    if peeked {
+        return Ok(());
+    }
+    match settle(alloc, scanner, input, setting) {
+        Ok(_) => Ok(()),
+        Err(fault) => Err(fault),
+    }
+}
+
+ghost use Rattle.yaml_scan.specs.Ready.{IsShown};
+
+/// Takes the head of the queue.
+fn take_head(scanner: &mut scanner_t) -> yaml_token_t
+    requires runs { Runs scanner.old }
+    requires settled { scanner.old.taken < length (before scanner.old.limit (history scanner.old)) }
+    ensures { Pops scanner.old scanner.new result }
+{
+    let queued = scanner.queue.pop_front().unwrap();
+    scanner.taken += 1;
+    queued.token
+}
+
+fn is_stream_end(token: &yaml_token_t) -> bool
+    ensures { result ≡ is_last_type (type_of token.now.token_data) }
+{
+    matches!(token.token_data, unnamed_yaml_token_t_data::STREAM_END)
+}
+
+impl<'a> yaml_parser_t<'a> {
+    /// A parser of the input, with a key limit of 1,024 bytes.
+    pub fn new(alloc: Global, input: &'a [u8], setting: yaml_encoding_t) -> yaml_parser_t<'a>
+        ensures { result ≡ record { input = input.now; setting = setting; limit = 1024; session = new_session } }
+    {
+        yaml_parser_t::with_key_limit(alloc, input, setting, 1024)
+    }
+
+    /// A parser of the input, with a key limit in bytes, from 1 to 65,536.
+    pub fn with_key_limit(
+        alloc: Global,
+        input: &'a [u8],
+        setting: yaml_encoding_t,
+        limit: u32,
+    ) -> yaml_parser_t<'a>
+        requires least { 1 ≤ limit }
+        requires most { limit ≤ 65536 }
+        ensures { result ≡ record { input = input.now; setting = setting; limit = limit; session = new_session } }
+    {
+        yaml_parser_t {
+            alloc,
+            input,
+            setting,
+            scanner: new_scanner(alloc, limit as u64),
+            peeked: false,
+            over: false,
+            fault: None,
+            empty: yaml_token_t::empty(),
+        }
+    }
+}
+
+/// Takes the next token.
+pub fn yaml_parser_scan(parser: &mut yaml_parser_t) -> Result<yaml_token_t, yaml_fault_t>
+    ensures { Scans parser.old result parser.new }
+{
+    if parser.over {
+        return Ok(yaml_token_t::empty());
+    }
+    match look(
+        parser.alloc,
+        &mut parser.scanner,
+        parser.input,
+        parser.setting,
+        parser.peeked,
+    ) {
+        Ok(_) => {
+            let token = take_head(&mut parser.scanner);
+            parser.peeked = false;
+            parser.over = is_stream_end(&token);
+            Ok(token)
+        }
+        Err(fault) => {
+            parser.peeked = false;
+            parser.over = true;
+            parser.fault = Some(fault);
+            Err(fault)
+        }
+    }
+}

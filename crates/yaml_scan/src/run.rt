@@ -1,0 +1,105 @@
+//! The running scanner: steps are made as far as the next token asks for.
+ghost use Rattle.std.specs.Prelude.{◌≡◌, ◌⊎◌, ℕ, ◌+◌, ◌-◌, ◌<◌, ◌≤◌, ◌^◌, ◌&&◌, not, nat_lt, length, true, false, MatchResult};
+ghost use Rattle.std.specs.List.{list_any};
+ghost use Rattle.yaml_text.specs.Fault.{fault_of, memory_fault};
+ghost use Rattle.yaml_scan.specs.Offline.{before};
+ghost use Rattle.yaml_scan.specs.Order.{ended};
+ghost use Rattle.yaml_scan.specs.Scanning.{Runs, Steps, IsLast, Stays, IsOpen, Settles, Fails, Stops, history};
+
+use crate::keys::{is_any_awaited, is_awaited};
+use crate::step::{lay, meet, scanner_t};
+use std::alloc::Global;
+use yaml_text::{yaml_error_type_t, yaml_fault_t, yaml_mark_t, yaml_token_t};
+
+fn is_none_of(empty: bool, outer: bool, top: bool) -> bool
+    ensures { result ≡ ((not empty && not outer) && not top) }
+{
+    !empty && !outer && !top
+}
+
+/// Whether the head of the queue is the next token.
+fn is_settled(scanner: &scanner_t) -> bool
+    requires { Runs scanner.now }
+    ensures { result ≡ nat_lt scanner.now.taken (length (before scanner.now.limit (history scanner.now))) }
+{
+    let empty = scanner.queue.is_empty();
+    let outer = is_any_awaited(&scanner.outer, scanner.taken);
+    let top = is_awaited(scanner.top, scanner.taken);
+    is_none_of(empty, outer, top)
+}
+
+/// The reader's fault, where a step that was made is near.
+fn near_reading(refusal: Option<yaml_fault_t>, near: u64, index: u64) -> Option<yaml_fault_t>
+    ensures { refusal_seen result ≡ near_fault near index (refusal_seen refusal) }
+{
+    match refusal {
+        Some(fault) => if near <= index { Some(fault) } else { None },
+        None => None,
+    }
+}
+
+ghost use Rattle.yaml_text.specs.Decode.{refusal_seen};
+ghost use Rattle.yaml_scan.specs.Near.{near_fault, instead};
+
+/// The reader's fault in the place of a scanner's that is near.
+fn near_problem(refusal: Option<yaml_fault_t>, near: u64, fault: yaml_fault_t) -> yaml_fault_t
+    ensures { fault_of result ≡ instead near (refusal_seen refusal) (fault_of fault) }
+{
+    match fault.error {
+        yaml_error_type_t::YAML_SCANNER_ERROR => match near_reading(
+            refusal,
+            near,
+            fault.problem_mark.index,
+        ) {
+            Some(refused) => refused,
+            None => fault,
+        },
+        _ => fault,
+    }
+}
+
+/// The next lexeme, unless its step is faulty.
+fn step(alloc: Global, scanner: &mut scanner_t) -> Result<(), yaml_fault_t>
+    requires runs { Runs scanner.old }
+    requires running { ended (history scanner.old) ≡ false }
+    ensures { MatchResult result (λ _. Advances (history scanner.old) scanner.old scanner.new) (λ f. ((fault_of f ≡ memory_fault) ⊎ Offends (history scanner.old) scanner.old (fault_of f)) × Stays scanner.old scanner.new) }
+{
+    let met = meet(scanner)?;
+    lay(alloc, scanner, met)
+}
+
+ghost use Rattle.yaml_scan.specs.Scanning.{Advances, Offends};
+
+/// Makes a step.
+fn advance(alloc: Global, scanner: &mut scanner_t) -> Result<(), yaml_fault_t>
+    requires runs { Runs scanner.old }
+    requires running { ended (history scanner.old) ≡ false }
+    ensures { MatchResult result (λ _. Steps scanner.old scanner.new) (λ f. ((fault_of f ≡ memory_fault) ⊎ IsLast scanner.old (fault_of f)) × Stays scanner.old scanner.new) }
+{
+    let reach = scanner.reach;
+    match step(alloc, scanner) {
+        Ok(_) => match near_reading(scanner.refusal, scanner.near, scanner.reach.index) {
+            Some(fault) => {
+                scanner.reach = reach;
+                Err(fault)
+            }
+            None => {
+                scanner.made += 1;
+                Ok(())
+            }
+        },
+        Err(fault) => Err(near_problem(scanner.refusal, scanner.near, fault)),
+    }
+}
+
+/// Makes steps until the head of the queue is the next token.
+pub(crate) fn settle_head(alloc: Global, scanner: &mut scanner_t) -> Result<(), yaml_fault_t>
+    requires runs { Runs scanner.old }
+    requires not_ended { IsOpen scanner.old }
+    ensures { MatchResult result (λ _. Settles scanner.old scanner.new) (λ f. ((fault_of f ≡ memory_fault) ⊎ Fails scanner.old scanner.new (fault_of f)) × Stops scanner.old scanner.new) }
+{
+    'steps: while !is_settled(scanner) {
+        advance(alloc, scanner)?;
+    }
+    Ok(())
+}

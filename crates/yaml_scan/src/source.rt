@@ -1,0 +1,58 @@
+//! What is read of a text, place by place.
+ghost use Rattle.std.specs.Prelude.{◌≡◌, ℕ, ◌≤◌, ◌⊎◌, Some, Ok, Err, length, nat_lt, IfSome, MatchResult};
+ghost use Rattle.yaml_text.specs.Fault.{fault_of, memory_fault};
+ghost use Rattle.yaml_lexeme.specs.Place.{IsMarkOf};
+ghost use Rattle.yaml_scan.specs.SourceOf.{source_of};
+ghost use Rattle.yaml_scan.specs.TextReads.{IsRead, IsOffence};
+
+use std::alloc::Global;
+use yaml_lexeme::{
+    yaml_context_t, yaml_gap, yaml_lexeme_at, yaml_lexeme_kind, yaml_lexeme_kind_t, yaml_lexeme_t,
+};
+use yaml_text::{yaml_fault_t, yaml_mark_t, yaml_text_t};
+
+/// The end of the gap from a mark.
+pub(crate) fn gap_end(
+    text: &yaml_text_t,
+    at: yaml_mark_t,
+    in_flow: bool,
+    allowed: bool,
+) -> yaml_mark_t
+    requires { (p : ℕ) × IsMarkOf text.now.chars at p }
+    ensures { (p : ℕ) → IsMarkOf text.now.chars at p → IsMarkOf text.now.chars result ((source_of text.now.chars).gap in_flow allowed p) }
+{
+    yaml_gap(text, at, in_flow, allowed).0
+}
+
+/// The kind of the lexeme at a mark.
+#[tactic(auto, unfolding(crate::specs::SourceOf::source_of))]
+pub(crate) fn kind_at(
+    text: &yaml_text_t,
+    at: yaml_mark_t,
+    in_flow: bool,
+) -> Option<yaml_lexeme_kind_t>
+    requires { (p : ℕ) × IsMarkOf text.now.chars at p }
+    ensures { (p : ℕ) → IsMarkOf text.now.chars at p → result ≡ (source_of text.now.chars).kind in_flow p }
+{
+    yaml_lexeme_kind(text, at, in_flow)
+}
+
+/// The lexeme of a kind at a mark, or the fault of its offence.
+pub(crate) fn read_lexeme(
+    alloc: Global,
+    text: &yaml_text_t,
+    at: yaml_mark_t,
+    kind: yaml_lexeme_kind_t,
+    depth: usize,
+    level: Option<u64>,
+) -> Result<yaml_lexeme_t, yaml_fault_t>
+    requires place { (p : ℕ) × IsMarkOf text.now.chars at p × ((source_of text.now.chars).kind (nat_lt 0 depth) p ≡ Some kind) }
+    requires level { IfSome level (λ l. l ≤ length text.now.chars) }
+    ensures { (p : ℕ) → IsMarkOf text.now.chars at p → MatchResult result (λ l. IsRead text.now.chars kind depth level p l) (λ f. (fault_of f ≡ memory_fault) ⊎ IsOffence text.now.chars kind depth level p (fault_of f)) }
+{
+    let context = yaml_context_t {
+        depth: depth as u64,
+        level,
+    };
+    yaml_lexeme_at(alloc, text, at, kind, context)
+}

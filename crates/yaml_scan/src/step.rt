@@ -1,0 +1,240 @@
+//! The steps of a text: the next lexeme, and what the layout makes of it.
+ghost use Rattle.std.specs.Prelude.{◌≡◌, ◌⊎◌, ℕ, ◌+◌, ◌-◌, ◌<◌, ◌≤◌, ◌^◌, ◌&&◌, ◌||◌, not, nat_lt, nat_eq, length, List, [], ◌∷◌, reverse, map, true, false, Option, Some, None, option_map, IfOk, OnOk, OnErr, MatchResult, if◌then◌else◌};
+ghost use Rattle.yaml_text.specs.Fault.{fault_of, memory_fault, scanner_fault};
+ghost use Rattle.yaml_scan.specs.Fault.{no_token, in_next_token};
+ghost use Rattle.yaml_scan.specs.Laid.{Laid, allowed};
+ghost use Rattle.yaml_scan.specs.Order.{ended};
+ghost use Rattle.yaml_scan.specs.Slots.{needed};
+ghost use Rattle.yaml_scan.specs.Step.{problem_of, replaces, step};
+ghost use Rattle.yaml_scan.specs.Moves.{IsLost, IsRefused};
+ghost use Rattle.yaml_scan.specs.Scanning.{Holds, IsMet, Advances, Offends, Stays, text_of};
+ghost use Rattle.std.specs.Option.{option_copied};
+
+use crate::keys::{completed_by, held_t, lost_at, move_slots, needed_at, root, settle};
+use crate::kind::{is_allowed_after, is_candidate, is_colon, start_behind};
+use crate::levels::{close_levels, is_level, queue_lexeme, top_level};
+use crate::queue::queued_t;
+use crate::source::{gap_end, kind_at, read_lexeme};
+use std::alloc::Global;
+use std::collections::VecDeque;
+use yaml_lexeme::yaml_lexeme_kind_t;
+use yaml_text::{make_scanner_fault, yaml_fault_t, yaml_mark_t, yaml_text_t, yaml_token_t};
+
+/// The running scanner of a text.
+#[derive(Drop)]
+pub(crate) struct scanner_t<'a> {
+    pub text: yaml_text_t<'a>,
+    /// The reader's fault behind the text, where it is the front of a refused input.
+    pub refusal: Option<yaml_fault_t>,
+    /// The index from which on a step is near the end of the text.
+    pub near: u64,
+    pub limit: u64,
+    /// The open levels, the greatest last.
+    pub levels: Vec<u64>,
+    /// The candidates of the depths below the present one.
+    pub outer: Vec<Option<held_t>>,
+    /// The candidate of the present depth.
+    pub top: Option<held_t>,
+    /// Whether a key is allowed behind the last lexeme.
+    pub allowed: bool,
+    pub queue: VecDeque<queued_t>,
+    /// How far the last good step was read.
+    pub reach: yaml_mark_t,
+    /// How many tokens were taken.
+    pub taken: u128,
+    /// How many steps were made.
+    pub made: u128,
+}
+
+/// A kind of lexeme behind a gap.
+#[derive(Clone, Copy)]
+pub(crate) struct met_t {
+    pub kind: yaml_lexeme_kind_t,
+    pub front: yaml_mark_t,
+    pub allowed: bool,
+}
+
+/// The fault of a lost candidate, if there is one.
+fn refuse_lost(held: Option<held_t>, mark: yaml_mark_t) -> Result<(), yaml_fault_t>
+    ensures { MatchResult result (λ _. held ≡ None) (λ f. IsLost held mark (fault_of f)) }
+{
+    match held {
+        None => Ok(()),
+        Some(held) => Err(make_scanner_fault(
+            "could not find expected ':'",
+            mark,
+            Some("while scanning a simple key"),
+            held.start,
+        )),
+    }
+}
+
+/// The kind, or the fault that there is none.
+fn expect_kind(
+    kind: Option<yaml_lexeme_kind_t>,
+    front: yaml_mark_t,
+) -> Result<yaml_lexeme_kind_t, yaml_fault_t>
+    ensures { MatchResult result (λ k. kind ≡ Some k) (λ f. (kind ≡ None) × (fault_of f ≡ scanner_fault no_token front (Some in_next_token) front)) }
+{
+    match kind {
+        Some(kind) => Ok(kind),
+        None => Err(make_scanner_fault(
+            "found character that cannot start any token",
+            front,
+            Some("while scanning for the next token"),
+            front,
+        )),
+    }
+}
+
+/// What is wrong with a kind where no key is allowed at depth 0; `none` tells whether it completes nothing.
+fn problem(kind: yaml_lexeme_kind_t, none: bool) -> Option<&'static str>
+    ensures { option_copied result ≡ problem_of kind none }
+{
+    match kind {
+        yaml_lexeme_kind_t::BLOCK_ENTRY => {
+            Some("block sequence entries are not allowed in this context")
+        }
+        yaml_lexeme_kind_t::KEY => Some("mapping keys are not allowed in this context"),
+        yaml_lexeme_kind_t::VALUE if none => {
+            Some("mapping values are not allowed in this context")
+        }
+        _ => None,
+    }
+}
+
+/// The fault of a kind that needs an allowed key.
+fn refuse_kind(
+    kind: yaml_lexeme_kind_t,
+    margin: bool,
+    allowed: bool,
+    none: bool,
+    front: yaml_mark_t,
+) -> Result<(), yaml_fault_t>
+    ensures { MatchResult result (λ _. IsRefused (if margin && not allowed then problem_of kind none else None) front None) (λ f. IsRefused (if margin && not allowed then problem_of kind none else None) front (Some (fault_of f))) }
+{
+    if margin && !allowed {
+        match problem(kind, none) {
+            None => Ok(()),
+            Some(problem) => Err(make_scanner_fault(problem, front, None, front)),
+        }
+    } else {
+        Ok(())
+    }
+}
+
+/// The required candidate that a lexeme would clear or replace.
+fn cleared(
+    kind: yaml_lexeme_kind_t,
+    allowed: bool,
+    margin: bool,
+    top: Option<held_t>,
+    limit: u64,
+    front: yaml_mark_t,
+) -> Option<held_t>
+    ensures { result ≡ (if replaces kind allowed && margin then needed limit front top else None) }
+{
+    if !is_colon(kind) && (!is_candidate(kind) || allowed) && margin {
+        needed_at(top, limit, front)
+    } else {
+        None
+    }
+}
+
+fn is_key_allowed(allowed: bool, margin: bool, mark: yaml_mark_t, front: yaml_mark_t) -> bool
+    ensures { result ≡ (allowed || (margin && nat_lt mark.line front.line)) }
+{
+    allowed || (margin && mark.line < front.line)
+}
+
+/// The gap, the kind, and what refuses it.
+pub(crate) fn meet(scanner: &scanner_t) -> Result<met_t, yaml_fault_t>
+    ghost before: { List Laid }
+    requires holds { Holds before (scanner.now.made + 1) scanner.now }
+    requires running { ended before ≡ false }
+    requires small { length scanner.now.text.chars + 1 < 2 ^ 64 }
+    ensures { MatchResult result (λ m. IsMet before scanner.now m) (λ f. Offends before scanner.now (fault_of f)) }
+{
+    let margin = scanner.outer.is_empty();
+    let front = gap_end(&scanner.text, scanner.reach, !margin, scanner.allowed);
+    let root = root(&scanner.outer, scanner.top);
+    refuse_lost(lost_at(root, scanner.limit, front), front)?;
+    let kind = expect_kind(kind_at(&scanner.text, front, !margin), front)?;
+    let allowed = is_key_allowed(scanner.allowed, margin, scanner.reach, front);
+    let completed = completed_by(kind, scanner.top, scanner.limit, front);
+    refuse_kind(kind, margin, allowed, completed.is_none(), front)?;
+    let start = start_behind(kind, front);
+    refuse_lost(
+        cleared(kind, allowed, margin, scanner.top, scanner.limit, front),
+        start,
+    )?;
+    Ok(met_t {
+        kind,
+        front,
+        allowed,
+    })
+}
+
+/// The lexeme that was met, laid behind those before it.
+pub(crate) fn lay(alloc: Global, scanner: &mut scanner_t, met: met_t) -> Result<(), yaml_fault_t>
+    ghost before: { List Laid }
+    requires holds { Holds before (scanner.old.made + 1) scanner.old }
+    requires running { ended before ≡ false }
+    requires small { length scanner.old.text.chars + 1 < 2 ^ 64 }
+    requires few { scanner.old.taken ≤ 2 ^ 100 }
+    requires few_steps { scanner.old.made ≤ 2 ^ 100 }
+    requires met { IsMet before scanner.old met }
+    ensures { MatchResult result (λ _. Advances before scanner.old scanner.new) (λ f. ((fault_of f ≡ memory_fault) ⊎ Offends before scanner.old (fault_of f)) × Stays scanner.old scanner.new) }
+{
+    let margin = scanner.outer.is_empty();
+    let step = scanner.made + 1;
+    let start = start_behind(met.kind, met.front);
+    close_levels(
+        &mut scanner.levels,
+        &mut scanner.queue,
+        !margin,
+        met.kind,
+        met.front,
+        start,
+        step,
+    )?;
+    let level = top_level(&scanner.levels);
+    let x = read_lexeme(
+        alloc,
+        &scanner.text,
+        met.front,
+        met.kind,
+        scanner.outer.len(),
+        level,
+    )?;
+    let new = held_t {
+        at: scanner.taken + scanner.queue.len() as u128,
+        start,
+        required: is_level(margin, level, start.column),
+    };
+    let reach = x.reach;
+    let passed_break = x.passed_break;
+    let token = yaml_token_t {
+        token_data: x.token_data,
+        start_mark: start,
+        end_mark: x.end_mark,
+    };
+    let completed = completed_by(met.kind, scanner.top, scanner.limit, start);
+    queue_lexeme(
+        &mut scanner.levels,
+        &mut scanner.queue,
+        margin,
+        completed,
+        met.kind,
+        token,
+        scanner.taken,
+        step,
+    )?;
+    let top = settle(met.kind, met.allowed, new, scanner.top);
+    let root = root(&scanner.outer, top);
+    refuse_lost(lost_at(root, scanner.limit, reach), reach)?;
+    scanner.top = move_slots(&mut scanner.outer, top, met.kind, scanner.limit, reach)?;
+    scanner.allowed = is_allowed_after(met.kind, margin, completed.is_none(), passed_break);
+    scanner.reach = reach;
+    Ok(())
+}
