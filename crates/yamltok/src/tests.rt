@@ -1,5 +1,7 @@
 //! The program over devices in memory.
-ghost use Rattle.std.specs.Prelude.{◌≡◌, false};
+ghost use Rattle.std.specs.Prelude.{◌≡◌, ◌≢◌, false};
+ghost use Rattle.yaml_text.specs.declared.types.yaml_scalar_style_t.TheVariants.{YAML_ANY_SCALAR_STYLE};
+ghost use Rattle.yamltok.specs.Listing.{HasWords};
 ghost use Rattle.yamltok.specs.Devices.{source_failed, sink_failed};
 
 use crate::args::parse_args;
@@ -377,56 +379,130 @@ fn bytes_of(alloc: Global, bytes: &[u8]) -> Result<yaml_bytes_t, Fail> {
     Ok(yaml_bytes_t::from_vec(Vec::from_slice(alloc, bytes)?))
 }
 
-/// One token that says something, of each type.
-fn tokens_with_data(alloc: Global) -> Result<Vec<unnamed_yaml_token_t_data>, Fail> {
-    let mut said = Vec::new(alloc);
-    said.push(unnamed_yaml_token_t_data::TAG {
-        handle: bytes_of(alloc, b"!")?,
-        suffix: bytes_of(alloc, b"\0")?,
-    })?;
-    said.push(unnamed_yaml_token_t_data::TAG {
-        handle: bytes_of(alloc, b"")?,
-        suffix: bytes_of(alloc, b"!")?,
-    })?;
-    for encoding in [
-        yaml_encoding_t::YAML_UTF8_ENCODING,
-        yaml_encoding_t::YAML_UTF16LE_ENCODING,
-        yaml_encoding_t::YAML_UTF16BE_ENCODING,
-    ] {
-        said.push(unnamed_yaml_token_t_data::STREAM_START { encoding })?;
-    }
-    said.push(unnamed_yaml_token_t_data::VERSION_DIRECTIVE {
-        major: 1,
-        minor: -20,
-    })?;
-    said.push(unnamed_yaml_token_t_data::TAG_DIRECTIVE {
-        handle: bytes_of(alloc, b"!e!")?,
-        prefix: bytes_of(alloc, b"tag:")?,
-    })?;
-    said.push(unnamed_yaml_token_t_data::ALIAS {
-        value: bytes_of(alloc, b"a")?,
-    })?;
-    said.push(unnamed_yaml_token_t_data::ANCHOR {
-        value: bytes_of(alloc, b"b")?,
-    })?;
-    for style in [
+/// Lists a token of these data.
+fn put(alloc: Global, token_data: unnamed_yaml_token_t_data, out: &mut Vec<u8>) -> Result<(), Fail>
+    requires { HasWords token_data }
+{
+    let token = yaml_token_t {
+        token_data,
+        start_mark: FROM,
+        end_mark: TO,
+    };
+    Ok(list_token(alloc, &token, out)?)
+}
+
+fn put_tags(alloc: Global, out: &mut Vec<u8>) -> Result<(), Fail> {
+    let handle = bytes_of(alloc, b"!")?;
+    let suffix = bytes_of(alloc, b"\0")?;
+    put(
+        alloc,
+        unnamed_yaml_token_t_data::TAG { handle, suffix },
+        out,
+    )?;
+    let handle = bytes_of(alloc, b"")?;
+    let suffix = bytes_of(alloc, b"!")?;
+    put(
+        alloc,
+        unnamed_yaml_token_t_data::TAG { handle, suffix },
+        out,
+    )
+}
+
+fn put_stream_starts(alloc: Global, out: &mut Vec<u8>) -> Result<(), Fail> {
+    let encoding = yaml_encoding_t::YAML_UTF8_ENCODING;
+    put(
+        alloc,
+        unnamed_yaml_token_t_data::STREAM_START { encoding },
+        out,
+    )?;
+    let encoding = yaml_encoding_t::YAML_UTF16LE_ENCODING;
+    put(
+        alloc,
+        unnamed_yaml_token_t_data::STREAM_START { encoding },
+        out,
+    )?;
+    let encoding = yaml_encoding_t::YAML_UTF16BE_ENCODING;
+    put(
+        alloc,
+        unnamed_yaml_token_t_data::STREAM_START { encoding },
+        out,
+    )
+}
+
+fn put_directives(alloc: Global, out: &mut Vec<u8>) -> Result<(), Fail> {
+    let (major, minor) = (1, -20);
+    put(
+        alloc,
+        unnamed_yaml_token_t_data::VERSION_DIRECTIVE { major, minor },
+        out,
+    )?;
+    let handle = bytes_of(alloc, b"!e!")?;
+    let prefix = bytes_of(alloc, b"tag:")?;
+    put(
+        alloc,
+        unnamed_yaml_token_t_data::TAG_DIRECTIVE { handle, prefix },
+        out,
+    )?;
+    let value = bytes_of(alloc, b"a")?;
+    put(alloc, unnamed_yaml_token_t_data::ALIAS { value }, out)?;
+    let value = bytes_of(alloc, b"b")?;
+    put(alloc, unnamed_yaml_token_t_data::ANCHOR { value }, out)
+}
+
+fn put_scalar(
+    alloc: Global,
+    text: &[u8],
+    style: yaml_scalar_style_t,
+    out: &mut Vec<u8>,
+) -> Result<(), Fail>
+    requires { style ≢ YAML_ANY_SCALAR_STYLE }
+{
+    let value = bytes_of(alloc, text)?;
+    put(
+        alloc,
+        unnamed_yaml_token_t_data::SCALAR { value, style },
+        out,
+    )
+}
+
+fn put_scalars(alloc: Global, out: &mut Vec<u8>) -> Result<(), Fail> {
+    let text = b"\x00\x09\x9f\xa0\xff";
+    put_scalar(
+        alloc,
+        text,
         yaml_scalar_style_t::YAML_PLAIN_SCALAR_STYLE,
+        out,
+    )?;
+    put_scalar(
+        alloc,
+        text,
         yaml_scalar_style_t::YAML_SINGLE_QUOTED_SCALAR_STYLE,
+        out,
+    )?;
+    put_scalar(
+        alloc,
+        text,
         yaml_scalar_style_t::YAML_DOUBLE_QUOTED_SCALAR_STYLE,
+        out,
+    )?;
+    put_scalar(
+        alloc,
+        text,
         yaml_scalar_style_t::YAML_LITERAL_SCALAR_STYLE,
+        out,
+    )?;
+    put_scalar(
+        alloc,
+        text,
         yaml_scalar_style_t::YAML_FOLDED_SCALAR_STYLE,
-    ] {
-        said.push(unnamed_yaml_token_t_data::SCALAR {
-            value: bytes_of(alloc, b"\x00\x09\x9f\xa0\xff")?,
-            style,
-        })?;
-    }
-    said.push(unnamed_yaml_token_t_data::SCALAR {
-        value: bytes_of(alloc, b"")?,
-        style: yaml_scalar_style_t::YAML_LITERAL_SCALAR_STYLE,
-    })?;
-    said.push(unnamed_yaml_token_t_data::BLOCK_MAPPING_START)?;
-    Ok(said)
+        out,
+    )?;
+    put_scalar(
+        alloc,
+        b"",
+        yaml_scalar_style_t::YAML_LITERAL_SCALAR_STYLE,
+        out,
+    )
 }
 
 const FROM: yaml_mark_t = yaml_mark_t {
@@ -447,14 +523,15 @@ fn token_lines(rt: HostRuntime) -> Result<(), Fail> {
     let mut out = Vec::new(alloc);
     out.push(b'>')?;
     list_token(alloc, &yaml_token_t::empty(), &mut out)?;
-    for token_data in tokens_with_data(alloc)? {
-        let token = yaml_token_t {
-            token_data,
-            start_mark: FROM,
-            end_mark: TO,
-        };
-        list_token(alloc, &token, &mut out)?;
-    }
+    put_tags(alloc, &mut out)?;
+    put_stream_starts(alloc, &mut out)?;
+    put_directives(alloc, &mut out)?;
+    put_scalars(alloc, &mut out)?;
+    put(
+        alloc,
+        unnamed_yaml_token_t_data::BLOCK_MAPPING_START,
+        &mut out,
+    )?;
     let lines = "\
 >NO-TOKEN
 TAG 0:0:0 4:0:4 21 00

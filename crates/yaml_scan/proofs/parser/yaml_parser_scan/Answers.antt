@@ -12,13 +12,14 @@ invariant_of-parser c = let i = c.parser.inside in let p = c.take_head-token.ens
   ready = λ n. inr (stands_u i.setting i.input.now i.scanner c.look.new.scanner c.take_head-token.new.scanner c.take_head-token.result k p, open_u i.setting i.input.now i.scanner c.look.new.scanner c.take_head-token.new.scanner c.take_head-token.result k p (sym (last_is i.setting i.input.now i.scanner c.look.new.scanner c.take_head-token.new.scanner c.take_head-token.result k p) ∙ sym c.is_stream_end-parser-inside.ensures ∙ n));
   peeked = λ n. absurd (false≢true n);
   reach = reach_u i.setting i.input.now i.scanner c.look.new.scanner c.take_head-token.new.scanner c.take_head-token.result k p;
-  empty = c.parser.invariant.empty }
+  empty = c.parser.invariant.empty;
+}
 
 pub returns-in-Ok : goal.returns-in-Ok
 returns-in-Ok c = let i = c.parser.inside in
     let e : c.args.parser.now ≡ parser_of i = sym c.parser.view_is in
     scan_token_of i.setting i.input.now i.scanner c.look.new.scanner c.take_head-token.new.scanner c.take_head-token.result c.in-Ok.ensures c.take_head-token.ensures i.peeked (option_map fault_of i.fault)
-      c.args.parser.now (e ∙ open_session (parser_of i) c.if-parser.false) c.is_stream_end-parser-inside.result c.is_stream_end-parser-inside.ensures
+    c.args.parser.now (e ∙ open_session (parser_of i) c.if-parser.false) c.is_stream_end-parser-inside.result c.is_stream_end-parser-inside.ensures
 
 pub returns-in-Err : goal.returns-in-Err
 returns-in-Err c = let i = c.parser.inside in let f = c.in-Err.ensures in
