@@ -46,3 +46,6 @@ pub mod Takings
 pub mod Beginnings
 pub mod Settlings
 pub mod Scans
+pub mod LastTokens
+pub mod AllScanned
+pub mod AllLaws

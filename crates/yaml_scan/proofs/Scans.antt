@@ -29,12 +29,12 @@ use Rattle.yaml_scan.proofs.Stepped.{read_history}
 use Rattle.yaml_scan.proofs.TextOrder.{text_order}
 
 -- THE LAST TOKEN
-get_fits : (ts : List Token) (n : ℕ) (x : Token) → TokensFit ts → slice_get ts n ≡ Some x → TokenFits x
+pub get_fits : (ts : List Token) (n : ℕ) (x : Token) → TokensFit ts → slice_get ts n ≡ Some x → TokenFits x
 get_fits [] n x f e = absurd (cc)
 get_fits (t ∷ ts) zero x f e = let q : t ≡ x = cc in subst (λ (z : Token). TokenFits z) q f.0
 get_fits (t ∷ ts) (suc n) x f e = get_fits ts n x f.1 e
 
-last_told : (e : yaml_encoding_t) (x : Token) → TokenFits x → is_last_type (type_of (handed_out e x).token_data) ≡ is_last x
+pub last_told : (e : yaml_encoding_t) (x : Token) → TokenFits x → is_last_type (type_of (handed_out e x).token_data) ≡ is_last x
 last_told e StreamStart f = refl
 last_told e (BlockEnd m) f = refl
 last_told e (BlockSequenceStart m) f = refl

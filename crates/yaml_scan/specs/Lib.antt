@@ -28,3 +28,4 @@ pub mod Parser
 pub mod AnswerLaws
 pub mod Locality
 pub mod Inputs
+pub mod All

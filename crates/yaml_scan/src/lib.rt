@@ -1,6 +1,7 @@
 //! The scanner of a YAML stream: its layout, its tokens.
 #![tactic(auto)]
 
+mod all;
 mod keys;
 mod kind;
 pub mod laws;
@@ -14,4 +15,5 @@ mod step;
 #[cfg(test)]
 mod tests;
 
+pub use all::{yaml_scan_all, yaml_scan_all_limit};
 pub use parser::{yaml_parser_scan, yaml_parser_t};

@@ -187,7 +187,7 @@ fn take_head(scanner: &mut scanner_t) -> yaml_token_t
     queued.token
 }
 
-fn is_stream_end(token: &yaml_token_t) -> bool
+pub(crate) fn is_stream_end(token: &yaml_token_t) -> bool
     ensures { result ≡ is_last_type (type_of token.now.token_data) }
 {
     matches!(token.token_data, unnamed_yaml_token_t_data::STREAM_END)
