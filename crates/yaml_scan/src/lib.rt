@@ -16,4 +16,7 @@ mod step;
 mod tests;
 
 pub use all::{yaml_scan_all, yaml_scan_all_limit};
-pub use parser::{yaml_parser_scan, yaml_parser_t};
+pub use parser::{
+    yaml_parser_fault, yaml_parser_has_token, yaml_parser_mark, yaml_parser_peek,
+    yaml_parser_queued, yaml_parser_scan, yaml_parser_skip, yaml_parser_t,
+};
