@@ -51,3 +51,4 @@ pub mod Keeps
 pub mod LastTokens
 pub mod AllScanned
 pub mod AllLaws
+pub mod CallRuns

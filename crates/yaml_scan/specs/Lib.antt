@@ -29,3 +29,4 @@ pub mod AnswerLaws
 pub mod Locality
 pub mod Inputs
 pub mod All
+pub mod Calls

@@ -2,6 +2,7 @@
 #![tactic(auto)]
 
 mod all;
+mod calls;
 mod keys;
 mod kind;
 pub mod laws;
@@ -16,6 +17,7 @@ mod step;
 mod tests;
 
 pub use all::{yaml_scan_all, yaml_scan_all_limit};
+pub use calls::{yaml_answer_t, yaml_call_t, yaml_run};
 pub use parser::{
     yaml_parser_fault, yaml_parser_has_token, yaml_parser_mark, yaml_parser_peek,
     yaml_parser_queued, yaml_parser_scan, yaml_parser_skip, yaml_parser_t,
