@@ -73,7 +73,7 @@ module _ (p : Parser) (calls : List Call) (call : Call) (answers : List Seen) (q
   goes_on : (answers ≡ map seen (answered_all p calls)) × (q ≡ behind_all p calls) → (a ≡ seen (answered q call)) × (r ≡ behind q call) → Runs p (calls ++ call ∷ []) (answers ++ a ∷ []) r
   goes_on g s = inl (
     ap (λ (z : List Seen). z ++ a ∷ []) g.0 ∙ ap (λ (z : Seen). map seen (answered_all p calls) ++ z ∷ []) (s.0 ∙ ap (λ (z : Parser). seen (answered z call)) g.1)
-    ∙ sym (map_more seen (answered_all p calls) (answered (behind_all p calls) call)) ∙ ap (λ (z : List Answer). map seen z) (sym (answered_more p calls call)),
+        ∙ sym (map_more seen (answered_all p calls) (answered (behind_all p calls) call)) ∙ ap (λ (z : List Answer). map seen z) (sym (answered_more p calls call)),
     s.1 ∙ ap (λ (z : Parser). behind z call) g.1 ∙ behind_more p calls call,
   )
 
@@ -84,7 +84,7 @@ module _ (p : Parser) (calls : List Call) (call : Call) (answers : List Seen) (q
     wants = subst (λ (z : Parser). WantsMemory z r) (g.1 ∙ ap (λ (z : List Call). behind_all p z) (sym (take_whole calls call))) w.1;
     answers = ap (λ (z : List Seen). z ++ a ∷ []) g.0 ∙ ap (λ (z : Seen). map seen (answered_all p calls) ++ z ∷ []) w.0
         ∙ sym (ap (λ (z : List Call). map seen (answered_all p z) ++ (FAULT memory_fault ∷ map idle (drop (length calls + 1) (calls ++ call ∷ [])))) (take_whole calls call)
-          ∙ ap (λ (z : List Call). map seen (answered_all p calls) ++ (FAULT memory_fault ∷ map idle z)) (drop_whole calls call));
+        ∙ ap (λ (z : List Call). map seen (answered_all p calls) ++ (FAULT memory_fault ∷ map idle z)) (drop_whole calls call));
   }
 
   -- behind a refused growth

@@ -2,6 +2,8 @@
 #![tactic(auto)]
 
 mod all;
+#[cfg(test)]
+mod all_tests;
 mod calls;
 mod keys;
 mod kind;
@@ -9,6 +11,8 @@ pub mod laws;
 mod levels;
 mod near;
 mod parser;
+#[cfg(test)]
+mod plain_program;
 mod queue;
 mod run;
 mod source;
