@@ -109,7 +109,7 @@ course_case limit c P a b = cases c.begun
     cases true = b
     cases false = a
 
-fit_course : (limit : ℕ) (input : Input) → KeepsOrder input.source → TokensFit (tokens_of limit (course limit input))
+pub fit_course : (limit : ℕ) (input : Input) → KeepsOrder input.source → TokensFit (tokens_of limit (course limit input))
 fit_course limit input k = course_case limit (course limit input) TokensFit tt (fit_before limit (course limit input).read (course_is_history limit input k) (course_fits limit input k))
 
 -- ORDER

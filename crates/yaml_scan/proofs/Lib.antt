@@ -43,6 +43,12 @@ pub mod SourceLocal
 pub mod InputLaws
 pub mod Octets
 pub mod Takings
+pub mod Waits
 pub mod Beginnings
 pub mod Settlings
 pub mod Scans
+pub mod Keeps
+pub mod LastTokens
+pub mod AllScanned
+pub mod AllLaws
+pub mod CallRuns

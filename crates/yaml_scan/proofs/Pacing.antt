@@ -93,14 +93,14 @@ needs_more limit (i ∷ H) t k l s = elim (cases_Bool (ltb t (length (before lim
 drop_none : (n : ℕ) (H : List Laid) → n ≡ 0 → drop n H ≡ H
 drop_none n H e = rw e refl
 
-older : (limit : ℕ) (A B : List Laid) → IsHistory limit (A ++ B) → IsHistory limit B
+pub older : (limit : ℕ) (A B : List Laid) → IsHistory limit (A ++ B) → IsHistory limit B
 older limit [] B g = g
 older limit (i ∷ A) B g = older limit A B g.2
 
 pub oldest_length : (H : List Laid) (k : ℕ) → k ≤ length H → length (oldest k H) ≡ k
 oldest_length H k m = let q = length-drop (length H - k) H in omega arith
 
-oldest_twice : (H : List Laid) (k n : ℕ) → k ≤ n → n ≤ length H → oldest k (oldest n H) ≡ oldest k H
+pub oldest_twice : (H : List Laid) (k n : ℕ) → k ≤ n → n ≤ length H → oldest k (oldest n H) ≡ oldest k H
 oldest_twice H k n u v =
     let q = oldest_length H n v in
     let e : (length H - n) + (length (oldest n H) - k) ≡ length H - k = omega arith in

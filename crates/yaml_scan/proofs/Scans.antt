@@ -1,11 +1,12 @@
--- What a scan answers.
-use Rattle.std.proofs.Common.{◌≡◌, ℕ, zero, suc, ◌+◌, ◌-◌, ◌≤◌, ◌<◌, max, Bool, true, false, List, [], ◌∷◌, ◌++◌, length, length-append, slice_get, Option, Some, None, Ok, Err, refl, ap, sym, ◌∙◌, subst, arith, inl, inr, append_assoc}
+-- What a peek, a scan and a skip answer.
+use Rattle.std.proofs.Common.{◌≡◌, ℕ, zero, suc, ◌+◌, ◌-◌, ◌≤◌, ◌<◌, max, Bool, true, false, List, [], ◌∷◌, ◌++◌, length, length-append, slice_get, get_or, Option, Some, None, Ok, Err, refl, ap, sym, ◌∙◌, subst, arith, inl, inr, append_assoc}
 use Rattle.std.specs.Prelude.{◌⊎◌, if◌then◌else◌, option_map}
 use Rattle.std.proofs.lemmas.Bool.{cases_Bool, cases_lt, false≢true}
 use Rattle.yaml_text.specs.declared.types.yaml_encoding_t.{yaml_encoding_t}
 use Rattle.yaml_text.specs.declared.fault.yaml_fault_t.{yaml_fault_t}
 use Rattle.yaml_text.specs.Fault.{Fault, fault_of, memory_fault}
 use Rattle.yaml_scan.specs.declared.step.scanner_t.{scanner_t}
+use Rattle.yaml_scan.specs.declared.queue.queued_t.{queued_t}
 use Rattle.yaml_scan.specs.declared.parser.yaml_parser_t.TheInside.{Inside}
 use Rattle.yaml_scan.specs.Kind.{is_stream_end, is_block_entry}
 use Rattle.yaml_scan.specs.Token.{yaml_token_t, empty, is_last_type, type_of}
@@ -14,27 +15,29 @@ use Rattle.yaml_scan.specs.Order.{ended}
 use Rattle.yaml_scan.specs.Offline.{Token, before, offline, groups, group, block_ends, inserted, handed_out}
 use Rattle.yaml_scan.specs.Offline.Token.{StreamStart, BlockEnd, BlockSequenceStart, BlockMappingStart, InsertedKey, OfLexeme}
 use Rattle.yaml_scan.specs.Answers.{Input, Course, course, tokens_of}
-use Rattle.yaml_scan.specs.Session.{Session, Call, Answer, pace, all_steps, first_steps, next_token, is_last, after, answer, took, paced, finished, why, scan_answer, after_scan}
-use Rattle.yaml_scan.specs.Session.Call.{SCAN}
-use Rattle.yaml_scan.specs.Session.Answer.{TOKEN, FAULT}
+use Rattle.yaml_scan.specs.Session.{Session, Call, Answer, pace, all_steps, first_steps, next_token, is_last, after, answer, took, paced, looked, finished, why, scan_answer, peek_answer, after_scan, after_peek, after_skip}
+use Rattle.yaml_scan.specs.Session.Call.{SCAN, PEEK, SKIP}
+use Rattle.yaml_scan.specs.Session.Answer.{TOKEN, PEEKED, FAULT}
 use Rattle.yaml_scan.specs.Inputs.{decoded_input}
 use Rattle.yaml_scan.specs.Scanning.{Runs, IsOpen, history, course_of, input_of}
 use Rattle.yaml_scan.specs.Ready.{IsNew, IsIn, IsReady, IsShown, IsSettled, IsStopped, IsEnded, Pops, course_in, parser_of}
-use Rattle.yaml_scan.specs.Parser.{Parser, Scans, WantsMemory, told, answered, behind, course_read, input_read}
+use Rattle.yaml_scan.specs.Parser.{Parser, Scans, Shows, WantsMemory, told, answered, behind, course_read, input_read, token_shown, token_or_empty}
 use Rattle.yaml_scan.proofs.AnswerOrder.{Fits, TokenFits, TokensFit, AllFit, course_fits, fit_before}
 use Rattle.yaml_scan.proofs.GoOn.{all_is_handed_out}
 use Rattle.yaml_scan.proofs.Paces.{enough_made}
 use Rattle.yaml_scan.proofs.Settlings.{course_is}
-use Rattle.yaml_scan.proofs.Stepped.{read_history}
+use Rattle.yaml_scan.proofs.Stepped.{read_history, inside}
+use Rattle.yaml_scan.proofs.Pacing.{grows}
+use Rattle.yaml_scan.proofs.Takings as takings
 use Rattle.yaml_scan.proofs.TextOrder.{text_order}
 
 -- THE LAST TOKEN
-get_fits : (ts : List Token) (n : ℕ) (x : Token) → TokensFit ts → slice_get ts n ≡ Some x → TokenFits x
+pub get_fits : (ts : List Token) (n : ℕ) (x : Token) → TokensFit ts → slice_get ts n ≡ Some x → TokenFits x
 get_fits [] n x f e = absurd (cc)
 get_fits (t ∷ ts) zero x f e = let q : t ≡ x = cc in subst (λ (z : Token). TokenFits z) q f.0
 get_fits (t ∷ ts) (suc n) x f e = get_fits ts n x f.1 e
 
-last_told : (e : yaml_encoding_t) (x : Token) → TokenFits x → is_last_type (type_of (handed_out e x).token_data) ≡ is_last x
+pub last_told : (e : yaml_encoding_t) (x : Token) → TokenFits x → is_last_type (type_of (handed_out e x).token_data) ≡ is_last x
 last_told e StreamStart f = refl
 last_told e (BlockEnd m) f = refl
 last_told e (BlockSequenceStart m) f = refl
@@ -131,29 +134,29 @@ module _ (setting : yaml_encoding_t) (input : List ℕ) (s t u : scanner_t) (x :
   unfolding history
   reach_u = p.runs.holds.reach ∙ ap (λ (c : Course). reach (first_steps u.made c.read)) (course_is setting input u stands_u.reads)
 
-  -- the answer, and what is left
-  module _ (peeked : Bool) (fault : Option Fault) where
-    abbrev before_it : Session
-    before_it = record { taken = s.taken; steps = s.made; peeked = peeked; over = false; fault = fault }
+  -- the token that was shown, and what is left
+  module _ (m : t.made ≡ s.made) (fault : Option Fault) where
+    abbrev showing : Session
+    showing = record { taken = s.taken; steps = s.made; peeked = true; over = false; fault = fault }
 
     abbrev P : Parser
-    P = record { input = input; setting = setting; limit = s.limit; session = before_it }
+    P = record { input = input; setting = setting; limit = s.limit; session = showing }
 
-    pub scan_told : TOKEN x ≡ answered P SCAN
+    pub take_told : x ≡ token_shown P
     unfolding course_read
-    scan_told = ap TOKEN token_told ∙ sym (ap (λ (o : Option Token). scan_answer (decoded_input setting input).encoding C o) token_next)
+    take_told = token_told ∙ sym (ap (λ (o : Option Token). token_or_empty (decoded_input setting input).encoding o) token_next)
 
-    pub scan_left : (o : Bool) → o ≡ is_last_type (type_of x.token_data) → record { input = input; setting = setting; limit = u.limit; session = record { taken = u.taken; steps = u.made; peeked = false; over = o; fault = fault } } ≡ behind P SCAN
+    pub take_left : (o : Bool) → o ≡ is_last_type (type_of x.token_data) → record { input = input; setting = setting; limit = u.limit; session = record { taken = u.taken; steps = u.made; peeked = false; over = o; fault = fault } } ≡ behind P SKIP
     unfolding course_read
-    scan_left o e =
-        same_parser input setting u.limit s.limit u.taken (s.taken + 1) u.made (pace s.limit C.read s.taken s.made) o (is_last p.token) fault (p.limit ∙ k.limit) (let a = p.taken in let b = k.taken in omega arith) (p.made ∙ k.made) (e ∙ last_is)
-        ∙ ap (λ (z : Session). record { input = input; setting = setting; limit = s.limit; session = z }) (sym (ap (λ (z : Option Token). after_scan s.limit C before_it z) token_next))
+    take_left o e =
+        same_parser input setting u.limit s.limit u.taken (s.taken + 1) u.made s.made o (is_last p.token) fault (p.limit ∙ k.limit) (let a = p.taken in let b = k.taken in omega arith) (p.made ∙ m) (e ∙ last_is)
+        ∙ ap (λ (z : Session). record { input = input; setting = setting; limit = s.limit; session = z }) (sym (ap (λ (z : Option Token). after_skip showing z) token_next))
 
-    pub scan_token : (o : Bool) → o ≡ is_last_type (type_of x.token_data) → Scans P (Ok x) (record { input = input; setting = setting; limit = u.limit; session = record { taken = u.taken; steps = u.made; peeked = false; over = o; fault = fault } })
-    scan_token o e = inl (scan_told, scan_left o e)
+    pub take_told_of : (q : Parser) → q ≡ P → x ≡ token_shown q
+    take_told_of q r = take_told ∙ ap token_shown (sym r)
 
-    pub scan_token_of : (q : Parser) → q ≡ P → (o : Bool) → o ≡ is_last_type (type_of x.token_data) → Scans q (Ok x) (record { input = input; setting = setting; limit = u.limit; session = record { taken = u.taken; steps = u.made; peeked = false; over = o; fault = fault } })
-    scan_token_of q r o e = subst (λ (z : Parser). Scans z (Ok x) (record { input = input; setting = setting; limit = u.limit; session = record { taken = u.taken; steps = u.made; peeked = false; over = o; fault = fault } })) (sym r) (scan_token o e)
+    pub take_left_of : (q : Parser) → q ≡ P → (o : Bool) → o ≡ is_last_type (type_of x.token_data) → record { input = input; setting = setting; limit = u.limit; session = record { taken = u.taken; steps = u.made; peeked = false; over = o; fault = fault } } ≡ behind q SKIP
+    take_left_of q r o e = take_left o e ∙ ap (λ (z : Parser). behind z SKIP) (sym r)
 
 -- the next token was shown: no step is made for it
 pub shown_settled : (setting : yaml_encoding_t) (input : List ℕ) (s : scanner_t) → IsShown setting input s → IsSettled setting input s s
@@ -164,9 +167,175 @@ shown_settled setting input s k =
     let d = ap (λ (x : Course). Rattle.yaml_scan.specs.Session.steps_for s.limit x.read s.taken) c in
     record { stands = k.stands; still_open = k.still_open; settled = k.settled; made = omega arith; limit = refl; taken = refl }
 
--- SCANS
+tokens_begun : (limit : ℕ) (c : Course) → c.begun ≡ true → tokens_of limit c ≡ before limit c.read
+tokens_begun limit c e = rw e refl
+
+get_some : (xs : List Token) (n : ℕ) → n < length xs → (x : Token) × (slice_get xs n ≡ Some x)
+get_some [] n l = absurd (omega arith)
+get_some (x ∷ xs) zero l = (x, refl)
+get_some (x ∷ xs) (suc n) l = get_some xs n (omega arith)
+
+-- A TOKEN THAT IS SHOWN
+module _ (setting : yaml_encoding_t) (input : List ℕ) (s t : scanner_t) (k : IsSettled setting input s t) where
+  abbrev D : Course
+  D = course_in s.limit setting input
+
+  course_d : course_of t ≡ D
+  course_d = course_is setting input t k.stands.reads ∙ ap (λ (n : ℕ). course_in n setting input) k.limit
+
+  next_settled : s.taken < length (tokens_of s.limit D)
+  unfolding history
+  next_settled =
+      let a = grows t.limit (course_of t).read (t.made - 1) (read_history t k.stands.runs) (inside t k.stands.runs) in
+      let b = ap (λ (c : Course). length (before t.limit c.read)) course_d in
+      let c = ap (λ (n : ℕ). length (before n D.read)) k.limit in
+      let d = ap (λ (l : List Token). length l) (tokens_begun s.limit D (sym (ap (λ (c : Course). c.begun) course_d) ∙ k.stands.runs.start)) in
+      let e = k.taken in
+      let l = k.settled in
+      omega arith
+
+  pub token_some : (x : Token) × (slice_get (tokens_of s.limit D) s.taken ≡ Some x)
+  token_some = get_some (tokens_of s.limit D) s.taken next_settled
+
+  module _ (peeked : Bool) (fault : Option Fault) where
+    abbrev opened : Session
+    opened = record { taken = s.taken; steps = s.made; peeked = peeked; over = false; fault = fault }
+
+    abbrev O : Parser
+    O = record { input = input; setting = setting; limit = s.limit; session = opened }
+
+    abbrev now_shown : Parser
+    now_shown = record { input = input; setting = setting; limit = t.limit; session = record { taken = t.taken; steps = t.made; peeked = true; over = false; fault = fault } }
+
+    same_shown : (l l' n n' m m' : ℕ) → l ≡ l' → n ≡ n' → m ≡ m'
+        → let p : Parser = record { input = input; setting = setting; limit = l; session = record { taken = n; steps = m; peeked = true; over = false; fault = fault } } in
+        let q : Parser = record { input = input; setting = setting; limit = l'; session = record { taken = n'; steps = m'; peeked = true; over = false; fault = fault } } in p ≡ q
+    same_shown l l' n n' m m' a b c = λ i. record { input = input; setting = setting; limit = a i; session = record { taken = b i; steps = c i; peeked = true; over = false; fault = fault } }
+
+    show_left : now_shown ≡ behind O PEEK
+    unfolding course_read
+    show_left = same_shown t.limit s.limit t.taken s.taken t.made (pace s.limit D.read s.taken s.made) k.limit k.taken k.made
+        ∙ ap (λ (z : Session). record { input = input; setting = setting; limit = s.limit; session = z }) (sym (ap (λ (z : Option Token). after_peek s.limit D opened z) token_some.1))
+
+    answer_is : answered O PEEK ≡ PEEKED (handed_out (decoded_input setting input).encoding token_some.0)
+    unfolding course_read
+    answer_is = ap (λ (z : Option Token). peek_answer (decoded_input setting input).encoding D z) token_some.1
+
+    shown_is : token_shown now_shown ≡ handed_out (decoded_input setting input).encoding token_some.0
+    unfolding course_read
+    shown_is = ap (λ (n : ℕ). token_or_empty (decoded_input setting input).encoding (slice_get (tokens_of n (course_in n setting input)) t.taken)) k.limit
+        ∙ ap (λ (n : ℕ). token_or_empty (decoded_input setting input).encoding (slice_get (tokens_of s.limit D) n)) k.taken
+        ∙ ap (λ (z : Option Token). token_or_empty (decoded_input setting input).encoding z) token_some.1
+
+    pub show_token : (q : Parser) → q ≡ O → (over : Bool) → over ≡ false → Shows q (Ok tt) (record { input = input; setting = setting; limit = t.limit; session = record { taken = t.taken; steps = t.made; peeked = true; over = over; fault = fault } })
+    show_token q r over e = subst (λ (b : Bool). Shows q (Ok tt) (record { input = input; setting = setting; limit = t.limit; session = record { taken = t.taken; steps = t.made; peeked = true; over = b; fault = fault } })) (sym e)
+        (subst (λ (z : Parser). Shows z (Ok tt) now_shown) (sym r) (inl (ap PEEKED shown_is ∙ sym answer_is, show_left)))
+
+head_at : (l : List queued_t) (y : queued_t) → 0 < length l → y ≡ get_or l 0 y → (ys : List queued_t) × (l ≡ y ∷ ys)
+head_at [] y m e = absurd (omega arith)
+head_at (z ∷ l) y m e = (l, ap (λ (x : queued_t). x ∷ l) (sym e))
+
+-- it is at the head of the queue
+module _ (setting : yaml_encoding_t) (input : List ℕ) (s : scanner_t) (k : IsShown setting input s) (y : queued_t) (m : 0 < length s.queue.items) (g : y ≡ get_or s.queue.items 0 y) where
+  next_is : (ys : List queued_t) (Q : s.queue.items ≡ y ∷ ys) → slice_get (tokens_of s.limit (course_in s.limit setting input)) s.taken ≡ Some (takings.next_token s k.stands.runs k.settled y ys Q)
+  next_is ys Q =
+      let c = course_is setting input s k.stands.reads in
+      let b : (course_in s.limit setting input).begun ≡ true = sym (ap (λ (x : Course). x.begun) c) ∙ k.stands.runs.start in
+      ap (λ (l : List Token). slice_get l s.taken) (tokens_begun s.limit (course_in s.limit setting input) b)
+      ∙ ap (λ (x : Course). slice_get (before s.limit x.read) s.taken) (sym c)
+      ∙ takings.token_is s k.stands.runs k.settled y ys Q
+
+  told_is : y.token ≡ token_or_empty (decoded_input setting input).encoding (slice_get (tokens_of s.limit (course_in s.limit setting input)) s.taken)
+  told_is = let h = head_at s.queue.items y m g in
+      takings.token_told s k.stands.runs k.settled y h.0 h.1
+      ∙ ap (λ (i : Input). handed_out i.encoding (takings.next_token s k.stands.runs k.settled y h.0 h.1)) k.stands.reads
+      ∙ sym (ap (λ (o : Option Token). token_or_empty (decoded_input setting input).encoding o) (next_is h.0 h.1))
+
+  pub head_shown : (peeked over : Bool) (fault : Option Fault) → peeked ≡ true → (q : Parser) → q ≡ record { input = input; setting = setting; limit = s.limit; session = record { taken = s.taken; steps = s.made; peeked = peeked; over = over; fault = fault } } → y.token ≡ token_shown q
+  unfolding course_read
+  head_shown peeked over fault e q r = told_is
+      ∙ sym (ap (λ (b : Bool). if b then token_or_empty (decoded_input setting input).encoding (slice_get (tokens_of s.limit (course_in s.limit setting input)) s.taken) else empty) e)
+      ∙ ap token_shown (sym r)
+
+-- PEEKS AND SCANS
+pub show_over : (p : Parser) → p.session.over ≡ true → p.session.peeked ≡ false → Shows p (Ok tt) p
+show_over p o k = inl (rw (k, o) refl, rw o refl)
+
 pub scan_over : (p : Parser) → p.session.over ≡ true → Scans p (Ok empty) p
 scan_over p o = inl (rw o refl, rw o refl)
+
+-- a scan is a peek and a skip
+take_after_peek : (limit : ℕ) (c : Course) (s : Session) (y : Token) → s.over ≡ false → next_token limit c s ≡ Some y → after limit c SKIP (after limit c PEEK s) ≡ after limit c SCAN s
+take_after_peek limit c s y o n =
+    let a : after limit c PEEK s ≡ looked (paced limit c s) = rw (o, n) refl in
+    let b : after limit c SKIP (looked (paced limit c s)) ≡ took y (paced limit c s) = rw n refl in
+    let d : after limit c SCAN s ≡ took y (paced limit c s) = rw (o, n) refl in
+    ap (λ (z : Session). after limit c SKIP z) a ∙ b ∙ sym d
+
+peeked_token : (e : yaml_encoding_t) (c : Course) (o : Option Token) (x : yaml_token_t) → PEEKED x ≡ peek_answer e c o → (y : Token) × (o ≡ Some y) × (x ≡ handed_out e y)
+peeked_token e c None x q = no c.fault q
+  where
+    no : (f : Option Fault) → PEEKED x ≡ why f → (y : Token) × (None ≡ Some y) × (x ≡ handed_out e y)
+    no None r = absurd (cc)
+    no (Some f) r = absurd (cc)
+peeked_token e c (Some y) x q = (y, refl, cc)
+
+no_token : (e : yaml_encoding_t) (c : Course) (o : Option Token) (f : Fault) → FAULT f ≡ peek_answer e c o → o ≡ None
+no_token e c None f q = refl
+no_token e c (Some y) f q = absurd (cc)
+
+otherwise : {A : Type 0} (b : Bool) (x y : A) → b ≡ false → (if b then x else y) ≡ y
+otherwise b x y e = rw e refl
+
+module _ (p q : Parser) (o : p.session.over ≡ false) where
+  abbrev next : Option Token
+  next = next_token p.limit (course_read p) p.session
+
+  open_peek : answered p PEEK ≡ peek_answer (input_read p).encoding (course_read p) next
+  open_peek = otherwise p.session.over (PEEKED empty) (peek_answer (input_read p).encoding (course_read p) next) o
+
+  open_scan : answered p SCAN ≡ scan_answer (input_read p).encoding (course_read p) next
+  open_scan = otherwise p.session.over (TOKEN empty) (scan_answer (input_read p).encoding (course_read p) next) o
+
+  left_peek : after p.limit (course_read p) PEEK p.session ≡ after_peek p.limit (course_read p) p.session next
+  left_peek = otherwise p.session.over p.session (after_peek p.limit (course_read p) p.session next) o
+
+  left_scan : after p.limit (course_read p) SCAN p.session ≡ after_scan p.limit (course_read p) p.session next
+  left_scan = otherwise p.session.over p.session (after_scan p.limit (course_read p) p.session next) o
+
+  shown_token : (x : yaml_token_t) → PEEKED x ≡ answered p PEEK → (y : Token) × (next ≡ Some y) × (x ≡ handed_out (input_read p).encoding y)
+  shown_token x a = peeked_token (input_read p).encoding (course_read p) next x (a ∙ open_peek)
+
+  pub is_peeked : Shows p (Ok tt) q → q.session.peeked ≡ true
+  is_peeked (inl a) = let y = shown_token (token_shown q) a.0 in
+      ap (λ (z : Parser). z.session.peeked) a.1 ∙ ap (λ (z : Session). z.peeked) (left_peek ∙ ap (λ (n : Option Token). after_peek p.limit (course_read p) p.session n) y.1)
+  is_peeked (inr a) = absurd (let n = a.0 in cc)
+
+  taken_behind : (y : Token) → next ≡ Some y → behind (behind p PEEK) SKIP ≡ behind p SCAN
+  unfolding course_read
+  taken_behind y n = ap (λ (z : Session). record { input = p.input; setting = p.setting; limit = p.limit; session = z }) (take_after_peek p.limit (course_read p) p.session y o n)
+
+  pub scan_shown : (x : yaml_token_t) (r : Parser) → Shows p (Ok tt) q → x ≡ token_shown q → r ≡ behind q SKIP → Scans p (Ok x) r
+  scan_shown x r (inl a) e f = (let y = shown_token (token_shown q) a.0 in
+      inl (
+        ap TOKEN (e ∙ y.2) ∙ sym (open_scan ∙ ap (λ (n : Option Token). scan_answer (input_read p).encoding (course_read p) n) y.1),
+        f ∙ ap (λ (z : Parser). behind z SKIP) a.1 ∙ taken_behind y.0 y.1,
+      ))
+  scan_shown x r (inr a) e f = absurd (let n = a.0 in cc)
+
+  -- and where there is no next token, as the peek
+  same_answer : next ≡ None → answered p PEEK ≡ answered p SCAN
+  same_answer n = open_peek ∙ ap (λ (z : Option Token). peek_answer (input_read p).encoding (course_read p) z) n
+      ∙ sym (open_scan ∙ ap (λ (z : Option Token). scan_answer (input_read p).encoding (course_read p) z) n)
+
+  same_left : next ≡ None → behind p PEEK ≡ behind p SCAN
+  same_left n = ap (λ (z : Session). record { input = p.input; setting = p.setting; limit = p.limit; session = z })
+      (left_peek ∙ ap (λ (z : Option Token). after_peek p.limit (course_read p) p.session z) n
+      ∙ sym (left_scan ∙ ap (λ (z : Option Token). after_scan p.limit (course_read p) p.session z) n))
+
+  pub scan_not_shown : (f : yaml_fault_t) → Shows p (Err f) q → Scans p (Err f) q
+  scan_not_shown f (inr a) = inr a
+  scan_not_shown f (inl a) = (let n = no_token (input_read p).encoding (course_read p) next (fault_of f) (a.0 ∙ open_peek) in inl (a.0 ∙ same_answer n, a.1 ∙ same_left n))
 
 get_none : (xs : List Token) (n : ℕ) → length xs ≤ n → slice_get xs n ≡ None
 get_none [] n l = refl
@@ -187,26 +356,29 @@ module _ (setting : yaml_encoding_t) (input : List ℕ) (s t : scanner_t) (peeke
     none_next : next_token s.limit (course_in s.limit setting input) before_fault ≡ None
     none_next = get_none (tokens_of s.limit (course_in s.limit setting input)) s.taken e.none
 
-    fault_told : FAULT (fault_of f) ≡ answered open_parser SCAN
+    fault_told : FAULT (fault_of f) ≡ answered open_parser PEEK
     unfolding course_read
-    fault_told = ap why (sym e.fault) ∙ sym (ap (λ (o : Option Token). scan_answer (decoded_input setting input).encoding (course_in s.limit setting input) o) none_next)
+    fault_told = ap why (sym e.fault) ∙ sym (ap (λ (o : Option Token). peek_answer (decoded_input setting input).encoding (course_in s.limit setting input) o) none_next)
 
-    fault_left : stopped ≡ behind open_parser SCAN
+    fault_left : stopped ≡ behind open_parser PEEK
     unfolding course_read
     fault_left =
         same_stopped input setting t.limit s.limit t.taken s.taken t.made (all_steps (course_in s.limit setting input)) (Some (fault_of f)) (course_in s.limit setting input).fault z.limit z.taken e.made (sym e.fault)
-        ∙ ap (λ (x : Session). record { input = input; setting = setting; limit = s.limit; session = x }) (sym (ap (λ (x : Option Token). after_scan s.limit (course_in s.limit setting input) before_fault x) none_next))
+        ∙ ap (λ (x : Session). record { input = input; setting = setting; limit = s.limit; session = x }) (sym (ap (λ (x : Option Token). after_peek s.limit (course_in s.limit setting input) before_fault x) none_next))
 
   wants : fault_of f ≡ memory_fault → peeked ≡ false → WantsMemory open_parser stopped
   unfolding course_read
   wants m n = record { input = refl; setting = refl; limit = z.limit; taken = z.taken; least = z.least; most = z.most; peeked = refl; over = refl; fault = ap Some m; was_open = refl; was_not_peeked = n }
 
-  pub scan_fault : (fault_of f ≡ memory_fault) ⊎ IsEnded setting input s t (fault_of f) → peeked ≡ false → Scans open_parser (Err f) stopped
-  scan_fault (inl m) n = inr (ap FAULT m, wants m n)
-  scan_fault (inr e) n = inl (fault_told e, fault_left e)
+  pub show_fault : (fault_of f ≡ memory_fault) ⊎ IsEnded setting input s t (fault_of f) → peeked ≡ false → Shows open_parser (Err f) stopped
+  show_fault (inl m) n = inr (ap FAULT m, wants m n)
+  show_fault (inr e) n = inl (fault_told e, fault_left e)
 
-  pub scan_fault_of : (q : Parser) → q ≡ open_parser → (fault_of f ≡ memory_fault) ⊎ IsEnded setting input s t (fault_of f) → peeked ≡ false → Scans q (Err f) stopped
-  scan_fault_of q r e n = subst (λ (x : Parser). Scans x (Err f) stopped) (sym r) (scan_fault e n)
+  pub show_fault_of : (q : Parser) → q ≡ open_parser → (fault_of f ≡ memory_fault) ⊎ IsEnded setting input s t (fault_of f) → peeked ≡ false → Shows q (Err f) stopped
+  show_fault_of q r e n = subst (λ (x : Parser). Shows x (Err f) stopped) (sym r) (show_fault e n)
 
 pub open_session : (p : Parser) → p.session.over ≡ false → p ≡ record { input = p.input; setting = p.setting; limit = p.limit; session = record { taken = p.session.taken; steps = p.session.steps; peeked = p.session.peeked; over = false; fault = p.session.fault } }
 open_session p o = λ k. record { input = p.input; setting = p.setting; limit = p.limit; session = record { taken = p.session.taken; steps = p.session.steps; peeked = p.session.peeked; over = o k; fault = p.session.fault } }
+
+pub shown_session : (p : Parser) → p.session.over ≡ false → p.session.peeked ≡ true → p ≡ record { input = p.input; setting = p.setting; limit = p.limit; session = record { taken = p.session.taken; steps = p.session.steps; peeked = true; over = false; fault = p.session.fault } }
+shown_session p o k = λ i. record { input = p.input; setting = p.setting; limit = p.limit; session = record { taken = p.session.taken; steps = p.session.steps; peeked = k i; over = o i; fault = p.session.fault } }

@@ -63,10 +63,10 @@ module _ (limit : ℕ) (c : Course) where
   taken_is_next SKIP s x e = then_next s.peeked (next_token limit c s) x e
 
   -- what is left of the list behind n tokens begins with some, k of them
-  record Goes (n : ℕ) (xs : List Token) (k : ℕ) : Type 0 where
-    rest : List Token
-    is : drop n (tokens_of limit c) ≡ xs ++ rest
-    count_is : length xs ≡ k
+  pub record Goes (n : ℕ) (xs : List Token) (k : ℕ) : Type 0 where
+    pub rest : List Token
+    pub is : drop n (tokens_of limit c) ≡ xs ++ rest
+    pub count_is : length xs ≡ k
 
   goes : (s t : Session) (o : Option Token) (xs : List Token) (k : ℕ) → ((x : Token) → o ≡ Some x → next_token limit c s ≡ Some x) → t.taken ≡ s.taken + count o → Goes t.taken xs k → Goes s.taken (option_to_list o ++ xs) (count o + k)
   goes s t None xs k f e g = record { rest = g.rest; is = (let q : t.taken ≡ s.taken = omega arith in ap (λ (n : ℕ). drop n (tokens_of limit c)) (sym q) ∙ g.is); count_is = (let m = g.count_is in omega arith) }
@@ -77,7 +77,7 @@ module _ (limit : ℕ) (c : Course) where
   }
 
   -- by all calls
-  all_go : (calls : List Call) (s : Session) → (k : ℕ) × ((after_all limit c calls s).taken ≡ s.taken + k) × Goes s.taken (tokens_in (taken_by limit c calls s)) k
+  pub all_go : (calls : List Call) (s : Session) → (k : ℕ) × ((after_all limit c calls s).taken ≡ s.taken + k) × Goes s.taken (tokens_in (taken_by limit c calls s)) k
   unfolding after_all taken_by
   all_go [] s = (0, omega arith, record { rest = drop s.taken (tokens_of limit c); is = refl; count_is = refl })
   all_go (SCAN ∷ calls) s =

@@ -44,7 +44,10 @@ pub record GoesOn (s : yaml_encoding_t) (a : List ℕ) (t : yaml_encoding_t) (b 
   pub agrees : Begins (front s a).chars (front t b).chars
 
 -- what is handed out of a is handed out of each such b, and a fault that is not the reader's is its fault, behind the same tokens
-abbrev pub LateFaults : Type 0
-LateFaults = (limit : ℕ) (s : yaml_encoding_t) (a : List ℕ) (t : yaml_encoding_t) (b : List ℕ) (fault : Fault) → GoesOn s a t b fault
+abbrev pub IsLocal : ℕ → yaml_encoding_t → List ℕ → Type 0
+IsLocal limit s a = (t : yaml_encoding_t) (b : List ℕ) (fault : Fault) → GoesOn s a t b fault
     → Begins (answers_to limit s a).tokens (answers_to limit t b).tokens
     × ((f : Fault) → (answers_to limit s a).fault ≡ Some f → (f ≡ fault) ⊎ (answers_to limit t b ≡ answers_to limit s a))
+
+abbrev pub LateFaults : Type 0
+LateFaults = (limit : ℕ) (s : yaml_encoding_t) (a : List ℕ) → IsLocal limit s a

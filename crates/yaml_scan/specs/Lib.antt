@@ -28,3 +28,5 @@ pub mod Parser
 pub mod AnswerLaws
 pub mod Locality
 pub mod Inputs
+pub mod All
+pub mod Calls

@@ -1,12 +1,14 @@
 -- A parser, as its calls see it.
-use Rattle.std.specs.Prelude.{◌≡◌, ◌⊎◌, ℕ, ◌≤◌, false, true, List, Option, None, Some, Result, Ok, Err}
+use Rattle.std.specs.Prelude.{◌≡◌, ◌⊎◌, ℕ, ◌≤◌, false, true, List, Option, None, Some, Result, Ok, Err, if◌then◌else◌}
+use denote.Ref.{Bor}
 use Rattle.yaml_text.specs.declared.types.yaml_encoding_t.{yaml_encoding_t}
 use Rattle.yaml_text.specs.declared.fault.yaml_fault_t.{yaml_fault_t}
 use Rattle.yaml_text.specs.Fault.{fault_of, memory_fault}
-use Rattle.yaml_scan.specs.Token.{yaml_token_t}
+use Rattle.yaml_scan.specs.Token.{yaml_token_t, empty}
+use Rattle.yaml_scan.specs.Offline.{Token, handed_out}
 use Rattle.yaml_scan.specs.Answers.{Input, Course, course}
 use Rattle.yaml_scan.specs.Inputs.{decoded_input}
-use Rattle.yaml_scan.specs.Session.{Session, Call, Answer, pace, after, answer}
+use Rattle.yaml_scan.specs.Session.{Session, Call, Answer, pace, next_token, after, answer}
 use Rattle.yaml_scan.specs.Session.Call.{SCAN, PEEK, SKIP}
 use Rattle.yaml_scan.specs.Session.Answer.{TOKEN, PEEKED, FAULT}
 
@@ -54,6 +56,36 @@ abbrev pub told : Result yaml_token_t yaml_fault_t → Answer
 told (Ok token) = TOKEN token
 told (Err fault) = FAULT (fault_of fault)
 
--- A scan answers what the session says and leaves what it leaves, or it is a fault of kind memory.
+-- A call answers what the session says and leaves what it leaves, or it is a fault of kind memory.
+abbrev pub Calls : Call → Parser → Answer → Parser → Type 0
+Calls call p a q = ((a ≡ answered p call) × (q ≡ behind p call)) ⊎ ((a ≡ FAULT memory_fault) × WantsMemory p q)
+
 abbrev pub Scans : Parser → Result yaml_token_t yaml_fault_t → Parser → Type 0
-Scans p result q = ((told result ≡ answered p SCAN) × (q ≡ behind p SCAN)) ⊎ ((told result ≡ FAULT memory_fault) × WantsMemory p q)
+Scans p result q = Calls SCAN p (told result) q
+
+-- a token that is shown or a fault, as an answer
+abbrev pub shown : Result yaml_token_t yaml_fault_t → Answer
+shown (Ok token) = PEEKED token
+shown (Err fault) = FAULT (fault_of fault)
+
+abbrev pub Peeks : Parser → Result yaml_token_t yaml_fault_t → Parser → Type 0
+Peeks p result q = Calls PEEK p (shown result) q
+
+-- the token behind the reference, or the fault
+abbrev pub told_copied : Result (Bor yaml_token_t) yaml_fault_t → Result yaml_token_t yaml_fault_t
+told_copied (Ok token) = Ok token.now
+told_copied (Err fault) = Err fault
+
+-- WHAT A PARSER SHOWS
+abbrev pub token_or_empty : yaml_encoding_t → Option Token → yaml_token_t
+token_or_empty e None = empty
+token_or_empty e (Some x) = handed_out e x
+
+-- its next token where that was peeked, and else the empty one
+abbrev pub token_shown : Parser → yaml_token_t
+token_shown p = if p.session.peeked then token_or_empty (input_read p).encoding (next_token p.limit (course_read p) p.session) else empty
+
+-- a peek, by what the parser shows behind it
+abbrev pub Shows : Parser → Result (Unit {0}) yaml_fault_t → Parser → Type 0
+Shows p (Ok _) q = Calls PEEK p (PEEKED (token_shown q)) q
+Shows p (Err fault) q = Calls PEEK p (FAULT (fault_of fault)) q

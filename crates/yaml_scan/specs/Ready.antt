@@ -9,7 +9,7 @@ use Rattle.yaml_scan.specs.Laid.{reach}
 use Rattle.yaml_scan.specs.Token.{yaml_token_t, empty}
 use Rattle.yaml_scan.specs.Offline.{Token, before, offline, handed_out}
 use Rattle.yaml_scan.specs.Answers.{Input, Course, course, tokens_of}
-use Rattle.yaml_scan.specs.Session.{Session, pace, all_steps, first_steps}
+use Rattle.yaml_scan.specs.Session.{Session, pace, all_steps, first_steps, session_queued}
 use Rattle.yaml_scan.specs.Inputs.{decoded_input}
 use Rattle.yaml_scan.specs.Scanning.{Runs, IsOpen, history, course_of, input_of}
 use Rattle.yaml_scan.specs.Parser.{Parser, course_read}
@@ -92,6 +92,9 @@ pub record Sound (p : Inside) : Type 0 where
   pub peeked : p.peeked ≡ true → (p.over ≡ false) × IsShown p.setting p.input.now p.scanner
   pub reach : p.scanner.reach ≡ reach (first_steps p.scanner.made (course_in p.scanner.limit p.setting p.input.now).read)
   pub empty : p.empty ≡ empty
+  pub limit : p.scanner.limit ≤ 65536
+  pub queued : session_queued (course_in p.scanner.limit p.setting p.input.now) (parser_of p).session + p.done ≡ p.scanner.made
+  pub few : session_queued (course_in p.scanner.limit p.setting p.input.now) (parser_of p).session ≤ p.scanner.limit + 1
 
 -- STREAM-START was made
 pub record Begins (setting : yaml_encoding_t) (input : List ℕ) (s t : scanner_t) : Type 0 where

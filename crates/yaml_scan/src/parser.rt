@@ -28,6 +28,8 @@ pub struct yaml_parser_t<'a> {
     input: &'a [u8],
     setting: yaml_encoding_t,
     scanner: scanner_t<'a>,
+    /// How many steps have no token left to take.
+    done: u128,
     peeked: bool,
     over: bool,
     fault: Option<yaml_fault_t>,
@@ -187,7 +189,7 @@ fn take_head(scanner: &mut scanner_t) -> yaml_token_t
     queued.token
 }
 
-fn is_stream_end(token: &yaml_token_t) -> bool
+pub(crate) fn is_stream_end(token: &yaml_token_t) -> bool
     ensures { result ≡ is_last_type (type_of token.now.token_data) }
 {
     matches!(token.token_data, unnamed_yaml_token_t_data::STREAM_END)
@@ -217,6 +219,7 @@ impl<'a> yaml_parser_t<'a> {
             input,
             setting,
             scanner: new_scanner(alloc, limit as u64),
+            done: 0,
             peeked: false,
             over: false,
             fault: None,
@@ -225,12 +228,25 @@ impl<'a> yaml_parser_t<'a> {
     }
 }
 
-/// Takes the next token.
-pub fn yaml_parser_scan(parser: &mut yaml_parser_t) -> Result<yaml_token_t, yaml_fault_t>
-    ensures { Scans parser.old result parser.new }
+/// The token that was shown, or the empty one.
+fn shown<'s>(parser: &'s yaml_parser_t<'_>) -> &'s yaml_token_t
+    ensures { result.now ≡ token_shown parser.now }
+{
+    if parser.peeked {
+        &parser.scanner.queue.front().unwrap().token
+    } else {
+        &parser.empty
+    }
+}
+
+ghost use Rattle.yaml_scan.specs.Parser.{token_shown};
+
+/// Makes the steps that the next token asks for, and has it shown.
+pub(crate) fn show(parser: &mut yaml_parser_t) -> Result<(), yaml_fault_t>
+    ensures { Shows parser.old result parser.new }
 {
     if parser.over {
-        return Ok(yaml_token_t::empty());
+        return Ok(());
     }
     match look(
         parser.alloc,
@@ -240,10 +256,8 @@ pub fn yaml_parser_scan(parser: &mut yaml_parser_t) -> Result<yaml_token_t, yaml
         parser.peeked,
     ) {
         Ok(_) => {
-            let token = take_head(&mut parser.scanner);
-            parser.peeked = false;
-            parser.over = is_stream_end(&token);
-            Ok(token)
+            parser.peeked = true;
+            Ok(())
         }
         Err(fault) => {
             parser.peeked = false;
@@ -252,4 +266,108 @@ pub fn yaml_parser_scan(parser: &mut yaml_parser_t) -> Result<yaml_token_t, yaml
             Err(fault)
         }
     }
+}
+
+ghost use Rattle.yaml_scan.specs.Parser.{Shows};
+
+/// How many steps have no token left to take.
+fn steps_done(scanner: &scanner_t) -> u128
+    requires { Runs scanner.now }
+    ensures { queued (history scanner.now) scanner.now.taken (history scanner.now) + result ≡ scanner.now.made }
+{
+    match scanner.queue.front() {
+        Some(queued) => queued.step - 1,
+        None => scanner.made,
+    }
+}
+
+ghost use Rattle.yaml_scan.specs.Offline.{queued};
+
+/// Takes the token that was shown.
+fn take_shown(parser: &mut yaml_parser_t) -> yaml_token_t
+    requires { parser.old.session.peeked ≡ true }
+    ensures token { result ≡ token_shown parser.old }
+    ensures left { parser.new ≡ behind parser.old SKIP }
+{
+    let token = take_head(&mut parser.scanner);
+    parser.done = steps_done(&parser.scanner);
+    parser.peeked = false;
+    parser.over = is_stream_end(&token);
+    token
+}
+
+ghost use Rattle.yaml_scan.specs.Parser.{behind};
+ghost use Rattle.yaml_scan.specs.Session.Call.{SKIP};
+
+/// Takes the next token.
+pub fn yaml_parser_scan(parser: &mut yaml_parser_t) -> Result<yaml_token_t, yaml_fault_t>
+    ensures { Scans parser.old result parser.new }
+{
+    if parser.over {
+        return Ok(yaml_token_t::empty());
+    }
+    match show(parser) {
+        Ok(_) => Ok(take_shown(parser)),
+        Err(fault) => Err(fault),
+    }
+}
+
+/// Takes the token that was peeked.
+pub fn yaml_parser_skip(parser: &mut yaml_parser_t)
+    requires { parser.old.session.peeked ≡ true }
+    ensures { parser.new ≡ behind parser.old SKIP }
+{
+    let _ = take_shown(parser);
+}
+
+/// Shows the next token, which the next scan or skip takes.
+pub fn yaml_parser_peek<'s>(
+    parser: &'s mut yaml_parser_t<'_>,
+) -> Result<&'s yaml_token_t, yaml_fault_t>
+    ensures* { sem 𝓛 (follows_so (the_row (record { mir = named 1; lft = [] })) (the_row (record { mir = named 1; lft = [] })) parser.entry.ghost_name none (λ _ _. ⊤) (λ q. Peeks parser.old (told_copied result) q)) }
+{
+    show(parser)?;
+    Ok(shown(parser))
+}
+
+ghost use Rattle.std.specs.Prelude.{⊤};
+ghost use Rattle.std.specs.Borrow.{sem};
+ghost use mathlib.Core.Option.{none};
+ghost use denote.Follow.{follows_so};
+ghost use mir.Syntax.{named};
+ghost use Rattle.yaml_scan.specs.contracts.parser.yaml_parser_t.{the_row};
+ghost use Rattle.yaml_scan.specs.Parser.{Peeks, told_copied};
+
+/// Whether a token was peeked and not taken.
+pub fn yaml_parser_has_token(parser: &yaml_parser_t) -> bool
+    ensures { result ≡ parser.now.session.peeked }
+{
+    parser.peeked
+}
+
+/// The fault that a call has answered, if one has.
+pub fn yaml_parser_fault<'s>(parser: &'s yaml_parser_t<'_>) -> Option<&'s yaml_fault_t>
+    ensures { option_map (λ f. fault_of f.now) result ≡ parser.now.session.fault }
+{
+    parser.fault.as_ref()
+}
+
+ghost use Rattle.std.specs.Prelude.{option_map};
+
+/// How many steps have a token that was made and not taken.
+pub fn yaml_parser_queued(parser: &yaml_parser_t) -> u64
+    ensures steps { result ≡ session_queued (course_read parser.now) parser.now.session }
+    ensures few { result ≤ parser.now.limit + 1 }
+{
+    (parser.scanner.made - parser.done) as u64
+}
+
+ghost use Rattle.yaml_scan.specs.Session.{session_queued, session_reach};
+ghost use Rattle.yaml_scan.specs.Parser.{course_read};
+
+/// How far the last good step was read, and zero before any.
+pub fn yaml_parser_mark(parser: &yaml_parser_t) -> yaml_mark_t
+    ensures { result ≡ session_reach (course_read parser.now) parser.now.session }
+{
+    parser.scanner.reach
 }

@@ -1,0 +1,45 @@
+use Rattle.std.proofs.Common.{◌≡◌, ◌≤◌, refl, sym, ap, ◌∙◌, inl, inr, arith, false, true}
+use Rattle.std.specs.Prelude.{option_map}
+use Rattle.std.proofs.lemmas.Bool.{false≢true}
+use Rattle.yaml_text.specs.Fault.{fault_of}
+use Rattle.yaml_scan.specs.Parser.{Parser}
+use Rattle.yaml_scan.specs.Ready.{parser_of}
+use Rattle.yaml_scan.proofs.Scans.{show_token, show_fault_of, open_session}
+use Rattle.yaml_scan.proofs.Keeps.{stands_ready, keeps_settled, keeps_stopped, reach_in, reach_stopped}
+use Rattle.yaml_scan.proofs.parser.show.Goals as goal
+
+pub invariant_of-parser : goal.invariant_of-parser
+invariant_of-parser c = let i = c.parser.inside in let v = c.parser.invariant in let k = c.in-Ok.ensures in
+    let w = keeps_settled i.setting i.input.now i.scanner c.look.new.scanner k (stands_ready i.setting i.input.now i.scanner (v.ready c.if-parser.false)) i.done (record { queued = v.queued; few = v.few }) in
+    record {
+      ready = λ n. inr (k.stands, k.still_open);
+      peeked = λ n. (c.if-parser.false, record { stands = k.stands; still_open = k.still_open; settled = k.settled });
+      reach = reach_in i.setting i.input.now c.look.new.scanner k.stands;
+      empty = v.empty;
+      limit = (let a = v.limit in let b = k.limit in omega arith);
+      queued = w.queued;
+      few = w.few;
+    }
+
+pub invariant_of-parser-in-Err : goal.invariant_of-parser-in-Err
+invariant_of-parser-in-Err c = let i = c.parser.inside in let v = c.parser.invariant in let k = c.in-Err.ensures.1 in
+    let w = keeps_stopped i.setting i.input.now i.scanner c.look.new.scanner k (stands_ready i.setting i.input.now i.scanner (v.ready c.if-parser.false)) i.done (record { queued = v.queued; few = v.few }) in
+    record {
+      ready = λ n. absurd (false≢true (sym n));
+      peeked = λ n. absurd (false≢true n);
+      reach = reach_stopped i.setting i.input.now i.scanner c.look.new.scanner k;
+      empty = v.empty;
+      limit = (let a = v.limit in let b = k.limit in omega arith);
+      queued = w.queued;
+      few = w.few;
+    }
+
+pub returns-in-Ok : goal.returns-in-Ok
+returns-in-Ok c = let i = c.parser.inside in
+    let e : c.args.parser.now ≡ parser_of i = sym c.parser.view_is in
+    show_token i.setting i.input.now i.scanner c.look.new.scanner c.in-Ok.ensures i.peeked (option_map fault_of i.fault) c.args.parser.now (e ∙ open_session (parser_of i) c.if-parser.false) i.over c.if-parser.false
+
+pub returns-in-Err : goal.returns-in-Err
+returns-in-Err c = let i = c.parser.inside in let f = c.in-Err.ensures in
+    let e : c.args.parser.now ≡ parser_of i = sym c.parser.view_is in
+    show_fault_of i.setting i.input.now i.scanner c.look.new.scanner i.peeked (option_map fault_of i.fault) c.in-Err.fault f.1 c.args.parser.now (e ∙ open_session (parser_of i) c.if-parser.false) f.0 f.2

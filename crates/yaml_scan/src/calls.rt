@@ -1,0 +1,128 @@
+//! Lists of calls, each with its answer.
+ghost use Rattle.std.specs.Prelude.{◌≡◌, ◌+◌, ◌≤◌, length, map, OnOk, OnErr, vec_len};
+ghost use Rattle.std.specs.Vec.{vec_capacity};
+ghost use Rattle.yaml_text.specs.Fault.{fault_of};
+ghost use Rattle.yaml_scan.specs.Session.{session_queued};
+ghost use Rattle.yaml_scan.specs.Session.Call.{SCAN, PEEK, SKIP};
+ghost use Rattle.yaml_scan.specs.Parser.{course_read};
+ghost use Rattle.yaml_scan.specs.Inputs.{IsLocal};
+
+use crate::parser::{
+    yaml_parser_has_token, yaml_parser_peek, yaml_parser_queued, yaml_parser_scan,
+    yaml_parser_skip, yaml_parser_t,
+};
+use std::alloc::AllocError;
+use yaml_text::{yaml_fault_t, yaml_mark_t, yaml_token_t, yaml_token_type_t};
+
+/// A call of a parser.
+#[derive(Copy, Clone, PartialEq, Eq)]
+pub enum yaml_call_t {
+    SCAN,
+    PEEK,
+    SKIP,
+}
+
+/// What a call answered: the token that it took, what it showed of the next one, that one was skipped, that none was shown
+/// to be skipped, or the fault.
+#[derive(Drop, PartialEq, Eq)]
+pub enum yaml_answer_t {
+    TOKEN(yaml_token_t),
+    PEEKED(yaml_token_type_t, yaml_mark_t, yaml_mark_t),
+    SKIPPED,
+    NOTHING,
+    FAULT(yaml_fault_t),
+}
+
+ghost use Rattle.yaml_scan.specs.Calls.{Sees, seen_of, call_of, PutsAnswers, TakesNext};
+
+fn answer_scan(parser: &mut yaml_parser_t) -> yaml_answer_t
+    ensures { Sees SCAN parser.old (seen_of result) parser.new }
+{
+    match yaml_parser_scan(parser) {
+        Ok(token) => yaml_answer_t::TOKEN(token),
+        Err(fault) => yaml_answer_t::FAULT(fault),
+    }
+}
+
+/// What is told of a token that was peeked.
+fn peeked(token: &yaml_token_t) -> yaml_answer_t
+    ensures { seen_of result ≡ seen (PEEKED token.now) }
+{
+    yaml_answer_t::PEEKED(token.type_(), token.start_mark, token.end_mark)
+}
+
+ghost use Rattle.yaml_scan.specs.Session.Answer.{PEEKED};
+ghost use Rattle.yaml_scan.specs.Calls.{seen};
+
+fn answer_peek(parser: &mut yaml_parser_t) -> yaml_answer_t
+    ensures { Sees PEEK parser.old (seen_of result) parser.new }
+{
+    match yaml_parser_peek(parser) {
+        Ok(token) => peeked(token),
+        Err(fault) => yaml_answer_t::FAULT(fault),
+    }
+}
+
+fn answer_skip(parser: &mut yaml_parser_t) -> yaml_answer_t
+    ensures { Sees SKIP parser.old (seen_of result) parser.new }
+{
+    if !yaml_parser_has_token(parser) {
+        return yaml_answer_t::NOTHING;
+    }
+    yaml_parser_skip(parser);
+    yaml_answer_t::SKIPPED
+}
+
+fn answer_call(parser: &mut yaml_parser_t, call: yaml_call_t) -> yaml_answer_t
+    ensures { Sees (call_of call) parser.old (seen_of result) parser.new }
+{
+    match call {
+        yaml_call_t::SCAN => answer_scan(parser),
+        yaml_call_t::PEEK => answer_peek(parser),
+        yaml_call_t::SKIP => answer_skip(parser),
+    }
+}
+
+/// Makes the calls, where there is room for their answers.
+fn answer_all(parser: &mut yaml_parser_t, calls: &[yaml_call_t], out: &mut Vec<yaml_answer_t>)
+    requires { vec_len out.old + length calls.now ≤ vec_capacity out.old }
+    ensures { PutsAnswers parser.old (map call_of calls.now) out.old.items out.new.items parser.new }
+{
+    for call in calls {
+        let answer = answer_call(parser, *call);
+        match out.push(answer) {
+            Ok(_) => {}
+            Err(_) => unreachable!(),
+        }
+    }
+}
+
+/// Few steps wait in a parser, whatever was called.
+fn few_wait(parser: &yaml_parser_t)
+    ensures { session_queued (course_read parser.now) parser.now.session ≤ parser.now.limit + 1 }
+{
+    let _ = yaml_parser_queued(parser);
+}
+
+/// Makes the calls in order, and puts one answer each behind `out`: a peeked token as its type, start and end, and
+/// `NOTHING` for a skip where no token was shown.
+///
+/// Room for all answers is reserved first; where it is refused, `AllocError`, nothing has changed. Where memory is
+/// refused later, that call is answered with the fault, and those behind it as where the session is over.
+pub fn yaml_run(
+    parser: &mut yaml_parser_t,
+    calls: &[yaml_call_t],
+    out: &mut Vec<yaml_answer_t>,
+) -> Result<(), AllocError>
+    ensures answers { OnOk result (PutsAnswers parser.old (map call_of calls.now) out.old.items out.new.items parser.new) }
+    ensures refused { OnErr result ((parser.new ≡ parser.old) × (out.new.items ≡ out.old.items)) }
+    ensures few { session_queued (course_read parser.new) parser.new.session ≤ parser.new.limit + 1 }
+    ensures taken { TakesNext parser.old (map call_of calls.now) }
+    ensures local { IsLocal parser.old.limit parser.old.setting parser.old.input }
+{
+    few_wait(parser);
+    out.reserve(calls.len())?;
+    answer_all(parser, calls, out);
+    few_wait(parser);
+    Ok(())
+}
