@@ -64,6 +64,7 @@ fn new_scanner<'a>(alloc: Global, limit: u64) -> scanner_t<'a>
         limit,
         levels: Vec::new(alloc),
         outer: Vec::new(alloc),
+        not_simple_keys: 0,
         top: None,
         allowed: true,
         queue: VecDeque::new(alloc),
