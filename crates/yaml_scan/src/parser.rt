@@ -21,6 +21,9 @@ use yaml_text::{
     yaml_text_t, yaml_token_t,
 };
 
+#[cfg(test)]
+mod tests;
+
 /// A parser of an input: its tokens are asked for one after the other.
 #[derive(Drop)]
 pub struct yaml_parser_t<'a> {
