@@ -1,7 +1,7 @@
 -- The head is the next token exactly where no candidate that is held is the head.
-use Rattle.std.proofs.Common.{◌≡◌, ℕ, zero, suc, ◌-◌, ◌≤◌, ◌<◌, not, ◌&&◌, ◌||◌, Bool, true, false, List, [], ◌∷◌, ◌++◌, drop, length, length-drop, Option, Some, None, refl, ap, sym, ◌∙◌, arith, inl, inr, ltb, eqb, eqb-true, lt-ltb, le-ltb}
+use Rattle.std.proofs.Common.{◌≡◌, ℕ, ◌-◌, ◌≤◌, ◌<◌, not, ◌&&◌, Bool, true, false, List, drop, length, length-drop, Option, Some, None, refl, ap, sym, ◌∙◌, arith, inl, inr, ltb, eqb, eqb-true, lt-ltb, le-ltb}
 use Rattle.std.specs.Prelude.{◌⊎◌, option_map}
-use Rattle.std.proofs.lemmas.Bool.{cases_Bool, cases_eq, cases_lt, false≢true, or_parts, eqb-false}
+use Rattle.std.proofs.lemmas.Bool.{cases_Bool, cases_eq, cases_lt, false≢true, eqb-false}
 use Rattle.yaml_scan.specs.Slots.{Held, held, held_of, outer_to, waits, lowest}
 use Rattle.yaml_scan.specs.Offline.{Token, up_to, offline, before}
 use Rattle.yaml_scan.specs.Laid.{Laid, candidate, depth, live, reach, only_live}

@@ -1,7 +1,5 @@
-use Rattle.std.proofs.Common.{◌≡◌, ℕ, ◌+◌, ◌≤◌, ◌<◌, length, Some, None, ap, sym, ◌∙◌, arith}
-use Rattle.std.specs.Prelude.{slice_get, Option}
+use Rattle.std.proofs.Common.{Some, None, ap, sym, ◌∙◌, arith}
 use Rattle.std.proofs.lemmas.Option.{slice_get-get_or}
-use Rattle.yaml_scan.specs.Slots.{Held}
 use Rattle.yaml_scan.proofs.EmptySlots.{held_at, none_at, empty_held, empty_more, empty_all}
 use Rattle.yaml_scan.proofs.keys.count_empty.Goals as goal
 

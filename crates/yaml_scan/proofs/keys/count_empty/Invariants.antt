@@ -1,4 +1,4 @@
-use Rattle.std.proofs.Common.{ℕ, ◌-◌, length}
+use Rattle.std.proofs.Common.{◌-◌, length}
 use Rattle.yaml_scan.specs.Slots.{AreEmptyBelow}
 use Rattle.yaml_scan.proofs.keys.count_empty.Given as goal
 

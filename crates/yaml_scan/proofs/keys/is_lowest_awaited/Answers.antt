@@ -1,7 +1,7 @@
-use Rattle.std.proofs.Common.{◌≡◌, ℕ, ◌≤◌, ◌<◌, length, Some, None, ap, sym, ◌∙◌, refl, arith}
-use Rattle.std.specs.Prelude.{slice_get, Option}
+use Rattle.std.proofs.Common.{◌≡◌, ℕ, length, Some, None, ap, sym, ◌∙◌, refl}
+use Rattle.std.specs.Prelude.{slice_get}
 use Rattle.std.proofs.lemmas.Option.{slice_get_read, slice_get_past}
-use Rattle.yaml_scan.specs.Slots.{Held, waits}
+use Rattle.yaml_scan.specs.Slots.{waits}
 use Rattle.yaml_scan.proofs.EmptySlots.{lowest_none, lowest_some}
 use Rattle.yaml_scan.proofs.keys.is_lowest_awaited.Goals as goal
 

@@ -1,4 +1,4 @@
-use Rattle.std.proofs.Common.{◌≡◌, subst, Option, ℕ, ◌+◌, ◌^◌, ◌<◌, ◌≤◌, List, length, reverse, ap, ◌∙◌, refl, sym, inl, inr, arith}
+use Rattle.std.proofs.Common.{subst, Option, ℕ, ◌+◌, List, reverse, ap, ◌∙◌, refl, sym, inl, inr, arith}
 use Rattle.std.proofs.lemmas.Result.{err_from_is_err_and}
 use Rattle.yaml_text.specs.declared.types.yaml_mark_t.{yaml_mark_t}
 use Rattle.yaml_scan.specs.Levels.{greatest_level}
