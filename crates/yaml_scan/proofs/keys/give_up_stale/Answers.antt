@@ -8,17 +8,11 @@ use Rattle.yaml_scan.proofs.keys.give_up_stale.Goals as goal
 pub loop-empty-init : goal.loop-empty-init
 loop-empty-init c = record { swept = refl; below = subst (λ (n : ℕ). AreEmptyBelow n c.args.slots.now.items) (sym c.requires.empty) (below_empty c.args.slots.now.items); held = λ k h e. e }
 
-pub returns-then-is_some-clause-slots : goal.returns-then-is_some-clause-slots
-returns-then-is_some-clause-slots c = let v = c.loop-empty.invariant in
+pub returns-then-is_some : goal.returns-then-is_some
+returns-then-is_some c = let v = c.loop-empty.invariant in
     let e : slice_get c.loop-empty.slots.items c.loop-empty.empty ≡ Some c.index.result.now = slice_get_read c.loop-empty.slots.items (length c.loop-empty.slots.items) c.loop-empty.empty c.index.result.now refl (omega arith) c.index.ensures in
     let q = swept_to c.args.limit c.args.mark c.args.slots.now.items c.loop-empty.slots.items c.loop-empty.empty c.index.result.now c.requires.nested v.held v.below e (ap is_some (sym c.kept.ensures) ∙ sym c.is_some.ensures ∙ c.if-is_some.true) in
-    sym q.0 ∙ v.swept
-
-pub returns-then-is_some-clause-empty : goal.returns-then-is_some-clause-empty
-returns-then-is_some-clause-empty c = let v = c.loop-empty.invariant in
-    let e : slice_get c.loop-empty.slots.items c.loop-empty.empty ≡ Some c.index.result.now = slice_get_read c.loop-empty.slots.items (length c.loop-empty.slots.items) c.loop-empty.empty c.index.result.now refl (omega arith) c.index.ensures in
-    let q = swept_to c.args.limit c.args.mark c.args.slots.now.items c.loop-empty.slots.items c.loop-empty.empty c.index.result.now c.requires.nested v.held v.below e (ap is_some (sym c.kept.ensures) ∙ sym c.is_some.ensures ∙ c.if-is_some.true) in
-    q.1
+    record { slots = sym q.0 ∙ v.swept; empty = q.1 }
 
 pub loop-empty-preserved : goal.loop-empty-preserved
 loop-empty-preserved c = let v = c.loop-empty.invariant in
