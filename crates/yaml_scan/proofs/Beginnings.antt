@@ -123,7 +123,7 @@ unfolding candidate
 empty_top limit = refl
 
 module _ (setting : yaml_encoding_t) (input : List ℕ) (s t : scanner_t) (n : IsNew s) (T : t.text ≡ front setting input) (C : AreChars t.text.chars) (small : length t.text.chars + 1 < 2 ^ 64) (R : refusal_seen t.refusal ≡ refusal setting input) (N : IsNearFrom t.text.chars t.near)
-    (L : t.limit ≡ s.limit) (V : t.levels.items ≡ s.levels.items) (O : t.outer.items ≡ s.outer.items) (P : t.top ≡ s.top) (A : t.allowed ≡ s.allowed) (Q : IsQueue t.text.encoding 1 2 t.queue.items (StreamStart ∷ [])) (J : t.reach ≡ s.reach) (K : t.taken ≡ s.taken) (M : t.made ≡ 1)
+    (L : t.limit ≡ s.limit) (V : t.levels.items ≡ s.levels.items) (O : t.outer.items ≡ s.outer.items) (E : t.not_simple_keys ≡ s.not_simple_keys) (P : t.top ≡ s.top) (A : t.allowed ≡ s.allowed) (Q : IsQueue t.text.encoding 1 2 t.queue.items (StreamStart ∷ [])) (J : t.reach ≡ s.reach) (K : t.taken ≡ s.taken) (M : t.made ≡ 1)
     (e : near_fault t.near 0 (refusal_seen t.refusal) ≡ None) where
   input_is : input_of t ≡ decoded_input setting input
   unfolding decoded_input
@@ -145,6 +145,7 @@ module _ (setting : yaml_encoding_t) (input : List ℕ) (s t : scanner_t) (n : I
     levels = ap reverse V ∙ ap reverse n.levels ∙ sym empty_columns;
     columns = rw empty_columns tt;
     outer = O ∙ n.outer ∙ sym (empty_outer t.limit);
+    empty = rw (O, n.outer) (E ∙ n.empty);
     top = P ∙ n.top ∙ sym (empty_top t.limit);
     allowed = A ∙ n.allowed;
     first = 1;

@@ -16,6 +16,8 @@ pub mod GoOn
 pub mod HeldMore
 pub mod Closing
 pub mod Settled
+pub mod EmptySlots
+pub mod HeldOrder
 pub mod Cuts
 pub mod Next
 pub mod TokenOrder

@@ -150,7 +150,7 @@ module _ (s : scanner_t) (r : Runs s) where
       pub near_last : (index : ℕ) (f : Fault) → index ≡ t.reach.index → near_fault s.near index (refusal_seen s.refusal) ≡ Some f → IsLast s f
       near_last index f i q = last_is _ (next_step ∙ near_some s.text.chars s.near r.near X a.within index (i ∙ a.index) (refusal_seen s.refusal) f q)
 
-      module _ (u : scanner_t) (H : u.text ≡ t.text) (J : u.refusal ≡ t.refusal) (K : u.near ≡ t.near) (L : u.limit ≡ t.limit) (V : u.levels ≡ t.levels) (O : u.outer ≡ t.outer) (P : u.top ≡ t.top) (A : u.allowed ≡ t.allowed) (Q : u.queue ≡ t.queue) (R : u.reach ≡ t.reach) (T : u.taken ≡ t.taken) (M : u.made ≡ t.made + 1)
+      module _ (u : scanner_t) (H : u.text ≡ t.text) (J : u.refusal ≡ t.refusal) (K : u.near ≡ t.near) (L : u.limit ≡ t.limit) (V : u.levels ≡ t.levels) (O : u.outer ≡ t.outer) (E : u.not_simple_keys ≡ t.not_simple_keys) (P : u.top ≡ t.top) (A : u.allowed ≡ t.allowed) (Q : u.queue ≡ t.queue) (R : u.reach ≡ t.reach) (T : u.taken ≡ t.taken) (M : u.made ≡ t.made + 1)
           (index : ℕ) (I : index ≡ t.reach.index) (F : near_fault s.near index (refusal_seen s.refusal) ≡ None) where
         reads : next (input_of s) s.limit (history s) ≡ X
         reads = next_step ∙ near_none s.text.chars s.near r.near X a.within index (I ∙ a.index) (refusal_seen s.refusal) F
@@ -173,6 +173,7 @@ module _ (s : scanner_t) (r : Runs s) where
           levels = rw V h.levels;
           columns = rw H h.columns;
           outer = rw (O, L) h.outer;
+          empty = rw (O, E) h.empty;
           top = rw (P, L) h.top;
           allowed = rw A h.allowed;
           first = h.first;

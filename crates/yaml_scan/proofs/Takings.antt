@@ -76,7 +76,7 @@ module _ (s : scanner_t) (r : Runs s) (l : s.taken < length (before s.limit (his
         let z = split (course_of s).read (s.made - 1) (inside s r) in
         sym (head_same s.limit (course_of s).read (history s) z.0 s.taken z.1 (read_history s r) r.holds.is_history l) ∙ parts.0
 
-    module _ (u : scanner_t) (H : u.text ≡ s.text) (J : u.refusal ≡ s.refusal) (K : u.near ≡ s.near) (L : u.limit ≡ s.limit) (V : u.levels ≡ s.levels) (O : u.outer ≡ s.outer) (P : u.top ≡ s.top) (A : u.allowed ≡ s.allowed) (R : u.reach ≡ s.reach) (M : u.made ≡ s.made)
+    module _ (u : scanner_t) (H : u.text ≡ s.text) (J : u.refusal ≡ s.refusal) (K : u.near ≡ s.near) (L : u.limit ≡ s.limit) (V : u.levels ≡ s.levels) (O : u.outer ≡ s.outer) (E : u.not_simple_keys ≡ s.not_simple_keys) (P : u.top ≡ s.top) (A : u.allowed ≡ s.allowed) (R : u.reach ≡ s.reach) (M : u.made ≡ s.made)
         (I : u.queue.items ≡ ys) (T : u.taken ≡ s.taken + 1) where
       course_same : course_of u ≡ course_of s
       unfolding course_of
@@ -94,6 +94,7 @@ module _ (s : scanner_t) (r : Runs s) (l : s.taken < length (before s.limit (his
         levels = rw V g.levels;
         columns = rw H g.columns;
         outer = rw (O, L) g.outer;
+        empty = rw (O, E) g.empty;
         top = rw (P, L) g.top;
         allowed = rw A g.allowed;
         first = step_behind h.token g.first;

@@ -18,6 +18,7 @@ use Rattle.yaml_scan.specs.Parser.{Parser, course_read}
 pub record IsNew (s : scanner_t) : Type 0 where
   pub levels : s.levels.items ≡ []
   pub outer : s.outer.items ≡ []
+  pub empty : s.not_simple_keys ≡ 0
   pub top : s.top ≡ None
   pub allowed : s.allowed ≡ true
   pub queue : s.queue.items ≡ []

@@ -18,7 +18,7 @@ use Rattle.yaml_scan.specs.Laid.{Laid, reach, depth, allowed, allowed_behind}
 use Rattle.yaml_scan.specs.Levels.{AllLess, laid, open_columns}
 use Rattle.yaml_scan.specs.Order.{IsHistory, ended}
 use Rattle.yaml_scan.specs.Offline.{Token, offline, before, handed_out}
-use Rattle.yaml_scan.specs.Slots.{held, outer_to}
+use Rattle.yaml_scan.specs.Slots.{held, outer_to, empty_slots}
 use Rattle.yaml_scan.specs.Numbered.{IsQueue}
 use Rattle.yaml_scan.specs.Step.{Outcome, step, read_step, stale, place_behind, front_of}
 use Rattle.yaml_scan.specs.Step.Outcome.{Reads, Faults}
@@ -45,6 +45,7 @@ pub record Holds (H : List Laid) (n : ℕ) (s : scanner_t) : Type 0 where
   pub levels : reverse s.levels.items ≡ open_columns H
   pub columns : AllLess (length s.text.chars + 1) (open_columns H)
   pub outer : s.outer.items ≡ outer_to s.limit H (depth H)
+  pub empty : s.not_simple_keys ≡ empty_slots s.outer.items
   pub top : s.top ≡ held s.limit H (depth H)
   pub allowed : s.allowed ≡ allowed_behind H
   pub first : ℕ

@@ -1,5 +1,5 @@
 -- The key slots of a running scanner, in the words of the definitions.
-use Rattle.std.specs.Prelude.{ℕ, zero, suc, ◌+◌, ◌-◌, take, slice_get, Bool, false, not, ◌&&◌, List, [], ◌∷◌, ◌++◌, length, nat_eq, nat_le, Option, Some, None, option_map, if◌then◌else◌}
+use Rattle.std.specs.Prelude.{◌≡◌, ◌≢◌, ℕ, zero, suc, ◌+◌, ◌-◌, ◌<◌, ◌≤◌, take, slice_get, Bool, false, not, ◌&&◌, List, [], ◌∷◌, ◌++◌, length, nat_eq, nat_le, Option, Some, None, option_map, if◌then◌else◌}
 use Rattle.yaml_text.specs.declared.types.yaml_mark_t.{yaml_mark_t}
 use Rattle.yaml_scan.specs.Kind.{Kind, is_flow_start, is_flow_end, is_value, is_candidate_kind}
 use Rattle.yaml_scan.specs.Laid.{Laid, names, candidate, reach, only_live}
@@ -46,6 +46,26 @@ slot_behind k allowed new old = if is_candidate_kind k then (if allowed then Som
 abbrev pub root_of : List (Option Held) → Option Held → Option Held
 root_of [] top = top
 root_of (h ∷ hs) top = h
+
+-- how many of the lowest slots are empty
+abbrev pub empty_slots : List (Option Held) → ℕ
+empty_slots [] = 0
+empty_slots (None ∷ hs) = suc (empty_slots hs)
+empty_slots (Some h ∷ hs) = 0
+
+-- the candidate of the least depth
+abbrev pub lowest : List (Option Held) → Option Held
+lowest [] = None
+lowest (None ∷ hs) = lowest hs
+lowest (Some h ∷ hs) = Some h
+
+-- no slot below n holds a candidate
+abbrev pub AreEmptyBelow : ℕ → List (Option Held) → Type 0
+AreEmptyBelow n hs = (k : ℕ) (h : Held) → k < n → slice_get hs k ≢ Some (Some h)
+
+-- candidates stand on one line, those of greater depths start no earlier
+abbrev pub AreNested : List (Option Held) → Type 0
+AreNested hs = (k n : ℕ) (h g : Held) → k < n → slice_get hs k ≡ Some (Some h) → slice_get hs n ≡ Some (Some g) → (g.start.line ≡ h.start.line) × (h.start.index ≤ g.start.index)
 
 -- what is held is the candidate whose token is number t
 abbrev pub waits : ℕ → Option Held → Bool

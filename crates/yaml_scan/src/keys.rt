@@ -1,8 +1,7 @@
 //! Simple keys: the candidate of each flow depth, which a `:` may yet make a key (YAML 1.1, section 7.4).
 ghost use Rattle.std.specs.Prelude.{◌≡◌, ◌+◌, ◌-◌, ◌&&◌, not, List, Option, None, map, IfOk, OnOk, if◌then◌else◌};
-ghost use Rattle.std.specs.List.{list_any};
 ghost use Rattle.yaml_scan.specs.Slots.{is_live, still_held, lost_held, needed, slot_behind, root_of, waits};
-ghost use Rattle.yaml_scan.specs.Slots.{completed_held, nested_outer, nested_top};
+ghost use Rattle.yaml_scan.specs.Slots.{completed_held, nested_outer, nested_top, empty_slots, lowest, AreEmptyBelow, AreNested};
 
 use crate::kind::{is_candidate, is_colon, is_flow_end, is_flow_start};
 use std::alloc::AllocError;
@@ -66,13 +65,44 @@ pub(crate) fn needed_at(slot: Option<held_t>, limit: u64, mark: yaml_mark_t) -> 
     }
 }
 
-/// Gives up the candidates that are stale at a mark.
-fn give_up_stale(slots: &mut Vec<Option<held_t>>, limit: u64, mark: yaml_mark_t)
-    ensures { slots.new.items ≡ map (still_held limit mark) slots.old.items }
+/// Gives up the candidates that are stale at a mark, and counts the lowest slots that are then empty.
+///
+/// An inner candidate starts no earlier, so behind the first live one all are live.
+fn give_up_stale(
+    slots: &mut Vec<Option<held_t>>,
+    empty: usize,
+    limit: u64,
+    mark: yaml_mark_t,
+) -> usize
+    requires empty { empty ≡ empty_slots slots.old.items }
+    requires nested { AreNested slots.old.items }
+    ensures slots { slots.new.items ≡ map (still_held limit mark) slots.old.items }
+    ensures empty { result ≡ empty_slots slots.new.items }
 {
-    for slot in slots.iter_mut() {
-        *slot = kept(*slot, limit, mark);
+    let mut empty = empty;
+    while empty < slots.len() {
+        if kept(slots[empty], limit, mark).is_some() {
+            return empty;
+        }
+        slots[empty] = None;
+        empty += 1;
     }
+    slots.len()
+}
+
+/// How many of the lowest slots are empty, where so many are known to be.
+fn count_empty(slots: &[Option<held_t>], empty: usize) -> usize
+    requires { AreEmptyBelow empty slots.now }
+    ensures { result ≡ empty_slots slots.now }
+{
+    let mut empty = empty;
+    while empty < slots.len() {
+        if slots[empty].is_some() {
+            return empty;
+        }
+        empty += 1;
+    }
+    slots.len()
 }
 
 /// The candidate of depth 0.
@@ -142,17 +172,23 @@ fn nest(
 /// Gives up what is stale at a mark, and changes the depth behind a lexeme.
 pub(crate) fn move_slots(
     outer: &mut Vec<Option<held_t>>,
+    empty: &mut usize,
     top: Option<held_t>,
     kind: yaml_lexeme_kind_t,
     limit: u64,
     mark: yaml_mark_t,
 ) -> Result<Option<held_t>, AllocError>
+    requires empty { empty.old ≡ empty_slots outer.old.items }
+    requires nested { AreNested outer.old.items }
     ensures outer { OnOk result (outer.new.items ≡ nested_outer kind (map (still_held limit mark) outer.old.items) (still_held limit mark top)) }
     ensures top { IfOk result (λ r. r ≡ nested_top kind (map (still_held limit mark) outer.old.items) (still_held limit mark top)) }
+    ensures empty { OnOk result (empty.new ≡ empty_slots outer.new.items) }
 {
-    give_up_stale(outer, limit, mark);
+    let below = give_up_stale(outer, *empty, limit, mark);
     let top = kept(top, limit, mark);
-    nest(outer, top, kind)
+    let top = nest(outer, top, kind)?;
+    *empty = count_empty(outer, below);
+    Ok(top)
 }
 
 fn waits_for(slot: Option<held_t>, taken: u128) -> bool
@@ -171,9 +207,13 @@ pub(crate) fn is_awaited(top: Option<held_t>, taken: u128) -> bool
     waits_for(top, taken)
 }
 
-/// The same of the outer depths.
-pub(crate) fn is_any_awaited(slots: &[Option<held_t>], taken: u128) -> bool
-    ensures { result ≡ list_any (waits taken) slots.now }
+/// The same of the lowest of the outer candidates.
+pub(crate) fn is_lowest_awaited(slots: &[Option<held_t>], empty: usize, taken: u128) -> bool
+    requires { empty ≡ empty_slots slots.now }
+    ensures { result ≡ waits taken (lowest slots.now) }
 {
-    slots.iter().any(|slot| waits_for(*slot, taken))
+    match slots.get(empty) {
+        None => false,
+        Some(slot) => waits_for(*slot, taken),
+    }
 }

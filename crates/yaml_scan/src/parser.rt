@@ -21,6 +21,9 @@ use yaml_text::{
     yaml_text_t, yaml_token_t,
 };
 
+#[cfg(test)]
+mod tests;
+
 /// A parser of an input: its tokens are asked for one after the other.
 #[derive(Drop)]
 pub struct yaml_parser_t<'a> {
@@ -66,6 +69,7 @@ fn new_scanner<'a>(alloc: Global, limit: u64) -> scanner_t<'a>
         limit,
         levels: Vec::new(alloc),
         outer: Vec::new(alloc),
+        not_simple_keys: 0,
         top: None,
         allowed: true,
         queue: VecDeque::new(alloc),

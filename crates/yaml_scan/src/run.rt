@@ -1,12 +1,11 @@
 //! The running scanner: steps are made as far as the next token asks for.
 ghost use Rattle.std.specs.Prelude.{◌≡◌, ◌⊎◌, ℕ, ◌+◌, ◌-◌, ◌<◌, ◌≤◌, ◌^◌, ◌&&◌, not, nat_lt, length, true, false, MatchResult};
-ghost use Rattle.std.specs.List.{list_any};
 ghost use Rattle.yaml_text.specs.Fault.{fault_of, memory_fault};
 ghost use Rattle.yaml_scan.specs.Offline.{before};
 ghost use Rattle.yaml_scan.specs.Order.{ended};
 ghost use Rattle.yaml_scan.specs.Scanning.{Runs, Steps, IsLast, Stays, IsOpen, Settles, Fails, Stops, history};
 
-use crate::keys::{is_any_awaited, is_awaited};
+use crate::keys::{is_awaited, is_lowest_awaited};
 use crate::step::{lay, meet, scanner_t};
 use std::alloc::Global;
 use yaml_text::{yaml_error_type_t, yaml_fault_t, yaml_mark_t, yaml_token_t};
@@ -23,7 +22,7 @@ fn is_settled(scanner: &scanner_t) -> bool
     ensures { result ≡ nat_lt scanner.now.taken (length (before scanner.now.limit (history scanner.now))) }
 {
     let empty = scanner.queue.is_empty();
-    let outer = is_any_awaited(&scanner.outer, scanner.taken);
+    let outer = is_lowest_awaited(&scanner.outer, scanner.not_simple_keys, scanner.taken);
     let top = is_awaited(scanner.top, scanner.taken);
     is_none_of(empty, outer, top)
 }

@@ -33,6 +33,8 @@ pub(crate) struct scanner_t<'a> {
     pub levels: Vec<u64>,
     /// The candidates of the depths below the present one.
     pub outer: Vec<Option<held_t>>,
+    /// How many of the lowest of these are empty: no slot below holds a candidate.
+    pub not_simple_keys: usize,
     /// The candidate of the present depth.
     pub top: Option<held_t>,
     /// Whether a key is allowed behind the last lexeme.
@@ -233,7 +235,14 @@ pub(crate) fn lay(alloc: Global, scanner: &mut scanner_t, met: met_t) -> Result<
     let top = settle(met.kind, met.allowed, new, scanner.top);
     let root = root(&scanner.outer, top);
     refuse_lost(lost_at(root, scanner.limit, reach), reach)?;
-    scanner.top = move_slots(&mut scanner.outer, top, met.kind, scanner.limit, reach)?;
+    scanner.top = move_slots(
+        &mut scanner.outer,
+        &mut scanner.not_simple_keys,
+        top,
+        met.kind,
+        scanner.limit,
+        reach,
+    )?;
     scanner.allowed = is_allowed_after(met.kind, margin, completed.is_none(), passed_break);
     scanner.reach = reach;
     Ok(())

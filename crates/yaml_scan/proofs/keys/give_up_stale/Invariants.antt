@@ -1,6 +1,14 @@
-use Rattle.std.proofs.Common.{◌≡◌, ℕ, ◌++◌, map, take, drop}
-use Rattle.yaml_scan.specs.Slots.{still_held}
+use Rattle.std.proofs.Common.{◌≡◌, ℕ, ◌-◌, map, length, Some}
+use Rattle.std.specs.Prelude.{slice_get}
+use Rattle.yaml_scan.specs.Slots.{Held, still_held, AreEmptyBelow}
 use Rattle.yaml_scan.proofs.keys.give_up_stale.Given as goal
 
-abbrev pub invariant-loop-slot : goal.invariant-loop-slot
-invariant-loop-slot l = l.slot-items ≡ map (still_held l.limit l.mark) (take l.slot-index l.fn.slots.items) ++ drop l.slot-index l.fn.slots.items
+abbrev pub invariant-loop-empty : goal.invariant-loop-empty
+invariant-loop-empty l = record {
+  swept : map (still_held l.limit l.mark) l.slots.items ≡ map (still_held l.limit l.mark) l.fn.slots.items;
+  below : AreEmptyBelow l.empty l.slots.items;
+  held : (k : ℕ) (h : Held) → slice_get l.slots.items k ≡ Some (Some h) → slice_get l.fn.slots.items k ≡ Some (Some h);
+}
+
+abbrev pub decreases-loop-empty : goal.decreases-loop-empty
+decreases-loop-empty l = length l.slots.items - l.empty

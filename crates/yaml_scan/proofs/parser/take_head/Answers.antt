@@ -13,4 +13,4 @@ pub overflow_add-scanner : goal.overflow_add-scanner
 overflow_add-scanner c = let f = few_taken c.args.scanner.now c.requires.runs in omega arith
 
 pub returns : goal.returns
-returns c = pops c.args.scanner.now c.requires.runs c.requires.settled c.unwrap-queued.result c.pop_front.new.self.items (c.pop_front.ensures.items ∙ ap (λ (o : Option queued_t). option_to_list o ++ c.pop_front.new.self.items) c.unwrap-queued.ensures) _ refl refl refl refl refl refl refl refl refl refl refl refl
+returns c = pops c.args.scanner.now c.requires.runs c.requires.settled c.unwrap-queued.result c.pop_front.new.self.items (c.pop_front.ensures.items ∙ ap (λ (o : Option queued_t). option_to_list o ++ c.pop_front.new.self.items) c.unwrap-queued.ensures) _ refl refl refl refl refl refl refl refl refl refl refl refl refl

@@ -1,12 +1,14 @@
-use Rattle.std.proofs.Common.{◌≡◌, ℕ, ◌+◌, ◌^◌, ◌<◌, ◌≤◌, List, length, reverse, ap, ◌∙◌, refl, sym, inl, inr, arith}
+use Rattle.std.proofs.Common.{subst, Option, ℕ, ◌+◌, List, reverse, ap, ◌∙◌, refl, sym, inl, inr, arith}
 use Rattle.std.proofs.lemmas.Result.{err_from_is_err_and}
 use Rattle.yaml_text.specs.declared.types.yaml_mark_t.{yaml_mark_t}
 use Rattle.yaml_scan.specs.Levels.{greatest_level}
+use Rattle.yaml_scan.specs.Slots.{Held, AreNested}
 use Rattle.yaml_scan.specs.SourceOf.{source_of}
 use Rattle.yaml_scan.specs.Step.{front_of}
 use Rattle.yaml_scan.proofs.TextOrder.{text_sums}
 use Rattle.yaml_scan.proofs.Refusals.{mark_is}
 use Rattle.yaml_scan.proofs.Advances.{levels_fall, l_falls, level_within, kind_there, row_offence, history, place_within, index_is, place_then, fitting, levels_then, columns_then, queue_then, allowed_then, row_stale, step_reads, fresh_then, outer_then, top_then, taken_then, reach_then}
+use Rattle.yaml_scan.proofs.HeldOrder.{outer_nested}
 use Rattle.yaml_scan.proofs.step.lay.Goals as goal
 
 pub start_behind-start-requires : goal.start_behind-start-requires
@@ -41,6 +43,9 @@ pub returns-in_err-refuse_lost : goal.returns-in_err-refuse_lost
 returns-in_err-refuse_lost g c = let p = err_from_is_err_and c.from_residual-in_err-refuse_lost.result c.from_residual-in_err-refuse_lost.ensures.1 in rw (p.1, p.2)
     (inr (row_stale g.before (c.args.scanner.now.made + 1) c.args.scanner.now c.requires.0 c.requires.1.0 c.args.met c.requires.1.1.1.1.1 c.is_empty-margin.result c.is_empty-margin.ensures c.start_behind-start.result c.start_behind-start.ensures c.close_levels.new.levels.items c.in_ok-close_levels.ensures.levels c.top_level-level.result (c.top_level-level.ensures ∙ ap (λ (l : List ℕ). greatest_level (reverse l)) c.deref.ensures.value) c.len.result c.len.ensures c.in_ok-x.x (c.in_ok-x.ensures (front_of (source_of c.args.scanner.now.text.chars) g.before) c.requires.1.1.1.1.1.front) c.completed_by-completed.result c.completed_by-completed.ensures c.close_levels.new.queue.items c.in_ok-close_levels.ensures.queue record { at = c.args.scanner.now.taken + c.len-2.result; start = c.start_behind-start.result; required = c.is_level.result } (omega (arith, c.len-2.ensures)) refl c.is_level.ensures c.args.met.allowed c.requires.1.1.1.1.1.allowed c.settle-top.result c.settle-top.ensures c.root-root.result c.deref-2.result.now c.deref-2.ensures.value c.root-root.ensures c.lost_at.result c.lost_at.ensures _ c.in_err-refuse_lost.ensures), record { same = record { text = refl; refusal = refl; near = refl; limit = refl; taken = refl }; made = refl; reach = refl })
 
+pub move_slots-requires-clause-nested : goal.move_slots-requires-clause-nested
+move_slots-requires-clause-nested g c = let r = c.requires.0 in subst (λ (hs : List (Option Held)). AreNested hs) (sym r.outer) (outer_nested c.args.scanner.now.limit g.before r.is_history)
+
 pub returns : goal.returns
 returns g c = record {
   lexeme = _;
@@ -52,6 +57,7 @@ returns g c = record {
     levels = levels_then g.before (c.args.scanner.now.made + 1) c.args.scanner.now c.requires.0 c.requires.1.0 c.args.met c.requires.1.1.1.1.1 c.is_empty-margin.result c.is_empty-margin.ensures c.start_behind-start.result c.start_behind-start.ensures c.close_levels.new.levels.items c.in_ok-close_levels.ensures.levels c.top_level-level.result (c.top_level-level.ensures ∙ ap (λ (l : List ℕ). greatest_level (reverse l)) c.deref.ensures.value) c.len.result c.len.ensures c.in_ok-x.x (c.in_ok-x.ensures (front_of (source_of c.args.scanner.now.text.chars) g.before) c.requires.1.1.1.1.1.front) c.completed_by-completed.result c.completed_by-completed.ensures c.close_levels.new.queue.items c.in_ok-close_levels.ensures.queue c.queue_lexeme.new.levels.items c.in_ok-queue_lexeme.ensures.levels;
     columns = columns_then g.before (c.args.scanner.now.made + 1) c.args.scanner.now c.requires.0 c.requires.1.0 c.args.met c.requires.1.1.1.1.1 c.is_empty-margin.result c.is_empty-margin.ensures c.start_behind-start.result c.start_behind-start.ensures c.close_levels.new.levels.items c.in_ok-close_levels.ensures.levels c.top_level-level.result (c.top_level-level.ensures ∙ ap (λ (l : List ℕ). greatest_level (reverse l)) c.deref.ensures.value) c.len.result c.len.ensures c.in_ok-x.x (c.in_ok-x.ensures (front_of (source_of c.args.scanner.now.text.chars) g.before) c.requires.1.1.1.1.1.front) c.completed_by-completed.result c.completed_by-completed.ensures c.close_levels.new.queue.items c.in_ok-close_levels.ensures.queue;
     outer = outer_then g.before (c.args.scanner.now.made + 1) c.args.scanner.now c.requires.0 c.requires.1.0 c.args.met c.requires.1.1.1.1.1 c.is_empty-margin.result c.is_empty-margin.ensures c.start_behind-start.result c.start_behind-start.ensures c.close_levels.new.levels.items c.in_ok-close_levels.ensures.levels c.top_level-level.result (c.top_level-level.ensures ∙ ap (λ (l : List ℕ). greatest_level (reverse l)) c.deref.ensures.value) c.len.result c.len.ensures c.in_ok-x.x (c.in_ok-x.ensures (front_of (source_of c.args.scanner.now.text.chars) g.before) c.requires.1.1.1.1.1.front) c.completed_by-completed.result c.completed_by-completed.ensures c.close_levels.new.queue.items c.in_ok-close_levels.ensures.queue record { at = c.args.scanner.now.taken + c.len-2.result; start = c.start_behind-start.result; required = c.is_level.result } (omega (arith, c.len-2.ensures)) refl c.is_level.ensures c.args.met.allowed c.requires.1.1.1.1.1.allowed c.settle-top.result c.settle-top.ensures c.move_slots.new.outer.items c.in_ok-scanner.ensures.outer;
+    empty = c.in_ok-scanner.ensures.empty;
     top = top_then g.before (c.args.scanner.now.made + 1) c.args.scanner.now c.requires.0 c.requires.1.0 c.args.met c.requires.1.1.1.1.1 c.is_empty-margin.result c.is_empty-margin.ensures c.start_behind-start.result c.start_behind-start.ensures c.close_levels.new.levels.items c.in_ok-close_levels.ensures.levels c.top_level-level.result (c.top_level-level.ensures ∙ ap (λ (l : List ℕ). greatest_level (reverse l)) c.deref.ensures.value) c.len.result c.len.ensures c.in_ok-x.x (c.in_ok-x.ensures (front_of (source_of c.args.scanner.now.text.chars) g.before) c.requires.1.1.1.1.1.front) c.completed_by-completed.result c.completed_by-completed.ensures c.close_levels.new.queue.items c.in_ok-close_levels.ensures.queue record { at = c.args.scanner.now.taken + c.len-2.result; start = c.start_behind-start.result; required = c.is_level.result } (omega (arith, c.len-2.ensures)) refl c.is_level.ensures c.args.met.allowed c.requires.1.1.1.1.1.allowed c.settle-top.result c.settle-top.ensures _ c.in_ok-scanner.ensures.top;
     allowed = allowed_then g.before (c.args.scanner.now.made + 1) c.args.scanner.now c.requires.0 c.requires.1.0 c.args.met c.requires.1.1.1.1.1 c.is_empty-margin.result c.is_empty-margin.ensures c.start_behind-start.result c.start_behind-start.ensures c.close_levels.new.levels.items c.in_ok-close_levels.ensures.levels c.top_level-level.result (c.top_level-level.ensures ∙ ap (λ (l : List ℕ). greatest_level (reverse l)) c.deref.ensures.value) c.len.result c.len.ensures c.in_ok-x.x (c.in_ok-x.ensures (front_of (source_of c.args.scanner.now.text.chars) g.before) c.requires.1.1.1.1.1.front) c.completed_by-completed.result c.completed_by-completed.ensures c.close_levels.new.queue.items c.in_ok-close_levels.ensures.queue c.is_none.result c.is_none.ensures c.is_allowed_after-scanner.result c.is_allowed_after-scanner.ensures;
     first = c.requires.0.first;
