@@ -1,10 +1,12 @@
 #!/usr/bin/env python3
 """Compares the program with the files of tests/vectors: vectors.py PROGRAM.
 
-A line of such a file has three parts, parted by tabs: the words of a command, the input in hexadecimal (`-` where it is
-empty), and the lines that are wanted, joined by ` / `. The exit status must be 1 where one of them is a fault, else 0.
+A line of such a file, which may be compressed, has three parts, parted by tabs: the words of a command, the input in
+hexadecimal (`-` where it is empty), and the lines that are wanted, joined by ` / `. The exit status must be 1 where one of
+them is a fault, else 0.
 """
 
+import gzip
 import os
 import subprocess
 import sys
@@ -13,7 +15,8 @@ from concurrent.futures import ThreadPoolExecutor
 
 def vectors(folder):
     for name in sorted(os.listdir(folder)):
-        with open(os.path.join(folder, name), encoding="ascii") as lines:
+        opened = gzip.open if name.endswith(".gz") else open
+        with opened(os.path.join(folder, name), "rt", encoding="ascii") as lines:
             for number, line in enumerate(lines, 1):
                 words, data, wanted = line.rstrip("\n").split("\t")
                 yield f"{name}:{number}", words.split(" "), bytes.fromhex(data.strip("-")), wanted.split(" / ") if wanted else []
