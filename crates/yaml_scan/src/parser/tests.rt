@@ -9,7 +9,7 @@ fn counter_rises_past_a_stale_slot(rt: HostRuntime) -> Result<(), Fail> {
     let token = yaml_parser_scan(&mut parser).map_err(|_| "a fault")?;
     assert_eq!(rt; token.type_(), yaml_token_type_t::YAML_STREAM_START_TOKEN);
     assert_eq!(rt; parser.scanner.not_simple_keys, 0);
-    let token = yaml_parser_scan(&mut parser).map_err(|_| "a fault")?;
+    let token = yaml_parser_peek(&mut parser).map_err(|_| "a fault")?;
     assert_eq!(rt;
         token.type_(),
         yaml_token_type_t::YAML_FLOW_SEQUENCE_START_TOKEN
