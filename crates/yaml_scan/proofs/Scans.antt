@@ -317,8 +317,10 @@ module _ (p q : Parser) (o : p.session.over ≡ false) where
 
   pub scan_shown : (x : yaml_token_t) (r : Parser) → Shows p (Ok tt) q → x ≡ token_shown q → r ≡ behind q SKIP → Scans p (Ok x) r
   scan_shown x r (inl a) e f = (let y = shown_token (token_shown q) a.0 in
-      inl (ap TOKEN (e ∙ y.2) ∙ sym (open_scan ∙ ap (λ (n : Option Token). scan_answer (input_read p).encoding (course_read p) n) y.1),
-        f ∙ ap (λ (z : Parser). behind z SKIP) a.1 ∙ taken_behind y.0 y.1))
+      inl (
+        ap TOKEN (e ∙ y.2) ∙ sym (open_scan ∙ ap (λ (n : Option Token). scan_answer (input_read p).encoding (course_read p) n) y.1),
+        f ∙ ap (λ (z : Parser). behind z SKIP) a.1 ∙ taken_behind y.0 y.1,
+      ))
   scan_shown x r (inr a) e f = absurd (let n = a.0 in cc)
 
   -- and where there is no next token, as the peek
