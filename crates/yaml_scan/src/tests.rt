@@ -99,7 +99,10 @@ fn a_fault_is_answered_once(rt: HostRuntime) -> Result<(), Fail> {
     }
     assert!(rt; yaml_parser_peek(&mut parser).is_err());
     for call in [b'p', b's'] {
-        assert_eq!(rt; called(&mut parser, call)?, yaml_token_type_t::YAML_NO_TOKEN);
+        assert_eq!(rt;
+            called(&mut parser, call)?,
+            yaml_token_type_t::YAML_NO_TOKEN
+        );
         assert!(rt; !yaml_parser_has_token(&parser));
     }
     let fault = yaml_parser_fault(&parser).map(|fault| fault.problem_mark.column);
