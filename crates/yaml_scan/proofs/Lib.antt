@@ -52,3 +52,4 @@ pub mod LastTokens
 pub mod AllScanned
 pub mod AllLaws
 pub mod CallRuns
+pub mod Telling
