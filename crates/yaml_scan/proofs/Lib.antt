@@ -53,3 +53,4 @@ pub mod AllScanned
 pub mod AllLaws
 pub mod CallRuns
 pub mod Telling
+pub mod AllTold

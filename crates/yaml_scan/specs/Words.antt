@@ -1,5 +1,5 @@
 -- What is answered can be put in words.
-use Rattle.std.specs.Prelude.{ℕ, ◌≢◌, List, [], ◌∷◌, IsSome, IfSome}
+use Rattle.std.specs.Prelude.{ℕ, ◌≢◌, List, [], ◌∷◌, Option, IsSome, IfSome}
 use Rattle.yaml_text.specs.declared.types.yaml_encoding_t.{yaml_encoding_t}
 use Rattle.yaml_text.specs.declared.types.yaml_encoding_t.TheVariants.{YAML_ANY_ENCODING}
 use Rattle.yaml_text.specs.declared.types.yaml_error_type_t.{yaml_error_type_t}
@@ -34,9 +34,13 @@ abbrev pub HaveWords : List yaml_token_t → Type 0
 HaveWords [] = Unit {0}
 HaveWords (t ∷ ts) = HasWords t.token_data × HaveWords ts
 
--- of every input
+-- the tokens and the fault of an answer
+abbrev pub HaveLines : List yaml_token_t → Option Fault → Type 0
+HaveLines tokens fault = HaveWords tokens × IfSome fault HasLine
+
+-- what any input is answered with
 abbrev pub AllHaveLines : Type 0
-AllHaveLines = (limit : ℕ) (setting : yaml_encoding_t) (input : List ℕ) → HaveWords (answers_to limit setting input).tokens × IfSome (answers_to limit setting input).fault HasLine
+AllHaveLines = (limit : ℕ) (setting : yaml_encoding_t) (input : List ℕ) → HaveLines (answers_to limit setting input).tokens (answers_to limit setting input).fault
 
 -- an answer to a call, of which a peek shows a type and marks alone
 abbrev pub AnswerHasLine : Answer → Type 0
