@@ -54,3 +54,4 @@ pub mod AllLaws
 pub mod CallRuns
 pub mod Telling
 pub mod AllTold
+pub mod CallsTold

@@ -31,3 +31,4 @@ pub mod Inputs
 pub mod All
 pub mod Calls
 pub mod Words
+pub mod CallWords
