@@ -5,6 +5,7 @@
 //! of a fault, 2 for wrong arguments, and 3 where a read or a write failed or memory was refused.
 #![tactic(auto)]
 
+mod answer;
 mod args;
 mod devices;
 mod listing;

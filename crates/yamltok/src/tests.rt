@@ -1,7 +1,7 @@
 //! The program over devices in memory.
 ghost use Rattle.std.specs.Prelude.{◌≡◌, ◌≢◌, false};
 ghost use Rattle.yaml_text.specs.declared.types.yaml_scalar_style_t.TheVariants.{YAML_ANY_SCALAR_STYLE};
-ghost use Rattle.yamltok.specs.Listing.{HasWords};
+ghost use Rattle.yaml_scan.specs.Words.{HasWords};
 ghost use Rattle.yamltok.specs.Devices.{source_failed, sink_failed};
 
 use crate::args::parse_args;
