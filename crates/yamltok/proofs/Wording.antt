@@ -1,5 +1,5 @@
 -- Each of a list has a line.
-use Rattle.std.proofs.Common.{◌≡◌, ℕ, zero, suc, ◌<◌, List, [], ◌∷◌, map, length, get_or, arith}
+use Rattle.std.proofs.Common.{ℕ, zero, suc, ◌<◌, List, [], ◌∷◌, map, length, get_or, arith}
 use Rattle.yaml_text.specs.declared.token.yaml_token_t.{yaml_token_t}
 use Rattle.yaml_scan.specs.Words.{HasWords, HaveWords}
 use Rattle.yaml_scan.specs.Calls.{Seen}

@@ -1,4 +1,4 @@
-use Rattle.std.proofs.Common.{◌<◌, length, sym, subst, arith}
+use Rattle.std.proofs.Common.{sym, subst, arith}
 use Rattle.yaml_text.specs.declared.token.yaml_token_t.{yaml_token_t}
 use Rattle.yaml_scan.specs.Words.{HasWords}
 use Rattle.yamltok.proofs.Wording.{words_at}
