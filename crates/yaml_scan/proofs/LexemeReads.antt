@@ -77,8 +77,8 @@ lex_goes_on kind.PLAIN c p = made_on p (plain (in_flow c) (least c) p) (λ x. sc
 
 -- WHAT IT SAYS
 -- what is read passes a test
-record Gives {A : Type 0} (test : A → Bool) (r : Result A Offence) : Type 0 where
-  is : (x : A) → r ≡ Ok x → test x ≡ true
+pub record Gives {A : Type 0} (test : A → Bool) (r : Result A Offence) : Type 0 where
+  pub is : (x : A) → r ≡ Ok x → test x ≡ true
 
 ok_same : {A : Type 0} (x y : A) (r : Result A Offence) → r ≡ Ok x → r ≡ Ok y → x ≡ y
 ok_same x y r e f = cc
@@ -86,11 +86,11 @@ ok_same x y r e f = cc
 err_ok : {A : Type 0} {X : Type 0} (o : Offence) (x : A) (r : Result A Offence) → r ≡ Err o → r ≡ Ok x → X
 err_ok o x r e f = cc
 
-abbrev is_tag_type : yaml_token_type_t → Bool
+abbrev pub is_tag_type : yaml_token_type_t → Bool
 is_tag_type YAML_TAG_TOKEN = true
 is_tag_type _ = false
 
-abbrev is_directive_type : yaml_token_type_t → Bool
+abbrev pub is_directive_type : yaml_token_type_t → Bool
 is_directive_type YAML_VERSION_DIRECTIVE_TOKEN = true
 is_directive_type YAML_TAG_DIRECTIVE_TOKEN = true
 is_directive_type _ = false
@@ -119,10 +119,10 @@ any_gives : {A : Type 0} (r : Result A Offence) → Gives any r
 any_gives r = record { is = λ x e. refl }
 
 -- TAGS AND DIRECTIVES
-abbrev is_tag : Found unnamed_yaml_token_t_data → Bool
+abbrev pub is_tag : Found unnamed_yaml_token_t_data → Bool
 is_tag x = is_tag_type (type_of x.value)
 
-abbrev is_directive : Found unnamed_yaml_token_t_data → Bool
+abbrev pub is_directive : Found unnamed_yaml_token_t_data → Bool
 is_directive x = is_directive_type (type_of x.value)
 
 lone_is : (cs : List ℕ) → is_tag_type (type_of (lone cs)) ≡ true
@@ -139,7 +139,7 @@ handled_gives p = if_gives (first (behind is_alpha p) == 0x21)
     (bind_gives (any_gives (some_uri false (skip 1 (behind is_alpha p)))) (λ (r : Found (List ℕ)) e. found_gives refl))
     (bind_gives (any_gives (uri false (behind is_alpha p))) (λ (r : Found (List ℕ)) e. found_gives (lone_is (run is_alpha p ++ r.value))))
 
-tag_gives : (flow : Bool) (p : Place) → Gives is_tag (tag flow p)
+pub tag_gives : (flow : Bool) (p : Place) → Gives is_tag (tag flow p)
 unfolding tag
 tag_gives flow p = bind_gives {was = is_tag} (if_gives (first (skip 1 p) == 0x3C) (angled_gives (skip 1 p)) (handled_gives (skip 1 p))) (λ (t : Found unnamed_yaml_token_t_data) e. if_gives (ends (first t.end) || (flow && first t.end == 0x2C)) (found_gives e) refuse_gives)
 
@@ -156,10 +156,10 @@ unfolding named
 named_gives letters p = if_gives (bytes_eq letters (codes "YAML")) (version_gives p) (if_gives (bytes_eq letters (codes "TAG")) (tag_directive_gives p) refuse_gives)
 
 -- of what a directive says
-abbrev GivesIn : {A : Type 0} → Read A → (A → unnamed_yaml_token_t_data) → Type 0
+abbrev pub GivesIn : {A : Type 0} → Read A → (A → unnamed_yaml_token_t_data) → Type 0
 GivesIn r says = Gives (λ x. is_directive_type (type_of (says x.value))) r
 
-directive_gives : (p : Place) → GivesIn (directive p) (λ d. d.says)
+pub directive_gives : (p : Place) → GivesIn (directive p) (λ d. d.says)
 unfolding directive
 directive_gives p =
     let letters = run is_alpha (skip 1 p) in

@@ -54,3 +54,6 @@ pub mod LastTokens
 pub mod AllScanned
 pub mod AllLaws
 pub mod CallRuns
+pub mod Telling
+pub mod AllTold
+pub mod CallsTold

@@ -30,3 +30,5 @@ pub mod Locality
 pub mod Inputs
 pub mod All
 pub mod Calls
+pub mod Words
+pub mod CallWords

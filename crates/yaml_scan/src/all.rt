@@ -4,6 +4,7 @@ ghost use Rattle.yaml_text.specs.Fault.{fault_of};
 ghost use Rattle.yaml_scan.specs.Session.{new_session};
 ghost use Rattle.yaml_scan.specs.AnswerLaws.{StandInOrder};
 ghost use Rattle.yaml_scan.specs.Inputs.{IsLocal};
+ghost use Rattle.yaml_scan.specs.Words.{HaveLines};
 ghost use Rattle.yaml_scan.specs.All.{ReadsAll, EndNoMore, EndAll, FollowKeys, depth_of};
 
 use crate::parser::{is_stream_end, yaml_parser_scan, yaml_parser_t};
@@ -46,6 +47,7 @@ pub fn yaml_scan_all(
     ensures ends { IfOk result (λ r. EndNoMore r.0.items) }
     ensures ends_all { IfOk result (λ r. EndAll (depth_of 1024 setting input.now) r.0.items (option_map fault_of r.1)) }
     ensures keys { IfOk result (λ r. FollowKeys 1024 r.0.items (option_map fault_of r.1)) }
+    ensures lines { IfOk result (λ r. HaveLines r.0.items (option_map fault_of r.1)) }
     ensures local { IsLocal 1024 setting input.now }
 {
     yaml_scan_all_limit(alloc, input, setting, 1024)
@@ -65,6 +67,7 @@ pub fn yaml_scan_all_limit(
     ensures ends { IfOk result (λ r. EndNoMore r.0.items) }
     ensures ends_all { IfOk result (λ r. EndAll (depth_of limit setting input.now) r.0.items (option_map fault_of r.1)) }
     ensures keys { IfOk result (λ r. FollowKeys limit r.0.items (option_map fault_of r.1)) }
+    ensures lines { IfOk result (λ r. HaveLines r.0.items (option_map fault_of r.1)) }
     ensures local { IsLocal limit setting input.now }
 {
     let mut parser = yaml_parser_t::with_key_limit(alloc, input, setting, limit);

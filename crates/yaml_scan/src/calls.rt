@@ -5,6 +5,7 @@ ghost use Rattle.yaml_text.specs.Fault.{fault_of};
 ghost use Rattle.yaml_scan.specs.Session.{session_queued};
 ghost use Rattle.yaml_scan.specs.Session.Call.{SCAN, PEEK, SKIP};
 ghost use Rattle.yaml_scan.specs.Parser.{course_read};
+ghost use Rattle.yaml_scan.specs.CallWords.{RunHasLines};
 ghost use Rattle.yaml_scan.specs.Inputs.{IsLocal};
 
 use crate::parser::{
@@ -118,6 +119,7 @@ pub fn yaml_run(
     ensures refused { OnErr result ((parser.new ≡ parser.old) × (out.new.items ≡ out.old.items)) }
     ensures few { session_queued (course_read parser.new) parser.new.session ≤ parser.new.limit + 1 }
     ensures taken { TakesNext parser.old (map call_of calls.now) }
+    ensures lines { RunHasLines parser.old (map call_of calls.now) }
     ensures local { IsLocal parser.old.limit parser.old.setting parser.old.input }
 {
     few_wait(parser);

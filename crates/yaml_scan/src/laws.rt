@@ -137,3 +137,12 @@ pub fn laws_of_any_input()
     ensures keys { AllFollowKeys }
     ensures late { LateFaults }
 {}
+
+ghost use Rattle.yaml_scan.specs.Words.{AllHaveLines, SessionsHaveLines};
+
+/// Every token and every fault that is answered can be put in words: the encoding of a stream and the style of a scalar
+/// are told, and a fault is of kind memory, or of kind reader or scanner with a problem text.
+pub fn answers_have_lines()
+    ensures inputs { AllHaveLines }
+    ensures sessions { SessionsHaveLines }
+{}

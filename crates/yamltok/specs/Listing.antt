@@ -1,5 +1,5 @@
 -- The lines that the program writes.
-use Rattle.std.specs.Prelude.{ℕ, ◌/◌, ◌%◌, ℤ, ◌≢◌, List, [], ◌∷◌, ◌++◌, length, flat_map, Option, Some, None, Result, Ok, Err, IsSome, codes}
+use Rattle.std.specs.Prelude.{ℕ, ◌/◌, ◌%◌, ℤ, Bool, true, false, List, [], ◌∷◌, ◌++◌, length, flat_map, Option, Some, None, Result, Ok, Err, codes}
 use Rattle.std.specs.List.{join_by}
 use Rattle.std.specs.Char.{digit_char}
 use Rattle.std.specs.Fmt.{decimal, signed_decimal}
@@ -20,6 +20,8 @@ use Rattle.yaml_text.specs.Chars.{utf8}
 use Rattle.yaml_text.specs.Mark.{mark_of}
 use Rattle.yaml_text.specs.Text.{Text}
 use Rattle.yaml_text.specs.Fault.{Fault}
+use Rattle.yaml_scan.specs.Calls.{Seen}
+use Rattle.yaml_scan.specs.Calls.Seen.{TOKEN, PEEKED, SKIPPED, NOTHING, FAULT}
 
 -- a line of these parts, with a space between each two
 abbrev pub line_by : {X : Type 0} → (X → List ℕ) → List X → List ℕ
@@ -66,16 +68,6 @@ fault_line_as _ f = []
 -- the line of a fault
 abbrev pub fault_line : Fault → List ℕ
 fault_line f = fault_line_as f.error f
-
--- a fault has a line if it is of kind memory, or of kind reader or scanner with a problem text
-abbrev pub HasLineAs : yaml_error_type_t → Fault → Type 0
-HasLineAs YAML_READER_ERROR f = IsSome f.problem
-HasLineAs YAML_SCANNER_ERROR f = IsSome f.problem
-HasLineAs YAML_MEMORY_ERROR f = Unit {0}
-HasLineAs _ f = ⊥
-
-abbrev pub HasLine : Fault → Type 0
-HasLine f = HasLineAs f.error f
 
 -- the line of a decoded text: its encoding, the number of its bytes and the mark of its end
 abbrev pub text_line : Text → List ℕ
@@ -158,8 +150,27 @@ token_line t = line (head_parts (type_of t.token_data) t.start_mark t.end_mark +
 abbrev pub peek_line : yaml_token_type_t → yaml_mark_t → yaml_mark_t → List ℕ
 peek_line kind start end = line (codes "PEEK" ∷ head_parts kind start end)
 
--- a token has a line if the encoding of a stream and the style of a scalar are told
-abbrev pub HasWords : unnamed_yaml_token_t_data → Type 0
-HasWords (STREAM_START encoding) = encoding ≢ YAML_ANY_ENCODING
-HasWords (SCALAR value style) = style ≢ YAML_ANY_SCALAR_STYLE
-HasWords _ = Unit {0}
+-- ANSWERS
+-- the lines of tokens
+abbrev pub token_lines : List yaml_token_t → List ℕ
+token_lines tokens = flat_map token_line tokens
+
+-- and of the fault behind them, if there is one
+abbrev pub fault_lines : Option Fault → List ℕ
+fault_lines None = []
+fault_lines (Some fault) = fault_line fault
+
+-- the line of an answer to a call
+abbrev pub answer_line : Seen → List ℕ
+answer_line (TOKEN token) = token_line token
+answer_line (PEEKED kind start end) = peek_line kind start end
+answer_line SKIPPED = line (codes "SKIP" ∷ [])
+answer_line NOTHING = line (codes "SKIP" ∷ codes "NOTHING" ∷ [])
+answer_line (FAULT fault) = fault_line fault
+
+abbrev pub answer_lines : List Seen → List ℕ
+answer_lines answers = flat_map answer_line answers
+
+abbrev pub is_fault : Seen → Bool
+is_fault (FAULT fault) = true
+is_fault _ = false

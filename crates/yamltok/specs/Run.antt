@@ -1,5 +1,6 @@
 -- What the program does with what it reads.
-use Rattle.std.specs.Prelude.{ℕ, ◌≡◌, ◌<◌, ◌⊎◌, Bool, List, length, take, Option, Result, Err, is_err}
+use Rattle.std.specs.Prelude.{ℕ, ◌≡◌, ◌==◌, ◌<◌, ◌⊎◌, Bool, false, if◌then◌else◌, List, ◌++◌, length, map, take, Option, is_some, Result, Err, is_err}
+use Rattle.std.specs.List.{list_any}
 use Rattle.std.specs.Io.KnownBytes.{Appends, Consumes, IsAtEnd}
 use Rattle.yaml_text.specs.declared.types.yaml_encoding_t.{yaml_encoding_t}
 use Rattle.yaml_text.specs.declared.types.yaml_encoding_t.TheVariants.{YAML_UTF8_ENCODING}
@@ -7,12 +8,20 @@ use Rattle.yaml_text.specs.Text.{Text}
 use Rattle.yaml_text.specs.Fault.{Fault, memory_fault}
 use Rattle.yaml_text.specs.Decode.{decoded, encoding_of}
 use Rattle.yamltok.specs.declared.args.yaml_command_t.{yaml_command_t}
-use Rattle.yamltok.specs.declared.args.yaml_command_t.TheVariants.{Decode}
-use Rattle.yamltok.specs.Listing.{decode_line}
+use Rattle.yamltok.specs.declared.args.yaml_command_t.TheVariants.{Decode, Scan, ScanLimit, Calls}
+use Rattle.yaml_scan.specs.declared.calls.yaml_call_t.{yaml_call_t}
+use Rattle.yaml_scan.specs.declared.calls.yaml_call_t.TheVariants.{SCAN, PEEK, SKIP}
+use Rattle.yaml_scan.specs.Token.{yaml_token_t}
+use Rattle.yaml_scan.specs.Session.{Call, new_session}
+use Rattle.yaml_scan.specs.Parser.{Parser}
+use Rattle.yaml_scan.specs.All.{ReadsAll}
+use Rattle.yaml_scan.specs.Calls.{Seen, Runs, call_of}
+use Rattle.yamltok.specs.Args.{is_right}
+use Rattle.yamltok.specs.Listing.{decode_line, token_lines, fault_lines, answer_lines, is_fault}
 
--- The words inside a command are none that it takes. Decoding has none inside.
+-- The words inside a command are none that it takes.
 abbrev pub IsWrong : yaml_command_t → Type 0
-IsWrong (Decode setting) = ⊥
+IsWrong command = is_right command ≡ false
 
 -- The answer is what the input decodes to, or that memory was refused. In UTF-8 none is taken, so none is refused.
 pub record AnswersDecode (setting : yaml_encoding_t) (input : List ℕ) (answer : Result Text Fault) : Type 0 where
@@ -26,9 +35,44 @@ pub record ListsDecode (setting : yaml_encoding_t) (input lines : List ℕ) (has
   pub lines_are : lines ≡ decode_line answer
   pub fault_is : has_fault ≡ is_err answer
 
+-- The lines are the listing of all tokens of the input, and of its fault, if it has one.
+pub record ListsScan (limit : ℕ) (setting : yaml_encoding_t) (input lines : List ℕ) (has_fault : Bool) : Type 0 where
+  pub tokens : List yaml_token_t
+  pub fault : Option Fault
+  pub answers : ReadsAll limit setting input tokens fault
+  pub lines_are : lines ≡ token_lines tokens ++ fault_lines fault
+  pub fault_is : has_fault ≡ is_some fault
+
+-- the call that a letter stands for
+abbrev pub call_for : ℕ → yaml_call_t
+call_for c = if c == 0x73 then SCAN else if c == 0x70 then PEEK else SKIP
+
+-- the calls that a word spells
+abbrev pub calls_in : List ℕ → List yaml_call_t
+calls_in word = map call_for word
+
+-- a parser before its first call
+abbrev pub new_parser : yaml_encoding_t → List ℕ → Parser
+new_parser setting input = record { input = input; setting = setting; limit = 1024; session = new_session }
+
+-- These are the answers of a new parser to the calls.
+pub record AnswersCalls (setting : yaml_encoding_t) (input : List ℕ) (calls : List Call) (answers : List Seen) : Type 0 where
+  pub behind : Parser
+  pub runs : Runs (new_parser setting input) calls answers behind
+
+-- The lines are the listing of the answers to the calls that the word spells.
+pub record ListsCalls (setting : yaml_encoding_t) (word input lines : List ℕ) (has_fault : Bool) : Type 0 where
+  pub answers : List Seen
+  pub answered : AnswersCalls setting input (map call_of (calls_in word)) answers
+  pub lines_are : lines ≡ answer_lines answers
+  pub fault_is : has_fault ≡ list_any is_fault answers
+
 -- The lines list what the command answers to the input, and a fault's line is among them or not.
 abbrev pub Lists : yaml_command_t → List ℕ → List ℕ → Bool → Type 0
 Lists (Decode setting) input lines has_fault = ListsDecode setting input lines has_fault
+Lists (Scan setting) input lines has_fault = ListsScan 1024 setting input lines has_fault
+Lists (ScanLimit setting limit) input lines has_fault = ListsScan limit setting input lines has_fault
+Lists (Calls setting word) input lines has_fault = ListsCalls setting word.now input lines has_fault
 
 -- All that a source had was read, and the lines list the answer to it.
 pub record Answers (command : yaml_command_t) (source source_after : Option (List ℕ)) (lines : List ℕ) (has_fault : Bool) : Type 0 where

@@ -1,14 +1,18 @@
 //! The lines that the program writes: numbers are decimal, parts are parted by one space, and a line
 //! ends with a line feed.
-ghost use Rattle.std.specs.Prelude.{◌≡◌, ◌≢◌, ◌<◌, ◌++◌, codes, flat_map, OnOk, OnErr, IfOk, string_bytes};
+ghost use Rattle.std.specs.Prelude.{◌≡◌, ◌≢◌, ◌<◌, ◌++◌, codes, flat_map, map, OnOk, OnErr, IfOk, string_bytes};
 ghost use Rattle.std.specs.Char.{digit_char};
 ghost use Rattle.std.specs.Fmt.{signed_decimal};
 ghost use Rattle.yaml_text.specs.declared.types.yaml_encoding_t.TheVariants.{YAML_ANY_ENCODING};
 ghost use Rattle.yaml_text.specs.declared.types.yaml_scalar_style_t.TheVariants.{YAML_ANY_SCALAR_STYLE};
 ghost use Rattle.yaml_text.specs.Fault.{fault_of};
-ghost use Rattle.yamltok.specs.Listing.{line_by, parted, mark_text, encoding_word, reader_line, scanner_line, fault_line, text_line, HasLine, bytes_text, type_name, style_word, head_parts, data_parts, token_line, peek_line, HasWords};
+ghost use Rattle.yaml_scan.specs.Words.{HasLine, HasWords, HaveWords};
+ghost use Rattle.yaml_scan.specs.Calls.{seen_of};
+ghost use Rattle.yaml_scan.specs.CallWords.{SeenHasLine, SeenHaveLines};
+ghost use Rattle.yamltok.specs.Listing.{line_by, parted, mark_text, encoding_word, reader_line, scanner_line, fault_line, text_line, bytes_text, type_name, style_word, head_parts, data_parts, token_line, peek_line, token_lines, answer_line, answer_lines};
 
 use std::alloc::{AllocError, Global};
+use yaml_scan::yaml_answer_t;
 use yaml_text::{
     unnamed_yaml_token_t_data, yaml_encoding_t, yaml_error_type_t, yaml_fault_t, yaml_is_place,
     yaml_mark_at, yaml_mark_t, yaml_scalar_style_t, yaml_text_t, yaml_token_t, yaml_token_type_t,
@@ -321,4 +325,54 @@ pub fn list_peek(
     let head = head_text(alloc, kind, start_mark, end_mark)?;
     let text = format!(in alloc; "PEEK {head}\n")?;
     out.extend_from_slice(text.as_bytes())
+}
+
+/// Puts the lines of these tokens behind `out`.
+pub fn list_tokens(
+    alloc: Global,
+    tokens: &[yaml_token_t],
+    out: &mut Vec<u8>,
+) -> Result<(), AllocError>
+    requires { HaveWords tokens.now }
+    ensures { OnOk result (out.new.items ≡ out.old.items ++ token_lines tokens.now) }
+{
+    for token in tokens {
+        list_token(alloc, token, out)?;
+    }
+    Ok(())
+}
+
+/// Puts the line of an answer to a call behind `out`: that of a token, of a peek, or of a fault, or `SKIP`,
+/// or `SKIP NOTHING` where nothing was skipped. Where memory is refused, `out` is as before.
+pub fn list_answer(
+    alloc: Global,
+    answer: &yaml_answer_t,
+    out: &mut Vec<u8>,
+) -> Result<(), AllocError>
+    requires { SeenHasLine (seen_of answer.now) }
+    ensures ok { OnOk result (out.new.items ≡ out.old.items ++ answer_line (seen_of answer.now)) }
+    ensures err { OnErr result (out.new.items ≡ out.old.items) }
+{
+    match answer {
+        yaml_answer_t::TOKEN(token) => list_token(alloc, token, out),
+        yaml_answer_t::PEEKED(kind, start, end) => list_peek(alloc, *kind, *start, *end, out),
+        yaml_answer_t::SKIPPED => out.extend_from_slice(b"SKIP\n"),
+        yaml_answer_t::NOTHING => out.extend_from_slice(b"SKIP NOTHING\n"),
+        yaml_answer_t::FAULT(fault) => list_fault(alloc, fault, out),
+    }
+}
+
+/// Puts the lines of these answers behind `out`.
+pub fn list_answers(
+    alloc: Global,
+    answers: &[yaml_answer_t],
+    out: &mut Vec<u8>,
+) -> Result<(), AllocError>
+    requires { SeenHaveLines (map seen_of answers.now) }
+    ensures { OnOk result (out.new.items ≡ out.old.items ++ answer_lines (map seen_of answers.now)) }
+{
+    for answer in answers {
+        list_answer(alloc, answer, out)?;
+    }
+    Ok(())
 }

@@ -1,15 +1,21 @@
-//! Says of a YAML stream what its text is, or why it is none.
+//! Lists the tokens of a YAML stream, or says what its text is, or why it is none.
 //!
-//! `yamltok decode ENC` reads standard input to its end and writes one line. ENC is `any`, `utf8`,
-//! `utf16le` or `utf16be`. The exit status is 0 where the input is a text, 1 where the line is that
-//! of a fault, 2 for wrong arguments, and 3 where a read or a write failed or memory was refused.
+//! `yamltok scan ENC` reads standard input to its end and writes a line for each token, and one for
+//! the fault, if it has one; `yamltok scan ENC LIMIT` does so with a key limit of 1 to 65536 bytes.
+//! `yamltok calls ENC WORD` writes a line for each answer to the calls of WORD, `s` for a scan, `p`
+//! for a peek, `k` for a skip. `yamltok decode ENC` writes one line of the text. ENC is `any`,
+//! `utf8`, `utf16le` or `utf16be`. The exit status is 0 where no line is that of a fault, 1 where
+//! one is, 2 for wrong arguments, and 3 where a read or a write failed or memory was refused.
 #![tactic(auto)]
 
+mod answer;
 mod args;
 mod devices;
 mod listing;
 mod outcome;
 mod run;
+#[cfg(test)]
+mod scan_tests;
 #[cfg(test)]
 mod tests;
 

@@ -2,14 +2,13 @@
 ghost use Rattle.std.specs.Prelude.{◌≡◌, ◌≢◌, ℕ, ◌<◌, ◌⊎◌, ◌++◌, ◌↔◌, List, true, false, length, take, drop, vec_len, IfOk, IfErr, OnOk, OnErr, IsErrOf, is_err};
 ghost use Rattle.std.specs.Io.KnownBytes.{Appends, Consumes, IsAtEnd, Keeps};
 ghost use Rattle.yamltok.specs.Outcome.{is_read_fault, is_write_fault};
-ghost use Rattle.yamltok.specs.Run.{IsWrong, Lists, ListsDecode, Writes, WritesBeginning};
+ghost use Rattle.yamltok.specs.Run.{IsWrong, Writes, WritesBeginning};
 
-use crate::args::yaml_command_t;
+use crate::answer::answer_to;
+use crate::args::{is_right, yaml_command_t};
 use crate::devices::{yaml_sink_t, yaml_source_t};
-use crate::listing::{list_fault, list_text};
 use crate::outcome::tool_fault_t;
-use std::alloc::{AllocError, Global};
-use yaml_text::{yaml_decode, yaml_encoding_t};
+use std::alloc::Global;
 
 const CHUNK: usize = 4096;
 
@@ -43,40 +42,6 @@ fn read_all<R: yaml_source_t>(alloc: Global, reader: &mut R) -> Result<Vec<u8>, 
     Ok(input)
 }
 
-/// The line of what the input decodes to, and whether it is that of a fault.
-fn list_decoded(
-    alloc: Global,
-    input: &[u8],
-    setting: yaml_encoding_t,
-) -> Result<(Vec<u8>, bool), AllocError>
-    ensures { IfOk result (λ answer. ListsDecode setting input.now answer.0.items answer.1) }
-{
-    let mut lines = Vec::new(alloc);
-    match yaml_decode(alloc, input, setting) {
-        Ok(text) => {
-            list_text(alloc, &text, &mut lines)?;
-            Ok((lines, false))
-        }
-        Err(fault) => {
-            list_fault(alloc, &fault, &mut lines)?;
-            Ok((lines, true))
-        }
-    }
-}
-
-/// The listing of what the command answers to the input, and whether a fault's line is in it.
-fn list_answer(
-    alloc: Global,
-    input: &[u8],
-    command: &yaml_command_t,
-) -> Result<(Vec<u8>, bool), AllocError>
-    ensures { IfOk result (λ answer. Lists command.now input.now answer.0.items answer.1) }
-{
-    match command {
-        yaml_command_t::Decode(setting) => list_decoded(alloc, input, *setting),
-    }
-}
-
 /// Writes all the bytes, in as many calls as it takes. After an `Err` a part of them, which is not
 /// all, was written.
 fn write_all<W: yaml_sink_t>(writer: &mut W, bytes: &[u8]) -> Result<(), tool_fault_t>
@@ -98,7 +63,8 @@ fn write_all<W: yaml_sink_t>(writer: &mut W, bytes: &[u8]) -> Result<(), tool_fa
 
 /// Does what the command asks for: reads all there is, and writes the listing of the answer to it.
 ///
-/// Answers whether the line of a fault was written. `Read` comes where the reader failed and `Memory`
+/// Answers whether the line of a fault was written. `Args` comes where the key limit is not from 1 to
+/// 65,536, or the word of calls has another letter than `s`, `p` and `k`; then nothing was read. `Read` comes where the reader failed and `Memory`
 /// where there was none for the input or for the listing; then nothing was written. `Write` comes
 /// where the writer failed; then a beginning of the listing was written. Nothing is tried again.
 pub fn run<R: yaml_source_t, W: yaml_sink_t>(
@@ -115,9 +81,13 @@ pub fn run<R: yaml_source_t, W: yaml_sink_t>(
     ensures read { is_read_fault result ≡ R.failed reader.new }
     ensures write { is_write_fault result ≡ W.failed writer.new }
     ensures args { IsErrOf result tool_fault_t.Args ↔ IsWrong command.now }
+    ensures unread { IsWrong command.now → reader.new ≡ reader.old }
 {
+    if !is_right(command) {
+        return Err(tool_fault_t::Args);
+    }
     let input = read_all(alloc, reader)?;
-    let (lines, has_fault) = list_answer(alloc, &input, command)?;
+    let (lines, has_fault) = answer_to(alloc, &input, command)?;
     write_all(writer, &lines)?;
     Ok(has_fault)
 }

@@ -1,7 +1,7 @@
 //! The program over devices in memory.
 ghost use Rattle.std.specs.Prelude.{◌≡◌, ◌≢◌, false};
 ghost use Rattle.yaml_text.specs.declared.types.yaml_scalar_style_t.TheVariants.{YAML_ANY_SCALAR_STYLE};
-ghost use Rattle.yamltok.specs.Listing.{HasWords};
+ghost use Rattle.yaml_scan.specs.Words.{HasWords};
 ghost use Rattle.yamltok.specs.Devices.{source_failed, sink_failed};
 
 use crate::args::parse_args;
@@ -21,9 +21,9 @@ use yaml_text::{
 
 /// Gives one byte a call, and fails behind so many calls.
 #[derive(Drop)]
-struct slow_reader_t<'a> {
-    bytes: &'a [u8],
-    calls: usize,
+pub(crate) struct slow_reader_t<'a> {
+    pub(crate) bytes: &'a [u8],
+    pub(crate) calls: usize,
 }
 
 impl Read for slow_reader_t<'_> {
@@ -70,7 +70,7 @@ impl Write for slow_writer_t {
     }
 }
 
-fn words_of(alloc: Global, command: &str) -> Result<Vec<String>, Fail> {
+pub(crate) fn words_of(alloc: Global, command: &str) -> Result<Vec<String>, Fail> {
     let mut words = Vec::new(alloc);
     for word in command.split(' ') {
         words.push(String::from_str(alloc, word)?)?;
@@ -96,7 +96,7 @@ fn outcome_of<R: Read + Drop, W: Write + Drop>(
 }
 
 /// Asserts the status of a command on an input, and what it writes.
-fn expect(
+pub(crate) fn expect(
     rt: &(impl Abort + AllocGlobal),
     command: &str,
     input: &[u8],

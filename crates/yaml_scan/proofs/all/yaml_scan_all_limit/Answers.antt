@@ -4,6 +4,7 @@ use Rattle.yaml_scan.specs.Parser.{Parser}
 use Rattle.yaml_scan.specs.All.{ReadsAll}
 use Rattle.yaml_scan.proofs.InputLaws.{late_faults}
 use Rattle.yaml_scan.proofs.AllLaws.{reads_in_order, reads_ends, reads_all_ends, reads_keys}
+use Rattle.yaml_scan.proofs.AllTold.{reads_have_lines}
 use Rattle.yaml_scan.proofs.all.yaml_scan_all_limit.Goals as goal
 
 -- what the new parser's tokens are
@@ -22,6 +23,9 @@ returns-clause-ends_all c = reads_all_ends c.args.limit c.args.setting c.args.in
 
 pub returns-clause-keys : goal.returns-clause-keys
 returns-clause-keys c = reads_keys c.args.limit c.args.setting c.args.input.now c.scan_rest.new.tokens.items (option_map fault_of c.in_ok-fault.fault) (returns-clause-answers c)
+
+pub returns-clause-lines : goal.returns-clause-lines
+returns-clause-lines c = reads_have_lines c.args.limit c.args.setting c.args.input.now c.scan_rest.new.tokens.items (option_map fault_of c.in_ok-fault.fault) (returns-clause-answers c)
 
 pub returns-clause-local : goal.returns-clause-local
 returns-clause-local c = late_faults c.args.limit c.args.setting c.args.input.now

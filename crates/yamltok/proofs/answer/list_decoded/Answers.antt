@@ -2,7 +2,7 @@
 use Rattle.std.proofs.Common.{Ok, Err, ◌++◌, sym, ap, ◌∙◌, inl, inr, refl}
 use Rattle.yaml_text.specs.Fault.{fault_of}
 use Rattle.yamltok.specs.Listing.{text_line, fault_line}
-use Rattle.yamltok.proofs.run.list_decoded.Goals as goal
+use Rattle.yamltok.proofs.answer.list_decoded.Goals as goal
 
 pub returns-in_ok-list_text-in-Ok : goal.returns-in_ok-list_text-in-Ok
 returns-in_ok-list_text-in-Ok c = record {

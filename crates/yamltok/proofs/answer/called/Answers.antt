@@ -1,0 +1,23 @@
+-- The answers are put behind none.
+use Rattle.std.proofs.Common.{◌≡◌, ◌++◌, List, map, sym, ap, ◌∙◌, subst}
+use Rattle.yaml_scan.specs.declared.calls.yaml_answer_t.{yaml_answer_t}
+use Rattle.yaml_scan.specs.Parser.{Parser}
+use Rattle.yaml_scan.specs.Calls.{Runs, call_of, seen_of}
+use Rattle.yaml_scan.specs.CallWords.{SeenHaveLines}
+use Rattle.yamltok.proofs.answer.called.Goals as goal
+
+pub returns-clause-answers : goal.returns-clause-answers
+returns-clause-answers c =
+    let r = c.in_ok-yaml_run.ensures.answers in
+    let e : c.yaml_run.new.out.items ≡ r.more = r.is ∙ ap (λ (l : List yaml_answer_t). l ++ r.more) c.new-answers.ensures.items in
+    record {
+      behind = c.yaml_run.new.parser;
+      runs = subst (λ (p : Parser). Runs p (map call_of c.args.calls.now) (map seen_of c.yaml_run.new.out.items) c.yaml_run.new.parser) c.new-parser.ensures
+          (subst (λ (l : List yaml_answer_t). Runs c.new-parser.result (map call_of c.args.calls.now) (map seen_of l) c.yaml_run.new.parser) (sym e) r.runs);
+    }
+
+pub returns-clause-lines : goal.returns-clause-lines
+returns-clause-lines c =
+    let r = c.in_ok-yaml_run.ensures.answers in
+    let e : c.yaml_run.new.out.items ≡ r.more = r.is ∙ ap (λ (l : List yaml_answer_t). l ++ r.more) c.new-answers.ensures.items in
+    subst (λ (l : List yaml_answer_t). SeenHaveLines (map seen_of l)) (sym e) (c.in_ok-yaml_run.ensures.lines (map seen_of r.more) c.yaml_run.new.parser r.runs)

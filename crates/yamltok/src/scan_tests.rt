@@ -1,0 +1,142 @@
+//! The commands that scan, over devices in memory.
+use crate::args::{parse_args, yaml_command_t};
+use crate::devices::{yaml_sink_of_t, yaml_source_of_t, yaml_source_t};
+use crate::outcome::{tool_fault_t, yaml_status};
+use crate::run::run;
+use crate::tests::{expect, slow_reader_t, words_of};
+use std::process::Abort;
+use std::test::Fail;
+use yaml_text::yaml_encoding_t;
+
+const TOKENS: &str = "\
+STREAM-START 0:0:0 0:0:0 UTF8
+BLOCK-MAPPING-START 0:0:0 0:0:0
+KEY 0:0:0 0:0:0
+SCALAR 0:0:0 1:0:1 plain 61
+VALUE 1:0:1 2:0:2
+SCALAR 3:0:3 4:0:4 plain 31
+BLOCK-END 4:1:0 4:1:0
+STREAM-END 4:1:0 4:1:0
+";
+
+#[test]
+fn scans(rt: HostRuntime) -> Result<(), Fail> {
+    expect(&rt, "scan any", b"a: 1", 0, TOKENS)?;
+    expect(&rt, "scan utf8", b"a: 1", 0, TOKENS)?;
+    let lines = "\
+STREAM-START 0:0:0 0:0:0 UTF16BE
+SCALAR 0:0:0 1:0:1 plain 61
+STREAM-END 1:1:0 1:1:0
+";
+    expect(&rt, "scan any", b"\xFE\xFF\x00a", 0, lines)
+}
+
+#[test]
+fn scans_to_a_fault(rt: HostRuntime) -> Result<(), Fail> {
+    let lines = "\
+STREAM-START 0:0:0 0:0:0 UTF8
+FAULT scanner 1:0:1 2:0:2 while scanning a plain scalar; found unexpected ':'
+";
+    expect(&rt, "scan any", b"{a:}", 1, lines)?;
+    let lines = "FAULT reader 1 255 invalid leading UTF-8 octet\n";
+    expect(&rt, "scan any", b"a\xFF", 1, lines)
+}
+
+#[test]
+fn scans_with_a_limit(rt: HostRuntime) -> Result<(), Fail> {
+    expect(&rt, "scan any 1", b"a: 1", 0, TOKENS)?;
+    expect(&rt, "scan any 65536", b"a: 1", 0, TOKENS)?;
+    let lines = "\
+STREAM-START 0:0:0 0:0:0 UTF8
+SCALAR 0:0:0 2:0:2 plain 6162
+FAULT scanner 2:0:2 2:0:2 -; mapping values are not allowed in this context
+";
+    expect(&rt, "scan any 1", b"ab: 1", 1, lines)
+}
+
+#[test]
+fn calls(rt: HostRuntime) -> Result<(), Fail> {
+    let lines = "\
+PEEK STREAM-START 0:0:0 0:0:0
+PEEK STREAM-START 0:0:0 0:0:0
+SKIP
+FLOW-SEQUENCE-START 0:0:0 1:0:1
+SKIP NOTHING
+PEEK SCALAR 1:0:1 2:0:2
+SCALAR 1:0:1 2:0:2 plain 61
+FLOW-SEQUENCE-END 2:0:2 3:0:3
+STREAM-END 3:1:0 3:1:0
+NO-TOKEN
+";
+    expect(&rt, "calls any ppkskpssss", b"[a]", 0, lines)?;
+    expect(&rt, "calls any ", b"[a]", 0, "")
+}
+
+#[test]
+fn calls_to_a_fault(rt: HostRuntime) -> Result<(), Fail> {
+    let lines = "\
+STREAM-START 0:0:0 0:0:0 UTF8
+BLOCK-MAPPING-START 0:0:0 0:0:0
+KEY 0:0:0 0:0:0
+SCALAR 0:0:0 1:0:1 plain 61
+VALUE 1:0:1 2:0:2
+SCALAR 3:0:3 4:0:4 plain 62
+FAULT scanner 4:0:4 4:0:4 -; mapping values are not allowed in this context
+PEEK NO-TOKEN
+SKIP NOTHING
+NO-TOKEN
+";
+    expect(&rt, "calls any ssssssppks", b"a: b: c", 1, lines)
+}
+
+#[test]
+fn wrong_words_of_scans(rt: HostRuntime) -> Result<(), Fail> {
+    let rows = [
+        "scan",
+        "scan latin1",
+        "scan any ",
+        "scan any 0",
+        "scan any 07",
+        "scan any +1",
+        "scan any 65537",
+        "scan any 4294967297",
+        "scan any 1 2",
+        "scan any s",
+        "calls",
+        "calls any",
+        "calls any S",
+        "calls any sx",
+        "calls any s s",
+        "decode any 1",
+    ];
+    for command in rows {
+        let words = words_of(rt.alloc(), command)?;
+        assert_eq!(rt; parse_args(&words).is_none(), true, "{command}");
+        expect(&rt, command, b"a: 1", 2, "")?;
+    }
+    Ok(())
+}
+
+/// Asserts that a command is wrong, and that nothing is read or written for it: the first read would fail.
+fn expect_unread(rt: &(impl Abort + AllocGlobal), command: yaml_command_t) -> Result<(), Fail> {
+    let alloc = rt.alloc();
+    let mut source = yaml_source_of_t::new(slow_reader_t {
+        bytes: b"a: 1",
+        calls: 0,
+    });
+    let mut sink = yaml_sink_of_t::new(Vec::new(alloc));
+    let outcome = run(alloc, &command, &mut source, &mut sink);
+    assert_eq!(rt; outcome, Err(tool_fault_t::Args));
+    assert_eq!(rt; yaml_status(&outcome), 2);
+    assert_eq!(rt; source.failed(), false);
+    assert_eq!(rt; sink.inner.len(), 0);
+    Ok(())
+}
+
+#[test]
+fn wrong_commands_read_nothing(rt: HostRuntime) -> Result<(), Fail> {
+    let any = yaml_encoding_t::YAML_ANY_ENCODING;
+    expect_unread(&rt, yaml_command_t::Calls(any, "skip"))?;
+    expect_unread(&rt, yaml_command_t::ScanLimit(any, 0))?;
+    expect_unread(&rt, yaml_command_t::ScanLimit(any, 65537))
+}
