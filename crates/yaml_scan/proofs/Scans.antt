@@ -21,7 +21,7 @@ use Rattle.yaml_scan.specs.Session.Answer.{TOKEN, PEEKED, FAULT}
 use Rattle.yaml_scan.specs.Inputs.{decoded_input}
 use Rattle.yaml_scan.specs.Scanning.{Runs, IsOpen, history, course_of, input_of}
 use Rattle.yaml_scan.specs.Ready.{IsNew, IsIn, IsReady, IsShown, IsSettled, IsStopped, IsEnded, Pops, course_in, parser_of}
-use Rattle.yaml_scan.specs.Parser.{Parser, Scans, Shows, WantsMemory, told, answered, behind, course_read, input_read, token_shown, token_or_empty}
+use Rattle.yaml_scan.specs.Parser.{Parser, Calls, Scans, Shows, IsThere, WantsMemory, told, answered, behind, course_read, input_read, token_shown, token_or_empty}
 use Rattle.yaml_scan.proofs.AnswerOrder.{Fits, TokenFits, TokensFit, AllFit, course_fits, fit_before}
 use Rattle.yaml_scan.proofs.GoOn.{all_is_handed_out}
 use Rattle.yaml_scan.proofs.Paces.{enough_made}
@@ -382,3 +382,9 @@ open_session p o = λ k. record { input = p.input; setting = p.setting; limit = 
 
 pub shown_session : (p : Parser) → p.session.over ≡ false → p.session.peeked ≡ true → p ≡ record { input = p.input; setting = p.setting; limit = p.limit; session = record { taken = p.session.taken; steps = p.session.steps; peeked = true; over = false; fault = p.session.fault } }
 shown_session p o k = λ i. record { input = p.input; setting = p.setting; limit = p.limit; session = record { taken = p.session.taken; steps = p.session.steps; peeked = k i; over = o i; fault = p.session.fault } }
+
+-- no memory is asked for what is there
+pub bare : (call : Call) (p : Parser) (a : Answer) (q : Parser) → Calls call p a q → IsThere p → (a ≡ answered p call) × (q ≡ behind p call)
+bare call p a q (inl r) t = r
+bare call p a q (inr r) (inl t) = absurd (let w = r.1 in false≢true (sym w.was_not_peeked ∙ t))
+bare call p a q (inr r) (inr t) = absurd (let w = r.1 in false≢true (sym w.was_open ∙ t))

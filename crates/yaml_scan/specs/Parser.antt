@@ -60,6 +60,10 @@ told (Err fault) = FAULT (fault_of fault)
 abbrev pub Calls : Call → Parser → Answer → Parser → Type 0
 Calls call p a q = ((a ≡ answered p call) × (q ≡ behind p call)) ⊎ ((a ≡ FAULT memory_fault) × WantsMemory p q)
 
+-- the next token is there already: it was peeked, or the session is over and there is none
+abbrev pub IsThere : Parser → Type 0
+IsThere p = (p.session.peeked ≡ true) ⊎ (p.session.over ≡ true)
+
 abbrev pub Scans : Parser → Result yaml_token_t yaml_fault_t → Parser → Type 0
 Scans p result q = Calls SCAN p (told result) q
 

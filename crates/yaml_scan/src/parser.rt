@@ -299,9 +299,13 @@ fn take_shown(parser: &mut yaml_parser_t) -> yaml_token_t
 ghost use Rattle.yaml_scan.specs.Parser.{behind};
 ghost use Rattle.yaml_scan.specs.Session.Call.{SKIP};
 
-/// Takes the next token.
+/// Takes the next token. Behind the stream end, and behind a fault, it is the empty one.
+///
+/// The fault that ends the session is answered once, by the scan or peek that meets it. A refused growth of memory is a fault
+/// of kind memory; none is asked for where the token was peeked or the session is over.
 pub fn yaml_parser_scan(parser: &mut yaml_parser_t) -> Result<yaml_token_t, yaml_fault_t>
-    ensures { Scans parser.old result parser.new }
+    ensures answers { Scans parser.old result parser.new }
+    ensures bare { IsThere parser.old → (told result ≡ answered parser.old SCAN) × (parser.new ≡ behind parser.old SCAN) }
 {
     if parser.over {
         return Ok(yaml_token_t::empty());
@@ -312,7 +316,10 @@ pub fn yaml_parser_scan(parser: &mut yaml_parser_t) -> Result<yaml_token_t, yaml
     }
 }
 
-/// Takes the token that was peeked.
+ghost use Rattle.yaml_scan.specs.Parser.{IsThere, told, answered};
+ghost use Rattle.yaml_scan.specs.Session.Call.{SCAN};
+
+/// Takes the token that was peeked, and drops it. No memory is asked for.
 pub fn yaml_parser_skip(parser: &mut yaml_parser_t)
     requires { parser.old.session.peeked ≡ true }
     ensures { parser.new ≡ behind parser.old SKIP }
@@ -320,11 +327,14 @@ pub fn yaml_parser_skip(parser: &mut yaml_parser_t)
     let _ = take_shown(parser);
 }
 
-/// Shows the next token, which the next scan or skip takes.
+/// Shows the next token, which the next scan or skip takes. Behind the stream end, and behind a fault, it is the empty one.
+///
+/// Faults are answered as [`yaml_parser_scan`] answers them.
 pub fn yaml_parser_peek<'s>(
     parser: &'s mut yaml_parser_t<'_>,
 ) -> Result<&'s yaml_token_t, yaml_fault_t>
-    ensures* { sem 𝓛 (follows_so (the_row (record { mir = named 1; lft = [] })) (the_row (record { mir = named 1; lft = [] })) parser.entry.ghost_name none (λ _ _. ⊤) (λ q. Peeks parser.old (told_copied result) q)) }
+    ensures* answers { sem 𝓛 (follows_so (the_row (record { mir = named 1; lft = [] })) (the_row (record { mir = named 1; lft = [] })) parser.entry.ghost_name none (λ _ _. ⊤) (λ q. Peeks parser.old (told_copied result) q)) }
+    ensures bare { IsThere parser.old → shown (told_copied result) ≡ answered parser.old PEEK }
 {
     show(parser)?;
     Ok(shown(parser))
@@ -336,7 +346,8 @@ ghost use mathlib.Core.Option.{none};
 ghost use denote.Follow.{follows_so};
 ghost use mir.Syntax.{named};
 ghost use Rattle.yaml_scan.specs.contracts.parser.yaml_parser_t.{the_row};
-ghost use Rattle.yaml_scan.specs.Parser.{Peeks, told_copied};
+ghost use Rattle.yaml_scan.specs.Parser.{Peeks, told_copied, shown};
+ghost use Rattle.yaml_scan.specs.Session.Call.{PEEK};
 
 /// Whether a token was peeked and not taken.
 pub fn yaml_parser_has_token(parser: &yaml_parser_t) -> bool
@@ -354,7 +365,8 @@ pub fn yaml_parser_fault<'s>(parser: &'s yaml_parser_t<'_>) -> Option<&'s yaml_f
 
 ghost use Rattle.std.specs.Prelude.{option_map};
 
-/// How many steps have a token that was made and not taken.
+/// How many steps have a token that was made and not taken: at most one more than the key limit. STREAM-START is a step, and
+/// each lexeme is one, with the keys and the starts and ends of blocks that were put in for it.
 pub fn yaml_parser_queued(parser: &yaml_parser_t) -> u64
     ensures steps { result ≡ session_queued (course_read parser.now) parser.now.session }
     ensures few { result ≤ parser.now.limit + 1 }
@@ -365,7 +377,8 @@ pub fn yaml_parser_queued(parser: &yaml_parser_t) -> u64
 ghost use Rattle.yaml_scan.specs.Session.{session_queued, session_reach};
 ghost use Rattle.yaml_scan.specs.Parser.{course_read};
 
-/// How far the last good step was read, and zero before any.
+/// How far the last step without a fault was read: bytes of the text in UTF-8, lines and characters, all from 0. It is zero
+/// before any step.
 pub fn yaml_parser_mark(parser: &yaml_parser_t) -> yaml_mark_t
     ensures { result ≡ session_reach (course_read parser.now) parser.now.session }
 {

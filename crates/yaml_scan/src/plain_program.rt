@@ -292,13 +292,8 @@ fn step(alloc: Global, text: &yaml_text_t, plain: &mut plain_t) -> Result<bool, 
     let start = start_of(kind, front);
     let ends = close(alloc, &mut plain.levels, !margin, kind, front, start)?;
     let level = plain.levels.last().copied();
-    let x = read(
-        alloc,
-        text,
-        front.index,
-        plain.slots.len() as u64 - 1,
-        level,
-    )?;
+    let depth = (plain.slots.len() as u64).saturating_sub(1);
+    let x = read(alloc, text, front.index, depth, level)?;
     let new = slot_t {
         number: plain.list.len(),
         start,

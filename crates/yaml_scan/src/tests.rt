@@ -17,3 +17,95 @@ fn first_tokens(rt: HostRuntime) -> Result<(), Fail> {
     assert_eq!(rt; token.type_(), yaml_token_type_t::YAML_KEY_TOKEN);
     Ok(())
 }
+
+/// The type of the token that a scan takes (`s`) or a peek shows (`p`); a skip (`k`) has none.
+fn called(parser: &mut yaml_parser_t, call: u8) -> Result<yaml_token_type_t, Fail> {
+    match call {
+        b's' => Ok(yaml_parser_scan(parser).map_err(|_| "a fault")?.type_()),
+        b'p' => Ok(yaml_parser_peek(parser).map_err(|_| "a fault")?.type_()),
+        _ => {
+            if yaml_parser_has_token(parser) {
+                yaml_parser_skip(parser);
+            }
+            Ok(yaml_token_type_t::YAML_NO_TOKEN)
+        }
+    }
+}
+
+#[test]
+fn peeks_and_skips(rt: HostRuntime) -> Result<(), Fail> {
+    let any = yaml_encoding_t::YAML_ANY_ENCODING;
+    let mut parser = yaml_parser_t::new(rt.alloc(), b"[a]", any);
+    for (call, want) in [
+        (b'p', yaml_token_type_t::YAML_STREAM_START_TOKEN),
+        (b'p', yaml_token_type_t::YAML_STREAM_START_TOKEN),
+        (b'k', yaml_token_type_t::YAML_NO_TOKEN),
+        (b's', yaml_token_type_t::YAML_FLOW_SEQUENCE_START_TOKEN),
+        (b'k', yaml_token_type_t::YAML_NO_TOKEN),
+        (b'p', yaml_token_type_t::YAML_SCALAR_TOKEN),
+        (b's', yaml_token_type_t::YAML_SCALAR_TOKEN),
+        (b's', yaml_token_type_t::YAML_FLOW_SEQUENCE_END_TOKEN),
+        (b's', yaml_token_type_t::YAML_STREAM_END_TOKEN),
+        (b's', yaml_token_type_t::YAML_NO_TOKEN),
+        (b'p', yaml_token_type_t::YAML_NO_TOKEN),
+    ] {
+        assert_eq!(rt; called(&mut parser, call)?, want);
+    }
+    assert!(rt; yaml_parser_fault(&parser).is_none());
+    Ok(())
+}
+
+/// How many steps are queued, and the column of the mark, behind each call.
+#[test]
+fn steps_are_made_as_they_are_asked_for(rt: HostRuntime) -> Result<(), Fail> {
+    let any = yaml_encoding_t::YAML_ANY_ENCODING;
+    let mut parser = yaml_parser_t::new(rt.alloc(), b"&a b: c", any);
+    for (call, queued, column) in [
+        (b's', 0, 0),
+        (b'p', 3, 5),
+        (b's', 3, 5),
+        (b's', 3, 5),
+        (b's', 2, 5),
+    ] {
+        let _ = called(&mut parser, call)?;
+        assert_eq!(rt; yaml_parser_queued(&parser), queued);
+        assert_eq!(rt; yaml_parser_mark(&parser).column, column);
+    }
+    Ok(())
+}
+
+#[test]
+fn a_candidate_keeps_tokens_in_the_queue(rt: HostRuntime) -> Result<(), Fail> {
+    let any = yaml_encoding_t::YAML_ANY_ENCODING;
+    let mut input = Vec::new(rt.alloc());
+    for _ in 0..1026 {
+        input.push(b'[')?;
+    }
+    for (limit, queued) in [(1024, 1025), (4, 5)] {
+        let mut parser = yaml_parser_t::with_key_limit(rt.alloc(), &input, any, limit);
+        let _ = called(&mut parser, b's')?;
+        let _ = called(&mut parser, b'p')?;
+        assert_eq!(rt; yaml_parser_queued(&parser), queued);
+    }
+    Ok(())
+}
+
+#[test]
+fn a_fault_is_answered_once(rt: HostRuntime) -> Result<(), Fail> {
+    let any = yaml_encoding_t::YAML_ANY_ENCODING;
+    let mut parser = yaml_parser_t::new(rt.alloc(), b"a: b: c", any);
+    for _ in 0..6 {
+        let _ = called(&mut parser, b's')?;
+    }
+    assert!(rt; yaml_parser_peek(&mut parser).is_err());
+    for call in [b'p', b's'] {
+        assert_eq!(rt;
+            called(&mut parser, call)?,
+            yaml_token_type_t::YAML_NO_TOKEN
+        );
+        assert!(rt; !yaml_parser_has_token(&parser));
+    }
+    let fault = yaml_parser_fault(&parser).map(|fault| fault.problem_mark.column);
+    assert_eq!(rt; fault, Some(4));
+    Ok(())
+}

@@ -11,17 +11,17 @@ pub tokens-preserved : goal.tokens-preserved
 tokens-preserved c = let p = c.args.parser.now in let q = c.tokens.parser in
     let h = subst (λ (z : Bool). HasScanned p.limit p.setting p.input q c.tokens.tokens.items z) c.tokens-test.true c.tokens.invariant in
     subst (λ (z : List yaml_token_t). HasScanned p.limit p.setting p.input c.yaml_parser_scan.new.parser z c.is_stream_end-last.result) (sym c.in_ok-push-in-Ok.ensures.items)
-    (scans_on p.limit p.setting p.input q c.tokens.tokens.items h c.in-Ok.token c.yaml_parser_scan.new.parser c.is_stream_end-last.result c.is_stream_end-last.ensures c.in-Ok.ensures).0
+    (scans_on p.limit p.setting p.input q c.tokens.tokens.items h c.in-Ok.token c.yaml_parser_scan.new.parser c.is_stream_end-last.result c.is_stream_end-last.ensures c.in-Ok.ensures.answers).0
 
 pub tokens-smaller : goal.tokens-smaller
 tokens-smaller c = let p = c.args.parser.now in let q = c.tokens.parser in
     let h = subst (λ (z : Bool). HasScanned p.limit p.setting p.input q c.tokens.tokens.items z) c.tokens-test.true c.tokens.invariant in
-    fewer_left p q c.tokens.tokens.items h c.in-Ok.token c.yaml_parser_scan.new.parser c.is_stream_end-last.result c.is_stream_end-last.ensures c.in-Ok.ensures
+    fewer_left p q c.tokens.tokens.items h c.in-Ok.token c.yaml_parser_scan.new.parser c.is_stream_end-last.result c.is_stream_end-last.ensures c.in-Ok.ensures.answers
 
 pub returns-in-Err : goal.returns-in-Err
 returns-in-Err c = let p = c.args.parser.now in let q = c.tokens.parser in
     let h = subst (λ (z : Bool). HasScanned p.limit p.setting p.input q c.tokens.tokens.items z) c.tokens-test.true c.tokens.invariant in
-    scans_fault p.limit p.setting p.input q c.tokens.tokens.items h c.in-Err.fault c.yaml_parser_scan.new.parser c.in-Err.ensures
+    scans_fault p.limit p.setting p.input q c.tokens.tokens.items h c.in-Err.fault c.yaml_parser_scan.new.parser c.in-Err.ensures.answers
 
 pub returns : goal.returns
 returns c = let p = c.args.parser.now in let q = c.tokens.parser in
