@@ -1,18 +1,17 @@
 -- What a call keeps: how many steps wait, and that they are few.
-use Rattle.std.proofs.Common.{◌≡◌, ℕ, ◌+◌, ◌-◌, ◌≤◌, ◌<◌, max, true, false, List, length, refl, ap, sym, ◌∙◌, subst, arith, inl, inr}
+use Rattle.std.proofs.Common.{◌≡◌, ℕ, ◌+◌, ◌≤◌, ◌<◌, List, length, refl, ap, sym, ◌∙◌, subst, arith, inl, inr}
 use Rattle.std.specs.Prelude.{◌⊎◌}
-use Rattle.std.proofs.lemmas.Bool.{cases_eq}
 use Rattle.yaml_text.specs.declared.types.yaml_encoding_t.{yaml_encoding_t}
 use Rattle.yaml_scan.specs.declared.step.scanner_t.{scanner_t}
 use Rattle.yaml_scan.specs.Token.{yaml_token_t}
 use Rattle.yaml_scan.specs.Laid.{Laid, reach}
 use Rattle.yaml_scan.specs.Order.{IsHistory}
 use Rattle.yaml_scan.specs.Offline.{before, queued}
-use Rattle.yaml_scan.specs.Answers.{Course, course}
-use Rattle.yaml_scan.specs.Session.{pace, steps_for, first_steps}
+use Rattle.yaml_scan.specs.Answers.{Course}
+use Rattle.yaml_scan.specs.Session.{pace, first_steps}
 use Rattle.yaml_scan.specs.Inputs.{decoded_input}
-use Rattle.yaml_scan.specs.Scanning.{Runs, history, course_of}
-use Rattle.yaml_scan.specs.Ready.{IsNew, IsIn, IsReady, IsShown, IsSettled, IsStopped, Pops, course_in}
+use Rattle.yaml_scan.specs.Scanning.{history}
+use Rattle.yaml_scan.specs.Ready.{IsIn, IsReady, IsSettled, IsStopped, Pops, course_in}
 use Rattle.yaml_scan.proofs.Courses.{course_is_history}
 use Rattle.yaml_scan.proofs.InputLaws.{inputs_keep_order}
 use Rattle.yaml_scan.proofs.Pacing.{at_most}

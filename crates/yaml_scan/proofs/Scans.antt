@@ -1,14 +1,12 @@
 -- What a peek, a scan and a skip answer.
-use Rattle.std.proofs.Common.{◌≡◌, ℕ, zero, suc, ◌+◌, ◌-◌, ◌≤◌, ◌<◌, max, Bool, true, false, List, [], ◌∷◌, ◌++◌, length, length-append, slice_get, get_or, Option, Some, None, Ok, Err, refl, ap, sym, ◌∙◌, subst, arith, inl, inr, append_assoc}
-use Rattle.std.specs.Prelude.{◌⊎◌, if◌then◌else◌, option_map}
-use Rattle.std.proofs.lemmas.Bool.{cases_Bool, cases_lt, false≢true}
+use Rattle.std.proofs.Common.{◌≡◌, ℕ, zero, suc, ◌+◌, ◌-◌, ◌≤◌, ◌<◌, Bool, true, false, List, [], ◌∷◌, ◌++◌, length, length-append, slice_get, get_or, Option, Some, None, Ok, Err, refl, ap, sym, ◌∙◌, subst, arith, inl, inr, append_assoc}
+use Rattle.std.specs.Prelude.{◌⊎◌, if◌then◌else◌}
+use Rattle.std.proofs.lemmas.Bool.{cases_lt, false≢true}
 use Rattle.yaml_text.specs.declared.types.yaml_encoding_t.{yaml_encoding_t}
 use Rattle.yaml_text.specs.declared.fault.yaml_fault_t.{yaml_fault_t}
 use Rattle.yaml_text.specs.Fault.{Fault, fault_of, memory_fault}
 use Rattle.yaml_scan.specs.declared.step.scanner_t.{scanner_t}
 use Rattle.yaml_scan.specs.declared.queue.queued_t.{queued_t}
-use Rattle.yaml_scan.specs.declared.parser.yaml_parser_t.TheInside.{Inside}
-use Rattle.yaml_scan.specs.Kind.{is_stream_end, is_block_entry}
 use Rattle.yaml_scan.specs.Token.{yaml_token_t, empty, is_last_type, type_of}
 use Rattle.yaml_scan.specs.Laid.{Laid, reach}
 use Rattle.yaml_scan.specs.Order.{ended}
@@ -19,10 +17,10 @@ use Rattle.yaml_scan.specs.Session.{Session, Call, Answer, pace, all_steps, firs
 use Rattle.yaml_scan.specs.Session.Call.{SCAN, PEEK, SKIP}
 use Rattle.yaml_scan.specs.Session.Answer.{TOKEN, PEEKED, FAULT}
 use Rattle.yaml_scan.specs.Inputs.{decoded_input}
-use Rattle.yaml_scan.specs.Scanning.{Runs, IsOpen, history, course_of, input_of}
-use Rattle.yaml_scan.specs.Ready.{IsNew, IsIn, IsReady, IsShown, IsSettled, IsStopped, IsEnded, Pops, course_in, parser_of}
-use Rattle.yaml_scan.specs.Parser.{Parser, Calls, Scans, Shows, IsThere, WantsMemory, told, answered, behind, course_read, input_read, token_shown, token_or_empty}
-use Rattle.yaml_scan.proofs.AnswerOrder.{Fits, TokenFits, TokensFit, AllFit, course_fits, fit_before}
+use Rattle.yaml_scan.specs.Scanning.{IsOpen, history, course_of, input_of}
+use Rattle.yaml_scan.specs.Ready.{IsIn, IsShown, IsSettled, IsStopped, IsEnded, Pops, course_in}
+use Rattle.yaml_scan.specs.Parser.{Parser, Calls, Scans, Shows, IsThere, WantsMemory, answered, behind, course_read, input_read, token_shown, token_or_empty}
+use Rattle.yaml_scan.proofs.AnswerOrder.{TokenFits, TokensFit, AllFit, course_fits, fit_before}
 use Rattle.yaml_scan.proofs.GoOn.{all_is_handed_out}
 use Rattle.yaml_scan.proofs.Paces.{enough_made}
 use Rattle.yaml_scan.proofs.Settlings.{course_is}

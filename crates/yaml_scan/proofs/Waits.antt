@@ -1,5 +1,5 @@
 -- How many steps wait in the queue, as more steps are made and tokens are taken.
-use Rattle.std.proofs.Common.{◌≡◌, ℕ, zero, suc, ◌+◌, ◌-◌, ◌≤◌, ◌<◌, max, Bool, true, false, List, [], ◌∷◌, ◌++◌, map, reverse, filter, take, drop, take-append-drop, length, length-append, Option, Some, None, refl, ap, sym, ◌∙◌, subst, arith, inl, inr, get_or, eqb, eqb-true, ltb, ltb-true, ltb-false}
+use Rattle.std.proofs.Common.{◌≡◌, ℕ, zero, suc, ◌+◌, ◌-◌, ◌≤◌, ◌<◌, Bool, true, false, List, [], ◌∷◌, ◌++◌, reverse, filter, take, drop, take-append-drop, length, length-append, refl, ap, sym, ◌∙◌, subst, arith, inl, inr, get_or, eqb, eqb-true, ltb, ltb-true, ltb-false}
 use Rattle.std.specs.Prelude.{if◌then◌else◌, nat_eq}
 use Rattle.std.proofs.lemmas.Bool.{cases_Bool, cases_eq, cases_lt}
 use Rattle.std.proofs.lemmas.List.{take-append-le, drop_all, length-map, length-reverse}
@@ -12,7 +12,7 @@ use Rattle.yaml_scan.specs.Laws.{is_of_lexeme}
 use Rattle.yaml_scan.specs.Begins.{Begins}
 use Rattle.yaml_scan.specs.Order.{IsHistory}
 use Rattle.yaml_scan.specs.Offline.{Token, before, offline, groups, queued}
-use Rattle.yaml_scan.specs.Offline.Token.{StreamStart, OfLexeme}
+use Rattle.yaml_scan.specs.Offline.Token.{OfLexeme}
 use Rattle.yaml_scan.specs.Numbered.{IsQueue, step_behind, step_at}
 use Rattle.yaml_scan.specs.Cut.{oldest}
 use Rattle.yaml_scan.specs.Session.{steps_for, pace, first_steps}

@@ -9,7 +9,7 @@ use Rattle.yaml_scan.specs.Offline.{Token, handed_out}
 use Rattle.yaml_scan.specs.Answers.{Input, Course, course}
 use Rattle.yaml_scan.specs.Inputs.{decoded_input}
 use Rattle.yaml_scan.specs.Session.{Session, Call, Answer, pace, next_token, after, answer}
-use Rattle.yaml_scan.specs.Session.Call.{SCAN, PEEK, SKIP}
+use Rattle.yaml_scan.specs.Session.Call.{SCAN, PEEK}
 use Rattle.yaml_scan.specs.Session.Answer.{TOKEN, PEEKED, FAULT}
 
 pub record Parser : Type 0 where

@@ -1,5 +1,5 @@
 -- A scanner that is new, or stands in an input.
-use Rattle.std.specs.Prelude.{◌≡◌, ◌⊎◌, ℕ, ◌+◌, ◌-◌, ◌≤◌, ◌<◌, max, true, false, List, [], length, slice_get, Option, None, Some, option_map}
+use Rattle.std.specs.Prelude.{◌≡◌, ◌⊎◌, ℕ, ◌+◌, ◌≤◌, ◌<◌, max, true, false, List, [], length, slice_get, None, Some, option_map}
 use Rattle.yaml_text.specs.declared.types.yaml_encoding_t.{yaml_encoding_t}
 use Rattle.yaml_text.specs.Fault.{Fault, zero_mark}
 use Rattle.yaml_scan.specs.declared.step.scanner_t.{scanner_t}
@@ -7,12 +7,12 @@ use Rattle.yaml_scan.specs.declared.parser.yaml_parser_t.TheInside.{Inside}
 use Rattle.yaml_text.specs.Fault.{fault_of}
 use Rattle.yaml_scan.specs.Laid.{reach}
 use Rattle.yaml_scan.specs.Token.{yaml_token_t, empty}
-use Rattle.yaml_scan.specs.Offline.{Token, before, offline, handed_out}
-use Rattle.yaml_scan.specs.Answers.{Input, Course, course, tokens_of}
-use Rattle.yaml_scan.specs.Session.{Session, pace, all_steps, first_steps, session_queued}
+use Rattle.yaml_scan.specs.Offline.{Token, before, handed_out}
+use Rattle.yaml_scan.specs.Answers.{Course, course, tokens_of}
+use Rattle.yaml_scan.specs.Session.{pace, all_steps, first_steps, session_queued}
 use Rattle.yaml_scan.specs.Inputs.{decoded_input}
 use Rattle.yaml_scan.specs.Scanning.{Runs, IsOpen, history, course_of, input_of}
-use Rattle.yaml_scan.specs.Parser.{Parser, course_read}
+use Rattle.yaml_scan.specs.Parser.{Parser}
 
 -- nothing was read yet
 pub record IsNew (s : scanner_t) : Type 0 where

@@ -349,14 +349,14 @@ ghost use Rattle.yaml_scan.specs.contracts.parser.yaml_parser_t.{the_row};
 ghost use Rattle.yaml_scan.specs.Parser.{Peeks, told_copied, shown};
 ghost use Rattle.yaml_scan.specs.Session.Call.{PEEK};
 
-/// Whether a token was peeked and not taken.
+/// Whether a peek showed a token, other than the empty one, that was not taken since.
 pub fn yaml_parser_has_token(parser: &yaml_parser_t) -> bool
     ensures { result ≡ parser.now.session.peeked }
 {
     parser.peeked
 }
 
-/// The fault that a call has answered, if one has.
+/// The fault that has ended the session, if one has: of kind reader, scanner or memory.
 pub fn yaml_parser_fault<'s>(parser: &'s yaml_parser_t<'_>) -> Option<&'s yaml_fault_t>
     ensures { option_map (λ f. fault_of f.now) result ≡ parser.now.session.fault }
 {

@@ -1,8 +1,7 @@
-use Rattle.std.proofs.Common.{◌≡◌, ◌≤◌, refl, sym, ap, ◌∙◌, inl, inr, arith, false, true}
+use Rattle.std.proofs.Common.{◌≡◌, sym, ◌∙◌, inr, arith}
 use Rattle.std.specs.Prelude.{option_map}
 use Rattle.std.proofs.lemmas.Bool.{false≢true}
 use Rattle.yaml_text.specs.Fault.{fault_of}
-use Rattle.yaml_scan.specs.Parser.{Parser}
 use Rattle.yaml_scan.specs.Ready.{parser_of}
 use Rattle.yaml_scan.proofs.Scans.{show_token, show_fault_of, open_session}
 use Rattle.yaml_scan.proofs.Keeps.{stands_ready, keeps_settled, keeps_stopped, reach_in, reach_stopped}

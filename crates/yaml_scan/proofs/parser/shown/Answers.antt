@@ -1,4 +1,4 @@
-use Rattle.std.proofs.Common.{◌≡◌, ◌<◌, refl, sym, arith, length}
+use Rattle.std.proofs.Common.{sym, arith}
 use Rattle.std.specs.Prelude.{option_map}
 use Rattle.yaml_text.specs.Fault.{fault_of}
 use Rattle.yaml_scan.proofs.Takings.{queue_some}

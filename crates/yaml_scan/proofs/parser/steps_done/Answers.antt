@@ -1,4 +1,4 @@
-use Rattle.std.proofs.Common.{◌≤◌, ◌<◌, refl, arith, length, deque_len, inl, inr, true, false}
+use Rattle.std.proofs.Common.{refl, arith, deque_len, inl, inr}
 use Rattle.std.proofs.lemmas.Bool.{cases_lt, false≢true}
 use Rattle.yaml_scan.proofs.Waits.{done_some, done_none}
 use Rattle.yaml_scan.proofs.parser.steps_done.Goals as goal

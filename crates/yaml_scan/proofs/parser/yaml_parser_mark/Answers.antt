@@ -1,4 +1,4 @@
-use Rattle.std.proofs.Common.{◌≡◌, ap, ◌∙◌}
+use Rattle.std.proofs.Common.{ap, ◌∙◌}
 use Rattle.yaml_scan.specs.Parser.{Parser, course_read}
 use Rattle.yaml_scan.specs.Session.{session_reach}
 use Rattle.yaml_scan.proofs.parser.yaml_parser_mark.Goals as goal

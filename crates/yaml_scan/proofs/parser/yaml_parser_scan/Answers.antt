@@ -1,4 +1,4 @@
-use Rattle.std.proofs.Common.{◌≡◌, Ok, Err, sym, ap, ◌∙◌}
+use Rattle.std.proofs.Common.{Ok, Err, sym, ap, ◌∙◌}
 use Rattle.yaml_scan.specs.Parser.{Parser, Scans, told}
 use Rattle.yaml_scan.specs.Session.Call.{SCAN}
 use Rattle.yaml_scan.proofs.Scans.{scan_shown, scan_not_shown, bare}
