@@ -1,19 +1,16 @@
 -- Calls one behind the other.
-use Rattle.std.proofs.Common.{◌≡◌, ℕ, zero, suc, ◌+◌, ◌<◌, ◌≤◌, Bool, true, false, List, [], ◌∷◌, ◌++◌, map, take, drop, length, get_or, Option, Some, None, refl, ap, sym, ◌∙◌, subst, arith, inl, inr, append_assoc, length-append}
+use Rattle.std.proofs.Common.{◌≡◌, ℕ, zero, suc, ◌+◌, ◌<◌, ◌≤◌, true, false, List, [], ◌∷◌, ◌++◌, map, take, drop, length, get_or, refl, ap, sym, ◌∙◌, subst, arith, inl, inr, append_assoc, length-append}
 use Rattle.std.proofs.lemmas.Bool.{false≢true}
 use Rattle.yaml_text.specs.declared.types.yaml_encoding_t.{yaml_encoding_t}
 use Rattle.yaml_scan.specs.Fault.{memory_fault}
-use Rattle.yaml_scan.specs.Begins.{Begins}
-use Rattle.yaml_scan.specs.Offline.{Token}
-use Rattle.yaml_scan.specs.Answers.{Course, tokens_of}
+use Rattle.yaml_scan.specs.Answers.{Course}
 use Rattle.yaml_scan.specs.Session.{Session, Call, Answer, answer, after, session, after_all}
 use Rattle.yaml_scan.specs.Session.Call.{SCAN, PEEK, SKIP}
-use Rattle.yaml_scan.specs.SessionLaws.{taken_by, tokens_in}
 use Rattle.yaml_scan.specs.Parser.{Parser, WantsMemory, answered, behind, course_read, input_read}
 use Rattle.yaml_scan.specs.declared.calls.yaml_call_t.{yaml_call_t}
 use Rattle.yaml_scan.specs.declared.calls.yaml_answer_t.{yaml_answer_t}
 use Rattle.yaml_scan.specs.Calls.{call_of, Seen, seen, seen_of, Sees, behind_all, answered_all, idle, RunsOut, Runs, PutsAnswers, TakesNext}
-use Rattle.yaml_scan.specs.Calls.Seen.{TOKEN, PEEKED, SKIPPED, NOTHING, FAULT}
+use Rattle.yaml_scan.specs.Calls.Seen.{FAULT}
 use Rattle.yaml_scan.proofs.Sessions.{all_go}
 
 -- LISTS

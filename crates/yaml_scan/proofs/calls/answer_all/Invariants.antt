@@ -1,4 +1,4 @@
-use Rattle.std.proofs.Common.{◌≡◌, ℕ, ◌+◌, ◌≤◌, List, map, take, length}
+use Rattle.std.proofs.Common.{◌+◌, ◌≤◌, map, take, length}
 use Rattle.std.specs.Prelude.{vec_len}
 use Rattle.std.specs.Vec.{vec_capacity}
 use Rattle.yaml_scan.specs.Calls.{call_of, PutsAnswers}
