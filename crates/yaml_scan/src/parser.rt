@@ -310,6 +310,7 @@ ghost use Rattle.yaml_scan.specs.Session.Call.{SKIP};
 pub fn yaml_parser_scan(parser: &mut yaml_parser_t) -> Result<yaml_token_t, yaml_fault_t>
     ensures answers { Scans parser.old result parser.new }
     ensures bare { IsThere parser.old → (told result ≡ answered parser.old SCAN) × (parser.new ≡ behind parser.old SCAN) }
+    ensures local { IsLocal parser.old.limit parser.old.setting parser.old.input }
 {
     if parser.over {
         return Ok(yaml_token_t::empty());
@@ -320,6 +321,7 @@ pub fn yaml_parser_scan(parser: &mut yaml_parser_t) -> Result<yaml_token_t, yaml
     }
 }
 
+ghost use Rattle.yaml_scan.specs.Inputs.{IsLocal};
 ghost use Rattle.yaml_scan.specs.Parser.{IsThere, told, answered};
 ghost use Rattle.yaml_scan.specs.Session.Call.{SCAN};
 
@@ -339,9 +341,12 @@ pub fn yaml_parser_peek<'s>(
 ) -> Result<&'s yaml_token_t, yaml_fault_t>
     ensures* answers { sem 𝓛 (follows_so (the_row (record { mir = named 1; lft = [] })) (the_row (record { mir = named 1; lft = [] })) parser.entry.ghost_name none (λ _ _. ⊤) (λ q. Peeks parser.old (told_copied result) q)) }
     ensures bare { IsThere parser.old → shown (told_copied result) ≡ answered parser.old PEEK }
+    ensures local { IsLocal parser.old.limit parser.old.setting parser.old.input }
 {
-    show(parser)?;
-    Ok(shown(parser))
+    match show(parser) {
+        Ok(_) => Ok(shown(parser)),
+        Err(fault) => Err(fault),
+    }
 }
 
 ghost use Rattle.std.specs.Prelude.{⊤};
