@@ -16,7 +16,7 @@ starts_before-requires-clause-few c =
     omega (arith, w, e)
 
 pub overflow_add-result-then-found-ne0 : goal.overflow_add-result-then-found-ne0
-overflow_add-result-then-found-ne0 c = 
+overflow_add-result-then-found-ne0 c =
     let found = c.stops-found in
     let small = count_small begins (count_trailing_zeros 64 found.result) (chunk c.wide.i 16 c.args.text.now) in
     let w = stop_within (is_stop c.args.class) (is_quiet c.args.class) (λ x. refl) c.args.text.now c.wide.i 16 (omega arith) (omega arith) (omega (arith, found.ensures)) in
