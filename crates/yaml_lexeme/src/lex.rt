@@ -168,6 +168,7 @@ fn directive(start: yaml_mark_t, directive: directive_t, reach: yaml_mark_t) -> 
 }
 
 /// Takes a lexeme that is one character, or a document marker.
+#[inline(never)]
 fn take_characters(
     cursor: &mut cursor_t,
     kind: yaml_lexeme_kind_t,
@@ -180,6 +181,7 @@ fn take_characters(
     Ok(whole(says_of(kind), start, cursor.mark()))
 }
 
+#[inline(never)]
 fn take_end(cursor: &mut cursor_t) -> Result<yaml_lexeme_t, refusal_t>
     ensures value { Gives (λ l. l) result cursor.new (spec.at_end cursor.old) }
     ensures taken { IsOk result }
@@ -187,6 +189,7 @@ fn take_end(cursor: &mut cursor_t) -> Result<yaml_lexeme_t, refusal_t>
     Ok(at_end(cursor))
 }
 
+#[inline(never)]
 fn take_alias(alloc: Global, cursor: &mut cursor_t) -> Result<yaml_lexeme_t, refusal_t>
     ensures { Gives (λ l. l) result cursor.new (spec.whole token.ALIAS cursor.old (names.name cursor.old)) }
 {
@@ -196,6 +199,7 @@ fn take_alias(alloc: Global, cursor: &mut cursor_t) -> Result<yaml_lexeme_t, ref
     Ok(whole(says, start, cursor.mark()))
 }
 
+#[inline(never)]
 fn take_anchor(alloc: Global, cursor: &mut cursor_t) -> Result<yaml_lexeme_t, refusal_t>
     ensures { Gives (λ l. l) result cursor.new (spec.whole token.ANCHOR cursor.old (names.name cursor.old)) }
 {
@@ -205,6 +209,7 @@ fn take_anchor(alloc: Global, cursor: &mut cursor_t) -> Result<yaml_lexeme_t, re
     Ok(whole(says, start, cursor.mark()))
 }
 
+#[inline(never)]
 fn take_whole_tag(
     alloc: Global,
     cursor: &mut cursor_t,
@@ -217,6 +222,7 @@ fn take_whole_tag(
     Ok(whole(says, start, cursor.mark()))
 }
 
+#[inline(never)]
 fn take_whole_directive(alloc: Global, cursor: &mut cursor_t) -> Result<yaml_lexeme_t, refusal_t>
     ensures { Gives (λ l. l) result cursor.new (spec.ended cursor.old (directives.directive cursor.old)) }
 {
@@ -235,6 +241,7 @@ fn block_style(folded: bool) -> yaml_scalar_style_t
     }
 }
 
+#[inline(never)]
 fn take_block_scalar(
     alloc: Global,
     cursor: &mut cursor_t,
@@ -259,6 +266,7 @@ fn quoted_style(single: bool) -> yaml_scalar_style_t
     }
 }
 
+#[inline(never)]
 fn take_quoted_scalar(
     alloc: Global,
     cursor: &mut cursor_t,
@@ -271,6 +279,7 @@ fn take_quoted_scalar(
     Ok(whole(scalar_of(value, quoted_style(single)), start, cursor.mark()))
 }
 
+#[inline(never)]
 fn take_plain_scalar(
     alloc: Global,
     cursor: &mut cursor_t,
@@ -291,6 +300,7 @@ fn take_plain_scalar(
 
 /// Takes a lexeme of the kind. Each kind has a function of its own, so that none pays for the room that another needs.
 #[tactic(auto, unfolding(crate::specs::Lex::lex))]
+#[inline(always)]
 fn take_lexeme(
     alloc: Global,
     cursor: &mut cursor_t,
@@ -347,6 +357,7 @@ fn make_fault(
 /// `kind` is what `yaml_lexeme_kind` answers there with `in_flow` for a depth above 0, and the level is at most the
 /// number of the text's bytes. A fault of kind memory comes only where a growth was refused. Stream ends, document markers and
 /// lexemes of one character take no memory and are never refused.
+#[inline(always)]
 pub fn yaml_lexeme_at(
     alloc: Global,
     text: &yaml_text_t,
