@@ -9,7 +9,16 @@ use crate::cursor::cursor_t;
 use crate::runs::class_t;
 use std::alloc::AllocError;
 
+#[inline(never)]
+fn push_wide(out: &mut Vec<u8>, c: char) -> Result<(), AllocError>
+    ensures { OnOk result (out.new.items ≡ out.old.items ++ encode_utf8 c) }
+{
+    let mut bytes = [0; 4];
+    out.extend_from_slice(c.encode_utf8(&mut bytes).as_bytes())
+}
+
 /// Puts a character behind `out`.
+#[inline(always)]
 pub(crate) fn push_char(out: &mut Vec<u8>, c: char) -> Result<(), AllocError>
     ensures { OnOk result (out.new.items ≡ out.old.items ++ encode_utf8 c) }
 {
@@ -17,8 +26,7 @@ pub(crate) fn push_char(out: &mut Vec<u8>, c: char) -> Result<(), AllocError>
         out.push(c as u32 as u8)?;
         return Ok(());
     }
-    let mut bytes = [0; 4];
-    out.extend_from_slice(c.encode_utf8(&mut bytes).as_bytes())
+    push_wide(out, c)
 }
 
 /// A break as it is written in a value.
