@@ -73,7 +73,6 @@ fn is_in_line(c: char) -> bool
     !(is_break(c) || c == '\0')
 }
 
-#[inline(always)]
 fn is_in(class: class_t, c: char) -> bool
     ensures { result ≡ class_test class c }
 {

@@ -9,16 +9,7 @@ use crate::cursor::cursor_t;
 use crate::runs::class_t;
 use std::alloc::AllocError;
 
-#[inline(never)]
-fn push_wide(out: &mut Vec<u8>, c: char) -> Result<(), AllocError>
-    ensures { OnOk result (out.new.items ≡ out.old.items ++ encode_utf8 c) }
-{
-    let mut bytes = [0; 4];
-    out.extend_from_slice(c.encode_utf8(&mut bytes).as_bytes())
-}
-
 /// Puts a character behind `out`.
-#[inline(always)]
 pub(crate) fn push_char(out: &mut Vec<u8>, c: char) -> Result<(), AllocError>
     ensures { OnOk result (out.new.items ≡ out.old.items ++ encode_utf8 c) }
 {
@@ -26,7 +17,8 @@ pub(crate) fn push_char(out: &mut Vec<u8>, c: char) -> Result<(), AllocError>
         out.push(c as u32 as u8)?;
         return Ok(());
     }
-    push_wide(out, c)
+    let mut bytes = [0; 4];
+    out.extend_from_slice(c.encode_utf8(&mut bytes).as_bytes())
 }
 
 /// A break as it is written in a value.

@@ -3,9 +3,7 @@ ghost use Rattle.std.specs.Prelude.{◌≡◌, ◌||◌, ◌<◌, ◌≤◌, [],
 ghost use Rattle.yaml_lexeme.specs.Plain as spec;
 ghost use Rattle.yaml_lexeme.specs.Gives.{Gives, Appends};
 ghost use Rattle.yaml_lexeme.specs.Reading.{with_front};
-ghost use Rattle.yaml_lexeme.specs.Place as place;
 ghost use Rattle.yaml_lexeme.specs.Runs as runs;
-ghost use Rattle.yaml_text.specs.Chars.{utf8};
 ghost use Rattle.yaml_lexeme.specs.Words.{links, words, plain_of, Leaves, LeavesMore};
 
 use crate::cursor::{cursor_t, ends, is_break, is_white};
@@ -46,16 +44,14 @@ fn is_chunk(in_flow: bool, c: char, next: char) -> bool
         && !is_bad_colon(in_flow, c, next)
 }
 
-/// Takes a run of what stands unchanged in a line, but for the blanks at its end, and gives its bytes.
-#[inline(always)]
-fn take_piece<'a>(cursor: &mut cursor_t<'a>, in_flow: bool) -> &'a [u8]
-    ensures value { result.now ≡ utf8 (runs.trim (place.run (runs.class_test (plain_of in_flow)) cursor.old)) }
-    ensures end { cursor.new ≡ place.skip (length (runs.trim (place.run (runs.class_test (plain_of in_flow)) cursor.old))) cursor.old }
+fn line_class(in_flow: bool) -> class_t
+    ensures class { result ≡ plain_of in_flow }
+    ensures line { runs.is_line result ≡ true }
 {
     if in_flow {
-        cursor.run_trimmed(class_t::FLOW)
+        class_t::FLOW
     } else {
-        cursor.run_trimmed(class_t::PLAIN)
+        class_t::PLAIN
     }
 }
 
@@ -79,7 +75,7 @@ fn push_words(
     if !goes_far(cursor, in_flow, least) {
         return Ok(());
     }
-    let piece = take_piece(cursor, in_flow);
+    let piece = cursor.run_trimmed(line_class(in_flow));
     out.extend_from_slice(piece)?;
     Ok(())
 }

@@ -5,7 +5,6 @@ ghost use Rattle.yaml_lexeme.specs.declared.problem.refusal_t.TheVariants.{OFFEN
 ghost use Rattle.yaml_lexeme.specs.declared.problem.problem_t.TheVariants.{DOCUMENT_MARKER};
 ghost use Rattle.yaml_lexeme.specs.Kind as kind;
 ghost use Rattle.yaml_lexeme.specs.Quoted as spec;
-ghost use Rattle.yaml_lexeme.specs.Place as place;
 ghost use Rattle.yaml_lexeme.specs.Runs as runs;
 ghost use Rattle.yaml_lexeme.specs.Gives.{Gives, Takes};
 ghost use Rattle.yaml_lexeme.specs.Words.{GoesOn};
@@ -73,16 +72,13 @@ fn take_part(cursor: &mut cursor_t, single: bool, out: &mut Vec<u8>) -> Result<b
     Ok(true)
 }
 
-/// Takes a run of what stands unchanged in a line, and gives its bytes.
-#[inline(always)]
-fn take_run<'a>(cursor: &mut cursor_t<'a>, single: bool) -> &'a [u8]
-    ensures value { result.now ≡ utf8 (place.run (runs.class_test (runs.line_of single)) cursor.old) }
-    ensures end { cursor.new ≡ place.behind (runs.class_test (runs.line_of single)) cursor.old }
+fn line_class(single: bool) -> class_t
+    ensures { result ≡ runs.line_of single }
 {
     if single {
-        cursor.run(class_t::SINGLE)
+        class_t::SINGLE
     } else {
-        cursor.run(class_t::DOUBLE)
+        class_t::DOUBLE
     }
 }
 
@@ -95,7 +91,7 @@ fn push_line(cursor: &mut cursor_t, single: bool, out: &mut Vec<u8>) -> Result<(
     if matches!(cursor.peek(0), '\\' | '"') {
         return Ok(());
     }
-    let piece = take_run(cursor, single);
+    let piece = cursor.run(line_class(single));
     if !is_break(cursor.peek(0)) {
         out.extend_from_slice(piece)?;
         return Ok(());
