@@ -278,7 +278,10 @@ impl<'a> cursor_t<'a> {
             self.bytes = rest(self.bytes, 1);
             return;
         }
-        self.advance_far();
+        // on a copy, so that a cursor whose address nobody takes stays in registers
+        let mut far = self.again();
+        far.advance_far();
+        *self = far;
     }
 
     /// Takes a character that is no other of ASCII than a carriage return.

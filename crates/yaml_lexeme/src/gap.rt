@@ -22,7 +22,9 @@ pub(crate) fn skip_comment(cursor: &mut cursor_t)
     ensures { cursor.new ≡ spec.after_comment cursor.old }
 {
     if cursor.peek(0) == '#' {
-        skip_line(cursor);
+        let mut end = cursor.again();
+        skip_line(&mut end);
+        *cursor = end;
     }
 }
 
