@@ -278,10 +278,7 @@ impl<'a> cursor_t<'a> {
             self.bytes = rest(self.bytes, 1);
             return;
         }
-        // on a copy, so that a cursor whose address nobody takes stays in registers
-        let mut far = self.again();
-        far.advance_far();
-        *self = far;
+        self.advance_far();
     }
 
     /// Takes a character that is no other of ASCII than a carriage return.

@@ -22,9 +22,7 @@ pub(crate) fn skip_comment(cursor: &mut cursor_t)
     ensures { cursor.new ≡ spec.after_comment cursor.old }
 {
     if cursor.peek(0) == '#' {
-        let mut end = cursor.again();
-        skip_line(&mut end);
-        *cursor = end;
+        skip_line(cursor);
     }
 }
 

@@ -32,7 +32,7 @@ pub advance_far-requires : goal.advance_far-requires
 advance_far-requires c =
     let some : 0 < length c.self.inside.bytes.now = grind (arith, common_steps) in
     let h = head c.self.inside.bytes.now c.self.invariant.0 some in
-    omega (arith, h.some, ap (λ (p : Place). length p.rest) c.self.view_is, ap (λ (p : Place). length p.rest) c.again-far.ensures)
+    omega (arith, h.some, ap (λ (p : Place). length p.rest) c.self.view_is)
 
 pub invariant_of-self : goal.invariant_of-self
 invariant_of-self c =
