@@ -1,4 +1,4 @@
-use Rattle.std.proofs.Common.{rules, length, ◌<◌, ◌^◌, ◌≡◌, ◌≤◌, ◌+◌, refl, sym, ap, ◌∙◌, subst, take, arith, ℕ, List}
+use Rattle.std.proofs.Common.{rules, length, ◌<◌, ◌^◌, ◌+◌, refl, sym, ap, ◌∙◌, arith, ℕ, List}
 use Rattle.std.proofs.lemmas.List.Sums.{prefix_len-le-length}
 use lib.Count.{count_trailing_zeros}
 use lib.Lanes.{chunk}

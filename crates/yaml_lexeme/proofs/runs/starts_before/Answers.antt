@@ -1,4 +1,4 @@
-use Rattle.std.proofs.Common.{◌≡◌, ◌<◌, ◌-◌, ◌*◌, ◌%◌, ◌^◌, ◌∙◌, ap, refl, arith, ℕ}
+use Rattle.std.proofs.Common.{◌-◌, ◌∙◌, ap, refl, arith, ℕ}
 use Rattle.std.proofs.lemmas.Grind.{one_shifted}
 use Rattle.std.specs.Int.RustNames.{count_ones}
 use lib.Bits.{bit_and}

@@ -1,11 +1,9 @@
-use Rattle.std.proofs.Common.{◌<◌, ◌≤◌, ◌∙◌, length, arith, ap, ℕ, List}
+use Rattle.std.proofs.Common.{◌∙◌, length, arith, ap, ℕ}
 use Rattle.std.specs.Char.{len_utf8}
-use Rattle.std.proofs.lemmas.Grind.{common_steps}
-use Rattle.std.proofs.lemmas.List.{length-drop}
-use Rattle.yaml_lexeme.specs.Place.{Place, mark_behind, skip}
-use Rattle.yaml_lexeme.proofs.Places.{moved, stays}
+use Rattle.yaml_lexeme.specs.Place.{Place, mark_behind}
+use Rattle.yaml_lexeme.proofs.Places.{moved}
 use Rattle.yaml_text.specs.declared.types.yaml_mark_t.{yaml_mark_t}
-use Rattle.yaml_lexeme.proofs.Cursors.{index_behind, ascii_moves}
+use Rattle.yaml_lexeme.proofs.Cursors.{index_behind}
 use Rattle.yaml_lexeme.proofs.Heads.{head, some_bytes, shrinks}
 use Rattle.yaml_lexeme.proofs.cursor.cursor_t.advance_far.Goals as goal
 
