@@ -53,7 +53,8 @@ def texts():
     yield "double quoted, escapes of all kinds", '"' + "".join(r.choice(many) for _ in range(SIZE // 3)) + '"', False
     yield "literal, lines of 78", "|\n  " + lines(r, SIZE, 78, "\n  ") + "\n", False
     yield "folded, lines of 78", ">\n  " + lines(r, SIZE, 78, "\n  ") + "\n", False
-    yield "100,000 short plain scalars", "\n".join(word(r) + word(r) for _ in range(100_000)), True
+    # both read the entries of a sequence
+    yield "100,000 short plain scalars", "".join("- " + word(r) + word(r) + "\n" for _ in range(100_000)), True
 
 
 def main():
@@ -62,14 +63,13 @@ def main():
         subprocess.run(["cc", "-O2", "-o", libyaml, os.path.join(HERE, "libyaml_scan.c"), "-lyaml"], check=True)
         print("| text | bytes | ours, best (median) in ms | libyaml, best (median) in ms | times | copy in ms |")
         print("|---|---|---|---|---|---|")
-        for name, text, by_lines in texts():
+        for name, text, walks in texts():
             path = os.path.join(room, "text")
             data = text.encode()
             pinned = ["taskset", "-c", "1"]
-            ours = subprocess.run([*pinned, LEXLIST, "measure", *(["lines"] if by_lines else [])], input=data, capture_output=True, check=True)
+            ours = subprocess.run([*pinned, LEXLIST, "measure", *(["walk"] if walks else [])], input=data, capture_output=True, check=True)
             with open(path, "wb") as file:
-                # libyaml has the short ones as the entries of a sequence
-                file.write(b"- " + data.replace(b"\n", b"\n- ") + b"\n" if by_lines else data)
+                file.write(data)
             theirs = subprocess.run([*pinned, libyaml, path], capture_output=True, check=True)
             _, best, median = (int(n) for n in ours.stdout.split())
             _, _, lib_best, lib_median, copy = (float(n) for n in theirs.stdout.split())

@@ -10,8 +10,9 @@
 //! FLOW and ALLOWED are 0 or 1, INDEX counts bytes, LEVEL is a column or `-`, TEXT is hexadecimal or `-`. A line that asks
 //! nothing of the kind is answered by `?`.
 //!
-//! With the word `measure` the input is a text of which the lexeme at the front is read nine times, and with `measure lines`
-//! it is one of each of its lines; the answer is how many bytes were read, and the best and the median time in nanoseconds.
+//! With the word `measure` something is done nine times with the input as a text: the lexeme at its front is read, with
+//! `measure walk` all its lexemes one behind the other, and with `measure scan` its tokens are scanned. The answer is how many
+//! bytes were read, or tokens scanned, and the best and the median time in nanoseconds.
 #![tactic(auto)]
 
 mod ask;
@@ -20,7 +21,7 @@ mod show;
 mod words;
 
 use ask::answer;
-use measure::measure;
+use measure::{measure, task_of, task_t};
 use std::io::{BufRead, BufReader, BufWriter, Read, Write};
 use std::{env, io};
 
@@ -35,17 +36,19 @@ fn answer_lines(rt: &HostRuntime) -> io::Result<()> {
     out.flush()
 }
 
-fn measure_input(rt: &HostRuntime, by_lines: bool) -> io::Result<()> {
+fn measure_input(rt: &HostRuntime, task: task_t) -> io::Result<()> {
     let mut input = Vec::new(rt.alloc());
     rt.reader().read_to_end(&mut input)?;
-    let text = measure(rt, &input, by_lines)??;
+    let text = measure(rt, &input, task)??;
     io::writer(rt).write_all(text.as_bytes())
 }
 
 fn main(rt: HostRuntime) -> io::Result<()> {
     let words: Vec<String> = env::args(&rt)?.skip(1).collect(rt.alloc())?;
     match words.first() {
-        Some(word) if word.as_str() == "measure" => measure_input(&rt, words.len() > 1),
+        Some(word) if word.as_str() == "measure" => {
+            measure_input(&rt, task_of(words.get(1).map(|w| w.as_str())))
+        }
         _ => answer_lines(&rt),
     }
 }

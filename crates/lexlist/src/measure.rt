@@ -1,13 +1,39 @@
 //! How long reading takes.
-ghost use Rattle.std.specs.Prelude.{ℕ};
+ghost use Rattle.std.specs.Prelude.{ℕ, ◌≡◌, IfSome};
+ghost use Rattle.yaml_lexeme.specs.Order.{is_stream_end};
 ghost use Rattle.yaml_lexeme.specs.Place.{IsMarkOf};
 
 use crate::ask::mark_at;
 use std::alloc::{AllocError, Global};
 use std::io;
 use std::time::Instant;
-use yaml_lexeme::{yaml_context_t, yaml_lexeme_at, yaml_lexeme_kind};
-use yaml_text::{yaml_decode, yaml_encoding_t, yaml_mark_t, yaml_text_t};
+use yaml_lexeme::{
+    yaml_context_t, yaml_gap, yaml_lexeme_at, yaml_lexeme_kind, yaml_lexeme_kind_t, yaml_lexeme_t,
+};
+use yaml_scan::{yaml_parser_scan, yaml_parser_t};
+use yaml_text::{
+    unnamed_yaml_token_t_data, yaml_decode, yaml_encoding_t, yaml_mark_t, yaml_text_t,
+};
+
+/// What is done with a text.
+#[derive(Clone, Copy)]
+pub enum task_t {
+    /// The lexeme at its front is read.
+    FRONT,
+    /// Its lexemes are read one behind the other, with a level open at column 0.
+    WALK,
+    /// Its tokens are scanned.
+    SCAN,
+}
+
+/// The task of a word: `walk`, `scan`, or the front for any other and for none.
+pub fn task_of(word: Option<&str>) -> task_t {
+    match word {
+        Some("walk") => task_t::WALK,
+        Some("scan") => task_t::SCAN,
+        _ => task_t::FRONT,
+    }
+}
 
 /// How many bytes the lexeme at a place reaches over, outside of flow and with no level open.
 fn read_at(alloc: Global, text: &yaml_text_t, at: yaml_mark_t) -> u64
@@ -33,41 +59,98 @@ fn read_front(alloc: Global, text: &yaml_text_t) -> u64 {
     }
 }
 
-/// The same of each line as a text of its own.
-fn read_lines(alloc: Global, input: &[u8]) -> u64 {
-    let mut reached: u64 = 0;
-    for line in input.split(|b| *b == b'\n') {
-        if let Ok(text) = yaml_decode(alloc, line, yaml_encoding_t::YAML_UTF8_ENCODING) {
-            reached = reached.wrapping_add(read_front(alloc, &text));
-        }
-    }
-    reached
+fn is_end(kind: yaml_lexeme_kind_t) -> bool
+    ensures { result ≡ is_stream_end kind }
+{
+    matches!(kind, yaml_lexeme_kind_t::STREAM_END)
 }
 
-/// Reads the lexeme at the front of the input, or that of each of its lines, nine times, and says how many bytes it reaches
-/// over, and the best and the median time in nanoseconds.
+fn reach(lexeme: &yaml_lexeme_t) -> yaml_mark_t
+    ensures { result ≡ lexeme.now.reach }
+{
+    lexeme.reach
+}
+
+/// The mark up to which the lexeme behind a gap was read, if one stands there.
+fn read_behind(alloc: Global, text: &yaml_text_t, at: yaml_mark_t) -> Option<yaml_mark_t>
+    requires { (n : ℕ) × IsMarkOf text.now.chars at n }
+    ensures { IfSome result (λ mark. (n : ℕ) × IsMarkOf text.now.chars mark n) }
+{
+    let (front, _) = yaml_gap(text, at, false, true);
+    let context = yaml_context_t {
+        depth: 0,
+        level: Some(0),
+    };
+    let Some(kind) = yaml_lexeme_kind(text, front, false) else {
+        return None;
+    };
+    if is_end(kind) {
+        return None;
+    }
+    match yaml_lexeme_at(alloc, text, front, kind, context) {
+        Ok(lexeme) => Some(reach(&lexeme)),
+        Err(_) => None,
+    }
+}
+
+/// How many bytes the lexemes reach over, one behind the other.
+fn walk(alloc: Global, text: &yaml_text_t) -> u64 {
+    let Some(mut at) = mark_at(text, 0) else {
+        return 0;
+    };
+    'lexemes: for _ in 0..text.bytes().len() {
+        match read_behind(alloc, text, at) {
+            Some(next) => at = next,
+            None => break,
+        }
+    }
+    at.index
+}
+
+/// How many tokens an input has, up to its end or a fault.
+fn scan(alloc: Global, input: &[u8]) -> u64 {
+    let mut parser = yaml_parser_t::new(alloc, input, yaml_encoding_t::YAML_ANY_ENCODING);
+    let mut tokens: u64 = 0;
+    'tokens: for _ in 0..u64::MAX {
+        let Ok(token) = yaml_parser_scan(&mut parser) else {
+            break;
+        };
+        tokens = tokens.wrapping_add(1);
+        if matches!(token.token_data, unnamed_yaml_token_t_data::STREAM_END) {
+            break;
+        }
+    }
+    tokens
+}
+
+fn done(alloc: Global, task: task_t, input: &[u8], text: &yaml_text_t) -> u64 {
+    match task {
+        task_t::FRONT => read_front(alloc, text),
+        task_t::WALK => walk(alloc, text),
+        task_t::SCAN => scan(alloc, input),
+    }
+}
+
+/// Does the task on the input nine times, and says how many bytes were read, or tokens scanned, and the best and the median
+/// time in nanoseconds.
 pub fn measure(
     rt: &HostRuntime,
     input: &[u8],
-    by_lines: bool,
+    task: task_t,
 ) -> io::Result<Result<String, AllocError>> {
     let alloc = rt.alloc();
     let Ok(text) = yaml_decode(alloc, input, yaml_encoding_t::YAML_UTF8_ENCODING) else {
         return Ok(String::from_str(alloc, "no text\n"));
     };
     let mut times = Vec::new(alloc);
-    let mut reached = 0;
+    let mut count = 0;
     for _ in 0..9 {
         let start = Instant::now(rt)?;
-        reached = if by_lines {
-            read_lines(alloc, input)
-        } else {
-            read_front(alloc, &text)
-        };
+        count = done(alloc, task, input, &text);
         times.push(start.elapsed(rt)?.as_nanos())?;
     }
     times.sort()?;
     let best = times.first().copied().unwrap_or(0);
     let median = times.get(4).copied().unwrap_or(0);
-    Ok(format!(in alloc; "{reached} {best} {median}\n"))
+    Ok(format!(in alloc; "{count} {best} {median}\n"))
 }

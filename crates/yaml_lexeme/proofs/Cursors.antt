@@ -150,6 +150,27 @@ ascii_moves m bytes t some low a b =
       place = moved p m (along m 1 1) (chars bytes) (chars (drop 1 bytes)) (get_or p.rest 1 0) refl h.some refl (ascii_mark m c (get_or p.rest 1 0) low' a' b') k.rest;
     }
 
+-- a line feed is one byte, and ends a line
+pub record LineMove (m : yaml_mark_t) (bytes : List ℕ) : Type 0 where
+  pub text : IsText (drop 1 bytes)
+  pub place : let p : Place = record { mark = m; rest = chars bytes } in let q : Place = record { mark = record { index = m.index + 1; line = m.line + 1; column = 0 }; rest = chars (drop 1 bytes) } in q ≡ skip 1 p
+
+line_feed_mark : (m : yaml_mark_t) (c next : ℕ) → c ≡ 10 → record { index = m.index + 1; line = m.line + 1; column = 0 } ≡ mark_behind m c next
+line_feed_mark m c next e = rw e refl
+
+pub line_feed_moves : (m : yaml_mark_t) (bytes : List ℕ) → IsText bytes → 0 < length bytes → get_or bytes 0 0 ≡ 10 → LineMove m bytes
+line_feed_moves m bytes t some e =
+    let h = head bytes t some in
+    let low : get_or bytes 0 0 < 128 = omega arith in
+    let same : get_or bytes 0 0 ≡ get_or (chars bytes) 0 0 = ascii_head bytes t low in
+    let k = past_ascii bytes t some low in
+    let p : Place = record { mark = m; rest = chars bytes } in
+    let m' : yaml_mark_t = record { index = m.index + 1; line = m.line + 1; column = 0 } in
+    record {
+      text = k.text;
+      place = moved p m m' (chars bytes) (chars (drop 1 bytes)) (get_or p.rest 1 0) refl h.some refl (line_feed_mark m (get_or (chars bytes) 0 0) (get_or p.rest 1 0) (sym same ∙ e)) k.rest;
+    }
+
 -- a text's front is a place of it
 pub at_front : (cs : List ℕ) → IsMarkOf cs (record { index = 0; line = 0; column = 0 }) 0
 unfolding skip

@@ -67,6 +67,10 @@ no_bytes bytes (c ∷ cs) e t none = absurd (omega (arith, ap length (bytes_of b
 pub none_left : (bytes : List ℕ) → IsText bytes → length bytes ≤ 0 → chars bytes ≡ []
 none_left bytes t none = no_bytes bytes (chars bytes) refl t none
 
+-- where characters are, bytes are
+pub some_bytes : (bytes : List ℕ) → IsText bytes → 0 < length (chars bytes) → 0 < length bytes
+some_bytes bytes t h = elim (cases_lt 0 (length bytes)) [ inl some ↦ some | inr none ↦ absurd (omega (arith, h, ap length (none_left bytes t none))) ]
+
 -- the bytes behind the first character
 pub record Past (bytes : List ℕ) (w : ℕ) : Type 0 where
   pub text : IsText (drop w bytes)

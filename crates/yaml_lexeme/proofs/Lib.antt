@@ -19,6 +19,7 @@ pub mod ScalarParts
 mod Rows
 pub mod Lanes
 pub mod Vectors
+pub mod Counts
 pub mod Places
 pub mod Heads
 pub mod Quiet

@@ -1,5 +1,5 @@
 -- Plain scalars, a character at a time.
-use Rattle.std.proofs.Common.{◌≡◌, ℕ, zero, suc, ◌+◌, ◌<◌, ◌≤◌, Bool, true, false, cond, not, ◌==◌, ◌&&◌, ◌||◌, if◌then◌else◌, inl, inr, List, [], ◌∷◌, ◌++◌, length, take, slice_index, Option, Some, None, Ok, Err, refl, sym, ap, ◌∙◌, arith}
+use Rattle.std.proofs.Common.{◌≡◌, ℕ, zero, suc, ◌+◌, ◌<◌, ◌≤◌, Bool, true, false, cond, not, ◌==◌, ◌&&◌, ◌||◌, if◌then◌else◌, inl, inr, List, [], ◌∷◌, ◌++◌, length, take, slice_index, Option, Some, None, Ok, Err, refl, sym, ap, ◌∙◌, subst, arith}
 use Rattle.std.proofs.lemmas.Bool.{cases_Bool}
 use Rattle.std.proofs.lemmas.Bool.Decides.{nat_tests}
 use Rattle.std.specs.List.{flat_map, list_any}
@@ -20,6 +20,9 @@ use Rattle.yaml_lexeme.specs.Plain.{is_tab, is_flow_indicator, is_bad_colon, is_
 use Rattle.yaml_lexeme.specs.Reading.{Read, found, Part, part, refuse, over, many, with_front, ◌>>=◌}
 use Rattle.yaml_text.specs.Chars.{utf8}
 use Rattle.yaml_text.specs.Classes.{is_break, is_blank}
+use Rattle.std.specs.Prelude.{nat_lt}
+use Rattle.yaml_lexeme.specs.declared.runs.class_t.TheVariants.{SPACE}
+use Rattle.yaml_lexeme.specs.Runs.{class_test}
 
 -- what a chunk gives where it ends
 abbrev stopped_at : Bool → List ℕ → Place → Read (List ℕ)
@@ -94,6 +97,40 @@ pub record Passes (least : ℕ) (broken : Bool) (p start : Place) : Type 0 where
 
 pub passes_more : (least : ℕ) (broken : Bool) (p start : Place) → is_white (first p) ≡ true → is_tab least broken p ≡ false → Passes least broken p start → Passes least (broken || is_break (first p)) (skip 1 p) start
 passes_more least broken p start h t s = record { tab = sym (tab_more least broken p h t) ∙ s.tab; end = sym (behind_more is_white p h refl).1 ∙ s.end }
+
+space_is : (c : ℕ) → class_test SPACE c ≡ true → (is_white c ≡ true) × ((c == 0x09) ≡ false) × (is_break c ≡ false)
+space_is c h = (grind (arith, nat_tests), grind (arith, nat_tests), grind (arith, nat_tests))
+
+or_none : (b : Bool) → (b || false) ≡ b
+or_none true = refl
+or_none false = refl
+
+one_space : (least : ℕ) (broken : Bool) (p start : Place) → class_test SPACE (first p) ≡ true → Passes least broken p start → Passes least broken (skip 1 p) start
+one_space least broken p start h s =
+    let c = space_is (first p) h in
+    let fine : is_tab least broken p ≡ false = ap (λ b. (b && broken) && nat_lt p.mark.column least) c.1 in
+    let next = passes_more least broken p start c.0 fine s in
+    let same : (broken || is_break (first p)) ≡ broken = ap (λ b. broken || b) c.2 ∙ or_none broken in
+    subst (λ b. Passes least b (skip 1 p) start) same next
+
+spaces_from : (least : ℕ) (broken : Bool) (fuel : ℕ) (p start : Place) → length p.rest ≤ fuel → Passes least broken p start → Passes least broken (behind (class_test SPACE) p) start
+spaces_from least broken zero p start l s =
+    elim (cases_Bool (class_test SPACE (first p))) [
+      | inl t ↦ absurd (omega (arith, l, (behind_more (class_test SPACE) p t refl).0))
+      | inr f ↦ subst (λ (q : Place). Passes least broken q start) (sym (behind_none (class_test SPACE) p f)) s
+    ]
+spaces_from least broken (suc fuel) p start l s =
+    elim (cases_Bool (class_test SPACE (first p))) [
+      | inl t ↦
+          let m = behind_more (class_test SPACE) p t refl in
+          let shorter : length (skip 1 p).rest ≤ fuel = omega (arith, l, length_one p) in
+          subst (λ (q : Place). Passes least broken q start) (sym m.1) (spaces_from least broken fuel (skip 1 p) start shorter (one_space least broken p start t s))
+      | inr f ↦ subst (λ (q : Place). Passes least broken q start) (sym (behind_none (class_test SPACE) p f)) s
+    ]
+
+-- spaces behind what was passed
+pub passes_spaces : (least : ℕ) (broken : Bool) (p start : Place) → Passes least broken p start → Passes least broken (behind (class_test SPACE) p) start
+passes_spaces least broken p start s = spaces_from least broken (length p.rest) p start (omega arith) s
 
 pub passes_none : (least : ℕ) (broken : Bool) (p start : Place) → is_white (first p) ≡ true → is_tab least broken p ≡ true → Passes least broken p start → separator least start ≡ refuse TAB_IN_PLAIN p
 unfolding separator

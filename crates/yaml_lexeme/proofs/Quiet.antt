@@ -1,5 +1,5 @@
 -- A run of quiet bytes goes over whole characters of the class.
-use Rattle.std.proofs.Common.{◌≡◌, ℕ, suc, ◌+◌, ◌/◌, ◌<◌, ◌≤◌, ◌⊎◌, Bool, true, false, cond, List, [], ◌∷◌, ◌++◌, length, get_or, refl, sym, ap, ◌∙◌, subst, arith, inl, inr}
+use Rattle.std.proofs.Common.{◌≡◌, ℕ, suc, ◌+◌, ◌/◌, ◌<◌, ◌≤◌, ◌⊎◌, Bool, true, false, cond, List, [], ◌∷◌, ◌++◌, length, get_or, take, refl, sym, ap, ◌∙◌, subst, arith, inl, inr}
 use Rattle.std.specs.List.{prefix_len, count_by}
 use Rattle.std.proofs.lemmas.Bool.{cases_lt, cases_Bool}
 use Rattle.std.proofs.lemmas.Bool.Decides.{nat_tests}
@@ -14,7 +14,7 @@ use Rattle.yaml_text.proofs.Spelling.{two, three, four, char_range}
 use Rattle.yaml_lexeme.specs.Place.{skip_from, mark_behind, width}
 use Rattle.yaml_lexeme.specs.declared.runs.class_t.{class_t}
 use Rattle.yaml_lexeme.specs.declared.runs.class_t.TheVariants.{BLANK, GAP_BLANK, SPACE, BLANK_OR_BREAK, ALPHA, DIGIT, IN_LINE, DOUBLE, SINGLE, PLAIN, FLOW}
-use Rattle.yaml_lexeme.specs.Runs.{is_quiet, class_test, begins, may_break}
+use Rattle.yaml_lexeme.specs.Runs.{is_quiet, class_test, begins, may_break, is_line}
 
 -- What is asked of bytes that are quiet for a test of characters: either all of them are ASCII, or all that continue a
 -- character are.
@@ -272,3 +272,32 @@ count_one c more =
 pub count_chars : (cs : List ℕ) → count_by begins (utf8 cs) ≡ length cs
 count_chars [] = refl
 count_chars (c ∷ cs) = omega (arith, count_one c (utf8 cs), count_chars cs)
+
+-- the quiet bytes of what is no line's class are characters by themselves
+quiet_begins : (class : class_t) (b : ℕ) → is_line class ≡ false → is_quiet class b ≡ true → begins b ≡ true
+quiet_begins BLANK b n h = grind (arith, nat_tests)
+quiet_begins (GAP_BLANK tabs) b n h = grind (arith, nat_tests)
+quiet_begins SPACE b n h = grind (arith, nat_tests)
+quiet_begins BLANK_OR_BREAK b n h = grind (arith, nat_tests)
+quiet_begins ALPHA b n h = grind (arith, nat_tests)
+quiet_begins DIGIT b n h = grind (arith, nat_tests)
+quiet_begins IN_LINE b n h = absurd cc
+quiet_begins DOUBLE b n h = absurd cc
+quiet_begins SINGLE b n h = absurd cc
+quiet_begins PLAIN b n h = absurd cc
+quiet_begins FLOW b n h = absurd cc
+
+counted_all : (p q : ℕ → Bool) → ((b : ℕ) → q b ≡ true → p b ≡ true) → (xs : List ℕ) → count_by p (take (prefix_len q xs) xs) ≡ prefix_len q xs
+counted_all p q all [] = refl
+counted_all p q all (x ∷ xs) =
+    elim (cases_Bool (q x)) [
+      | inl t ↦
+          let n = prefix_len q xs in
+          let one : 1 + n ≡ suc n = omega arith in
+          let step : count_by p (x ∷ take n xs) ≡ 1 + n = sum_by-cons (λ b. cond (p b) 1 0) x (take n xs) ∙ ap (λ b. cond b 1 0 + count_by p (take n xs)) (all x t) ∙ ap (λ k. 1 + k) (counted_all p q all xs) in
+          rw (t, one) (step ∙ one)
+      | inr f ↦ rw f refl
+    ]
+
+pub quiet_counted : (class : class_t) (xs : List ℕ) → is_line class ≡ false → count_by begins (take (prefix_len (is_quiet class) xs) xs) ≡ prefix_len (is_quiet class) xs
+quiet_counted class xs h = counted_all begins (is_quiet class) (λ b q. quiet_begins class b h q) xs

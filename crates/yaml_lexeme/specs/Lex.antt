@@ -59,6 +59,32 @@ quoted_as style value = token.SCALAR value style
 abbrev pub characters : unnamed_yaml_token_t_data → ℕ → Place → Read yaml_lexeme_t
 characters says n p = found (whole_of says p.mark (skip n p).mark) (skip n p)
 
+-- what a lexeme that is one character says, or a document marker
+abbrev pub says_of : yaml_lexeme_kind_t → unnamed_yaml_token_t_data
+says_of kind.DOCUMENT_START = token.DOCUMENT_START
+says_of kind.DOCUMENT_END = token.DOCUMENT_END
+says_of kind.FLOW_SEQUENCE_START = token.FLOW_SEQUENCE_START
+says_of kind.FLOW_MAPPING_START = token.FLOW_MAPPING_START
+says_of kind.FLOW_SEQUENCE_END = token.FLOW_SEQUENCE_END
+says_of kind.FLOW_MAPPING_END = token.FLOW_MAPPING_END
+says_of kind.FLOW_ENTRY = token.FLOW_ENTRY
+says_of kind.BLOCK_ENTRY = token.BLOCK_ENTRY
+says_of kind.KEY = token.KEY
+says_of kind.VALUE = token.VALUE
+says_of k = token.NO_TOKEN
+
+-- how many characters it takes
+abbrev pub len_of : yaml_lexeme_kind_t → ℕ
+len_of kind.DOCUMENT_START = 3
+len_of kind.DOCUMENT_END = 3
+len_of k = 1
+
+abbrev pub block_style : Bool → yaml_scalar_style_t
+block_style folded = if folded then YAML_FOLDED_SCALAR_STYLE else YAML_LITERAL_SCALAR_STYLE
+
+abbrev pub quoted_style : Bool → yaml_scalar_style_t
+quoted_style single = if single then YAML_SINGLE_QUOTED_SCALAR_STYLE else YAML_DOUBLE_QUOTED_SCALAR_STYLE
+
 -- a directive, which ends before the rest of its line
 abbrev pub directive_to : yaml_mark_t → directive_t → yaml_mark_t → yaml_lexeme_t
 directive_to start d reach = record { token_data = d.says; start_mark = start; end_mark = d.end; reach = reach; passed_break = false }

@@ -8,7 +8,7 @@ ghost use Rattle.yaml_lexeme.specs.Classes as sets;
 ghost use Rattle.yaml_lexeme.specs.Place.{peek, first, place_at, IsMarkOf, skip, mark_behind, width, behind, run, break_len};
 ghost use Rattle.yaml_lexeme.specs.Runs.{class_test, is_line, trim};
 
-use crate::runs::{class_t, count_chars, quiet_len, trimmed};
+use crate::runs::{class_t, quiet_len, trimmed};
 use std::marker::Model;
 use yaml_text::{WIDTH, yaml_mark_t, yaml_text_t};
 
@@ -133,6 +133,16 @@ fn code_of(bytes: &[u8], width: usize) -> u32
     }
 }
 
+/// The character in front.
+#[inline(never)]
+fn wide_char(bytes: &[u8]) -> char
+    requires text { IsText bytes.now }
+    requires some { 0 < length bytes.now }
+    ensures { result ≡ slice_index (chars bytes.now) 0 }
+{
+    char::from_u32(code_of(bytes, WIDTH(bytes, 0))).unwrap()
+}
+
 /// The character in front, or 0 at the end.
 #[inline(always)]
 fn first_char(bytes: &[u8]) -> char
@@ -146,7 +156,17 @@ fn first_char(bytes: &[u8]) -> char
     if b < 0x80 {
         return char::from(b);
     }
-    char::from_u32(code_of(bytes, WIDTH(bytes, 0))).unwrap()
+    wide_char(bytes)
+}
+
+#[inline(never)]
+fn past_wide(bytes: &[u8]) -> &[u8]
+    requires { IsText bytes.now }
+    ensures text { IsText result.now }
+    ensures rest { chars result.now ≡ drop 1 (chars bytes.now) }
+{
+    let width = WIDTH(bytes, 0).min(bytes.len());
+    rest(bytes, width)
 }
 
 /// The bytes behind the character in front.
@@ -162,8 +182,7 @@ fn past_char(bytes: &[u8]) -> &[u8]
     if bytes[0] < 0x80 {
         return rest(bytes, 1);
     }
-    let width = WIDTH(bytes, 0).min(bytes.len());
-    rest(bytes, width)
+    past_wide(bytes)
 }
 
 fn mark_behind(mark: yaml_mark_t, c: char, next: char) -> yaml_mark_t
@@ -241,7 +260,16 @@ impl<'a> cursor_t<'a> {
             return;
         }
         let b = self.bytes[0];
-        if b < 0x80 && b != b'\n' && b != b'\r' {
+        if b == b'\n' {
+            self.mark = yaml_mark_t {
+                index: self.mark.index + 1,
+                line: self.mark.line + 1,
+                column: 0,
+            };
+            self.bytes = rest(self.bytes, 1);
+            return;
+        }
+        if b < 0x80 && b != b'\r' {
             self.mark = yaml_mark_t {
                 index: self.mark.index + 1,
                 line: self.mark.line,
@@ -250,6 +278,15 @@ impl<'a> cursor_t<'a> {
             self.bytes = rest(self.bytes, 1);
             return;
         }
+        self.advance_far();
+    }
+
+    /// Takes a character that is no other of ASCII than a carriage return.
+    #[inline(never)]
+    fn advance_far(&mut self)
+        requires { 0 < length self.old.rest }
+        ensures { self.new ≡ skip 1 self.old }
+    {
         let c = first_char(self.bytes);
         let next = self.peek(1);
         self.mark = mark_behind(self.mark, c, next);
@@ -294,8 +331,7 @@ impl<'a> cursor_t<'a> {
         ensures goes { behind (class_test class) self.new ≡ behind (class_test class) self.old }
         ensures shorter { length self.new.rest ≤ length self.old.rest }
     {
-        let n = quiet_len(class, self.bytes);
-        let count = count_chars(front(self.bytes, n));
+        let (n, count) = quiet_len(class, self.bytes);
         self.mark = yaml_mark_t {
             index: self.mark.index + n as u64,
             line: self.mark.line,

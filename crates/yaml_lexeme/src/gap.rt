@@ -1,22 +1,33 @@
 //! What stands between lexemes.
 ghost use Rattle.std.specs.Prelude.{ℕ, ◌≡◌};
-ghost use Rattle.yaml_lexeme.specs.Place.{IsMarkOf, place_at};
+ghost use Rattle.yaml_lexeme.specs.Place.{IsMarkOf, place_at, behind};
+ghost use Rattle.yaml_lexeme.specs.Classes.{is_in_line};
 ghost use Rattle.yaml_lexeme.specs.Gap as spec;
 
 use crate::cursor::cursor_t;
 use crate::runs::class_t;
 use yaml_text::{yaml_mark_t, yaml_text_t};
 
+/// Takes what is left of a line.
+#[inline(never)]
+fn skip_line(cursor: &mut cursor_t)
+    ensures { cursor.new ≡ behind is_in_line cursor.old }
+{
+    cursor.skip_run(class_t::IN_LINE);
+}
+
 /// Takes a comment, if one stands here.
+#[inline(always)]
 pub(crate) fn skip_comment(cursor: &mut cursor_t)
     ensures { cursor.new ≡ spec.after_comment cursor.old }
 {
     if cursor.peek(0) == '#' {
-        cursor.skip_run(class_t::IN_LINE);
+        skip_line(cursor);
     }
 }
 
 #[tactic(auto, unfolding(crate::specs::Gap::after_gap_line))]
+#[inline(always)]
 fn skip_gap_line(cursor: &mut cursor_t, tabs: bool)
     ensures { cursor.new ≡ spec.after_gap_line tabs cursor.old }
 {
@@ -28,6 +39,7 @@ fn skip_gap_line(cursor: &mut cursor_t, tabs: bool)
 }
 
 /// Takes the gap that stands here, and tells whether a break is in it.
+#[inline(always)]
 fn skip_gap(cursor: &mut cursor_t, in_flow: bool, allowed: bool) -> bool
     ensures { (cursor.new, result) ≡ spec.gap in_flow allowed cursor.old }
 {
@@ -45,6 +57,7 @@ fn skip_gap(cursor: &mut cursor_t, in_flow: bool, allowed: bool) -> bool
 /// A gap is lines of blanks and perhaps a comment, as many as can be. `in_flow` tells whether the flow depth is above 0,
 /// `allowed` whether a key may stand here: tabs count as blanks in flow, and on the first line where none may. A byte
 /// order mark at the start of a line belongs to the gap. No memory is taken.
+#[inline(always)]
 pub fn yaml_gap(
     text: &yaml_text_t,
     at: yaml_mark_t,

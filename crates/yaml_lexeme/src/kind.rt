@@ -84,6 +84,7 @@ fn starts_plain(cursor: &cursor_t, in_flow: bool) -> bool
 
 /// The kind of the lexeme that stands here.
 #[tactic(auto, unfolding(crate::specs::Kind::kind_at))]
+#[inline(always)]
 fn kind_at(cursor: &cursor_t, in_flow: bool) -> Option<yaml_lexeme_kind_t>
     ensures { result ≡ spec.kind_at in_flow cursor.now }
 {
@@ -130,6 +131,7 @@ fn kind_at(cursor: &cursor_t, in_flow: bool) -> Option<yaml_lexeme_kind_t>
 /// The kind of the lexeme that stands at a place, or `None` where no token can start (YAML 1.1, section 5.3).
 ///
 /// `in_flow` tells whether the flow depth is above 0. No memory is taken.
+#[inline(always)]
 pub fn yaml_lexeme_kind(
     text: &yaml_text_t,
     at: yaml_mark_t,

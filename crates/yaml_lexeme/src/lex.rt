@@ -5,6 +5,14 @@ ghost use Rattle.yaml_text.specs.Fault.{fault_of, scanner_fault};
 ghost use Rattle.yaml_lexeme.specs.Kind as kinds;
 ghost use Rattle.yaml_lexeme.specs.Texts as texts;
 ghost use Rattle.yaml_lexeme.specs.Lex as spec;
+ghost use Rattle.yaml_lexeme.specs.Block as blocks;
+ghost use Rattle.yaml_lexeme.specs.Directive as directives;
+ghost use Rattle.yaml_lexeme.specs.Name as names;
+ghost use Rattle.yaml_lexeme.specs.Plain as plains;
+ghost use Rattle.yaml_lexeme.specs.Quoted as quotes;
+ghost use Rattle.yaml_lexeme.specs.Tag as tags;
+ghost use Rattle.yaml_text.specs.declared.token.unnamed_yaml_token_t_data.TheVariants as token;
+ghost use Rattle.yaml_text.specs.declared.types.yaml_scalar_style_t.TheVariants.{YAML_PLAIN_SCALAR_STYLE};
 ghost use Rattle.yaml_lexeme.specs.Place.{IsMarkOf, place_at};
 ghost use Rattle.yaml_lexeme.specs.Reading.{found};
 ghost use Rattle.yaml_lexeme.specs.Gives.{Gives};
@@ -83,12 +91,34 @@ fn at_end(cursor: &cursor_t) -> yaml_lexeme_t
     whole(unnamed_yaml_token_t_data::STREAM_END, mark, mark)
 }
 
-fn characters(cursor: &mut cursor_t, says: unnamed_yaml_token_t_data, n: usize) -> yaml_lexeme_t
-    ensures { spec.characters says n cursor.old ≡ found result cursor.new }
+/// What a lexeme that is one character says, or a document marker.
+fn says_of(kind: yaml_lexeme_kind_t) -> unnamed_yaml_token_t_data
+    ensures { result ≡ spec.says_of kind }
 {
-    let start = cursor.mark();
-    cursor.skip(n);
-    whole(says, start, cursor.mark())
+    match kind {
+        yaml_lexeme_kind_t::DOCUMENT_START => unnamed_yaml_token_t_data::DOCUMENT_START,
+        yaml_lexeme_kind_t::DOCUMENT_END => unnamed_yaml_token_t_data::DOCUMENT_END,
+        yaml_lexeme_kind_t::FLOW_SEQUENCE_START => unnamed_yaml_token_t_data::FLOW_SEQUENCE_START,
+        yaml_lexeme_kind_t::FLOW_MAPPING_START => unnamed_yaml_token_t_data::FLOW_MAPPING_START,
+        yaml_lexeme_kind_t::FLOW_SEQUENCE_END => unnamed_yaml_token_t_data::FLOW_SEQUENCE_END,
+        yaml_lexeme_kind_t::FLOW_MAPPING_END => unnamed_yaml_token_t_data::FLOW_MAPPING_END,
+        yaml_lexeme_kind_t::FLOW_ENTRY => unnamed_yaml_token_t_data::FLOW_ENTRY,
+        yaml_lexeme_kind_t::BLOCK_ENTRY => unnamed_yaml_token_t_data::BLOCK_ENTRY,
+        yaml_lexeme_kind_t::KEY => unnamed_yaml_token_t_data::KEY,
+        yaml_lexeme_kind_t::VALUE => unnamed_yaml_token_t_data::VALUE,
+        _ => unnamed_yaml_token_t_data::NO_TOKEN,
+    }
+}
+
+/// How many characters it takes.
+fn len_of(kind: yaml_lexeme_kind_t) -> usize
+    ensures { result ≡ spec.len_of kind }
+{
+    match kind {
+        yaml_lexeme_kind_t::DOCUMENT_START => 3,
+        yaml_lexeme_kind_t::DOCUMENT_END => 3,
+        _ => 1,
+    }
 }
 
 fn scalar_of(value: yaml_bytes_t, style: yaml_scalar_style_t) -> unnamed_yaml_token_t_data
@@ -137,8 +167,140 @@ fn directive(start: yaml_mark_t, directive: directive_t, reach: yaml_mark_t) -> 
     }
 }
 
-/// Takes a lexeme of the kind.
+/// Takes a lexeme that is one character, or a document marker.
+#[inline(never)]
+fn take_characters(
+    cursor: &mut cursor_t,
+    kind: yaml_lexeme_kind_t,
+) -> Result<yaml_lexeme_t, refusal_t>
+    ensures value { Gives (λ l. l) result cursor.new (spec.characters (spec.says_of kind) (spec.len_of kind) cursor.old) }
+    ensures taken { IsOk result }
+{
+    let start = cursor.mark();
+    cursor.skip(len_of(kind));
+    Ok(whole(says_of(kind), start, cursor.mark()))
+}
+
+#[inline(never)]
+fn take_end(cursor: &mut cursor_t) -> Result<yaml_lexeme_t, refusal_t>
+    ensures value { Gives (λ l. l) result cursor.new (spec.at_end cursor.old) }
+    ensures taken { IsOk result }
+{
+    Ok(at_end(cursor))
+}
+
+#[inline(never)]
+fn take_alias(alloc: Global, cursor: &mut cursor_t) -> Result<yaml_lexeme_t, refusal_t>
+    ensures { Gives (λ l. l) result cursor.new (spec.whole token.ALIAS cursor.old (names.name cursor.old)) }
+{
+    let start = cursor.mark();
+    let value = take_name(alloc, cursor)?;
+    let says = unnamed_yaml_token_t_data::ALIAS { value };
+    Ok(whole(says, start, cursor.mark()))
+}
+
+#[inline(never)]
+fn take_anchor(alloc: Global, cursor: &mut cursor_t) -> Result<yaml_lexeme_t, refusal_t>
+    ensures { Gives (λ l. l) result cursor.new (spec.whole token.ANCHOR cursor.old (names.name cursor.old)) }
+{
+    let start = cursor.mark();
+    let value = take_name(alloc, cursor)?;
+    let says = unnamed_yaml_token_t_data::ANCHOR { value };
+    Ok(whole(says, start, cursor.mark()))
+}
+
+#[inline(never)]
+fn take_whole_tag(
+    alloc: Global,
+    cursor: &mut cursor_t,
+    context: yaml_context_t,
+) -> Result<yaml_lexeme_t, refusal_t>
+    ensures { Gives (λ l. l) result cursor.new (spec.whole (λ t. t) cursor.old (tags.tag (spec.in_flow context) cursor.old)) }
+{
+    let start = cursor.mark();
+    let says = take_tag(alloc, cursor, context.depth > 0)?;
+    Ok(whole(says, start, cursor.mark()))
+}
+
+#[inline(never)]
+fn take_whole_directive(alloc: Global, cursor: &mut cursor_t) -> Result<yaml_lexeme_t, refusal_t>
+    ensures { Gives (λ l. l) result cursor.new (spec.ended cursor.old (directives.directive cursor.old)) }
+{
+    let start = cursor.mark();
+    let d = take_directive(alloc, cursor)?;
+    Ok(directive(start, d, cursor.mark()))
+}
+
+fn block_style(folded: bool) -> yaml_scalar_style_t
+    ensures { result ≡ spec.block_style folded }
+{
+    if folded {
+        yaml_scalar_style_t::YAML_FOLDED_SCALAR_STYLE
+    } else {
+        yaml_scalar_style_t::YAML_LITERAL_SCALAR_STYLE
+    }
+}
+
+#[inline(never)]
+fn take_block_scalar(
+    alloc: Global,
+    cursor: &mut cursor_t,
+    folded: bool,
+    context: yaml_context_t,
+) -> Result<yaml_lexeme_t, refusal_t>
+    requires { spec.least context + 10 < 2 ^ 64 }
+    ensures { Gives (λ l. l) result cursor.new (spec.scalar (spec.block_style folded) cursor.old (blocks.block folded (spec.least context) cursor.old)) }
+{
+    let start = cursor.mark();
+    let s = take_block(alloc, cursor, folded, least(context))?;
+    Ok(scalar(block_style(folded), start, s, cursor.mark()))
+}
+
+fn quoted_style(single: bool) -> yaml_scalar_style_t
+    ensures { result ≡ spec.quoted_style single }
+{
+    if single {
+        yaml_scalar_style_t::YAML_SINGLE_QUOTED_SCALAR_STYLE
+    } else {
+        yaml_scalar_style_t::YAML_DOUBLE_QUOTED_SCALAR_STYLE
+    }
+}
+
+#[inline(never)]
+fn take_quoted_scalar(
+    alloc: Global,
+    cursor: &mut cursor_t,
+    single: bool,
+) -> Result<yaml_lexeme_t, refusal_t>
+    ensures { Gives (λ l. l) result cursor.new (spec.whole (spec.quoted_as (spec.quoted_style single)) cursor.old (quotes.quoted single cursor.old)) }
+{
+    let start = cursor.mark();
+    let value = take_quoted(alloc, cursor, single)?;
+    Ok(whole(scalar_of(value, quoted_style(single)), start, cursor.mark()))
+}
+
+#[inline(never)]
+fn take_plain_scalar(
+    alloc: Global,
+    cursor: &mut cursor_t,
+    context: yaml_context_t,
+) -> Result<yaml_lexeme_t, refusal_t>
+    requires { spec.least context + 10 < 2 ^ 64 }
+    ensures { Gives (λ l. l) result cursor.new (spec.scalar YAML_PLAIN_SCALAR_STYLE cursor.old (plains.plain (spec.in_flow context) (spec.least context) cursor.old)) }
+{
+    let start = cursor.mark();
+    let s = take_plain(alloc, cursor, context.depth > 0, least(context))?;
+    Ok(scalar(
+        yaml_scalar_style_t::YAML_PLAIN_SCALAR_STYLE,
+        start,
+        s,
+        cursor.mark(),
+    ))
+}
+
+/// Takes a lexeme of the kind. Each kind has a function of its own, so that none pays for the room that another needs.
 #[tactic(auto, unfolding(crate::specs::Lex::lex))]
+#[inline(always)]
 fn take_lexeme(
     alloc: Global,
     cursor: &mut cursor_t,
@@ -149,90 +311,27 @@ fn take_lexeme(
     ensures value { Gives (λ l. l) result cursor.new (spec.lex kind context cursor.old) }
     ensures bare { spec.is_bare kind ≡ true → IsOk result }
 {
-    let start = cursor.mark();
     match kind {
-        yaml_lexeme_kind_t::STREAM_END => Ok(at_end(cursor)),
-        yaml_lexeme_kind_t::DOCUMENT_START => {
-            Ok(characters(cursor, unnamed_yaml_token_t_data::DOCUMENT_START, 3))
-        }
-        yaml_lexeme_kind_t::DOCUMENT_END => {
-            Ok(characters(cursor, unnamed_yaml_token_t_data::DOCUMENT_END, 3))
-        }
-        yaml_lexeme_kind_t::FLOW_SEQUENCE_START => {
-            Ok(characters(cursor, unnamed_yaml_token_t_data::FLOW_SEQUENCE_START, 1))
-        }
-        yaml_lexeme_kind_t::FLOW_MAPPING_START => {
-            Ok(characters(cursor, unnamed_yaml_token_t_data::FLOW_MAPPING_START, 1))
-        }
-        yaml_lexeme_kind_t::FLOW_SEQUENCE_END => {
-            Ok(characters(cursor, unnamed_yaml_token_t_data::FLOW_SEQUENCE_END, 1))
-        }
-        yaml_lexeme_kind_t::FLOW_MAPPING_END => {
-            Ok(characters(cursor, unnamed_yaml_token_t_data::FLOW_MAPPING_END, 1))
-        }
-        yaml_lexeme_kind_t::FLOW_ENTRY => {
-            Ok(characters(cursor, unnamed_yaml_token_t_data::FLOW_ENTRY, 1))
-        }
-        yaml_lexeme_kind_t::BLOCK_ENTRY => {
-            Ok(characters(cursor, unnamed_yaml_token_t_data::BLOCK_ENTRY, 1))
-        }
-        yaml_lexeme_kind_t::KEY => Ok(characters(cursor, unnamed_yaml_token_t_data::KEY, 1)),
-        yaml_lexeme_kind_t::VALUE => Ok(characters(cursor, unnamed_yaml_token_t_data::VALUE, 1)),
-        yaml_lexeme_kind_t::DIRECTIVE => {
-            let d = take_directive(alloc, cursor)?;
-            Ok(directive(start, d, cursor.mark()))
-        }
-        yaml_lexeme_kind_t::ALIAS => {
-            let value = take_name(alloc, cursor)?;
-            let says = unnamed_yaml_token_t_data::ALIAS { value };
-            Ok(whole(says, start, cursor.mark()))
-        }
-        yaml_lexeme_kind_t::ANCHOR => {
-            let value = take_name(alloc, cursor)?;
-            let says = unnamed_yaml_token_t_data::ANCHOR { value };
-            Ok(whole(says, start, cursor.mark()))
-        }
-        yaml_lexeme_kind_t::TAG => {
-            let says = take_tag(alloc, cursor, context.depth > 0)?;
-            Ok(whole(says, start, cursor.mark()))
-        }
-        yaml_lexeme_kind_t::LITERAL => {
-            let s = take_block(alloc, cursor, false, least(context))?;
-            Ok(scalar(
-                yaml_scalar_style_t::YAML_LITERAL_SCALAR_STYLE,
-                start,
-                s,
-                cursor.mark(),
-            ))
-        }
-        yaml_lexeme_kind_t::FOLDED => {
-            let s = take_block(alloc, cursor, true, least(context))?;
-            Ok(scalar(
-                yaml_scalar_style_t::YAML_FOLDED_SCALAR_STYLE,
-                start,
-                s,
-                cursor.mark(),
-            ))
-        }
-        yaml_lexeme_kind_t::SINGLE_QUOTED => {
-            let value = take_quoted(alloc, cursor, true)?;
-            let says = scalar_of(value, yaml_scalar_style_t::YAML_SINGLE_QUOTED_SCALAR_STYLE);
-            Ok(whole(says, start, cursor.mark()))
-        }
-        yaml_lexeme_kind_t::DOUBLE_QUOTED => {
-            let value = take_quoted(alloc, cursor, false)?;
-            let says = scalar_of(value, yaml_scalar_style_t::YAML_DOUBLE_QUOTED_SCALAR_STYLE);
-            Ok(whole(says, start, cursor.mark()))
-        }
-        yaml_lexeme_kind_t::PLAIN => {
-            let s = take_plain(alloc, cursor, context.depth > 0, least(context))?;
-            Ok(scalar(
-                yaml_scalar_style_t::YAML_PLAIN_SCALAR_STYLE,
-                start,
-                s,
-                cursor.mark(),
-            ))
-        }
+        yaml_lexeme_kind_t::STREAM_END => take_end(cursor),
+        yaml_lexeme_kind_t::DOCUMENT_START => take_characters(cursor, kind),
+        yaml_lexeme_kind_t::DOCUMENT_END => take_characters(cursor, kind),
+        yaml_lexeme_kind_t::FLOW_SEQUENCE_START => take_characters(cursor, kind),
+        yaml_lexeme_kind_t::FLOW_MAPPING_START => take_characters(cursor, kind),
+        yaml_lexeme_kind_t::FLOW_SEQUENCE_END => take_characters(cursor, kind),
+        yaml_lexeme_kind_t::FLOW_MAPPING_END => take_characters(cursor, kind),
+        yaml_lexeme_kind_t::FLOW_ENTRY => take_characters(cursor, kind),
+        yaml_lexeme_kind_t::BLOCK_ENTRY => take_characters(cursor, kind),
+        yaml_lexeme_kind_t::KEY => take_characters(cursor, kind),
+        yaml_lexeme_kind_t::VALUE => take_characters(cursor, kind),
+        yaml_lexeme_kind_t::DIRECTIVE => take_whole_directive(alloc, cursor),
+        yaml_lexeme_kind_t::ALIAS => take_alias(alloc, cursor),
+        yaml_lexeme_kind_t::ANCHOR => take_anchor(alloc, cursor),
+        yaml_lexeme_kind_t::TAG => take_whole_tag(alloc, cursor, context),
+        yaml_lexeme_kind_t::LITERAL => take_block_scalar(alloc, cursor, false, context),
+        yaml_lexeme_kind_t::FOLDED => take_block_scalar(alloc, cursor, true, context),
+        yaml_lexeme_kind_t::SINGLE_QUOTED => take_quoted_scalar(alloc, cursor, true),
+        yaml_lexeme_kind_t::DOUBLE_QUOTED => take_quoted_scalar(alloc, cursor, false),
+        yaml_lexeme_kind_t::PLAIN => take_plain_scalar(alloc, cursor, context),
     }
 }
 
@@ -258,6 +357,7 @@ fn make_fault(
 /// `kind` is what `yaml_lexeme_kind` answers there with `in_flow` for a depth above 0, and the level is at most the
 /// number of the text's bytes. A fault of kind memory comes only where a growth was refused. Stream ends, document markers and
 /// lexemes of one character take no memory and are never refused.
+#[inline(always)]
 pub fn yaml_lexeme_at(
     alloc: Global,
     text: &yaml_text_t,

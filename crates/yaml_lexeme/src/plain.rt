@@ -119,6 +119,7 @@ fn skip_separator(cursor: &mut cursor_t, least: u64) -> Result<(), refusal_t>
         }
         broken |= is_break(cursor.peek(0));
         cursor.advance();
+        cursor.skip_run(class_t::SPACE);
     }
     Ok(())
 }

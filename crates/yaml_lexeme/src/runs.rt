@@ -1,5 +1,5 @@
 //! Runs of bytes that need no closer look.
-ghost use Rattle.std.specs.Prelude.{◌≡◌, ◌+◌, ◌≤◌, true, length, drop, map};
+ghost use Rattle.std.specs.Prelude.{◌≡◌, ◌+◌, ◌-◌, ◌≤◌, true, length, take, drop, map};
 ghost use Rattle.std.specs.List.{prefix_len, count_by};
 ghost use Rattle.std.specs.Simd.Lanes.{mask_l};
 ghost use Rattle.yaml_lexeme.specs.Runs as spec;
@@ -149,8 +149,8 @@ fn stops(class: class_t, v: u8x16) -> u64
     }
 }
 
-#[inline(never)]
-fn slow_end(class: class_t, text: &[u8], from: usize) -> usize
+#[inline(always)]
+fn end_from(class: class_t, text: &[u8], from: usize) -> usize
     requires { from ≤ length text.now }
     ensures { result ≡ from + prefix_len (spec.is_quiet class) (drop from text.now) }
 {
@@ -161,21 +161,12 @@ fn slow_end(class: class_t, text: &[u8], from: usize) -> usize
     i
 }
 
-/// How many bytes in front need no closer look.
-#[inline(always)]
-pub(crate) fn quiet_len(class: class_t, text: &[u8]) -> usize
-    ensures value { result ≡ prefix_len (spec.is_quiet class) text.now }
-    ensures bound { result ≤ length text.now }
+#[inline(never)]
+fn slow_end(class: class_t, text: &[u8], from: usize) -> usize
+    requires { from ≤ length text.now }
+    ensures { result ≡ from + prefix_len (spec.is_quiet class) (drop from text.now) }
 {
-    let mut i = 0;
-    'wide: while is_line(class) && text.len() - i >= 16 {
-        let found = stops(class, u8x16::from_slice(&text[i..]));
-        if found != 0 {
-            return i + found.trailing_zeros() as usize;
-        }
-        i += 16;
-    }
-    slow_end(class, text, i)
+    end_from(class, text, from)
 }
 
 #[inline(always)]
@@ -193,8 +184,8 @@ fn begins(b: u8) -> bool
 }
 
 /// How many bytes begin a character.
-#[inline(always)]
-pub(crate) fn count_chars(text: &[u8]) -> usize
+#[inline(never)]
+fn count_chars(text: &[u8]) -> usize
     ensures value { result ≡ count_by spec.begins text.now }
     ensures bound { result ≤ length text.now }
 {
@@ -211,6 +202,63 @@ pub(crate) fn count_chars(text: &[u8]) -> usize
         i += 1;
     }
     n
+}
+
+fn part(text: &[u8], from: usize, to: usize) -> &[u8]
+    requires order { from ≤ to }
+    requires within { to ≤ length text.now }
+    ensures { result.now ≡ take (to - from) (drop from text.now) }
+{
+    &text[from..to]
+}
+
+/// How many of the first `n` lanes begin a character.
+#[inline(always)]
+fn starts_before(v: u8x16, n: usize) -> usize
+    requires long { length v ≡ 16 }
+    requires few { n ≤ 16 }
+    ensures { result ≡ count_by spec.begins (take n v) }
+{
+    let low = (1u64 << n) - 1;
+    (starts(v) & low).count_ones() as usize
+}
+
+/// How many bytes in front of a line need no closer look, and how many of them begin a character.
+#[inline(always)]
+fn quiet_line(class: class_t, text: &[u8]) -> (usize, usize)
+    requires { spec.is_line class ≡ true }
+    ensures bytes { result.0 ≡ prefix_len (spec.is_quiet class) text.now }
+    ensures chars { result.1 ≡ count_by spec.begins (take result.0 text.now) }
+    ensures bound { result.0 ≤ length text.now }
+{
+    let mut i: usize = 0;
+    let mut n: usize = 0;
+    'wide: while text.len() - i >= 16 {
+        let v = u8x16::from_slice(&text[i..]);
+        let found = stops(class, v);
+        if found != 0 {
+            let k = found.trailing_zeros() as usize;
+            return (i + k, n + starts_before(v, k));
+        }
+        n += starts(v).count_ones() as usize;
+        i += 16;
+    }
+    let end = slow_end(class, text, i);
+    (end, n + count_chars(part(text, i, end)))
+}
+
+/// How many bytes in front need no closer look, and how many of them begin a character.
+#[inline(always)]
+pub(crate) fn quiet_len(class: class_t, text: &[u8]) -> (usize, usize)
+    ensures bytes { result.0 ≡ prefix_len (spec.is_quiet class) text.now }
+    ensures chars { result.1 ≡ count_by spec.begins (take result.0 text.now) }
+    ensures bound { result.0 ≤ length text.now }
+{
+    if is_line(class) {
+        return quiet_line(class, text);
+    }
+    let n = end_from(class, text, 0);
+    (n, n)
 }
 
 fn is_blank_byte(b: u8) -> bool

@@ -8,3 +8,6 @@ pub mod Units
 pub mod Readings
 pub mod Decodings
 pub mod Running
+pub mod Lanes
+pub mod Vectors
+pub mod Singles

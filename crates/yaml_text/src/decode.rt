@@ -6,6 +6,7 @@ ghost use Rattle.yaml_text.specs.Decode.{BeginsWithNone, Fronts, encoding_of, dr
 ghost use Rattle.yaml_text.specs.Fault.{fault_of, memory_fault, reader_fault};
 ghost use Rattle.yaml_text.specs.declared.types.yaml_encoding_t.TheVariants.{YAML_UTF8_ENCODING, YAML_UTF16LE_ENCODING, YAML_UTF16BE_ENCODING};
 
+use crate::ascii::single_len;
 use crate::fault::{make_reader_fault, yaml_fault_t};
 use crate::offence::offence_t;
 use crate::text::{borrowed_text, owned_text, yaml_text_t};
@@ -39,12 +40,13 @@ fn front8(bytes: &[u8]) -> (usize, Option<offence_t>)
     ensures offence { IfSome result.1 (λ o. o ≡ offence8 (drop result.0 bytes.now)) }
     ensures left { IfSome result.1 (λ o. result.0 + o.offset < length bytes.now) }
 {
-    let mut at = 0;
+    let mut at = single_len(bytes);
     while at < bytes.len() {
         match first_char(from(bytes, at)) {
             Ok(width) => at += width,
             Err(offence) => return (at, Some(offence)),
         }
+        at += single_len(from(bytes, at));
     }
     (at, None)
 }

@@ -1,6 +1,7 @@
 //! The text of a YAML stream: its characters, how bytes spell them, the marks in it, and the types of its tokens.
 #![tactic(auto)]
 
+mod ascii;
 mod bytes;
 #[cfg(test)]
 mod class_tests;

@@ -2,7 +2,7 @@ use Rattle.std.proofs.Common.{◌<◌, length, ◌∙◌, ap, sym, subst, arith}
 use Rattle.std.specs.Str.{chars}
 use Rattle.yaml_text.specs.Chars.{IsText}
 use Rattle.std.proofs.lemmas.Grind.{common_steps}
-use Rattle.yaml_lexeme.proofs.Heads.{past, past_ascii, none_past}
+use Rattle.yaml_lexeme.proofs.Heads.{past_ascii, none_past}
 use Rattle.yaml_lexeme.proofs.cursor.past_char.Goals as goal
 
 pub returns-then-is_empty-clause-rest : goal.returns-then-is_empty-clause-rest
@@ -17,9 +17,3 @@ pub returns-then-bytes-lt128-clause-rest : goal.returns-then-bytes-lt128-clause-
 returns-then-bytes-lt128-clause-rest c =
     let some : 0 < length c.args.bytes.now = grind (arith, common_steps) in
     ap chars c.rest.ensures ∙ (past_ascii c.args.bytes.now c.requires some c.if-bytes-lt128.true).rest
-
-pub returns-clause-text : goal.returns-clause-text
-returns-clause-text c = subst IsText (sym c.rest-2.ensures) (past c.args.bytes.now c.min-width.result c.requires (grind (arith, common_steps))).text
-
-pub returns-clause-rest : goal.returns-clause-rest
-returns-clause-rest c = ap chars c.rest-2.ensures ∙ (past c.args.bytes.now c.min-width.result c.requires (grind (arith, common_steps))).rest

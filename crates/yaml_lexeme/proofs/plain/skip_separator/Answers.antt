@@ -1,11 +1,13 @@
-use Rattle.std.proofs.Common.{◌≡◌, true, false, refl, arith}
-use Rattle.yaml_lexeme.proofs.Places.{behind_more, length_one}
-use Rattle.yaml_lexeme.proofs.Plains.{passes_more, passes_none, passes_all, takes_found}
+use Rattle.std.proofs.Common.{◌≡◌, ◌||◌, true, false, refl, ap, length, arith}
+use Rattle.yaml_lexeme.proofs.Places.{behind_more, length_one, length_skip}
+use Rattle.yaml_lexeme.proofs.Plains.{Passes, passes_more, passes_spaces, passes_none, passes_all, takes_found}
 use Rattle.yaml_lexeme.specs.Classes.{is_white}
 use Rattle.yaml_lexeme.specs.Fold.{fold}
-use Rattle.yaml_lexeme.specs.Place.{first, run, behind}
+use Rattle.yaml_lexeme.specs.Place.{Place, first, run, run_len, behind}
 use Rattle.yaml_lexeme.specs.Plain.{is_tab, separator}
 use Rattle.yaml_text.specs.Classes.{is_break}
+use Rattle.yaml_lexeme.specs.declared.runs.class_t.TheVariants.{SPACE}
+use Rattle.yaml_lexeme.specs.Runs.{class_test}
 use Rattle.yaml_lexeme.proofs.plain.skip_separator.Goals as goal
 
 pub run-init : goal.run-init
@@ -24,13 +26,14 @@ run-preserved c =
     let space : is_white (first p) ≡ true = cc in
     let fine : is_tab c.args.least c.run.broken p ≡ false = cc in
     let same : c.is_break-broken.result ≡ is_break (first p) = cc in
-    rw (c.advance.ensures, same) (passes_more c.args.least c.run.broken p c.args.cursor.now space fine c.run.invariant)
+    let next : Passes c.args.least (c.run.broken || c.is_break-broken.result) c.advance.new.self c.args.cursor.now = rw (c.advance.ensures, same) (passes_more c.args.least c.run.broken p c.args.cursor.now space fine c.run.invariant) in
+    rw c.skip_run.ensures (passes_spaces c.args.least (c.run.broken || c.is_break-broken.result) c.advance.new.self c.args.cursor.now next)
 
 pub run-smaller : goal.run-smaller
 run-smaller c =
     let p = c.run.cursor in
     let space : is_white (first p) ≡ true = cc in
-    rw c.advance.ensures (omega (arith, length_one p, (behind_more is_white p space refl).0))
+    omega (arith, length_one p, (behind_more is_white p space refl).0, ap (λ (q : Place). length q.rest) c.advance.ensures, ap (λ (q : Place). length q.rest) c.skip_run.ensures, length_skip (run_len (class_test SPACE) c.advance.new.self) c.advance.new.self)
 
 pub returns : goal.returns
 returns c =

@@ -1,12 +1,10 @@
 use Rattle.std.proofs.Common.{◌<◌, ◌≤◌, ◌∙◌, length, arith, ap, ℕ, List}
-use Rattle.std.specs.Char.{len_utf8}
 use Rattle.std.proofs.lemmas.Grind.{common_steps}
 use Rattle.std.proofs.lemmas.List.{length-drop}
-use Rattle.yaml_lexeme.specs.Place.{Place, mark_behind, skip}
-use Rattle.yaml_lexeme.proofs.Places.{moved, stays}
-use Rattle.yaml_text.specs.declared.types.yaml_mark_t.{yaml_mark_t}
-use Rattle.yaml_lexeme.proofs.Cursors.{index_behind, ascii_moves}
-use Rattle.yaml_lexeme.proofs.Heads.{head, none_left, shrinks}
+use Rattle.yaml_lexeme.specs.Place.{Place, skip}
+use Rattle.yaml_lexeme.proofs.Places.{stays}
+use Rattle.yaml_lexeme.proofs.Cursors.{ascii_moves, line_feed_moves}
+use Rattle.yaml_lexeme.proofs.Heads.{head, none_left}
 use Rattle.yaml_lexeme.proofs.cursor.cursor_t.advance.Goals as goal
 
 pub returns-then-is_empty : goal.returns-then-is_empty
@@ -16,35 +14,32 @@ returns-then-is_empty c =
     let n = ap (λ (x : List ℕ). length x) (none_left c.self.inside.bytes.now c.self.invariant.0 none) in
     stays 1 _ (omega (arith, e, n))
 
-pub returns : goal.returns
-returns c =
+pub invariant_of-self-then-b-ne13 : goal.invariant_of-self-then-b-ne13
+invariant_of-self-then-b-ne13 c =
     let some : 0 < length c.self.inside.bytes.now = grind (arith, common_steps) in
-    let h = head c.self.inside.bytes.now c.self.invariant.0 some in
-    moved _ _ _ _ _ _ c.self.view_is h.some c.peek-next.ensures
-    (c.mark_behind-self-inside.ensures.value ∙ ap (λ (x : ℕ). mark_behind c.self.inside.mark x c.peek-next.result) c.first_char-c.ensures)
-    c.past_char-self-inside.ensures.rest
-
-pub mark_behind-self-inside-requires-clause-index : goal.mark_behind-self-inside-requires-clause-index
-mark_behind-self-inside-requires-clause-index c =
-    let some : 0 < length c.self.inside.bytes.now = grind (arith, common_steps) in
-    let h = head c.self.inside.bytes.now c.self.invariant.0 some in
-    omega (arith, h.within, ap len_utf8 c.first_char-c.ensures, c.self.invariant.1)
-
-pub invariant_of-self-2 : goal.invariant_of-self-2
-invariant_of-self-2 c =
-    let some : 0 < length c.self.inside.bytes.now = grind (arith, common_steps) in
-    let s = shrinks c.self.inside.bytes.now c.past_char-self-inside.result.now c.self.invariant.0 c.past_char-self-inside.ensures.text c.past_char-self-inside.ensures.rest some in
-    let i = index_behind c.self.inside.mark c.first_char-c.result c.peek-next.result in
-    (c.past_char-self-inside.ensures.text, omega (arith, s, ap len_utf8 c.first_char-c.ensures, i, ap (λ (m : yaml_mark_t). m.index) c.mark_behind-self-inside.ensures.value, c.self.invariant.1), c.mark_behind-self-inside.ensures.sums)
-
-pub invariant_of-self : goal.invariant_of-self
-invariant_of-self c =
-    let some : 0 < length c.self.inside.bytes.now = grind (arith, common_steps) in
-    let m = ascii_moves c.self.inside.mark c.self.inside.bytes.now c.self.invariant.0 some c.if-b-lt128.true c.if-b-ne10.true c.if-b-ne13.true in
-    rw c.rest-self-inside.ensures (m.text, omega (arith, length-drop 1 c.self.inside.bytes.now, c.self.invariant.1), omega (arith, c.self.invariant.2))
+    let m = ascii_moves c.self.inside.mark c.self.inside.bytes.now c.self.invariant.0 some c.if-b-lt128.true c.if-b-eq10.false c.if-b-ne13.true in
+    rw c.rest-self-inside-then-b-ne13.ensures (m.text, omega (arith, length-drop 1 c.self.inside.bytes.now, c.self.invariant.1), omega (arith, c.self.invariant.2))
 
 pub returns-then-b-ne13 : goal.returns-then-b-ne13
 returns-then-b-ne13 c =
     let some : 0 < length c.self.inside.bytes.now = grind (arith, common_steps) in
-    let m = ascii_moves c.self.inside.mark c.self.inside.bytes.now c.self.invariant.0 some c.if-b-lt128.true c.if-b-ne10.true c.if-b-ne13.true in
+    let m = ascii_moves c.self.inside.mark c.self.inside.bytes.now c.self.invariant.0 some c.if-b-lt128.true c.if-b-eq10.false c.if-b-ne13.true in
+    rw c.rest-self-inside-then-b-ne13.ensures (m.place ∙ ap (λ (p : Place). skip 1 p) c.self.view_is)
+
+pub advance_far-requires : goal.advance_far-requires
+advance_far-requires c =
+    let some : 0 < length c.self.inside.bytes.now = grind (arith, common_steps) in
+    let h = head c.self.inside.bytes.now c.self.invariant.0 some in
+    omega (arith, h.some, ap (λ (p : Place). length p.rest) c.self.view_is)
+
+pub invariant_of-self : goal.invariant_of-self
+invariant_of-self c =
+    let some : 0 < length c.self.inside.bytes.now = grind (arith, common_steps) in
+    let m = line_feed_moves c.self.inside.mark c.self.inside.bytes.now c.self.invariant.0 some c.if-b-eq10.true in
+    rw c.rest-self-inside.ensures (m.text, omega (arith, length-drop 1 c.self.inside.bytes.now, c.self.invariant.1), omega (arith, c.self.invariant.2))
+
+pub returns-then-b-eq10 : goal.returns-then-b-eq10
+returns-then-b-eq10 c =
+    let some : 0 < length c.self.inside.bytes.now = grind (arith, common_steps) in
+    let m = line_feed_moves c.self.inside.mark c.self.inside.bytes.now c.self.invariant.0 some c.if-b-eq10.true in
     rw c.rest-self-inside.ensures (m.place ∙ ap (λ (p : Place). skip 1 p) c.self.view_is)
