@@ -1,35 +1,34 @@
 -- A lexeme is laid: the rows of its reading, and what the scanner holds then.
-use Rattle.std.proofs.Common.{◌≡◌, ℕ, zero, suc, ◌+◌, ◌-◌, ◌≤◌, ◌<◌, not, ◌&&◌, ◌||◌, Bool, true, false, List, [], ◌∷◌, ◌++◌, reverse, map, filter, drop, length, length-append, length-drop, Option, Some, None, refl, ap, sym, ◌∙◌, subst, arith, inl, inr, ltb, eqb, append_assoc, vec_len, eqb-true, eq-eqb, ne_eqb}
+use Rattle.std.proofs.Common.{◌≡◌, ℕ, ◌+◌, ◌-◌, ◌≤◌, ◌<◌, not, ◌&&◌, Bool, true, false, List, [], ◌∷◌, ◌++◌, reverse, map, filter, drop, length, length-append, length-drop, Option, Some, None, refl, ap, sym, ◌∙◌, subst, arith, inl, inr, eqb, vec_len, eqb-true, eq-eqb, ne_eqb}
 use Rattle.std.specs.Bool.{◌==◌}
 use Rattle.std.specs.Option.{is_some, IfSome}
-use Rattle.std.specs.Prelude.{◌⊎◌, if◌then◌else◌, option_map, nat_eq, nat_lt, Result, Ok, Err}
-use Rattle.std.proofs.lemmas.Bool.{cases_Bool, cases_eq, false≢true, and_parts}
+use Rattle.std.specs.Prelude.{if◌then◌else◌, option_map, nat_eq, nat_lt, Result, Ok, Err}
+use Rattle.std.proofs.lemmas.Bool.{cases_Bool, cases_eq, and_parts}
 use Rattle.yaml_text.specs.declared.types.yaml_mark_t.{yaml_mark_t}
-use Rattle.yaml_text.specs.declared.types.yaml_encoding_t.{yaml_encoding_t}
 use Rattle.yaml_text.specs.Fault.{Fault}
 use Rattle.yaml_lexeme.specs.declared.lex.yaml_lexeme_t.{yaml_lexeme_t}
 use Rattle.yaml_lexeme.specs.Place.{IsMarkOf, place_at}
 use Rattle.yaml_scan.specs.declared.step.scanner_t.{scanner_t}
 use Rattle.yaml_scan.specs.declared.step.met_t.{met_t}
 use Rattle.yaml_scan.specs.declared.queue.queued_t.{queued_t}
-use Rattle.yaml_scan.specs.Kind.{Kind, is_value, is_candidate_kind, is_stream_end}
+use Rattle.yaml_scan.specs.Kind.{Kind, is_candidate_kind, is_stream_end}
 use Rattle.yaml_scan.specs.Lexeme.{Lexeme}
 use Rattle.yaml_scan.specs.Source.{Source, Reading, Offence}
 use Rattle.yaml_scan.specs.SourceOf.{source_of, reading}
-use Rattle.yaml_scan.specs.TextReads.{IsRead, IsOffence, IsProblem}
-use Rattle.yaml_scan.specs.Laid.{Laid, candidate, depth, live, reach, only_live, completed_by, is_none, allowed, allowed_behind, allows, is_candidate}
+use Rattle.yaml_scan.specs.TextReads.{IsRead, IsOffence}
+use Rattle.yaml_scan.specs.Laid.{Laid, candidate, depth, live, reach, completed_by, is_none, allowed, allowed_behind, allows}
 use Rattle.yaml_scan.specs.Levels.{AllLess, IsFalling, laid, is_required, stays, open_columns, kept_columns, level, greatest_level, greater_of}
 use Rattle.yaml_scan.specs.Order.{IsHistory, IsNotBefore, Follows, ended}
 use Rattle.yaml_scan.specs.Offline.{Token, end_at, block_ends, offline, before}
 use Rattle.yaml_scan.specs.Offline.Token.{BlockEnd, OfLexeme}
 use Rattle.yaml_scan.specs.Queue.{opened, put_starts, Fitting, is_new}
-use Rattle.yaml_scan.specs.Slots.{Held, held, held_of, still_held, is_live, lost_held, outer_to, root_of, slot_behind, completed_held, nested_outer, nested_top, is_margin_level}
-use Rattle.yaml_scan.specs.Step.{Outcome, step, read_step, after_read, unless, stale, required, only_stale, only_required, lost, start_at, end_of, lexeme_of, front_of, place_behind}
-use Rattle.yaml_scan.specs.Step.Outcome.{Reads, Faults}
-use Rattle.yaml_scan.specs.Cut.{KeepsOrder, IsReadInOrder}
+use Rattle.yaml_scan.specs.Slots.{Held, held, held_of, still_held, lost_held, outer_to, root_of, slot_behind, completed_held, nested_outer, nested_top, is_margin_level}
+use Rattle.yaml_scan.specs.Step.{Outcome, step, read_step, after_read, unless, stale, required, lost, start_at, lexeme_of, front_of, place_behind}
+use Rattle.yaml_scan.specs.Step.Outcome.{Reads}
+use Rattle.yaml_scan.specs.Cut.{IsReadInOrder}
 use Rattle.yaml_scan.specs.Moves.{IsLost}
 use Rattle.yaml_scan.specs.Numbered.{IsQueue, Appends, Changes, IsTokenOf}
-use Rattle.yaml_scan.specs.Scanning.{Holds, IsMet, Advances, Offends, Same, text_of}
+use Rattle.yaml_scan.specs.Scanning.{Holds, IsMet, Offends}
 use Rattle.yaml_scan.proofs.Histories.{IsNotBefore-trans, to_start, to_reach, completion_is}
 use Rattle.yaml_scan.proofs.Bound.{length-begins}
 use Rattle.yaml_scan.proofs.Extend.{before-offline}
@@ -38,7 +37,7 @@ use Rattle.yaml_scan.proofs.Candidates.{candidate-other, candidate-saved, candid
 use Rattle.yaml_scan.proofs.Falling.{open_columns-falls, falling_filter}
 use Rattle.yaml_scan.proofs.Look.{completed_later, lost_later, root_is, outer_length}
 use Rattle.yaml_scan.proofs.Queues.{same_length}
-use Rattle.yaml_scan.proofs.Refusals.{margin_is, flow_is, mark_is, later, Loses, is_none_some, is_none_map, start_index}
+use Rattle.yaml_scan.proofs.Refusals.{margin_is, flow_is, mark_is, later, Loses, is_none_some, is_none_map}
 use Rattle.yaml_scan.proofs.Onward.{ends_are, levels_more, queue_more, fits, taken_more, allowed_more, outer_swept, top_swept, nested_outer_is, nested_top_is, required_is, candidate_is, allowed_of, at_depth, enters_below, reach_is}
 use Rattle.yaml_scan.proofs.TextOrder.{text_order, text_problem, text_sums, text_reach}
 

@@ -1,36 +1,30 @@
 -- The first step.
-use Rattle.std.proofs.Common.{◌≡◌, ℕ, zero, suc, ◌+◌, ◌-◌, ◌^◌, ◌≤◌, ◌<◌, max, Bool, true, false, List, [], ◌∷◌, length, drop, reverse, Option, Some, None, refl, ap, sym, ◌∙◌, subst, arith, inl, inr}
-use Rattle.std.specs.Prelude.{nat_le, if◌then◌else◌, option_map}
-use Rattle.std.proofs.lemmas.Bool.{cases_lt, false≢true, lt-leb}
+use Rattle.std.proofs.Common.{◌≡◌, ℕ, ◌+◌, ◌-◌, ◌^◌, ◌≤◌, ◌<◌, Bool, true, false, List, [], ◌∷◌, length, reverse, Option, Some, None, refl, ap, sym, ◌∙◌, subst, arith, inl, inr}
+use Rattle.std.proofs.lemmas.Bool.{cases_lt, lt-leb}
 use Rattle.std.proofs.lemmas.List.{drop_all}
 use Rattle.std.proofs.Common.{length-append}
 use Rattle.yaml_text.specs.declared.types.yaml_encoding_t.{yaml_encoding_t}
 use Rattle.yaml_text.specs.Fault.{Fault, zero_mark}
 use Rattle.yaml_text.specs.Text.{Text}
-use Rattle.yaml_text.specs.Chars.{AreChars, utf8}
+use Rattle.yaml_text.specs.Chars.{AreChars}
 use Rattle.yaml_text.specs.Decode.{front, refusal, refusal_seen}
-use Rattle.yaml_lexeme.specs.Place.{IsMarkOf, place_at, skip}
+use Rattle.yaml_lexeme.specs.Place.{IsMarkOf, skip}
 use Rattle.yaml_scan.specs.declared.step.scanner_t.{scanner_t}
 use Rattle.yaml_scan.specs.SourceOf.{source_of}
-use Rattle.yaml_scan.specs.Laid.{Laid, reach, candidate, depth, allowed_behind}
+use Rattle.yaml_scan.specs.Laid.{Laid, reach, candidate, depth}
 use Rattle.yaml_scan.specs.Levels.{open_columns}
-use Rattle.yaml_scan.specs.Order.{ended}
-use Rattle.yaml_scan.specs.Slots.{Held, held, outer_to}
-use Rattle.yaml_scan.specs.Step.{stale, required, place_behind}
+use Rattle.yaml_scan.specs.Slots.{held, outer_to}
+use Rattle.yaml_scan.specs.Step.{stale, required}
 use Rattle.yaml_scan.specs.Offline.{Token, before, offline, groups, waiting, up_to}
 use Rattle.yaml_scan.specs.Offline.Token.{StreamStart}
 use Rattle.yaml_scan.specs.Cut.{oldest}
-use Rattle.yaml_scan.specs.Answers.{Input, Course, course, course_from, is_near, starts_near, tokens_of}
+use Rattle.yaml_scan.specs.Answers.{course, starts_near}
 use Rattle.yaml_scan.specs.Near.{near_fault}
 use Rattle.yaml_scan.specs.Numbered.{IsQueue}
-use Rattle.yaml_scan.specs.Session.{first_steps, pace, steps_for, all_steps}
+use Rattle.yaml_scan.specs.Session.{first_steps, pace}
 use Rattle.yaml_scan.specs.Inputs.{decoded_input}
-use Rattle.yaml_scan.specs.Scanning.{Holds, Runs, IsOpen, IsNearFrom, history, course_of, input_of}
-use Rattle.yaml_scan.specs.Ready.{IsNew, IsIn, Begins, IsStopped, IsEnded, course_in}
-use Rattle.yaml_scan.proofs.GoOn.{all_is_handed_out}
-use Rattle.yaml_scan.proofs.Next.{oldest_all}
-use Rattle.yaml_scan.proofs.Stepped.{read_history}
-use Rattle.yaml_scan.proofs.TextOrder.{text_order}
+use Rattle.yaml_scan.specs.Scanning.{Holds, Runs, IsNearFrom, history, course_of, input_of}
+use Rattle.yaml_scan.specs.Ready.{IsNew, Begins, IsStopped, IsEnded, course_in}
 
 oldest_none : (H : List Laid) → oldest 0 H ≡ []
 oldest_none H = drop_all (length H - 0) H (omega arith)

@@ -1,12 +1,12 @@
 -- What a list of calls is answered with can be put in words.
-use Rattle.std.proofs.Common.{◌≡◌, ℕ, ◌+◌, List, [], ◌∷◌, ◌++◌, map, take, drop, refl, sym, subst, inl, inr}
+use Rattle.std.proofs.Common.{◌+◌, List, [], ◌∷◌, ◌++◌, map, take, drop, sym, subst, inl, inr}
 use Rattle.yaml_scan.specs.Fault.{memory_fault}
 use Rattle.yaml_scan.specs.Session.{Call, Answer}
 use Rattle.yaml_scan.specs.Session.Call.{SCAN, PEEK, SKIP}
 use Rattle.yaml_scan.specs.Session.{Answer as says}
 use Rattle.yaml_scan.specs.Parser.{Parser, course_read}
 use Rattle.yaml_scan.specs.Words.{AnswerHasLine, AnswersHaveLines}
-use Rattle.yaml_scan.specs.Calls.{Seen, Runs, seen, idle, answered_all}
+use Rattle.yaml_scan.specs.Calls.{Seen, seen, idle, answered_all}
 use Rattle.yaml_scan.specs.Calls.Seen.{FAULT}
 use Rattle.yaml_scan.specs.CallWords.{SeenHasLine, SeenHaveLines, RunHasLines}
 use Rattle.yaml_scan.proofs.Telling.{sessions_have_lines}

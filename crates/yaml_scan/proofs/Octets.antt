@@ -1,10 +1,10 @@
 -- The bytes of a text: how many characters are left behind an index.
-use Rattle.std.proofs.Common.{◌≡◌, ℕ, zero, suc, ◌+◌, ◌-◌, ◌*◌, ◌/◌, ◌%◌, ◌≤◌, ◌<◌, not, Bool, true, false, List, [], ◌∷◌, ◌++◌, length, length-append, length-drop, take, drop, take-append-drop, filter, refl, ap, sym, ◌∙◌, subst, arith, inl, inr, lt-ltb, le-ltb, get_or}
+use Rattle.std.proofs.Common.{◌≡◌, ℕ, zero, suc, ◌+◌, ◌-◌, ◌/◌, ◌≤◌, ◌<◌, not, Bool, true, false, List, [], ◌∷◌, ◌++◌, length, length-append, length-drop, take, drop, take-append-drop, filter, refl, ap, sym, ◌∙◌, subst, arith, inl, inr, lt-ltb, le-ltb, get_or}
 use Rattle.std.specs.Char.{len_utf8}
 use Rattle.std.specs.Prelude.{slice_index, ◌⊎◌, if◌then◌else◌}
 use Rattle.std.proofs.lemmas.Bool.{cases_Bool, cases_lt}
 use Rattle.std.proofs.lemmas.Bool.Decides.{nat_tests}
-use Rattle.std.proofs.lemmas.List.{drop_at, length-take-le}
+use Rattle.std.proofs.lemmas.List.{drop_at}
 use Rattle.std.proofs.lemmas.List.Elements.{filter-append}
 use Rattle.std.proofs.lemmas.Str.{encode_ascii, encodes-append, length-encode}
 use lib.Utf8.{encode, next}
@@ -13,7 +13,7 @@ use Rattle.yaml_text.specs.Utf8.{continues}
 use Rattle.yaml_text.specs.declared.types.yaml_mark_t.{yaml_mark_t}
 use Rattle.yaml_text.proofs.Spelling.{two, three, four, char_range}
 use Rattle.yaml_text.proofs.Places.{AreChars-parts}
-use Rattle.yaml_lexeme.specs.Place.{place_at, start, skip, skip_from, mark_behind, ends_line, width}
+use Rattle.yaml_lexeme.specs.Place.{skip, skip_from, mark_behind, ends_line, width}
 use Rattle.yaml_scan.specs.SourceOf.{source_of}
 use Rattle.yaml_scan.specs.Answers.{is_near}
 use Rattle.yaml_scan.specs.Near.{starts}

@@ -1,17 +1,16 @@
 -- How many steps a look makes.
-use Rattle.std.proofs.Common.{◌≡◌, ℕ, suc, ◌+◌, ◌-◌, ◌≤◌, ◌<◌, max, Bool, true, false, List, [], ◌∷◌, ◌++◌, length, Option, Some, None, refl, ap, sym, ◌∙◌, subst, arith, inl, inr}
-use Rattle.std.specs.Prelude.{◌⊎◌}
-use Rattle.std.proofs.lemmas.Bool.{cases_Bool, cases_eq, cases_lt, false≢true}
-use Rattle.yaml_text.specs.Fault.{Fault, memory_fault}
+use Rattle.std.proofs.Common.{◌≡◌, ℕ, ◌+◌, ◌-◌, ◌≤◌, ◌<◌, true, false, List, [], ◌∷◌, length, refl, ap, sym, ◌∙◌, subst, arith, inl, inr}
+use Rattle.std.proofs.lemmas.Bool.{cases_Bool, cases_eq, false≢true}
+use Rattle.yaml_text.specs.Fault.{Fault}
 use Rattle.yaml_scan.specs.declared.step.scanner_t.{scanner_t}
 use Rattle.yaml_scan.specs.Laid.{Laid, reach}
-use Rattle.yaml_scan.specs.Order.{IsHistory, ended}
+use Rattle.yaml_scan.specs.Order.{ended}
 use Rattle.yaml_scan.specs.Offline.{before, offline}
 use Rattle.yaml_scan.specs.Step.{Outcome}
 use Rattle.yaml_scan.specs.Cut.{oldest, IsRun}
 use Rattle.yaml_scan.specs.Answers.{Course, next}
 use Rattle.yaml_scan.specs.Session.{steps_for, pace}
-use Rattle.yaml_scan.specs.Scanning.{Runs, Steps, IsLast, Stays, Same, IsOpen, Settles, Fails, Stops, history, course_of, input_of}
+use Rattle.yaml_scan.specs.Scanning.{Runs, Steps, IsLast, Stays, Same, IsOpen, Fails, Stops, history, course_of, input_of}
 use Rattle.yaml_scan.proofs.GoOn.{all_is_handed_out}
 use Rattle.yaml_scan.proofs.Next.{oldest_all, oldest_tail}
 use Rattle.yaml_scan.proofs.Pacing.{enough, needs_more}

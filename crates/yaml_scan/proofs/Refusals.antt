@@ -1,27 +1,25 @@
 -- The rows of a step in front of its lexeme, by what a scanner computes.
-use Rattle.std.proofs.Common.{◌≡◌, ℕ, zero, suc, ◌+◌, ◌-◌, ◌≤◌, ◌<◌, ◌^◌, not, ◌&&◌, ◌||◌, Bool, true, false, List, [], ◌∷◌, ◌++◌, length, length-append, Option, Some, None, refl, ap, sym, ◌∙◌, subst, arith, inl, inr, ltb, eqb, vec_len, eqb-true, ne_eqb, lt-ltb}
+use Rattle.std.proofs.Common.{◌≡◌, ℕ, ◌+◌, ◌≤◌, not, ◌&&◌, ◌||◌, Bool, true, false, List, length, Option, Some, None, refl, ap, sym, ◌∙◌, subst, arith, inl, inr, ltb, eqb, vec_len, eqb-true, ne_eqb, lt-ltb}
 use Rattle.std.specs.Bool.{◌==◌}
 use Rattle.std.specs.Option.{is_some}
-use Rattle.std.specs.Prelude.{◌⊎◌, if◌then◌else◌, option_map, nat_eq, nat_lt}
-use Rattle.std.proofs.lemmas.Bool.{cases_Bool, cases_eq, false≢true}
+use Rattle.std.specs.Prelude.{if◌then◌else◌, option_map, nat_eq, nat_lt}
+use Rattle.std.proofs.lemmas.Bool.{cases_eq}
 use Rattle.yaml_text.specs.declared.types.yaml_mark_t.{yaml_mark_t}
 use Rattle.yaml_text.specs.Fault.{Fault, scanner_fault}
-use Rattle.yaml_lexeme.specs.Place.{IsMarkOf, place_at}
+use Rattle.yaml_lexeme.specs.Place.{IsMarkOf}
 use Rattle.yaml_scan.specs.declared.step.scanner_t.{scanner_t}
 use Rattle.yaml_scan.specs.Kind.{Kind}
 use Rattle.yaml_scan.specs.Fault.{no_token, in_next_token}
 use Rattle.yaml_scan.specs.Source.{Source, Offence}
 use Rattle.yaml_scan.specs.SourceOf.{source_of}
-use Rattle.yaml_scan.specs.TextReads.{IsProblem}
-use Rattle.yaml_scan.specs.Slots.{Held, held, held_of, still_held, lost_held, needed, outer_to, root_of, completed_held}
-use Rattle.yaml_scan.specs.Laid.{Laid, candidate, depth, reach, only_live, completed_by, is_none, allowed, allowed_behind}
-use Rattle.yaml_scan.specs.Order.{IsHistory, IsNotBefore, ended}
-use Rattle.yaml_scan.specs.Step.{Outcome, step, gap_step, kind_step, read_step, unless, refuse, stale, required, refused, clears, lost, no_kind, not_allowed, problem_of, replaces, start_at, end_of, front_of, place_behind}
-use Rattle.yaml_scan.specs.Step.Outcome.{Reads, Faults}
-use Rattle.yaml_scan.specs.Cut.{KeepsOrder}
+use Rattle.yaml_scan.specs.Slots.{Held, held, held_of, lost_held, needed, root_of, completed_held}
+use Rattle.yaml_scan.specs.Laid.{Laid, depth, reach, only_live, completed_by, is_none, allowed, allowed_behind}
+use Rattle.yaml_scan.specs.Order.{IsNotBefore, ended}
+use Rattle.yaml_scan.specs.Step.{Outcome, step, kind_step, read_step, unless, refuse, stale, required, refused, clears, lost, no_kind, not_allowed, problem_of, replaces, start_at, front_of, place_behind}
+use Rattle.yaml_scan.specs.Step.Outcome.{Faults}
 use Rattle.yaml_scan.specs.Moves.{IsLost, IsRefused}
-use Rattle.yaml_scan.specs.Scanning.{Holds, Offends, IsMet, text_of}
-use Rattle.yaml_scan.proofs.Look.{held_later, completed_later, needed_later, lost_later, root_is, outer_length, kept_row, lost_row}
+use Rattle.yaml_scan.specs.Scanning.{Holds, Offends}
+use Rattle.yaml_scan.proofs.Look.{completed_later, needed_later, lost_later, root_is, outer_length, kept_row, lost_row}
 use Rattle.yaml_scan.proofs.TextOrder.{text_order}
 
 zero_test : (n : ℕ) → not (eqb n 0) ≡ ltb 0 n

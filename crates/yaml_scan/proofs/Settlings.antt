@@ -1,6 +1,5 @@
 -- From a scanner that is ready to its next token.
-use Rattle.std.proofs.Common.{◌≡◌, ℕ, ◌+◌, ◌-◌, ◌≤◌, ◌<◌, max, Bool, true, false, List, [], ◌∷◌, length, Option, Some, None, refl, ap, sym, ◌∙◌, subst, arith, inl, inr, ltb}
-use Rattle.std.specs.Prelude.{◌⊎◌, if◌then◌else◌}
+use Rattle.std.proofs.Common.{◌≡◌, ℕ, ◌+◌, ◌≤◌, ◌<◌, true, List, [], ◌∷◌, length, refl, ap, sym, ◌∙◌, arith, inl, inr, ltb}
 use Rattle.std.proofs.lemmas.Bool.{cases_Bool}
 use Rattle.yaml_text.specs.declared.types.yaml_encoding_t.{yaml_encoding_t}
 use Rattle.yaml_text.specs.Fault.{Fault}
@@ -10,8 +9,8 @@ use Rattle.yaml_scan.specs.Offline.{before}
 use Rattle.yaml_scan.specs.Answers.{Input, Course, course, tokens_of}
 use Rattle.yaml_scan.specs.Session.{steps_for, pace, all_steps, first_steps}
 use Rattle.yaml_scan.specs.Inputs.{decoded_input}
-use Rattle.yaml_scan.specs.Scanning.{Runs, IsOpen, Settles, Fails, Stops, Same, history, course_of, input_of}
-use Rattle.yaml_scan.specs.Ready.{IsNew, IsIn, IsReady, Begins, IsStarted, IsSettled, IsStopped, IsEnded, course_in}
+use Rattle.yaml_scan.specs.Scanning.{Settles, Fails, Stops, Same, history, course_of, input_of}
+use Rattle.yaml_scan.specs.Ready.{IsNew, IsReady, Begins, IsStarted, IsSettled, IsStopped, IsEnded, course_in}
 use Rattle.yaml_scan.proofs.Paces.{open_too}
 
 one_step : (limit : ℕ) (H : List Laid) (t : ℕ) → 1 ≤ steps_for limit H t

@@ -1,27 +1,23 @@
 -- A step of a running scanner is the next one of its input.
-use Rattle.std.proofs.Common.{◌≡◌, ℕ, zero, suc, ◌+◌, ◌-◌, ◌*◌, ◌^◌, ◌≤◌, ◌<◌, max, Bool, true, false, List, [], ◌∷◌, ◌++◌, length, drop, Option, Some, None, refl, ap, sym, ◌∙◌, subst, arith, inl, inr, leb, le-leb, lt-ltb, leb-true}
-use Rattle.std.specs.Prelude.{◌⊎◌, if◌then◌else◌, option_map, nat_le}
+use Rattle.std.proofs.Common.{◌≡◌, ℕ, ◌+◌, ◌-◌, ◌*◌, ◌^◌, ◌≤◌, ◌<◌, Bool, true, false, List, [], ◌∷◌, length, Option, Some, None, refl, ap, sym, ◌∙◌, subst, arith, inl, inr, leb, le-leb, leb-true}
+use Rattle.std.specs.Prelude.{option_map}
 use Rattle.std.proofs.lemmas.Bool.{cases_Bool, cases_eq, cases_lt, false≢true}
-use Rattle.yaml_text.specs.declared.types.yaml_error_type_t.TheVariants.{YAML_SCANNER_ERROR}
 use Rattle.yaml_text.specs.declared.fault.yaml_fault_t.{yaml_fault_t}
-use Rattle.yaml_text.specs.Fault.{Fault, fault_of, memory_fault}
+use Rattle.yaml_text.specs.Fault.{Fault, memory_fault}
 use Rattle.yaml_text.specs.Decode.{refusal_seen}
 use Rattle.yaml_scan.specs.declared.step.scanner_t.{scanner_t}
 use Rattle.yaml_scan.specs.Lexeme.{Lexeme}
-use Rattle.yaml_scan.specs.Source.{Source, Offence}
+use Rattle.yaml_scan.specs.Source.{Offence}
 use Rattle.yaml_scan.specs.SourceOf.{source_of}
-use Rattle.yaml_scan.specs.TextReads.{IsProblem}
-use Rattle.yaml_scan.specs.Laid.{Laid, reach}
+use Rattle.yaml_scan.specs.Laid.{Laid}
 use Rattle.yaml_scan.specs.Levels.{laid}
 use Rattle.yaml_scan.specs.Order.{IsHistory, ended}
-use Rattle.yaml_scan.specs.Offline.{before, offline}
-use Rattle.yaml_scan.specs.Step.{Outcome, step}
+use Rattle.yaml_scan.specs.Step.{Outcome}
 use Rattle.yaml_scan.specs.Step.Outcome.{Reads, Faults}
-use Rattle.yaml_scan.specs.Cut.{Cut, cut_from, oldest, IsRun, EndsWith, KeepsOrder}
-use Rattle.yaml_scan.specs.Answers.{Input, Course, course, course_from, next, unless_near, is_near, place_of, starts_near}
-use Rattle.yaml_scan.specs.Session.{steps_for, pace}
+use Rattle.yaml_scan.specs.Cut.{Cut, cut_from, oldest, IsRun, EndsWith}
+use Rattle.yaml_scan.specs.Answers.{Course, course, course_from, next, unless_near, is_near, place_of, starts_near}
 use Rattle.yaml_scan.specs.Near.{near_fault, or_fault, if_scanner, instead}
-use Rattle.yaml_scan.specs.Scanning.{Holds, Advances, Offends, Runs, Steps, IsLast, Stays, Same, IsNearFrom, history, course_of, input_of, text_of}
+use Rattle.yaml_scan.specs.Scanning.{Holds, Advances, Offends, Runs, Steps, IsLast, Same, IsNearFrom, history, course_of, input_of}
 use Rattle.yaml_scan.proofs.Cuts.{IsHistory-from_run, run_short}
 use Rattle.yaml_scan.proofs.Courses.{next_orderly, steps_are}
 use Rattle.yaml_scan.proofs.Next.{oldest-next, oldest-fault, oldest_all}

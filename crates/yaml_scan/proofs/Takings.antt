@@ -1,6 +1,5 @@
 -- The head of the queue is taken.
-use Rattle.std.proofs.Common.{◌≡◌, ℕ, zero, suc, ◌+◌, ◌-◌, ◌^◌, ◌≤◌, ◌<◌, List, [], ◌∷◌, ◌++◌, length, length-drop, get_or, drop, slice_get, Option, Some, None, refl, ap, sym, ◌∙◌, subst, arith, inl, inr, true, false}
-use Rattle.std.proofs.lemmas.Bool.{cases_lt, false≢true}
+use Rattle.std.proofs.Common.{◌≡◌, ℕ, zero, suc, ◌+◌, ◌-◌, ◌<◌, List, [], ◌∷◌, ◌++◌, length, length-drop, drop, slice_get, Some, refl, ap, sym, ◌∙◌, subst, arith}
 use Rattle.yaml_text.specs.declared.types.yaml_encoding_t.{yaml_encoding_t}
 use Rattle.yaml_scan.specs.declared.step.scanner_t.{scanner_t}
 use Rattle.yaml_scan.specs.declared.queue.queued_t.{queued_t}
@@ -15,7 +14,7 @@ use Rattle.yaml_scan.proofs.Bound.{length-begins}
 use Rattle.yaml_scan.proofs.Extend.{before-before, before-offline}
 use Rattle.yaml_scan.proofs.Pacing.{split}
 use Rattle.yaml_scan.proofs.Queues.{same_length}
-use Rattle.yaml_scan.proofs.Stepped.{read_history, inside, few_taken}
+use Rattle.yaml_scan.proofs.Stepped.{read_history, inside}
 
 get-append : (xs ys : List Token) (n : ℕ) → n < length xs → slice_get (xs ++ ys) n ≡ slice_get xs n
 get-append [] ys n l = absurd (omega arith)

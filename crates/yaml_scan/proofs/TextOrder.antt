@@ -1,5 +1,5 @@
 -- Reading a text keeps its order.
-use Rattle.std.proofs.Common.{◌≡◌, ℕ, zero, suc, ◌+◌, ◌-◌, ◌≤◌, Bool, true, false, List, [], ◌∷◌, length, Option, Some, Ok, Err, Result, refl, ap, sym, ◌∙◌, arith, inl, inr}
+use Rattle.std.proofs.Common.{◌≡◌, ℕ, zero, suc, ◌+◌, ◌≤◌, Bool, true, false, List, [], ◌∷◌, length, Option, Some, Ok, Err, refl, ap, sym, ◌∙◌, arith, inl, inr}
 use Rattle.std.specs.Prelude.{nat_lt, ◌==◌, if◌then◌else◌, slice_index}
 use Rattle.std.proofs.lemmas.Bool.{cases_Bool}
 use Rattle.yaml_text.specs.Chars.{AreChars}
@@ -10,7 +10,7 @@ use Rattle.yaml_lexeme.specs.Lex.{lex, stream_end}
 use Rattle.yaml_lexeme.proofs.Places.{length_skip}
 use Rattle.yaml_scan.specs.Kind.{Kind, is_stream_end}
 use Rattle.yaml_scan.specs.Source.{Reading, Offence}
-use Rattle.yaml_scan.specs.SourceOf.{source_of, count_to, reading_of}
+use Rattle.yaml_scan.specs.SourceOf.{source_of, count_to}
 use Rattle.yaml_scan.specs.TextReads.{IsProblem}
 use Rattle.yaml_scan.specs.Cut.{KeepsOrder}
 use Rattle.yaml_scan.proofs.SourceOrder.{texts_keep_order, problem_at}

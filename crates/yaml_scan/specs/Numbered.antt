@@ -1,5 +1,5 @@
 -- The queue of a running scanner: tokens as they are handed out, each with the number of its step.
-use Rattle.std.specs.Prelude.{◌≡◌, ℕ, zero, suc, ◌+◌, ◌<◌, Bool, List, [], ◌∷◌, ◌++◌, length, Option, None, Some, if◌then◌else◌}
+use Rattle.std.specs.Prelude.{◌≡◌, ℕ, zero, suc, ◌+◌, Bool, List, [], ◌∷◌, ◌++◌, Option, None, Some, if◌then◌else◌}
 use Rattle.yaml_text.specs.declared.types.yaml_mark_t.{yaml_mark_t}
 use Rattle.yaml_text.specs.declared.types.yaml_encoding_t.{yaml_encoding_t}
 use Rattle.yaml_scan.specs.declared.queue.queued_t.{queued_t}
@@ -8,7 +8,6 @@ use Rattle.yaml_scan.specs.Lexeme.{Lexeme}
 use Rattle.yaml_scan.specs.Token.{yaml_token_t}
 use Rattle.yaml_scan.specs.Levels.{stays}
 use Rattle.yaml_scan.specs.Offline.{Token, handed_out}
-use Rattle.yaml_scan.specs.Offline.Token.{OfLexeme}
 use Rattle.yaml_scan.specs.Laws.{is_of_lexeme}
 
 -- a step is over behind the token of its lexeme

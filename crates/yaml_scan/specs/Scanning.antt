@@ -1,29 +1,25 @@
 -- What a running scanner holds behind the lexemes H.
-use Rattle.std.specs.Prelude.{◌≡◌, ◌⊎◌, ℕ, ◌+◌, ◌-◌, ◌≤◌, ◌<◌, ◌^◌, max, Bool, true, false, List, [], ◌∷◌, reverse, drop, length, slice_get, Option, None, Some, nat_lt}
-use Rattle.yaml_text.specs.declared.types.yaml_mark_t.{yaml_mark_t}
-use Rattle.yaml_text.specs.declared.fault.yaml_fault_t.{yaml_fault_t}
-use Rattle.yaml_text.specs.Fault.{Fault, fault_of, memory_fault}
+use Rattle.std.specs.Prelude.{◌≡◌, ℕ, ◌+◌, ◌-◌, ◌≤◌, ◌<◌, ◌^◌, true, false, List, ◌∷◌, reverse, drop, length, None, Some, nat_lt}
+use Rattle.yaml_text.specs.Fault.{Fault}
 use Rattle.yaml_text.specs.Chars.{AreChars}
 use Rattle.yaml_text.specs.Decode.{refusal_seen}
 use Rattle.yaml_lexeme.specs.Place.{IsMarkOf}
 use Rattle.yaml_scan.specs.declared.step.scanner_t.{scanner_t}
 use Rattle.yaml_scan.specs.declared.step.met_t.{met_t}
-use Rattle.yaml_scan.specs.declared.queue.queued_t.{queued_t}
 use Rattle.yaml_scan.specs.Lexeme.{Lexeme}
-use Rattle.yaml_scan.specs.Token.{yaml_token_t}
 use Rattle.yaml_scan.specs.Source.{Source, Offence}
 use Rattle.yaml_scan.specs.SourceOf.{source_of}
 use Rattle.yaml_scan.specs.TextReads.{IsProblem}
 use Rattle.yaml_scan.specs.Laid.{Laid, reach, depth, allowed, allowed_behind}
 use Rattle.yaml_scan.specs.Levels.{AllLess, laid, open_columns}
 use Rattle.yaml_scan.specs.Order.{IsHistory, ended}
-use Rattle.yaml_scan.specs.Offline.{Token, offline, before, handed_out}
+use Rattle.yaml_scan.specs.Offline.{offline, before}
 use Rattle.yaml_scan.specs.Slots.{held, outer_to, empty_slots}
 use Rattle.yaml_scan.specs.Numbered.{IsQueue}
-use Rattle.yaml_scan.specs.Step.{Outcome, step, read_step, stale, place_behind, front_of}
+use Rattle.yaml_scan.specs.Step.{step, read_step, stale, place_behind, front_of}
 use Rattle.yaml_scan.specs.Step.Outcome.{Reads, Faults}
 use Rattle.yaml_scan.specs.Cut.{oldest}
-use Rattle.yaml_scan.specs.Answers.{Input, Course, course, next, is_near, tokens_of}
+use Rattle.yaml_scan.specs.Answers.{Input, Course, course, is_near}
 use Rattle.yaml_scan.specs.Session.{pace}
 
 -- what it scans

@@ -1,10 +1,10 @@
 -- What the calls on a text answer, by what the text gives to read.
-use Rattle.std.specs.Prelude.{◌≡◌, ℕ, ◌+◌, ◌<◌, ◌≤◌, ◌^◌, List, length, Option, Some, Ok, Err}
+use Rattle.std.specs.Prelude.{◌≡◌, ℕ, ◌≤◌, List, Option, Ok, Err}
 use Rattle.yaml_text.specs.declared.types.yaml_error_type_t.TheVariants.{YAML_SCANNER_ERROR}
 use Rattle.yaml_text.specs.Fault.{Fault}
 use Rattle.yaml_lexeme.specs.declared.lex.yaml_lexeme_t.{yaml_lexeme_t}
 use Rattle.yaml_scan.specs.Kind.{Kind}
-use Rattle.yaml_scan.specs.Source.{Source, Reading, Offence}
+use Rattle.yaml_scan.specs.Source.{Source, Offence}
 use Rattle.yaml_scan.specs.SourceOf.{source_of, reading}
 
 -- the lexeme was read

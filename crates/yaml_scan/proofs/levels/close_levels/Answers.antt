@@ -1,6 +1,4 @@
-use Rattle.std.proofs.Common.{◌≡◌, ℕ, List, [], ◌∷◌, ◌++◌, None, reverse, map, filter, not, sym, ap, ◌∙◌, subst, append-nil}
-use Rattle.yaml_text.specs.declared.types.yaml_encoding_t.{yaml_encoding_t}
-use Rattle.yaml_scan.specs.Levels.{IsFalling, stays}
+use Rattle.std.proofs.Common.{◌≡◌, ℕ, List, ◌++◌, None, reverse, map, sym, ap, ◌∙◌, subst, append-nil}
 use Rattle.yaml_scan.specs.Offline.{Token, end_at}
 use Rattle.yaml_scan.specs.Offline.Token.{BlockEnd}
 use Rattle.yaml_scan.specs.Numbered.{IsQueue, closing}

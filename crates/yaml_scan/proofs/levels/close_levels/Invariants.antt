@@ -1,4 +1,4 @@
-use Rattle.std.proofs.Common.{◌≡◌, ℕ, ◌≤◌, length, ◌++◌, List, reverse, map, filter, not, vec_len}
+use Rattle.std.proofs.Common.{◌≡◌, ℕ, ◌++◌, List, reverse, map, filter, not, vec_len}
 use Rattle.yaml_text.specs.declared.types.yaml_encoding_t.{yaml_encoding_t}
 use Rattle.yaml_scan.specs.Levels.{IsFalling, stays}
 use Rattle.yaml_scan.specs.Offline.{Token, end_at}

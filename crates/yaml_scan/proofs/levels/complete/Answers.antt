@@ -1,9 +1,6 @@
-use Rattle.std.proofs.Common.{◌≡◌, ℕ, ◌-◌, Bool, List, [], ◌∷◌, ◌++◌, reverse, refl, ap, ◌∙◌, subst, sym}
-use Rattle.std.specs.Prelude.{◌&&◌, true, if◌then◌else◌}
-use Rattle.yaml_scan.specs.Levels.{opens_level}
-use Rattle.yaml_scan.specs.Offline.{Token, start_token}
+use Rattle.std.proofs.Common.{ℕ, ◌-◌, Bool, List, reverse, ap, ◌∙◌, subst}
 use Rattle.yaml_scan.specs.Queue.{put_in, is_new, key_at}
-use Rattle.yaml_scan.specs.Numbered.{Changes, Appends}
+use Rattle.yaml_scan.specs.Numbered.{Changes}
 use Rattle.yaml_scan.proofs.levels.complete.Goals as goal
 
 pub returns-clause-queue : goal.returns-clause-queue

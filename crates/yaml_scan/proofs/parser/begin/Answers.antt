@@ -1,4 +1,4 @@
-use Rattle.std.proofs.Common.{◌≡◌, refl, sym, ap, ◌∙◌, inl, inr, arith, subst, ◌∷◌, [], ◌+◌, ◌<◌, ◌≤◌, ◌^◌, length}
+use Rattle.std.proofs.Common.{refl, sym, ap, ◌∙◌, inr, arith, subst, ◌∷◌, [], length}
 use Rattle.yaml_text.specs.declared.types.yaml_encoding_t.{yaml_encoding_t}
 use Rattle.yaml_scan.specs.Offline.Token.{StreamStart}
 use Rattle.yaml_scan.specs.Numbered.{IsQueue}

@@ -1,4 +1,4 @@
-use Rattle.std.proofs.Common.{◌≡◌, ℕ, ◌+◌, ◌≤◌, ◌<◌, refl, sym, ap, ◌∙◌, arith, length, deque_len}
+use Rattle.std.proofs.Common.{refl, ap, ◌∙◌, arith}
 use Rattle.std.specs.Prelude.{Option, ◌++◌}
 use Rattle.std.specs.Option.{option_to_list}
 use Rattle.yaml_scan.specs.declared.queue.queued_t.{queued_t}

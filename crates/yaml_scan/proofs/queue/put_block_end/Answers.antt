@@ -1,5 +1,5 @@
-use Rattle.std.proofs.Common.{◌≡◌, ◌≤◌, ◌+◌, ℕ, refl, sym, ap, ◌∙◌, arith, length, deque_len, slice_get, Some, None}
-use Rattle.yaml_scan.proofs.Queues.{put_behind, put_nothing, put_key, put_key_and_start, step_some, step_none}
+use Rattle.std.proofs.Common.{refl}
+use Rattle.yaml_scan.proofs.Queues.{put_behind}
 use Rattle.yaml_scan.proofs.queue.put_block_end.Goals as goal
 
 pub returns : goal.returns

@@ -1,10 +1,4 @@
-use Rattle.std.proofs.Common.{◌≡◌, ◌≤◌, ◌<◌, ◌+◌, ℕ, refl, sym, ap, ◌∙◌, subst, arith, length, deque_len, inl, inr, List, ◌∷◌, [], ◌++◌, true, false}
-use Rattle.std.proofs.lemmas.Bool.{cases_lt, false≢true}
-use Rattle.yaml_text.specs.declared.types.yaml_encoding_t.{yaml_encoding_t}
-use Rattle.yaml_scan.specs.declared.queue.queued_t.{queued_t}
-use Rattle.yaml_scan.specs.Offline.{Token}
-use Rattle.yaml_scan.specs.Queue.{put_in, key_at}
-use Rattle.yaml_scan.specs.Numbered.{IsQueue}
+use Rattle.std.proofs.Common.{refl, ◌∙◌}
 use Rattle.yaml_scan.proofs.Queues.{put_behind, start_step}
 use Rattle.yaml_scan.proofs.queue.put_block_start.Goals as goal
 

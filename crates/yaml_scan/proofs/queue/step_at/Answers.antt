@@ -1,11 +1,6 @@
-use Rattle.std.proofs.Common.{◌≡◌, ◌≤◌, ◌<◌, ◌+◌, ℕ, refl, sym, ap, ◌∙◌, subst, arith, length, deque_len, inl, inr, List, ◌∷◌, [], ◌++◌, true, false}
+use Rattle.std.proofs.Common.{refl, arith, deque_len, inl, inr}
 use Rattle.std.proofs.lemmas.Bool.{cases_lt, false≢true}
-use Rattle.yaml_text.specs.declared.types.yaml_encoding_t.{yaml_encoding_t}
-use Rattle.yaml_scan.specs.declared.queue.queued_t.{queued_t}
-use Rattle.yaml_scan.specs.Offline.{Token}
-use Rattle.yaml_scan.specs.Queue.{put_in, key_at}
-use Rattle.yaml_scan.specs.Numbered.{IsQueue}
-use Rattle.yaml_scan.proofs.Queues.{put_behind, put_nothing, put_key, put_key_and_start, step_some, step_none}
+use Rattle.yaml_scan.proofs.Queues.{step_some, step_none}
 use Rattle.yaml_scan.proofs.queue.step_at.Goals as goal
 
 pub returns-in-Some : goal.returns-in-Some

@@ -1,8 +1,6 @@
-use Rattle.std.proofs.Common.{◌≡◌, ℕ, ◌+◌, ◌∙◌, refl, sym, ap, inl, inr, arith, Some, None}
-use Rattle.std.specs.Prelude.{option_map}
-use Rattle.yaml_text.specs.Fault.{Fault, fault_of}
+use Rattle.std.proofs.Common.{◌∙◌, refl, inl, inr, arith, None}
+use Rattle.yaml_text.specs.Fault.{fault_of}
 use Rattle.yaml_text.specs.Decode.{refusal_seen}
-use Rattle.yaml_scan.specs.Scanning.{Stays}
 use Rattle.yaml_scan.proofs.Stepped.{near_last, stepped, problem_last, memory_stays, few_made, near_moved, instead_moved}
 use Rattle.yaml_scan.proofs.run.advance.Goals as goal
 

@@ -1,4 +1,4 @@
-use Rattle.std.proofs.Common.{◌≡◌, ℕ, ◌≤◌, ◌<◌, ◌∙◌, sym, ap, refl, length, arith, inl, inr, ltb-true, ltb-false}
+use Rattle.std.proofs.Common.{◌<◌, ◌∙◌, sym, ap, refl, length, arith, inl, inr, ltb-true, ltb-false}
 use Rattle.std.proofs.lemmas.Result.{err_from_is_err_and}
 use Rattle.yaml_scan.specs.Offline.{before}
 use Rattle.yaml_scan.specs.Answers.{Course}

@@ -1,4 +1,4 @@
-use Rattle.std.proofs.Common.{◌≡◌, ℕ, ◌≤◌, ◌+◌, ◌-◌, length}
+use Rattle.std.proofs.Common.{◌≤◌, ◌+◌, ◌-◌, length}
 use Rattle.yaml_scan.specs.Session.{pace}
 use Rattle.yaml_scan.specs.Scanning.{Runs, Same, course_of}
 use Rattle.yaml_scan.proofs.run.settle_head.Given as goal
