@@ -184,7 +184,7 @@ def inputs():
             words, data, wanted = line.rstrip("\n").split("\t")
             words, data = words.split(" "), bytes.fromhex(data.strip("-"))
             is_utf8 = words[1] in ("any", "utf8") and not data.startswith((b"\xef\xbb\xbf", b"\xff\xfe", b"\xfe\xff"))
-            if is_utf8 and len(data) < 300 and "FAULT reader" not in wanted and is_text(data):
+            if is_utf8 and len(data) < 3000 and "FAULT reader" not in wanted and is_text(data):
                 yield number, words, data
 
 

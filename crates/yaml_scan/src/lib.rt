@@ -11,8 +11,6 @@ pub mod laws;
 mod levels;
 mod near;
 mod parser;
-#[cfg(test)]
-mod plain_program;
 mod queue;
 mod run;
 mod source;
@@ -25,4 +23,16 @@ pub use calls::{yaml_answer_t, yaml_call_t, yaml_run};
 pub use parser::{
     yaml_parser_fault, yaml_parser_has_token, yaml_parser_mark, yaml_parser_peek,
     yaml_parser_queued, yaml_parser_scan, yaml_parser_skip, yaml_parser_t,
+};
+pub use yaml_lexeme::{
+    yaml_context_t, yaml_gap, yaml_lexeme_at, yaml_lexeme_kind, yaml_lexeme_kind_t, yaml_lexeme_t,
+};
+pub use yaml_text::{
+    AS_DIGIT, AS_HEX, IS_ALPHA, IS_ASCII, IS_BLANK, IS_BLANKZ, IS_BOM, IS_BREAK, IS_BREAKZ,
+    IS_CRLF, IS_DIGIT, IS_HEX, IS_PRINTABLE, IS_SPACE, IS_TAB, IS_Z, WIDTH, make_memory_fault,
+    make_scanner_fault, push_char, unnamed_yaml_token_t_data, yaml_break_t, yaml_bytes_t,
+    yaml_decode, yaml_decode_front, yaml_encoding_t, yaml_error_type_t, yaml_fault_t,
+    yaml_is_place, yaml_mapping_style_t, yaml_mark_at, yaml_mark_t, yaml_scalar_style_t,
+    yaml_sequence_style_t, yaml_simple_key_t, yaml_tag_directive_t, yaml_text_t, yaml_token_t,
+    yaml_token_type_t, yaml_version_directive_t,
 };

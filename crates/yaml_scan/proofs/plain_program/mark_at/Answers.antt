@@ -1,8 +1,0 @@
-use Rattle.std.proofs.Common.{refl}
-use Rattle.yaml_lexeme.proofs.CountLaws.{marks_counted}
-use Rattle.yaml_scan.proofs.plain_program.mark_at.Goals as goal
-
-pub returns : goal.returns
-returns c =
-    let place = c.if-not-yaml_is_place.ensures.0 refl in
-    (place.0, (marks_counted c.args.text.now.chars c.args.index place.0 c.yaml_mark_at.result place.1).0 (c.yaml_mark_at.ensures place.0 place.1))
