@@ -102,6 +102,7 @@ fn step_at(queue: &VecDeque<queued_t>, at: usize, step: u128) -> u128
 ghost use Rattle.yaml_scan.specs.Numbered.{step_at};
 
 /// Puts a token in front of the one that stands there. Most stand at the head.
+#[inline(always)]
 fn put_before(queue: &mut VecDeque<queued_t>, at: usize, queued: queued_t) -> Result<(), AllocError>
     requires { at ≤ length queue.old.items }
     ensures items { OnOk result (queue.new.items ≡ take at queue.old.items ++ (queued ∷ drop at queue.old.items)) }
