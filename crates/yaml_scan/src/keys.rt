@@ -115,19 +115,19 @@ pub(crate) fn root(outer: &[Option<held_t>], top: Option<held_t>) -> Option<held
     }
 }
 
-/// The candidate of a depth behind a lexeme that was read at it.
+/// Makes a slot that of a depth behind a lexeme that was read at it.
 pub(crate) fn settle(
+    slot: &mut Option<held_t>,
     kind: yaml_lexeme_kind_t,
     allowed: bool,
     new: held_t,
-    old: Option<held_t>,
-) -> Option<held_t>
-    ensures { result ≡ slot_behind kind allowed new old }
+)
+    ensures { slot.new ≡ slot_behind kind allowed new slot.old }
 {
-    if is_candidate(kind) {
-        if allowed { Some(new) } else { old }
-    } else {
-        None
+    if !is_candidate(kind) {
+        *slot = None;
+    } else if allowed {
+        *slot = Some(new);
     }
 }
 
@@ -147,48 +147,58 @@ pub(crate) fn completed_by(
     }
 }
 
+/// Gives up a candidate that is stale at a mark.
+fn give_up(slot: &mut Option<held_t>, limit: u64, mark: yaml_mark_t)
+    ensures { slot.new ≡ still_held limit mark slot.old }
+{
+    if let Some(held) = *slot {
+        if !is_still_live(limit, mark, held) {
+            *slot = None;
+        }
+    }
+}
+
 /// Enters a depth, or gives one up.
 fn nest(
     outer: &mut Vec<Option<held_t>>,
-    top: Option<held_t>,
+    top: &mut Option<held_t>,
     kind: yaml_lexeme_kind_t,
-) -> Result<Option<held_t>, AllocError>
-    ensures outer { OnOk result (outer.new.items ≡ nested_outer kind outer.old.items top) }
-    ensures top { IfOk result (λ r. r ≡ nested_top kind outer.old.items top) }
+) -> Result<(), AllocError>
+    ensures outer { OnOk result (outer.new.items ≡ nested_outer kind outer.old.items top.old) }
+    ensures top { OnOk result (top.new ≡ nested_top kind outer.old.items top.old) }
 {
     if is_flow_start(kind) {
-        outer.push(top)?;
-        return Ok(None);
+        outer.push(*top)?;
+        *top = None;
+    } else if is_flow_end(kind) {
+        match outer.pop() {
+            None => {}
+            Some(held) => *top = held,
+        }
     }
-    if is_flow_end(kind) {
-        return match outer.pop() {
-            None => Ok(top),
-            Some(held) => Ok(held),
-        };
-    }
-    Ok(top)
+    Ok(())
 }
 
 /// Gives up what is stale at a mark, and changes the depth behind a lexeme.
 pub(crate) fn move_slots(
     outer: &mut Vec<Option<held_t>>,
     empty: &mut usize,
-    top: Option<held_t>,
+    top: &mut Option<held_t>,
     kind: yaml_lexeme_kind_t,
     limit: u64,
     mark: yaml_mark_t,
-) -> Result<Option<held_t>, AllocError>
+) -> Result<(), AllocError>
     requires empty { empty.old ≡ empty_slots outer.old.items }
     requires nested { AreNested outer.old.items }
-    ensures outer { OnOk result (outer.new.items ≡ nested_outer kind (map (still_held limit mark) outer.old.items) (still_held limit mark top)) }
-    ensures top { IfOk result (λ r. r ≡ nested_top kind (map (still_held limit mark) outer.old.items) (still_held limit mark top)) }
+    ensures outer { OnOk result (outer.new.items ≡ nested_outer kind (map (still_held limit mark) outer.old.items) (still_held limit mark top.old)) }
+    ensures top { OnOk result (top.new ≡ nested_top kind (map (still_held limit mark) outer.old.items) (still_held limit mark top.old)) }
     ensures empty { OnOk result (empty.new ≡ empty_slots outer.new.items) }
 {
     let below = give_up_stale(outer, *empty, limit, mark);
-    let top = kept(top, limit, mark);
-    let top = nest(outer, top, kind)?;
+    give_up(top, limit, mark);
+    nest(outer, top, kind)?;
     *empty = count_empty(outer, below);
-    Ok(top)
+    Ok(())
 }
 
 fn waits_for(slot: Option<held_t>, taken: u128) -> bool

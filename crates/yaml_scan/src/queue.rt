@@ -87,7 +87,7 @@ pub(crate) fn put_lexeme(
 }
 
 ghost use Rattle.std.specs.Prelude.{◌+◌};
-ghost use Rattle.std.specs.Prelude.{slice_index, Some, None};
+ghost use Rattle.std.specs.Prelude.{slice_index, Some, None, take, drop};
 
 /// The step of the token that stands there, or another.
 fn step_at(queue: &VecDeque<queued_t>, at: usize, step: u128) -> u128
@@ -100,6 +100,21 @@ fn step_at(queue: &VecDeque<queued_t>, at: usize, step: u128) -> u128
 }
 
 ghost use Rattle.yaml_scan.specs.Numbered.{step_at};
+
+/// Puts a token in front of the one that stands there. Most stand at the head.
+#[inline(always)]
+fn put_before(queue: &mut VecDeque<queued_t>, at: usize, queued: queued_t) -> Result<(), AllocError>
+    requires { at ≤ length queue.old.items }
+    ensures items { OnOk result (queue.new.items ≡ take at queue.old.items ++ (queued ∷ drop at queue.old.items)) }
+    ensures len { OnOk result (length queue.new.items ≡ length queue.old.items + 1) }
+{
+    if at == 0 {
+        queue.push_front(queued)?;
+    } else {
+        queue.insert(at, queued)?;
+    }
+    Ok(())
+}
 
 /// Puts the key of a candidate in front of its token, and the start of a block mapping in front of the key, or none. All of
 /// them are tokens of the candidate's step.
@@ -115,10 +130,10 @@ pub(crate) fn insert_key(
 {
     let step = step_at(queue, at, step);
     let token = token_at(unnamed_yaml_token_t_data::KEY, mark);
-    queue.insert(at, queued_t { token, step })?;
+    put_before(queue, at, queued_t { token, step })?;
     if opens {
         let token = token_at(unnamed_yaml_token_t_data::BLOCK_MAPPING_START, mark);
-        queue.insert(at, queued_t { token, step })?;
+        put_before(queue, at, queued_t { token, step })?;
     }
     Ok(())
 }

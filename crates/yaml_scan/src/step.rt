@@ -4,7 +4,7 @@ ghost use Rattle.yaml_text.specs.Fault.{fault_of, memory_fault, scanner_fault};
 ghost use Rattle.yaml_scan.specs.Fault.{no_token, in_next_token};
 ghost use Rattle.yaml_scan.specs.Laid.{Laid, allowed};
 ghost use Rattle.yaml_scan.specs.Order.{ended};
-ghost use Rattle.yaml_scan.specs.Slots.{needed};
+ghost use Rattle.yaml_scan.specs.Slots.{needed, lost_held, still_held, root_of, slot_behind, nested_outer, nested_top, empty_slots, AreNested};
 ghost use Rattle.yaml_scan.specs.Step.{problem_of, replaces, step};
 ghost use Rattle.yaml_scan.specs.Moves.{IsLost, IsRefused};
 ghost use Rattle.yaml_scan.specs.Scanning.{Holds, IsMet, Advances, Offends, Stays, text_of};
@@ -17,7 +17,7 @@ use crate::queue::queued_t;
 use crate::source::{gap_end, kind_at, read_lexeme};
 use std::alloc::Global;
 use std::collections::VecDeque;
-use yaml_lexeme::yaml_lexeme_kind_t;
+use yaml_lexeme::{yaml_lexeme_kind_t, yaml_lexeme_t};
 use yaml_text::{make_scanner_fault, yaml_fault_t, yaml_mark_t, yaml_text_t, yaml_token_t};
 
 /// The running scanner of a text.
@@ -177,6 +177,41 @@ pub(crate) fn meet(scanner: &scanner_t) -> Result<met_t, yaml_fault_t>
     })
 }
 
+/// The candidates behind a lexeme that was read to a mark, unless one is lost there.
+fn keep_candidates(
+    outer: &mut Vec<Option<held_t>>,
+    empty: &mut usize,
+    top: &mut Option<held_t>,
+    kind: yaml_lexeme_kind_t,
+    allowed: bool,
+    new: held_t,
+    limit: u64,
+    mark: yaml_mark_t,
+) -> Result<(), yaml_fault_t>
+    requires empty { empty.old ≡ empty_slots outer.old.items }
+    requires nested { AreNested outer.old.items }
+    ensures lost { MatchResult result (λ _. lost_held limit mark (root_of outer.old.items (slot_behind kind allowed new top.old)) ≡ None) (λ f. (fault_of f ≡ memory_fault) ⊎ IsLost (lost_held limit mark (root_of outer.old.items (slot_behind kind allowed new top.old))) mark (fault_of f)) }
+    ensures outer { OnOk result (outer.new.items ≡ nested_outer kind (map (still_held limit mark) outer.old.items) (still_held limit mark (slot_behind kind allowed new top.old))) }
+    ensures top { OnOk result (top.new ≡ nested_top kind (map (still_held limit mark) outer.old.items) (still_held limit mark (slot_behind kind allowed new top.old))) }
+    ensures empty { OnOk result (empty.new ≡ empty_slots outer.new.items) }
+{
+    settle(top, kind, allowed, new);
+    refuse_lost(lost_at(root(outer, *top), limit, mark), mark)?;
+    move_slots(outer, empty, top, kind, limit, mark)?;
+    Ok(())
+}
+
+/// The token of a lexeme that starts at a mark.
+fn token_of(start: yaml_mark_t, x: yaml_lexeme_t) -> yaml_token_t
+    ensures { result ≡ record { token_data = x.token_data; start_mark = start; end_mark = x.end_mark } }
+{
+    yaml_token_t {
+        token_data: x.token_data,
+        start_mark: start,
+        end_mark: x.end_mark,
+    }
+}
+
 /// The lexeme that was met, laid behind those before it.
 pub(crate) fn lay(alloc: Global, scanner: &mut scanner_t, met: met_t) -> Result<(), yaml_fault_t>
     ghost before: { List Laid }
@@ -190,60 +225,36 @@ pub(crate) fn lay(alloc: Global, scanner: &mut scanner_t, met: met_t) -> Result<
 {
     let margin = scanner.outer.is_empty();
     let step = scanner.made + 1;
-    let start = start_behind(met.kind, met.front);
-    close_levels(
-        &mut scanner.levels,
-        &mut scanner.queue,
-        !margin,
-        met.kind,
-        met.front,
-        start,
-        step,
-    )?;
-    let level = top_level(&scanner.levels);
-    let x = read_lexeme(
-        alloc,
-        &scanner.text,
-        met.front,
-        met.kind,
-        scanner.outer.len(),
-        level,
-    )?;
+    let kind = met.kind;
+    let start = start_behind(kind, met.front);
+    let levels = &mut scanner.levels;
+    let queue = &mut scanner.queue;
+    close_levels(levels, queue, !margin, kind, met.front, start, step)?;
+    let level = top_level(levels);
+    let depth = scanner.outer.len();
+    let x = read_lexeme(alloc, &scanner.text, met.front, kind, depth, level)?;
     let new = held_t {
-        at: scanner.taken + scanner.queue.len() as u128,
+        at: scanner.taken + queue.len() as u128,
         start,
         required: is_level(margin, level, start.column),
     };
     let reach = x.reach;
     let passed_break = x.passed_break;
-    let token = yaml_token_t {
-        token_data: x.token_data,
-        start_mark: start,
-        end_mark: x.end_mark,
-    };
-    let completed = completed_by(met.kind, scanner.top, scanner.limit, start);
-    queue_lexeme(
-        &mut scanner.levels,
-        &mut scanner.queue,
-        margin,
-        completed,
-        met.kind,
-        token,
-        scanner.taken,
-        step,
-    )?;
-    let top = settle(met.kind, met.allowed, new, scanner.top);
-    let root = root(&scanner.outer, top);
-    refuse_lost(lost_at(root, scanner.limit, reach), reach)?;
-    scanner.top = move_slots(
+    let token = token_of(start, x);
+    let completed = completed_by(kind, scanner.top, scanner.limit, start);
+    let taken = scanner.taken;
+    queue_lexeme(levels, queue, margin, completed, kind, token, taken, step)?;
+    keep_candidates(
         &mut scanner.outer,
         &mut scanner.not_simple_keys,
-        top,
-        met.kind,
+        &mut scanner.top,
+        kind,
+        met.allowed,
+        new,
         scanner.limit,
         reach,
     )?;
-    scanner.allowed = is_allowed_after(met.kind, margin, completed.is_none(), passed_break);
+    scanner.allowed = is_allowed_after(kind, margin, completed.is_none(), passed_break);
     scanner.reach = reach;
     Ok(())
 }

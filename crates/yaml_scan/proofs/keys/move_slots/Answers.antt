@@ -6,5 +6,5 @@ use Rattle.yaml_scan.proofs.keys.move_slots.Goals as goal
 
 pub count_empty-requires : goal.count_empty-requires
 count_empty-requires c = let hs = c.give_up_stale-below.new.slots.items in
-    subst (λ (os : List (Option Held)). AreEmptyBelow c.give_up_stale-below.result os) (sym (c.deref.ensures.value ∙ c.in_ok-top.ensures.outer))
-    (subst (λ (n : ℕ). AreEmptyBelow n (nested_outer c.args.kind hs c.kept-top.result)) (sym c.give_up_stale-below.ensures.empty) (nested_empty c.args.kind hs c.kept-top.result))
+    subst (λ (os : List (Option Held)). AreEmptyBelow c.give_up_stale-below.result os) (sym (c.deref.ensures.value ∙ c.in_ok-nest.ensures.outer))
+    (subst (λ (n : ℕ). AreEmptyBelow n (nested_outer c.args.kind hs c.give_up.new.slot)) (sym c.give_up_stale-below.ensures.empty) (nested_empty c.args.kind hs c.give_up.new.slot))
