@@ -70,7 +70,7 @@ def main(program):
                     print(f"{setting}, {len(data)} bytes, {room * PIECE} bytes of room: status {done.returncode}, {done.stderr!r}")
     wrong = seen.pop(None)
     print("refused: " + ", ".join(f"{count} {name}" for name, count in seen.items()) + f", {wrong} wrong")
-    return 1 if wrong or not all(seen.values()) else 0
+    return 1 if wrong or not seen["whole"] or not seen["nothing"] + seen["beginning"] else 0
 
 
 if __name__ == "__main__":
