@@ -1,5 +1,5 @@
 -- Calls one behind the other.
-use Rattle.std.proofs.Common.{◌≡◌, ℕ, zero, suc, ◌+◌, ◌<◌, ◌≤◌, true, false, List, [], ◌∷◌, ◌++◌, map, take, drop, length, get_or, refl, ap, sym, ◌∙◌, subst, arith, inl, inr, append_assoc, length-append}
+use Rattle.std.proofs.Common.{◌≡◌, ℕ, zero, suc, ◌+◌, ◌<◌, ◌≤◌, true, false, List, [], ◌∷◌, ◌++◌, map, take, drop, length, slice_get, get_or, Some, ◌≢◌, refl, ap, sym, ◌∙◌, subst, arith, inl, inr, append_assoc, length-append}
 use Rattle.std.proofs.lemmas.Bool.{false≢true}
 use Rattle.yaml_text.specs.declared.types.yaml_encoding_t.{yaml_encoding_t}
 use Rattle.yaml_scan.specs.Fault.{memory_fault}
@@ -35,6 +35,18 @@ drop_front (suc n) (y ∷ xs) x l = drop_front n xs x (omega arith)
 map_more : {A B : Type 0} (f : A → B) (xs : List A) (x : A) → map f (xs ++ x ∷ []) ≡ map f xs ++ f x ∷ []
 map_more f [] x = refl
 map_more {B = B} f (y ∷ xs) x = ap (λ (z : List B). f y ∷ z) (map_more f xs x)
+
+get_last : {A : Type 0} (xs : List A) (x : A) → slice_get (xs ++ x ∷ []) (length xs) ≡ Some x
+get_last [] x = refl
+get_last (y ∷ xs) x = get_last xs x
+
+get_front : {A : Type 0} (n : ℕ) (xs : List A) (x : A) → n < length xs → slice_get (xs ++ x ∷ []) n ≡ slice_get xs n
+get_front n [] x l = absurd (omega arith)
+get_front zero (y ∷ xs) x l = refl
+get_front (suc n) (y ∷ xs) x l = get_front n xs x (omega arith)
+
+one_call : (a b : Call) → Some a ≡ Some b → a ≡ b
+one_call a b e = cc
 
 -- ONE CALL MORE
 session_more : (e : yaml_encoding_t) (limit : ℕ) (c : Course) (calls : List Call) (call : Call) (s : Session) → session e limit c (calls ++ call ∷ []) s ≡ session e limit c calls s ++ answer e limit c call (after_all limit c calls s) ∷ []
@@ -74,10 +86,11 @@ module _ (p : Parser) (calls : List Call) (call : Call) (answers : List Seen) (q
     s.1 ∙ ap (λ (z : Parser). behind z call) g.1 ∙ behind_more p calls call,
   )
 
-  runs_out : (answers ≡ map seen (answered_all p calls)) × (q ≡ behind_all p calls) → (a ≡ FAULT memory_fault) × WantsMemory q r → RunsOut p (calls ++ call ∷ []) (answers ++ a ∷ []) r
+  runs_out : (answers ≡ map seen (answered_all p calls)) × (q ≡ behind_all p calls) → (a ≡ FAULT memory_fault) × WantsMemory q r × (call ≢ SKIP) → RunsOut p (calls ++ call ∷ []) (answers ++ a ∷ []) r
   runs_out g w = record {
     n = length calls;
     within = (let l = length-append calls (call ∷ []) in omega arith);
+    asks = λ k. w.2 (one_call call SKIP (sym (get_last calls call) ∙ k));
     wants = subst (λ (z : Parser). WantsMemory z r) (g.1 ∙ ap (λ (z : List Call). behind_all p z) (sym (take_whole calls call))) w.1;
     answers = ap (λ (z : List Seen). z ++ a ∷ []) g.0 ∙ ap (λ (z : Seen). map seen (answered_all p calls) ++ z ∷ []) w.0
         ∙ sym (ap (λ (z : List Call). map seen (answered_all p z) ++ (FAULT memory_fault ∷ map idle (drop (length calls + 1) (calls ++ call ∷ [])))) (take_whole calls call)
@@ -96,6 +109,7 @@ module _ (p : Parser) (calls : List Call) (call : Call) (answers : List Seen) (q
       let says : a ≡ idle call = s.0 ∙ idle_answer q call g.wants.over g.wants.peeked in record {
         n = n;
         within = (let z = length-append calls (call ∷ []) in omega arith);
+        asks = λ k. g.asks (sym (get_front n calls call (omega arith)) ∙ k);
         wants = subst (λ (z : List Call). WantsMemory (behind_all p z) r) (sym t) (subst (λ (z : Parser). WantsMemory (behind_all p (take n calls)) z) (sym left) g.wants);
         answers = ap (λ (z : List Seen). z ++ a ∷ []) g.answers ∙ append_assoc (map seen (answered_all p (take n calls))) (FAULT memory_fault ∷ map idle (drop (n + 1) calls)) (a ∷ [])
             ∙ ap (λ (z : Seen). map seen (answered_all p (take n calls)) ++ (FAULT memory_fault ∷ (map idle (drop (n + 1) calls) ++ z ∷ []))) says

@@ -1,5 +1,5 @@
 -- Lists of calls, and what can be seen of their answers.
-use Rattle.std.specs.Prelude.{◌≡◌, ◌⊎◌, ℕ, ◌+◌, ◌<◌, List, ◌∷◌, ◌++◌, map, take, drop, length}
+use Rattle.std.specs.Prelude.{◌≡◌, ◌≢◌, ◌⊎◌, ℕ, ◌+◌, ◌<◌, List, ◌∷◌, ◌++◌, map, take, drop, length, slice_get, Some}
 use Rattle.yaml_text.specs.declared.types.yaml_mark_t.{yaml_mark_t}
 use Rattle.yaml_text.specs.declared.types.yaml_token_type_t.{yaml_token_type_t}
 use Rattle.yaml_text.specs.Fault.{fault_of}
@@ -49,7 +49,7 @@ call_of code.SKIP = SKIP
 
 -- what is seen of one call
 abbrev pub Sees : Call → Parser → Seen → Parser → Type 0
-Sees call p a q = ((a ≡ seen (answered p call)) × (q ≡ behind p call)) ⊎ ((a ≡ FAULT memory_fault) × WantsMemory p q)
+Sees call p a q = ((a ≡ seen (answered p call)) × (q ≡ behind p call)) ⊎ ((a ≡ FAULT memory_fault) × WantsMemory p q × (call ≢ SKIP))
 
 -- the parser behind a list of calls
 abbrev pub behind_all : Parser → List Call → Parser
@@ -69,6 +69,8 @@ idle SKIP = NOTHING
 pub record RunsOut (p : Parser) (calls : List Call) (all : List Seen) (q : Parser) : Type 0 where
   pub n : ℕ
   pub within : n < length calls
+  -- a skip asks for no memory
+  pub asks : slice_get calls n ≢ Some SKIP
   pub wants : WantsMemory (behind_all p (take n calls)) q
   pub answers : all ≡ map seen (answered_all p (take n calls)) ++ (FAULT memory_fault ∷ map idle (drop (n + 1) calls))
 
