@@ -75,6 +75,10 @@ shown (Err fault) = FAULT (fault_of fault)
 abbrev pub Peeks : Parser → Result yaml_token_t yaml_fault_t → Parser → Type 0
 Peeks p result q = Calls PEEK p (shown result) q
 
+-- what a peek answers, also while the token that is shown is held
+abbrev pub AnswersPeek : Parser → Answer → Type 0
+AnswersPeek p a = (a ≡ answered p PEEK) ⊎ (a ≡ FAULT memory_fault)
+
 -- the token behind the reference, or the fault
 abbrev pub told_copied : Result (Bor yaml_token_t) yaml_fault_t → Result yaml_token_t yaml_fault_t
 told_copied (Ok token) = Ok token.now
