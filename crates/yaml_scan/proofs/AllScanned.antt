@@ -1,7 +1,9 @@
 -- Scanning an input to its end.
-use Rattle.std.proofs.Common.{◌≡◌, ℕ, zero, suc, ◌+◌, ◌-◌, ◌<◌, ◌≤◌, Bool, true, false, List, [], ◌∷◌, ◌++◌, map, take, length, slice_get, Option, Some, None, refl, ap, sym, ◌∙◌, subst, arith, inl, inr}
+use Rattle.std.proofs.Common.{◌≡◌, ℕ, zero, suc, ◌+◌, ◌-◌, ◌<◌, ◌≤◌, ◌||◌, Bool, true, false, List, [], ◌∷◌, ◌++◌, map, take, length, slice_get, Option, Some, None, refl, ap, sym, ◌∙◌, subst, arith, inl, inr}
 use Rattle.std.specs.Prelude.{if◌then◌else◌, Ok, Err}
+use Rattle.std.specs.List.{list_any}
 use Rattle.std.proofs.lemmas.Bool.{false≢true}
+use Rattle.std.proofs.lemmas.List.Folds.{list_any-append}
 use Rattle.yaml_text.specs.declared.types.yaml_encoding_t.{yaml_encoding_t}
 use Rattle.yaml_text.specs.declared.fault.yaml_fault_t.{yaml_fault_t}
 use Rattle.yaml_scan.specs.Fault.{Fault, memory_fault}
@@ -11,16 +13,17 @@ use Rattle.yaml_scan.specs.Begins.{Begins}
 use Rattle.yaml_scan.specs.Offline.{Token, handed_out}
 use Rattle.yaml_scan.specs.Answers.{Input, Course, course, tokens_of, answers}
 use Rattle.yaml_scan.specs.Inputs.{decoded_input, answers_to}
-use Rattle.yaml_scan.specs.Session.{Session, Call, Answer, new_session, is_last, next_token, why, scan_answer, after_scan, paced, took, after, after_all}
+use Rattle.yaml_scan.specs.Session.{Session, Call, Answer, settled, settled_tokens, all_steps, pace, new_session, is_last, next_token, why, scan_answer, after_scan, paced, took, after, after_all}
 use Rattle.yaml_scan.specs.Session.Call.{SCAN}
 use Rattle.yaml_scan.specs.Session.Answer.{TOKEN, FAULT}
-use Rattle.yaml_scan.specs.Parser.{Parser, Scans, answered, behind, course_read, input_read}
-use Rattle.yaml_scan.specs.All.{AllOf, ReadsAll}
+use Rattle.yaml_scan.specs.Parser.{Parser, WantsMemory, Scans, answered, behind, course_read, input_read}
+use Rattle.yaml_scan.specs.All.{AllOf, AreSettled, ReadsAll}
 use Rattle.yaml_scan.proofs.AnswerOrder.{fit_course}
 use Rattle.yaml_scan.proofs.Courses.{none_is_stuck}
 use Rattle.yaml_scan.proofs.InputLaws.{inputs_keep_order}
 use Rattle.yaml_scan.proofs.LastTokens.{stream_end_is_last}
 use Rattle.yaml_scan.proofs.Scans.{get_fits, last_told}
+use Rattle.yaml_scan.proofs.Shortage.{asked_settled, asked_within, all_taken}
 
 -- calls one behind the other
 after_more : (limit : ℕ) (c : Course) (calls : List Call) (call : Call) (s : Session) → after_all limit c (calls ++ call ∷ []) s ≡ after limit c call (after_all limit c calls s)
@@ -63,6 +66,12 @@ if_open : {A : Type 0} (b : Bool) (x y : A) → b ≡ false → (if b then x els
 if_open true x y e = absurd (false≢true (sym e))
 if_open false x y e = refl
 
+abbrev is_end : yaml_token_t → Bool
+is_end t = is_last_type (type_of t.token_data)
+
+neither : (a b : Bool) → a ≡ false → b ≡ false → (a || (b || false)) ≡ false
+neither a b p q = rw (p, q) refl
+
 -- of an input of this setting and limit
 module _ (limit : ℕ) (setting : yaml_encoding_t) (input : List ℕ) where
   abbrev I : Input
@@ -84,6 +93,9 @@ module _ (limit : ℕ) (setting : yaml_encoding_t) (input : List ℕ) where
     pub over : q.session.over ≡ last
     pub tokens_are : tokens ≡ map (handed_out I.encoding) (take q.session.taken L)
     pub within : q.session.taken ≤ length L
+    pub steps_within : q.session.steps ≤ all_steps C
+    pub are_settled : q.session.taken ≤ length (settled_tokens limit C q.session.steps)
+    pub no_end : last ≡ false → list_any is_end tokens ≡ false
     pub whole : last ≡ true → (q.session.taken ≡ length L) × (C.fault ≡ None)
 
   pub has_begun : (q : Parser) → q.input ≡ input → q.setting ≡ setting → q.limit ≡ limit → q.session ≡ new_session → HasScanned q [] false
@@ -97,6 +109,9 @@ module _ (limit : ℕ) (setting : yaml_encoding_t) (input : List ℕ) where
     over = ap (λ (z : Session). z.over) s;
     tokens_are = rw s refl;
     within = (let t = ap (λ (z : Session). z.taken) s in omega arith);
+    steps_within = (let t = ap (λ (z : Session). z.steps) s in omega arith);
+    are_settled = (let t = ap (λ (z : Session). z.taken) s in omega arith);
+    no_end = λ e. refl;
     whole = λ e. absurd (false≢true e);
   }
 
@@ -161,6 +176,9 @@ module _ (limit : ℕ) (setting : yaml_encoding_t) (input : List ℕ) where
             ∙ sym (map_more (handed_out I.encoding) (take S.taken L) n.token) ∙ ap (λ (z : List Token). map (handed_out I.encoding) z) (sym (take_one L S.taken n.token n.next))
             ∙ ap (λ (z : ℕ). map (handed_out I.encoding) (take z L)) (sym taken_is);
         within = (let a = get_within L S.taken n.token n.next in let b = taken_is in omega arith);
+        steps_within = subst (λ (z : ℕ). z ≤ all_steps C) (sym steps_is) (asked_within limit I (inputs_keep_order setting input) S.taken S.steps n.token n.next h.steps_within);
+        are_settled = (let a = asked_settled limit I (inputs_keep_order setting input) S.taken S.steps n.token n.next in let b = taken_is in subst (λ (z : ℕ). r.session.taken ≤ length (settled_tokens limit C z)) (sym steps_is) (omega arith));
+        no_end = λ e. list_any-append is_end tokens (x ∷ []) ∙ neither (list_any is_end tokens) (is_end x) (h.no_end refl) (sym l ∙ e);
         whole = λ e. let z = stream_end_is_last limit I (inputs_keep_order setting input) S.taken n.token n.next (sym last_is ∙ e) in (taken_is ∙ z.0, z.1);
       },
       taken_is,
@@ -178,6 +196,9 @@ module _ (limit : ℕ) (setting : yaml_encoding_t) (input : List ℕ) where
         taken_is : r.session.taken ≡ S.taken + 1
         taken_is = ap (λ (z : Session). z.taken) left_is
 
+        steps_is : r.session.steps ≡ pace limit C.read S.taken S.steps
+        steps_is = ap (λ (z : Session). z.steps) left_is
+
         last_is : last ≡ is_last n.token
         last_is = l ∙ ap (λ (z : yaml_token_t). is_last_type (type_of z.token_data)) n.is ∙ last_told I.encoding n.token (get_fits L S.taken n.token (fit_course limit I (inputs_keep_order setting input)) n.next)
 
@@ -187,11 +208,25 @@ module _ (limit : ℕ) (setting : yaml_encoding_t) (input : List ℕ) where
     no_token : (x : yaml_token_t) (f : Fault) → FAULT f ≡ TOKEN x → ⊥
     no_token x f e = cc
 
+    -- a growth was refused
+    scans_short : (r : Parser) → WantsMemory q r → AreSettled limit setting input tokens
+    unfolding answers_to answers
+    scans_short r w = record {
+      steps = S.steps;
+      within = h.steps_within;
+      tokens_are = h.tokens_are ∙ ap (λ (z : List Token). map (handed_out I.encoding) z) (all_taken limit I (inputs_keep_order setting input) S.taken S.steps r.session.steps h.steps_within w.least h.are_settled unsettled);
+      beginning = subst (λ (z : List yaml_token_t). Begins z (map (handed_out I.encoding) L)) (sym h.tokens_are) (begins_take (handed_out I.encoding) L S.taken);
+      no_end = h.no_end refl;
+    }
+      where
+        unsettled : settled limit C.read S.taken r.session.steps ≡ false
+        unsettled = sym (ap (λ (c : Course). settled q.limit c.read S.taken r.session.steps) course_same ∙ ap (λ (n : ℕ). settled n C.read S.taken r.session.steps) h.limit_is) ∙ w.unsettled
+
     -- a fault
     pub scans_fault : (f : yaml_fault_t) (r : Parser) → Scans q (Err f) r → ReadsAll limit setting input tokens (Some (fault_of f))
     unfolding answers_to answers
-    scans_fault f r (inr w) = inr (subst (λ (z : List yaml_token_t). Begins z (map (handed_out I.encoding) L)) (sym h.tokens_are) (begins_take (handed_out I.encoding) L S.taken), ap Some (fault_same (fault_of f) memory_fault w.0))
-    scans_fault f r (inl w) = go (next_token limit C S) refl (w.0 ∙ answer_same)
+    scans_fault f r (inr w) = inr (scans_short r w.1, ap Some (fault_same (fault_of f) memory_fault w.0))
+    scans_fault f r (inl w) = inl (go (next_token limit C S) refl (w.0 ∙ answer_same))
       where
         because : (o : Option Fault) → C.fault ≡ o → FAULT (fault_of f) ≡ why o → Some (fault_of f) ≡ o
         because None e k = absurd (no_token _ (fault_of f) k)
@@ -199,7 +234,7 @@ module _ (limit : ℕ) (setting : yaml_encoding_t) (input : List ℕ) where
 
         go : (o : Option Token) → next_token limit C S ≡ o → FAULT (fault_of f) ≡ scan_answer I.encoding C o → AllOf (answers limit I) tokens (Some (fault_of f))
         go (Some t) e k = absurd (no_token (handed_out I.encoding t) (fault_of f) k)
-        go None e k = inl (h.tokens_are ∙ ap (λ (z : List Token). map (handed_out I.encoding) z) (take_whole L S.taken (get_none L S.taken e)), because C.fault refl k)
+        go None e k = (h.tokens_are ∙ ap (λ (z : List Token). map (handed_out I.encoding) z) (take_whole L S.taken (get_none L S.taken e)), because C.fault refl k)
 
   -- the stream end
   pub scans_end : (q : Parser) (tokens : List yaml_token_t) → HasScanned q tokens true → ReadsAll limit setting input tokens None

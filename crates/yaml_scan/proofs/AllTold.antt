@@ -17,4 +17,4 @@ module _ (limit : ℕ) (setting : yaml_encoding_t) (input : List ℕ) (tokens : 
   reads_have_lines (inl r) = let t = all_have_lines limit setting input in
       (subst (λ (z : List yaml_token_t). HaveWords z) (sym r.0) t.0, subst (λ (z : Option Fault). IfSome z HasLine) (sym r.1) t.1)
   reads_have_lines (inr r) = let t = all_have_lines limit setting input in
-      (words_front tokens r.0.rest (subst (λ (z : List yaml_token_t). HaveWords z) r.0.is t.0), subst (λ (z : Option Fault). IfSome z HasLine) (sym r.1) tt)
+      (words_front tokens r.0.beginning.rest (subst (λ (z : List yaml_token_t). HaveWords z) r.0.beginning.is t.0), subst (λ (z : Option Fault). IfSome z HasLine) (sym r.1) tt)

@@ -67,7 +67,7 @@ fit_append : (a b : List Token) → TokensFit a → TokensFit b → TokensFit (a
 fit_append [] b f g = g
 fit_append (t ∷ a) b f g = (f.0, fit_append a b f.1 g)
 
-fit_front : (a b : List Token) → TokensFit (a ++ b) → TokensFit a
+pub fit_front : (a b : List Token) → TokensFit (a ++ b) → TokensFit a
 fit_front [] b f = tt
 fit_front (t ∷ a) b f = (f.0, fit_front a b f.1)
 
@@ -239,7 +239,7 @@ any_near limit e m (t ∷ ts) f p = elim (cases_Bool (is_value_near limit m t)) 
   | inr q ↦ or_right _ _ (any_near limit e m ts f.1 (rw q at p))
 ]
 
-followed : (limit : ℕ) (e : yaml_encoding_t) (ts : List Token) → TokensFit ts → KeysHaveValues limit ts → AreFollowed limit (map (handed_out e) ts)
+pub followed : (limit : ℕ) (e : yaml_encoding_t) (ts : List Token) → TokensFit ts → KeysHaveValues limit ts → AreFollowed limit (map (handed_out e) ts)
 followed limit e [] f h = tt
 followed limit e (t ∷ ts) f h =
     (λ p. rw (start_same e t) (any_near limit e (start_of t) ts f.1 (put_in_is limit e t ts f.0 h.0 p)), followed limit e ts f.1 h.1)

@@ -47,6 +47,7 @@ pub mod Octets
 pub mod Takings
 pub mod Waits
 pub mod Beginnings
+pub mod Shortage
 pub mod Settlings
 pub mod Scans
 pub mod Keeps

@@ -84,8 +84,14 @@ module _ (s t : scanner_t) (r : Runs t) (S : Same s t) where
   unfolding pace
   one_more u k l = let e = more_needed t r u k l in let c = steps_is in let m = k.made in omega arith
 
-  pub stops : (u : scanner_t) → Stays t u → s.made ≤ t.made → t.made ≤ pace s.limit (course_of s).read s.taken s.made → Stops s u
-  stops u k a b = record { same = same_trans s t u S k.same; least = (let m = k.made in omega arith); most = (let m = k.made in omega arith); reach = k.reach ∙ r.holds.reach ∙ ap reach (sym (history_same t u k.same k.made)) }
+  pub stops : (u : scanner_t) → Stays t u → s.made ≤ t.made → t.made ≤ pace s.limit (course_of s).read s.taken s.made → length (before t.limit (history t)) ≤ t.taken → Stops s u
+  stops u k a b l = let h = history_same t u k.same k.made in record {
+    same = same_trans s t u S k.same;
+    least = (let m = k.made in omega arith);
+    most = (let m = k.made in omega arith);
+    unsettled = (let m = ap (λ (n : ℕ). length (before n (history u))) (let e = k.same in e.limit) in let n = ap (λ (X : List Laid). length (before t.limit X)) h in let e = k.same in let v = e.taken in omega arith);
+    reach = k.reach ∙ r.holds.reach ∙ ap reach (sym h);
+  }
 
 pub least_pace : (s : scanner_t) → s.made ≤ pace s.limit (course_of s).read s.taken s.made
 unfolding pace

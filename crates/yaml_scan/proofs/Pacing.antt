@@ -106,7 +106,7 @@ oldest_twice H k n u v =
     let e : (length H - n) + (length (oldest n H) - k) ≡ length H - k = omega arith in
     drop-drop (length (oldest n H) - k) (length H - n) H ∙ ap (λ (x : ℕ). drop x H) e
 
-settled_from : (limit : ℕ) (H : List Laid) (t k s : ℕ) → IsHistory limit H → 0 < s → k ≤ s - 1 → t < length (before limit (oldest k H)) → k ≤ length H → settled limit H t s ≡ true
+pub settled_from : (limit : ℕ) (H : List Laid) (t k s : ℕ) → IsHistory limit H → 0 < s → k ≤ s - 1 → t < length (before limit (oldest k H)) → k ≤ length H → settled limit H t s ≡ true
 settled_from limit H t k s h p l a b = and_from _ _ (lt-ltb 0 s p) (lt-ltb t (length (before limit (first_steps s H))) (elim (cases_lt (length H) (s - 1)) [
   | inl x ↦ (let z : oldest (s - 1) H ≡ H = drop_none (length H - (s - 1)) H (omega arith) in let g = grows limit H k h b in rw z (omega arith))
   | inr x ↦ (let y = split H (s - 1) x in

@@ -366,7 +366,7 @@ module _ (setting : yaml_encoding_t) (input : List ℕ) (s t : scanner_t) (peeke
 
   wants : fault_of f ≡ memory_fault → peeked ≡ false → WantsMemory open_parser stopped
   unfolding course_read
-  wants m n = record { input = refl; setting = refl; limit = z.limit; taken = z.taken; least = z.least; most = z.most; peeked = refl; over = refl; fault = ap Some m; was_open = refl; was_not_peeked = n }
+  wants m n = record { input = refl; setting = refl; limit = z.limit; taken = z.taken; least = z.least; most = z.most; unsettled = z.unsettled; peeked = refl; over = refl; fault = ap Some m; was_open = refl; was_not_peeked = n }
 
   pub show_fault : (fault_of f ≡ memory_fault) ⊎ IsEnded setting input s t (fault_of f) → peeked ≡ false → Shows open_parser (Err f) stopped
   show_fault (inl m) n = inr (ap FAULT m, wants m n)

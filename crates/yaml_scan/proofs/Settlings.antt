@@ -1,5 +1,5 @@
 -- From a scanner that is ready to its next token.
-use Rattle.std.proofs.Common.{◌≡◌, ℕ, ◌+◌, ◌≤◌, ◌<◌, true, List, [], ◌∷◌, length, refl, ap, sym, ◌∙◌, arith, inl, inr, ltb}
+use Rattle.std.proofs.Common.{◌≡◌, ℕ, ◌+◌, ◌≤◌, ◌<◌, ◌&&◌, Bool, true, false, List, [], ◌∷◌, length, refl, ap, sym, ◌∙◌, arith, inl, inr, ltb, le-ltb}
 use Rattle.std.proofs.lemmas.Bool.{cases_Bool}
 use Rattle.yaml_text.specs.declared.types.yaml_encoding_t.{yaml_encoding_t}
 use Rattle.yaml_text.specs.Fault.{Fault}
@@ -7,7 +7,7 @@ use Rattle.yaml_scan.specs.declared.step.scanner_t.{scanner_t}
 use Rattle.yaml_scan.specs.Laid.{Laid, reach}
 use Rattle.yaml_scan.specs.Offline.{before}
 use Rattle.yaml_scan.specs.Answers.{Input, Course, course, tokens_of}
-use Rattle.yaml_scan.specs.Session.{steps_for, pace, all_steps, first_steps}
+use Rattle.yaml_scan.specs.Session.{settled, steps_for, pace, all_steps, first_steps}
 use Rattle.yaml_scan.specs.Inputs.{decoded_input}
 use Rattle.yaml_scan.specs.Scanning.{Settles, Fails, Stops, Same, history, course_of, input_of}
 use Rattle.yaml_scan.specs.Ready.{IsNew, IsReady, Begins, IsStarted, IsSettled, IsStopped, IsEnded, course_in}
@@ -17,6 +17,10 @@ one_step : (limit : ℕ) (H : List Laid) (t : ℕ) → 1 ≤ steps_for limit H t
 unfolding steps_for
 one_step limit [] t = omega arith
 one_step limit (i ∷ H) t = let r = one_step limit H t in elim (cases_Bool (ltb t (length (before limit H)))) [ inl q ↦ rw q r | inr q ↦ rw q (omega arith) ]
+
+both_false : (a b : Bool) → b ≡ false → (a && b) ≡ false
+both_false true b e = e
+both_false false b e = refl
 
 pub started_new : (setting : yaml_encoding_t) (input : List ℕ) (s t : scanner_t) → Begins setting input s t → s.made ≡ 0 → IsStarted setting input s t
 started_new setting input s t b z = let m = b.made in record { stands = b.stands; still_open = b.still_open; made = omega arith; limit = b.limit; taken = b.taken }
@@ -63,8 +67,19 @@ module _ (setting : yaml_encoding_t) (input : List ℕ) (s t u : scanner_t) (b :
       let c : course_of u ≡ course_in s.limit setting input = course_is setting input u (input_same e ∙ b.stands.reads) ∙ ap (λ (n : ℕ). course_in n setting input) (e.limit ∙ b.limit) in
       ap (λ (x : Course). reach (first_steps u.made x.read)) c
 
+  unsettled_in : Stops t u → settled s.limit (course_in s.limit setting input).read s.taken u.made ≡ false
+  unfolding history
+  unsettled_in k =
+      let e = k.same in
+      let c : course_of u ≡ course_in s.limit setting input = course_is setting input u (input_same e ∙ b.stands.reads) ∙ ap (λ (n : ℕ). course_in n setting input) (e.limit ∙ b.limit) in
+      let v = ap (λ (x : Course). length (before u.limit (first_steps u.made x.read))) c in
+      let w = ap (λ (n : ℕ). length (before n (first_steps u.made (course_in s.limit setting input).read))) (e.limit ∙ b.limit) in
+      let x = e.taken ∙ b.taken in
+      let l = k.unsettled in
+      both_false _ _ (le-ltb s.taken (length (before s.limit (first_steps u.made (course_in s.limit setting input).read))) (omega arith))
+
   pub stopped_in : Stops t u → IsStopped setting input s u
-  stopped_in k = let e = k.same in let p = pace_is in let m = b.made in let l = k.least in let n = k.most in record { limit = e.limit ∙ b.limit; taken = e.taken ∙ b.taken; least = omega arith; most = omega arith; reach = k.reach ∙ history_is e }
+  stopped_in k = let e = k.same in let p = pace_is in let m = b.made in let l = k.least in let n = k.most in record { limit = e.limit ∙ b.limit; taken = e.taken ∙ b.taken; least = omega arith; most = omega arith; unsettled = unsettled_in k; reach = k.reach ∙ history_is e }
 
   begun_is : (course_in s.limit setting input).begun ≡ true
   begun_is = sym (ap (λ (c : Course). c.begun) course_t) ∙ b.stands.runs.start

@@ -1,21 +1,36 @@
 -- All tokens of an input, in one call.
-use Rattle.std.specs.Prelude.{◌≡◌, ◌⊎◌, ℕ, ◌≤◌, List, take, Option, None, Some, ◌≢◌}
+use Rattle.std.specs.Prelude.{◌≡◌, ◌⊎◌, ℕ, ◌≤◌, false, List, map, take, Option, None, Some}
+use Rattle.std.specs.List.{list_any}
 use Rattle.yaml_text.specs.declared.types.yaml_encoding_t.{yaml_encoding_t}
-use Rattle.yaml_scan.specs.Token.{yaml_token_t}
+use Rattle.yaml_scan.specs.Token.{yaml_token_t, is_last_type, type_of}
 use Rattle.yaml_scan.specs.Fault.{Fault, memory_fault}
 use Rattle.yaml_scan.specs.Begins.{Begins}
 use Rattle.yaml_scan.specs.Laid.{depth}
-use Rattle.yaml_scan.specs.Answers.{Answers, course}
+use Rattle.yaml_scan.specs.Offline.{handed_out}
+use Rattle.yaml_scan.specs.Answers.{Answers, Course, course}
+use Rattle.yaml_scan.specs.Session.{all_steps, settled_tokens}
 use Rattle.yaml_scan.specs.Inputs.{decoded_input, answers_to}
-use Rattle.yaml_scan.specs.AnswerLaws.{ends_among, starts_among, AreFollowed}
+use Rattle.yaml_scan.specs.AnswerLaws.{ends_among, starts_among}
 
--- these are all tokens of the answers and their fault, or a growth was refused, and they are a beginning of them
+-- these are all tokens of the answers, and their fault
 abbrev pub AllOf : Answers → List yaml_token_t → Option Fault → Type 0
-AllOf a tokens fault = ((tokens ≡ a.tokens) × (fault ≡ a.fault)) ⊎ (Begins tokens a.tokens × (fault ≡ Some memory_fault))
+AllOf a tokens fault = (tokens ≡ a.tokens) × (fault ≡ a.fault)
 
--- what reading an input to its end answers
+abbrev pub course_to : ℕ → yaml_encoding_t → List ℕ → Course
+course_to limit setting input = course limit (decoded_input setting input)
+
+-- these are the tokens that some of the steps settle, and no stream end is among them
+pub record AreSettled (limit : ℕ) (setting : yaml_encoding_t) (input : List ℕ) (tokens : List yaml_token_t) : Type 0 where
+  pub steps : ℕ
+  pub within : steps ≤ all_steps (course_to limit setting input)
+  pub tokens_are : tokens ≡ map (handed_out (decoded_input setting input).encoding) (settled_tokens limit (course_to limit setting input) steps)
+  -- so they are a beginning of all tokens
+  pub beginning : Begins tokens (answers_to limit setting input).tokens
+  pub no_end : list_any (λ t. is_last_type (type_of t.token_data)) tokens ≡ false
+
+-- What reading an input to its end answers: all of it, or a growth was refused behind some of the steps.
 abbrev pub ReadsAll : ℕ → yaml_encoding_t → List ℕ → List yaml_token_t → Option Fault → Type 0
-ReadsAll limit setting input tokens fault = AllOf (answers_to limit setting input) tokens fault
+ReadsAll limit setting input tokens fault = AllOf (answers_to limit setting input) tokens fault ⊎ (AreSettled limit setting input tokens × (fault ≡ Some memory_fault))
 
 -- in every beginning there are at most as many block ends as block starts
 abbrev pub EndNoMore : List yaml_token_t → Type 0
@@ -23,12 +38,8 @@ EndNoMore tokens = (n : ℕ) → ends_among (take n tokens) ≤ starts_among (ta
 
 -- how deep in flow collections an input ends
 abbrev pub depth_of : ℕ → yaml_encoding_t → List ℕ → ℕ
-depth_of limit setting input = depth (course limit (decoded_input setting input)).read
+depth_of limit setting input = depth (course_to limit setting input).read
 
 -- where the stream ended outside flow collections there are as many block ends as block starts
 abbrev pub EndAll : ℕ → List yaml_token_t → Option Fault → Type 0
 EndAll depth tokens fault = fault ≡ None → depth ≡ 0 → ends_among tokens ≡ starts_among tokens
-
--- behind each key that the layout put in stands its `:`, where no growth was refused
-abbrev pub FollowKeys : ℕ → List yaml_token_t → Option Fault → Type 0
-FollowKeys limit tokens fault = fault ≢ Some memory_fault → AreFollowed limit tokens

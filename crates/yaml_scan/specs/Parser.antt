@@ -8,7 +8,7 @@ use Rattle.yaml_scan.specs.Token.{yaml_token_t, empty}
 use Rattle.yaml_scan.specs.Offline.{Token, handed_out}
 use Rattle.yaml_scan.specs.Answers.{Input, Course, course}
 use Rattle.yaml_scan.specs.Inputs.{decoded_input}
-use Rattle.yaml_scan.specs.Session.{Session, Call, Answer, pace, next_token, after, answer}
+use Rattle.yaml_scan.specs.Session.{Session, Call, Answer, settled, pace, next_token, after, answer}
 use Rattle.yaml_scan.specs.Session.Call.{SCAN, PEEK}
 use Rattle.yaml_scan.specs.Session.Answer.{TOKEN, PEEKED, FAULT}
 
@@ -36,7 +36,7 @@ behind p call = record { input = p.input; setting = p.setting; limit = p.limit; 
 abbrev pub answered : Parser → Call → Answer
 answered p call = answer (input_read p).encoding p.limit (course_read p) call p.session
 
--- a call wanted memory: the session is over, the tokens that were taken stand, and no more steps were made than the next token asks for
+-- a call wanted memory: the session is over, the tokens that were taken stand, and no more steps were made than the next token asks for; it asked for another one
 pub record WantsMemory (p q : Parser) : Type 0 where
   pub input : q.input ≡ p.input
   pub setting : q.setting ≡ p.setting
@@ -44,6 +44,7 @@ pub record WantsMemory (p q : Parser) : Type 0 where
   pub taken : q.session.taken ≡ p.session.taken
   pub least : p.session.steps ≤ q.session.steps
   pub most : q.session.steps ≤ pace p.limit (course_read p).read p.session.taken p.session.steps
+  pub unsettled : settled p.limit (course_read p).read p.session.taken q.session.steps ≡ false
   pub peeked : q.session.peeked ≡ false
   pub over : q.session.over ≡ true
   pub fault : q.session.fault ≡ Some memory_fault

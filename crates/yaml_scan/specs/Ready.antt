@@ -9,7 +9,7 @@ use Rattle.yaml_scan.specs.Laid.{reach}
 use Rattle.yaml_scan.specs.Token.{yaml_token_t, empty}
 use Rattle.yaml_scan.specs.Offline.{Token, before, handed_out}
 use Rattle.yaml_scan.specs.Answers.{Course, course, tokens_of}
-use Rattle.yaml_scan.specs.Session.{pace, all_steps, first_steps, session_queued}
+use Rattle.yaml_scan.specs.Session.{settled, pace, all_steps, first_steps, session_queued}
 use Rattle.yaml_scan.specs.Inputs.{decoded_input}
 use Rattle.yaml_scan.specs.Scanning.{Runs, IsOpen, history, course_of, input_of}
 use Rattle.yaml_scan.specs.Parser.{Parser}
@@ -53,12 +53,13 @@ pub record IsSettled (setting : yaml_encoding_t) (input : List ℕ) (s t : scann
   pub limit : t.limit ≡ s.limit
   pub taken : t.taken ≡ s.taken
 
--- a scanner that has stopped: no more steps were made than the next token asks for
+-- a scanner that has stopped: no more steps were made than the next token asks for, and another one was asked for
 pub record IsStopped (setting : yaml_encoding_t) (input : List ℕ) (s t : scanner_t) : Type 0 where
   pub limit : t.limit ≡ s.limit
   pub taken : t.taken ≡ s.taken
   pub least : s.made ≤ t.made
   pub most : t.made ≤ pace s.limit (course_in s.limit setting input).read s.taken s.made
+  pub unsettled : settled s.limit (course_in s.limit setting input).read s.taken t.made ≡ false
   pub reach : t.reach ≡ reach (first_steps t.made (course_in s.limit setting input).read)
 
 -- there is no next token, and f is why

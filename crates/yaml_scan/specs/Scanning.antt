@@ -138,4 +138,6 @@ pub record Stops (s t : scanner_t) : Type 0 where
   pub same : Same s t
   pub least : s.made ≤ t.made
   pub most : t.made ≤ pace s.limit (course_of s).read s.taken s.made
+  -- the head of the queue was not the next token, so a step was asked for
+  pub unsettled : length (before t.limit (history t)) ≤ t.taken
   pub reach : t.reach ≡ reach (history t)

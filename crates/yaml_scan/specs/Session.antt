@@ -45,6 +45,10 @@ first_steps s H = oldest (s - 1) H
 abbrev pub settled : ℕ → List Laid → ℕ → ℕ → Bool
 settled limit H t s = nat_lt 0 s && nat_lt t (length (before limit (first_steps s H)))
 
+-- the tokens that are settled after s steps
+abbrev pub settled_tokens : ℕ → Course → ℕ → List Token
+settled_tokens limit c s = if nat_lt 0 s then before limit (first_steps s c.read) else []
+
 -- the least number of steps of H after which token t is settled
 unfoldable pub steps_for : ℕ → List Laid → ℕ → ℕ
 steps_for limit [] t = 1

@@ -2,10 +2,10 @@
 ghost use Rattle.std.specs.Prelude.{◌≡◌, ◌≤◌, IfOk, [], option_map};
 ghost use Rattle.yaml_text.specs.Fault.{fault_of};
 ghost use Rattle.yaml_scan.specs.Session.{new_session};
-ghost use Rattle.yaml_scan.specs.AnswerLaws.{StandInOrder};
+ghost use Rattle.yaml_scan.specs.AnswerLaws.{StandInOrder, AreFollowed};
 ghost use Rattle.yaml_scan.specs.Inputs.{IsLocal};
 ghost use Rattle.yaml_scan.specs.Words.{HaveLines};
-ghost use Rattle.yaml_scan.specs.All.{ReadsAll, EndNoMore, EndAll, FollowKeys, depth_of};
+ghost use Rattle.yaml_scan.specs.All.{ReadsAll, EndNoMore, EndAll, depth_of};
 
 use crate::parser::{is_stream_end, yaml_parser_scan, yaml_parser_t};
 use std::alloc::{AllocError, Global};
@@ -35,8 +35,8 @@ fn scan_rest(
 
 /// All tokens of an input, to STREAM-END, or those before its fault, and the fault. The key limit is 1,024 bytes.
 ///
-/// Where memory is refused, the fault is of kind memory, and the tokens are a beginning of those; `AllocError` comes only
-/// where the list of the tokens itself found no memory.
+/// Where memory is refused, the fault is of kind memory, and the tokens are those that some of the steps settle, STREAM-END not
+/// among them; `AllocError` comes only where the list of the tokens itself found no memory.
 pub fn yaml_scan_all(
     alloc: Global,
     input: &[u8],
@@ -46,7 +46,7 @@ pub fn yaml_scan_all(
     ensures order { IfOk result (λ r. StandInOrder 0 r.0.items) }
     ensures ends { IfOk result (λ r. EndNoMore r.0.items) }
     ensures ends_all { IfOk result (λ r. EndAll (depth_of 1024 setting input.now) r.0.items (option_map fault_of r.1)) }
-    ensures keys { IfOk result (λ r. FollowKeys 1024 r.0.items (option_map fault_of r.1)) }
+    ensures keys { IfOk result (λ r. AreFollowed 1024 r.0.items) }
     ensures lines { IfOk result (λ r. HaveLines r.0.items (option_map fault_of r.1)) }
     ensures local { IsLocal 1024 setting input.now }
 {
@@ -66,7 +66,7 @@ pub fn yaml_scan_all_limit(
     ensures order { IfOk result (λ r. StandInOrder 0 r.0.items) }
     ensures ends { IfOk result (λ r. EndNoMore r.0.items) }
     ensures ends_all { IfOk result (λ r. EndAll (depth_of limit setting input.now) r.0.items (option_map fault_of r.1)) }
-    ensures keys { IfOk result (λ r. FollowKeys limit r.0.items (option_map fault_of r.1)) }
+    ensures keys { IfOk result (λ r. AreFollowed limit r.0.items) }
     ensures lines { IfOk result (λ r. HaveLines r.0.items (option_map fault_of r.1)) }
     ensures local { IsLocal limit setting input.now }
 {

@@ -37,4 +37,4 @@ steps-smaller c = let k = c.in_ok-advance.ensures in let m = k.made in let e = a
 
 pub returns-in_err-advance : goal.returns-in_err-advance
 returns-in_err-advance c = let v = c.steps.invariant in let p = err_from_is_err_and c.from_residual.result c.from_residual.ensures.1 in let l = ltb-false _ _ (sym c.is_settled.ensures ∙ c.steps-test.true) in rw (p.1, p.2)
-    (elim c.in_err-advance.ensures.0 [ inl m ↦ inl m | inr i ↦ inr (fails c.args.scanner.now c.steps.scanner v.runs v.same c.advance.new.scanner _ c.in_err-advance.ensures.1 i l) ], stops c.args.scanner.now c.steps.scanner v.runs v.same c.advance.new.scanner c.in_err-advance.ensures.1 v.least v.most)
+    (elim c.in_err-advance.ensures.0 [ inl m ↦ inl m | inr i ↦ inr (fails c.args.scanner.now c.steps.scanner v.runs v.same c.advance.new.scanner _ c.in_err-advance.ensures.1 i l) ], stops c.args.scanner.now c.steps.scanner v.runs v.same c.advance.new.scanner c.in_err-advance.ensures.1 v.least v.most l)
