@@ -1,12 +1,15 @@
 -- The laws of tokens, for what one call answers.
 use Rattle.std.proofs.Common.{◌≡◌, ℕ, zero, suc, ◌≤◌, List, [], ◌∷◌, ◌++◌, take, Option, Some, None, refl, ap, sym, ◌∙◌, subst, inl, inr}
+use Rattle.std.proofs.lemmas.Bool.{false≢true}
 use Rattle.yaml_text.specs.declared.types.yaml_encoding_t.{yaml_encoding_t}
 use Rattle.yaml_scan.specs.Fault.{Fault, memory_fault}
 use Rattle.yaml_scan.specs.Token.{yaml_token_t}
 use Rattle.yaml_scan.specs.Inputs.{decoded_input, answers_to}
 use Rattle.yaml_scan.specs.AnswerLaws.{StandInOrder, ends_among, starts_among, AreFollowed}
-use Rattle.yaml_scan.specs.All.{ReadsAll, EndNoMore, EndAll, depth_of}
+use Rattle.yaml_scan.specs.Parser.{IsRefusedEarly}
+use Rattle.yaml_scan.specs.All.{AllOf, ReadsAll, EndNoMore, EndAll, depth_of}
 use Rattle.yaml_scan.proofs.InputLaws.{inputs_keep_order, all_stand_in_order, all_end_fewer, all_end_all, all_follow_keys}
+use Rattle.yaml_scan.proofs.Scans.{not_begun}
 use Rattle.yaml_scan.proofs.Shortage.{settled_followed}
 
 order_front : (n : ℕ) (a b : List yaml_token_t) → StandInOrder n (a ++ b) → StandInOrder n a
@@ -46,3 +49,8 @@ module _ (limit : ℕ) (setting : yaml_encoding_t) (input : List ℕ) (tokens : 
   pub reads_keys : ReadsAll limit setting input tokens fault → AreFollowed limit tokens
   reads_keys (inl r) = subst (λ (z : List yaml_token_t). AreFollowed limit z) (sym r.0) (all_follow_keys limit setting input)
   reads_keys (inr r) = let s = r.0 in subst (λ (z : List yaml_token_t). AreFollowed limit z) (sym s.tokens_are) (settled_followed limit (decoded_input setting input) (inputs_keep_order setting input) (decoded_input setting input).encoding s.steps s.within)
+
+  -- no memory is wanted where the input is refused so early
+  pub reads_early : ReadsAll limit setting input tokens fault → IsRefusedEarly (decoded_input setting input) → AllOf (answers_to limit setting input) tokens fault
+  reads_early (inl r) e = r
+  reads_early (inr r) e = let s = r.0 in absurd (false≢true (sym (not_begun limit (decoded_input setting input) e.1) ∙ s.in_utf8 e.0))

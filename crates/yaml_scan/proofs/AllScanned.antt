@@ -216,6 +216,7 @@ module _ (limit : ℕ) (setting : yaml_encoding_t) (input : List ℕ) where
       within = h.steps_within;
       tokens_are = h.tokens_are ∙ ap (λ (z : List Token). map (handed_out I.encoding) z) (all_taken limit I (inputs_keep_order setting input) S.taken S.steps r.session.steps h.steps_within w.least h.are_settled unsettled);
       beginning = subst (λ (z : List yaml_token_t). Begins z (map (handed_out I.encoding) L)) (sym h.tokens_are) (begins_take (handed_out I.encoding) L S.taken);
+      in_utf8 = λ u. sym (ap (λ (c : Course). c.begun) course_same) ∙ w.in_utf8 (ap (λ (i : Input). i.encoding) input_same ∙ u);
       no_end = h.no_end refl;
     }
       where

@@ -7,7 +7,7 @@ use Rattle.yaml_text.specs.declared.types.yaml_encoding_t.{yaml_encoding_t}
 use Rattle.yaml_text.specs.Fault.{Fault, zero_mark}
 use Rattle.yaml_text.specs.Text.{Text}
 use Rattle.yaml_text.specs.Chars.{AreChars}
-use Rattle.yaml_text.specs.Decode.{front, refusal, refusal_seen}
+use Rattle.yaml_text.specs.Decode.{front, refusal, refusal_seen, encoding_of}
 use Rattle.yaml_lexeme.specs.Place.{IsMarkOf, skip}
 use Rattle.yaml_scan.specs.declared.step.scanner_t.{scanner_t}
 use Rattle.yaml_scan.specs.SourceOf.{source_of}
@@ -71,6 +71,14 @@ module _ (limit : ℕ) (setting : yaml_encoding_t) (input : List ℕ) (text : Te
   begun_course : near_fault near 0 r ≡ None → (course_in limit setting input).begun ≡ true
   unfolding course decoded_input
   begun_course e = rw (starts_is false (not_near text.chars near N r e)) refl
+
+pub encoding_in : (setting : yaml_encoding_t) (input : List ℕ) → (decoded_input setting input).encoding ≡ encoding_of setting input
+unfolding decoded_input front
+encoding_in setting input = refl
+
+-- the first step is one, where no reader's fault has replaced it
+pub begun_in : (limit : ℕ) (setting : yaml_encoding_t) (input : List ℕ) (text : Text) → text ≡ front setting input → (r : Option Fault) → r ≡ refusal setting input → (near : ℕ) → IsNearFrom text.chars near → near_fault near 0 r ≡ None → (course_in limit setting input).begun ≡ true
+begun_in limit setting input text T r R near N e = begun_course limit setting input text T r R near N e
 
 pub new_reach : (s : scanner_t) → IsNew s → (H : List Laid) → s.reach ≡ reach (first_steps s.made H)
 new_reach s n H = let m = n.made in n.reach ∙ ap reach (sym (first_none s.made H (omega arith)))

@@ -6,11 +6,12 @@ use Rattle.yaml_scan.specs.Fault.{memory_fault}
 use Rattle.yaml_scan.specs.Answers.{Course}
 use Rattle.yaml_scan.specs.Session.{Session, Call, Answer, answer, after, session, after_all}
 use Rattle.yaml_scan.specs.Session.Call.{SCAN, PEEK, SKIP}
-use Rattle.yaml_scan.specs.Parser.{Parser, WantsMemory, answered, behind, course_read, input_read}
+use Rattle.yaml_scan.specs.Parser.{Parser, IsRefusedEarly, WantsMemory, answered, behind, course_read, input_read}
 use Rattle.yaml_scan.specs.declared.calls.yaml_call_t.{yaml_call_t}
 use Rattle.yaml_scan.specs.declared.calls.yaml_answer_t.{yaml_answer_t}
-use Rattle.yaml_scan.specs.Calls.{call_of, Seen, seen, seen_of, Sees, behind_all, answered_all, idle, RunsOut, Runs, PutsAnswers, TakesNext}
+use Rattle.yaml_scan.specs.Calls.{call_of, Seen, seen, seen_of, Sees, behind_all, answered_all, idle, RunsOut, Runs, PutsAnswers, PutsSession, TakesNext}
 use Rattle.yaml_scan.specs.Calls.Seen.{FAULT}
+use Rattle.yaml_scan.proofs.Scans.{wants_late}
 use Rattle.yaml_scan.proofs.Sessions.{all_go}
 
 -- LISTS
@@ -140,6 +141,14 @@ one_put p calls call old out q answer r g s = record {
   is = ap (λ (z : List yaml_answer_t). z ++ answer ∷ []) g.is ∙ append_assoc old g.more (answer ∷ []);
   runs = subst (λ (z : List Seen). Runs p (calls ++ call ∷ []) z r) (sym (map_more seen_of g.more answer)) (one_more p calls call (map seen_of g.more) q (seen_of answer) r g.runs s);
 }
+
+-- a reader's fault in the place of the first step, in UTF-8, takes no memory
+pub puts_session : (p : Parser) (calls : List Call) (old out : List yaml_answer_t) (q : Parser) → PutsAnswers p calls old out q → IsRefusedEarly (input_read p) → PutsSession p calls old out q
+puts_session p calls old out q g e = go g.runs
+  where
+    go : Runs p calls (map seen_of g.more) q → PutsSession p calls old out q
+    go (inl s) = record { more = g.more; is = g.is; answers = s.0; left = s.1 }
+    go (inr o) = absurd (wants_late (behind_all p (take o.n calls)) q o.wants e)
 
 -- the code's calls, one by one
 pub called_more : (xs : List yaml_call_t) (n : ℕ) (d : yaml_call_t) → n < length xs → map call_of (take (n + 1) xs) ≡ map call_of (take n xs) ++ call_of (get_or xs n d) ∷ []

@@ -4,7 +4,7 @@ use Rattle.std.specs.Prelude.{◌⊎◌, if◌then◌else◌}
 use Rattle.std.proofs.lemmas.Bool.{cases_lt, false≢true}
 use Rattle.yaml_text.specs.declared.types.yaml_encoding_t.{yaml_encoding_t}
 use Rattle.yaml_text.specs.declared.fault.yaml_fault_t.{yaml_fault_t}
-use Rattle.yaml_text.specs.Fault.{Fault, fault_of, memory_fault}
+use Rattle.yaml_text.specs.Fault.{Fault, fault_of}
 use Rattle.yaml_scan.specs.declared.step.scanner_t.{scanner_t}
 use Rattle.yaml_scan.specs.declared.queue.queued_t.{queued_t}
 use Rattle.yaml_scan.specs.Token.{yaml_token_t, empty, is_last_type, type_of}
@@ -12,14 +12,14 @@ use Rattle.yaml_scan.specs.Laid.{Laid, reach}
 use Rattle.yaml_scan.specs.Order.{ended}
 use Rattle.yaml_scan.specs.Offline.{Token, before, offline, groups, group, block_ends, inserted, handed_out}
 use Rattle.yaml_scan.specs.Offline.Token.{StreamStart, BlockEnd, BlockSequenceStart, BlockMappingStart, InsertedKey, OfLexeme}
-use Rattle.yaml_scan.specs.Answers.{Input, Course, course, tokens_of}
+use Rattle.yaml_scan.specs.Answers.{Input, Course, course, starts_near, tokens_of}
 use Rattle.yaml_scan.specs.Session.{Session, Call, Answer, pace, all_steps, first_steps, next_token, is_last, after, answer, took, paced, looked, finished, why, scan_answer, peek_answer, after_scan, after_peek, after_skip}
 use Rattle.yaml_scan.specs.Session.Call.{SCAN, PEEK, SKIP}
 use Rattle.yaml_scan.specs.Session.Answer.{TOKEN, PEEKED, FAULT}
 use Rattle.yaml_scan.specs.Inputs.{decoded_input}
 use Rattle.yaml_scan.specs.Scanning.{IsOpen, history, course_of, input_of}
-use Rattle.yaml_scan.specs.Ready.{IsIn, IsShown, IsSettled, IsStopped, IsEnded, Pops, course_in}
-use Rattle.yaml_scan.specs.Parser.{Parser, Calls, Scans, Shows, IsThere, WantsMemory, answered, behind, course_read, input_read, token_shown, token_or_empty}
+use Rattle.yaml_scan.specs.Ready.{IsIn, IsShown, IsSettled, IsStopped, IsShort, IsEnded, Pops, course_in}
+use Rattle.yaml_scan.specs.Parser.{Parser, Calls, Scans, Shows, IsThere, IsRefusedEarly, WantsMemory, answered, behind, course_read, input_read, token_shown, token_or_empty}
 use Rattle.yaml_scan.proofs.AnswerOrder.{TokenFits, TokensFit, AllFit, course_fits, fit_before}
 use Rattle.yaml_scan.proofs.GoOn.{all_is_handed_out}
 use Rattle.yaml_scan.proofs.Paces.{enough_made}
@@ -364,15 +364,15 @@ module _ (setting : yaml_encoding_t) (input : List ℕ) (s t : scanner_t) (peeke
         same_stopped input setting t.limit s.limit t.taken s.taken t.made (all_steps (course_in s.limit setting input)) (Some (fault_of f)) (course_in s.limit setting input).fault z.limit z.taken e.made (sym e.fault)
         ∙ ap (λ (x : Session). record { input = input; setting = setting; limit = s.limit; session = x }) (sym (ap (λ (x : Option Token). after_peek s.limit (course_in s.limit setting input) before_fault x) none_next))
 
-  wants : fault_of f ≡ memory_fault → peeked ≡ false → WantsMemory open_parser stopped
+  wants : IsShort setting input s (fault_of f) → peeked ≡ false → WantsMemory open_parser stopped
   unfolding course_read
-  wants m n = record { input = refl; setting = refl; limit = z.limit; taken = z.taken; least = z.least; most = z.most; unsettled = z.unsettled; peeked = refl; over = refl; fault = ap Some m; was_open = refl; was_not_peeked = n }
+  wants m n = record { input = refl; setting = refl; limit = z.limit; taken = z.taken; least = z.least; most = z.most; unsettled = z.unsettled; peeked = refl; over = refl; fault = ap Some m.fault; in_utf8 = m.in_utf8; was_open = refl; was_not_peeked = n }
 
-  pub show_fault : (fault_of f ≡ memory_fault) ⊎ IsEnded setting input s t (fault_of f) → peeked ≡ false → Shows open_parser (Err f) stopped
-  show_fault (inl m) n = inr (ap FAULT m, wants m n)
+  pub show_fault : IsShort setting input s (fault_of f) ⊎ IsEnded setting input s t (fault_of f) → peeked ≡ false → Shows open_parser (Err f) stopped
+  show_fault (inl m) n = inr (ap FAULT m.fault, wants m n)
   show_fault (inr e) n = inl (fault_told e, fault_left e)
 
-  pub show_fault_of : (q : Parser) → q ≡ open_parser → (fault_of f ≡ memory_fault) ⊎ IsEnded setting input s t (fault_of f) → peeked ≡ false → Shows q (Err f) stopped
+  pub show_fault_of : (q : Parser) → q ≡ open_parser → IsShort setting input s (fault_of f) ⊎ IsEnded setting input s t (fault_of f) → peeked ≡ false → Shows q (Err f) stopped
   show_fault_of q r e n = subst (λ (x : Parser). Shows x (Err f) stopped) (sym r) (show_fault e n)
 
 pub open_session : (p : Parser) → p.session.over ≡ false → p ≡ record { input = p.input; setting = p.setting; limit = p.limit; session = record { taken = p.session.taken; steps = p.session.steps; peeked = p.session.peeked; over = false; fault = p.session.fault } }
@@ -386,3 +386,16 @@ pub bare : (call : Call) (p : Parser) (a : Answer) (q : Parser) → Calls call p
 bare call p a q (inl r) t = r
 bare call p a q (inr r) (inl t) = absurd (let w = r.1 in false≢true (sym w.was_not_peeked ∙ t))
 bare call p a q (inr r) (inr t) = absurd (let w = r.1 in false≢true (sym w.was_open ∙ t))
+
+-- nor for a reader's fault in the place of the first step, in UTF-8
+pub not_begun : (limit : ℕ) (input : Input) → starts_near input.source.size input.refusal ≡ true → (course limit input).begun ≡ false
+unfolding course
+not_begun limit input e = rw e refl
+
+pub wants_late : (p q : Parser) → WantsMemory p q → IsRefusedEarly (input_read p) → ⊥
+unfolding course_read
+wants_late p q w e = false≢true (sym (not_begun p.limit (input_read p) e.1) ∙ w.in_utf8 e.0)
+
+pub early : (call : Call) (p : Parser) (a : Answer) (q : Parser) → Calls call p a q → IsRefusedEarly (input_read p) → (a ≡ answered p call) × (q ≡ behind p call)
+early call p a q (inl r) e = r
+early call p a q (inr r) e = absurd (wants_late p q r.1 e)

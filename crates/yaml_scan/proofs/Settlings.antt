@@ -81,7 +81,7 @@ module _ (setting : yaml_encoding_t) (input : List ℕ) (s t u : scanner_t) (b :
   pub stopped_in : Stops t u → IsStopped setting input s u
   stopped_in k = let e = k.same in let p = pace_is in let m = b.made in let l = k.least in let n = k.most in record { limit = e.limit ∙ b.limit; taken = e.taken ∙ b.taken; least = omega arith; most = omega arith; unsettled = unsettled_in k; reach = k.reach ∙ history_is e }
 
-  begun_is : (course_in s.limit setting input).begun ≡ true
+  pub begun_is : (course_in s.limit setting input).begun ≡ true
   begun_is = sym (ap (λ (c : Course). c.begun) course_t) ∙ b.stands.runs.start
 
   tokens_is : (c : Course) → c.begun ≡ true → tokens_of s.limit c ≡ before s.limit c.read

@@ -1,7 +1,8 @@
 -- All tokens of an input, in one call.
-use Rattle.std.specs.Prelude.{◌≡◌, ◌⊎◌, ℕ, ◌≤◌, false, List, map, take, Option, None, Some}
+use Rattle.std.specs.Prelude.{◌≡◌, ◌⊎◌, ℕ, ◌≤◌, false, true, List, map, take, Option, None, Some}
 use Rattle.std.specs.List.{list_any}
 use Rattle.yaml_text.specs.declared.types.yaml_encoding_t.{yaml_encoding_t}
+use Rattle.yaml_text.specs.declared.types.yaml_encoding_t.TheVariants.{YAML_UTF8_ENCODING}
 use Rattle.yaml_scan.specs.Token.{yaml_token_t, is_last_type, type_of}
 use Rattle.yaml_scan.specs.Fault.{Fault, memory_fault}
 use Rattle.yaml_scan.specs.Begins.{Begins}
@@ -26,6 +27,8 @@ pub record AreSettled (limit : ℕ) (setting : yaml_encoding_t) (input : List �
   pub tokens_are : tokens ≡ map (handed_out (decoded_input setting input).encoding) (settled_tokens limit (course_to limit setting input) steps)
   -- so they are a beginning of all tokens
   pub beginning : Begins tokens (answers_to limit setting input).tokens
+  -- memory is refused to the decoding of UTF-16, or behind the first step or in it
+  pub in_utf8 : (decoded_input setting input).encoding ≡ YAML_UTF8_ENCODING → (course_to limit setting input).begun ≡ true
   pub no_end : list_any (λ t. is_last_type (type_of t.token_data)) tokens ≡ false
 
 -- What reading an input to its end answers: all of it, or a growth was refused behind some of the steps.

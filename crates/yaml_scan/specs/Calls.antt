@@ -84,6 +84,13 @@ pub record PutsAnswers (p : Parser) (calls : List Call) (old new : List yaml_ans
   pub is : new ≡ old ++ more
   pub runs : Runs p calls (map seen_of more) q
 
+-- their answers are what the session says, put behind others
+pub record PutsSession (p : Parser) (calls : List Call) (old new : List yaml_answer_t) (q : Parser) : Type 0 where
+  pub more : List yaml_answer_t
+  pub is : new ≡ old ++ more
+  pub answers : map seen_of more ≡ map seen (answered_all p calls)
+  pub left : q ≡ behind_all p calls
+
 -- the tokens that calls take are the next ones of the list, and as many as the session counts
 abbrev pub TakesNext : Parser → List Call → Type 0
 TakesNext p calls = Begins (tokens_in (taken_by p.limit (course_read p) calls p.session)) (drop p.session.taken (tokens_of p.limit (course_read p)))

@@ -2,11 +2,12 @@
 use Rattle.std.specs.Prelude.{◌≡◌, ◌⊎◌, ℕ, ◌≤◌, false, true, List, Option, None, Some, Result, Ok, Err, if◌then◌else◌}
 use denote.Ref.{Bor}
 use Rattle.yaml_text.specs.declared.types.yaml_encoding_t.{yaml_encoding_t}
+use Rattle.yaml_text.specs.declared.types.yaml_encoding_t.TheVariants.{YAML_UTF8_ENCODING}
 use Rattle.yaml_text.specs.declared.fault.yaml_fault_t.{yaml_fault_t}
 use Rattle.yaml_text.specs.Fault.{fault_of, memory_fault}
 use Rattle.yaml_scan.specs.Token.{yaml_token_t, empty}
 use Rattle.yaml_scan.specs.Offline.{Token, handed_out}
-use Rattle.yaml_scan.specs.Answers.{Input, Course, course}
+use Rattle.yaml_scan.specs.Answers.{Input, Course, course, starts_near}
 use Rattle.yaml_scan.specs.Inputs.{decoded_input}
 use Rattle.yaml_scan.specs.Session.{Session, Call, Answer, settled, pace, next_token, after, answer}
 use Rattle.yaml_scan.specs.Session.Call.{SCAN, PEEK}
@@ -48,6 +49,8 @@ pub record WantsMemory (p q : Parser) : Type 0 where
   pub peeked : q.session.peeked ≡ false
   pub over : q.session.over ≡ true
   pub fault : q.session.fault ≡ Some memory_fault
+  -- it was asked for decoding UTF-16, or for the first step or one behind it: not where the reader's fault comes in the place of the first
+  pub in_utf8 : (input_read p).encoding ≡ YAML_UTF8_ENCODING → (course_read p).begun ≡ true
   -- it was asked for nothing that was there already
   pub was_open : p.session.over ≡ false
   pub was_not_peeked : p.session.peeked ≡ false
@@ -64,6 +67,10 @@ Calls call p a q = ((a ≡ answered p call) × (q ≡ behind p call)) ⊎ ((a �
 -- the next token is there already: it was peeked, or the session is over and there is none
 abbrev pub IsThere : Parser → Type 0
 IsThere p = (p.session.peeked ≡ true) ⊎ (p.session.over ≡ true)
+
+-- the input is in UTF-8 and refused so early that its reader's fault comes in the place of the first step
+abbrev pub IsRefusedEarly : Input → Type 0
+IsRefusedEarly input = (input.encoding ≡ YAML_UTF8_ENCODING) × (starts_near input.source.size input.refusal ≡ true)
 
 abbrev pub Scans : Parser → Result yaml_token_t yaml_fault_t → Parser → Type 0
 Scans p result q = Calls SCAN p (told result) q

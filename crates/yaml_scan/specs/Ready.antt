@@ -1,7 +1,8 @@
 -- A scanner that is new, or stands in an input.
 use Rattle.std.specs.Prelude.{◌≡◌, ◌⊎◌, ℕ, ◌+◌, ◌≤◌, ◌<◌, max, true, false, List, [], length, slice_get, None, Some, option_map}
 use Rattle.yaml_text.specs.declared.types.yaml_encoding_t.{yaml_encoding_t}
-use Rattle.yaml_text.specs.Fault.{Fault, zero_mark}
+use Rattle.yaml_text.specs.declared.types.yaml_encoding_t.TheVariants.{YAML_UTF8_ENCODING}
+use Rattle.yaml_text.specs.Fault.{Fault, memory_fault, zero_mark}
 use Rattle.yaml_scan.specs.declared.step.scanner_t.{scanner_t}
 use Rattle.yaml_scan.specs.declared.parser.yaml_parser_t.TheInside.{Inside}
 use Rattle.yaml_text.specs.Fault.{fault_of}
@@ -61,6 +62,11 @@ pub record IsStopped (setting : yaml_encoding_t) (input : List ℕ) (s t : scann
   pub most : t.made ≤ pace s.limit (course_in s.limit setting input).read s.taken s.made
   pub unsettled : settled s.limit (course_in s.limit setting input).read s.taken t.made ≡ false
   pub reach : t.reach ≡ reach (first_steps t.made (course_in s.limit setting input).read)
+
+-- a growth was refused: in UTF-8, whose text takes none, behind the first step or in it, which no reader's fault has replaced
+pub record IsShort (setting : yaml_encoding_t) (input : List ℕ) (s : scanner_t) (f : Fault) : Type 0 where
+  pub fault : f ≡ memory_fault
+  pub in_utf8 : (decoded_input setting input).encoding ≡ YAML_UTF8_ENCODING → (course_in s.limit setting input).begun ≡ true
 
 -- there is no next token, and f is why
 pub record IsEnded (setting : yaml_encoding_t) (input : List ℕ) (s t : scanner_t) (f : Fault) : Type 0 where

@@ -3,9 +3,10 @@ ghost use Rattle.std.specs.Prelude.{◌≡◌, ◌≤◌, IfOk, [], option_map};
 ghost use Rattle.yaml_text.specs.Fault.{fault_of};
 ghost use Rattle.yaml_scan.specs.Session.{new_session};
 ghost use Rattle.yaml_scan.specs.AnswerLaws.{StandInOrder, AreFollowed};
-ghost use Rattle.yaml_scan.specs.Inputs.{IsLocal};
+ghost use Rattle.yaml_scan.specs.Inputs.{decoded_input, answers_to, IsLocal};
 ghost use Rattle.yaml_scan.specs.Words.{HaveLines};
-ghost use Rattle.yaml_scan.specs.All.{ReadsAll, EndNoMore, EndAll, depth_of};
+ghost use Rattle.yaml_scan.specs.Parser.{IsRefusedEarly};
+ghost use Rattle.yaml_scan.specs.All.{AllOf, ReadsAll, EndNoMore, EndAll, depth_of};
 
 use crate::parser::{is_stream_end, yaml_parser_scan, yaml_parser_t};
 use std::alloc::{AllocError, Global};
@@ -43,6 +44,7 @@ pub fn yaml_scan_all(
     setting: yaml_encoding_t,
 ) -> Result<(Vec<yaml_token_t>, Option<yaml_fault_t>), AllocError>
     ensures answers { IfOk result (λ r. ReadsAll 1024 setting input.now r.0.items (option_map fault_of r.1)) }
+    ensures early { IfOk result (λ r. IsRefusedEarly (decoded_input setting input.now) → AllOf (answers_to 1024 setting input.now) r.0.items (option_map fault_of r.1)) }
     ensures order { IfOk result (λ r. StandInOrder 0 r.0.items) }
     ensures ends { IfOk result (λ r. EndNoMore r.0.items) }
     ensures ends_all { IfOk result (λ r. EndAll (depth_of 1024 setting input.now) r.0.items (option_map fault_of r.1)) }
@@ -63,6 +65,7 @@ pub fn yaml_scan_all_limit(
     requires least { 1 ≤ limit }
     requires most { limit ≤ 65536 }
     ensures answers { IfOk result (λ r. ReadsAll limit setting input.now r.0.items (option_map fault_of r.1)) }
+    ensures early { IfOk result (λ r. IsRefusedEarly (decoded_input setting input.now) → AllOf (answers_to limit setting input.now) r.0.items (option_map fault_of r.1)) }
     ensures order { IfOk result (λ r. StandInOrder 0 r.0.items) }
     ensures ends { IfOk result (λ r. EndNoMore r.0.items) }
     ensures ends_all { IfOk result (λ r. EndAll (depth_of limit setting input.now) r.0.items (option_map fault_of r.1)) }

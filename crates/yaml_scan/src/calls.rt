@@ -4,7 +4,7 @@ ghost use Rattle.std.specs.Vec.{vec_capacity};
 ghost use Rattle.yaml_text.specs.Fault.{fault_of};
 ghost use Rattle.yaml_scan.specs.Session.{session_queued};
 ghost use Rattle.yaml_scan.specs.Session.Call.{SCAN, PEEK, SKIP};
-ghost use Rattle.yaml_scan.specs.Parser.{course_read};
+ghost use Rattle.yaml_scan.specs.Parser.{course_read, input_read, IsRefusedEarly};
 ghost use Rattle.yaml_scan.specs.CallWords.{RunHasLines};
 ghost use Rattle.yaml_scan.specs.Inputs.{IsLocal};
 
@@ -34,7 +34,7 @@ pub enum yaml_answer_t {
     FAULT(yaml_fault_t),
 }
 
-ghost use Rattle.yaml_scan.specs.Calls.{Sees, seen_of, call_of, PutsAnswers, TakesNext};
+ghost use Rattle.yaml_scan.specs.Calls.{Sees, seen_of, call_of, PutsAnswers, PutsSession, TakesNext};
 
 fn answer_scan(parser: &mut yaml_parser_t) -> yaml_answer_t
     ensures { Sees SCAN parser.old (seen_of result) parser.new }
@@ -116,6 +116,7 @@ pub fn yaml_run(
     out: &mut Vec<yaml_answer_t>,
 ) -> Result<(), AllocError>
     ensures answers { OnOk result (PutsAnswers parser.old (map call_of calls.now) out.old.items out.new.items parser.new) }
+    ensures early { OnOk result (IsRefusedEarly (input_read parser.old) → PutsSession parser.old (map call_of calls.now) out.old.items out.new.items parser.new) }
     ensures refused { OnErr result ((parser.new ≡ parser.old) × (out.new.items ≡ out.old.items)) }
     ensures few { session_queued (course_read parser.new) parser.new.session ≤ parser.new.limit + 1 }
     ensures taken { TakesNext parser.old (map call_of calls.now) }

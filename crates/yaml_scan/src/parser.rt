@@ -1,11 +1,11 @@
 //! The parser: scan, peek and skip, one call after the other.
 ghost use Rattle.std.specs.Prelude.{◌≡◌, ◌⊎◌, ℕ, ◌+◌, ◌≤◌, ◌<◌, [], length, MatchResult, Some, true, false};
-ghost use Rattle.yaml_text.specs.Fault.{fault_of, memory_fault, zero_mark};
+ghost use Rattle.yaml_text.specs.Fault.{fault_of, zero_mark};
 ghost use Rattle.yaml_text.specs.declared.types.yaml_encoding_t.TheVariants.{YAML_UTF8_ENCODING};
 ghost use Rattle.yaml_scan.specs.Offline.{before};
 ghost use Rattle.yaml_scan.specs.Session.{new_session};
 ghost use Rattle.yaml_scan.specs.Scanning.{Runs, IsOpen, history};
-ghost use Rattle.yaml_scan.specs.Ready.{IsNew, IsReady, IsSettled, IsStopped, IsEnded, Pops};
+ghost use Rattle.yaml_scan.specs.Ready.{IsNew, IsReady, IsSettled, IsStopped, IsShort, IsEnded, Pops};
 ghost use Rattle.yaml_scan.specs.Parser.{Scans};
 ghost use Rattle.yaml_scan.specs.Token.{is_last_type, type_of};
 
@@ -101,7 +101,7 @@ fn begin<'a>(
     setting: yaml_encoding_t,
 ) -> Result<(), yaml_fault_t>
     requires { IsNew scanner.old }
-    ensures { MatchResult result (λ _. Begins setting input.now scanner.old scanner.new) (λ f. ((fault_of f ≡ memory_fault) ⊎ IsEnded setting input.now scanner.old scanner.new (fault_of f)) × IsStopped setting input.now scanner.old scanner.new) }
+    ensures { MatchResult result (λ _. Begins setting input.now scanner.old scanner.new) (λ f. (IsShort setting input.now scanner.old (fault_of f) ⊎ IsEnded setting input.now scanner.old scanner.new (fault_of f)) × IsStopped setting input.now scanner.old scanner.new) }
 {
     let (text, refusal) = yaml_decode_front(alloc, input, setting)?;
     let near = near_from(text.bytes());
@@ -127,7 +127,7 @@ fn start<'a>(
     setting: yaml_encoding_t,
 ) -> Result<(), yaml_fault_t>
     requires { IsReady setting input.now scanner.old }
-    ensures { MatchResult result (λ _. IsStarted setting input.now scanner.old scanner.new) (λ f. ((fault_of f ≡ memory_fault) ⊎ IsEnded setting input.now scanner.old scanner.new (fault_of f)) × IsStopped setting input.now scanner.old scanner.new) }
+    ensures { MatchResult result (λ _. IsStarted setting input.now scanner.old scanner.new) (λ f. (IsShort setting input.now scanner.old (fault_of f) ⊎ IsEnded setting input.now scanner.old scanner.new (fault_of f)) × IsStopped setting input.now scanner.old scanner.new) }
 {
     if scanner.made > 0 {
         return Ok(());
@@ -148,7 +148,7 @@ fn settle<'a>(
     setting: yaml_encoding_t,
 ) -> Result<(), yaml_fault_t>
     requires { IsReady setting input.now scanner.old }
-    ensures { MatchResult result (λ _. IsSettled setting input.now scanner.old scanner.new) (λ f. ((fault_of f ≡ memory_fault) ⊎ IsEnded setting input.now scanner.old scanner.new (fault_of f)) × IsStopped setting input.now scanner.old scanner.new) }
+    ensures { MatchResult result (λ _. IsSettled setting input.now scanner.old scanner.new) (λ f. (IsShort setting input.now scanner.old (fault_of f) ⊎ IsEnded setting input.now scanner.old scanner.new (fault_of f)) × IsStopped setting input.now scanner.old scanner.new) }
 {
     match start(alloc, scanner, input, setting) {
         Ok(_) => match settle_head(alloc, scanner) {
@@ -169,7 +169,7 @@ fn look<'a>(
 ) -> Result<(), yaml_fault_t>
     requires ready { IsReady setting input.now scanner.old }
     requires shown { peeked ≡ true → IsShown setting input.now scanner.old }
-    ensures { MatchResult result (λ _. IsSettled setting input.now scanner.old scanner.new) (λ f. ((fault_of f ≡ memory_fault) ⊎ IsEnded setting input.now scanner.old scanner.new (fault_of f)) × IsStopped setting input.now scanner.old scanner.new × (peeked ≡ false)) }
+    ensures { MatchResult result (λ _. IsSettled setting input.now scanner.old scanner.new) (λ f. (IsShort setting input.now scanner.old (fault_of f) ⊎ IsEnded setting input.now scanner.old scanner.new (fault_of f)) × IsStopped setting input.now scanner.old scanner.new × (peeked ≡ false)) }
 {
     if peeked {
         return Ok(());
@@ -306,10 +306,12 @@ ghost use Rattle.yaml_scan.specs.Session.Call.{SKIP};
 /// Takes the next token. Behind the stream end, and behind a fault, it is the empty one.
 ///
 /// The fault that ends the session is answered once, by the scan or peek that meets it. A refused growth of memory is a fault
-/// of kind memory; none is asked for where the token was peeked or the session is over.
+/// of kind memory; none is asked for where the token was peeked or the session is over, nor where the input is in UTF-8 and its
+/// reader's fault comes in the place of the first step.
 pub fn yaml_parser_scan(parser: &mut yaml_parser_t) -> Result<yaml_token_t, yaml_fault_t>
     ensures answers { Scans parser.old result parser.new }
     ensures bare { IsThere parser.old → (told result ≡ answered parser.old SCAN) × (parser.new ≡ behind parser.old SCAN) }
+    ensures early { IsRefusedEarly (input_read parser.old) → (told result ≡ answered parser.old SCAN) × (parser.new ≡ behind parser.old SCAN) }
     ensures local { IsLocal parser.old.limit parser.old.setting parser.old.input }
 {
     if parser.over {
@@ -322,7 +324,7 @@ pub fn yaml_parser_scan(parser: &mut yaml_parser_t) -> Result<yaml_token_t, yaml
 }
 
 ghost use Rattle.yaml_scan.specs.Inputs.{IsLocal};
-ghost use Rattle.yaml_scan.specs.Parser.{IsThere, told, answered};
+ghost use Rattle.yaml_scan.specs.Parser.{IsThere, IsRefusedEarly, input_read, told, answered};
 ghost use Rattle.yaml_scan.specs.Session.Call.{SCAN};
 
 /// Takes the token that was peeked, and drops it. No memory is asked for.
@@ -342,6 +344,7 @@ pub fn yaml_parser_peek<'s>(
     ensures* answers { sem 𝓛 (follows_so (the_row (record { mir = named 1; lft = [] })) (the_row (record { mir = named 1; lft = [] })) parser.entry.ghost_name none (λ _ _. ⊤) (λ q. Peeks parser.old (told_copied result) q)) }
     ensures shows { AnswersPeek parser.old (shown (told_copied result)) }
     ensures bare { IsThere parser.old → shown (told_copied result) ≡ answered parser.old PEEK }
+    ensures early { IsRefusedEarly (input_read parser.old) → shown (told_copied result) ≡ answered parser.old PEEK }
     ensures local { IsLocal parser.old.limit parser.old.setting parser.old.input }
 {
     match show(parser) {

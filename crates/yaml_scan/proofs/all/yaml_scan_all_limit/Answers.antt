@@ -3,7 +3,7 @@ use Rattle.yaml_text.specs.Fault.{fault_of}
 use Rattle.yaml_scan.specs.Parser.{Parser}
 use Rattle.yaml_scan.specs.All.{ReadsAll}
 use Rattle.yaml_scan.proofs.InputLaws.{late_faults}
-use Rattle.yaml_scan.proofs.AllLaws.{reads_in_order, reads_ends, reads_all_ends, reads_keys}
+use Rattle.yaml_scan.proofs.AllLaws.{reads_in_order, reads_ends, reads_all_ends, reads_keys, reads_early}
 use Rattle.yaml_scan.proofs.AllTold.{reads_have_lines}
 use Rattle.yaml_scan.proofs.all.yaml_scan_all_limit.Goals as goal
 
@@ -11,6 +11,9 @@ use Rattle.yaml_scan.proofs.all.yaml_scan_all_limit.Goals as goal
 pub returns-clause-answers : goal.returns-clause-answers
 returns-clause-answers c =
     subst (λ (p : Parser). ReadsAll p.limit p.setting p.input c.scan_rest.new.tokens.items (option_map fault_of c.in_ok-fault.fault)) c.with_key_limit-parser.ensures c.in_ok-fault.ensures
+
+pub returns-clause-early : goal.returns-clause-early
+returns-clause-early c = reads_early c.args.limit c.args.setting c.args.input.now c.scan_rest.new.tokens.items (option_map fault_of c.in_ok-fault.fault) (returns-clause-answers c)
 
 pub returns-clause-order : goal.returns-clause-order
 returns-clause-order c = reads_in_order c.args.limit c.args.setting c.args.input.now c.scan_rest.new.tokens.items (option_map fault_of c.in_ok-fault.fault) (returns-clause-answers c)
