@@ -1,11 +1,13 @@
 -- Lexemes are local.
-use Rattle.std.proofs.Common.{ℕ, true, false, refl, sym, ap, ◌∙◌}
+use Rattle.std.proofs.Common.{ℕ, true, false, Ok, Err, refl, sym, ap, ◌∙◌, subst}
 use Rattle.yaml_lexeme.specs.declared.kind.yaml_lexeme_kind_t.TheVariants as kind
 use Rattle.yaml_text.specs.declared.token.unnamed_yaml_token_t_data.TheVariants as token
+use Rattle.yaml_lexeme.proofs.Ahead.{ahead_any}
 use Rattle.yaml_lexeme.proofs.BlockLocal.{block_like}
 use Rattle.yaml_lexeme.proofs.BodyLocal.{quoted_local}
 use Rattle.yaml_lexeme.proofs.DirectivesLocal.{directive_like}
-use Rattle.yaml_lexeme.proofs.Like.{IsLike, like_found, like_bind, like_of, like_law, agree_behind}
+use Rattle.yaml_lexeme.proofs.Like.{IsLike, agree_self, like_found, like_bind, like_of, like_law, agree_behind}
+use Rattle.yaml_lexeme.proofs.Local.{EndsAt}
 use Rattle.yaml_lexeme.proofs.NamesLocal.{name_like, tag_like}
 use Rattle.yaml_lexeme.proofs.Places.{skip_none}
 use Rattle.yaml_lexeme.proofs.PlainLocal.{plain_like}
@@ -14,6 +16,7 @@ use Rattle.yaml_lexeme.specs.Directive.{directive}
 use Rattle.yaml_lexeme.specs.Lex.{scalar_to, scalar, stream_end, whole_of, whole, characters, directive_to, ended, at_end, lex, in_flow, least, quoted_as}
 use Rattle.yaml_lexeme.specs.Locality.{LexIsLocal}
 use Rattle.yaml_lexeme.specs.Name.{name}
+use Rattle.yaml_lexeme.specs.Order.{IsAhead, OffenceIsAhead}
 use Rattle.yaml_lexeme.specs.Place.{Place, skip}
 use Rattle.yaml_lexeme.specs.Plain.{plain}
 use Rattle.yaml_lexeme.specs.Quoted.{quoted}
@@ -21,6 +24,7 @@ use Rattle.yaml_lexeme.specs.Reading.{Read}
 use Rattle.yaml_lexeme.specs.Tag.{tag}
 use Rattle.yaml_lexeme.specs.declared.kind.yaml_lexeme_kind_t.{yaml_lexeme_kind_t}
 use Rattle.yaml_lexeme.specs.declared.lex.yaml_context_t.{yaml_context_t}
+use Rattle.yaml_lexeme.specs.declared.lex.yaml_lexeme_t.{yaml_lexeme_t}
 use Rattle.yaml_lexeme.specs.declared.plain.scalar_t.{scalar_t}
 use Rattle.yaml_text.specs.declared.token.unnamed_yaml_token_t_data.{unnamed_yaml_token_t_data}
 use Rattle.yaml_text.specs.declared.types.yaml_mark_t.{yaml_mark_t}
@@ -75,3 +79,15 @@ lex_like kind.PLAIN c n p q a = scalar_like YAML_PLAIN_SCALAR_STYLE (plain (in_f
 
 pub lex_is_local : LexIsLocal
 lex_is_local k c = like_law (lex k c) (lex_like k c)
+
+-- an offence is ahead
+abbrev Offends : Place → Read yaml_lexeme_t → Type 0
+Offends p (Ok f) = Unit {0}
+Offends p (Err e) = IsAhead 0 p e.at
+
+offends : (p : Place) (n : ℕ) (r : Read yaml_lexeme_t) → EndsAt n p r → Offends p r
+offends p n (Ok f) h = tt
+offends p n (Err e) h = subst (λ (x : Place). IsAhead 0 p x) (sym h) (ahead_any n p)
+
+pub offence_is_ahead : OffenceIsAhead
+offence_is_ahead k c p e h = let l = lex_like k c 0 p p (agree_self p) in subst (λ (r : Read yaml_lexeme_t). Offends p r) h (offends p l.count (lex k c p) l.ends)

@@ -13,6 +13,10 @@ pub mod ChunkLocal
 pub mod PlainLocal
 pub mod BlockLocal
 pub mod LexLocal
+pub mod Clear
+pub mod Clears
+pub mod Wholes
+pub mod WholeLaws
 pub mod CountLaws
 pub mod PartLaws
 pub mod ScalarParts

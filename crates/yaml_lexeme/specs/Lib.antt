@@ -22,4 +22,5 @@ pub mod Runs
 pub mod Order
 pub mod Locality
 pub mod Counted
+pub mod Whole
 pub mod Parts

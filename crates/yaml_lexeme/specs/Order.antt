@@ -1,5 +1,5 @@
 -- The order of places and of marks.
-use Rattle.std.specs.Prelude.{◌≡◌, ℕ, ◌+◌, ◌≤◌, Bool, true, false, length, Some, Ok}
+use Rattle.std.specs.Prelude.{◌≡◌, ℕ, ◌+◌, ◌≤◌, Bool, true, false, length, Some, Ok, Err}
 use Rattle.yaml_text.specs.declared.types.yaml_mark_t.{yaml_mark_t}
 use Rattle.yaml_lexeme.specs.declared.kind.yaml_lexeme_kind_t.{yaml_lexeme_kind_t}
 use Rattle.yaml_lexeme.specs.declared.kind.yaml_lexeme_kind_t.TheVariants as kind
@@ -7,7 +7,7 @@ use Rattle.yaml_lexeme.specs.Place.{Place, skip}
 use Rattle.yaml_lexeme.specs.Gap.{gap}
 use Rattle.yaml_lexeme.specs.Kind.{kind_at}
 use Rattle.yaml_lexeme.specs.declared.lex.yaml_context_t.{yaml_context_t}
-use Rattle.yaml_lexeme.specs.Reading.{Found}
+use Rattle.yaml_lexeme.specs.Reading.{Offence, Found}
 use Rattle.yaml_lexeme.specs.Lex.{lex, in_flow}
 use Rattle.yaml_lexeme.specs.declared.lex.yaml_lexeme_t.{yaml_lexeme_t}
 
@@ -46,6 +46,10 @@ LexemeOrder = (k : yaml_lexeme_kind_t) (c : yaml_context_t) (p : Place) (f : Fou
 abbrev pub StreamEndOrder : Type 0
 StreamEndOrder = (c : yaml_context_t) (p : Place) (f : Found yaml_lexeme_t) → lex kind.STREAM_END c p ≡ Ok f
     → (f.value.end_mark ≡ f.value.start_mark) × (f.value.reach ≡ f.value.start_mark) × IsAfter 0 p.mark f.value.start_mark × (f.value.start_mark.column ≡ 0)
+
+-- A problem stands where its lexeme would start, or further on: a place of the text.
+abbrev pub OffenceIsAhead : Type 0
+OffenceIsAhead = (k : yaml_lexeme_kind_t) (c : yaml_context_t) (p : Place) (e : Offence) → lex k c p ≡ Err e → IsAhead 0 p e.at
 
 -- a gap ends where it starts, or further on
 abbrev pub GapOrder : Type 0

@@ -1,8 +1,9 @@
 //! Laws about the definitions.
 ghost use Rattle.yaml_lexeme.specs.Counted.{PlacesAreCounted, MarksAreCounted};
+ghost use Rattle.yaml_lexeme.specs.Whole.{GapIsWhole, ReachIsWhole, EndIsWhole, GapIsCounted, LexemeIsCounted, ProblemIsCounted};
 ghost use Rattle.yaml_lexeme.specs.Locality.{GapIsLocal, KindIsLocal, LexIsLocal};
 ghost use Rattle.yaml_lexeme.specs.Parts.{QuotedIsParts, QuotedIsRefused, PlainIsParts, PlainIsRefused, ChunkIsLongest, LinkIsLongest};
-ghost use Rattle.yaml_lexeme.specs.Order.{GapOrder, LexemeSpans, LexemeOrder, StreamEndOrder, LexemeFollows};
+ghost use Rattle.yaml_lexeme.specs.Order.{GapOrder, LexemeSpans, LexemeOrder, StreamEndOrder, OffenceIsAhead, LexemeFollows};
 
 /// A gap ends where it starts or further on.
 pub fn gap_order()
@@ -22,6 +23,11 @@ pub fn lexeme_order()
 /// A stream end is one mark, at column 0.
 pub fn stream_end_order()
     ensures { StreamEndOrder }
+{}
+
+/// A problem stands at a place of the text, where its lexeme would start or further on. The law of locality asks for that.
+pub fn offence_is_ahead()
+    ensures { OffenceIsAhead }
 {}
 
 /// A lexeme behind a gap follows what was read up to the gap.
@@ -49,6 +55,21 @@ pub fn lex_is_local()
 pub fn marks_are_counted()
     ensures places { PlacesAreCounted }
     ensures marks { MarksAreCounted }
+{}
+
+/// From a place that parts no CR LF, the places where a gap ends, where a lexeme of the kind that stands there ends and which it
+/// reaches, and where its problem stands, part none.
+pub fn ends_are_whole()
+    ensures gaps { GapIsWhole }
+    ensures reaches { ReachIsWhole }
+    ensures ends { EndIsWhole }
+{}
+
+/// So the marks of these places, other than the mark of a stream end, are those that are counted from the front of the text.
+pub fn ends_are_counted()
+    ensures gaps { GapIsCounted }
+    ensures lexemes { LexemeIsCounted }
+    ensures problems { ProblemIsCounted }
 {}
 
 /// The text between the quotes of a scalar is its parts, one behind the other and as many as can be, and its value is theirs.
