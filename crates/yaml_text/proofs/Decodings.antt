@@ -14,8 +14,8 @@ use Rattle.yaml_text.specs.Utf8.{offence8}
 use Rattle.yaml_text.specs.Utf16.{Reads16, BeginsWithNone16, offence16}
 use Rattle.yaml_text.specs.Fault.{Fault, fault_of, reader_fault}
 use Rattle.yaml_text.specs.Text.{Text}
-use Rattle.yaml_text.specs.Decode.{order, spelling, spelled, Begins, BeginsWithNone, IsFront, value_in_front, first, and_then_list, front_of, encoding_of, dropped, behind_mark, offence, front, front_len, refusal, refusal_of, refusal_seen, unless_refused, decoded, Fronts, Spells, IsRefused}
-use Rattle.yaml_text.proofs.Readings.{value_is, some_spelling, spelled-cons, spelled-nil, none_at_end, one_front}
+use Rattle.yaml_text.specs.Decode.{order, spelling, spelled, Begins, BeginsWithNone, IsFront, value_in_front, first, and_then_list, front_of, encoding_of, dropped, behind_mark, offence, front, front_len, refusal, refusal_of, refusal_seen, unless_refused, decoded, Fronts, IsFrontOf, Spells, IsRefused}
+use Rattle.yaml_text.proofs.Readings.{longest, value_is, some_spelling, spelled-cons, spelled-nil, none_at_end, one_front}
 
 -- what stands in front, if anything
 abbrev FirstIs : yaml_encoding_t → List ℕ → Option ℕ → Type 0
@@ -103,6 +103,22 @@ fronts_refusal setting input text fault f =
     let e = encoding_of setting input in
     let same = one_front _ _ _ _ _ _ f.front (front_is setting input) in
     f.refusal ∙ (λ k. refusal_of e (dropped setting input + length (spelled e (same.0 k))) (same.1 k))
+
+-- it is the longest list of characters that begins the input
+pub front_longest : (setting : yaml_encoding_t) (input : List ℕ) (text : Text) → text ≡ front setting input → IsFrontOf setting input text
+front_longest setting input text is = subst (λ (x : Text). IsFrontOf setting input x) (sym is) (
+    let e = encoding_of setting input in
+    let bytes = behind_mark setting input in
+    let t = front setting input in
+    let f = front_is setting input in
+    let same = front-encoding setting input in
+    record {
+      encoding = same;
+      each = f.each;
+      rest = drop (front_len setting input) input;
+      begins = subst (λ (x : yaml_encoding_t). bytes ≡ spelled x t.chars ++ drop (front_len setting input) input) (sym same) f.parts;
+      longest = λ cs more each begin. longest e bytes t.chars (drop (front_len setting input) input) cs more f each (subst (λ (x : yaml_encoding_t). bytes ≡ spelled x cs ++ more) same begin);
+    })
 
 -- ---- what a front and an offence behind it make
 

@@ -1,5 +1,5 @@
 -- Decoding: the characters that an input spells, or what is wrong behind them (YAML 1.1, sections 5.1 and 5.2).
-use Rattle.std.specs.Prelude.{ℕ, zero, suc, ◌≡◌, ◌+◌, ◌<◌, ◌⊎◌, Bool, ◌&&◌, ◌==◌, slice_index, if◌then◌else◌, List, [], ◌∷◌, ◌++◌, length, take, drop, encode_utf8, Option, Some, None, Result, Ok, Err, option_map, false, true}
+use Rattle.std.specs.Prelude.{ℕ, zero, suc, ◌≡◌, ◌+◌, ◌<◌, ◌≤◌, ◌⊎◌, Bool, ◌&&◌, ◌==◌, slice_index, if◌then◌else◌, List, [], ◌∷◌, ◌++◌, length, take, drop, encode_utf8, Option, Some, None, Result, Ok, Err, option_map, false, true}
 use Rattle.std.specs.Str.{bytes_eq}
 use Rattle.yaml_text.specs.declared.types.yaml_encoding_t.{yaml_encoding_t}
 use Rattle.yaml_text.specs.declared.types.yaml_encoding_t.TheVariants.{YAML_ANY_ENCODING, YAML_UTF8_ENCODING, YAML_UTF16LE_ENCODING, YAML_UTF16BE_ENCODING}
@@ -127,6 +127,15 @@ pub record Fronts (e : yaml_encoding_t) (before : ℕ) (bytes : List ℕ) (text 
   pub encoding : text.encoding ≡ e
   pub front : IsFront e bytes text.chars rest
   pub refusal : fault ≡ refusal_of e (before + length (spelled e text.chars)) rest
+
+-- The text is the front of the input: the longest list of characters whose spellings, joined, begin what stands behind
+-- its byte order mark.
+pub record IsFrontOf (setting : yaml_encoding_t) (input : List ℕ) (text : Text) : Type 0 where
+  pub encoding : text.encoding ≡ encoding_of setting input
+  pub each : AreChars text.chars
+  pub rest : List ℕ
+  pub begins : behind_mark setting input ≡ spelled text.encoding text.chars ++ rest
+  pub longest : (cs more : List ℕ) → AreChars cs → behind_mark setting input ≡ spelled text.encoding cs ++ more → length cs ≤ length text.chars
 
 -- The input spells the text.
 pub record Spells (setting : yaml_encoding_t) (input : List ℕ) (text : Text) : Type 0 where

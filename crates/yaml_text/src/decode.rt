@@ -2,7 +2,7 @@
 ghost use Rattle.std.specs.Prelude.{ℕ, ◌≡◌, ◌+◌, ◌<◌, ◌≤◌, ◌^◌, ◌⊎◌, option_map, length, take, drop, true, false, if◌then◌else◌, IfOk, IfErr, IsOk, IsNone, OnSome, IfSome};
 ghost use Rattle.yaml_text.specs.Chars.{IsText, utf8};
 ghost use Rattle.yaml_text.specs.Utf8.{offence8};
-ghost use Rattle.yaml_text.specs.Decode.{BeginsWithNone, Fronts, encoding_of, dropped, behind_mark, front, refusal, refusal_seen, decoded, Decodes, outcome, Spells, IsRefused, order};
+ghost use Rattle.yaml_text.specs.Decode.{BeginsWithNone, Fronts, IsFrontOf, encoding_of, dropped, behind_mark, front, refusal, refusal_seen, decoded, Decodes, outcome, Spells, IsRefused, order};
 ghost use Rattle.yaml_text.specs.Fault.{fault_of, memory_fault, reader_fault};
 ghost use Rattle.yaml_text.specs.declared.types.yaml_encoding_t.TheVariants.{YAML_UTF8_ENCODING, YAML_UTF16LE_ENCODING, YAML_UTF16BE_ENCODING};
 
@@ -126,6 +126,7 @@ pub fn yaml_decode_front<'a>(
     setting: yaml_encoding_t,
 ) -> Result<(yaml_text_t<'a>, Option<yaml_fault_t>), yaml_fault_t>
     ensures front { IfOk result (λ r. r.0 ≡ front setting input.now) }
+    ensures longest { IfOk result (λ r. IsFrontOf setting input.now r.0) }
     ensures refusal { IfOk result (λ r. refusal_seen r.1 ≡ refusal setting input.now) }
     ensures memory { IfErr result (λ fault. fault_of fault ≡ memory_fault) }
     ensures borrowed { encoding_of setting input.now ≡ YAML_UTF8_ENCODING → IsOk result }

@@ -1,8 +1,8 @@
 //! A decoded text.
-ghost use Rattle.std.specs.Prelude.{◌≡◌};
+ghost use Rattle.std.specs.Prelude.{◌≡◌, ◌≢◌};
 ghost use Rattle.std.specs.Str.{chars};
 ghost use Rattle.yaml_text.specs.Chars.{utf8, AreChars, IsText};
-ghost use Rattle.yaml_text.specs.declared.types.yaml_encoding_t.TheVariants.{YAML_UTF8_ENCODING};
+ghost use Rattle.yaml_text.specs.declared.types.yaml_encoding_t.TheVariants.{YAML_ANY_ENCODING, YAML_UTF8_ENCODING};
 
 use crate::types::yaml_encoding_t;
 use std::borrow::CowSlice;
@@ -16,22 +16,25 @@ pub struct yaml_text_t<'a> {
 }
 
 impl<'a> Model for yaml_text_t<'a> {
+    ghost use Rattle.std.specs.Prelude.{◌≢◌};
     ghost use Rattle.std.specs.Str.{chars};
     ghost use Rattle.std.specs.Cow.{cow_slice_items};
     ghost use Rattle.yaml_text.specs.Chars.{IsText};
     ghost use Rattle.yaml_text.specs.Text.{Text};
+    ghost use Rattle.yaml_text.specs.declared.types.yaml_encoding_t.TheVariants.{YAML_ANY_ENCODING};
 
     ghost Value = { Text };
 
     ghost view = { λ t. record { encoding = t.encoding; chars = chars (cow_slice_items t.held) } };
 
-    ghost invariant = { λ t. IsText (cow_slice_items t.held) };
+    ghost invariant = { λ t. IsText (cow_slice_items t.held) × (t.encoding ≢ YAML_ANY_ENCODING) };
 }
 
 impl<'a> yaml_text_t<'a> {
     /// How the input spelled the text: never `YAML_ANY_ENCODING`.
     pub fn encoding(&self) -> yaml_encoding_t
-        ensures { result ≡ self.now.encoding }
+        ensures is { result ≡ self.now.encoding }
+        ensures told { result ≢ YAML_ANY_ENCODING }
     {
         self.encoding
     }
@@ -58,7 +61,8 @@ pub(crate) fn borrowed_text<'a>(bytes: &'a [u8]) -> yaml_text_t<'a>
 
 /// A text that keeps its own bytes.
 pub(crate) fn owned_text<'a>(encoding: yaml_encoding_t, bytes: Vec<u8>) -> yaml_text_t<'a>
-    requires { IsText bytes.items }
+    requires text { IsText bytes.items }
+    requires told { encoding ≢ YAML_ANY_ENCODING }
     ensures { result ≡ record { encoding = encoding; chars = chars bytes.items } }
 {
     yaml_text_t {

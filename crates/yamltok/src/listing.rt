@@ -117,7 +117,6 @@ pub fn list_fault(alloc: Global, fault: &yaml_fault_t, out: &mut Vec<u8>) -> Res
 }
 
 fn text_line(alloc: Global, text: &yaml_text_t) -> Result<String, AllocError>
-    requires { text.now.encoding ≢ YAML_ANY_ENCODING }
     ensures { IfOk result (λ line. string_bytes line ≡ text_line text.now) }
 {
     let count = text.bytes().len();
@@ -130,7 +129,6 @@ fn text_line(alloc: Global, text: &yaml_text_t) -> Result<String, AllocError>
 /// Puts the line of a decoded text behind `out`: `TEXT`, the encoding, the number of bytes in UTF-8
 /// and the mark of the end. Where memory is refused, `out` is as before.
 pub fn list_text(alloc: Global, text: &yaml_text_t, out: &mut Vec<u8>) -> Result<(), AllocError>
-    requires { text.now.encoding ≢ YAML_ANY_ENCODING }
     ensures ok { OnOk result (out.new.items ≡ out.old.items ++ text_line text.now) }
     ensures err { OnErr result (out.new.items ≡ out.old.items) }
 {

@@ -26,4 +26,4 @@ returns-in_err-put_stream_start c = let p = err_from_is_err_and c.from_residual-
 
 pub returns : goal.returns
 returns c = begins c.args.setting c.args.input.now c.args.scanner.now _ c.requires c.in_ok-text.ensures.front c.bytes.ensures.characters (let s = short c.in_ok-text.text.chars in let m = c.near_from-near.ensures.small in let e = ap length c.bytes.ensures.utf8 in omega arith) c.in_ok-text.ensures.refusal (c.near_from-near.ensures.near c.in_ok-text.text.chars c.bytes.ensures.characters c.bytes.ensures.utf8)
-    refl refl refl refl refl refl (subst (λ (e : yaml_encoding_t). IsQueue e 1 2 c.put_stream_start.new.queue.items (StreamStart ∷ [])) c.encoding-encoding.ensures (c.in_ok-put_stream_start.ensures c.requires.queue)) refl refl refl (sym c.near_start.ensures ∙ ap refusal_seen c.in_default.is)
+    refl refl refl refl refl refl (subst (λ (e : yaml_encoding_t). IsQueue e 1 2 c.put_stream_start.new.queue.items (StreamStart ∷ [])) c.encoding-encoding.ensures.is (c.in_ok-put_stream_start.ensures c.requires.queue)) refl refl refl (sym c.near_start.ensures ∙ ap refusal_seen c.in_default.is)

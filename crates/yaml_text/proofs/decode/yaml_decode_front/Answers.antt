@@ -1,4 +1,4 @@
-use Rattle.yaml_text.proofs.Decodings.{told, else_utf8}
+use Rattle.yaml_text.proofs.Decodings.{told, else_utf8, front_longest}
 use Rattle.yaml_text.proofs.decode.yaml_decode_front.Goals as goal
 
 pub returns-in_ok-front_in_utf16-in-YAML_UTF16LE_ENCODING-clause-front : goal.returns-in_ok-front_in_utf16-in-YAML_UTF16LE_ENCODING-clause-front
@@ -30,3 +30,12 @@ pub returns-in_default-clause-refusal : goal.returns-in_default-clause-refusal
 returns-in_default-clause-refusal c =
     let t = c.told-encoding.ensures in
     (told c.args.setting c.args.input.now _ _ _ _ _ _ t.encoding (else_utf8 c.args.setting c.args.input.now _ t.encoding c.in_default.not-YAML_UTF16LE_ENCODING c.in_default.not-YAML_UTF16BE_ENCODING) t.dropped c.from-bytes.ensures c.front_in_utf8.ensures).refusal_is
+
+pub returns-in_ok-front_in_utf16-in-YAML_UTF16LE_ENCODING-clause-longest : goal.returns-in_ok-front_in_utf16-in-YAML_UTF16LE_ENCODING-clause-longest
+returns-in_ok-front_in_utf16-in-YAML_UTF16LE_ENCODING-clause-longest c = front_longest _ _ _ (returns-in_ok-front_in_utf16-in-YAML_UTF16LE_ENCODING-clause-front c)
+
+pub returns-in_ok-front_in_utf16-in-YAML_UTF16BE_ENCODING-clause-longest : goal.returns-in_ok-front_in_utf16-in-YAML_UTF16BE_ENCODING-clause-longest
+returns-in_ok-front_in_utf16-in-YAML_UTF16BE_ENCODING-clause-longest c = front_longest _ _ _ (returns-in_ok-front_in_utf16-in-YAML_UTF16BE_ENCODING-clause-front c)
+
+pub returns-in_default-clause-longest : goal.returns-in_default-clause-longest
+returns-in_default-clause-longest c = front_longest _ _ _ (returns-in_default-clause-front c)
