@@ -58,3 +58,6 @@ pub mod CallRuns
 pub mod Telling
 pub mod AllTold
 pub mod CallsTold
+pub mod CountedMarks
+pub mod CountedSteps
+pub mod CountedTokens

@@ -128,7 +128,7 @@ end_index m = elim (cases_Bool (nat_eq m.column 0)) [ inl e ↦ rw e refl | inr 
 end_column : (m : yaml_mark_t) → (end_of m).column ≡ 0
 end_column m = elim (cases_Bool (nat_eq m.column 0)) [ inl e ↦ rw e (eqb-true m.column 0 e) | inr e ↦ rw e refl ]
 
-end_is : (k : Kind) → is_stream_end k ≡ true → k ≡ kind.STREAM_END
+pub end_is : (k : Kind) → is_stream_end k ≡ true → k ≡ kind.STREAM_END
 end_is k e = grind arith
 
 same_found : (x y : Found yaml_lexeme_t) (r : Read yaml_lexeme_t) → r ≡ Ok x → r ≡ Ok y → y ≡ x
@@ -157,7 +157,7 @@ module _ (cs : List ℕ) where
   further : (p n : ℕ) → skip n (place_at cs p) ≡ place_at cs (p + n)
   further p n = skip_skip p n (start cs)
 
-  count_at : (p : ℕ) → p ≤ length cs → count_to (length cs) (place_at cs p) ≡ p
+  pub count_at : (p : ℕ) → p ≤ length cs → count_to (length cs) (place_at cs p) ≡ p
   count_at p l = let r = rest_length p in omega arith
 
   -- the place to which one goes
@@ -204,7 +204,7 @@ module _ (cs : List ℕ) where
   gap_there flow allowed p l = there p 0 (gap flow allowed (place_at cs p)).0 l (gap_order flow allowed (place_at cs p)).0
 
   -- at the stream end the text is over
-  over : (flow : Bool) (p : ℕ) (k : Kind) → AreChars cs → p ≤ length cs → kind_at flow (place_at cs p) ≡ Some k → is_stream_end k ≡ true → p ≡ length cs
+  pub over : (flow : Bool) (p : ℕ) (k : Kind) → AreChars cs → p ≤ length cs → kind_at flow (place_at cs p) ≡ Some k → is_stream_end k ≡ true → p ≡ length cs
   unfolding skip
   over flow p k c l e t = elim (cases_lt p (length cs)) [
     | inr m ↦ omega arith

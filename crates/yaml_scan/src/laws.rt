@@ -146,3 +146,14 @@ pub fn answers_have_lines()
     ensures inputs { AllHaveLines }
     ensures sessions { SessionsHaveLines }
 {}
+
+ghost use Rattle.yaml_scan.specs.CountedMarks.{AnswersAreCounted, SessionsAreCounted, ReachIsCounted};
+
+/// Every mark that is handed out is counted from the front of the text, so that none stands between CR and LF. The one
+/// exception is the mark of the end of a stream, which is moved to the start of the next line if its column is not 0: a stream
+/// end has it, and so have the block ends and the missing `:` that stand there.
+pub fn marks_are_counted()
+    ensures inputs { AnswersAreCounted }
+    ensures sessions { SessionsAreCounted }
+    ensures reach { ReachIsCounted }
+{}
