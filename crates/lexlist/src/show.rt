@@ -1,16 +1,16 @@
 //! What a lexeme and a fault look like in a line.
 use std::alloc::{AllocError, Global};
 use yaml_lexeme::yaml_lexeme_t;
-use yaml_text::{unnamed_yaml_token_t_data, yaml_bytes_t, yaml_fault_t, yaml_mark_t};
+use yaml_text::{unnamed_yaml_token_t_data, yaml_fault_t, yaml_mark_t};
 
 pub fn show_mark(alloc: Global, mark: yaml_mark_t) -> Result<String, AllocError> {
     let (index, line, column) = (mark.index, mark.line, mark.column);
     format!(in alloc; "{index}:{line}:{column}")
 }
 
-fn show_bytes(alloc: Global, bytes: &yaml_bytes_t) -> Result<String, AllocError> {
+fn show_bytes(alloc: Global, bytes: &[u8]) -> Result<String, AllocError> {
     let mut text = String::new(alloc);
-    for b in bytes.as_slice() {
+    for b in bytes {
         let b = *b;
         text.push_str(format!(in alloc; "{b:02x}")?.as_str())?;
     }

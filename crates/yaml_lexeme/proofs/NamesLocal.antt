@@ -14,8 +14,8 @@ use Rattle.yaml_lexeme.specs.Tag.{lone, angled, handled, tag}
 use Rattle.yaml_lexeme.specs.Uri.{octet, octet_width, is_bad_next, next_octets, is_uri, uri_escape, uri_part, uri, some_uri}
 use Rattle.yaml_lexeme.specs.declared.problem.problem_t.TheVariants.{NO_OCTET, BAD_NEXT_OCTET, BAD_LEAD_OCTET, NO_NAME}
 use Rattle.yaml_text.specs.Classes.{is_alpha, is_hex}
-use Rattle.yaml_text.specs.declared.token.unnamed_yaml_token_t_data.{unnamed_yaml_token_t_data}
-use Rattle.yaml_text.specs.declared.token.unnamed_yaml_token_t_data.TheVariants.{TAG}
+use Rattle.yaml_text.specs.Token.{TokenData as unnamed_yaml_token_t_data}
+use Rattle.yaml_text.specs.Token.TokenData.{TAG}
 
 -- behind the letters
 abbrev name_then : List ℕ → Place → Read (List ℕ)

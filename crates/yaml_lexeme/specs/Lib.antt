@@ -4,6 +4,7 @@ pub mod Reading
 pub mod Gap
 pub mod Kind
 pub mod Fold
+pub mod Lexeme
 pub mod Escape
 pub mod Quoted
 pub mod Plain

@@ -11,12 +11,14 @@ ghost use Rattle.yaml_lexeme.specs.Name as names;
 ghost use Rattle.yaml_lexeme.specs.Plain as plains;
 ghost use Rattle.yaml_lexeme.specs.Quoted as quotes;
 ghost use Rattle.yaml_lexeme.specs.Tag as tags;
-ghost use Rattle.yaml_text.specs.declared.token.unnamed_yaml_token_t_data.TheVariants as token;
+ghost use Rattle.yaml_text.specs.Token.{TokenData as token};
 ghost use Rattle.yaml_text.specs.declared.types.yaml_scalar_style_t.TheVariants.{YAML_PLAIN_SCALAR_STYLE};
 ghost use Rattle.yaml_lexeme.specs.Place.{IsMarkOf, place_at};
 ghost use Rattle.yaml_lexeme.specs.Reading.{found};
 ghost use Rattle.yaml_lexeme.specs.Gives.{Gives};
 ghost use Rattle.yaml_lexeme.specs.Answers.{Answers};
+ghost use Rattle.yaml_lexeme.specs.Lexeme.{lexeme_of, scalar_of, directive_of};
+ghost use Rattle.yaml_text.specs.Token.{data_of};
 
 use crate::block::take_block;
 use crate::cursor::cursor_t;
@@ -30,8 +32,8 @@ use crate::tag::take_tag;
 use crate::texts::{context_text, problem_text};
 use std::alloc::Global;
 use yaml_text::{
-    make_memory_fault, make_scanner_fault, unnamed_yaml_token_t_data, yaml_bytes_t, yaml_fault_t,
-    yaml_mark_t, yaml_scalar_style_t, yaml_text_t,
+    make_memory_fault, make_scanner_fault, unnamed_yaml_token_t_data, yaml_fault_t, yaml_mark_t,
+    yaml_scalar_style_t, yaml_text_t,
 };
 
 /// Where a lexeme stands.
@@ -73,7 +75,7 @@ fn stream_end(mark: yaml_mark_t) -> yaml_mark_t
 
 /// What stands between two marks.
 fn whole(says: unnamed_yaml_token_t_data, start: yaml_mark_t, end: yaml_mark_t) -> yaml_lexeme_t
-    ensures { result ≡ spec.whole_of says start end }
+    ensures { lexeme_of result ≡ spec.whole_of (data_of says) start end }
 {
     yaml_lexeme_t {
         token_data: says,
@@ -85,7 +87,7 @@ fn whole(says: unnamed_yaml_token_t_data, start: yaml_mark_t, end: yaml_mark_t) 
 }
 
 fn at_end(cursor: &cursor_t) -> yaml_lexeme_t
-    ensures { spec.at_end cursor.now ≡ found result cursor.now }
+    ensures { spec.at_end cursor.now ≡ found (lexeme_of result) cursor.now }
 {
     let mark = stream_end(cursor.mark());
     whole(unnamed_yaml_token_t_data::STREAM_END, mark, mark)
@@ -93,7 +95,7 @@ fn at_end(cursor: &cursor_t) -> yaml_lexeme_t
 
 /// What a lexeme that is one character says, or a document marker.
 fn says_of(kind: yaml_lexeme_kind_t) -> unnamed_yaml_token_t_data
-    ensures { result ≡ spec.says_of kind }
+    ensures { data_of result ≡ spec.says_of kind }
 {
     match kind {
         yaml_lexeme_kind_t::DOCUMENT_START => unnamed_yaml_token_t_data::DOCUMENT_START,
@@ -121,8 +123,8 @@ fn len_of(kind: yaml_lexeme_kind_t) -> usize
     }
 }
 
-fn scalar_of(value: yaml_bytes_t, style: yaml_scalar_style_t) -> unnamed_yaml_token_t_data
-    ensures { result ≡ spec.quoted_as style value }
+fn scalar_of(value: Vec<u8>, style: yaml_scalar_style_t) -> unnamed_yaml_token_t_data
+    ensures { data_of result ≡ spec.quoted_as style value.items }
 {
     unnamed_yaml_token_t_data::SCALAR { value, style }
 }
@@ -133,7 +135,7 @@ fn scalar(
     scalar: scalar_t,
     reach: yaml_mark_t,
 ) -> yaml_lexeme_t
-    ensures { result ≡ spec.scalar_to style start scalar reach }
+    ensures { lexeme_of result ≡ spec.scalar_to style start (scalar_of scalar) reach }
 {
     yaml_lexeme_t {
         token_data: scalar_of(scalar.value, style),
@@ -156,7 +158,7 @@ fn least(context: yaml_context_t) -> u64
 }
 
 fn directive(start: yaml_mark_t, directive: directive_t, reach: yaml_mark_t) -> yaml_lexeme_t
-    ensures { result ≡ spec.directive_to start directive reach }
+    ensures { lexeme_of result ≡ spec.directive_to start (directive_of directive) reach }
 {
     yaml_lexeme_t {
         token_data: directive.says,
@@ -173,7 +175,7 @@ fn take_characters(
     cursor: &mut cursor_t,
     kind: yaml_lexeme_kind_t,
 ) -> Result<yaml_lexeme_t, refusal_t>
-    ensures value { Gives (λ l. l) result cursor.new (spec.characters (spec.says_of kind) (spec.len_of kind) cursor.old) }
+    ensures value { Gives lexeme_of result cursor.new (spec.characters (spec.says_of kind) (spec.len_of kind) cursor.old) }
     ensures taken { IsOk result }
 {
     let start = cursor.mark();
@@ -183,7 +185,7 @@ fn take_characters(
 
 #[inline(never)]
 fn take_end(cursor: &mut cursor_t) -> Result<yaml_lexeme_t, refusal_t>
-    ensures value { Gives (λ l. l) result cursor.new (spec.at_end cursor.old) }
+    ensures value { Gives lexeme_of result cursor.new (spec.at_end cursor.old) }
     ensures taken { IsOk result }
 {
     Ok(at_end(cursor))
@@ -191,7 +193,7 @@ fn take_end(cursor: &mut cursor_t) -> Result<yaml_lexeme_t, refusal_t>
 
 #[inline(never)]
 fn take_alias(alloc: Global, cursor: &mut cursor_t) -> Result<yaml_lexeme_t, refusal_t>
-    ensures { Gives (λ l. l) result cursor.new (spec.whole token.ALIAS cursor.old (names.name cursor.old)) }
+    ensures { Gives lexeme_of result cursor.new (spec.whole token.ALIAS cursor.old (names.name cursor.old)) }
 {
     let start = cursor.mark();
     let value = take_name(alloc, cursor)?;
@@ -201,7 +203,7 @@ fn take_alias(alloc: Global, cursor: &mut cursor_t) -> Result<yaml_lexeme_t, ref
 
 #[inline(never)]
 fn take_anchor(alloc: Global, cursor: &mut cursor_t) -> Result<yaml_lexeme_t, refusal_t>
-    ensures { Gives (λ l. l) result cursor.new (spec.whole token.ANCHOR cursor.old (names.name cursor.old)) }
+    ensures { Gives lexeme_of result cursor.new (spec.whole token.ANCHOR cursor.old (names.name cursor.old)) }
 {
     let start = cursor.mark();
     let value = take_name(alloc, cursor)?;
@@ -215,7 +217,7 @@ fn take_whole_tag(
     cursor: &mut cursor_t,
     context: yaml_context_t,
 ) -> Result<yaml_lexeme_t, refusal_t>
-    ensures { Gives (λ l. l) result cursor.new (spec.whole (λ t. t) cursor.old (tags.tag (spec.in_flow context) cursor.old)) }
+    ensures { Gives lexeme_of result cursor.new (spec.whole (λ t. t) cursor.old (tags.tag (spec.in_flow context) cursor.old)) }
 {
     let start = cursor.mark();
     let says = take_tag(alloc, cursor, context.depth > 0)?;
@@ -224,7 +226,7 @@ fn take_whole_tag(
 
 #[inline(never)]
 fn take_whole_directive(alloc: Global, cursor: &mut cursor_t) -> Result<yaml_lexeme_t, refusal_t>
-    ensures { Gives (λ l. l) result cursor.new (spec.ended cursor.old (directives.directive cursor.old)) }
+    ensures { Gives lexeme_of result cursor.new (spec.ended cursor.old (directives.directive cursor.old)) }
 {
     let start = cursor.mark();
     let d = take_directive(alloc, cursor)?;
@@ -249,7 +251,7 @@ fn take_block_scalar(
     context: yaml_context_t,
 ) -> Result<yaml_lexeme_t, refusal_t>
     requires { spec.least context + 10 < 2 ^ 64 }
-    ensures { Gives (λ l. l) result cursor.new (spec.scalar (spec.block_style folded) cursor.old (blocks.block folded (spec.least context) cursor.old)) }
+    ensures { Gives lexeme_of result cursor.new (spec.scalar (spec.block_style folded) cursor.old (blocks.block folded (spec.least context) cursor.old)) }
 {
     let start = cursor.mark();
     let s = take_block(alloc, cursor, folded, least(context))?;
@@ -272,7 +274,7 @@ fn take_quoted_scalar(
     cursor: &mut cursor_t,
     single: bool,
 ) -> Result<yaml_lexeme_t, refusal_t>
-    ensures { Gives (λ l. l) result cursor.new (spec.whole (spec.quoted_as (spec.quoted_style single)) cursor.old (quotes.quoted single cursor.old)) }
+    ensures { Gives lexeme_of result cursor.new (spec.whole (spec.quoted_as (spec.quoted_style single)) cursor.old (quotes.quoted single cursor.old)) }
 {
     let start = cursor.mark();
     let value = take_quoted(alloc, cursor, single)?;
@@ -286,7 +288,7 @@ fn take_plain_scalar(
     context: yaml_context_t,
 ) -> Result<yaml_lexeme_t, refusal_t>
     requires { spec.least context + 10 < 2 ^ 64 }
-    ensures { Gives (λ l. l) result cursor.new (spec.scalar YAML_PLAIN_SCALAR_STYLE cursor.old (plains.plain (spec.in_flow context) (spec.least context) cursor.old)) }
+    ensures { Gives lexeme_of result cursor.new (spec.scalar YAML_PLAIN_SCALAR_STYLE cursor.old (plains.plain (spec.in_flow context) (spec.least context) cursor.old)) }
 {
     let start = cursor.mark();
     let s = take_plain(alloc, cursor, context.depth > 0, least(context))?;
@@ -308,7 +310,7 @@ fn take_lexeme(
     context: yaml_context_t,
 ) -> Result<yaml_lexeme_t, refusal_t>
     requires { spec.least context + 10 < 2 ^ 64 }
-    ensures value { Gives (λ l. l) result cursor.new (spec.lex kind context cursor.old) }
+    ensures value { Gives lexeme_of result cursor.new (spec.lex kind context cursor.old) }
     ensures bare { spec.is_bare kind ≡ true → IsOk result }
 {
     match kind {
@@ -367,7 +369,7 @@ pub fn yaml_lexeme_at(
 ) -> Result<yaml_lexeme_t, yaml_fault_t>
     requires place { (n : ℕ) × IsMarkOf text.now.chars at n × (kinds.kind_at (spec.in_flow context) (place_at text.now.chars n) ≡ Some kind) }
     requires level { IfSome context.level (λ l. l ≤ length (utf8 text.now.chars)) }
-    ensures value { (n : ℕ) → IsMarkOf text.now.chars at n → Answers result (spec.lexeme_at kind context (place_at text.now.chars n)) }
+    ensures value { (n : ℕ) → IsMarkOf text.now.chars at n → Answers lexeme_of result (spec.lexeme_at kind context (place_at text.now.chars n)) }
     ensures bare { spec.is_bare kind ≡ true → IsOk result }
 {
     let mut cursor = cursor_t::at(text, at);

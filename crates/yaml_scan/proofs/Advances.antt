@@ -6,7 +6,7 @@ use Rattle.std.specs.Prelude.{if◌then◌else◌, option_map, nat_eq, nat_lt, R
 use Rattle.std.proofs.lemmas.Bool.{cases_Bool, cases_eq, and_parts}
 use Rattle.yaml_text.specs.declared.types.yaml_mark_t.{yaml_mark_t}
 use Rattle.yaml_text.specs.Fault.{Fault}
-use Rattle.yaml_lexeme.specs.declared.lex.yaml_lexeme_t.{yaml_lexeme_t}
+use Rattle.yaml_lexeme.specs.Lexeme.{Lexeme as yaml_lexeme_t}
 use Rattle.yaml_lexeme.specs.Place.{IsMarkOf, place_at}
 use Rattle.yaml_scan.specs.declared.step.scanner_t.{scanner_t}
 use Rattle.yaml_scan.specs.declared.step.met_t.{met_t}

@@ -2,6 +2,7 @@
 use Rattle.std.proofs.Common.{◌≡◌, ℕ, zero, suc, ◌≤◌, Bool, true, false, List, [], ◌∷◌, ◌++◌, length, take, drop, refl, ap, sym, ◌∙◌, subst, arith, append-nil, get_or, ◌<◌}
 use Rattle.yaml_text.specs.declared.types.yaml_encoding_t.{yaml_encoding_t}
 use Rattle.yaml_text.specs.declared.types.yaml_mark_t.{yaml_mark_t}
+use Rattle.yaml_text.specs.Token.{token_of}
 use Rattle.yaml_scan.specs.declared.queue.queued_t.{queued_t}
 use Rattle.std.specs.Prelude.{if◌then◌else◌}
 use Rattle.yaml_scan.specs.Kind.{Kind, is_block_entry}
@@ -11,7 +12,7 @@ use Rattle.yaml_scan.specs.Queue.{put_in, key_at}
 use Rattle.yaml_scan.specs.Laws.{is_of_lexeme}
 use Rattle.yaml_scan.specs.Numbered.{IsQueue, step_behind, step_at}
 
-pub put_behind : (e : yaml_encoding_t) (n m k : ℕ) (old : List queued_t) (q : List Token) (y : queued_t) (x : Token) → IsQueue e n m old q → y.token ≡ handed_out e x → y.step ≡ m → step_behind x m ≡ k → IsQueue e n k (old ++ y ∷ []) (q ++ x ∷ [])
+pub put_behind : (e : yaml_encoding_t) (n m k : ℕ) (old : List queued_t) (q : List Token) (y : queued_t) (x : Token) → IsQueue e n m old q → token_of y.token ≡ handed_out e x → y.step ≡ m → step_behind x m ≡ k → IsQueue e n k (old ++ y ∷ []) (q ++ x ∷ [])
 put_behind e n m k [] [] y x i t s b = (t, s ∙ sym i, ap (λ (z : ℕ). step_behind x z) i ∙ b)
 put_behind e n m k (z ∷ old) (w ∷ q) y x i t s b = (i.0, i.1, put_behind e (step_behind w n) m k old q y x i.2 t s b)
 put_behind e n m k [] (w ∷ q) y x i t s b = absurd i
@@ -30,7 +31,7 @@ same_step : (x : Token) (n : ℕ) → is_of_lexeme x ≡ false → step_behind x
 same_step x n l = rw l refl
 
 -- a token that is put in front of another one belongs to its step
-pub put_before : (e : yaml_encoding_t) (n m : ℕ) (old : List queued_t) (q : List Token) (at : ℕ) (y : queued_t) (x : Token) → IsQueue e n m old q → at ≤ length old → y.token ≡ handed_out e x → y.step ≡ step_at at m old → is_of_lexeme x ≡ false
+pub put_before : (e : yaml_encoding_t) (n m : ℕ) (old : List queued_t) (q : List Token) (at : ℕ) (y : queued_t) (x : Token) → IsQueue e n m old q → at ≤ length old → token_of y.token ≡ handed_out e x → y.step ≡ step_at at m old → is_of_lexeme x ≡ false
     → IsQueue e n m (take at old ++ (y ∷ drop at old)) (take at q ++ (x ∷ drop at q))
 put_before e n m [] [] zero y x i a t s l = (t, s ∙ sym i, same_step x n l ∙ i)
 put_before e n m [] [] (suc at) y x i a t s l = absurd (omega arith)
@@ -51,12 +52,12 @@ put_twice [] (suc at) x y a = absurd (omega arith)
 put_twice (z ∷ q) (suc at) x y a = ap (λ (l : List Token). z ∷ l) (put_twice q at x y (omega arith))
 
 -- a key, and a block start in front of it
-pub put_key : (e : yaml_encoding_t) (n m : ℕ) (old : List queued_t) (q : List Token) (at : ℕ) (y : queued_t) (mark : yaml_mark_t) → IsQueue e n m old q → at ≤ length old → y.token ≡ handed_out e (InsertedKey mark) → y.step ≡ step_at at m old
+pub put_key : (e : yaml_encoding_t) (n m : ℕ) (old : List queued_t) (q : List Token) (at : ℕ) (y : queued_t) (mark : yaml_mark_t) → IsQueue e n m old q → at ≤ length old → token_of y.token ≡ handed_out e (InsertedKey mark) → y.step ≡ step_at at m old
     → IsQueue e n m (take at old ++ (y ∷ drop at old)) (put_in at (key_at false mark) q)
 put_key e n m old q at y mark i a t s = put_before e n m old q at y (InsertedKey mark) i a t s refl
 
-pub put_key_and_start : (e : yaml_encoding_t) (n m : ℕ) (old mid : List queued_t) (q : List Token) (at : ℕ) (y z : queued_t) (mark : yaml_mark_t) → IsQueue e n m old q → at ≤ length old → y.token ≡ handed_out e (InsertedKey mark) → y.step ≡ step_at at m old
-    → z.token ≡ handed_out e (BlockMappingStart mark) → z.step ≡ y.step → mid ≡ take at old ++ (y ∷ drop at old) → at ≤ length mid
+pub put_key_and_start : (e : yaml_encoding_t) (n m : ℕ) (old mid : List queued_t) (q : List Token) (at : ℕ) (y z : queued_t) (mark : yaml_mark_t) → IsQueue e n m old q → at ≤ length old → token_of y.token ≡ handed_out e (InsertedKey mark) → y.step ≡ step_at at m old
+    → token_of z.token ≡ handed_out e (BlockMappingStart mark) → z.step ≡ y.step → mid ≡ take at old ++ (y ∷ drop at old) → at ≤ length mid
     → IsQueue e n m (take at mid ++ (z ∷ drop at mid)) (put_in at (key_at true mark) q)
 put_key_and_start e n m old mid q at y z mark i a t s u v M b =
     let j : IsQueue e n m mid (take at q ++ (InsertedKey mark ∷ drop at q)) = subst (λ (l : List queued_t). IsQueue e n m l (take at q ++ (InsertedKey mark ∷ drop at q))) (sym M) (put_before e n m old q at y (InsertedKey mark) i a t s refl) in

@@ -5,6 +5,7 @@ use Rattle.std.proofs.lemmas.Bool.{cases_lt, false≢true}
 use Rattle.yaml_text.specs.declared.types.yaml_encoding_t.{yaml_encoding_t}
 use Rattle.yaml_text.specs.declared.fault.yaml_fault_t.{yaml_fault_t}
 use Rattle.yaml_text.specs.Fault.{Fault, fault_of}
+use Rattle.yaml_text.specs.Token.{token_of}
 use Rattle.yaml_scan.specs.declared.step.scanner_t.{scanner_t}
 use Rattle.yaml_scan.specs.declared.queue.queued_t.{queued_t}
 use Rattle.yaml_scan.specs.Token.{yaml_token_t, empty, is_last_type, type_of}
@@ -243,13 +244,13 @@ module _ (setting : yaml_encoding_t) (input : List ℕ) (s : scanner_t) (k : IsS
       ∙ ap (λ (x : Course). slice_get (before s.limit x.read) s.taken) (sym c)
       ∙ takings.token_is s k.stands.runs k.settled y ys Q
 
-  told_is : y.token ≡ token_or_empty (decoded_input setting input).encoding (slice_get (tokens_of s.limit (course_in s.limit setting input)) s.taken)
+  told_is : token_of y.token ≡ token_or_empty (decoded_input setting input).encoding (slice_get (tokens_of s.limit (course_in s.limit setting input)) s.taken)
   told_is = let h = head_at s.queue.items y m g in
       takings.token_told s k.stands.runs k.settled y h.0 h.1
       ∙ ap (λ (i : Input). handed_out i.encoding (takings.next_token s k.stands.runs k.settled y h.0 h.1)) k.stands.reads
       ∙ sym (ap (λ (o : Option Token). token_or_empty (decoded_input setting input).encoding o) (next_is h.0 h.1))
 
-  pub head_shown : (peeked over : Bool) (fault : Option Fault) → peeked ≡ true → (q : Parser) → q ≡ record { input = input; setting = setting; limit = s.limit; session = record { taken = s.taken; steps = s.made; peeked = peeked; over = over; fault = fault } } → y.token ≡ token_shown q
+  pub head_shown : (peeked over : Bool) (fault : Option Fault) → peeked ≡ true → (q : Parser) → q ≡ record { input = input; setting = setting; limit = s.limit; session = record { taken = s.taken; steps = s.made; peeked = peeked; over = over; fault = fault } } → token_of y.token ≡ token_shown q
   unfolding course_read
   head_shown peeked over fault e q r = told_is
       ∙ sym (ap (λ (b : Bool). if b then token_or_empty (decoded_input setting input).encoding (slice_get (tokens_of s.limit (course_in s.limit setting input)) s.taken) else empty) e)
@@ -259,7 +260,7 @@ module _ (setting : yaml_encoding_t) (input : List ℕ) (s : scanner_t) (k : IsS
 pub show_over : (p : Parser) → p.session.over ≡ true → p.session.peeked ≡ false → Shows p (Ok tt) p
 show_over p o k = inl (rw (k, o) refl, rw o refl)
 
-pub scan_over : (p : Parser) → p.session.over ≡ true → Scans p (Ok empty) p
+pub scan_over : (p : Parser) → p.session.over ≡ true → Calls SCAN p (TOKEN empty) p
 scan_over p o = inl (rw o refl, rw o refl)
 
 -- a scan is a peek and a skip
@@ -313,7 +314,7 @@ module _ (p q : Parser) (o : p.session.over ≡ false) where
   unfolding course_read
   taken_behind y n = ap (λ (z : Session). record { input = p.input; setting = p.setting; limit = p.limit; session = z }) (take_after_peek p.limit (course_read p) p.session y o n)
 
-  pub scan_shown : (x : yaml_token_t) (r : Parser) → Shows p (Ok tt) q → x ≡ token_shown q → r ≡ behind q SKIP → Scans p (Ok x) r
+  pub scan_shown : (x : yaml_token_t) (r : Parser) → Shows p (Ok tt) q → x ≡ token_shown q → r ≡ behind q SKIP → Calls SCAN p (TOKEN x) r
   scan_shown x r (inl a) e f = (let y = shown_token (token_shown q) a.0 in
       inl (
         ap TOKEN (e ∙ y.2) ∙ sym (open_scan ∙ ap (λ (n : Option Token). scan_answer (input_read p).encoding (course_read p) n) y.1),

@@ -2,6 +2,7 @@
 use Rattle.std.proofs.Common.{◌≡◌, ℕ, zero, suc, ◌+◌, ◌-◌, ◌<◌, List, [], ◌∷◌, ◌++◌, length, length-drop, drop, slice_get, Some, refl, ap, sym, ◌∙◌, subst, arith}
 use Rattle.yaml_text.specs.declared.types.yaml_encoding_t.{yaml_encoding_t}
 use Rattle.yaml_scan.specs.declared.step.scanner_t.{scanner_t}
+use Rattle.yaml_text.specs.Token.{token_of}
 use Rattle.yaml_scan.specs.declared.queue.queued_t.{queued_t}
 use Rattle.yaml_scan.specs.Laid.{Laid}
 use Rattle.yaml_scan.specs.Order.{IsHistory}
@@ -40,7 +41,7 @@ record IsHead (e : yaml_encoding_t) (n m : ℕ) (y : queued_t) (ys : List queued
   token : Token
   rest : List Token
   is : q ≡ token ∷ rest
-  told : y.token ≡ handed_out e token
+  told : token_of y.token ≡ handed_out e token
   queue : IsQueue e (step_behind token n) m ys rest
 
 head_is : (e : yaml_encoding_t) (n m : ℕ) (y : queued_t) (ys : List queued_t) (q : List Token) → IsQueue e n m (y ∷ ys) q → IsHead e n m y ys q
@@ -65,7 +66,7 @@ module _ (s : scanner_t) (r : Runs s) (l : s.taken < length (before s.limit (his
     pub next_token : Token
     next_token = h.token
 
-    pub token_told : y.token ≡ handed_out s.text.encoding next_token
+    pub token_told : token_of y.token ≡ handed_out s.text.encoding next_token
     unfolding next_token
     token_told = h.told
 
@@ -103,7 +104,7 @@ module _ (s : scanner_t) (r : Runs s) (l : s.taken < length (before s.limit (his
         place = rw (H, R) g.place;
       }
 
-      pub pops : Pops s u y.token
+      pub pops : Pops s u (token_of y.token)
       pops = record {
         token = next_token;
         is = token_is;

@@ -3,6 +3,7 @@ use Rattle.std.specs.Prelude.{◌≡◌, ◌≢◌, ◌⊎◌, ℕ, ◌+◌, ◌
 use Rattle.yaml_text.specs.declared.types.yaml_mark_t.{yaml_mark_t}
 use Rattle.yaml_text.specs.declared.types.yaml_token_type_t.{yaml_token_type_t}
 use Rattle.yaml_text.specs.Fault.{fault_of}
+use Rattle.yaml_text.specs.Token.{token_of}
 use Rattle.yaml_scan.specs.declared.calls.yaml_call_t.{yaml_call_t}
 use Rattle.yaml_scan.specs.declared.calls.yaml_call_t.TheVariants as code
 use Rattle.yaml_scan.specs.declared.calls.yaml_answer_t.{yaml_answer_t}
@@ -35,7 +36,7 @@ seen (says.FAULT f) = FAULT f
 
 -- of the code's
 abbrev pub seen_of : yaml_answer_t → Seen
-seen_of (coded.TOKEN x) = TOKEN x
+seen_of (coded.TOKEN x) = TOKEN (token_of x)
 seen_of (coded.PEEKED type start end) = PEEKED type start end
 seen_of coded.SKIPPED = SKIPPED
 seen_of coded.NOTHING = NOTHING

@@ -2,6 +2,7 @@
 use Rattle.std.specs.Prelude.{◌≡◌, ℕ, zero, suc, ◌+◌, Bool, List, [], ◌∷◌, ◌++◌, Option, None, Some, if◌then◌else◌}
 use Rattle.yaml_text.specs.declared.types.yaml_mark_t.{yaml_mark_t}
 use Rattle.yaml_text.specs.declared.types.yaml_encoding_t.{yaml_encoding_t}
+use Rattle.yaml_text.specs.Token.{token_of}
 use Rattle.yaml_scan.specs.declared.queue.queued_t.{queued_t}
 use Rattle.yaml_scan.specs.Kind.{Kind}
 use Rattle.yaml_scan.specs.Lexeme.{Lexeme}
@@ -17,7 +18,7 @@ step_behind x n = if is_of_lexeme x then n + 1 else n
 -- these tokens are queued: the first belongs to step n, and what is put behind them to step m
 abbrev pub IsQueue : yaml_encoding_t → ℕ → ℕ → List queued_t → List Token → Type 0
 IsQueue e n m [] [] = n ≡ m
-IsQueue e n m (y ∷ ys) (x ∷ xs) = (y.token ≡ handed_out e x) × (y.step ≡ n) × IsQueue e (step_behind x n) m ys xs
+IsQueue e n m (y ∷ ys) (x ∷ xs) = (token_of y.token ≡ handed_out e x) × (y.step ≡ n) × IsQueue e (step_behind x n) m ys xs
 IsQueue e n m [] (x ∷ xs) = ⊥
 IsQueue e n m (y ∷ ys) [] = ⊥
 

@@ -1,6 +1,7 @@
 //! All tokens of an input, in one call.
-ghost use Rattle.std.specs.Prelude.{◌≡◌, ◌≤◌, IfOk, [], option_map};
+ghost use Rattle.std.specs.Prelude.{◌≡◌, ◌≤◌, IfOk, [], map, option_map};
 ghost use Rattle.yaml_text.specs.Fault.{fault_of};
+ghost use Rattle.yaml_text.specs.Token.{token_of};
 ghost use Rattle.yaml_scan.specs.Session.{new_session};
 ghost use Rattle.yaml_scan.specs.AnswerLaws.{StandInOrder, AreFollowed};
 ghost use Rattle.yaml_scan.specs.Inputs.{decoded_input, answers_to, IsLocal};
@@ -19,7 +20,7 @@ fn scan_rest(
 ) -> Result<Option<yaml_fault_t>, AllocError>
     requires new { parser.old.session ≡ new_session }
     requires empty { tokens.old.items ≡ [] }
-    ensures { IfOk result (λ fault. ReadsAll parser.old.limit parser.old.setting parser.old.input tokens.new.items (option_map fault_of fault)) }
+    ensures { IfOk result (λ fault. ReadsAll parser.old.limit parser.old.setting parser.old.input (map token_of tokens.new.items) (option_map fault_of fault)) }
 {
     let mut last = false;
     'tokens: while !last {
@@ -43,13 +44,13 @@ pub fn yaml_scan_all(
     input: &[u8],
     setting: yaml_encoding_t,
 ) -> Result<(Vec<yaml_token_t>, Option<yaml_fault_t>), AllocError>
-    ensures answers { IfOk result (λ r. ReadsAll 1024 setting input.now r.0.items (option_map fault_of r.1)) }
-    ensures early { IfOk result (λ r. IsRefusedEarly (decoded_input setting input.now) → AllOf (answers_to 1024 setting input.now) r.0.items (option_map fault_of r.1)) }
-    ensures order { IfOk result (λ r. StandInOrder 0 r.0.items) }
-    ensures ends { IfOk result (λ r. EndNoMore r.0.items) }
-    ensures ends_all { IfOk result (λ r. EndAll (depth_of 1024 setting input.now) r.0.items (option_map fault_of r.1)) }
-    ensures keys { IfOk result (λ r. AreFollowed 1024 r.0.items) }
-    ensures lines { IfOk result (λ r. HaveLines r.0.items (option_map fault_of r.1)) }
+    ensures answers { IfOk result (λ r. ReadsAll 1024 setting input.now (map token_of r.0.items) (option_map fault_of r.1)) }
+    ensures early { IfOk result (λ r. IsRefusedEarly (decoded_input setting input.now) → AllOf (answers_to 1024 setting input.now) (map token_of r.0.items) (option_map fault_of r.1)) }
+    ensures order { IfOk result (λ r. StandInOrder 0 (map token_of r.0.items)) }
+    ensures ends { IfOk result (λ r. EndNoMore (map token_of r.0.items)) }
+    ensures ends_all { IfOk result (λ r. EndAll (depth_of 1024 setting input.now) (map token_of r.0.items) (option_map fault_of r.1)) }
+    ensures keys { IfOk result (λ r. AreFollowed 1024 (map token_of r.0.items)) }
+    ensures lines { IfOk result (λ r. HaveLines (map token_of r.0.items) (option_map fault_of r.1)) }
     ensures local { IsLocal 1024 setting input.now }
 {
     yaml_scan_all_limit(alloc, input, setting, 1024)
@@ -64,13 +65,13 @@ pub fn yaml_scan_all_limit(
 ) -> Result<(Vec<yaml_token_t>, Option<yaml_fault_t>), AllocError>
     requires least { 1 ≤ limit }
     requires most { limit ≤ 65536 }
-    ensures answers { IfOk result (λ r. ReadsAll limit setting input.now r.0.items (option_map fault_of r.1)) }
-    ensures early { IfOk result (λ r. IsRefusedEarly (decoded_input setting input.now) → AllOf (answers_to limit setting input.now) r.0.items (option_map fault_of r.1)) }
-    ensures order { IfOk result (λ r. StandInOrder 0 r.0.items) }
-    ensures ends { IfOk result (λ r. EndNoMore r.0.items) }
-    ensures ends_all { IfOk result (λ r. EndAll (depth_of limit setting input.now) r.0.items (option_map fault_of r.1)) }
-    ensures keys { IfOk result (λ r. AreFollowed limit r.0.items) }
-    ensures lines { IfOk result (λ r. HaveLines r.0.items (option_map fault_of r.1)) }
+    ensures answers { IfOk result (λ r. ReadsAll limit setting input.now (map token_of r.0.items) (option_map fault_of r.1)) }
+    ensures early { IfOk result (λ r. IsRefusedEarly (decoded_input setting input.now) → AllOf (answers_to limit setting input.now) (map token_of r.0.items) (option_map fault_of r.1)) }
+    ensures order { IfOk result (λ r. StandInOrder 0 (map token_of r.0.items)) }
+    ensures ends { IfOk result (λ r. EndNoMore (map token_of r.0.items)) }
+    ensures ends_all { IfOk result (λ r. EndAll (depth_of limit setting input.now) (map token_of r.0.items) (option_map fault_of r.1)) }
+    ensures keys { IfOk result (λ r. AreFollowed limit (map token_of r.0.items)) }
+    ensures lines { IfOk result (λ r. HaveLines (map token_of r.0.items) (option_map fault_of r.1)) }
     ensures local { IsLocal limit setting input.now }
 {
     let mut parser = yaml_parser_t::with_key_limit(alloc, input, setting, limit);

@@ -2,6 +2,7 @@
 ghost use Rattle.std.specs.Prelude.{◌≡◌, ◌+◌, ◌≤◌, length, map, OnOk, OnErr, vec_len};
 ghost use Rattle.std.specs.Vec.{vec_capacity};
 ghost use Rattle.yaml_text.specs.Fault.{fault_of};
+ghost use Rattle.yaml_text.specs.Token.{token_of};
 ghost use Rattle.yaml_scan.specs.Session.{session_queued};
 ghost use Rattle.yaml_scan.specs.Session.Call.{SCAN, PEEK, SKIP};
 ghost use Rattle.yaml_scan.specs.Parser.{course_read, input_read, IsRefusedEarly};
@@ -47,7 +48,7 @@ fn answer_scan(parser: &mut yaml_parser_t) -> yaml_answer_t
 
 /// What is told of a token that was peeked.
 fn peeked(token: &yaml_token_t) -> yaml_answer_t
-    ensures { seen_of result ≡ seen (PEEKED token.now) }
+    ensures { seen_of result ≡ seen (PEEKED (token_of token.now)) }
 {
     yaml_answer_t::PEEKED(token.type_(), token.start_mark, token.end_mark)
 }

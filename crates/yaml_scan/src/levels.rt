@@ -1,5 +1,6 @@
 //! Indentation levels: the columns of the block collections that are open (YAML 1.1, section 8.2).
 ghost use Rattle.std.specs.Prelude.{◌≡◌, ◌+◌, ◌-◌, ◌≤◌, ◌&&◌, ◌++◌, ◌∷◌, [], true, not, reverse, map, filter, length, OnOk, if◌then◌else◌};
+ghost use Rattle.yaml_text.specs.Token.{token_of};
 ghost use Rattle.yaml_scan.specs.Levels.{stays, is_above, greatest_level, opens_level, IsFalling};
 ghost use Rattle.yaml_scan.specs.Lexeme.{Lexeme};
 ghost use Rattle.yaml_scan.specs.Offline.{end_at};
@@ -203,7 +204,7 @@ pub(crate) fn queue_lexeme(
     requires falls { IsFalling (reverse levels.old.items) }
     requires fits { Fitting completed taken (length queue.old.items) }
     ensures levels { OnOk result (reverse levels.new.items ≡ opened margin completed kind token.start_mark (reverse levels.old.items)) }
-    ensures queue { OnOk result ((x : Lexeme) → IsTokenOf token x → Changes step (step + 1) queue.old.items queue.new.items (λ q. put_starts margin completed kind token.start_mark (reverse levels.old.items) taken q ++ OfLexeme x ∷ [])) }
+    ensures queue { OnOk result ((x : Lexeme) → IsTokenOf (token_of token) x → Changes step (step + 1) queue.old.items queue.new.items (λ q. put_starts margin completed kind token.start_mark (reverse levels.old.items) taken q ++ OfLexeme x ∷ [])) }
 {
     put_key(
         levels,

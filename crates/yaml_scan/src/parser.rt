@@ -1,6 +1,7 @@
 //! The parser: scan, peek and skip, one call after the other.
 ghost use Rattle.std.specs.Prelude.{◌≡◌, ◌⊎◌, ℕ, ◌+◌, ◌≤◌, ◌<◌, [], length, MatchResult, Some, true, false};
 ghost use Rattle.yaml_text.specs.Fault.{fault_of, zero_mark};
+ghost use Rattle.yaml_text.specs.Token.{data_of, token_of};
 ghost use Rattle.yaml_text.specs.declared.types.yaml_encoding_t.TheVariants.{YAML_UTF8_ENCODING};
 ghost use Rattle.yaml_scan.specs.Offline.{before};
 ghost use Rattle.yaml_scan.specs.Session.{new_session};
@@ -186,7 +187,7 @@ ghost use Rattle.yaml_scan.specs.Ready.{IsShown};
 fn take_head(scanner: &mut scanner_t) -> yaml_token_t
     requires runs { Runs scanner.old }
     requires settled { scanner.old.taken < length (before scanner.old.limit (history scanner.old)) }
-    ensures { Pops scanner.old scanner.new result }
+    ensures { Pops scanner.old scanner.new (token_of result) }
 {
     let queued = scanner.queue.pop_front().unwrap();
     scanner.taken += 1;
@@ -194,7 +195,7 @@ fn take_head(scanner: &mut scanner_t) -> yaml_token_t
 }
 
 pub(crate) fn is_stream_end(token: &yaml_token_t) -> bool
-    ensures { result ≡ is_last_type (type_of token.now.token_data) }
+    ensures { result ≡ is_last_type (type_of (data_of token.now.token_data)) }
 {
     matches!(token.token_data, unnamed_yaml_token_t_data::STREAM_END)
 }
@@ -234,7 +235,7 @@ impl<'a> yaml_parser_t<'a> {
 
 /// The token that was shown, or the empty one.
 fn shown<'s>(parser: &'s yaml_parser_t<'_>) -> &'s yaml_token_t
-    ensures { result.now ≡ token_shown parser.now }
+    ensures { token_of result.now ≡ token_shown parser.now }
 {
     if parser.peeked {
         &parser.scanner.queue.front().unwrap().token
@@ -290,7 +291,7 @@ ghost use Rattle.yaml_scan.specs.Offline.{queued};
 /// Takes the token that was shown.
 fn take_shown(parser: &mut yaml_parser_t) -> yaml_token_t
     requires { parser.old.session.peeked ≡ true }
-    ensures token { result ≡ token_shown parser.old }
+    ensures token { token_of result ≡ token_shown parser.old }
     ensures left { parser.new ≡ behind parser.old SKIP }
 {
     let token = take_head(&mut parser.scanner);

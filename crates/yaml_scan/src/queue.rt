@@ -1,5 +1,6 @@
 //! The queue: tokens that were made and not taken, each with the number of its step.
 ghost use Rattle.std.specs.Prelude.{◌≡◌, ◌≤◌, ◌++◌, ◌∷◌, [], length, OnOk, if◌then◌else◌};
+ghost use Rattle.yaml_text.specs.Token.{data_of, token_of};
 ghost use Rattle.yaml_scan.specs.Token.{at_mark};
 ghost use Rattle.yaml_scan.specs.Numbered.{Appends, Changes, IsTokenOf};
 ghost use Rattle.yaml_scan.specs.Offline.{start_token};
@@ -22,7 +23,7 @@ pub(crate) struct queued_t {
 
 /// A token with one mark.
 fn token_at(says: unnamed_yaml_token_t_data, mark: yaml_mark_t) -> yaml_token_t
-    ensures { result ≡ at_mark says mark }
+    ensures { token_of result ≡ at_mark (data_of says) mark }
 {
     yaml_token_t {
         token_data: says,
@@ -45,7 +46,7 @@ pub(crate) fn put_block_end(
 }
 
 fn block_start(kind: yaml_lexeme_kind_t) -> unnamed_yaml_token_t_data
-    ensures { (e : yaml_encoding_t) (m : yaml_mark_t) → at_mark result m ≡ handed_out e (start_token kind m) }
+    ensures { (e : yaml_encoding_t) (m : yaml_mark_t) → at_mark (data_of result) m ≡ handed_out e (start_token kind m) }
 {
     match kind {
         yaml_lexeme_kind_t::BLOCK_ENTRY => unnamed_yaml_token_t_data::BLOCK_SEQUENCE_START,
@@ -80,7 +81,7 @@ pub(crate) fn put_lexeme(
     token: yaml_token_t,
     step: u128,
 ) -> Result<(), AllocError>
-    ensures { OnOk result ((x : Lexeme) → IsTokenOf token x → Appends step (step + 1) queue.old.items queue.new.items (OfLexeme x ∷ [])) }
+    ensures { OnOk result ((x : Lexeme) → IsTokenOf (token_of token) x → Appends step (step + 1) queue.old.items queue.new.items (OfLexeme x ∷ [])) }
 {
     queue.push_back(queued_t { token, step })?;
     Ok(())

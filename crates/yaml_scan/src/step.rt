@@ -1,6 +1,7 @@
 //! The steps of a text: the next lexeme, and what the layout makes of it.
 ghost use Rattle.std.specs.Prelude.{◌≡◌, ◌⊎◌, ℕ, ◌+◌, ◌-◌, ◌<◌, ◌≤◌, ◌^◌, ◌&&◌, ◌||◌, not, nat_lt, nat_eq, length, List, [], ◌∷◌, reverse, map, true, false, Option, Some, None, option_map, IfOk, OnOk, OnErr, MatchResult, if◌then◌else◌};
 ghost use Rattle.yaml_text.specs.Fault.{fault_of, memory_fault, scanner_fault};
+ghost use Rattle.yaml_text.specs.Token.{data_of, token_of};
 ghost use Rattle.yaml_scan.specs.Fault.{no_token, in_next_token};
 ghost use Rattle.yaml_scan.specs.Laid.{Laid, allowed};
 ghost use Rattle.yaml_scan.specs.Order.{ended};
@@ -203,7 +204,7 @@ fn keep_candidates(
 
 /// The token of a lexeme that starts at a mark.
 fn token_of(start: yaml_mark_t, x: yaml_lexeme_t) -> yaml_token_t
-    ensures { result ≡ record { token_data = x.token_data; start_mark = start; end_mark = x.end_mark } }
+    ensures { token_of result ≡ record { token_data = data_of x.token_data; start_mark = start; end_mark = x.end_mark } }
 {
     yaml_token_t {
         token_data: x.token_data,

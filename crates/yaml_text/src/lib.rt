@@ -2,7 +2,6 @@
 #![tactic(auto)]
 
 mod ascii;
-mod bytes;
 #[cfg(test)]
 mod class_tests;
 mod classes;
@@ -19,7 +18,6 @@ mod types;
 mod utf16;
 mod utf8;
 
-pub use bytes::yaml_bytes_t;
 pub use classes::{
     AS_DIGIT, AS_HEX, IS_ALPHA, IS_ASCII, IS_BLANK, IS_BLANKZ, IS_BOM, IS_BREAK, IS_BREAKZ,
     IS_CRLF, IS_DIGIT, IS_HEX, IS_PRINTABLE, IS_SPACE, IS_TAB, IS_Z, WIDTH,

@@ -89,8 +89,8 @@ fn shown(rt: HostRuntime) -> Result<(), Fail> {
 
 #[test]
 fn tokens(rt: HostRuntime) -> Result<(), Fail> {
-    let value = yaml_bytes_t::from_vec(Vec::from_slice(rt.alloc(), b"abc")?);
-    let other = yaml_bytes_t::from_vec(Vec::from_slice(rt.alloc(), b"abc")?);
+    let value = Vec::from_slice(rt.alloc(), b"abc")?;
+    let other = Vec::from_slice(rt.alloc(), b"abc")?;
     let style = yaml_scalar_style_t::YAML_PLAIN_SCALAR_STYLE;
     let says = unnamed_yaml_token_t_data::SCALAR { value, style };
     assert_eq!(rt; says.length(), 3);
@@ -116,7 +116,5 @@ fn written(rt: HostRuntime) -> Result<(), Fail> {
     let mut out = Vec::new(rt.alloc());
     push_char(&mut out, 0x20AC)?;
     assert_eq!(rt; out.as_slice(), b"\xE2\x82\xAC".as_slice());
-    let text = yaml_bytes_t::from_vec(out).into_vec();
-    assert_eq!(rt; text.len(), 3);
     Ok(())
 }

@@ -1,6 +1,7 @@
 //! The program over devices in memory.
 ghost use Rattle.std.specs.Prelude.{◌≡◌, ◌≢◌, false};
 ghost use Rattle.yaml_text.specs.declared.types.yaml_scalar_style_t.TheVariants.{YAML_ANY_SCALAR_STYLE};
+ghost use Rattle.yaml_text.specs.Token.{data_of};
 ghost use Rattle.yaml_scan.specs.Words.{HasWords};
 ghost use Rattle.yamltok.specs.Devices.{source_failed, sink_failed};
 
@@ -15,8 +16,8 @@ use std::io::{Read, Write};
 use std::process::Abort;
 use std::test::Fail;
 use yaml_text::{
-    make_memory_fault, make_scanner_fault, unnamed_yaml_token_t_data, yaml_bytes_t,
-    yaml_encoding_t, yaml_mark_t, yaml_scalar_style_t, yaml_token_t, yaml_token_type_t,
+    make_memory_fault, make_scanner_fault, unnamed_yaml_token_t_data, yaml_encoding_t, yaml_mark_t,
+    yaml_scalar_style_t, yaml_token_t, yaml_token_type_t,
 };
 
 /// Gives one byte a call, and fails behind so many calls.
@@ -375,13 +376,13 @@ fn words_of_faults(rt: HostRuntime) -> Result<(), Fail> {
     Ok(())
 }
 
-fn bytes_of(alloc: Global, bytes: &[u8]) -> Result<yaml_bytes_t, Fail> {
-    Ok(yaml_bytes_t::from_vec(Vec::from_slice(alloc, bytes)?))
+fn bytes_of(alloc: Global, bytes: &[u8]) -> Result<Vec<u8>, Fail> {
+    Ok(Vec::from_slice(alloc, bytes)?)
 }
 
 /// Lists a token of these data.
 fn put(alloc: Global, token_data: unnamed_yaml_token_t_data, out: &mut Vec<u8>) -> Result<(), Fail>
-    requires { HasWords token_data }
+    requires { HasWords (data_of token_data) }
 {
     let token = yaml_token_t {
         token_data,

@@ -1,4 +1,5 @@
 use Rattle.std.proofs.Common.{Ok, Err, sym, ap, ◌∙◌}
+use Rattle.yaml_text.specs.Token.{token_of}
 use Rattle.yaml_scan.specs.Parser.{Parser, Scans, told}
 use Rattle.yaml_scan.specs.Session.Call.{SCAN}
 use Rattle.yaml_scan.proofs.InputLaws.{late_faults}
@@ -8,7 +9,7 @@ use Rattle.yaml_scan.proofs.parser.yaml_parser_scan.Goals as goal
 pub returns-in-Ok : goal.returns-in-Ok
 returns-in-Ok c =
     let o = sym (ap (λ (p : Parser). p.session.over) c.parser.view_is) ∙ c.if-parser.false in
-    let a : Scans c.args.parser.now (Ok c.take_shown.result) c.take_shown.new.parser = scan_shown c.args.parser.now c.show.new.parser o c.take_shown.result c.take_shown.new.parser c.in-Ok.ensures c.take_shown.ensures.token c.take_shown.ensures.left in
+    let a : Scans c.args.parser.now (Ok c.take_shown.result) c.take_shown.new.parser = scan_shown c.args.parser.now c.show.new.parser o (token_of c.take_shown.result) c.take_shown.new.parser c.in-Ok.ensures c.take_shown.ensures.token c.take_shown.ensures.left in
     record { answers = a; bare = bare SCAN c.args.parser.now (told (Ok c.take_shown.result)) c.take_shown.new.parser a; early = early SCAN c.args.parser.now (told (Ok c.take_shown.result)) c.take_shown.new.parser a; local = late_faults c.args.parser.now.limit c.args.parser.now.setting c.args.parser.now.input }
 
 pub returns-in-Err : goal.returns-in-Err
