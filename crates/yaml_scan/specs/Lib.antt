@@ -29,6 +29,7 @@ pub mod AnswerLaws
 pub mod Locality
 pub mod Inputs
 pub mod All
+pub mod Sink
 pub mod Calls
 pub mod Words
 pub mod CallWords

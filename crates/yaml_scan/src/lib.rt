@@ -13,6 +13,7 @@ mod near;
 mod parser;
 mod queue;
 mod run;
+mod sink;
 mod source;
 mod step;
 #[cfg(test)]
