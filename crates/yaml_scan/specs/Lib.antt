@@ -32,3 +32,4 @@ pub mod All
 pub mod Calls
 pub mod Words
 pub mod CallWords
+pub mod Peek

@@ -341,7 +341,7 @@ pub fn yaml_parser_skip(parser: &mut yaml_parser_t)
 pub fn yaml_parser_peek<'s>(
     parser: &'s mut yaml_parser_t<'_>,
 ) -> Result<&'s yaml_token_t, yaml_fault_t>
-    ensures* answers { sem 𝓛 (follows_so (the_row (record { mir = named 1; lft = [] })) (the_row (record { mir = named 1; lft = [] })) parser.entry.ghost_name none (λ _ _. ⊤) (λ q. Peeks parser.old (told_copied result) q)) }
+    ensures* answers { sem 𝓛 (OnceLetGo parser.entry (λ q. Peeks parser.old (told_copied result) q)) }
     ensures shows { AnswersPeek parser.old (shown (told_copied result)) }
     ensures bare { IsThere parser.old → shown (told_copied result) ≡ answered parser.old PEEK }
     ensures early { IsRefusedEarly (input_read parser.old) → shown (told_copied result) ≡ answered parser.old PEEK }
@@ -353,12 +353,8 @@ pub fn yaml_parser_peek<'s>(
     }
 }
 
-ghost use Rattle.std.specs.Prelude.{⊤};
 ghost use Rattle.std.specs.Borrow.{sem};
-ghost use mathlib.Core.Option.{none};
-ghost use denote.Follow.{follows_so};
-ghost use mir.Syntax.{named};
-ghost use Rattle.yaml_scan.specs.contracts.parser.yaml_parser_t.{the_row};
+ghost use Rattle.yaml_scan.specs.Peek.{OnceLetGo};
 ghost use Rattle.yaml_scan.specs.Parser.{Peeks, AnswersPeek, told_copied, shown};
 ghost use Rattle.yaml_scan.specs.Session.Call.{PEEK};
 
