@@ -58,3 +58,5 @@ pub mod CallRuns
 pub mod Telling
 pub mod AllTold
 pub mod CallsTold
+pub mod ReadsOn
+pub mod Faults

@@ -33,3 +33,4 @@ pub mod Calls
 pub mod Words
 pub mod CallWords
 pub mod Peek
+pub mod ReadingOn
