@@ -1,18 +1,18 @@
 -- A fault is answered once.
-use Rattle.std.proofs.Common.{◌≡◌, ℕ, zero, suc, ◌+◌, ◌≤◌, Bool, true, false, List, [], ◌∷◌, ◌++◌, map, take, drop, length, Option, Some, None, refl, ap, sym, ◌∙◌, subst, arith, inl, inr}
+use Rattle.std.proofs.Common.{◌≡◌, ℕ, suc, ◌+◌, ◌≤◌, Bool, true, false, List, [], ◌∷◌, ◌++◌, map, take, drop, length, Option, Some, None, refl, ap, sym, ◌∙◌, subst, arith, inl, inr}
 use Rattle.std.specs.Prelude.{filter, ◌⊎◌, if◌then◌else◌}
 use Rattle.std.proofs.lemmas.Bool.{cases_Bool, false≢true}
 use Rattle.yaml_text.specs.declared.types.yaml_encoding_t.{yaml_encoding_t}
 use Rattle.yaml_scan.specs.Token.{empty}
 use Rattle.yaml_scan.specs.Fault.{Fault, memory_fault}
-use Rattle.yaml_scan.specs.Offline.{Token, handed_out}
+use Rattle.yaml_scan.specs.Offline.{Token}
 use Rattle.yaml_scan.specs.Answers.{Course, course}
 use Rattle.yaml_scan.specs.Inputs.{decoded_input}
-use Rattle.yaml_scan.specs.Session.{Session, Call, Answer, session, after_all, answer, after, next_token, finished, why, scan_answer, peek_answer, after_scan, after_peek, after_skip}
+use Rattle.yaml_scan.specs.Session.{Session, Call, session, after_all, answer, after, next_token, finished, why, scan_answer, peek_answer, after_scan, after_peek, after_skip}
 use Rattle.yaml_scan.specs.Session.Call.{SCAN, PEEK, SKIP}
-use Rattle.yaml_scan.specs.Session.Answer.{TOKEN, PEEKED, SKIPPED, NOTHING, FAULT}
-use Rattle.yaml_scan.specs.Parser.{Parser, course_read, input_read}
-use Rattle.yaml_scan.specs.Calls.{Seen, seen, answered_all, behind_all, idle, Runs, RunsOut}
+use Rattle.yaml_scan.specs.Session.Answer.{TOKEN, PEEKED, SKIPPED, NOTHING}
+use Rattle.yaml_scan.specs.Parser.{course_read, input_read}
+use Rattle.yaml_scan.specs.Calls.{Seen, seen, answered_all, idle, Runs}
 use Rattle.yaml_scan.specs.Calls.{Seen as sight}
 use Rattle.yaml_scan.specs.ReadingOn.{is_fault, HaveOneFault, FaultIsToldOnce, RunsFaultOnce}
 

@@ -60,3 +60,5 @@ pub mod AllTold
 pub mod CallsTold
 pub mod ReadsOn
 pub mod Faults
+pub mod Taken
+pub mod Alike

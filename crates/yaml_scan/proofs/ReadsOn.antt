@@ -1,7 +1,7 @@
 -- More scans than there are tokens left answer all that is left.
 use Rattle.std.proofs.Common.{◌≡◌, ℕ, zero, suc, ◌+◌, ◌-◌, ◌<◌, ◌≤◌, Bool, true, false, List, [], ◌∷◌, ◌++◌, map, take, drop, replicate, length, slice_get, Option, Some, None, ◌≢◌, refl, ap, sym, ◌∙◌, subst, arith, inl, inr}
-use Rattle.std.specs.Prelude.{◌⊎◌, Result, Ok, Err, if◌then◌else◌}
-use Rattle.std.proofs.lemmas.Bool.{cases_Bool, false≢true}
+use Rattle.std.specs.Prelude.{◌⊎◌, Result, if◌then◌else◌}
+use Rattle.std.proofs.lemmas.Bool.{false≢true}
 use Rattle.yaml_text.specs.declared.types.yaml_encoding_t.{yaml_encoding_t}
 use Rattle.yaml_text.specs.declared.fault.yaml_fault_t.{yaml_fault_t}
 use Rattle.yaml_scan.specs.declared.calls.yaml_answer_t.{yaml_answer_t}
@@ -11,13 +11,13 @@ use Rattle.yaml_scan.specs.Offline.{Token, handed_out}
 use Rattle.yaml_scan.specs.Cut.{KeepsOrder}
 use Rattle.yaml_scan.specs.Answers.{Input, Course, Answers, course, tokens_of, answers}
 use Rattle.yaml_scan.specs.Inputs.{decoded_input, answers_to}
-use Rattle.yaml_scan.specs.Session.{Session, Call, Answer, new_session, session, after_all, answer, after, next_token, is_last, took, paced, finished, why, scan_answer, after_scan}
-use Rattle.yaml_scan.specs.Session.Call.{SCAN, PEEK, SKIP}
+use Rattle.yaml_scan.specs.Session.{Session, Call, Answer, new_session, session, after_all, after, next_token, is_last, took, paced, finished, why, scan_answer, after_scan}
+use Rattle.yaml_scan.specs.Session.Call.{SCAN, SKIP}
 use Rattle.yaml_scan.specs.Session.Answer.{TOKEN, FAULT}
 use Rattle.yaml_scan.specs.Parser.{Parser, WantsMemory, Scans, told, answered, behind, course_read, input_read}
-use Rattle.yaml_scan.specs.Calls.{Seen, seen, seen_of, behind_all, answered_all, idle, Runs, RunsOut, PutsAnswers}
+use Rattle.yaml_scan.specs.Calls.{Seen, seen, seen_of, answered_all, idle, Runs, RunsOut, PutsAnswers}
 use Rattle.yaml_scan.specs.Calls.{Seen as sight}
-use Rattle.yaml_scan.specs.ReadingOn.{scans, fault_told, all_told, left_of, left_to, AllIsTold, RestIsTold, PutsRest, ReadsOn, ScansInTurn, ScansReadOn}
+use Rattle.yaml_scan.specs.ReadingOn.{scans, fault_told, all_told, left_to, AllIsTold, RestIsTold, ReadsOn, ScansInTurn, ScansReadOn}
 use Rattle.yaml_scan.proofs.InputLaws.{inputs_keep_order}
 use Rattle.yaml_scan.proofs.LastTokens.{stream_end_is_last}
 
@@ -27,7 +27,7 @@ if_true b x y e = rw e refl
 if_false : {A : Type 0} (b : Bool) (x y : A) → b ≡ false → (if b then x else y) ≡ y
 if_false b x y e = rw e refl
 
-drop_next : {A B : Type 0} (f : A → B) (xs : List A) (n : ℕ) (x : A) → slice_get xs n ≡ Some x → drop n (map f xs) ≡ f x ∷ drop (n + 1) (map f xs)
+pub drop_next : {A B : Type 0} (f : A → B) (xs : List A) (n : ℕ) (x : A) → slice_get xs n ≡ Some x → drop n (map f xs) ≡ f x ∷ drop (n + 1) (map f xs)
 drop_next f [] n x e = absurd (cc)
 drop_next f (y ∷ xs) zero x e = let q : y ≡ x = cc in rw q refl
 drop_next f (y ∷ xs) (suc n) x e = let m : suc n + 1 ≡ suc (n + 1) = omega arith in rw m (drop_next f xs n x e)
@@ -91,7 +91,6 @@ module _ (limit : ℕ) (input : Input) (k : KeepsOrder input.source) where
   told_open zero s o l = absurd (omega arith)
   told_open (suc n) s o l = one_scan n s (next_token limit C s) o refl ∙ go (told_open n) (next_token limit C s) refl
     where
-
       at_end : (f : Option Fault) → C.fault ≡ f → why f ∷ replicate n (TOKEN empty) ≡ told_from [] f (suc n)
       at_end None q = none_told (suc n)
       at_end (Some f) q = fault_first f n

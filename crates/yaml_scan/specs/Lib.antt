@@ -34,3 +34,4 @@ pub mod Words
 pub mod CallWords
 pub mod Peek
 pub mod ReadingOn
+pub mod Puts

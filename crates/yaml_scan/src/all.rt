@@ -3,7 +3,8 @@ ghost use Rattle.std.specs.Prelude.{◌≡◌, ◌≤◌, IfOk, [], option_map};
 ghost use Rattle.yaml_text.specs.Fault.{fault_of};
 ghost use Rattle.yaml_scan.specs.Session.{new_session};
 ghost use Rattle.yaml_scan.specs.AnswerLaws.{StandInOrder, AreFollowed};
-ghost use Rattle.yaml_scan.specs.Inputs.{decoded_input, answers_to, IsLocal};
+ghost use Rattle.yaml_scan.specs.Inputs.{decoded_input, answers_to};
+ghost use Rattle.yaml_scan.specs.Puts.{AreReadAlike};
 ghost use Rattle.yaml_scan.specs.Words.{HaveLines};
 ghost use Rattle.yaml_scan.specs.Parser.{IsRefusedEarly};
 ghost use Rattle.yaml_scan.specs.All.{AllOf, ReadsAll, EndNoMore, EndAll, depth_of};
@@ -50,7 +51,7 @@ pub fn yaml_scan_all(
     ensures ends_all { IfOk result (λ r. EndAll (depth_of 1024 setting input.now) r.0.items (option_map fault_of r.1)) }
     ensures keys { IfOk result (λ r. AreFollowed 1024 r.0.items) }
     ensures lines { IfOk result (λ r. HaveLines r.0.items (option_map fault_of r.1)) }
-    ensures local { IsLocal 1024 setting input.now }
+    ensures local { IfOk result (λ r. AreReadAlike 1024 setting input.now r.0.items (option_map fault_of r.1)) }
 {
     yaml_scan_all_limit(alloc, input, setting, 1024)
 }
@@ -71,7 +72,7 @@ pub fn yaml_scan_all_limit(
     ensures ends_all { IfOk result (λ r. EndAll (depth_of limit setting input.now) r.0.items (option_map fault_of r.1)) }
     ensures keys { IfOk result (λ r. AreFollowed limit r.0.items) }
     ensures lines { IfOk result (λ r. HaveLines r.0.items (option_map fault_of r.1)) }
-    ensures local { IsLocal limit setting input.now }
+    ensures local { IfOk result (λ r. AreReadAlike limit setting input.now r.0.items (option_map fault_of r.1)) }
 {
     let mut parser = yaml_parser_t::with_key_limit(alloc, input, setting, limit);
     let mut tokens = Vec::new(alloc);

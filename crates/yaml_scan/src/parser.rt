@@ -312,7 +312,7 @@ pub fn yaml_parser_scan(parser: &mut yaml_parser_t) -> Result<yaml_token_t, yaml
     ensures answers { Scans parser.old result parser.new }
     ensures bare { IsThere parser.old → (told result ≡ answered parser.old SCAN) × (parser.new ≡ behind parser.old SCAN) }
     ensures early { IsRefusedEarly (input_read parser.old) → (told result ≡ answered parser.old SCAN) × (parser.new ≡ behind parser.old SCAN) }
-    ensures local { IsLocal parser.old.limit parser.old.setting parser.old.input }
+    ensures local { IsAnsweredAlike parser.old SCAN (told result) }
 {
     if parser.over {
         return Ok(yaml_token_t::empty());
@@ -323,7 +323,6 @@ pub fn yaml_parser_scan(parser: &mut yaml_parser_t) -> Result<yaml_token_t, yaml
     }
 }
 
-ghost use Rattle.yaml_scan.specs.Inputs.{IsLocal};
 ghost use Rattle.yaml_scan.specs.Parser.{IsThere, IsRefusedEarly, input_read, told, answered};
 ghost use Rattle.yaml_scan.specs.Session.Call.{SCAN};
 
@@ -345,7 +344,7 @@ pub fn yaml_parser_peek<'s>(
     ensures shows { AnswersPeek parser.old (shown (told_copied result)) }
     ensures bare { IsThere parser.old → shown (told_copied result) ≡ answered parser.old PEEK }
     ensures early { IsRefusedEarly (input_read parser.old) → shown (told_copied result) ≡ answered parser.old PEEK }
-    ensures local { IsLocal parser.old.limit parser.old.setting parser.old.input }
+    ensures local { IsAnsweredAlike parser.old PEEK (shown (told_copied result)) }
 {
     match show(parser) {
         Ok(_) => Ok(shown(parser)),
@@ -355,12 +354,15 @@ pub fn yaml_parser_peek<'s>(
 
 ghost use Rattle.std.specs.Borrow.{sem};
 ghost use Rattle.yaml_scan.specs.Peek.{OnceLetGo};
+ghost use Rattle.yaml_scan.specs.Puts.{HasNext, IsAnsweredAlike};
 ghost use Rattle.yaml_scan.specs.Parser.{Peeks, AnswersPeek, told_copied, shown};
 ghost use Rattle.yaml_scan.specs.Session.Call.{PEEK};
 
-/// Whether a peek showed a token, other than the empty one, that was not taken since.
+/// Whether a peek showed a token, other than the empty one, that was not taken since. Where one was shown, there is a next
+/// token, and the session is not over.
 pub fn yaml_parser_has_token(parser: &yaml_parser_t) -> bool
-    ensures { result ≡ parser.now.session.peeked }
+    ensures peeked { result ≡ parser.now.session.peeked }
+    ensures next { HasNext parser.now }
 {
     parser.peeked
 }

@@ -2,7 +2,7 @@ use Rattle.std.proofs.Common.{option_map, subst}
 use Rattle.yaml_text.specs.Fault.{fault_of}
 use Rattle.yaml_scan.specs.Parser.{Parser}
 use Rattle.yaml_scan.specs.All.{ReadsAll}
-use Rattle.yaml_scan.proofs.InputLaws.{late_faults}
+use Rattle.yaml_scan.proofs.Alike.{reads_alike}
 use Rattle.yaml_scan.proofs.AllLaws.{reads_in_order, reads_ends, reads_all_ends, reads_keys, reads_early}
 use Rattle.yaml_scan.proofs.AllTold.{reads_have_lines}
 use Rattle.yaml_scan.proofs.all.yaml_scan_all_limit.Goals as goal
@@ -31,7 +31,4 @@ pub returns-clause-lines : goal.returns-clause-lines
 returns-clause-lines c = reads_have_lines c.args.limit c.args.setting c.args.input.now c.scan_rest.new.tokens.items (option_map fault_of c.in_ok-fault.fault) (returns-clause-answers c)
 
 pub returns-clause-local : goal.returns-clause-local
-returns-clause-local c = late_faults c.args.limit c.args.setting c.args.input.now
-
-pub returns-in_err-fault-clause-local : goal.returns-in_err-fault-clause-local
-returns-in_err-fault-clause-local c = late_faults c.args.limit c.args.setting c.args.input.now
+returns-clause-local c = reads_alike c.args.limit c.args.setting c.args.input.now c.scan_rest.new.tokens.items (option_map fault_of c.in_ok-fault.fault) (returns-clause-answers c)
