@@ -136,11 +136,13 @@ CutIsLongest = (S : Source) (limit : ℕ) → KeepsOrder S → IsRun (step S lim
 
 -- every list of steps is a beginning of it
 abbrev pub StepsBeginCut : Type 0
-StepsBeginCut = (S : Source) (limit : ℕ) (H : List Laid) → KeepsOrder S → IsRun (step S limit) limit H → (later : List Laid) × ((cut S limit).read ≡ later ++ H)
+StepsBeginCut = (S : Source) (limit : ℕ) (H : List Laid)
+    → KeepsOrder S → IsRun (step S limit) limit H → (later : List Laid) × ((cut S limit).read ≡ later ++ H)
 
 -- and it is the only one to which none can be added, with the only offence behind it
 abbrev pub CutIsOnly : Type 0
-CutIsOnly = (S : Source) (limit : ℕ) (H : List Laid) (o : Option Offence) → KeepsOrder S → IsRun (step S limit) limit H → EndsWith (step S limit) H o
+CutIsOnly = (S : Source) (limit : ℕ) (H : List Laid) (o : Option Offence)
+    → KeepsOrder S → IsRun (step S limit) limit H → EndsWith (step S limit) H o
     → (H ≡ (cut S limit).read) × (o ≡ (cut S limit).fault)
 
 abbrev pub CutIsHistory : Type 0

@@ -1,5 +1,6 @@
 -- Reading on: scan after scan, to the end of an input and past it.
-use Rattle.std.specs.Prelude.{◌≡◌, ◌⊎◌, ℕ, ◌-◌, ◌≤◌, ◌<◌, Bool, true, false, List, [], ◌∷◌, ◌++◌, map, filter, drop, replicate, length, Option, None, Some, Result, if◌then◌else◌}
+use Rattle.std.specs.Prelude.{◌≡◌, ◌⊎◌, ℕ, ◌-◌, ◌≤◌, ◌<◌, Bool, true, false, Option, None, Some, Result, if◌then◌else◌}
+use Rattle.std.specs.Prelude.{List, [], ◌∷◌, ◌++◌, map, filter, drop, replicate, length}
 use Rattle.yaml_text.specs.declared.types.yaml_encoding_t.{yaml_encoding_t}
 use Rattle.yaml_text.specs.declared.fault.yaml_fault_t.{yaml_fault_t}
 use Rattle.yaml_scan.specs.declared.calls.yaml_answer_t.{yaml_answer_t}
@@ -23,23 +24,35 @@ abbrev pub fault_told : Option Fault → List Answer
 fault_told None = []
 fault_told (Some f) = FAULT f ∷ []
 
--- what n scans answer, where n is more than the tokens: all of these in order, then the fault once, if there is one, and then empty tokens
+-- what n scans answer, where n is more than the tokens: all of these in order, then the fault once, if there is one,
+-- and then empty tokens
 abbrev pub all_told : Answers → ℕ → List Answer
-all_told a n = map TOKEN a.tokens ++ (fault_told a.fault ++ replicate (n - (length a.tokens) - (length (fault_told a.fault))) (TOKEN empty))
+all_told a n =
+    map TOKEN a.tokens
+    ++ (fault_told a.fault ++ replicate (n - (length a.tokens) - (length (fault_told a.fault))) (TOKEN empty))
 
--- what a session has left of the answers to its input: the tokens that were not taken, and the fault; nothing where it is over
+-- what a session has left of the answers to its input: the tokens that were not taken, and the fault; nothing where it
+-- is over
 abbrev pub left_of : Answers → Session → Answers
-left_of a s = if s.over then record { tokens = []; fault = None } else record { tokens = drop s.taken a.tokens; fault = a.fault }
+left_of a s =
+    if s.over then record { tokens = []; fault = None } else record { tokens = drop s.taken a.tokens; fault = a.fault }
+
+-- what a session of an input answers to calls
+abbrev pub told_to : ℕ → yaml_encoding_t → List ℕ → List Call → Session → List Answer
+told_to limit setting input calls s =
+    session (decoded_input setting input).encoding limit (course limit (decoded_input setting input)) calls s
 
 -- more scans than an input has tokens answer all of these in order, its fault once, and then empty tokens
 abbrev pub AllIsTold : Type 0
-AllIsTold = (limit : ℕ) (setting : yaml_encoding_t) (input : List ℕ) (n : ℕ) → length (answers_to limit setting input).tokens < n
-    → session (decoded_input setting input).encoding limit (course limit (decoded_input setting input)) (scans n) new_session ≡ all_told (answers_to limit setting input) n
+AllIsTold = (limit : ℕ) (setting : yaml_encoding_t) (input : List ℕ) (n : ℕ)
+    → length (answers_to limit setting input).tokens < n
+    → told_to limit setting input (scans n) new_session ≡ all_told (answers_to limit setting input) n
 
 -- and wherever a session stands, all that is left
 abbrev pub RestIsTold : Type 0
-RestIsTold = (limit : ℕ) (setting : yaml_encoding_t) (input : List ℕ) (s : Session) (n : ℕ) → length (left_of (answers_to limit setting input) s).tokens < n
-    → session (decoded_input setting input).encoding limit (course limit (decoded_input setting input)) (scans n) s ≡ all_told (left_of (answers_to limit setting input) s) n
+RestIsTold = (limit : ℕ) (setting : yaml_encoding_t) (input : List ℕ) (s : Session) (n : ℕ)
+    → length (left_of (answers_to limit setting input) s).tokens < n
+    → told_to limit setting input (scans n) s ≡ all_told (left_of (answers_to limit setting input) s) n
 
 -- what is left for a parser to answer
 abbrev pub left_to : Parser → Answers
@@ -62,8 +75,10 @@ ScansInTurn p (result ∷ more) q = (r : Parser) × Scans p result r × ScansInT
 
 -- more of them than there are tokens left answer all that is left, or a growth was refused in one of them
 abbrev pub ScansReadOn : Type 0
-ScansReadOn = (p : Parser) (results : List (Result yaml_token_t yaml_fault_t)) (q : Parser) → ScansInTurn p results q → length (left_to p).tokens < length results
-    → (map told results ≡ all_told (left_to p) (length results)) ⊎ RunsOut p (scans (length results)) (map seen (map told results)) q
+ScansReadOn = (p : Parser) (results : List (Result yaml_token_t yaml_fault_t)) (q : Parser)
+    → ScansInTurn p results q → length (left_to p).tokens < length results
+    → (map told results ≡ all_told (left_to p) (length results))
+    ⊎ RunsOut p (scans (length results)) (map seen (map told results)) q
 
 -- FAULTS
 abbrev pub is_fault : Seen → Bool
@@ -77,8 +92,9 @@ HaveOneFault answers = length (filter is_fault answers) ≤ 1
 -- whatever the calls, and wherever the session stands
 abbrev pub FaultIsToldOnce : Type 0
 FaultIsToldOnce = (limit : ℕ) (setting : yaml_encoding_t) (input : List ℕ) (calls : List Call) (s : Session)
-    → HaveOneFault (map seen (session (decoded_input setting input).encoding limit (course limit (decoded_input setting input)) calls s))
+    → HaveOneFault (map seen (told_to limit setting input calls s))
 
 -- also where a growth was refused
 abbrev pub RunsFaultOnce : Type 0
-RunsFaultOnce = (p : Parser) (calls : List Call) (answers : List Seen) (q : Parser) → Runs p calls answers q → HaveOneFault answers
+RunsFaultOnce = (p : Parser) (calls : List Call) (answers : List Seen) (q : Parser)
+    → Runs p calls answers q → HaveOneFault answers
