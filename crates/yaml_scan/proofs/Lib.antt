@@ -61,3 +61,7 @@ pub mod CallsTold
 pub mod CountedMarks
 pub mod CountedSteps
 pub mod CountedTokens
+pub mod ReadsOn
+pub mod Faults
+pub mod Taken
+pub mod Alike

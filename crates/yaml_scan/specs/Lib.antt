@@ -34,3 +34,6 @@ pub mod Calls
 pub mod Words
 pub mod CallWords
 pub mod CountedMarks
+pub mod Peek
+pub mod ReadingOn
+pub mod Puts

@@ -6,8 +6,9 @@ ghost use Rattle.yaml_text.specs.Token.{token_of};
 ghost use Rattle.yaml_scan.specs.Session.{session_queued};
 ghost use Rattle.yaml_scan.specs.Session.Call.{SCAN, PEEK, SKIP};
 ghost use Rattle.yaml_scan.specs.Parser.{course_read, input_read, IsRefusedEarly};
-ghost use Rattle.yaml_scan.specs.CallWords.{RunHasLines};
-ghost use Rattle.yaml_scan.specs.Inputs.{IsLocal};
+ghost use Rattle.yaml_scan.specs.CallWords.{SeenHaveLines};
+ghost use Rattle.yaml_scan.specs.ReadingOn.{ReadsOn, HaveOneFault};
+ghost use Rattle.yaml_scan.specs.Puts.{Puts, TakesNext, HasNext, AreAnsweredAlike};
 
 use crate::parser::{
     yaml_parser_has_token, yaml_parser_peek, yaml_parser_queued, yaml_parser_scan,
@@ -35,7 +36,7 @@ pub enum yaml_answer_t {
     FAULT(yaml_fault_t),
 }
 
-ghost use Rattle.yaml_scan.specs.Calls.{Sees, seen_of, call_of, PutsAnswers, PutsSession, TakesNext};
+ghost use Rattle.yaml_scan.specs.Calls.{Sees, seen_of, call_of, PutsAnswers, PutsSession};
 
 fn answer_scan(parser: &mut yaml_parser_t) -> yaml_answer_t
     ensures { Sees SCAN parser.old (seen_of result) parser.new }
@@ -99,11 +100,13 @@ fn answer_all(parser: &mut yaml_parser_t, calls: &[yaml_call_t], out: &mut Vec<y
     }
 }
 
-/// Few steps wait in a parser, whatever was called.
+/// Few steps wait in a parser, whatever was called, and where a token was peeked there is one.
 fn few_wait(parser: &yaml_parser_t)
-    ensures { session_queued (course_read parser.now) parser.now.session ≤ parser.now.limit + 1 }
+    ensures few { session_queued (course_read parser.now) parser.now.session ≤ parser.now.limit + 1 }
+    ensures next { HasNext parser.now }
 {
     let _ = yaml_parser_queued(parser);
+    let _ = yaml_parser_has_token(parser);
 }
 
 /// Makes the calls in order, and puts one answer each behind `out`: a peeked token as its type, start and end, and
@@ -120,9 +123,11 @@ pub fn yaml_run(
     ensures early { OnOk result (IsRefusedEarly (input_read parser.old) → PutsSession parser.old (map call_of calls.now) out.old.items out.new.items parser.new) }
     ensures refused { OnErr result ((parser.new ≡ parser.old) × (out.new.items ≡ out.old.items)) }
     ensures few { session_queued (course_read parser.new) parser.new.session ≤ parser.new.limit + 1 }
-    ensures taken { TakesNext parser.old (map call_of calls.now) }
-    ensures lines { RunHasLines parser.old (map call_of calls.now) }
-    ensures local { IsLocal parser.old.limit parser.old.setting parser.old.input }
+    ensures reads_on { OnOk result (ReadsOn parser.old (map call_of calls.now) out.old.items out.new.items parser.new) }
+    ensures taken { OnOk result (Puts (λ answers. TakesNext parser.old answers parser.new) out.old.items out.new.items) }
+    ensures once { OnOk result (Puts HaveOneFault out.old.items out.new.items) }
+    ensures lines { OnOk result (Puts SeenHaveLines out.old.items out.new.items) }
+    ensures local { OnOk result (Puts (AreAnsweredAlike parser.old (map call_of calls.now)) out.old.items out.new.items) }
 {
     few_wait(parser);
     out.reserve(calls.len())?;

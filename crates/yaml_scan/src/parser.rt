@@ -313,7 +313,7 @@ pub fn yaml_parser_scan(parser: &mut yaml_parser_t) -> Result<yaml_token_t, yaml
     ensures answers { Scans parser.old result parser.new }
     ensures bare { IsThere parser.old → (told result ≡ answered parser.old SCAN) × (parser.new ≡ behind parser.old SCAN) }
     ensures early { IsRefusedEarly (input_read parser.old) → (told result ≡ answered parser.old SCAN) × (parser.new ≡ behind parser.old SCAN) }
-    ensures local { IsLocal parser.old.limit parser.old.setting parser.old.input }
+    ensures local { IsAnsweredAlike parser.old SCAN (told result) }
 {
     if parser.over {
         return Ok(yaml_token_t::empty());
@@ -324,7 +324,6 @@ pub fn yaml_parser_scan(parser: &mut yaml_parser_t) -> Result<yaml_token_t, yaml
     }
 }
 
-ghost use Rattle.yaml_scan.specs.Inputs.{IsLocal};
 ghost use Rattle.yaml_scan.specs.Parser.{IsThere, IsRefusedEarly, input_read, told, answered};
 ghost use Rattle.yaml_scan.specs.Session.Call.{SCAN};
 
@@ -342,11 +341,11 @@ pub fn yaml_parser_skip(parser: &mut yaml_parser_t)
 pub fn yaml_parser_peek<'s>(
     parser: &'s mut yaml_parser_t<'_>,
 ) -> Result<&'s yaml_token_t, yaml_fault_t>
-    ensures* answers { sem 𝓛 (follows_so (the_row (record { mir = named 1; lft = [] })) (the_row (record { mir = named 1; lft = [] })) parser.entry.ghost_name none (λ _ _. ⊤) (λ q. Peeks parser.old (told_copied result) q)) }
+    ensures* answers { sem 𝓛 (OnceLetGo parser.entry (λ q. Peeks parser.old (told_copied result) q)) }
     ensures shows { AnswersPeek parser.old (shown (told_copied result)) }
     ensures bare { IsThere parser.old → shown (told_copied result) ≡ answered parser.old PEEK }
     ensures early { IsRefusedEarly (input_read parser.old) → shown (told_copied result) ≡ answered parser.old PEEK }
-    ensures local { IsLocal parser.old.limit parser.old.setting parser.old.input }
+    ensures local { IsAnsweredAlike parser.old PEEK (shown (told_copied result)) }
 {
     match show(parser) {
         Ok(_) => Ok(shown(parser)),
@@ -354,18 +353,17 @@ pub fn yaml_parser_peek<'s>(
     }
 }
 
-ghost use Rattle.std.specs.Prelude.{⊤};
 ghost use Rattle.std.specs.Borrow.{sem};
-ghost use mathlib.Core.Option.{none};
-ghost use denote.Follow.{follows_so};
-ghost use mir.Syntax.{named};
-ghost use Rattle.yaml_scan.specs.contracts.parser.yaml_parser_t.{the_row};
+ghost use Rattle.yaml_scan.specs.Peek.{OnceLetGo};
+ghost use Rattle.yaml_scan.specs.Puts.{HasNext, IsAnsweredAlike};
 ghost use Rattle.yaml_scan.specs.Parser.{Peeks, AnswersPeek, told_copied, shown};
 ghost use Rattle.yaml_scan.specs.Session.Call.{PEEK};
 
-/// Whether a peek showed a token, other than the empty one, that was not taken since.
+/// Whether a peek showed a token, other than the empty one, that was not taken since. Where one was shown, there is a next
+/// token, and the session is not over.
 pub fn yaml_parser_has_token(parser: &yaml_parser_t) -> bool
-    ensures { result ≡ parser.now.session.peeked }
+    ensures peeked { result ≡ parser.now.session.peeked }
+    ensures next { HasNext parser.now }
 {
     parser.peeked
 }

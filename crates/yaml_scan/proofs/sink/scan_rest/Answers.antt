@@ -17,8 +17,7 @@ tokens-smaller g c = let p = c.args.parser.now in let q = c.tokens.parser in let
 
 pub tokens-preserved : goal.tokens-preserved
 tokens-preserved g c = let p = c.args.parser.now in let q = c.tokens.parser in let i = c.tokens.invariant in
-    let h = subst (λ (z : Bool). HasScanned p.limit p.setting p.input q i.0 z) c.tokens-test.true i.2 in
-    (
+    let h = subst (λ (z : Bool). HasScanned p.limit p.setting p.input q i.0 z) c.tokens-test.true i.2 in (
       i.0 ++ token_of c.in-Ok.token ∷ [],
       g.met.S.yaml_token_sink_t.took_more c.args.sink.now c.tokens.sink c.put.new.self i.0 (token_of c.in-Ok.token ∷ []) i.1 c.in_ok-put-in-Ok.ensures,
       (scans_on p.limit p.setting p.input q i.0 h (token_of c.in-Ok.token) c.yaml_parser_scan.new.parser c.is_stream_end-last.result c.is_stream_end-last.ensures c.in-Ok.ensures.answers).0,
