@@ -34,6 +34,7 @@ pub mod Calls
 pub mod Words
 pub mod CallWords
 pub mod CountedMarks
+pub mod CallMarks
 pub mod Peek
 pub mod ReadingOn
 pub mod Puts

@@ -5,6 +5,7 @@ ghost use Rattle.yaml_text.specs.Token.{token_of};
 ghost use Rattle.yaml_scan.specs.AnswerLaws.{StandInOrder, AreFollowed};
 ghost use Rattle.yaml_scan.specs.Inputs.{decoded_input, answers_to};
 ghost use Rattle.yaml_scan.specs.Puts.{AreReadAlike};
+ghost use Rattle.yaml_scan.specs.CallMarks.{AllIsCounted};
 ghost use Rattle.yaml_scan.specs.Words.{HaveLines};
 ghost use Rattle.yaml_scan.specs.Parser.{IsRefusedEarly};
 ghost use Rattle.yaml_scan.specs.All.{AllOf, ReadsAll, EndNoMore, EndAll, depth_of};
@@ -53,6 +54,7 @@ pub fn yaml_scan_all(
     ensures keys { IfOk result (λ r. AreFollowed 1024 (map token_of r.0.items)) }
     ensures lines { IfOk result (λ r. HaveLines (map token_of r.0.items) (option_map fault_of r.1)) }
     ensures local { IfOk result (λ r. AreReadAlike 1024 setting input.now (map token_of r.0.items) (option_map fault_of r.1)) }
+    ensures marks { IfOk result (λ r. AllIsCounted setting input.now (map token_of r.0.items) (option_map fault_of r.1)) }
 {
     yaml_scan_all_limit(alloc, input, setting, 1024)
 }
@@ -74,6 +76,7 @@ pub fn yaml_scan_all_limit(
     ensures keys { IfOk result (λ r. AreFollowed limit (map token_of r.0.items)) }
     ensures lines { IfOk result (λ r. HaveLines (map token_of r.0.items) (option_map fault_of r.1)) }
     ensures local { IfOk result (λ r. AreReadAlike limit setting input.now (map token_of r.0.items) (option_map fault_of r.1)) }
+    ensures marks { IfOk result (λ r. AllIsCounted setting input.now (map token_of r.0.items) (option_map fault_of r.1)) }
 {
     let mut list = token_list_t {
         tokens: Vec::new(alloc),

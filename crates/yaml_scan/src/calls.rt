@@ -9,6 +9,7 @@ ghost use Rattle.yaml_scan.specs.Parser.{course_read, input_read, IsRefusedEarly
 ghost use Rattle.yaml_scan.specs.CallWords.{SeenHaveLines};
 ghost use Rattle.yaml_scan.specs.ReadingOn.{ReadsOn, HaveOneFault};
 ghost use Rattle.yaml_scan.specs.Puts.{Puts, TakesNext, HasNext, AreAnsweredAlike};
+ghost use Rattle.yaml_scan.specs.CallMarks.{text_read, SeenAreCounted};
 
 use crate::parser::{
     yaml_parser_has_token, yaml_parser_peek, yaml_parser_queued, yaml_parser_scan,
@@ -127,6 +128,7 @@ pub fn yaml_run(
     ensures taken { OnOk result (Puts (λ answers. TakesNext parser.old answers parser.new) out.old.items out.new.items) }
     ensures once { OnOk result (Puts HaveOneFault out.old.items out.new.items) }
     ensures lines { OnOk result (Puts SeenHaveLines out.old.items out.new.items) }
+    ensures marks { OnOk result (Puts (SeenAreCounted (text_read parser.old)) out.old.items out.new.items) }
     ensures local { OnOk result (Puts (AreAnsweredAlike parser.old (map call_of calls.now)) out.old.items out.new.items) }
 {
     few_wait(parser);

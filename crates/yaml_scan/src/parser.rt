@@ -8,6 +8,7 @@ ghost use Rattle.yaml_scan.specs.Session.{new_session};
 ghost use Rattle.yaml_scan.specs.Scanning.{Runs, IsOpen, history};
 ghost use Rattle.yaml_scan.specs.Ready.{IsNew, IsReady, IsSettled, IsStopped, IsShort, IsEnded, Pops};
 ghost use Rattle.yaml_scan.specs.Parser.{Scans};
+ghost use Rattle.yaml_scan.specs.CallMarks.{IsCountedIn, ReachesTo};
 ghost use Rattle.yaml_scan.specs.Token.{is_last_type, type_of};
 
 use crate::near::near_from;
@@ -314,6 +315,7 @@ pub fn yaml_parser_scan(parser: &mut yaml_parser_t) -> Result<yaml_token_t, yaml
     ensures bare { IsThere parser.old → (told result ≡ answered parser.old SCAN) × (parser.new ≡ behind parser.old SCAN) }
     ensures early { IsRefusedEarly (input_read parser.old) → (told result ≡ answered parser.old SCAN) × (parser.new ≡ behind parser.old SCAN) }
     ensures local { IsAnsweredAlike parser.old SCAN (told result) }
+    ensures marks { IsCountedIn parser.old (told result) }
 {
     if parser.over {
         return Ok(yaml_token_t::empty());
@@ -346,6 +348,7 @@ pub fn yaml_parser_peek<'s>(
     ensures bare { IsThere parser.old → shown (told_copied result) ≡ answered parser.old PEEK }
     ensures early { IsRefusedEarly (input_read parser.old) → shown (told_copied result) ≡ answered parser.old PEEK }
     ensures local { IsAnsweredAlike parser.old PEEK (shown (told_copied result)) }
+    ensures marks { IsCountedIn parser.old (shown (told_copied result)) }
 {
     match show(parser) {
         Ok(_) => Ok(shown(parser)),
@@ -392,7 +395,8 @@ ghost use Rattle.yaml_scan.specs.Parser.{course_read};
 /// How far the last step without a fault was read: bytes of the text in UTF-8, lines and characters, all from 0. It is zero
 /// before any step.
 pub fn yaml_parser_mark(parser: &yaml_parser_t) -> yaml_mark_t
-    ensures { result ≡ session_reach (course_read parser.now) parser.now.session }
+    ensures reach { result ≡ session_reach (course_read parser.now) parser.now.session }
+    ensures marks { ReachesTo parser.now result }
 {
     parser.scanner.reach
 }

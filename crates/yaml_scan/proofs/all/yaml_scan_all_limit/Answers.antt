@@ -7,6 +7,7 @@ use Rattle.yaml_scan.specs.All.{ReadsAll}
 use Rattle.yaml_scan.proofs.Alike.{reads_alike}
 use Rattle.yaml_scan.proofs.AllLaws.{reads_in_order, reads_ends, reads_all_ends, reads_keys, reads_early}
 use Rattle.yaml_scan.proofs.AllTold.{reads_have_lines}
+use Rattle.yaml_scan.proofs.CallMarks.{reads_are_counted}
 use Rattle.yaml_scan.proofs.all.yaml_scan_all_limit.Goals as goal
 
 -- what the new parser's tokens are
@@ -36,3 +37,6 @@ returns-clause-lines c = reads_have_lines c.args.limit c.args.setting c.args.inp
 
 pub returns-clause-local : goal.returns-clause-local
 returns-clause-local c = reads_alike c.args.limit c.args.setting c.args.input.now (map token_of c.yaml_scan_to.new.sink.tokens.items) (option_map fault_of c.in_ok-fault.fault) (returns-clause-answers c)
+
+pub returns-clause-marks : goal.returns-clause-marks
+returns-clause-marks c = reads_are_counted c.args.limit c.args.setting c.args.input.now (map token_of c.yaml_scan_to.new.sink.tokens.items) (option_map fault_of c.in_ok-fault.fault) (returns-clause-answers c)

@@ -4,6 +4,8 @@ use Rattle.yaml_scan.specs.Calls.{call_of, PutsAnswers}
 use Rattle.yaml_scan.specs.CallWords.{SeenHaveLines}
 use Rattle.yaml_scan.specs.ReadingOn.{HaveOneFault}
 use Rattle.yaml_scan.specs.Puts.{TakesNext, AreAnsweredAlike}
+use Rattle.yaml_scan.specs.CallMarks.{text_read, SeenAreCounted}
+use Rattle.yaml_scan.proofs.CallMarks.{runs_are_counted}
 use Rattle.yaml_scan.proofs.Alike.{runs_alike}
 use Rattle.yaml_scan.proofs.CallRuns.{puts_session}
 use Rattle.yaml_scan.proofs.CallsTold.{run_has_lines}
@@ -39,3 +41,7 @@ returns-clause-lines c = puts SeenHaveLines c.args.parser.now (map call_of c.arg
 pub returns-clause-local : goal.returns-clause-local
 returns-clause-local c = puts (AreAnsweredAlike c.args.parser.now (map call_of c.args.calls.now)) c.args.parser.now (map call_of c.args.calls.now) c.args.out.now.items c.answer_all.new.out.items c.answer_all.new.parser (returns-clause-answers c)
     (λ answers r. runs_alike c.args.parser.now (map call_of c.args.calls.now) answers c.answer_all.new.parser c.few_wait.ensures.next r)
+
+pub returns-clause-marks : goal.returns-clause-marks
+returns-clause-marks c = puts (SeenAreCounted (text_read c.args.parser.now)) c.args.parser.now (map call_of c.args.calls.now) c.args.out.now.items c.answer_all.new.out.items c.answer_all.new.parser (returns-clause-answers c)
+    (λ answers r. runs_are_counted c.args.parser.now (map call_of c.args.calls.now) answers c.answer_all.new.parser r)
