@@ -23,6 +23,7 @@ ghost use Rattle.yaml_text.specs.Token.{data_of};
 use crate::block::take_block;
 use crate::cursor::cursor_t;
 use crate::directive::{directive_t, take_directive};
+use crate::fault::{make_memory_fault, make_scanner_fault};
 use crate::kind::yaml_lexeme_kind_t;
 use crate::name::take_name;
 use crate::plain::{scalar_t, take_plain};
@@ -32,8 +33,7 @@ use crate::tag::take_tag;
 use crate::texts::{context_text, problem_text};
 use std::alloc::Global;
 use yaml_text::{
-    make_memory_fault, make_scanner_fault, unnamed_yaml_token_t_data, yaml_fault_t, yaml_mark_t,
-    yaml_scalar_style_t, yaml_text_t,
+    unnamed_yaml_token_t_data, yaml_fault_t, yaml_mark_t, yaml_scalar_style_t, yaml_text_t,
 };
 
 /// Where a lexeme stands.

@@ -11,6 +11,7 @@ ghost use Rattle.yaml_scan.specs.Parser.{Scans};
 ghost use Rattle.yaml_scan.specs.CallMarks.{IsCountedIn, ReachesTo};
 ghost use Rattle.yaml_scan.specs.Token.{is_last_type, type_of};
 
+use crate::fault::failure_t;
 use crate::near::near_from;
 use crate::queue::{put_stream_start, queued_t};
 use crate::run::settle_head;
@@ -101,15 +102,15 @@ fn begin<'a>(
     scanner: &mut scanner_t<'a>,
     input: &'a [u8],
     setting: yaml_encoding_t,
-) -> Result<(), yaml_fault_t>
+) -> Result<(), failure_t>
     requires { IsNew scanner.old }
-    ensures { MatchResult result (λ _. Begins setting input.now scanner.old scanner.new) (λ f. (IsShort setting input.now scanner.old (fault_of f) ⊎ IsEnded setting input.now scanner.old scanner.new (fault_of f)) × IsStopped setting input.now scanner.old scanner.new) }
+    ensures { MatchResult result (λ _. Begins setting input.now scanner.old scanner.new) (λ e. (IsShort setting input.now scanner.old (fault_of e.fault) ⊎ IsEnded setting input.now scanner.old scanner.new (fault_of e.fault)) × IsStopped setting input.now scanner.old scanner.new) }
 {
     let (text, refusal) = yaml_decode_front(alloc, input, setting)?;
     let near = near_from(text.bytes());
     let encoding = text.encoding();
     if let Some(fault) = near_start(refusal, near) {
-        return Err(fault);
+        return Err(failure_t { fault });
     }
     put_stream_start(&mut scanner.queue, encoding)?;
     scanner.text = text;
@@ -136,7 +137,7 @@ fn start<'a>(
     }
     match begin(alloc, scanner, input, setting) {
         Ok(_) => Ok(()),
-        Err(fault) => Err(fault),
+        Err(failure) => Err(failure.fault),
     }
 }
 

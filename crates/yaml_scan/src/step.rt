@@ -11,6 +11,7 @@ ghost use Rattle.yaml_scan.specs.Moves.{IsLost, IsRefused};
 ghost use Rattle.yaml_scan.specs.Scanning.{Holds, IsMet, Advances, Offends, Stays, text_of};
 ghost use Rattle.std.specs.Option.{option_copied};
 
+use crate::fault::{failure_t, make_scanner_fault};
 use crate::keys::{completed_by, held_t, lost_at, move_slots, needed_at, root, settle};
 use crate::kind::{is_allowed_after, is_candidate, is_colon, start_behind};
 use crate::levels::{close_levels, is_level, queue_lexeme, top_level};
@@ -19,7 +20,7 @@ use crate::source::{gap_end, kind_at, read_lexeme};
 use std::alloc::Global;
 use std::collections::VecDeque;
 use yaml_lexeme::{yaml_lexeme_kind_t, yaml_lexeme_t};
-use yaml_text::{make_scanner_fault, yaml_fault_t, yaml_mark_t, yaml_text_t, yaml_token_t};
+use yaml_text::{yaml_fault_t, yaml_mark_t, yaml_text_t, yaml_token_t};
 
 /// The running scanner of a text.
 #[derive(Drop)]
@@ -188,10 +189,10 @@ fn keep_candidates(
     new: held_t,
     limit: u64,
     mark: yaml_mark_t,
-) -> Result<(), yaml_fault_t>
+) -> Result<(), failure_t>
     requires empty { empty.old ≡ empty_slots outer.old.items }
     requires nested { AreNested outer.old.items }
-    ensures lost { MatchResult result (λ _. lost_held limit mark (root_of outer.old.items (slot_behind kind allowed new top.old)) ≡ None) (λ f. (fault_of f ≡ memory_fault) ⊎ IsLost (lost_held limit mark (root_of outer.old.items (slot_behind kind allowed new top.old))) mark (fault_of f)) }
+    ensures lost { MatchResult result (λ _. lost_held limit mark (root_of outer.old.items (slot_behind kind allowed new top.old)) ≡ None) (λ e. (fault_of e.fault ≡ memory_fault) ⊎ IsLost (lost_held limit mark (root_of outer.old.items (slot_behind kind allowed new top.old))) mark (fault_of e.fault)) }
     ensures outer { OnOk result (outer.new.items ≡ nested_outer kind (map (still_held limit mark) outer.old.items) (still_held limit mark (slot_behind kind allowed new top.old))) }
     ensures top { OnOk result (top.new ≡ nested_top kind (map (still_held limit mark) outer.old.items) (still_held limit mark (slot_behind kind allowed new top.old))) }
     ensures empty { OnOk result (empty.new ≡ empty_slots outer.new.items) }
@@ -214,7 +215,7 @@ fn token_of(start: yaml_mark_t, x: yaml_lexeme_t) -> yaml_token_t
 }
 
 /// The lexeme that was met, laid behind those before it.
-pub(crate) fn lay(alloc: Global, scanner: &mut scanner_t, met: met_t) -> Result<(), yaml_fault_t>
+pub(crate) fn lay(alloc: Global, scanner: &mut scanner_t, met: met_t) -> Result<(), failure_t>
     ghost before: { List Laid }
     requires holds { Holds before (scanner.old.made + 1) scanner.old }
     requires running { ended before ≡ false }
@@ -222,7 +223,7 @@ pub(crate) fn lay(alloc: Global, scanner: &mut scanner_t, met: met_t) -> Result<
     requires few { scanner.old.taken ≤ 2 ^ 100 }
     requires few_steps { scanner.old.made ≤ 2 ^ 100 }
     requires met { IsMet before scanner.old met }
-    ensures { MatchResult result (λ _. Advances before scanner.old scanner.new) (λ f. ((fault_of f ≡ memory_fault) ⊎ Offends before scanner.old (fault_of f)) × Stays scanner.old scanner.new) }
+    ensures { MatchResult result (λ _. Advances before scanner.old scanner.new) (λ e. ((fault_of e.fault ≡ memory_fault) ⊎ Offends before scanner.old (fault_of e.fault)) × Stays scanner.old scanner.new) }
 {
     let margin = scanner.outer.is_empty();
     let step = scanner.made + 1;

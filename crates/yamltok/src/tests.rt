@@ -16,7 +16,7 @@ use std::io::{Read, Write};
 use std::process::Abort;
 use std::test::Fail;
 use yaml_text::{
-    make_memory_fault, make_scanner_fault, unnamed_yaml_token_t_data, yaml_encoding_t, yaml_mark_t,
+    unnamed_yaml_token_t_data, yaml_encoding_t, yaml_error_type_t, yaml_fault_t, yaml_mark_t,
     yaml_scalar_style_t, yaml_token_t, yaml_token_type_t,
 };
 
@@ -344,14 +344,31 @@ fn fault_lines(rt: HostRuntime) -> Result<(), Fail> {
     };
     let mut out = Vec::new(alloc);
     out.push(b'>')?;
-    list_fault(alloc, &make_memory_fault(), &mut out)?;
-    let fault = make_scanner_fault("found no end", at, Some("while reading"), from);
+    let memory = yaml_fault_t {
+        error: yaml_error_type_t::YAML_MEMORY_ERROR,
+        problem: None,
+        problem_offset: 0,
+        problem_value: 0,
+        problem_mark: FROM,
+        context: None,
+        context_mark: FROM,
+    };
+    list_fault(alloc, &memory, &mut out)?;
+    let fault = yaml_fault_t {
+        error: yaml_error_type_t::YAML_SCANNER_ERROR,
+        problem: Some("found no end"),
+        problem_mark: at,
+        context: Some("while reading"),
+        context_mark: from,
+        ..memory
+    };
     list_fault(alloc, &fault, &mut out)?;
-    list_fault(
-        alloc,
-        &make_scanner_fault("found no end", at, None, at),
-        &mut out,
-    )?;
+    let bare = yaml_fault_t {
+        context: None,
+        context_mark: at,
+        ..fault
+    };
+    list_fault(alloc, &bare, &mut out)?;
     let lines = "\
 >FAULT memory
 FAULT scanner 7:1:0 9:1:2 while reading; found no end
