@@ -1,11 +1,37 @@
-//! What a lexeme and a fault look like in a line.
+//! What a kind, a lexeme and a fault look like in a line.
 use std::alloc::{AllocError, Global};
-use yaml_lexeme::yaml_lexeme_t;
+use yaml_lexeme::{yaml_lexeme_kind_t, yaml_lexeme_t};
 use yaml_text::{unnamed_yaml_token_t_data, yaml_fault_t, yaml_mark_t};
 
 pub fn show_mark(alloc: Global, mark: yaml_mark_t) -> Result<String, AllocError> {
     let (index, line, column) = (mark.index, mark.line, mark.column);
     format!(in alloc; "{index}:{line}:{column}")
+}
+
+/// The name of a kind.
+pub fn kind_name(kind: yaml_lexeme_kind_t) -> &'static str {
+    match kind {
+        yaml_lexeme_kind_t::STREAM_END => "STREAM_END",
+        yaml_lexeme_kind_t::DIRECTIVE => "DIRECTIVE",
+        yaml_lexeme_kind_t::DOCUMENT_START => "DOCUMENT_START",
+        yaml_lexeme_kind_t::DOCUMENT_END => "DOCUMENT_END",
+        yaml_lexeme_kind_t::FLOW_SEQUENCE_START => "FLOW_SEQUENCE_START",
+        yaml_lexeme_kind_t::FLOW_MAPPING_START => "FLOW_MAPPING_START",
+        yaml_lexeme_kind_t::FLOW_SEQUENCE_END => "FLOW_SEQUENCE_END",
+        yaml_lexeme_kind_t::FLOW_MAPPING_END => "FLOW_MAPPING_END",
+        yaml_lexeme_kind_t::FLOW_ENTRY => "FLOW_ENTRY",
+        yaml_lexeme_kind_t::BLOCK_ENTRY => "BLOCK_ENTRY",
+        yaml_lexeme_kind_t::KEY => "KEY",
+        yaml_lexeme_kind_t::VALUE => "VALUE",
+        yaml_lexeme_kind_t::ALIAS => "ALIAS",
+        yaml_lexeme_kind_t::ANCHOR => "ANCHOR",
+        yaml_lexeme_kind_t::TAG => "TAG",
+        yaml_lexeme_kind_t::LITERAL => "LITERAL",
+        yaml_lexeme_kind_t::FOLDED => "FOLDED",
+        yaml_lexeme_kind_t::SINGLE_QUOTED => "SINGLE_QUOTED",
+        yaml_lexeme_kind_t::DOUBLE_QUOTED => "DOUBLE_QUOTED",
+        yaml_lexeme_kind_t::PLAIN => "PLAIN",
+    }
 }
 
 fn show_bytes(alloc: Global, bytes: &[u8]) -> Result<String, AllocError> {

@@ -7,7 +7,7 @@ use crate::cursor::{cursor_t, ends};
 use yaml_text::{yaml_mark_t, yaml_text_t};
 
 /// What kind of lexeme stands at a place.
-#[derive(Clone, Copy, Debug, PartialEq, Eq)]
+#[derive(Clone, Copy, PartialEq, Eq)]
 pub enum yaml_lexeme_kind_t {
     STREAM_END,
     DIRECTIVE,

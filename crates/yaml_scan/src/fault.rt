@@ -48,7 +48,7 @@ pub(crate) fn make_scanner_fault(
 }
 
 /// Why a step failed. A growth that was refused is a fault of kind memory.
-#[derive(Debug, Drop)]
+#[derive(Drop)]
 pub(crate) struct failure_t {
     pub fault: yaml_fault_t,
 }
