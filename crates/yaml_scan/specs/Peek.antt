@@ -10,4 +10,5 @@ use Rattle.yaml_scan.specs.Parser.{Parser}
 -- while the token is held, nothing is said of the parser that was lent; once it is let go, P holds of it
 abbrev pub OnceLetGo : MutBor Parser → (Parser → Type 0) → Fml
 OnceLetGo parser P =
-    let parsers = the_row (record { mir = named 1; lft = [] }) in follows_so parsers parsers parser.ghost_name none (λ _ _. ⊤) P
+    let parsers = the_row (record { mir = named 1; lft = [] }) in
+    follows_so parsers parsers parser.ghost_name none (λ _ _. ⊤) P

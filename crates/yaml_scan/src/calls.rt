@@ -114,7 +114,10 @@ fn few_wait(parser: &yaml_parser_t)
 /// `NOTHING` for a skip where no token was shown.
 ///
 /// Room for all answers is reserved first; where it is refused, `AllocError`, nothing has changed. Where memory is
-/// refused later, that call is answered with the fault, and those behind it as where the session is over.
+/// refused later, that call is answered with the fault, and those after it as where the session is over.
+///
+/// More scans than there are tokens left answer all of these in order, the fault once, if there is one, and then empty
+/// tokens.
 pub fn yaml_run(
     parser: &mut yaml_parser_t,
     calls: &[yaml_call_t],
@@ -125,7 +128,7 @@ pub fn yaml_run(
     ensures refused { OnErr result ((parser.new ≡ parser.old) × (out.new.items ≡ out.old.items)) }
     ensures few { session_queued (course_read parser.new) parser.new.session ≤ parser.new.limit + 1 }
     ensures reads_on { OnOk result (ReadsOn parser.old (map call_of calls.now) out.old.items out.new.items parser.new) }
-    ensures taken { OnOk result (Puts (λ answers. TakesNext parser.old answers parser.new) out.old.items out.new.items) }
+    ensures taken { OnOk result (Puts (λ a. TakesNext parser.old a parser.new) out.old.items out.new.items) }
     ensures once { OnOk result (Puts HaveOneFault out.old.items out.new.items) }
     ensures lines { OnOk result (Puts SeenHaveLines out.old.items out.new.items) }
     ensures marks { OnOk result (Puts (SeenAreCounted (text_read parser.old)) out.old.items out.new.items) }

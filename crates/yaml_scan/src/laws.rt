@@ -1,7 +1,9 @@
 //! What holds of the layout: each law is the contract of a function that does nothing.
-ghost use Rattle.yaml_scan.specs.Laws.{DepthGoesOn, CandidatesGoOn, CandidatesAreNested, AllowedGoesOn, ColumnsGoOn, ColumnsFall, LevelIsFirst, LevelStays, OfflineGoesOn, CandidateStandsThere, NeverRevised, FewWait, FewWaitOneStepOn, AllIsHandedOut, LexemesComeInOrder, EndsNeverOutnumber, AsManyEnds, CutIsLongest, StepsBeginCut, CutIsOnly, CutIsHistory, CutIsShort};
+ghost use Rattle.yaml_scan.specs.Laws.{DepthGoesOn, CandidatesGoOn, CandidatesAreNested, AllowedGoesOn, ColumnsGoOn, ColumnsFall, LevelIsFirst, LevelStays, OfflineGoesOn, CandidateStandsThere, NeverRevised, FewWait, FewWaitOneStepOn, AllIsHandedOut, LexemesComeInOrder, EndsNeverOutnumber, AsManyEnds, CutIsLongest, CutIsHistory, CutIsShort};
+ghost use Rattle.yaml_scan.specs.Laws.{StepsBeginCut, CutIsOnly};
 ghost use Rattle.yaml_scan.specs.TokenLaws.{TokensStandInOrder, KeysAreFollowed, FourTokensAStep};
-ghost use Rattle.yaml_scan.specs.SessionLaws.{CourseIsHistory, EndsOrFaults, NearStepIsRefused, FarStepIsItself, CourseIsRun, RefusedHasFault, AcceptedIsCut, FrontIsCut, TakenAreBeginning, PeeksChangeNothing, NoneIsStuck, PaceSettles, PaceIsLeast, FewStepsQueued};
+ghost use Rattle.yaml_scan.specs.SessionLaws.{CourseIsHistory, EndsOrFaults, RefusedHasFault, AcceptedIsCut, FrontIsCut, TakenAreBeginning, PeeksChangeNothing, NoneIsStuck, PaceSettles, PaceIsLeast, FewStepsQueued};
+ghost use Rattle.yaml_scan.specs.SessionLaws.{NearStepIsRefused, FarStepIsItself, CourseIsRun};
 ghost use Rattle.yaml_scan.specs.AnswerLaws.{AnswersStandInOrder, AnswersEndFewer, AnswersEndAll, AnswersFollowKeys};
 ghost use Rattle.yaml_scan.specs.Locality.{StepIsLocal, TokensBeforeRefusal, FaultBeforeRefusal, TextsAreLocal, TextsKeepOrder};
 
@@ -84,9 +86,10 @@ pub fn tokens_are_few()
 {}
 
 /// What an input comes to: its steps are a history, and end with the stream end or with a fault; an accepted input has
-/// the cut of its text, and a refused one a beginning of what its front alone would have. A step near the end of a refused
-/// front is answered by the reader's fault, so that the fault of a refused input is the reader's, or that of a step further
-/// in front.
+/// the cut of its text, and a refused one a beginning of what its front alone would have.
+///
+/// A step near the end of a refused front is answered by the reader's fault, so that the fault of a refused input is the
+/// reader's, or that of a step further in front.
 pub fn course_of_an_input()
     ensures history { CourseIsHistory }
     ensures ends { EndsOrFaults }
@@ -168,8 +171,8 @@ pub fn marks_are_counted()
 
 ghost use Rattle.yaml_scan.specs.ReadingOn.{AllIsTold, RestIsTold, ScansReadOn, FaultIsToldOnce, RunsFaultOnce};
 
-/// More scans than there are tokens left answer all of these in order, then the fault once, if there is one, and then empty
-/// tokens.
+/// More scans than there are tokens left answer all of these in order, then the fault once, if there is one, and then
+/// empty tokens.
 pub fn reading_on()
     ensures all { AllIsTold }
     ensures rest { RestIsTold }

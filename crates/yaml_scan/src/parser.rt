@@ -363,8 +363,8 @@ ghost use Rattle.yaml_scan.specs.Puts.{HasNext, IsAnsweredAlike};
 ghost use Rattle.yaml_scan.specs.Parser.{Peeks, AnswersPeek, told_copied, shown};
 ghost use Rattle.yaml_scan.specs.Session.Call.{PEEK};
 
-/// Whether a peek showed a token, other than the empty one, that was not taken since. Where one was shown, there is a next
-/// token, and the session is not over.
+/// Whether a peek showed a token, other than the empty one, that was not taken since. Where one was shown, there is a
+/// next token, and the session is not over.
 pub fn yaml_parser_has_token(parser: &yaml_parser_t) -> bool
     ensures peeked { result ≡ parser.now.session.peeked }
     ensures next { HasNext parser.now }
