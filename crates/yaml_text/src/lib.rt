@@ -7,6 +7,8 @@ mod bytes;
 mod class_tests;
 mod classes;
 mod decode;
+#[cfg(test)]
+mod enum_tests;
 mod fault;
 pub mod laws;
 mod mark;
