@@ -115,7 +115,7 @@ fn a_candidate_keeps_tokens_in_the_queue(rt: HostRuntime) -> Result<(), Fail> {
     Ok(())
 }
 
-/// The fault of a refused text. That no memory is taken for it is seen by `tests/no_memory.py`.
+/// The fault of a refused text. That no memory is taken for it is seen by `tests/sessions.py`.
 #[test]
 fn a_refused_text(rt: HostRuntime) -> Result<(), Fail> {
     let any = yaml_encoding_t::YAML_ANY_ENCODING;
