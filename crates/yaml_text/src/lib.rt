@@ -6,6 +6,8 @@ mod ascii;
 mod class_tests;
 mod classes;
 mod decode;
+#[cfg(test)]
+mod enum_tests;
 mod fault;
 pub mod laws;
 mod mark;

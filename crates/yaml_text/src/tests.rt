@@ -56,6 +56,26 @@ fn refusals(rt: HostRuntime) -> Result<(), Fail> {
     Ok(())
 }
 
+/// The bytes of a text, and all that is said of a refused one. That no memory is taken for them is seen by `tests/sessions.py`.
+#[test]
+fn text_or_fault(rt: HostRuntime) -> Result<(), Fail> {
+    let text = yaml_decode(rt.alloc(), b"a: 1", ANY).map_err(|_| "a text")?;
+    assert_eq!(rt; text.encoding(), UTF8);
+    assert_eq!(rt; text.bytes(), b"a: 1".as_slice());
+    let fault = yaml_decode(rt.alloc(), b"a\xFF", ANY)
+        .err()
+        .ok_or("a fault")?;
+    let want = yaml_fault_t {
+        error: yaml_error_type_t::YAML_READER_ERROR,
+        problem: Some("invalid leading UTF-8 octet"),
+        problem_offset: 1,
+        problem_value: 255,
+        ..make_memory_fault()
+    };
+    assert_eq!(rt; fault, want);
+    Ok(())
+}
+
 #[test]
 fn fronts(rt: HostRuntime) -> Result<(), Fail> {
     let (text, refusal) = yaml_decode_front(rt.alloc(), b"ab\xFF", ANY).map_err(|_| "no memory")?;

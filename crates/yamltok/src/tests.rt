@@ -280,50 +280,100 @@ fn wrong_words(rt: HostRuntime) -> Result<(), Fail> {
     Ok(())
 }
 
+/// Commands, and what they write for `a: 1`.
+const LISTED: [(&str, &str); 3] = [
+    ("decode any", "TEXT UTF8 4 4:0:4\n"),
+    (
+        "scan any",
+        "\
+STREAM-START 0:0:0 0:0:0 UTF8
+BLOCK-MAPPING-START 0:0:0 0:0:0
+KEY 0:0:0 0:0:0
+SCALAR 0:0:0 1:0:1 plain 61
+VALUE 1:0:1 2:0:2
+SCALAR 3:0:3 4:0:4 plain 31
+BLOCK-END 4:1:0 4:1:0
+STREAM-END 4:1:0 4:1:0
+",
+    ),
+    (
+        "calls any spks",
+        "\
+STREAM-START 0:0:0 0:0:0 UTF8
+PEEK BLOCK-MAPPING-START 0:0:0 0:0:0
+SKIP
+KEY 0:0:0 0:0:0
+",
+    ),
+];
+
 /// A read that fails before the end is met, at any call, and one byte a call.
+fn expect_read(
+    rt: &(impl Abort + AllocGlobal),
+    command: &str,
+    lines: &str,
+    calls: usize,
+) -> Result<(), Fail> {
+    let alloc = rt.alloc();
+    let reader = slow_reader_t {
+        bytes: b"a: 1",
+        calls,
+    };
+    let (outcome, written) = outcome_of(alloc, command, reader, Vec::new(alloc))?;
+    if calls > 4 {
+        assert_eq!(rt; yaml_status(&outcome), 0);
+        assert_eq!(rt; written.as_slice(), lines.as_bytes());
+    } else {
+        assert_eq!(rt; outcome, Err(tool_fault_t::Read));
+        assert_eq!(rt; yaml_status(&outcome), 3);
+        assert_eq!(rt; written.len(), 0);
+    }
+    Ok(())
+}
+
 #[test]
 fn reads_fail(rt: HostRuntime) -> Result<(), Fail> {
-    let alloc = rt.alloc();
-    let input = b"a: 1";
-    for calls in 0..6 {
-        let reader = slow_reader_t {
-            bytes: input,
-            calls,
-        };
-        let (outcome, written) = outcome_of(alloc, "decode any", reader, Vec::new(alloc))?;
-        if calls > input.len() {
-            assert_eq!(rt; yaml_status(&outcome), 0);
-            assert_eq!(rt; written.as_slice(), b"TEXT UTF8 4 4:0:4\n".as_slice());
-        } else {
-            assert_eq!(rt; outcome, Err(tool_fault_t::Read));
-            assert_eq!(rt; yaml_status(&outcome), 3);
-            assert_eq!(rt; written.len(), 0);
+    for (command, lines) in LISTED {
+        for calls in 0..6 {
+            expect_read(&rt, command, lines, calls)?;
         }
     }
     Ok(())
 }
 
 /// A write that fails or takes nothing, at any call, and one byte a call.
+fn expect_written(
+    rt: &(impl Abort + AllocGlobal),
+    command: &str,
+    lines: &str,
+    calls: usize,
+    fails: bool,
+) -> Result<(), Fail> {
+    let alloc = rt.alloc();
+    let lines = lines.as_bytes();
+    let writer = slow_writer_t {
+        taken: Vec::new(alloc),
+        calls,
+        fails,
+    };
+    let (outcome, writer) = outcome_of(alloc, command, b"a: 1".as_slice(), writer)?;
+    let count = calls.min(lines.len());
+    assert_eq!(rt; writer.taken.as_slice(), &lines[..count]);
+    if count == lines.len() {
+        assert_eq!(rt; outcome, Ok(false));
+    } else {
+        assert_eq!(rt; outcome, Err(tool_fault_t::Write));
+        assert_eq!(rt; yaml_status(&outcome), 3);
+    }
+    Ok(())
+}
+
 #[test]
 fn writes_fail(rt: HostRuntime) -> Result<(), Fail> {
-    let alloc = rt.alloc();
-    let line = b"TEXT UTF8 4 4:0:4\n";
-    for fails in [true, false] {
-        for calls in 0..20 {
-            let writer = slow_writer_t {
-                taken: Vec::new(alloc),
-                calls,
-                fails,
-            };
-            let (outcome, writer) = outcome_of(alloc, "decode any", b"a: 1".as_slice(), writer)?;
-            let count = calls.min(line.len());
-            assert_eq!(rt; writer.taken.as_slice(), &line[..count]);
-            if count == line.len() {
-                assert_eq!(rt; outcome, Ok(false));
-            } else {
-                assert_eq!(rt; outcome, Err(tool_fault_t::Write));
-                assert_eq!(rt; yaml_status(&outcome), 3);
-            }
+    for (command, lines) in LISTED {
+        for calls in 0..250 {
+            expect_written(&rt, command, lines, calls, true)?;
+            expect_written(&rt, command, lines, calls, false)?;
         }
     }
     Ok(())
