@@ -1,3 +1,4 @@
+pub mod Agreeing
 pub mod Local
 pub mod Like
 pub mod Loop

@@ -25,7 +25,7 @@ pub fn stream_end_order()
     ensures { StreamEndOrder }
 {}
 
-/// A problem stands at a place of the text, where its lexeme would start or further on. The law of locality asks for that.
+/// A problem stands at a place of the text, where its lexeme would start or further on.
 pub fn offence_is_ahead()
     ensures { OffenceIsAhead }
 {}
@@ -35,17 +35,18 @@ pub fn lexeme_follows()
     ensures { LexemeFollows }
 {}
 
-/// A gap depends on no character eight or more past its end.
+/// A gap depends on no character eight or more past its end, the end of the text counted as a character.
 pub fn gap_is_local()
     ensures { GapIsLocal }
 {}
 
-/// A kind depends on no character eight or more past its place.
+/// A kind depends on no character eight or more past its place, the end of the text counted as a character.
 pub fn kind_is_local()
     ensures { KindIsLocal }
 {}
 
-/// A lexeme depends on no character eight or more past its reach, or past the place of its problem.
+/// A lexeme depends on no character eight or more past its reach, or past the place of its problem, the end of the text counted
+/// as a character.
 pub fn lex_is_local()
     ensures { LexIsLocal }
 {}
