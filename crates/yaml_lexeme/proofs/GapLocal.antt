@@ -8,8 +8,8 @@ use Rattle.yaml_lexeme.proofs.Places.{length_skip, skip_skip}
 use Rattle.yaml_lexeme.specs.Classes.{is_in_line}
 use Rattle.yaml_lexeme.specs.Gap.{byte_order_mark, is_gap_blank, after_mark, after_comment, after_gap_line, after_gap_lines, gap}
 use Rattle.yaml_lexeme.proofs.Agreeing.{Agree, by_agreeing}
-use Rattle.yaml_lexeme.specs.Locality.{distance, GapIsLocal}
-use Rattle.yaml_lexeme.specs.Place.{Place, first, skip, behind, break_len}
+use Rattle.yaml_lexeme.specs.Locality.{GapIsLocal}
+use Rattle.yaml_lexeme.specs.Place.{Place, first, skip, distance, behind, break_len}
 
 pub break_same : (n : ℕ) (p q : Place) → Agree n p q → 8 ≤ n → break_len q ≡ break_len p
 break_same n p q a h = rw (a.same 0 (omega arith), a.same 1 (omega arith)) refl

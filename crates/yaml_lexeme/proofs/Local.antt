@@ -6,9 +6,9 @@ use Rattle.yaml_lexeme.proofs.Agreeing.{Agree, by_agreeing}
 use Rattle.yaml_lexeme.proofs.Ahead.{ahead_any}
 use Rattle.yaml_lexeme.proofs.Many.{IsShorter, Shortens, many_turn}
 use Rattle.yaml_lexeme.proofs.Places.{skip_one, skip_more, skip_none, length_skip, skip_skip}
-use Rattle.yaml_lexeme.specs.Locality.{reach, move, distance, IsLocal}
+use Rattle.yaml_lexeme.specs.Locality.{reach, move, IsLocal}
 use Rattle.yaml_lexeme.specs.Order.{IsAhead}
-use Rattle.yaml_lexeme.specs.Place.{Place, peek, skip, run_len}
+use Rattle.yaml_lexeme.specs.Place.{Place, peek, skip, distance, run_len}
 use Rattle.yaml_lexeme.specs.Reading.{Read, found, refuse, ◌>>=◌, Part, part, over, with_front, go_on, many}
 
 pub agree_less : (m n : ℕ) (p q : Place) → m ≤ n → Agree n p q → Agree m p q

@@ -1,6 +1,6 @@
 -- What depends on no character eight or more past the place where reading ends.
-use Rattle.std.specs.Prelude.{◌≡◌, ℕ, ◌+◌, ◌-◌, ◌<◌, Bool, length, slice_get, Ok, Err}
-use Rattle.yaml_lexeme.specs.Place.{Place, skip}
+use Rattle.std.specs.Prelude.{◌≡◌, ℕ, ◌+◌, ◌<◌, Bool, slice_get, Ok, Err}
+use Rattle.yaml_lexeme.specs.Place.{Place, skip, distance}
 use Rattle.yaml_lexeme.specs.Reading.{Read, found, refuse}
 use Rattle.yaml_lexeme.specs.declared.kind.yaml_lexeme_kind_t.{yaml_lexeme_kind_t}
 use Rattle.yaml_lexeme.specs.Gap.{gap}
@@ -22,10 +22,6 @@ reach (Err e) = e.at
 abbrev pub move : {A : Type 0} → Read A → Place → Read A
 move (Ok f) q = found f.value q
 move (Err e) q = refuse e.problem q
-
--- how many characters stand from p up to q, which is ahead of it
-abbrev pub distance : Place → Place → ℕ
-distance p q = length p.rest - length q.rest
 
 -- Reading from q on gives the same as from p on, and ends as far on, if p and q have as many characters in common as
 -- were read from p on, and eight more.

@@ -1,13 +1,21 @@
 //! Laws about the definitions.
 ghost use Rattle.yaml_lexeme.specs.Counted.{PlacesAreCounted, MarksAreCounted};
 ghost use Rattle.yaml_lexeme.specs.Whole.{GapIsWhole, ReachIsWhole, EndIsWhole, GapIsCounted, LexemeIsCounted, ProblemIsCounted};
+ghost use Rattle.yaml_lexeme.specs.GapText.{GapIsLongest, RunIsLongest};
 ghost use Rattle.yaml_lexeme.specs.Locality.{GapIsLocal, KindIsLocal, LexIsLocal};
-ghost use Rattle.yaml_lexeme.specs.Parts.{QuotedIsParts, QuotedIsRefused, PlainIsParts, PlainIsRefused, ChunkIsLongest, LinkIsLongest};
+ghost use Rattle.yaml_lexeme.specs.Parts.{QuotedIsParts, QuotedIsRefused, PlainIsParts, PlainIsRefused, ChunkIsLongest, LinkIsLongest, LinkIsOver, UriIsParts, UriIsRefused, BlanksAreLines, BlockIsLines};
 ghost use Rattle.yaml_lexeme.specs.Order.{GapOrder, LexemeSpans, LexemeOrder, StreamEndOrder, OffenceIsAhead, LexemeFollows};
 
 /// A gap ends where it starts or further on.
 pub fn gap_order()
     ensures { GapOrder }
+{}
+
+/// A gap is the longest text that is gap lines joined by breaks, and says whether a break is in it. A run of a class is as many
+/// of its characters as can be.
+pub fn gap_is_longest()
+    ensures gaps { GapIsLongest }
+    ensures runs { RunIsLongest }
 {}
 
 /// A lexeme starts at its place, takes a character or more, and ends and reaches at places of the text.
@@ -91,4 +99,19 @@ pub fn plain_is_its_parts()
 pub fn links_are_longest()
     ensures chunk { ChunkIsLongest }
     ensures link { LinkIsLongest }
+    ensures over { LinkIsOver }
+{}
+
+/// A uri is characters and escapes, one behind the other and as many as can be, and its octets are theirs. Where it is refused,
+/// the offence stands behind as many of them as can be.
+pub fn uri_is_its_parts()
+    ensures parts { UriIsParts }
+    ensures refused { UriIsRefused }
+{}
+
+/// The empty lines of a literal or folded scalar, in front of its text lines and between them, are as many as can be; so are its
+/// text lines, and its value is that of these lines.
+pub fn block_is_its_lines()
+    ensures empty { BlanksAreLines }
+    ensures text { BlockIsLines }
 {}
