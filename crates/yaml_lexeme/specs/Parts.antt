@@ -90,7 +90,7 @@ abbrev pub PlainIsParts : Type 0
 PlainIsParts = (flow : Bool) (least : ℕ) (p : Place) (f : Found scalar_t) →
     (plain flow least p ≡ Ok f) ↔ PlainParts flow least p f
 
--- From p on stand as many characters of a chunk as can be, and behind them, in flow, a `:` before `?` or a flow
+-- From p on stand as many characters of a chunk as can be, and after them, in flow, a `:` before `?` or a flow
 -- indicator.
 pub record ChunkRefused (flow : Bool) (p : Place) (e : Offence) : Type 0 where
   pub text : List ℕ
@@ -100,7 +100,7 @@ pub record ChunkRefused (flow : Bool) (p : Place) (e : Offence) : Type 0 where
   pub colon : is_bad_colon flow (first e.at) (peek e.at 1) ≡ true
   pub problem : e.problem ≡ COLON_IN_FLOW
 
--- behind a chunk as many links as can be, and an offence
+-- after a chunk as many links as can be, and an offence
 pub record LinksRefused (flow : Bool) (least : ℕ) (p : Place) (e : Offence) : Type 0 where
   pub head : Found (List ℕ)
   pub links : List (Piece (List ℕ))
@@ -119,7 +119,7 @@ ChunkIsLongest = (flow : Bool) (p : Place) (f : Found (List ℕ)) → chunk flow
     × ((i : ℕ) → i < length f.value → is_chunk flow (peek p i) (peek p (i + 1)) ≡ true)
     × (is_chunk flow (first f.end) (peek f.end 1) ≡ false)
 
--- A link at p: as many blanks and breaks as can be, with no tab in indentation, behind which the scalar goes on,
+-- A link at p: as many blanks and breaks as can be, with no tab in indentation, after which the scalar goes on,
 -- and a chunk of a character or more.
 pub record LinkParts (flow : Bool) (least : ℕ) (p : Place) (f : Found (List ℕ)) : Type 0 where
   pub text : List ℕ
@@ -135,13 +135,13 @@ abbrev pub LinkIsLongest : Type 0
 LinkIsLongest = (flow : Bool) (least : ℕ) (p : Place) (f : Found (List ℕ)) →
     (link flow least p ≡ part f.value f.end) ↔ LinkParts flow least p f
 
--- Behind a separator, with no tab in indentation, the scalar is over, or no character of a chunk stands there.
+-- After a separator, with no tab in indentation, the scalar is over, or no character of a chunk stands there.
 pub record SeparatorEnds (flow : Bool) (least : ℕ) (p : Place) : Type 0 where
   pub separator : separator least p ≡ found (fold (run is_white p)) (behind is_white p)
   pub ends : (is_over flow least (behind is_white p) ≡ true)
       ⊎ (chunk flow (behind is_white p) ≡ found [] (behind is_white p))
 
--- no link stands where no blank or break does, or the scalar ends behind them
+-- no link stands where no blank or break does, or the scalar ends after them
 abbrev pub LinkIsOver : Type 0
 LinkIsOver = (flow : Bool) (least : ℕ) (p : Place) →
     (link flow least p ≡ over) ↔ ((is_white (first p) ≡ false) ⊎ SeparatorEnds flow least p)
@@ -155,12 +155,12 @@ pub record UriParts (listed : Bool) (p : Place) (f : Found (List ℕ)) : Type 0 
 abbrev pub UriIsParts : Type 0
 UriIsParts = (listed : Bool) (p : Place) (f : Found (List ℕ)) → (uri listed p ≡ Ok f) ↔ UriParts listed p f
 
--- an offence stands behind as many of them as can be
+-- an offence stands after as many of them as can be
 abbrev pub UriIsRefused : Type 0
 UriIsRefused = (listed : Bool) (p : Place) (e : Offence) → (uri listed p ≡ Err e) ↔
     ((parts : List (Piece (List ℕ))) × (q : Place) × IsLongest (uri_part listed) p parts q (Err e))
 
--- Empty lines at p, as many as can be, and the indentation behind them.
+-- Empty lines at p, as many as can be, and the indentation after them.
 pub record BlankParts (limit : Option ℕ) (p : Place) (f : Found Blanks) : Type 0 where
   pub lines : List (Piece Blank)
   pub last : Place
@@ -172,7 +172,7 @@ abbrev pub BlanksAreLines : Type 0
 BlanksAreLines = (limit : Option ℕ) (p : Place) (f : Found Blanks) →
     (blank_lines limit p ≡ Ok f) ↔ BlankParts limit p f
 
--- the indentation of the text lines, behind the leading empty lines
+-- the indentation of the text lines, after the leading empty lines
 abbrev pub indent_of : ℕ → header_t → Found Blanks → ℕ
 indent_of least h leading = block_indent least h.digit leading.value.column leading.end.mark.column
 
