@@ -77,13 +77,38 @@ fn show_parts(alloc: Global, says: &unnamed_yaml_token_t_data) -> Result<String,
     }
 }
 
+/// The type of a lexeme's token, as listings name it.
+fn type_name(says: &unnamed_yaml_token_t_data) -> &'static str {
+    match says {
+        unnamed_yaml_token_t_data::STREAM_END => "STREAM-END",
+        unnamed_yaml_token_t_data::VERSION_DIRECTIVE { .. } => "VERSION-DIRECTIVE",
+        unnamed_yaml_token_t_data::TAG_DIRECTIVE { .. } => "TAG-DIRECTIVE",
+        unnamed_yaml_token_t_data::DOCUMENT_START => "DOCUMENT-START",
+        unnamed_yaml_token_t_data::DOCUMENT_END => "DOCUMENT-END",
+        unnamed_yaml_token_t_data::FLOW_SEQUENCE_START => "FLOW-SEQUENCE-START",
+        unnamed_yaml_token_t_data::FLOW_SEQUENCE_END => "FLOW-SEQUENCE-END",
+        unnamed_yaml_token_t_data::FLOW_MAPPING_START => "FLOW-MAPPING-START",
+        unnamed_yaml_token_t_data::FLOW_MAPPING_END => "FLOW-MAPPING-END",
+        unnamed_yaml_token_t_data::FLOW_ENTRY => "FLOW-ENTRY",
+        unnamed_yaml_token_t_data::BLOCK_ENTRY => "BLOCK-ENTRY",
+        unnamed_yaml_token_t_data::KEY => "KEY",
+        unnamed_yaml_token_t_data::VALUE => "VALUE",
+        unnamed_yaml_token_t_data::ALIAS { .. } => "ALIAS",
+        unnamed_yaml_token_t_data::ANCHOR { .. } => "ANCHOR",
+        unnamed_yaml_token_t_data::TAG { .. } => "TAG",
+        unnamed_yaml_token_t_data::SCALAR { .. } => "SCALAR",
+        _ => "NO-LEXEME",
+    }
+}
+
 pub fn show_lexeme(alloc: Global, lexeme: &yaml_lexeme_t) -> Result<String, AllocError> {
     let parts = show_parts(alloc, &lexeme.token_data)?;
     let start = show_mark(alloc, lexeme.start_mark)?;
     let end = show_mark(alloc, lexeme.end_mark)?;
     let reach = show_mark(alloc, lexeme.reach)?;
     let passed = lexeme.passed_break;
-    format!(in alloc; "LEXEME{parts} {start} {end} {reach} {passed}")
+    let name = type_name(&lexeme.token_data);
+    format!(in alloc; "LEXEME {name}{parts} {start} {end} {reach} {passed}")
 }
 
 pub fn show_fault(alloc: Global, fault: &yaml_fault_t) -> Result<String, AllocError> {

@@ -6,7 +6,7 @@ use Rattle.std.specs.Str.Parse.{digits_value}
 use Rattle.yaml_lexeme.proofs.Like.{IsLike, IsPartLike, found_here, refuse_here, found_on, like_if, part_like_if, like_on, like_bind, like_run, like_same, like_map, like_part, part_on, over_here, many_like}
 use Rattle.yaml_lexeme.proofs.Uris.{uri_shortens}
 use Rattle.yaml_lexeme.specs.Classes.{ends}
-use Rattle.yaml_lexeme.specs.Locality.{Agree}
+use Rattle.yaml_lexeme.proofs.Agreeing.{Agree}
 use Rattle.yaml_lexeme.specs.Name.{is_behind_name, name}
 use Rattle.yaml_lexeme.specs.Place.{Place, first, peek, skip, run, behind}
 use Rattle.yaml_lexeme.specs.Reading.{Read, found, refuse, ◌>>=◌, with_front}

@@ -12,7 +12,7 @@ use Rattle.yaml_lexeme.proofs.Plains.{tab_at, link_shortens}
 use Rattle.yaml_lexeme.proofs.Spaces.{run_none}
 use Rattle.yaml_lexeme.specs.Classes.{is_white}
 use Rattle.yaml_lexeme.specs.Fold.{fold}
-use Rattle.yaml_lexeme.specs.Locality.{Agree}
+use Rattle.yaml_lexeme.proofs.Agreeing.{Agree}
 use Rattle.yaml_lexeme.specs.Place.{Place, first, peek, skip, run, behind}
 use Rattle.yaml_lexeme.specs.Plain.{is_bad_colon, is_chunk, chunk_len, chunk, untabbed, separator, is_over, link, plain}
 use Rattle.yaml_lexeme.specs.Reading.{Found, Read, found, refuse, ◌>>=◌, Part, part, over, many}

@@ -1,4 +1,4 @@
--- Literal and folded scalars (YAML 1.1, sections 9.2.1 to 9.2.4).
+-- Literal and folded scalars (YAML 1.1, 9.2 Block Scalar Header, 9.3 Block Scalar Styles and 6.1 Indentation Spaces).
 use Rattle.std.specs.Prelude.{ℕ, ◌+◌, ◌-◌, min, max, Bool, true, false, not, ◌&&◌, ◌||◌, ◌==◌, nat_lt, if◌then◌else◌, List, [], ◌∷◌, ◌++◌, map, slice_index, Option, Some, None, is_some, Result, Ok}
 use Rattle.std.specs.List.{fold as fold_list}
 use Rattle.yaml_text.specs.declared.types.yaml_mark_t.{yaml_mark_t}

@@ -1,4 +1,4 @@
--- Directives (YAML 1.1, section 6.8).
+-- Directives (YAML 1.1, 7.1 Directives).
 use Rattle.std.specs.Prelude.{ℕ, pos, true, not, ◌==◌, nat_lt, if◌then◌else◌, List, ◌++◌, length, codes}
 use Rattle.std.specs.Str.{bytes_eq}
 use Rattle.std.specs.Str.Parse.{digits_value}

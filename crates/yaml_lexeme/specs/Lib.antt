@@ -2,6 +2,7 @@ pub mod Classes
 pub mod Place
 pub mod Reading
 pub mod Gap
+pub mod GapText
 pub mod Kind
 pub mod Fold
 pub mod Lexeme

@@ -1,4 +1,4 @@
--- Plain scalars (YAML 1.1, section 9.1.3).
+-- Plain scalars (YAML 1.1, 9.1.3 Plain).
 use Rattle.std.specs.Prelude.{ℕ, ◌+◌, Bool, false, not, ◌&&◌, ◌||◌, ◌==◌, nat_lt, if◌then◌else◌, List, [], ◌∷◌, ◌++◌, length, take, slice_index, codes, Option, Some, None}
 use Rattle.std.specs.List.{list_any, flat_map}
 use Rattle.yaml_text.specs.declared.types.yaml_mark_t.{yaml_mark_t}

@@ -1,4 +1,4 @@
--- Tags (YAML 1.1, section 6.8.1).
+-- Tags (YAML 1.1, 8.2 Node Tags).
 use Rattle.std.specs.Prelude.{Bool, true, false, ◌&&◌, ◌||◌, ◌==◌, if◌then◌else◌, ℕ, List, [], ◌∷◌, ◌++◌, codes}
 use Rattle.yaml_text.specs.Classes.{is_alpha}
 use Rattle.yaml_text.specs.Token.{TokenData as unnamed_yaml_token_t_data}
