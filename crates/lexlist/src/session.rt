@@ -8,7 +8,7 @@ use std::alloc::{AllocError, Global};
 use std::io;
 use std::io::{Read, Write};
 use yaml_scan::{
-    unnamed_yaml_token_t_data, yaml_answer_t, yaml_bytes_t, yaml_call_t, yaml_decode,
+    unnamed_yaml_token_t_data, yaml_answer_t, yaml_call_t, yaml_decode,
     yaml_encoding_t, yaml_fault_t, yaml_mark_t, yaml_parser_fault, yaml_parser_has_token,
     yaml_parser_mark, yaml_parser_peek, yaml_parser_queued, yaml_parser_scan, yaml_parser_skip,
     yaml_parser_t, yaml_run, yaml_scan_all_limit, yaml_token_t,
@@ -22,12 +22,12 @@ fn put_mark(out: &mut impl Write, mark: yaml_mark_t) -> io::Result<()> {
     write!(out, " {index}:{line}:{column}")
 }
 
-fn put_bytes(out: &mut impl Write, bytes: &yaml_bytes_t) -> io::Result<()> {
+fn put_bytes(out: &mut impl Write, bytes: &[u8]) -> io::Result<()> {
     write!(out, " ")?;
-    if bytes.as_slice().is_empty() {
+    if bytes.is_empty() {
         return write!(out, "-");
     }
-    for b in bytes.as_slice() {
+    for b in bytes {
         let b = *b;
         write!(out, "{b:02x}")?;
     }

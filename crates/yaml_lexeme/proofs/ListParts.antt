@@ -2,7 +2,7 @@
 use Rattle.std.proofs.Common.{◌≡◌, ℕ, Bool, List, Option, Ok, Err, Result, refl, sym, ap, ◌∙◌, subst}
 use Rattle.std.specs.List.{concat}
 use Rattle.yaml_lexeme.specs.declared.block.header_t.{header_t}
-use Rattle.yaml_lexeme.specs.declared.plain.scalar_t.{scalar_t}
+use Rattle.yaml_lexeme.specs.Lexeme.{Scalar as scalar_t}
 use Rattle.yaml_lexeme.proofs.PartLaws.{Advances, many_longest, many_refused, found_of, refused_of}
 use Rattle.yaml_lexeme.proofs.Spans.{blank_goes, line_spans, line_goes_of}
 use Rattle.yaml_lexeme.proofs.Uris.{uri_ahead}
