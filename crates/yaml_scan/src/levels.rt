@@ -1,4 +1,4 @@
-//! Indentation levels: the columns of the block collections that are open (YAML 1.1, section 8.2).
+//! Indentation levels: the columns of the block collections that are open (YAML 1.1, 6.1 Indentation Spaces).
 ghost use Rattle.std.specs.Prelude.{◌≡◌, ◌+◌, ◌-◌, ◌≤◌, ◌&&◌, ◌++◌, ◌∷◌, [], true, not, reverse, map, filter, length, OnOk, if◌then◌else◌};
 ghost use Rattle.yaml_text.specs.Token.{token_of};
 ghost use Rattle.yaml_scan.specs.Levels.{stays, is_above, greatest_level, opens_level, IsFalling};
