@@ -23,6 +23,7 @@ from queue import SimpleQueue
 TOP = os.path.dirname(os.path.dirname(os.path.dirname(os.path.abspath(__file__))))
 RT = shlex.split(os.environ.get("RT", "rt"))
 BUILD = shlex.split(os.environ.get("BUILD", ""))
+PROGRAMS = ("yamltok", "lexlist")
 WORKERS = 3
 MOST = 12
 
@@ -45,9 +46,9 @@ def bytes_of(text):
     return text.encode("ascii").decode("unicode_escape").encode("latin-1")
 
 
-def copy():
-    """A copy of the sources, without what was built."""
-    room = tempfile.mkdtemp()
+def copy(room):
+    """Copies the sources, without what was built."""
+    os.mkdir(room)
     for name in ("crates", "crates.txt", "HANDLES", "tests"):
         path = os.path.join(TOP, name)
         if os.path.isdir(path):
@@ -141,7 +142,7 @@ def fails(room, row):
             return bool(results) and results[0] != "ok", results or said.splitlines()[-3:]
         if not BUILD:
             return None, "not run, since BUILD is not set"
-        for program in ("yamltok", "lexlist"):
+        for program in PROGRAMS:
             path = os.path.join(room, "crates", program, "out")
             os.makedirs(path, exist_ok=True)
             done = subprocess.run([*BUILD, program, os.path.join(room, "crates"), os.path.join(path, program)], capture_output=True, timeout=900)
@@ -160,36 +161,35 @@ def caught(room, row):
 
 def main(names):
     chosen = [row for row in rows() if not names or any(row.name.startswith(name) for name in names)]
-    programs = [row for row in chosen if row.words[0] in ("yamltok", "lexlist")]
     by_edit = collections.defaultdict(list)
-    for row in programs:
-        by_edit[row.name, row.words[0]].append(row)
-    rooms = SimpleQueue()
-    for _ in range(WORKERS):
-        rooms.put(copy())
-
-    def in_room(work, *words):
-        room = rooms.get()
-        try:
-            text, is_right = work(room, *words)
-        finally:
-            rooms.put(room)
-        print(text, flush=True)
-        return is_right
-
-    room, right = rooms.get(), {}
-    for program in ("yamltok", "lexlist"):
-        some = [row for row in programs if row.words[0] == program]
-        right.update(zip(some, answers(room, some) if some else []))
-    rooms.put(room)
-    with ThreadPoolExecutor(max_workers=WORKERS) as pool:
-        results = list(pool.map(lambda some: in_room(compare, some, right), by_edit.values()))
-        results += list(pool.map(lambda row: in_room(caught, row), [row for row in chosen if row.words[0] in ("test", "script")]))
+    for row in chosen:
+        if row.words[0] in PROGRAMS:
+            by_edit[row.name, row.words[0]].append(row)
+    tests = [row for row in chosen if row.words[0] in ("test", "script")]
     library = [row for row in chosen if row.words[0] == "library"]
+    with tempfile.TemporaryDirectory() as top, ThreadPoolExecutor(max_workers=WORKERS) as pool:
+        rooms, right = SimpleQueue(), {}
+        for number in range(WORKERS):
+            rooms.put(copy(os.path.join(top, str(number))))
+
+        def in_room(work, *words):
+            room = rooms.get()
+            try:
+                text, is_right = work(room, *words)
+            finally:
+                rooms.put(room)
+            print(text, flush=True)
+            return is_right
+
+        room = rooms.get()
+        for program in PROGRAMS:
+            some = [row for row in chosen if row.words[0] == program]
+            right.update(zip(some, answers(room, some) if some else []))
+        rooms.put(room)
+        results = list(pool.map(lambda some: in_room(compare, some, right), by_edit.values()))
+        results += list(pool.map(lambda row: in_room(caught, row), tests))
     for row in library:
         print(f"{row.name}: shows in a call of the library: {row.text}")
-    while not rooms.empty():
-        shutil.rmtree(rooms.get())
     print(f"wrong: {len(results)} edits tried, {results.count(False)} not told apart, {len(library)} show in the library alone")
     return 1 if False in results or not results + library else 0
 
