@@ -1,12 +1,14 @@
 #!/usr/bin/env python3
 """Shows what wrong programs answer: wrong.py [NAME ..], where a NAME is as in tests/edits.txt, or a beginning of one.
 
-tests/edits.txt has a line for each edit of crates/*/must-fail and of tests/wrong, with an input that tells the wrong program from
-the right one, or the tests that do so. The script makes one edit at a time in a copy of the repository, builds the program from
-the edited sources without proving it (`rt try`), and prints the right answer and the wrong one, or says whether the tests fail.
+tests/edits.txt has a line for each edit of crates/*/must-fail and of tests/wrong, with an input that tells the wrong
+program from the right one, or the tests that do so. The script makes one edit at a time in a copy of the repository,
+builds the program from the edited sources without proving it (`rt try`), and prints the right answer and the wrong
+one, or says whether the tests fail.
 
-RT in the environment is the command `rt`, if it is another. BUILD is a command that is given a program's name, the folder of the
-crates and a path, and puts the program there, unproved; tests that are scripts need one, since `rt try` keeps no program.
+RT in the environment is the command `rt`, if it is another. BUILD is a command that is given a program's name, the
+folder of the crates and a path, and puts the program there, unproved; tests that are scripts need one, since `rt try`
+keeps no program.
 """
 
 import collections
@@ -127,7 +129,8 @@ def compare(room, some, right):
     says = []
     for row, answer in zip(some, wrong):
         differ = "differ" if answer != right[row] and answer[1] != "no answer" else "DO NOT DIFFER"
-        says.append(f"{row.name}: {' '.join(row.words)} < {row.text}\n  right {shown(right[row])}\n  wrong {shown(answer)}\n  {differ}")
+        asked = f"{row.name}: {' '.join(row.words)} < {row.text}"
+        says.append(f"{asked}\n  right {shown(right[row])}\n  wrong {shown(answer)}\n  {differ}")
     return "\n".join(says), all("DO NOT" not in text for text in says)
 
 
@@ -145,11 +148,13 @@ def fails(room, row):
         for program in PROGRAMS:
             path = os.path.join(room, "crates", program, "out")
             os.makedirs(path, exist_ok=True)
-            done = subprocess.run([*BUILD, program, os.path.join(room, "crates"), os.path.join(path, program)], capture_output=True, timeout=900)
+            built = [*BUILD, program, os.path.join(room, "crates"), os.path.join(path, program)]
+            done = subprocess.run(built, capture_output=True, timeout=900)
             if done.returncode:
                 return None, done.stdout.decode("utf-8", "replace").splitlines()[-3:]
         program = os.path.join(room, "crates", "yamltok", "out", "yamltok")
-        done = subprocess.run([sys.executable, os.path.join(room, "tests", words[0]), program], capture_output=True, timeout=900)
+        script = [sys.executable, os.path.join(room, "tests", words[0]), program]
+        done = subprocess.run(script, capture_output=True, timeout=900)
         return done.returncode != 0, done.stdout.decode("utf-8", "replace").splitlines()[-2:]
 
 
@@ -190,7 +195,7 @@ def main(names):
         results += list(pool.map(lambda row: in_room(caught, row), tests))
     for row in library:
         print(f"{row.name}: shows in a call of the library: {row.text}")
-    print(f"wrong: {len(results)} edits tried, {results.count(False)} not told apart, {len(library)} show in the library alone")
+    print(f"wrong: {len(results)} edits tried, {results.count(False)} not told apart, {len(library)} in the library")
     return 1 if False in results or not results + library else 0
 
 

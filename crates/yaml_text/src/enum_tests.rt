@@ -10,7 +10,8 @@ fn hash_of<T: Hash>(value: &T) -> u64 {
     hasher.finish()
 }
 
-/// Asserts that the value of that number stands where it is among all of them, is equal to itself alone, and has its own hash.
+/// Asserts that the value of that number stands where it is among all of them, is equal to itself alone, and has its
+/// own hash.
 fn expect_place<T: Copy + Ord + Hash>(rt: &impl Abort, i: usize, a: &T, values: &[T]) {
     for (j, b) in values.iter().enumerate() {
         assert_eq!(rt; a < b, i < j, "{i} and {j}");

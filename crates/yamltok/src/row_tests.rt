@@ -1083,8 +1083,8 @@ fn repeated(
     Ok(text)
 }
 
-/// A command, how often a part of the input is repeated, the input before, in and behind that part, the exit status, and the
-/// lines before, in and behind what is repeated in them.
+/// A command, how often a part of the input is repeated, the input before, in and behind that part, the exit status,
+/// and the lines before, in and behind what is repeated in them.
 type long_row_t = (
     &'static str,
     usize,
