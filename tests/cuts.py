@@ -1,8 +1,8 @@
 #!/usr/bin/env python3
 """Cuts the input of every worked row at every byte: cuts.py PROGRAM.
 
-Each cut ends with the stream end or with one fault, and the status is 1 where there is a fault, else 0. A list of calls has one
-line for each call. (For inputs of up to 200 bytes vectors/scan.txt.gz has all the lines of each cut.)
+Each cut ends with the stream end or with one fault, and the status is 1 where there is a fault, else 0. A list of
+calls has one line for each call. (For inputs of up to 200 bytes vectors/scan.txt.gz has all the lines of each cut.)
 """
 
 import os
@@ -24,7 +24,8 @@ def is_right(words, done):
         return len(lines) == len(words[2])
     if words[0] == "decode":
         return len(lines) == 1 and lines[0].startswith(("TEXT ", "FAULT reader "))
-    return faults == [len(lines) - 1] or not faults and [n for n, line in enumerate(lines) if is_ended(line)] == [len(lines) - 1]
+    stream_ends = [number for number, line in enumerate(lines) if is_ended(line)]
+    return [len(lines) - 1] == (faults or stream_ends)
 
 
 def main(program):

@@ -1,11 +1,11 @@
 #!/usr/bin/env python3
 """Refuses each request for memory in turn while the program runs: growths.py PROGRAM.
 
-For each worked row of vectors/rows.txt: its own command, scans past the end, and peeks with skips past the end. Each time the
-program is out of memory and has written nothing, or its lines are those of the row, or a beginning of them, then the one fault
-of kind memory, and then, for a list of calls, one line for each call that is left. The fault comes only at a scan or a peek of a
-token that was not peeked, never behind the stream end, and never where no memory is taken: where UTF-8 is decoded, or refused so
-early that the first step is near. Needs a C compiler.
+For each worked row of vectors/rows.txt: its own command, scans past the end, and peeks with skips past the end. Each
+time the program is out of memory and has written nothing, or its lines are those of the row, or a beginning of them,
+then the one fault of kind memory, and then, for a list of calls, one line for each call that is left. The fault comes
+only at a scan or a peek of a token that was not peeked, never behind the stream end, and never where no memory is
+taken: where UTF-8 is decoded, or refused so early that the first step is near. Needs a C compiler.
 """
 
 import os
@@ -58,7 +58,7 @@ def refuse_each(program, refuser, words, data, lines):
         done = run(program, words, data, refuser, number)
         kind = kind_of(words, done, data, lines)
         if kind is None:
-            print(f"{words}, {data[:80]!r}, growth {number}: status {done.returncode}, {done.stdout[-300:]!r}, {done.stderr!r}")
+            print(f"{words}, {data[:80]!r}, {number}: {done.returncode}, {done.stdout[-300:]!r}, {done.stderr!r}")
         seen[kind] = seen.get(kind, 0) + 1
         in_a_row = in_a_row + 1 if kind == "whole" else 0
         if number > 5000:
@@ -92,7 +92,8 @@ def main(program):
                     total[kind] += count
         faults, early = early_faults(program, refuser)
     wrong = total.pop(None)
-    print(f"growths: {len(every)} commands, " + ", ".join(f"{count} {kind}" for kind, count in total.items()) + f", {wrong} wrong")
+    counts = ", ".join(f"{count} {kind}" for kind, count in total.items())
+    print(f"growths: {len(every)} commands, {counts}, {wrong} wrong")
     print(f"growths: 100 entries, {faults} faults of kind memory, {early} of them before the tenth token")
     return 1 if wrong or not all(total.values()) or faults < 100 or early >= 100 else 0
 

@@ -1,12 +1,14 @@
 #!/usr/bin/env python3
-"""Refuses each request for memory in turn inside the calls of the library: sessions.py PROGRAM, of which the neighbour lexlist is run.
+"""Refuses each request for memory in turn inside the calls of the library: sessions.py PROGRAM.
 
-For each worked row of vectors/rows.txt, `yaml_run` is called twice on one parser, `yaml_scan_all_limit` once, and scan, peek and
-skip one by one. Behind the reading of the input only these calls take memory. Where `yaml_run` is refused room for its answers,
-the answers and the session are as before, and the next call is answered as if nothing had been. Otherwise the answers are those
-with ample memory, or those up to some call, one fault of kind memory and idle ones; then no token is peeked, the fault is shown,
-and at most limit + 1 steps are queued. With all requests refused UTF-8 is decoded, and refused where its first step is near.
-Needs a C compiler.
+The program lexlist, which stands beside the given one, makes the calls.
+
+For each worked row of vectors/rows.txt, `yaml_run` is called twice on one parser, `yaml_scan_all_limit` once, and
+scan, peek and skip one by one. Behind the reading of the input only these calls take memory. Where `yaml_run` is
+refused room for its answers, the answers and the session are as before, and the next call is answered as if nothing
+had been. Otherwise the answers are those with ample memory, or those up to some call, one fault of kind memory and
+idle ones; then no token is peeked, the fault is shown, and at most limit + 1 steps are queued. With all requests
+refused UTF-8 is decoded, and refused where its first step is near. Needs a C compiler.
 """
 
 import os
@@ -18,7 +20,7 @@ sys.path.insert(0, os.path.join(os.path.dirname(os.path.abspath(__file__)), "lib
 sys.dont_write_bytecode = True
 from worked import MEMORY, Session, build_refuser, is_ended, is_utf8, rows, run, session_of, takes_no_memory
 
-STYLES = {"plain": "PLAIN", "single": "SINGLE_QUOTED", "double": "DOUBLE_QUOTED", "literal": "LITERAL", "folded": "FOLDED"}
+STYLES = dict(plain="PLAIN", single="SINGLE_QUOTED", double="DOUBLE_QUOTED", literal="LITERAL", folded="FOLDED")
 ZERO = "0:0:0"
 NEW = f"STATE false 0 {ZERO} -"
 WANTED = f"FAULT memory 0 0 {ZERO} {ZERO} -; -"
@@ -52,13 +54,13 @@ def asked(rows_of_scans):
         if words[0] == "scan":
             limit = words[2] if len(words) > 2 else "1024"
             scans, peeks = "s" * (len(lines) + 2), "pk" * (len(lines) + 1)
-            for more in (["calls", scans, "psk"], ["calls", peeks, "psk"], ["calls", scans[:3] + "p", scans], ["all"], ["each", scans],
-                         ["each", peeks + "s"]):
+            runs = [["calls", scans, "psk"], ["calls", peeks, "psk"], ["calls", scans[:3] + "p", scans]]
+            for more in (*runs, ["all"], ["each", scans], ["each", peeks + "s"]):
                 yield [more[0], words[1], limit, *more[1:]], data, lines
 
 
 def session_is(state, session, limit):
-    """Whether a line says what the session is: whether a token was peeked, how many steps are queued at most, and the fault."""
+    """Whether a line says what the session is: whether a token was peeked, the fault, and few queued steps."""
     _, has_token, queued, _, fault = state.split(" ", 4)
     shown = line_of(session.shown) if session.shown else "-"
     return has_token == str(session.peeked).lower() and int(queued) <= limit + 1 and fault == shown
@@ -126,8 +128,8 @@ def judge_all(lines, text, may_refuse):
     if first != "ANSWERED" or found == wanted:
         return "whole" if first == "ANSWERED" else None
     front = found[:-1]
-    is_beginning = found[-1:] == [WANTED] and front == wanted[: len(front)] and not any(map(is_ended, lines[: len(front)]))
-    return "wanted" if may_refuse and is_beginning else None
+    is_beginning = found[-1:] == [WANTED] and front == wanted[: len(front)]
+    return "wanted" if may_refuse and is_beginning and not any(map(is_ended, lines[: len(front)])) else None
 
 
 def judge(words, data, lines, done):
@@ -141,25 +143,27 @@ def judge(words, data, lines, done):
 
 
 def refuse_each(lexlist, refuser, words, data, lines):
-    """Refuses the first request behind the reading of the input, the second, and so on, until three runs in a row are whole."""
+    """Refuses the first request after the input was read, the second, and so on, until three runs are whole."""
     seen, in_a_row, number = {}, 0, 0
     while in_a_row < 3 and number < 5000:
         number += 1
         done = run(lexlist, words, data, refuser, number, behind_read=True)
         kind = judge(words, data, lines, done)
         if kind is None:
-            print(f"{words}, {data[:80]!r}, growth {number}: status {done.returncode}, {done.stdout[-600:]!r}, {done.stderr!r}")
+            print(f"{words}, {data[:80]!r}, {number}: {done.returncode}, {done.stdout[-600:]!r}, {done.stderr!r}")
         seen[kind] = seen.get(kind, 0) + 1
         in_a_row = in_a_row + 1 if kind == "whole" else 0
     return seen
 
 
 def without_memory(lexlist, refuser):
-    """UTF-8 with every request refused: decoding gives the text or the reader's fault, and an early one comes by a scan and a peek."""
+    """UTF-8 with every request refused: decoding, and a scan and a peek where the reader's fault is early."""
     count = wrong = 0
     for words, data, lines in rows():
         is_read = lines and lines[-1].startswith("FAULT reader")
-        if words[0] != "scan" or not is_utf8(words[1], data) or "FAULT scanner" in "".join(lines) and data.endswith(b"\xff"):
+        # where a scanner fault comes first the row does not tell the reader's fault
+        is_late = data.endswith(b"\xff") and not is_read
+        if words[0] != "scan" or not is_utf8(words[1], data) or is_late:
             continue
         mark = data.startswith(b"\xef\xbb\xbf") and words[1] == "any"
         text = b"TEXT YAML_UTF8_ENCODING " + data[3 if mark else 0 :] + b"\n"
@@ -191,7 +195,8 @@ def main(program):
                     total[kind] += count
         bare, bare_wrong = without_memory(lexlist, refuser)
     wrong = total.pop(None)
-    print(f"sessions: {len(every)} lists of calls, " + ", ".join(f"{count} {kind}" for kind, count in total.items()) + f", {wrong} wrong")
+    counts = ", ".join(f"{count} {kind}" for kind, count in total.items())
+    print(f"sessions: {len(every)} lists of calls, {counts}, {wrong} wrong")
     print(f"sessions: {bare} without any memory, {bare_wrong} wrong")
     return 1 if wrong or bare_wrong or not bare or not all(total.values()) else 0
 

@@ -1,8 +1,8 @@
 #!/usr/bin/env python3
 """Looks at how the real process ends: statuses.py PROGRAM.
 
-For each command: its exit status, and what is on standard output and on standard error, where its words are wrong or no text, its
-input is closed or a folder, and its output is closed, full or a pipe that no one reads.
+For each command: its exit status, and what is on standard output and on standard error, where its words are wrong or
+no text, its input is closed or a folder, and its output is closed, full or a pipe that no one reads.
 """
 
 import os
@@ -21,9 +21,9 @@ GOOD = {
 READER_FAULT = b"FAULT reader 1 255 invalid leading UTF-8 octet\n"
 FAULTY = dict.fromkeys(COMMANDS, READER_FAULT)
 FAULTY["calls any spks"] = READER_FAULT + b"PEEK NO-TOKEN\nSKIP NOTHING\nNO-TOKEN\n"
-WRONG = [b"", b"decode", b"scan", b"calls", b"decode latin1", b"decode any any", b"scan any 0", b"scan any 65537", b"scan any 07",
-         b"scan any +1", b"scan any ", b"calls any", b"calls any x", b"calls any s s", b"list any", b"\xff any", b"decode \xff",
-         b"scan any \xff", b"calls any s\xff"]
+WRONG = [b"", b"decode", b"scan", b"calls", b"decode latin1", b"decode any any", b"scan any 0", b"scan any 65537",
+         b"scan any 07", b"scan any +1", b"scan any ", b"calls any", b"calls any x", b"calls any s s", b"list any",
+         b"\xff any", b"decode \xff", b"scan any \xff", b"calls any s\xff"]
 ARGUMENTS, READ, WRITE = (b"yamltok: " + text + b"\n" for text in (b"wrong arguments", b"read failed", b"write failed"))
 
 
@@ -56,7 +56,8 @@ def ends(program):
         yield f"{command}, a fault", run(program, words, b"a\xff"), (1, FAULTY[command], b"")
         yield f"{command}, input closed", run(program, words, stdin=None, before=lambda: os.close(0)), (3, b"", READ)
         yield f"{command}, input a folder", run(program, words, stdin=folder), (3, b"", READ)
-        yield f"{command}, output closed", run(program, words, b"a", stdout=None, before=lambda: os.close(1)), (3, b"", WRITE)
+        closed = run(program, words, b"a", stdout=None, before=lambda: os.close(1))
+        yield f"{command}, output closed", closed, (3, b"", WRITE)
         with open("/dev/full", "wb") as full:
             yield f"{command}, output full", run(program, words, b"a", stdout=full), (3, b"", WRITE)
         pipe = unread_pipe()

@@ -1,12 +1,14 @@
 #!/usr/bin/env python3
 """Shows what wrong programs answer: wrong.py [NAME ..], where a NAME is as in tests/edits.txt, or a beginning of one.
 
-tests/edits.txt has a line for each edit of crates/*/must-fail and of tests/wrong, with an input that tells the wrong program from
-the right one, or the tests that do so. The script makes one edit at a time in a copy of the repository, builds the program from
-the edited sources without proving it (`rt try`), and prints the right answer and the wrong one, or says whether the tests fail.
+tests/edits.txt has a line for each edit of crates/*/must-fail and of tests/wrong, with an input that tells the wrong
+program from the right one, or the tests that do so. The script makes one edit at a time in a copy of the repository,
+builds the program from the edited sources without proving it (`rt try`), and prints the right answer and the wrong
+one, or says whether the tests fail.
 
-RT in the environment is the command `rt`, if it is another. BUILD is a command that is given a program's name, the folder of the
-crates and a path, and puts the program there, unproved; tests that are scripts need one, since `rt try` keeps no program.
+RT in the environment is the command `rt`, if it is another. BUILD is a command that is given a program's name, the
+folder of the crates and a path, and puts the program there, unproved; tests that are scripts need one, since `rt try`
+keeps no program.
 """
 
 import collections
@@ -23,6 +25,7 @@ from queue import SimpleQueue
 TOP = os.path.dirname(os.path.dirname(os.path.dirname(os.path.abspath(__file__))))
 RT = shlex.split(os.environ.get("RT", "rt"))
 BUILD = shlex.split(os.environ.get("BUILD", ""))
+PROGRAMS = ("yamltok", "lexlist")
 WORKERS = 3
 MOST = 12
 
@@ -45,9 +48,9 @@ def bytes_of(text):
     return text.encode("ascii").decode("unicode_escape").encode("latin-1")
 
 
-def copy():
-    """A copy of the sources, without what was built."""
-    room = tempfile.mkdtemp()
+def copy(room):
+    """Copies the sources, without what was built."""
+    os.mkdir(room)
     for name in ("crates", "crates.txt", "HANDLES", "tests"):
         path = os.path.join(TOP, name)
         if os.path.isdir(path):
@@ -126,7 +129,8 @@ def compare(room, some, right):
     says = []
     for row, answer in zip(some, wrong):
         differ = "differ" if answer != right[row] and answer[1] != "no answer" else "DO NOT DIFFER"
-        says.append(f"{row.name}: {' '.join(row.words)} < {row.text}\n  right {shown(right[row])}\n  wrong {shown(answer)}\n  {differ}")
+        asked = f"{row.name}: {' '.join(row.words)} < {row.text}"
+        says.append(f"{asked}\n  right {shown(right[row])}\n  wrong {shown(answer)}\n  {differ}")
     return "\n".join(says), all("DO NOT" not in text for text in says)
 
 
@@ -141,14 +145,16 @@ def fails(room, row):
             return bool(results) and results[0] != "ok", results or said.splitlines()[-3:]
         if not BUILD:
             return None, "not run, since BUILD is not set"
-        for program in ("yamltok", "lexlist"):
+        for program in PROGRAMS:
             path = os.path.join(room, "crates", program, "out")
             os.makedirs(path, exist_ok=True)
-            done = subprocess.run([*BUILD, program, os.path.join(room, "crates"), os.path.join(path, program)], capture_output=True, timeout=900)
+            built = [*BUILD, program, os.path.join(room, "crates"), os.path.join(path, program)]
+            done = subprocess.run(built, capture_output=True, timeout=900)
             if done.returncode:
                 return None, done.stdout.decode("utf-8", "replace").splitlines()[-3:]
         program = os.path.join(room, "crates", "yamltok", "out", "yamltok")
-        done = subprocess.run([sys.executable, os.path.join(room, "tests", words[0]), program], capture_output=True, timeout=900)
+        script = [sys.executable, os.path.join(room, "tests", words[0]), program]
+        done = subprocess.run(script, capture_output=True, timeout=900)
         return done.returncode != 0, done.stdout.decode("utf-8", "replace").splitlines()[-2:]
 
 
@@ -160,37 +166,36 @@ def caught(room, row):
 
 def main(names):
     chosen = [row for row in rows() if not names or any(row.name.startswith(name) for name in names)]
-    programs = [row for row in chosen if row.words[0] in ("yamltok", "lexlist")]
     by_edit = collections.defaultdict(list)
-    for row in programs:
-        by_edit[row.name, row.words[0]].append(row)
-    rooms = SimpleQueue()
-    for _ in range(WORKERS):
-        rooms.put(copy())
-
-    def in_room(work, *words):
-        room = rooms.get()
-        try:
-            text, is_right = work(room, *words)
-        finally:
-            rooms.put(room)
-        print(text, flush=True)
-        return is_right
-
-    room, right = rooms.get(), {}
-    for program in ("yamltok", "lexlist"):
-        some = [row for row in programs if row.words[0] == program]
-        right.update(zip(some, answers(room, some) if some else []))
-    rooms.put(room)
-    with ThreadPoolExecutor(max_workers=WORKERS) as pool:
-        results = list(pool.map(lambda some: in_room(compare, some, right), by_edit.values()))
-        results += list(pool.map(lambda row: in_room(caught, row), [row for row in chosen if row.words[0] in ("test", "script")]))
+    for row in chosen:
+        if row.words[0] in PROGRAMS:
+            by_edit[row.name, row.words[0]].append(row)
+    tests = [row for row in chosen if row.words[0] in ("test", "script")]
     library = [row for row in chosen if row.words[0] == "library"]
+    with tempfile.TemporaryDirectory() as top, ThreadPoolExecutor(max_workers=WORKERS) as pool:
+        rooms, right = SimpleQueue(), {}
+        for number in range(WORKERS):
+            rooms.put(copy(os.path.join(top, str(number))))
+
+        def in_room(work, *words):
+            room = rooms.get()
+            try:
+                text, is_right = work(room, *words)
+            finally:
+                rooms.put(room)
+            print(text, flush=True)
+            return is_right
+
+        room = rooms.get()
+        for program in PROGRAMS:
+            some = [row for row in chosen if row.words[0] == program]
+            right.update(zip(some, answers(room, some) if some else []))
+        rooms.put(room)
+        results = list(pool.map(lambda some: in_room(compare, some, right), by_edit.values()))
+        results += list(pool.map(lambda row: in_room(caught, row), tests))
     for row in library:
         print(f"{row.name}: shows in a call of the library: {row.text}")
-    while not rooms.empty():
-        shutil.rmtree(rooms.get())
-    print(f"wrong: {len(results)} edits tried, {results.count(False)} not told apart, {len(library)} show in the library alone")
+    print(f"wrong: {len(results)} edits tried, {results.count(False)} not told apart, {len(library)} in the library")
     return 1 if False in results or not results + library else 0
 
 

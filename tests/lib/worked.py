@@ -22,7 +22,7 @@ def is_utf8(setting, data):
 
 
 def takes_no_memory(words, data, lines):
-    """Whether the answers take no memory: decoding of UTF-8, and UTF-8 that is refused so early that the first step is near."""
+    """Whether the answers take no memory: decoding of UTF-8, and UTF-8 that is refused where the first step is near."""
     return is_utf8(words[1], data) and (words[0] == "decode" or lines[0].startswith("FAULT reader"))
 
 
@@ -31,7 +31,7 @@ def is_ended(line):
 
 
 class Session:
-    """What is answered to calls, by the lines that a scan of the whole input gives. Memory is refused at the call of that number."""
+    """What is answered to calls, by the lines of a scan of the whole input. At call number `refused` memory is."""
 
     def __init__(self, lines, refused=None):
         self.tokens = [line for line in lines if not line.startswith("FAULT")]
@@ -68,7 +68,7 @@ class Session:
 
 
 def session_of(lines, word, found, may_refuse=True):
-    """The session whose answers to the calls of the word are those that were found, with at most one want of memory, or None."""
+    """The session that answers to the calls of the word what was found, with at most one want of memory, or None."""
     if Session(lines).calls(word) == found:
         session = Session(lines)
         session.calls(word)

@@ -1,7 +1,7 @@
 //! What is answered to an input, and what the session is then, taking no memory by itself.
 //!
-//! The calls are made ready before the input is read, the input is read into an array, and lines are written piece by piece. So
-//! each request for memory behind the reading of the input is made by the call that is looked at.
+//! The calls are made ready before the input is read, the input is read into an array, and lines are written piece by
+//! piece. So each request for memory behind the reading of the input is made by the call that is looked at.
 ghost use Rattle.std.specs.Prelude.{◌≤◌, IfOk, IfSome, length};
 
 use std::alloc::{AllocError, Global};
@@ -157,8 +157,9 @@ fn read_input(reader: &mut impl Read, room: &mut [u8]) -> io::Result<usize>
     Ok(count.min(room.len()))
 }
 
-/// Makes the calls of each word by one `yaml_run`, all on one parser. Behind each of them it writes whether that was answered or
-/// refused, all answers so far, and what the session is. The answers begin with one that none of the calls gave.
+/// Makes the calls of each word by one `yaml_run`, all on one parser. Behind each of them it writes whether that was
+/// answered or refused, all answers so far, and what the session is. The answers begin with one that none of the
+/// calls gave.
 fn run_words(
     rt: &HostRuntime,
     setting: yaml_encoding_t,

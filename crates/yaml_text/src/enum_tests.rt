@@ -1,7 +1,5 @@
 //! The numbers and the order of the variants of the enums, and the words of errors and faults.
 use super::*;
-use std::cmp::Ordering;
-use std::fmt::Debug;
 use std::hash::{DefaultHasher, Hash, Hasher};
 use std::process::Abort;
 use std::test::Fail;
@@ -12,16 +10,22 @@ fn hash_of<T: Hash>(value: &T) -> u64 {
     hasher.finish()
 }
 
-/// Asserts that the values stand in their order, that no two of them are equal, and that those are told apart by their hash.
+/// Asserts that the value of that number stands where it is among all of them, is equal to itself alone, and has its
+/// own hash.
+fn expect_place<T: Copy + Ord + Hash>(rt: &impl Abort, i: usize, a: &T, values: &[T]) {
+    for (j, b) in values.iter().enumerate() {
+        assert_eq!(rt; a < b, i < j, "{i} and {j}");
+        assert_eq!(rt; a.cmp(b), i.cmp(&j), "{i} and {j}");
+        assert_eq!(rt; a.partial_cmp(b), Some(i.cmp(&j)), "{i} and {j}");
+        assert_eq!(rt; a == b, i == j, "{i} and {j}");
+        assert_eq!(rt; hash_of(a) == hash_of(b), i == j, "{i} and {j}");
+    }
+}
+
+/// Asserts that the values stand in their order, and that equal values, and they alone, have the same hash.
 fn expect_order<T: Copy + Ord + Hash>(rt: &impl Abort, values: &[T]) {
     for (i, a) in values.iter().enumerate() {
-        for (j, b) in values.iter().enumerate() {
-            assert_eq!(rt; a < b, i < j, "{i} and {j}");
-            assert_eq!(rt; a.cmp(b), i.cmp(&j), "{i} and {j}");
-            assert_eq!(rt; a.partial_cmp(b), Some(i.cmp(&j)), "{i} and {j}");
-            assert_eq!(rt; a == b, i == j, "{i} and {j}");
-            assert_eq!(rt; hash_of(a) == hash_of(b), i == j, "{i} and {j}");
-        }
+        expect_place(rt, i, a, values);
     }
 }
 
