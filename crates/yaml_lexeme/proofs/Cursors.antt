@@ -65,15 +65,18 @@ rest_skip n p = rest_from n p.mark p.rest
 take_parts : (n : ℕ) (cs : List ℕ) → utf8 cs ≡ utf8 (take n cs) ++ utf8 (drop n cs)
 take_parts n cs = ap utf8 (sym (take-append-drop n cs)) ∙ encodes-append (take n cs) (drop n cs)
 
--- the bytes that a run leaves behind it
-pub run_bytes : (test : ℕ → Bool) (p q : Place) (whole left : List ℕ) → q ≡ behind test p → whole ≡ utf8 p.rest → left ≡ utf8 q.rest → (length left ≤ length whole) × (take (length whole - length left) whole ≡ utf8 (run test p))
-run_bytes test p q whole left e w l =
-    let k = prefix_len test p.rest in
+-- the bytes that n characters leave behind them
+pub skip_bytes : (k : ℕ) (p q : Place) (whole left : List ℕ) → q ≡ skip k p → whole ≡ utf8 p.rest → left ≡ utf8 q.rest → (length left ≤ length whole) × (take (length whole - length left) whole ≡ utf8 (take k p.rest))
+skip_bytes k p q whole left e w l =
     let r : left ≡ utf8 (drop k p.rest) = l ∙ ap (λ (x : Place). utf8 x.rest) e ∙ ap utf8 (rest_skip k p) in
     let parts : whole ≡ utf8 (take k p.rest) ++ utf8 (drop k p.rest) = w ∙ take_parts k p.rest in
     let len : length whole ≡ length (utf8 (take k p.rest)) + length left = ap length parts ∙ length-append (utf8 (take k p.rest)) (utf8 (drop k p.rest)) ∙ ap (λ (x : List ℕ). length (utf8 (take k p.rest)) + length x) (sym r) in
     let n : length (utf8 (take k p.rest)) ≡ length whole - length left = omega (arith, len) in
     (omega (arith, len), ap (λ (x : List ℕ). take (length whole - length left) x) parts ∙ take_at (utf8 (take k p.rest)) (utf8 (drop k p.rest)) (length whole - length left) n)
+
+-- and those that a run does
+pub run_bytes : (test : ℕ → Bool) (p q : Place) (whole left : List ℕ) → q ≡ behind test p → whole ≡ utf8 p.rest → left ≡ utf8 q.rest → (length left ≤ length whole) × (take (length whole - length left) whole ≡ utf8 (run test p))
+run_bytes test p q whole left e w l = skip_bytes (prefix_len test p.rest) p q whole left e w l
 
 -- ---- the place of a mark
 

@@ -6,7 +6,7 @@ ghost use Rattle.yaml_text.specs.Classes as classes;
 ghost use Rattle.yaml_text.specs.Utf8.{value_of};
 ghost use Rattle.yaml_lexeme.specs.Classes as sets;
 ghost use Rattle.yaml_lexeme.specs.Place.{peek, first, place_at, IsMarkOf, skip, mark_behind, width, behind, run, break_len};
-ghost use Rattle.yaml_lexeme.specs.Runs.{class_test, is_line, trim};
+ghost use Rattle.yaml_lexeme.specs.Runs.{class_test, is_line, Stands};
 
 use crate::runs::{class_t, quiet_len, trimmed};
 use std::marker::Model;
@@ -73,6 +73,7 @@ fn is_in_line(c: char) -> bool
     !(is_break(c) || c == '\0')
 }
 
+#[inline(always)]
 fn is_in(class: class_t, c: char) -> bool
     ensures { result ≡ class_test class c }
 {
@@ -318,6 +319,15 @@ impl<'a> cursor_t<'a> {
         }
     }
 
+    /// The bytes from an earlier place on up to this one.
+    #[inline(always)]
+    pub fn since(&self, start: &cursor_t<'a>) -> &'a [u8]
+        requires { (n : ℕ) × (self.now ≡ skip n start.now) }
+        ensures { (n : ℕ) → self.now ≡ skip n start.now → result.now ≡ utf8 (take n start.now.rest) }
+    {
+        front(start.bytes, start.bytes.len() - self.bytes.len())
+    }
+
     /// What is left of the text.
     fn left(&self) -> &'a [u8]
         ensures { result.now ≡ utf8 self.now.rest }
@@ -356,27 +366,20 @@ impl<'a> cursor_t<'a> {
         front(start, start.len() - left.len())
     }
 
-    /// Takes a run of characters of a line, as long as can be, but for the blanks at its end, and gives its bytes.
+    /// Takes characters of a class of a line, up to a byte that needs a closer look, but for the blanks in front of it.
     #[inline(always)]
-    pub fn run_trimmed(&mut self, class: class_t) -> &'a [u8]
+    pub fn skip_solid(&mut self, class: class_t)
         requires { is_line class ≡ true }
-        ensures value { result.now ≡ utf8 (trim (run (class_test class) self.old)) }
-        ensures end { self.new ≡ skip (length (trim (run (class_test class) self.old))) self.old }
+        ensures { Stands (class_test class) self.old self.new }
     {
-        let (bytes, from) = (self.bytes, self.mark);
-        let piece = self.run(class);
-        let kept = trimmed(piece);
-        let blanks = (piece.len() - kept.len()) as u64;
-        let column = self.mark().column - blanks;
-        *self = cursor_t {
-            mark: yaml_mark_t {
-                index: from.index + kept.len() as u64,
-                line: from.line,
-                column,
-            },
-            bytes: rest(bytes, kept.len()),
+        let (n, count) = quiet_len(class, self.bytes);
+        let kept = trimmed(front(self.bytes, n)).len();
+        self.mark = yaml_mark_t {
+            index: self.mark.index + kept as u64,
+            line: self.mark.line,
+            column: self.mark.column + (count - (n - kept)) as u64,
         };
-        kept
+        self.bytes = rest(self.bytes, kept);
     }
 
     /// Takes a run of characters of the class, as long as can be.
