@@ -3,6 +3,7 @@ ghost use Rattle.std.specs.Prelude.{◌≡◌, ◌+◌, ◌++◌, ◌<◌, ◌^�
 ghost use Rattle.yaml_text.specs.Chars.{utf8};
 ghost use Rattle.yaml_lexeme.specs.Block as spec;
 ghost use Rattle.yaml_lexeme.specs.Gives.{Gives, Moves};
+ghost use Rattle.yaml_lexeme.specs.Place.{skip, break_len};
 ghost use Rattle.yaml_lexeme.specs.Tails.{TakesBlanks, TakesLine, between_tail, chomped_tail};
 
 use crate::cursor::{cursor_t, is_blank, is_break};
@@ -13,6 +14,9 @@ use crate::problem::{problem_t, refusal_t};
 use crate::runs::class_t;
 use std::alloc::{AllocError, Global};
 use yaml_text::{yaml_bytes_t, yaml_mark_t};
+
+/// How many bytes a block scalar is given room for at first.
+const ROOM: usize = 256;
 
 /// What is kept behind the last text line.
 #[derive(Clone, Copy)]
@@ -144,13 +148,23 @@ fn is_indenting(cursor: &cursor_t, c: char, limit: Option<u64>) -> bool
     cursor.peek(0) == c && is_below(limit, cursor.mark().column)
 }
 
+/// Takes the spaces that are indentation.
+#[inline(always)]
+fn skip_indent(cursor: &mut cursor_t, limit: Option<u64>)
+    ensures { cursor.new ≡ skip (spec.indent_len limit cursor.old) cursor.old }
+{
+    match limit {
+        None => cursor.skip_run(class_t::SPACE),
+        Some(n) => cursor.skip_spaces(n.saturating_sub(cursor.mark().column)),
+    }
+}
+
 /// Takes the spaces that are indentation, where no tab may stand.
+#[tactic(auto, unfolding(crate::specs::Block::after_indent))]
 fn take_indent(cursor: &mut cursor_t, limit: Option<u64>) -> Result<(), refusal_t>
     ensures { Moves result cursor.new (spec.after_indent limit cursor.old) }
 {
-    'spaces: while is_indenting(cursor, ' ', limit) {
-        cursor.advance();
-    }
+    skip_indent(cursor, limit);
     if is_indenting(cursor, '\t', limit) {
         return Err(refusal_t::OFFENCE(problem_t::TAB_IN_INDENTATION));
     }
@@ -178,15 +192,20 @@ fn take_blank_lines(
     Ok(blanks_t { column, end })
 }
 
-/// The break that stands here, as it is written.
-fn break_at(cursor: &cursor_t) -> Option<char>
-    ensures { result ≡ spec.break_at cursor.now }
+/// Takes the break that stands here, if one does, and gives it as it is written.
+#[inline(always)]
+fn take_break(cursor: &mut cursor_t) -> Option<char>
+    ensures value { result ≡ spec.break_at cursor.old }
+    ensures end { cursor.new ≡ skip (break_len cursor.old) cursor.old }
 {
-    if cursor.break_len() > 0 {
-        Some(written(cursor.peek(0)))
-    } else {
-        None
+    let c = cursor.peek(0);
+    if c == '\n' {
+        cursor.advance();
+        return Some(c);
     }
+    let n = cursor.break_len();
+    cursor.skip(n);
+    if n == 0 { None } else { Some(written(c)) }
 }
 
 /// Takes a text line whose indentation is read, and puts its text behind `out`.
@@ -201,8 +220,7 @@ fn take_line(
     let indented = is_blank(cursor.peek(0));
     let text = cursor.run(class_t::IN_LINE);
     out.extend_from_slice(text)?;
-    let lead = break_at(cursor);
-    cursor.skip(cursor.break_len());
+    let lead = take_break(cursor);
     let mut empties = Vec::new(alloc);
     let blanks = take_blank_lines(cursor, Some(indent), &mut empties)?;
     Ok(tail_t {
@@ -310,7 +328,7 @@ pub(crate) fn take_block(
         indented: false,
         end: leading.end,
     };
-    let mut out = Vec::new(alloc);
+    let mut out = Vec::with_capacity(alloc, ROOM)?;
     'lines: while is_text(cursor, indent) {
         push_between(&mut out, folded, &tail, is_blank(cursor.peek(0)))?;
         tail = take_line(alloc, cursor, indent, &mut out)?;

@@ -1,14 +1,15 @@
 //! A place that moves through a text.
-ghost use Rattle.std.specs.Prelude.{ℕ, ◌≡◌, ◌+◌, ◌-◌, ◌^◌, ◌<◌, ◌≤◌, length, slice_index, take, drop, false, true};
+ghost use Rattle.std.specs.Prelude.{ℕ, min, ◌≡◌, ◌+◌, ◌-◌, ◌^◌, ◌<◌, ◌≤◌, length, slice_index, take, drop, false, true};
 ghost use Rattle.std.specs.Str.{chars};
 ghost use Rattle.yaml_text.specs.Chars.{IsText, AreChars, utf8};
 ghost use Rattle.yaml_text.specs.Classes as classes;
 ghost use Rattle.yaml_text.specs.Utf8.{value_of};
 ghost use Rattle.yaml_lexeme.specs.Classes as sets;
-ghost use Rattle.yaml_lexeme.specs.Place.{peek, first, place_at, IsMarkOf, skip, mark_behind, width, behind, run, break_len};
+ghost use Rattle.yaml_lexeme.specs.Place.{peek, first, place_at, IsMarkOf, skip, mark_behind, width, behind, run, run_len, break_len};
+ghost use Rattle.yaml_lexeme.specs.declared.runs.class_t.TheVariants.{SPACE};
 ghost use Rattle.yaml_lexeme.specs.Runs.{class_test, is_line, Stands};
 
-use crate::runs::{class_t, quiet_len, trimmed};
+use crate::runs::{class_t, quiet_len, spaces_len, trimmed};
 use std::marker::Model;
 use yaml_text::{WIDTH, yaml_mark_t, yaml_text_t};
 
@@ -380,6 +381,20 @@ impl<'a> cursor_t<'a> {
             column: self.mark.column + (count - (n - kept)) as u64,
         };
         self.bytes = rest(self.bytes, kept);
+    }
+
+    /// Takes the spaces that stand here, but at most so many.
+    #[inline(always)]
+    pub fn skip_spaces(&mut self, most: u64)
+        ensures { self.new ≡ skip (min (run_len (class_test SPACE) self.old) most) self.old }
+    {
+        let n = (spaces_len(self.bytes) as u64).min(most);
+        self.mark = yaml_mark_t {
+            index: self.mark.index + n,
+            line: self.mark.line,
+            column: self.mark.column + n,
+        };
+        self.bytes = rest(self.bytes, n as usize);
     }
 
     /// Takes a run of characters of the class, as long as can be.

@@ -256,7 +256,7 @@ fn stops_space(v: u8x16) -> u64
 
 /// How many spaces stand in front.
 #[inline(always)]
-fn spaces_len(text: &[u8]) -> usize
+pub(crate) fn spaces_len(text: &[u8]) -> usize
     ensures { result ≡ prefix_len (spec.is_quiet SPACE) text.now }
 {
     if text.len() >= 16 {
