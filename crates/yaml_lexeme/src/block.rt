@@ -6,7 +6,7 @@ ghost use Rattle.yaml_lexeme.specs.Gives.{Gives, Moves};
 ghost use Rattle.yaml_lexeme.specs.Place.{skip, break_len};
 ghost use Rattle.yaml_lexeme.specs.Tails.{TakesBlanks, TakesLine, between_tail, chomped_tail};
 
-use crate::cursor::{cursor_t, is_blank, is_break};
+use crate::cursor::{check_at, cursor_t, is_at, is_blank, is_break};
 use crate::fold::{push_char, written};
 use crate::gap::skip_comment;
 use crate::plain::scalar_t;
@@ -145,7 +145,7 @@ fn is_below(limit: Option<u64>, column: u64) -> bool
 fn is_indenting(cursor: &cursor_t, c: char, limit: Option<u64>) -> bool
     ensures { result ≡ spec.is_indenting c limit cursor.now }
 {
-    cursor.peek(0) == c && is_below(limit, cursor.mark().column)
+    check_at!(cursor, c, 0) && is_below(limit, cursor.mark().column)
 }
 
 /// Takes the spaces that are indentation.
@@ -217,7 +217,7 @@ fn take_line(
 ) -> Result<tail_t, refusal_t>
     ensures { TakesLine result out.old.items out.new.items cursor.new (spec.line_at indent cursor.old) }
 {
-    let indented = is_blank(cursor.peek(0));
+    let indented = is_at!(cursor, is_blank, 0);
     let text = cursor.run(class_t::IN_LINE);
     out.extend_from_slice(text)?;
     let lead = take_break(cursor);
@@ -303,7 +303,7 @@ fn block_indent(least: u64, digit: Option<u64>, leading: u64, column: u64) -> u6
 fn is_text(cursor: &cursor_t, indent: u64) -> bool
     ensures { result ≡ spec.is_text indent cursor.now }
 {
-    cursor.mark().column == indent && cursor.peek(0) != '\0'
+    cursor.mark().column == indent && !check_at!(cursor, '\0', 0)
 }
 
 /// Takes a literal or folded scalar, at its first character. `least` is the greatest open level + 1, or 0.
@@ -330,7 +330,7 @@ pub(crate) fn take_block(
     };
     let mut out = Vec::with_capacity(alloc, ROOM)?;
     'lines: while is_text(cursor, indent) {
-        push_between(&mut out, folded, &tail, is_blank(cursor.peek(0)))?;
+        push_between(&mut out, folded, &tail, is_at!(cursor, is_blank, 0))?;
         tail = take_line(alloc, cursor, indent, &mut out)?;
     }
     push_chomped(&mut out, header.chomp, &tail)?;

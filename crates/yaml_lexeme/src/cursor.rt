@@ -13,6 +13,23 @@ use crate::runs::{class_t, quiet_len, spaces_len, trimmed};
 use std::marker::Model;
 use yaml_text::{WIDTH, yaml_mark_t, yaml_text_t};
 
+/// Whether a character stands so many places on: past the end a text reads as 0.
+macro_rules! check_at {
+    ($cursor:expr, $c:expr, $k:expr) => {
+        $cursor.peek($k) == $c
+    };
+}
+
+/// Whether a character that passes a test stands so many places on.
+macro_rules! is_at {
+    ($cursor:expr, $test:expr, $k:expr) => {
+        $test($cursor.peek($k))
+    };
+}
+
+pub(crate) use check_at;
+pub(crate) use is_at;
+
 /// A place in a text: a mark and the bytes from it on.
 #[derive(Drop)]
 pub(crate) struct cursor_t<'a> {
@@ -311,7 +328,7 @@ impl<'a> cursor_t<'a> {
         ensures { result ≡ break_len self.now }
     {
         let c = self.peek(0);
-        if c == '\r' && self.peek(1) == '\n' {
+        if c == '\r' && check_at!(self, '\n', 1) {
             2
         } else if is_break(c) {
             1

@@ -4,7 +4,7 @@ ghost use Rattle.yaml_lexeme.specs.Place.{IsMarkOf, place_at, behind, peek};
 ghost use Rattle.yaml_lexeme.specs.Classes.{is_in_line};
 ghost use Rattle.yaml_lexeme.specs.Gap as spec;
 
-use crate::cursor::cursor_t;
+use crate::cursor::{check_at, cursor_t};
 use crate::runs::class_t;
 use yaml_text::{yaml_mark_t, yaml_text_t};
 
@@ -21,7 +21,7 @@ fn skip_line(cursor: &mut cursor_t)
 pub(crate) fn skip_comment(cursor: &mut cursor_t)
     ensures { cursor.new ≡ spec.after_comment cursor.old }
 {
-    if cursor.peek(0) == '#' {
+    if check_at!(cursor, '#', 0) {
         skip_line(cursor);
     }
 }
@@ -31,7 +31,7 @@ pub(crate) fn skip_comment(cursor: &mut cursor_t)
 fn skip_gap_line(cursor: &mut cursor_t, tabs: bool)
     ensures { cursor.new ≡ spec.after_gap_line tabs cursor.old }
 {
-    if cursor.mark().column == 0 && cursor.peek(0) == '\u{FEFF}' {
+    if cursor.mark().column == 0 && check_at!(cursor, '\u{FEFF}', 0) {
         cursor.advance();
     }
     cursor.skip_run(class_t::GAP_BLANK(tabs));
@@ -67,7 +67,7 @@ fn skip_feed(cursor: &mut cursor_t) -> bool
     ensures some { result ≡ true → spec.IsGap cursor.old cursor.new true }
     ensures none { result ≡ false → cursor.new ≡ cursor.old }
 {
-    if cursor.peek(0) != '\n' {
+    if !check_at!(cursor, '\n', 0) {
         return false;
     }
     let mut next = cursor.again();
@@ -85,7 +85,7 @@ fn skip_feed(cursor: &mut cursor_t) -> bool
 fn skip_some_gap(cursor: &mut cursor_t, in_flow: bool, allowed: bool) -> bool
     ensures { (cursor.new, result) ≡ spec.gap in_flow allowed cursor.old }
 {
-    if cursor.peek(0) == ' ' && is_solid(cursor, 1) {
+    if check_at!(cursor, ' ', 0) && is_solid(cursor, 1) {
         cursor.advance();
         return false;
     }

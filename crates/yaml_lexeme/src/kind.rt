@@ -3,7 +3,7 @@ ghost use Rattle.std.specs.Prelude.{ℕ, ◌≡◌};
 ghost use Rattle.yaml_lexeme.specs.Place.{IsMarkOf, place_at};
 ghost use Rattle.yaml_lexeme.specs.Kind as spec;
 
-use crate::cursor::{cursor_t, ends};
+use crate::cursor::{check_at, cursor_t, ends, is_at};
 use yaml_text::{yaml_mark_t, yaml_text_t};
 
 /// What kind of lexeme stands at a place.
@@ -37,10 +37,10 @@ pub(crate) fn is_marker_of(cursor: &cursor_t, c: char) -> bool
     ensures { result ≡ spec.is_marker_of c cursor.now }
 {
     cursor.mark().column == 0
-        && cursor.peek(0) == c
-        && cursor.peek(1) == c
-        && cursor.peek(2) == c
-        && ends(cursor.peek(3))
+        && check_at!(cursor, c, 0)
+        && check_at!(cursor, c, 1)
+        && check_at!(cursor, c, 2)
+        && is_at!(cursor, ends, 3)
 }
 
 /// Whether a document marker stands here.
@@ -110,9 +110,9 @@ fn kind_at(cursor: &cursor_t, in_flow: bool) -> Option<yaml_lexeme_kind_t>
         ']' => yaml_lexeme_kind_t::FLOW_SEQUENCE_END,
         '}' => yaml_lexeme_kind_t::FLOW_MAPPING_END,
         ',' => yaml_lexeme_kind_t::FLOW_ENTRY,
-        '-' if ends(cursor.peek(1)) => yaml_lexeme_kind_t::BLOCK_ENTRY,
-        '?' if in_flow || ends(cursor.peek(1)) => yaml_lexeme_kind_t::KEY,
-        ':' if in_flow || ends(cursor.peek(1)) => yaml_lexeme_kind_t::VALUE,
+        '-' if is_at!(cursor, ends, 1) => yaml_lexeme_kind_t::BLOCK_ENTRY,
+        '?' if in_flow || is_at!(cursor, ends, 1) => yaml_lexeme_kind_t::KEY,
+        ':' if in_flow || is_at!(cursor, ends, 1) => yaml_lexeme_kind_t::VALUE,
         '*' => yaml_lexeme_kind_t::ALIAS,
         '&' => yaml_lexeme_kind_t::ANCHOR,
         '!' => yaml_lexeme_kind_t::TAG,

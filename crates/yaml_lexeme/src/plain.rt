@@ -10,7 +10,7 @@ ghost use Rattle.yaml_lexeme.specs.Gives.{Gives, Appends};
 ghost use Rattle.yaml_lexeme.specs.Reading.{with_front, over};
 ghost use Rattle.yaml_lexeme.specs.Words.{links, words, Goes, LeadsTo, Leaves, LeavesMore};
 
-use crate::cursor::{cursor_t, ends, is_break, is_white};
+use crate::cursor::{check_at, cursor_t, ends, is_at, is_break, is_white};
 use crate::fold::{push_char, push_separator};
 use crate::kind::is_marker;
 use crate::problem::{problem_t, refusal_t};
@@ -39,7 +39,7 @@ fn is_flow_indicator(c: char) -> bool
 fn is_bad_colon(cursor: &cursor_t, in_flow: bool) -> bool
     ensures { result ≡ spec.is_bad_colon in_flow (first cursor.now) (peek cursor.now 1) }
 {
-    if !in_flow || cursor.peek(0) != ':' {
+    if !in_flow || !check_at!(cursor, ':', 0) {
         return false;
     }
     let next = cursor.peek(1);
@@ -55,7 +55,7 @@ fn is_chunk(cursor: &cursor_t, in_flow: bool) -> bool
     if ends(c) || in_flow && is_flow_indicator(c) {
         return false;
     }
-    !(c == ':' && (ends(cursor.peek(1)) || is_bad_colon(cursor, in_flow)))
+    !(c == ':' && (is_at!(cursor, ends, 1) || is_bad_colon(cursor, in_flow)))
 }
 
 /// Whether a line may go on at any column behind the character that stands here.
@@ -117,7 +117,7 @@ fn take_words(
 fn is_bad_tab(cursor: &cursor_t, broken: bool, least: u64) -> bool
     ensures { result ≡ spec.is_tab least broken cursor.now }
 {
-    cursor.peek(0) == '\t' && broken && cursor.mark().column < least
+    check_at!(cursor, '\t', 0) && broken && cursor.mark().column < least
 }
 
 /// Takes a separator, where no tab may stand in indentation.
@@ -125,11 +125,11 @@ fn skip_separator(cursor: &mut cursor_t, least: u64) -> Result<(), refusal_t>
     ensures { Appends (λ run. []) result [] [] cursor.new (spec.separator least cursor.old) }
 {
     let mut broken = false;
-    'run: while is_white(cursor.peek(0)) {
+    'run: while is_at!(cursor, is_white, 0) {
         if is_bad_tab(cursor, broken, least) {
             return Err(refusal_t::OFFENCE(problem_t::TAB_IN_PLAIN));
         }
-        broken |= is_break(cursor.peek(0));
+        broken |= is_at!(cursor, is_break, 0);
         cursor.advance();
         cursor.skip_run(class_t::SPACE);
     }
@@ -139,7 +139,7 @@ fn skip_separator(cursor: &mut cursor_t, least: u64) -> Result<(), refusal_t>
 fn is_over(cursor: &cursor_t, in_flow: bool, least: u64) -> bool
     ensures { result ≡ spec.is_over in_flow least cursor.now }
 {
-    !in_flow && cursor.mark().column < least || is_marker(cursor) || cursor.peek(0) == '#'
+    !in_flow && cursor.mark().column < least || is_marker(cursor) || check_at!(cursor, '#', 0)
 }
 
 /// Takes a separator and the words behind it, and puts them behind `out`. The flag is false where the scalar is over.
@@ -152,7 +152,7 @@ fn take_link(
     ensures value { LeavesMore result (with_front out.old.items (links in_flow least cursor.old)) (with_front out.new.items (links in_flow least cursor.new)) out.new.items cursor.new }
     ensures shorter { IfOk result (λ more. more ≡ true → length cursor.new.rest < length cursor.old.rest) }
 {
-    if !is_white(cursor.peek(0)) {
+    if !is_at!(cursor, is_white, 0) {
         return Ok(false);
     }
     let mut start = cursor.again();
@@ -173,8 +173,8 @@ fn take_link(
     Ok(true)
 }
 
-/// Takes the separator that stands here, where a quick look shows that the scalar is over in front of it. Then the separator
-/// is empty, or is a line feed and spaces in front of a line that is not indented enough. Tells whether it has a break.
+/// Takes the separator that stands here, where a quick look shows that the scalar is over in front of it. Then it is empty,
+/// or is a line feed and spaces in front of a line that is not indented enough. Tells whether a break stands in it.
 #[inline(always)]
 fn ends_at_once(cursor: &mut cursor_t, in_flow: bool, least: u64) -> Option<bool>
     ensures over { IfSome result (λ b. spec.link in_flow least cursor.old ≡ over) }
@@ -212,7 +212,7 @@ fn take_links(
     'links: while take_link(cursor, in_flow, least, &mut out)? {}
     let end = cursor.mark();
     cursor.skip_run(class_t::BLANK);
-    let passed_break = is_break(cursor.peek(0));
+    let passed_break = is_at!(cursor, is_break, 0);
     cursor.skip_run(class_t::BLANK_OR_BREAK);
     Ok(scalar_t {
         value: yaml_bytes_t::from_vec(out),

@@ -9,7 +9,7 @@ ghost use Rattle.yaml_lexeme.specs.Runs as runs;
 ghost use Rattle.yaml_lexeme.specs.Gives.{Gives, Takes};
 ghost use Rattle.yaml_lexeme.specs.Words.{GoesOn};
 
-use crate::cursor::{cursor_t, is_break, is_white};
+use crate::cursor::{check_at, cursor_t, is_at, is_break, is_white};
 use crate::escape::take_escape;
 use crate::fold::{push_breaks, push_char, push_separator};
 use crate::kind::is_marker;
@@ -49,7 +49,7 @@ fn take_part(cursor: &mut cursor_t, single: bool, out: &mut Vec<u8>) -> Result<b
         return unmarked(cursor);
     }
     if c == quote(single) {
-        if !(single && cursor.peek(1) == c) {
+        if !(single && check_at!(cursor, c, 1)) {
             return Ok(false);
         }
         push_char(out, c)?;
@@ -61,7 +61,7 @@ fn take_part(cursor: &mut cursor_t, single: bool, out: &mut Vec<u8>) -> Result<b
         cursor.advance();
         return Ok(true);
     }
-    if is_break(cursor.peek(1)) {
+    if is_at!(cursor, is_break, 1) {
         cursor.advance();
         cursor.skip(cursor.break_len());
         push_breaks(cursor, out)?;
@@ -89,7 +89,7 @@ fn line_piece<'a>(cursor: &mut cursor_t<'a>, single: bool) -> &'a [u8]
     ensures shorter { length cursor.new.rest ≤ length cursor.old.rest }
 {
     let piece = cursor.run(line_class(single));
-    if is_break(cursor.peek(0)) {
+    if is_at!(cursor, is_break, 0) {
         return trimmed(piece);
     }
     piece

@@ -4,7 +4,7 @@ ghost use Rattle.yaml_text.specs.declared.token.unnamed_yaml_token_t_data.TheVar
 ghost use Rattle.yaml_lexeme.specs.Tag as spec;
 ghost use Rattle.yaml_lexeme.specs.Gives.{Gives};
 
-use crate::cursor::{cursor_t, ends};
+use crate::cursor::{check_at, cursor_t, ends};
 use crate::name::take_letters;
 use crate::problem::{problem_t, refusal_t};
 use crate::uri::{push_byte, take_some_uri, take_uri};
@@ -27,7 +27,7 @@ fn take_angled(alloc: Global, cursor: &mut cursor_t) -> Result<unnamed_yaml_toke
 {
     cursor.advance();
     let suffix = take_some_uri(alloc, cursor, true)?;
-    if cursor.peek(0) != '>' {
+    if !check_at!(cursor, '>', 0) {
         return Err(refusal_t::OFFENCE(problem_t::NO_CLOSING_ANGLE));
     }
     cursor.advance();
@@ -43,7 +43,7 @@ fn take_handled(
     ensures { Gives (λ t. t) result cursor.new (spec.handled cursor.old) }
 {
     let letters = take_letters(cursor);
-    if cursor.peek(0) == '!' {
+    if check_at!(cursor, '!', 0) {
         cursor.advance();
         let suffix = take_some_uri(alloc, cursor, false)?;
         let mut handle = Vec::new(alloc);
@@ -69,7 +69,7 @@ fn take_tag_parts(
     ensures { Gives (λ t. t) result cursor.new (spec.tag_parts cursor.old) }
 {
     cursor.advance();
-    if cursor.peek(0) == '<' {
+    if check_at!(cursor, '<', 0) {
         take_angled(alloc, cursor)
     } else {
         take_handled(alloc, cursor)
