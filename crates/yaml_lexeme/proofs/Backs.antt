@@ -1,10 +1,10 @@
 -- A run of a line, without the blanks at its end.
 use Rattle.std.proofs.Common.{◌≡◌, ℕ, zero, suc, ◌+◌, ◌-◌, ◌<◌, ◌≤◌, true, false, List, [], ◌∷◌, ◌++◌, length, get_or, take, drop, refl, sym, ap, ◌∙◌, subst, arith}
-use Rattle.std.specs.List.{prefix_len, list_all}
+use Rattle.std.specs.List.{prefix_len, list_all, count_by}
 use Rattle.std.specs.Str.{chars}
 use Rattle.std.proofs.lemmas.Bool.{and_parts}
 use Rattle.std.proofs.lemmas.Bool.Decides.{nat_tests}
-use Rattle.std.proofs.lemmas.List.{take-append-drop, take_at, drop_at, length-append, length-take, take-take}
+use Rattle.std.proofs.lemmas.List.{take-append-drop, take_at, drop_at, length-append, take-take}
 use Rattle.std.proofs.lemmas.List.Sums.{prefix_len-le-length, prefix_len_passes}
 use Rattle.std.proofs.lemmas.Str.{encode_ascii, encodes-append, length-encode, len_utf8_bounds}
 use lib.Utf8.{encode}
@@ -15,9 +15,9 @@ use Rattle.yaml_text.proofs.Fronts.{chars-utf8, IsText-utf8}
 use Rattle.yaml_text.proofs.Places.{AreChars-parts}
 use Rattle.yaml_lexeme.specs.declared.runs.class_t.{class_t}
 use Rattle.yaml_lexeme.specs.declared.runs.class_t.TheVariants.{BLANK, GAP_BLANK, SPACE, BLANK_OR_BREAK, ALPHA, DIGIT, IN_LINE, DOUBLE, SINGLE, PLAIN, FLOW}
-use Rattle.yaml_lexeme.specs.Place.{Place, skip_from, skip, behind, run, mark_behind, width}
-use Rattle.yaml_lexeme.specs.Runs.{class_test, is_line, trim}
-use Rattle.yaml_lexeme.proofs.Quiet.{along}
+use Rattle.yaml_lexeme.specs.Place.{Place, skip_from, skip, mark_behind, width}
+use Rattle.yaml_lexeme.specs.Runs.{class_test, is_line, is_quiet, begins, trim, Stands}
+use Rattle.yaml_lexeme.proofs.Quiet.{along, Over, over, count_chars}
 use Rattle.yaml_lexeme.proofs.Trims.{trimmed, trim_bytes}
 
 -- what stands in a line is no break
@@ -61,65 +61,56 @@ longer : (cs : List ℕ) → length cs ≤ length (utf8 cs)
 longer [] = omega arith
 longer (c ∷ cs) = omega (arith, longer cs, length-append (encode c) (utf8 cs), length-encode c, len_utf8_bounds c)
 
--- The place behind what is kept of a run.
-pub record Back (class : class_t) (m : yaml_mark_t) (bytes : List ℕ) (p : Place) (piece kept : List ℕ) (end : yaml_mark_t) : Type 0 where
-  pub within : length kept ≤ length piece
-  pub inside : length kept ≤ length bytes
-  pub room : length piece - length kept ≤ end.column
-  pub text : IsText (drop (length kept) bytes)
-  pub sums : m.line + m.column ≤ m.index → m.line + (end.column - (length piece - length kept)) ≤ m.index + length kept
-  pub place : let q : Place = record { mark = record { index = m.index + length kept; line = m.line; column = end.column - (length piece - length kept) }; rest = chars (drop (length kept) bytes) } in
-      q ≡ skip (length (trim (run (class_test class) p))) p
+-- The place behind what is kept of n bytes of k characters, of which none needs a closer look.
+pub record Back (class : class_t) (m : yaml_mark_t) (bytes : List ℕ) (p : Place) (n k kept : ℕ) : Type 0 where
+  pub within : kept ≤ n
+  pub inside : kept ≤ length bytes
+  pub room : n - kept ≤ k
+  pub text : IsText (drop kept bytes)
+  pub sums : m.line + m.column ≤ m.index → m.line + (m.column + (k - (n - kept))) ≤ m.index + kept
+  pub place : let q : Place = record { mark = record { index = m.index + kept; line = m.line; column = m.column + (k - (n - kept)) }; rest = chars (drop kept bytes) } in Stands (class_test class) p q
 
-back_from : (class : class_t) (m : yaml_mark_t) (bytes : List ℕ) (piece kept : List ℕ) (end : yaml_mark_t) → is_line class ≡ true → IsText bytes → let p : Place = record { mark = m; rest = chars bytes } in
-    piece ≡ utf8 (run (class_test class) p) → kept ≡ utf8 (trim (run (class_test class) p)) → end ≡ (behind (class_test class) p).mark → Back class m bytes p piece kept end
+back_from : (class : class_t) (m : yaml_mark_t) (bytes : List ℕ) (n k kept : ℕ) → is_line class ≡ true → IsText bytes → let p : Place = record { mark = m; rest = chars bytes } in
+    n ≡ prefix_len (is_quiet class) bytes → k ≡ count_by begins (take n bytes) → kept ≡ length (trim (take n bytes)) → Back class m bytes p n k kept
 unfolding skip
-back_from class m bytes piece kept end line t v k e =
+back_from class m bytes n k kept line t n-is k-is kept-is =
     let cs = chars bytes in
-    let p : Place = record { mark = m; rest = cs } in
     let test = class_test class in
-    let n = prefix_len test cs in
-    let r = trimmed (take n cs) in
-    let front = trim (take n cs) in
+    let o : Over class m cs n = subst (λ x. Over class m cs x) (ap (prefix_len (is_quiet class)) t.spelled ∙ sym n-is) (over class m cs t.each) in
+    let whole = o.front in
+    let j = length whole in
+    let tk : take n bytes ≡ utf8 whole = ap (λ (x : List ℕ). take n x) (sym t.spelled ∙ ap utf8 o.parts ∙ encodes-append whole o.left) ∙ take_at (utf8 whole) (utf8 o.left) n o.bytes in
+    let tj : take j cs ≡ whole = ap (λ (x : List ℕ). take j x) o.parts ∙ take_at whole o.left j refl in
+    let count : k ≡ j = k-is ∙ ap (λ (x : List ℕ). count_by begins x) tk ∙ count_chars whole in
+    let r = trimmed whole in
+    let front = trim whole in
     let f = length front in
-    let within : n ≤ length cs = prefix_len-le-length test cs in
-    let len : length (take n cs) ≡ n = omega (arith, length-take n cs) in
-    let sum : f + length r.blanks ≡ n = omega (arith, len, ap length r.parts, length-append front r.blanks) in
-    let same : take f cs ≡ front = sym (take-take f n cs (omega arith)) ∙ ap (λ (x : List ℕ). take f x) r.parts ∙ take_at front r.blanks f refl in
-    let held : kept ≡ utf8 (take f cs) = k ∙ ap utf8 (sym same) in
-    let whole : piece ≡ utf8 front ++ utf8 r.blanks = v ∙ ap utf8 r.parts ∙ encodes-append front r.blanks in
-    let size : length piece ≡ length kept + length r.blanks = omega (arith, ap length whole, length-append (utf8 front) (utf8 r.blanks), ap length k, blank_bytes r.blanks r.each) in
-    let clean : (i : ℕ) → i < n → is_break (get_or cs i 0) ≡ false = λ i l. in_line class (get_or cs i 0) line (prefix_len_passes test cs i 0 l) in
-    let far = line_from n m cs within clean in
-    let near = line_from f m cs (omega arith) (λ i l. clean i (omega arith)) in
-    let col : end.column ≡ m.column + n = ap (λ (x : yaml_mark_t). x.column) e ∙ ap (λ (x : Place). x.mark.column) far in
+    let size-kept : kept ≡ length (utf8 front) = kept-is ∙ ap (λ (x : List ℕ). length (trim x)) tk ∙ ap length (trim_bytes whole) in
+    let sum : f + length r.blanks ≡ j = omega (arith, ap length r.parts, length-append front r.blanks) in
+    let size : n ≡ kept + length r.blanks = omega (arith, o.bytes, ap length (ap utf8 r.parts ∙ encodes-append front r.blanks), length-append (utf8 front) (utf8 r.blanks), size-kept, blank_bytes r.blanks r.each) in
+    let low : j ≤ prefix_len test cs = omega (arith, o.goes) in
+    let within : prefix_len test cs ≤ length cs = prefix_len-le-length test cs in
+    let same : take f cs ≡ front = sym (take-take f j cs (omega arith)) ∙ ap (λ (x : List ℕ). take f x) (tj ∙ r.parts) ∙ take_at front r.blanks f refl in
+    let held : kept ≡ length (utf8 (take f cs)) = size-kept ∙ ap (λ (x : List ℕ). length (utf8 x)) (sym same) in
+    let clean : (i : ℕ) → i < f → is_break (get_or cs i 0) ≡ false = λ i l. in_line class (get_or cs i 0) line (prefix_len_passes test cs i 0 (omega arith)) in
+    let near = line_from f m cs (omega arith) clean in
     let b : bytes ≡ utf8 (take f cs) ++ utf8 (drop f cs) = sym t.spelled ∙ ap utf8 (sym (take-append-drop f cs)) ∙ encodes-append (take f cs) (drop f cs) in
     let each = AreChars-parts (take f cs) (drop f cs) (subst AreChars (sym (take-append-drop f cs)) t.each) in
-    let dr : drop (length kept) bytes ≡ utf8 (drop f cs) = ap (λ (x : List ℕ). drop (length kept) x) b ∙ drop_at (utf8 (take f cs)) (utf8 (drop f cs)) (length kept) (sym (ap length held)) in
-    let left : chars (drop (length kept) bytes) ≡ drop f cs = ap chars dr ∙ chars-utf8 (drop f cs) each.1 in
-    let room : length piece - length kept ≤ end.column = omega (arith, col, size, sum) in
-    let index : m.index + length kept ≡ m.index + length (utf8 (take f cs)) = omega (arith, ap length held) in
-    let column : end.column - (length piece - length kept) ≡ m.column + f = omega (arith, col, size, sum) in
-    let long : f ≤ length kept = omega (arith, longer front, ap length k) in
+    let dr : drop kept bytes ≡ utf8 (drop f cs) = ap (λ (x : List ℕ). drop kept x) b ∙ drop_at (utf8 (take f cs)) (utf8 (drop f cs)) kept (sym held) in
+    let left : chars (drop kept bytes) ≡ drop f cs = ap chars dr ∙ chars-utf8 (drop f cs) each.1 in
+    let index : m.index + kept ≡ m.index + length (utf8 (take f cs)) = omega (arith, held) in
+    let column : m.column + (k - (n - kept)) ≡ m.column + f = omega (arith, count, size, sum) in
+    let long : f ≤ kept = omega (arith, longer front, size-kept) in
+    let end : f ≡ length (trim (take j cs)) = ap (λ (x : List ℕ). length (trim x)) (sym tj) in
     record {
       within = omega (arith, size);
-      inside = omega (arith, ap length b, length-append (utf8 (take f cs)) (utf8 (drop f cs)), ap length held);
-      room = room;
+      inside = omega (arith, ap length b, length-append (utf8 (take f cs)) (utf8 (drop f cs)), held);
+      room = omega (arith, count, size, sum);
       text = subst IsText (sym dr) (IsText-utf8 (drop f cs) each.1);
       sums = λ h. omega (arith, column, long);
-      place = (λ i. record { mark = record { index = index i; line = m.line; column = column i }; rest = left i }) ∙ sym near;
+      place = (j, (low, (λ i. record { mark = record { index = index i; line = m.line; column = column i }; rest = left i }) ∙ sym near ∙ ap (λ i. skip_from i m cs) end));
     }
 
-pub backs : (class : class_t) (m : yaml_mark_t) (bytes : List ℕ) (p : Place) (piece kept : List ℕ) (end : yaml_mark_t) → is_line class ≡ true → IsText bytes → (let q : Place = record { mark = m; rest = chars bytes } in q ≡ p)
-    → piece ≡ utf8 (run (class_test class) p) → kept ≡ utf8 (trim (run (class_test class) p)) → end ≡ (behind (class_test class) p).mark → Back class m bytes p piece kept end
-backs class m bytes p piece kept end line t view v k e =
-    let w : p ≡ record { mark = m; rest = chars bytes } = sym view in
-    subst (λ (x : Place). Back class m bytes x piece kept end) view
-    (back_from class m bytes piece kept end line t
-    (v ∙ ap (λ (x : Place). utf8 (run (class_test class) x)) w)
-    (k ∙ ap (λ (x : Place). utf8 (trim (run (class_test class) x))) w)
-    (e ∙ ap (λ (x : Place). (behind (class_test class) x).mark) w))
-
--- what is kept of a run's bytes
-pub kept_is : (kept piece cs : List ℕ) → kept ≡ trim piece → piece ≡ utf8 cs → kept ≡ utf8 (trim cs)
-kept_is kept piece cs k v = k ∙ ap trim v ∙ trim_bytes cs
+pub backs : (class : class_t) (m : yaml_mark_t) (bytes : List ℕ) (p : Place) (n k kept : ℕ) → is_line class ≡ true → IsText bytes → (let q : Place = record { mark = m; rest = chars bytes } in q ≡ p)
+    → n ≡ prefix_len (is_quiet class) bytes → k ≡ count_by begins (take n bytes) → kept ≡ length (trim (take n bytes)) → Back class m bytes p n k kept
+backs class m bytes p n k kept line t view n-is k-is kept-is = subst (λ (x : Place). Back class m bytes x n k kept) view (back_from class m bytes n k kept line t n-is k-is kept-is)

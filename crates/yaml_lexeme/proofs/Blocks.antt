@@ -1,10 +1,10 @@
 -- Block scalars, a space, a line at a time.
-use Rattle.std.proofs.Common.{◌≡◌, ℕ, zero, suc, ◌+◌, ◌<◌, ◌≤◌, max, Bool, true, false, cond, not, ◌==◌, ◌&&◌, ◌||◌, nat_lt, if◌then◌else◌, inl, inr, List, [], ◌∷◌, ◌++◌, length, slice_index, map, Option, Some, None, Result, Ok, Err, refl, sym, ap, subst, ◌∙◌, arith, append_assoc, ltb-true, ltb-false, eqb-true, lt-ltb, le_refl, length-append}
+use Rattle.std.proofs.Common.{◌≡◌, ℕ, zero, suc, ◌+◌, ◌<◌, ◌≤◌, max, Bool, true, false, cond, not, ◌==◌, ◌&&◌, ◌||◌, nat_lt, if◌then◌else◌, inl, inr, List, [], ◌∷◌, ◌++◌, length, slice_index, map, Option, Some, None, Result, Ok, Err, refl, sym, ap, subst, ◌∙◌, arith, append_assoc, lt-ltb, le_refl, length-append}
 use Rattle.std.proofs.lemmas.Bool.{cases_Bool, cases_lt, and_parts, not-true}
 use Rattle.std.proofs.lemmas.Str.{encode_ascii, encodes-append}
 use Rattle.std.proofs.lemmas.Bool.Decides.{nat_tests}
 use Rattle.std.proofs.lemmas.List.{append-nil}
-use Rattle.std.specs.List.{prefix_len, fold as fold_list}
+use Rattle.std.specs.List.{fold as fold_list}
 use Rattle.std.specs.Char.{encode_utf8}
 use Rattle.yaml_text.specs.declared.types.yaml_mark_t.{yaml_mark_t}
 use Rattle.yaml_lexeme.specs.declared.problem.refusal_t.{refusal_t}
@@ -12,9 +12,9 @@ use Rattle.yaml_lexeme.specs.declared.problem.refusal_t.TheVariants as errors
 use Rattle.yaml_lexeme.specs.declared.problem.problem_t.TheVariants.{TAB_IN_INDENTATION}
 use Rattle.yaml_lexeme.proofs.Gather.{gather, gathers_more, gathers_all, gathers_none}
 use Rattle.yaml_lexeme.proofs.Many.{IsShorter, Shortens}
-use Rattle.yaml_lexeme.proofs.Places.{length_skip, is_there, behind_more, behind_none, skip_more, skip_none, break_within}
+use Rattle.yaml_lexeme.proofs.Places.{length_skip, is_there, behind_more, behind_none, break_within}
 use Rattle.yaml_lexeme.proofs.Spaces.{run_more, run_none, encode_some}
-use Rattle.yaml_lexeme.specs.Block.{is_below, is_indenting, indent_len, after_indent, Blank, blank_line, Blanks, blanks_of, blank_lines, Line, break_at, line_at, is_text, text_line, header_at, after_line, leading_limit, block_indent, between, chomped, behind_line, block_value, end_of as end_of_lines, block, or_none, or_space, is_line_feed, is_more_indented}
+use Rattle.yaml_lexeme.specs.Block.{is_indenting, indent_len, after_indent, Blank, blank_line, Blanks, blanks_of, blank_lines, Line, break_at, line_at, is_text, text_line, header_at, after_line, leading_limit, block_indent, between, chomped, behind_line, block_value, end_of as end_of_lines, block, or_none, or_space, is_line_feed, is_more_indented}
 use Rattle.yaml_lexeme.specs.Classes.{is_in_line}
 use Rattle.yaml_lexeme.specs.Fold.{written}
 use Rattle.yaml_lexeme.specs.Gives.{Refuses}
@@ -29,57 +29,9 @@ use Rattle.yaml_lexeme.specs.declared.block.chomp_t.TheVariants.{STRIP, CLIP, KE
 use Rattle.yaml_lexeme.specs.declared.block.header_t.{header_t}
 use Rattle.yaml_lexeme.specs.Lexeme.{Scalar as scalar_t}
 
-space_run : (m : yaml_mark_t) (cs : List ℕ) → let p : Place = record { mark = m; rest = cs } in first p ≡ 0x20 → (run_len (λ c. c == 0x20) p ≡ suc (run_len (λ c. c == 0x20) (skip 1 p))) × ((skip 1 p).mark.column ≡ m.column + 1)
-unfolding skip
-space_run m [] h = absurd (omega arith)
-space_run m (c ∷ cs) h = rw h (omega arith, refl)
-
 -- where block_indent ends
 abbrev pub indent_end : Option ℕ → Place → Place
 indent_end limit p = skip (indent_len limit p) p
-
-pub indent_more : (limit : Option ℕ) (p : Place) → first p ≡ 0x20 → is_below limit p.mark.column ≡ true → indent_end limit p ≡ indent_end limit (skip 1 p)
-indent_more None p h b = let t = space_run p.mark p.rest h in rw t.0 (skip_more (run_len (λ c. c == 0x20) (skip 1 p)) p)
-indent_more (Some n) p h b =
-    let (len, column) = space_run p.mark p.rest h in
-    let r = run_len (λ c. c == 0x20) (skip 1 p) in
-    let low : p.mark.column < n = ltb-true p.mark.column n b in
-    let k : indent_len (Some n) p ≡ suc (indent_len (Some n) (skip 1 p)) = rw (len, column) (omega arith) in
-    rw k (skip_more (indent_len (Some n) (skip 1 p)) p)
-
-run_zero : (test : ℕ → Bool) (cs : List ℕ) → test (slice_index cs 0) ≡ false → prefix_len test cs ≡ 0
-run_zero test [] h = refl
-run_zero test (c ∷ cs) h = rw h refl
-
-left_false : (b : Bool) → (b && true) ≡ false → b ≡ false
-left_false true h = h
-left_false false h = refl
-
-no_indent : (limit : Option ℕ) (p : Place) → is_indenting 0x20 limit p ≡ false → indent_len limit p ≡ 0
-no_indent None p h = run_zero (λ c. c == 0x20) p.rest (left_false (first p == 0x20) h)
-no_indent (Some n) p h =
-    elim (cases_Bool (first p == 0x20)) [
-      | inl space ↦ let past : nat_lt p.mark.column n ≡ false = rw space at h in omega (arith, ltb-false p.mark.column n past)
-      | inr other ↦ omega (arith, run_zero (λ c. c == 0x20) p.rest other)
-    ]
-
-pub indent_none : (limit : Option ℕ) (p : Place) → is_indenting 0x20 limit p ≡ false → indent_end limit p ≡ p
-indent_none limit p h = rw (no_indent limit p h) (skip_none p)
-
--- spaces are being taken from start on, up to p
-pub spaces_more : (limit : Option ℕ) (p start : Place) → is_indenting 0x20 limit p ≡ true → indent_end limit p ≡ indent_end limit start → (length (skip 1 p).rest < length p.rest) × (indent_end limit (skip 1 p) ≡ indent_end limit start)
-spaces_more limit p start h e =
-    let (space, below) = and_parts (first p == 0x20) (is_below limit p.mark.column) h in
-    let c : first p ≡ 0x20 = eqb-true (first p) 0x20 space in
-    (omega (arith, length_skip 1 p, is_there p 0 (omega arith)), sym (indent_more limit p c below) ∙ e)
-
-pub spaces_end : (limit : Option ℕ) (p start : Place) → is_indenting 0x20 limit p ≡ false → indent_end limit p ≡ indent_end limit start → is_indenting 0x09 limit p ≡ false → after_indent limit start ≡ Ok p
-unfolding after_indent
-spaces_end limit p start h e t = let at : indent_end limit start ≡ p = sym e ∙ indent_none limit p h in rw (at, t) refl
-
-pub spaces_tab : (limit : Option ℕ) (p start : Place) → is_indenting 0x20 limit p ≡ false → indent_end limit p ≡ indent_end limit start → is_indenting 0x09 limit p ≡ true → after_indent limit start ≡ refuse TAB_IN_INDENTATION p
-unfolding after_indent
-spaces_tab limit p start h e t = let at : indent_end limit start ≡ p = sym e ∙ indent_none limit p h in rw (at, t) refl
 
 -- empty lines
 indent_if : (b : Bool) (p q x : Place) → length x.rest ≤ length p.rest → cond b (refuse TAB_IN_INDENTATION x) (Ok x) ≡ Ok q → length q.rest ≤ length p.rest
@@ -228,8 +180,8 @@ after_text p r = r >>= λ blanks. found (record { text = run is_in_line p; break
 abbrev pub line_end : Place → Place
 line_end p = let q = behind is_in_line p in skip (break_len q) q
 
-pub to_line_end : (p q r : Place) (n : ℕ) → q ≡ behind is_in_line p → n ≡ break_len q → r ≡ skip n q → r ≡ line_end p
-to_line_end p q r n h e f = f ∙ ap (λ (i : ℕ). skip i q) e ∙ ap (λ (x : Place). skip (break_len x) x) h
+pub to_line_end : (p q r : Place) → q ≡ behind is_in_line p → r ≡ skip (break_len q) q → r ≡ line_end p
+to_line_end p q r h f = f ∙ ap (λ (x : Place). skip (break_len x) x) h
 
 line_is : (indent : ℕ) (p : Place) → line_at indent p ≡ after_text p (blank_lines (Some indent) (line_end p))
 unfolding line_at

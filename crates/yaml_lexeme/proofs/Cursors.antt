@@ -1,8 +1,9 @@
 -- How a place on bytes moves.
-use Rattle.std.proofs.Common.{add-zero, false, ◌≡◌, ℕ, zero, suc, ◌+◌, ◌-◌, ◌<◌, ◌≤◌, Bool, List, [], ◌∷◌, ◌++◌, length, get_or, take, drop, refl, sym, ap, ◌∙◌, subst, arith, inl, inr}
+use Rattle.std.proofs.Common.{add-zero, false, ◌≡◌, ℕ, zero, suc, ◌+◌, ◌-◌, ◌<◌, ◌≤◌, Bool, List, [], ◌∷◌, ◌++◌, length, get_or, take, drop, min, refl, sym, ap, ◌∙◌, subst, arith, inl, inr}
 use Rattle.std.specs.List.{prefix_len, count_by}
 use Rattle.std.specs.Str.{chars}
 use Rattle.std.proofs.lemmas.Bool.{cases_Bool}
+use Rattle.std.proofs.lemmas.List.Sums.{prefix_len-le-length}
 use Rattle.std.proofs.lemmas.Bool.Decides.{nat_tests}
 use Rattle.std.proofs.lemmas.List.{get_or-drop, take-append-drop, take_at, drop_at, length-append}
 use Rattle.std.proofs.lemmas.Str.{encodes-append, length-encode, len_utf8_bounds}
@@ -12,12 +13,13 @@ use Rattle.yaml_text.specs.Chars.{AreChars, IsText, utf8}
 use Rattle.yaml_text.specs.Classes.{is_break}
 use Rattle.yaml_text.proofs.Fronts.{chars-utf8, IsText-utf8}
 use Rattle.yaml_text.proofs.Places.{AreChars-parts}
-use Rattle.yaml_lexeme.specs.Place.{Place, peek, place_at, IsMarkOf, ends_line, skip_from, skip, behind, run, mark_behind, width}
+use Rattle.yaml_lexeme.specs.Place.{Place, peek, place_at, IsMarkOf, ends_line, skip_from, skip, behind, run, run_len, mark_behind, width}
 use Rattle.yaml_lexeme.specs.declared.runs.class_t.{class_t}
 use Rattle.yaml_lexeme.specs.Runs.{is_quiet, class_test, begins}
 use Rattle.yaml_lexeme.proofs.Places.{skip_skip, moved}
 use Rattle.yaml_lexeme.proofs.Heads.{head, ascii_head, past_ascii}
-use Rattle.yaml_lexeme.proofs.Quiet.{Over, over, along, count_chars}
+use Rattle.yaml_lexeme.proofs.Quiet.{Over, over, along, count_chars, spaces_bytes, over_spaces}
+use Rattle.yaml_lexeme.specs.declared.runs.class_t.TheVariants.{SPACE}
 
 pub record QuietMove (class : class_t) (m : yaml_mark_t) (bytes : List ℕ) (n k : ℕ) : Type 0 where
   pub text : IsText (drop n bytes)
@@ -65,15 +67,18 @@ rest_skip n p = rest_from n p.mark p.rest
 take_parts : (n : ℕ) (cs : List ℕ) → utf8 cs ≡ utf8 (take n cs) ++ utf8 (drop n cs)
 take_parts n cs = ap utf8 (sym (take-append-drop n cs)) ∙ encodes-append (take n cs) (drop n cs)
 
--- the bytes that a run leaves behind it
-pub run_bytes : (test : ℕ → Bool) (p q : Place) (whole left : List ℕ) → q ≡ behind test p → whole ≡ utf8 p.rest → left ≡ utf8 q.rest → (length left ≤ length whole) × (take (length whole - length left) whole ≡ utf8 (run test p))
-run_bytes test p q whole left e w l =
-    let k = prefix_len test p.rest in
+-- the bytes that n characters leave behind them
+pub skip_bytes : (k : ℕ) (p q : Place) (whole left : List ℕ) → q ≡ skip k p → whole ≡ utf8 p.rest → left ≡ utf8 q.rest → (length left ≤ length whole) × (take (length whole - length left) whole ≡ utf8 (take k p.rest))
+skip_bytes k p q whole left e w l =
     let r : left ≡ utf8 (drop k p.rest) = l ∙ ap (λ (x : Place). utf8 x.rest) e ∙ ap utf8 (rest_skip k p) in
     let parts : whole ≡ utf8 (take k p.rest) ++ utf8 (drop k p.rest) = w ∙ take_parts k p.rest in
     let len : length whole ≡ length (utf8 (take k p.rest)) + length left = ap length parts ∙ length-append (utf8 (take k p.rest)) (utf8 (drop k p.rest)) ∙ ap (λ (x : List ℕ). length (utf8 (take k p.rest)) + length x) (sym r) in
     let n : length (utf8 (take k p.rest)) ≡ length whole - length left = omega (arith, len) in
     (omega (arith, len), ap (λ (x : List ℕ). take (length whole - length left) x) parts ∙ take_at (utf8 (take k p.rest)) (utf8 (drop k p.rest)) (length whole - length left) n)
+
+-- and those that a run does
+pub run_bytes : (test : ℕ → Bool) (p q : Place) (whole left : List ℕ) → q ≡ behind test p → whole ≡ utf8 p.rest → left ≡ utf8 q.rest → (length left ≤ length whole) × (take (length whole - length left) whole ≡ utf8 (run test p))
+run_bytes test p q whole left e w l = skip_bytes (prefix_len test p.rest) p q whole left e w l
 
 -- ---- the place of a mark
 
@@ -179,3 +184,29 @@ at_front cs = record { within = omega arith; mark_is = refl }
 -- the character k places on stands first at the place there
 pub peek_on : (k : ℕ) (p : Place) → peek (skip k p) 0 ≡ peek p k
 peek_on k p = ap (λ (x : List ℕ). get_or x 0 0) (rest_skip k p) ∙ get_or-drop k p.rest 0 0 ∙ ap (λ i. get_or p.rest i 0) (add-zero k)
+
+-- the place behind some of the spaces in front
+pub record SpaceMove (m : yaml_mark_t) (bytes : List ℕ) (p : Place) (k : ℕ) : Type 0 where
+  pub within : k ≤ length bytes
+  pub text : IsText (drop k bytes)
+  pub place : let q : Place = record { mark = along m k k; rest = chars (drop k bytes) } in q ≡ skip k p
+
+space_from : (m : yaml_mark_t) (bytes : List ℕ) (k : ℕ) → IsText bytes → k ≤ prefix_len (class_test SPACE) (chars bytes) → let p : Place = record { mark = m; rest = chars bytes } in SpaceMove m bytes p k
+space_from m bytes k t low =
+    let cs = chars bytes in
+    let o = over_spaces m cs k low in
+    let each = AreChars-parts (take k cs) (drop k cs) (subst AreChars (sym (take-append-drop k cs)) t.each) in
+    let dr : drop k bytes ≡ utf8 (drop k cs) = ap (λ (x : List ℕ). drop k x) (sym t.spelled) ∙ o.bytes in
+    let left : chars (drop k bytes) ≡ drop k cs = ap chars dr ∙ chars-utf8 (drop k cs) each.1 in
+    record {
+      within = omega (arith, low, spaces_bytes cs t.each, prefix_len-le-length (is_quiet SPACE) (utf8 cs), ap length t.spelled);
+      text = subst IsText (sym dr) (IsText-utf8 (drop k cs) each.1);
+      place = (λ i. record { mark = along m k k; rest = left i }) ∙ sym o.place ∙ sym (skip_is k m cs);
+    }
+
+pub space_moves : (m : yaml_mark_t) (bytes : List ℕ) (p : Place) (n most k : ℕ) → IsText bytes → (let q : Place = record { mark = m; rest = chars bytes } in q ≡ p) → n ≡ prefix_len (is_quiet SPACE) bytes → k ≡ min n most
+    → (k ≡ min (run_len (class_test SPACE) p) most) × SpaceMove m bytes p k
+space_moves m bytes p n most k t view n-is k-is =
+    let same : n ≡ prefix_len (class_test SPACE) (chars bytes) = n-is ∙ ap (prefix_len (is_quiet SPACE)) (sym t.spelled) ∙ spaces_bytes (chars bytes) t.each in
+    let here : prefix_len (class_test SPACE) (chars bytes) ≡ run_len (class_test SPACE) p = ap (λ (x : Place). run_len (class_test SPACE) x) view in
+    (k-is ∙ ap (λ i. min i most) (same ∙ here), subst (λ (x : Place). SpaceMove m bytes x k) view (space_from m bytes k t (omega (arith, k-is, same))))

@@ -1,11 +1,16 @@
 -- Gap lines, one by one.
-use Rattle.std.proofs.Common.{◌≡◌, ℕ, zero, suc, ◌<◌, ◌≤◌, Bool, false, cond, ◌==◌, ◌&&◌, inl, inr, length, refl, sym, ap, ◌∙◌, arith}
+use Rattle.std.proofs.Common.{◌≡◌, ℕ, zero, suc, ◌<◌, ◌≤◌, Bool, true, false, cond, not, ◌==◌, ◌&&◌, ◌||◌, inl, inr, length, refl, sym, ap, ◌∙◌, arith}
 use Rattle.std.proofs.lemmas.Bool.Decides.{nat_tests}
-use Rattle.std.proofs.lemmas.Bool.{cases_lt}
-use Rattle.yaml_lexeme.proofs.Places.{length_skip, within_if, break_within}
+use Rattle.std.proofs.lemmas.Bool.{cases_lt, cases_Bool}
+use Rattle.std.specs.Prelude.{nat_lt}
+use Rattle.yaml_text.specs.Classes.{is_break}
+use Rattle.yaml_lexeme.specs.declared.runs.class_t.TheVariants.{SPACE}
+use Rattle.yaml_lexeme.specs.Runs.{class_test}
+use Rattle.yaml_lexeme.proofs.Cursors.{peek_on}
+use Rattle.yaml_lexeme.proofs.Places.{length_skip, length_one, within_if, break_within, behind_none, behind_more}
 use Rattle.yaml_lexeme.specs.Classes.{is_in_line}
-use Rattle.yaml_lexeme.specs.Gap.{byte_order_mark, is_gap_blank, after_mark, after_comment, after_gap_line, after_gap_lines}
-use Rattle.yaml_lexeme.specs.Place.{Place, first, skip, behind, run_len, break_len}
+use Rattle.yaml_lexeme.specs.Gap.{byte_order_mark, is_gap_blank, is_solid, after_mark, after_comment, after_gap_line, after_gap_lines, gap, IsGap}
+use Rattle.yaml_lexeme.specs.Place.{Place, first, peek, skip, behind, run_len, break_len}
 
 pub within_line : (tabs : Bool) (p : Place) → length (after_gap_line tabs p).rest ≤ length p.rest
 unfolding after_gap_line
@@ -64,3 +69,103 @@ line_goes flow p q h e =
 pub line_ends : (flow : Bool) (p q : Place) → break_len p ≡ 0 → Comes flow p q → p ≡ after_gap_lines (length q.rest) flow q
 unfolding after_gap_lines
 line_ends flow p q h e = let last : after_gap_lines (suc (length p.rest)) flow p ≡ p = rw h refl in sym last ∙ any_fuel (suc (length p.rest)) (length p.rest) flow p (omega arith) (omega arith) ∙ e
+
+-- ---- gaps that are taken at once
+
+record Solid (tabs : Bool) (c : ℕ) : Type 0 where
+  blank : is_gap_blank tabs c ≡ false
+  comment : (c == 0x23) ≡ false
+  break : is_break c ≡ false
+  mark : (c == byte_order_mark) ≡ false
+
+solid_is : (tabs : Bool) (c : ℕ) → is_solid c ≡ true → Solid tabs c
+solid_is tabs c h = record { blank = grind (arith, nat_tests); comment = grind (arith, nat_tests); break = grind (arith, nat_tests); mark = grind (arith, nat_tests) }
+
+and_none : (b : Bool) → (b && false) ≡ false
+and_none true = refl
+and_none false = refl
+
+-- no byte order mark
+mark_none : (p : Place) → (first p == byte_order_mark) ≡ false → after_mark p ≡ p
+mark_none p h = rw (h, and_none (p.mark.column == 0)) refl
+
+-- a gap line that ends at q
+line_is : (tabs : Bool) (p q : Place) → (first p == byte_order_mark) ≡ false → behind (is_gap_blank tabs) p ≡ q → (first q == 0x23) ≡ false → after_gap_line tabs p ≡ q
+unfolding after_gap_line
+line_is tabs p q m e h = ap (λ (r : Place). after_comment (behind (is_gap_blank tabs) r)) (mark_none p m) ∙ ap after_comment e ∙ rw h refl
+
+no_break : (p : Place) → is_break (first p) ≡ false → break_len p ≡ 0
+no_break p h = grind (arith, nat_tests)
+
+lines_none : (n : ℕ) (flow : Bool) (p : Place) → break_len p ≡ 0 → after_gap_lines n flow p ≡ p
+unfolding after_gap_lines
+lines_none zero flow p h = refl
+lines_none (suc n) flow p h = rw h refl
+
+-- a gap without a break
+gap_in_line : (flow allowed : Bool) (p q : Place) → after_gap_line (flow || not allowed) p ≡ q → break_len q ≡ 0 → gap flow allowed p ≡ (q, false)
+unfolding gap
+gap_in_line flow allowed p q e h =
+    let zero : nat_lt 0 (break_len q) ≡ false = rw h refl in
+    rw e (λ i. (lines_none (length q.rest) flow q h i, zero i))
+
+pub gap_none : (p : Place) → is_solid (first p) ≡ true → IsGap p p false
+gap_none p h flow allowed =
+    let s = solid_is (flow || not allowed) (first p) h in
+    gap_in_line flow allowed p p (line_is (flow || not allowed) p p s.mark (behind_none (is_gap_blank (flow || not allowed)) p s.blank) s.comment) (no_break p s.break)
+
+pub gap_space : (p : Place) → first p ≡ 0x20 → is_solid (peek p 1) ≡ true → IsGap p (skip 1 p) false
+gap_space p e h flow allowed =
+    let tabs = flow || not allowed in
+    let q = skip 1 p in
+    let s = solid_is tabs (first q) (ap is_solid (peek_on 1 p) ∙ h) in
+    let mark : (first p == byte_order_mark) ≡ false = rw e refl in
+    let blank : is_gap_blank tabs (first p) ≡ true = rw e refl in
+    let run = (behind_more (is_gap_blank tabs) p blank refl).1 ∙ behind_none (is_gap_blank tabs) q s.blank in
+    gap_in_line flow allowed p q (line_is tabs p q mark run s.comment) (no_break q s.break)
+
+-- a run goes on behind a run of fewer characters
+run_on : (test more : ℕ → Bool) → ((c : ℕ) → test c ≡ true → more c ≡ true) → test 0 ≡ false → more 0 ≡ false → (fuel : ℕ) (p : Place) → length p.rest ≤ fuel → behind more p ≡ behind more (behind test p)
+run_on test more sub z y zero p l =
+    elim (cases_Bool (test (first p))) [
+      | inl t ↦ absurd (omega (arith, l, (behind_more test p t z).0))
+      | inr f ↦ ap (behind more) (sym (behind_none test p f))
+    ]
+run_on test more sub z y (suc fuel) p l =
+    elim (cases_Bool (test (first p))) [
+      | inl t ↦
+          let a = behind_more test p t z in
+          let b = behind_more more p (sub (first p) t) y in
+          b.1 ∙ run_on test more sub z y fuel (skip 1 p) (omega (arith, l, a.0, length_one p)) ∙ ap (behind more) (sym a.1)
+      | inr f ↦ ap (behind more) (sym (behind_none test p f))
+    ]
+
+space_blank : (tabs : Bool) (c : ℕ) → class_test SPACE c ≡ true → is_gap_blank tabs c ≡ true
+space_blank tabs c h = grind (arith, nat_tests)
+
+space_no_mark : (p q : Place) → q ≡ behind (class_test SPACE) p → is_solid (first q) ≡ true → (first p == byte_order_mark) ≡ false
+space_no_mark p q e h =
+    elim (cases_Bool (class_test SPACE (first p))) [
+      | inl t ↦ grind (arith, nat_tests)
+      | inr f ↦ let same : first q ≡ first p = ap (λ (r : Place). first r) (e ∙ behind_none (class_test SPACE) p f) in (solid_is false (first p) (ap is_solid (sym same) ∙ h)).mark
+    ]
+
+pub gap_feed : (p q : Place) → first p ≡ 0x0A → q ≡ behind (class_test SPACE) (skip 1 p) → is_solid (first q) ≡ true → IsGap p q true
+unfolding gap
+gap_feed p q e at h flow allowed =
+    let tabs = flow || not allowed in
+    let s = solid_is flow (first q) h in
+    let r = skip 1 p in
+    let mark : (first p == byte_order_mark) ≡ false = rw e refl in
+    let none : is_gap_blank tabs (first p) ≡ false = rw e refl in
+    let comment : (first p == 0x23) ≡ false = rw e refl in
+    let one : break_len p ≡ 1 = rw e refl in
+    let some : nat_lt 0 (break_len p) ≡ true = rw one refl in
+    let front = line_is tabs p p mark (behind_none (is_gap_blank tabs) p none) comment in
+    let run : behind (is_gap_blank flow) r ≡ q =
+    run_on (class_test SPACE) (is_gap_blank flow) (space_blank flow) refl refl (length r.rest) r (omega arith) ∙ ap (behind (is_gap_blank flow)) (sym at) ∙ behind_none (is_gap_blank flow) q s.blank in
+    let next : next_line flow p ≡ q = ap (λ n. after_gap_line flow (skip n p)) one ∙ line_is flow r q (space_no_mark r q at h) run s.comment in
+    let n = length p.rest in
+    let lines : after_gap_lines n flow p ≡ q =
+    any_fuel n (suc n) flow p (omega arith) (omega arith) ∙ step n flow p (omega (arith, one)) ∙ ap (after_gap_lines n flow) next ∙ lines_none n flow q (no_break q s.break) in
+    rw front (λ i. (lines i, some i))

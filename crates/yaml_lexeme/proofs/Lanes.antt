@@ -9,6 +9,9 @@ use lib.Lanes.{zip2, mask_l, top, Each1}
 abbrev pub hit : ℕ → ℕ → ℕ
 hit a b = cond (eqb a b) 255 0
 
+abbrev pub miss : ℕ → ℕ → ℕ
+miss a b = cond (not (eqb a b)) 255 0
+
 -- a fact of each number below n, by computation
 abbrev pub upto : (ℕ → Bool) → ℕ → Bool
 upto p zero = true

@@ -1,7 +1,7 @@
 -- What stands unchanged in a line of a plain scalar.
 use Rattle.std.proofs.Common.{◌≡◌, ◌==◌, ◌&&◌, ◌||◌, not, ℕ, zero, suc, ◌+◌, ◌-◌, ◌<◌, ◌≤◌, inl, inr, Bool, true, false, List, [], ◌∷◌, ◌++◌, length, get_or, take, drop, None, Ok, Err, refl, sym, ap, ◌∙◌, subst, arith, add-zero, append_assoc, take-add, le-ltb, ne_eqb, if◌then◌else◌}
 use Rattle.std.specs.Prelude.{IsTrue, nat_le, nat_lt}
-use Rattle.std.specs.List.{prefix_len, flat_map}
+use Rattle.std.specs.List.{prefix_len, flat_map, list_any}
 use Rattle.std.specs.Char.{encode_utf8}
 use Rattle.std.proofs.lemmas.Bool.{cases_Bool, cases_lt, leb-true, le-leb}
 use Rattle.std.proofs.lemmas.Bool.Decides.{nat_tests}
@@ -18,18 +18,19 @@ use Rattle.yaml_lexeme.specs.Lexeme.{Scalar as scalar_t}
 use Rattle.yaml_lexeme.proofs.Cursors.{rest_skip}
 use Rattle.yaml_lexeme.proofs.Many.{joined, many_turn, reads_all, reads_none}
 use Rattle.yaml_lexeme.proofs.Parts.{fold_none, no_breaks, column_behind, no_marker, space_first}
-use Rattle.yaml_lexeme.proofs.Places.{skip_none, skip_skip, length_skip, behind_more}
-use Rattle.yaml_lexeme.proofs.Plains.{chunk_more, chunk_stop, Gap, at_gap, link_shortens, tail_all, tail_none, scalar_at, plain_is}
+use Rattle.yaml_lexeme.proofs.Places.{skip_none, skip_skip, length_skip, behind_more, behind_none}
+use Rattle.yaml_lexeme.proofs.Plains.{chunk_more, chunk_stop, chunk_there, Gap, at_gap, Passes, passes_more, passes_spaces, passes_all, passed, same_none, link_shortens, tail_all, tail_none, scalar_at, plain_is}
 use Rattle.yaml_lexeme.proofs.Trims.{trimmed, trim_last}
 use Rattle.yaml_lexeme.specs.Classes.{is_white}
 use Rattle.yaml_lexeme.specs.Fold.{fold}
 use Rattle.yaml_lexeme.specs.Gives.{Refuses, TakesPart}
 use Rattle.yaml_lexeme.specs.Kind.{is_marker}
 use Rattle.yaml_lexeme.specs.Place.{Place, first, peek, skip, run, run_len, behind, width}
-use Rattle.yaml_lexeme.specs.Plain.{tab_from, untabbed, is_bad_colon, is_chunk, chunk, separator, is_over, link, plain}
+use Rattle.yaml_lexeme.specs.declared.runs.class_t.TheVariants.{SPACE}
+use Rattle.yaml_lexeme.specs.Plain.{is_tab, tab_from, untabbed, is_bad_colon, is_chunk, chunk, separator, is_over, link, plain}
 use Rattle.yaml_lexeme.specs.Reading.{Offence, Read, found, refuse, Part, part, over, many, with_front, go_on, ◌>>=◌}
-use Rattle.yaml_lexeme.specs.Runs.{class_test, trim}
-use Rattle.yaml_lexeme.specs.Words.{links, words, plain_of, GoesFar}
+use Rattle.yaml_lexeme.specs.Runs.{class_test, trim, Stands}
+use Rattle.yaml_lexeme.specs.Words.{links, words, plain_of, Goes}
 
 two_fronts : (a b : List ℕ) (r : Read (List ℕ)) → with_front a (with_front b r) ≡ with_front (a ++ b) r
 two_fronts a b (Ok f) = ap (λ (xs : List ℕ). found xs f.end) (sym (append_assoc a b f.value))
@@ -112,9 +113,13 @@ separator_is : (least : ℕ) (p : Place) → separator least p ≡ untabbed (tab
 unfolding separator
 separator_is least p = refl
 
-over_not : (flow : Bool) (least c k : ℕ) → IsTrue (flow || nat_le least c) → (not flow && nat_lt (c + k) least) ≡ false
-over_not true least c k h = refl
-over_not false least c k h = let l : least ≤ c = leb-true least c h in le-ltb (c + k) least (omega arith)
+-- a line at p goes on at any column behind its first character
+abbrev pub GoesFar : Bool → ℕ → Place → Type 0
+GoesFar flow least p = IsTrue (flow || nat_le least (p.mark.column + 1))
+
+over_not : (flow : Bool) (least c k : ℕ) → 0 < k → IsTrue (flow || nat_le least (c + 1)) → (not flow && nat_lt (c + k) least) ≡ false
+over_not true least c k some h = refl
+over_not false least c k some h = let l : least ≤ c + 1 = leb-true least (c + 1) h in le-ltb (c + k) least (omega arith)
 
 -- what the class says of a character
 pub line_char : (flow : Bool) (c : ℕ) → class_test (plain_of flow) c ≡ true → (is_break c ≡ false) × ((c == 0x23) ≡ false)
@@ -140,7 +145,7 @@ words_blanks flow least n p e w some clean far line solid =
     let within : n ≤ length p.rest = omega (arith, e, prefix_len-le-length is_white p.rest) in
     let col : q.mark.column ≡ p.mark.column + n = column_behind n p within clean in
     let unmark : is_marker q ≡ false = no_marker q (omega (arith, col)) in
-    let a : (not flow && nat_lt q.mark.column least) ≡ false = ap (λ i. not flow && nat_lt i least) col ∙ over_not flow least p.mark.column n far in
+    let a : (not flow && nat_lt q.mark.column least) ≡ false = ap (λ i. not flow && nat_lt i least) col ∙ over_not flow least p.mark.column n some far in
     let b : (first q == 0x23) ≡ false = (line_char flow (first q) line).1 in
     let o : is_over flow least q ≡ false = rw (a, unmark, b) refl in
     let value : fold (run is_white p) ≡ take n p.rest = ap (λ i. fold (take i p.rest)) (sym e) ∙ fold_none (take n p.rest) (no_breaks n p.rest clean) in
@@ -175,7 +180,7 @@ first_one (c ∷ cs) h = refl
 
 far_on : (flow : Bool) (least : ℕ) (p q : Place) → p.mark.column ≤ q.mark.column → GoesFar flow least p → GoesFar flow least q
 far_on true least p q h f = refl
-far_on false least p q h f = let l : least ≤ p.mark.column = leb-true least p.mark.column f in le-leb least q.mark.column (omega arith)
+far_on false least p q h f = let l : least ≤ p.mark.column + 1 = leb-true least (p.mark.column + 1) f in le-leb least (q.mark.column + 1) (omega arith)
 
 two : (flow : Bool) (least : ℕ) (p : Place) (a b k : ℕ) → a + b ≡ k → words flow least p ≡ with_front (utf8 (take a p.rest)) (words flow least (skip a p))
     → words flow least (skip a p) ≡ with_front (utf8 (take b (skip a p).rest)) (words flow least (skip b (skip a p))) → words flow least p ≡ with_front (utf8 (take k p.rest)) (words flow least (skip k p))
@@ -227,45 +232,58 @@ words_over flow least (suc fuel) (suc k) p le s far =
 solid : (c : ℕ) → is_blank c ≡ false → is_break c ≡ false → is_white c ≡ false
 solid c a b = rw (a, b) refl
 
--- What the run of a line is, without the blanks at its end.
-pub trimmed_solid : (flow : Bool) (cs : List ℕ) → let front = trim (take (prefix_len (class_test (plain_of flow)) cs) cs) in Solid flow (length front) cs × (take (length front) cs ≡ front)
-trimmed_solid flow cs =
+-- What stands in front of a line, without the blanks at its end.
+trimmed_solid : (flow : Bool) (cs : List ℕ) (m : ℕ) → m ≤ prefix_len (class_test (plain_of flow)) cs → let front = trim (take m cs) in Solid flow (length front) cs
+trimmed_solid flow cs m low =
     let test = class_test (plain_of flow) in
-    let m = prefix_len test cs in
     let t = trimmed (take m cs) in
     let kept = trim (take m cs) in
     let k = length kept in
-    let within : m ≤ length cs = prefix_len-le-length test cs in
+    let within : m ≤ length cs = omega (arith, prefix_len-le-length test cs) in
     let len : length (take m cs) ≡ m = omega (arith, length-take m cs) in
     let sum : k + length t.blanks ≡ m = omega (arith, len, ap length t.parts, length-append kept t.blanks) in
     let front : take k cs ≡ kept = sym (take-take k m cs (omega arith)) ∙ ap (λ (x : List ℕ). take k x) t.parts ∙ take_at kept t.blanks k refl in
-    let passes : (i : ℕ) → i < m → test (get_or cs i 0) ≡ true = λ i l. prefix_len_passes test cs i 0 l in (
-      record {
-        within = omega arith;
-        each = λ i l. passes i (omega arith);
-        last = λ some.
-            let last : get_or cs (k - 1) 0 ≡ get_or kept (k - 1) 0 = sym (get_or-take k cs (k - 1) 0 (omega arith)) ∙ ap (λ (x : List ℕ). get_or x (k - 1) 0) front in
-            solid (get_or cs (k - 1) 0) (ap is_blank last ∙ trim_last (take m cs) some) (line_char flow (get_or cs (k - 1) 0) (passes (k - 1) (omega arith))).0;
-      },
-      front,
-    )
+    let passes : (i : ℕ) → i < m → test (get_or cs i 0) ≡ true = λ i l. prefix_len_passes test cs i 0 (omega arith) in
+    record {
+      within = omega arith;
+      each = λ i l. passes i (omega arith);
+      last = λ some.
+          let last : get_or cs (k - 1) 0 ≡ get_or kept (k - 1) 0 = sym (get_or-take k cs (k - 1) 0 (omega arith)) ∙ ap (λ (x : List ℕ). get_or x (k - 1) 0) front in
+          solid (get_or cs (k - 1) 0) (ap is_blank last ∙ trim_last (take m cs) some) (line_char flow (get_or cs (k - 1) 0) (passes (k - 1) (omega arith))).0;
+    }
 
--- the words of a line are put out
-pub words_go : (flow : Bool) (least : ℕ) (p q : Place) (out new piece : List ℕ) → let front = trim (run (class_test (plain_of flow)) p) in
-    GoesFar flow least p → q ≡ skip (length front) p → piece ≡ utf8 front → new ≡ out ++ piece → with_front out (words flow least p) ≡ with_front new (words flow least q)
-words_go flow least p q out new piece far e v n =
-    let front = trim (run (class_test (plain_of flow)) p) in
-    let k = length front in
-    let t = trimmed_solid flow p.rest in
-    let bytes : piece ≡ utf8 (take k p.rest) = v ∙ ap utf8 (sym t.1) in
-    ap (with_front out) (words_over flow least k k p (omega arith) t.0 far ∙ ap (λ (xs : List ℕ). with_front xs (words flow least (skip k p))) (sym bytes) ∙ ap (λ (r : Place). with_front piece (words flow least r)) (sym e))
-    ∙ two_fronts out piece (words flow least q) ∙ ap (λ (xs : List ℕ). with_front xs (words flow least q)) (sym n)
+-- nothing is taken
+pub goes_none : (flow : Bool) (least : ℕ) (p : Place) → Goes flow least p p
+goes_none flow least p = (0, (sym (skip_none p), sym (no_front (words flow least p))))
 
--- one character of a chunk is put out
-pub char_goes : (flow : Bool) (least : ℕ) (p q : Place) (out new : List ℕ) → is_chunk flow (first p) (peek p 1) ≡ true → q ≡ skip 1 p → new ≡ out ++ encode_utf8 (first p) → with_front out (words flow least p) ≡ with_front new (words flow least q)
-char_goes flow least p q out new h e n =
-    ap (with_front out) (words_more flow least p h ∙ ap (λ (r : Place). with_front (encode_utf8 (first p)) (words flow least r)) (sym e))
-    ∙ two_fronts out (encode_utf8 (first p)) (words flow least q) ∙ ap (λ (xs : List ℕ). with_front xs (words flow least q)) (sym n)
+-- what stands in a line is taken
+pub goes_solid : (flow : Bool) (least : ℕ) (p q : Place) → GoesFar flow least p → Stands (class_test (plain_of flow)) p q → Goes flow least p q
+goes_solid flow least p q far (m, (low, e)) =
+    let k = length (trim (take m p.rest)) in
+    (k, (e, words_over flow least k k p (omega arith) (trimmed_solid flow p.rest m low) far ∙ ap (λ (r : Place). with_front (utf8 (take k p.rest)) (words flow least r)) (sym e)))
+
+-- one character of a chunk is taken
+pub goes_char : (flow : Bool) (least : ℕ) (p : Place) → is_chunk flow (first p) (peek p 1) ≡ true → Goes flow least p (skip 1 p)
+goes_char flow least p h =
+    let one : utf8 (take 1 p.rest) ≡ encode_utf8 (first p) = ap utf8 (first_one p.rest (chunk_there flow p h)) ∙ append-nil (encode_utf8 (first p)) in
+    (1, (refl, words_more flow least p h ∙ ap (λ (xs : List ℕ). with_front xs (words flow least (skip 1 p))) (sym one)))
+
+-- one goes behind the other
+pub goes_on : (flow : Bool) (least : ℕ) (p q r : Place) → Goes flow least p q → Goes flow least q r → Goes flow least p r
+goes_on flow least p q r (a, (e, x)) (b, (f, y)) =
+    let x' : words flow least p ≡ with_front (utf8 (take a p.rest)) (words flow least (skip a p)) = x ∙ ap (λ (t : Place). with_front (utf8 (take a p.rest)) (words flow least t)) e in
+    let place : r ≡ skip b (skip a p) = f ∙ ap (skip b) e in
+    let y' : words flow least (skip a p) ≡ with_front (utf8 (take b (skip a p).rest)) (words flow least (skip b (skip a p))) =
+    subst (λ (t : Place). words flow least t ≡ with_front (utf8 (take b t.rest)) (words flow least (skip b (skip a p)))) e (y ∙ ap (λ (t : Place). with_front (utf8 (take b q.rest)) (words flow least t)) place) in
+    let end : r ≡ skip (a + b) p = place ∙ skip_skip a b p in
+    (a + b, (end, two flow least p a b (a + b) refl x' y' ∙ ap (λ (t : Place). with_front (utf8 (take (a + b) p.rest)) (words flow least t)) (sym end)))
+
+pub goes_shorter : (flow : Bool) (least : ℕ) (p q : Place) → Goes flow least p q → length q.rest ≤ length p.rest
+goes_shorter flow least p q (n, (e, x)) = omega (arith, ap (λ (t : Place). length t.rest) e, length_skip n p)
+
+-- the bytes that were taken are put out
+pub goes_out : (flow : Bool) (least : ℕ) (p q : Place) (out piece new : List ℕ) → words flow least p ≡ with_front piece (words flow least q) → new ≡ out ++ piece → with_front out (words flow least p) ≡ with_front new (words flow least q)
+goes_out flow least p q out piece new e n = ap (with_front out) e ∙ two_fronts out piece (words flow least q) ∙ ap (λ (xs : List ℕ). with_front xs (words flow least q)) (sym n)
 
 -- ---- the scalar
 
@@ -309,3 +327,31 @@ pub white_shorter : (p q : Place) → is_white (first p) ≡ true → q ≡ behi
 white_shorter p q w e =
     let t = behind_more is_white p w refl in
     omega (arith, ap (λ (x : Place). length x.rest) (e ∙ t.1), t.0, length_skip (run_len is_white (skip 1 p)) (skip 1 p), length_skip 1 p)
+
+-- ---- the end of a scalar
+
+-- nothing is linked
+pub links_end : (flow : Bool) (least : ℕ) (p : Place) (out : List ℕ) → link flow least p ≡ over → with_front out (links flow least p) ≡ found out p
+links_end flow least p out h = links_over flow least p p out (same_none (link flow least p) out p p h refl)
+
+-- a line feed and spaces, in front of a line that is not indented enough
+pub over_below : (flow : Bool) (least : ℕ) (p q : Place) → flow ≡ false → first p ≡ 10 → q ≡ behind (class_test SPACE) (skip 1 p) → is_white (first q) ≡ false → q.mark.column < least → (link flow least p ≡ over) × (q ≡ behind is_white p)
+over_below flow least p q block feed e stop low =
+    let w : is_white (first p) ≡ true = rw feed refl in
+    let fine : is_tab least false p ≡ false = rw feed refl in
+    let broken = false || is_break (first p) in
+    let next = passes_spaces least broken (skip 1 p) p (passes_more least false p p w fine (record { tab = refl; end = refl })) in
+    let t = passes_all least broken q p stop (subst (λ (r : Place). Passes least broken r p) (sym e) next) in
+    let o : is_over flow least q ≡ true = grind (arith, nat_tests) in
+    (at_gap flow least p q (record { space = w; read = t.0 ∙ ap (λ (r : Place). found (fold (run is_white p)) r) (sym t.1) }) ∙ rw o refl, t.1)
+
+-- a break stands in it
+pub passed_feed : (p : Place) → first p ≡ 10 → list_any is_break (run is_white p) ≡ true
+passed_feed p feed =
+    let none : is_blank (first p) ≡ false = rw feed refl in
+    passed p ∙ ap (λ (q : Place). is_break (first q)) (behind_none is_blank p none) ∙ rw feed refl
+
+-- the words of the first line are put out
+pub plain_out : (flow : Bool) (least : ℕ) (p q : Place) (out piece : List ℕ) → words flow least p ≡ with_front piece (words flow least q) → is_chunk flow (first q) (peek q 1) ≡ false → is_bad_colon flow (first q) (peek q 1) ≡ false → out ≡ piece
+    → with_front [] (words flow least p) ≡ with_front out (links flow least q)
+plain_out flow least p q out piece e h b o = no_front (words flow least p) ∙ e ∙ ap (with_front piece) (words_links flow least q h b) ∙ ap (λ (xs : List ℕ). with_front xs (links flow least q)) (sym o)

@@ -144,7 +144,8 @@ passes_all least broken p start h s =
 pub takes_found : (read : Read (List ℕ)) (value : List ℕ) (p q : Place) → (read ≡ found value q) × (p ≡ q) → TakesRead (λ run. []) read [] [] p
 takes_found read value p q h = rw (h.0) (refl, h.1)
 
-link_none : (flow : Bool) (least : ℕ) (p : Place) → is_white (first p) ≡ false → link flow least p ≡ over
+-- no separator stands here
+pub link_none : (flow : Bool) (least : ℕ) (p : Place) → is_white (first p) ≡ false → link flow least p ≡ over
 unfolding link
 link_none flow least p h = rw h refl
 
@@ -162,7 +163,7 @@ link_gap flow least p h = rw h refl
 link_from : (flow : Bool) (least : ℕ) (p : Place) (gap : List ℕ) (q : Place) → is_white (first p) ≡ true → separator least p ≡ found gap q → link flow least p ≡ behind_gap flow least gap q
 link_from flow least p gap q h e = link_gap flow least p h ∙ ap (λ (r : Read (List ℕ)). r >>= λ gap. behind_gap flow least gap.value gap.end) e
 
-same_none : (read : Part (List ℕ)) (old : List ℕ) (p q : Place) → read ≡ over → q ≡ p → TakesPart utf8 read false old old p q
+pub same_none : (read : Part (List ℕ)) (old : List ℕ) (p q : Place) → read ≡ over → q ≡ p → TakesPart utf8 read false old old p q
 same_none read old p q h e = rw h (refl, e)
 
 pub ends_here : (flow : Bool) (least : ℕ) (p : Place) (old : List ℕ) → is_white (first p) ≡ false → TakesPart utf8 (link flow least p) false old old p p
@@ -319,3 +320,7 @@ passed p = any_behind (length p.rest) p (omega arith) ∙ break_any (is_break (f
 pub scalar_made : (flow : Bool) (least : ℕ) (p q r : Place) (out : List ℕ) (end : yaml_mark_t) (b : Bool) → plain flow least p ≡ scalar_at out q → end ≡ q.mark → b ≡ is_break (first (behind is_blank q)) → r ≡ behind is_white (behind is_blank q)
     → plain flow least p ≡ found (record { value = out; end = end; passed_break = b }) r
 scalar_made flow least p q r out end b h m e f = rw (m, e, f, ← passed q, ← (behind_blanks q).1) h
+
+pub scalar_ends : (flow : Bool) (least : ℕ) (p q r : Place) (out : List ℕ) (end : yaml_mark_t) (b : Bool) → plain flow least p ≡ scalar_at out q → end ≡ q.mark → b ≡ list_any is_break (run is_white q) → r ≡ behind is_white q
+    → plain flow least p ≡ found (record { value = out; end = end; passed_break = b }) r
+scalar_ends flow least p q r out end b m e h f = rw (m, e, h, f) refl

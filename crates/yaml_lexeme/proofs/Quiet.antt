@@ -1,5 +1,5 @@
 -- A run of quiet bytes goes over whole characters of the class.
-use Rattle.std.proofs.Common.{◌≡◌, ℕ, suc, ◌+◌, ◌/◌, ◌<◌, ◌≤◌, ◌⊎◌, Bool, true, false, cond, List, [], ◌∷◌, ◌++◌, length, get_or, take, refl, sym, ap, ◌∙◌, subst, arith, inl, inr}
+use Rattle.std.proofs.Common.{◌≡◌, ℕ, zero, suc, ◌+◌, ◌/◌, ◌<◌, ◌≤◌, ◌⊎◌, Bool, true, false, cond, List, [], ◌∷◌, ◌++◌, length, get_or, take, drop, refl, sym, ap, ◌∙◌, subst, arith, inl, inr}
 use Rattle.std.specs.List.{prefix_len, count_by}
 use Rattle.std.proofs.lemmas.Bool.{cases_lt, cases_Bool}
 use Rattle.std.proofs.lemmas.Bool.Decides.{nat_tests}
@@ -301,3 +301,53 @@ counted_all p q all (x ∷ xs) =
 
 pub quiet_counted : (class : class_t) (xs : List ℕ) → is_line class ≡ false → count_by begins (take (prefix_len (is_quiet class) xs) xs) ≡ prefix_len (is_quiet class) xs
 quiet_counted class xs h = counted_all begins (is_quiet class) (λ b q. quiet_begins class b h q) xs
+
+-- ---- spaces
+
+high_space : (b : ℕ) → 192 ≤ b → is_quiet SPACE b ≡ false
+high_space b h = grind (arith, nat_tests)
+
+-- the spaces in front are as many bytes as characters
+pub spaces_bytes : (cs : List ℕ) → AreChars cs → prefix_len (is_quiet SPACE) (utf8 cs) ≡ prefix_len (class_test SPACE) cs
+spaces_bytes [] h = refl
+spaces_bytes (c ∷ cs) h =
+    elim (cases_lt c 128) [
+      | inl a ↦
+          let e : utf8 (c ∷ cs) ≡ c ∷ utf8 cs = ap (λ (x : List ℕ). x ++ utf8 cs) (encode_ascii c a) in
+          elim (cases_Bool (class_test SPACE c)) [
+            | inl t ↦ let q : is_quiet SPACE c ≡ true = grind (arith, nat_tests) in rw (e, q, t, spaces_bytes cs h.1) refl
+            | inr f ↦ let q : is_quiet SPACE c ≡ false = grind (arith, nat_tests) in rw (e, q, f) refl
+          ]
+      | inr a ↦
+          let some : 0 < length (utf8 (c ∷ cs)) = omega (arith, length-append (encode c) (utf8 cs), length-encode c, len_utf8_bounds c) in
+          let none : class_test SPACE c ≡ false = grind (arith, nat_tests) in
+          none_in_front (is_quiet SPACE) (utf8 (c ∷ cs)) some (ap (is_quiet SPACE) (lead_of c (utf8 cs)) ∙ high_space _ (lead_high c a)) ∙ sym (rw none refl)
+    ]
+
+-- The k spaces in front are k bytes and k columns.
+pub record OverSpaces (m : yaml_mark_t) (cs : List ℕ) (k : ℕ) : Type 0 where
+  pub place : skip_from k m cs ≡ record { mark = along m k k; rest = drop k cs }
+  pub bytes : drop k (utf8 cs) ≡ utf8 (drop k cs)
+
+pub over_spaces : (m : yaml_mark_t) (cs : List ℕ) (k : ℕ) → k ≤ prefix_len (class_test SPACE) cs → OverSpaces m cs k
+over_spaces m cs zero h =
+    let i : m.index + 0 ≡ m.index = omega arith in
+    let j : m.column + 0 ≡ m.column = omega arith in
+    record { place = rw (i, j) refl; bytes = refl }
+over_spaces m [] (suc k) h = absurd (omega arith)
+over_spaces m (c ∷ cs) (suc k) h =
+    elim (cases_Bool (class_test SPACE c)) [
+      | inl t ↦
+          let is : c ≡ 32 = grind (arith, nat_tests) in
+          let low : k ≤ prefix_len (class_test SPACE) cs = omega (arith, rw t at h) in
+          let o = over_spaces (along m 1 1) cs k low in
+          let first : mark_behind m c (get_or cs 0 0) ≡ along m 1 1 = rw is refl in
+          let i : m.index + 1 + k ≡ m.index + suc k = omega arith in
+          let j : m.column + 1 + k ≡ m.column + suc k = omega arith in
+          let e : utf8 (c ∷ cs) ≡ c ∷ utf8 cs = ap (λ (x : List ℕ). x ++ utf8 cs) (encode_ascii c (omega (arith, is))) in
+          record {
+            place = ap (λ (x : yaml_mark_t). skip_from k x cs) first ∙ o.place ∙ (λ t. record { mark = record { index = i t; line = m.line; column = j t }; rest = drop k cs });
+            bytes = ap (λ (x : List ℕ). drop (suc k) x) e ∙ o.bytes;
+          }
+      | inr f ↦ absurd (omega (arith, rw f at h))
+    ]

@@ -1,11 +1,12 @@
 -- Runs of characters of a class, and of the bytes that spell them.
-use Rattle.std.specs.Prelude.{ℕ, ◌/◌, Bool, true, false, not, ◌&&◌, ◌||◌, ◌==◌, if◌then◌else◌, List, [], ◌∷◌}
+use Rattle.std.specs.Prelude.{ℕ, ◌≡◌, ◌≤◌, ◌/◌, Bool, true, false, not, ◌&&◌, ◌||◌, ◌==◌, if◌then◌else◌, List, [], ◌∷◌, length, take}
 use Rattle.std.specs.List.{list_all}
 use Rattle.yaml_text.specs.Classes.{is_blank, is_alpha, is_digit}
 use Rattle.yaml_lexeme.specs.declared.runs.class_t.{class_t}
 use Rattle.yaml_lexeme.specs.declared.runs.class_t.TheVariants.{BLANK, GAP_BLANK, SPACE, BLANK_OR_BREAK, ALPHA, DIGIT, IN_LINE, DOUBLE, SINGLE, PLAIN, FLOW}
 use Rattle.yaml_lexeme.specs.Classes.{is_white, is_in_line}
 use Rattle.yaml_lexeme.specs.Gap.{is_gap_blank}
+use Rattle.yaml_lexeme.specs.Place.{Place, run_len, skip}
 
 -- the characters of a line that mean something in a scalar, so that a run stops there
 abbrev pub is_mark : class_t → ℕ → Bool
@@ -83,3 +84,7 @@ line_of false = DOUBLE
 abbrev pub trim : List ℕ → List ℕ
 trim [] = []
 trim (c ∷ cs) = if list_all is_blank (c ∷ cs) then [] else c ∷ trim cs
+
+-- q is the place behind some characters in front of p that pass, without the blanks at their end.
+abbrev pub Stands : (ℕ → Bool) → Place → Place → Type 0
+Stands test p q = (n : ℕ) × ((n ≤ run_len test p) × (q ≡ skip (length (trim (take n p.rest))) p))

@@ -1,10 +1,10 @@
 -- Parts of a quoted body, and words of a plain scalar, that are read at once.
-use Rattle.std.specs.Prelude.{◌≡◌, ℕ, Bool, true, false, ◌||◌, nat_le, IsTrue, List, Result, Ok, Err}
+use Rattle.std.specs.Prelude.{◌≡◌, ℕ, Bool, true, false, List, [], take, Result, Ok, Err}
 use Rattle.yaml_text.specs.Chars.{utf8}
 use Rattle.yaml_lexeme.specs.declared.problem.refusal_t.{refusal_t}
 use Rattle.yaml_lexeme.specs.declared.runs.class_t.{class_t}
 use Rattle.yaml_lexeme.specs.declared.runs.class_t.TheVariants.{PLAIN, FLOW}
-use Rattle.yaml_lexeme.specs.Place.{Place}
+use Rattle.yaml_lexeme.specs.Place.{Place, skip}
 use Rattle.yaml_lexeme.specs.Reading.{Read, found, ◌>>=◌, many, with_front}
 use Rattle.yaml_lexeme.specs.Quoted.{body_part, spelled}
 use Rattle.yaml_lexeme.specs.Plain.{chunk, link}
@@ -28,9 +28,13 @@ abbrev pub plain_of : Bool → class_t
 plain_of true = FLOW
 plain_of false = PLAIN
 
--- a line at p goes on at any column behind p
-abbrev pub GoesFar : Bool → ℕ → Place → Type 0
-GoesFar flow least p = IsTrue (flow || nat_le least p.mark.column)
+-- q is the place behind some of what stands unchanged in the line at p.
+abbrev pub Goes : Bool → ℕ → Place → Place → Type 0
+Goes flow least p q = (n : ℕ) × ((q ≡ skip n p) × (words flow least p ≡ with_front (utf8 (take n p.rest)) (words flow least q)))
+
+-- What is read from p on is what is put out, and then what is read from q on behind a chunk.
+abbrev pub LeadsTo : Bool → ℕ → Place → List ℕ → Place → Type 0
+LeadsTo flow least p out q = with_front [] (words flow least p) ≡ with_front out (links flow least q)
 
 -- What was still to be read is what still is, or it was refused at q.
 abbrev pub Leaves : Result (Unit {0}) refusal_t → Read (List ℕ) → Read (List ℕ) → Place → Type 0

@@ -4,9 +4,10 @@ ghost use Rattle.yaml_text.specs.Chars.{utf8};
 ghost use Rattle.yaml_lexeme.specs.Block as spec;
 ghost use Rattle.yaml_lexeme.specs.Lexeme.{scalar_of};
 ghost use Rattle.yaml_lexeme.specs.Gives.{Gives, Moves};
+ghost use Rattle.yaml_lexeme.specs.Place.{skip, break_len};
 ghost use Rattle.yaml_lexeme.specs.Tails.{TakesBlanks, TakesLine, between_tail, chomped_tail};
 
-use crate::cursor::{cursor_t, is_blank, is_break};
+use crate::cursor::{check_at, cursor_t, is_at, is_blank, is_break};
 use crate::fold::{push_char, written};
 use crate::gap::skip_comment;
 use crate::plain::scalar_t;
@@ -14,6 +15,9 @@ use crate::problem::{problem_t, refusal_t};
 use crate::runs::class_t;
 use std::alloc::{AllocError, Global};
 use yaml_text::yaml_mark_t;
+
+/// How many bytes a block scalar is given room for at first.
+const ROOM: usize = 256;
 
 /// What is kept behind the last text line.
 #[derive(Clone, Copy)]
@@ -142,16 +146,26 @@ fn is_below(limit: Option<u64>, column: u64) -> bool
 fn is_indenting(cursor: &cursor_t, c: char, limit: Option<u64>) -> bool
     ensures { result ≡ spec.is_indenting c limit cursor.now }
 {
-    cursor.peek(0) == c && is_below(limit, cursor.mark().column)
+    check_at!(cursor, c, 0) && is_below(limit, cursor.mark().column)
+}
+
+/// Takes the spaces that are indentation.
+#[inline(always)]
+fn skip_indent(cursor: &mut cursor_t, limit: Option<u64>)
+    ensures { cursor.new ≡ skip (spec.indent_len limit cursor.old) cursor.old }
+{
+    match limit {
+        None => cursor.skip_run(class_t::SPACE),
+        Some(n) => cursor.skip_spaces(n.saturating_sub(cursor.mark().column)),
+    }
 }
 
 /// Takes the spaces that are indentation, where no tab may stand.
+#[tactic(auto, unfolding(crate::specs::Block::after_indent))]
 fn take_indent(cursor: &mut cursor_t, limit: Option<u64>) -> Result<(), refusal_t>
     ensures { Moves result cursor.new (spec.after_indent limit cursor.old) }
 {
-    'spaces: while is_indenting(cursor, ' ', limit) {
-        cursor.advance();
-    }
+    skip_indent(cursor, limit);
     if is_indenting(cursor, '\t', limit) {
         return Err(refusal_t::OFFENCE(problem_t::TAB_IN_INDENTATION));
     }
@@ -179,15 +193,20 @@ fn take_blank_lines(
     Ok(blanks_t { column, end })
 }
 
-/// The break that stands here, as it is written.
-fn break_at(cursor: &cursor_t) -> Option<char>
-    ensures { result ≡ spec.break_at cursor.now }
+/// Takes the break that stands here, if one does, and gives it as it is written.
+#[inline(always)]
+fn take_break(cursor: &mut cursor_t) -> Option<char>
+    ensures value { result ≡ spec.break_at cursor.old }
+    ensures end { cursor.new ≡ skip (break_len cursor.old) cursor.old }
 {
-    if cursor.break_len() > 0 {
-        Some(written(cursor.peek(0)))
-    } else {
-        None
+    let c = cursor.peek(0);
+    if c == '\n' {
+        cursor.advance();
+        return Some(c);
     }
+    let n = cursor.break_len();
+    cursor.skip(n);
+    if n == 0 { None } else { Some(written(c)) }
 }
 
 /// Takes a text line whose indentation is read, and puts its text behind `out`.
@@ -199,11 +218,10 @@ fn take_line(
 ) -> Result<tail_t, refusal_t>
     ensures { TakesLine result out.old.items out.new.items cursor.new (spec.line_at indent cursor.old) }
 {
-    let indented = is_blank(cursor.peek(0));
+    let indented = is_at!(cursor, is_blank, 0);
     let text = cursor.run(class_t::IN_LINE);
     out.extend_from_slice(text)?;
-    let lead = break_at(cursor);
-    cursor.skip(cursor.break_len());
+    let lead = take_break(cursor);
     let mut empties = Vec::new(alloc);
     let blanks = take_blank_lines(cursor, Some(indent), &mut empties)?;
     Ok(tail_t {
@@ -286,7 +304,7 @@ fn block_indent(least: u64, digit: Option<u64>, leading: u64, column: u64) -> u6
 fn is_text(cursor: &cursor_t, indent: u64) -> bool
     ensures { result ≡ spec.is_text indent cursor.now }
 {
-    cursor.mark().column == indent && cursor.peek(0) != '\0'
+    cursor.mark().column == indent && !check_at!(cursor, '\0', 0)
 }
 
 /// Takes a literal or folded scalar, at its first character. `least` is the greatest open level + 1, or 0.
@@ -311,9 +329,9 @@ pub(crate) fn take_block(
         indented: false,
         end: leading.end,
     };
-    let mut out = Vec::new(alloc);
+    let mut out = Vec::with_capacity(alloc, ROOM)?;
     'lines: while is_text(cursor, indent) {
-        push_between(&mut out, folded, &tail, is_blank(cursor.peek(0)))?;
+        push_between(&mut out, folded, &tail, is_at!(cursor, is_blank, 0))?;
         tail = take_line(alloc, cursor, indent, &mut out)?;
     }
     push_chomped(&mut out, header.chomp, &tail)?;

@@ -1,16 +1,34 @@
 //! A place that moves through a text.
-ghost use Rattle.std.specs.Prelude.{ℕ, ◌≡◌, ◌+◌, ◌-◌, ◌^◌, ◌<◌, ◌≤◌, length, slice_index, take, drop, false, true};
+ghost use Rattle.std.specs.Prelude.{ℕ, min, ◌≡◌, ◌+◌, ◌-◌, ◌^◌, ◌<◌, ◌≤◌, length, slice_index, take, drop, false, true};
 ghost use Rattle.std.specs.Str.{chars};
 ghost use Rattle.yaml_text.specs.Chars.{IsText, AreChars, utf8};
 ghost use Rattle.yaml_text.specs.Classes as classes;
 ghost use Rattle.yaml_text.specs.Utf8.{value_of};
 ghost use Rattle.yaml_lexeme.specs.Classes as sets;
-ghost use Rattle.yaml_lexeme.specs.Place.{peek, first, place_at, IsMarkOf, skip, mark_behind, width, behind, run, break_len};
-ghost use Rattle.yaml_lexeme.specs.Runs.{class_test, is_line, trim};
+ghost use Rattle.yaml_lexeme.specs.Place.{peek, first, place_at, IsMarkOf, skip, mark_behind, width, behind, run, run_len, break_len};
+ghost use Rattle.yaml_lexeme.specs.declared.runs.class_t.TheVariants.{SPACE};
+ghost use Rattle.yaml_lexeme.specs.Runs.{class_test, is_line, Stands};
 
-use crate::runs::{class_t, quiet_len, trimmed};
+use crate::runs::{class_t, quiet_len, spaces_len, trimmed};
 use std::marker::Model;
 use yaml_text::{WIDTH, yaml_mark_t, yaml_text_t};
+
+/// Whether a character stands so many places on: past the end a text reads as 0.
+macro_rules! check_at {
+    ($cursor:expr, $c:expr, $k:expr) => {
+        $cursor.peek($k) == $c
+    };
+}
+
+/// Whether a character that passes a test stands so many places on.
+macro_rules! is_at {
+    ($cursor:expr, $test:expr, $k:expr) => {
+        $test($cursor.peek($k))
+    };
+}
+
+pub(crate) use check_at;
+pub(crate) use is_at;
 
 /// A place in a text: a mark and the bytes from it on.
 #[derive(Drop)]
@@ -73,6 +91,7 @@ fn is_in_line(c: char) -> bool
     !(is_break(c) || c == '\0')
 }
 
+#[inline(always)]
 fn is_in(class: class_t, c: char) -> bool
     ensures { result ≡ class_test class c }
 {
@@ -309,13 +328,22 @@ impl<'a> cursor_t<'a> {
         ensures { result ≡ break_len self.now }
     {
         let c = self.peek(0);
-        if c == '\r' && self.peek(1) == '\n' {
+        if c == '\r' && check_at!(self, '\n', 1) {
             2
         } else if is_break(c) {
             1
         } else {
             0
         }
+    }
+
+    /// The bytes from an earlier place on up to this one.
+    #[inline(always)]
+    pub fn since(&self, start: &cursor_t<'a>) -> &'a [u8]
+        requires { (n : ℕ) × (self.now ≡ skip n start.now) }
+        ensures { (n : ℕ) → self.now ≡ skip n start.now → result.now ≡ utf8 (take n start.now.rest) }
+    {
+        front(start.bytes, start.bytes.len() - self.bytes.len())
     }
 
     /// What is left of the text.
@@ -356,27 +384,34 @@ impl<'a> cursor_t<'a> {
         front(start, start.len() - left.len())
     }
 
-    /// Takes a run of characters of a line, as long as can be, but for the blanks at its end, and gives its bytes.
+    /// Takes characters of a class of a line, up to a byte that needs a closer look, but for the blanks in front of it.
     #[inline(always)]
-    pub fn run_trimmed(&mut self, class: class_t) -> &'a [u8]
+    pub fn skip_solid(&mut self, class: class_t)
         requires { is_line class ≡ true }
-        ensures value { result.now ≡ utf8 (trim (run (class_test class) self.old)) }
-        ensures end { self.new ≡ skip (length (trim (run (class_test class) self.old))) self.old }
+        ensures { Stands (class_test class) self.old self.new }
     {
-        let (bytes, from) = (self.bytes, self.mark);
-        let piece = self.run(class);
-        let kept = trimmed(piece);
-        let blanks = (piece.len() - kept.len()) as u64;
-        let column = self.mark().column - blanks;
-        *self = cursor_t {
-            mark: yaml_mark_t {
-                index: from.index + kept.len() as u64,
-                line: from.line,
-                column,
-            },
-            bytes: rest(bytes, kept.len()),
+        let (n, count) = quiet_len(class, self.bytes);
+        let kept = trimmed(front(self.bytes, n)).len();
+        self.mark = yaml_mark_t {
+            index: self.mark.index + kept as u64,
+            line: self.mark.line,
+            column: self.mark.column + (count - (n - kept)) as u64,
         };
-        kept
+        self.bytes = rest(self.bytes, kept);
+    }
+
+    /// Takes the spaces that stand here, but at most so many.
+    #[inline(always)]
+    pub fn skip_spaces(&mut self, most: u64)
+        ensures { self.new ≡ skip (min (run_len (class_test SPACE) self.old) most) self.old }
+    {
+        let n = (spaces_len(self.bytes) as u64).min(most);
+        self.mark = yaml_mark_t {
+            index: self.mark.index + n,
+            line: self.mark.line,
+            column: self.mark.column + n,
+        };
+        self.bytes = rest(self.bytes, n as usize);
     }
 
     /// Takes a run of characters of the class, as long as can be.

@@ -7,7 +7,7 @@ ghost use Rattle.yaml_lexeme.specs.Lexeme.{directive_of};
 ghost use Rattle.yaml_lexeme.specs.Gives.{Gives};
 
 use crate::block::take_line_end;
-use crate::cursor::{cursor_t, ends, is_blank};
+use crate::cursor::{check_at, cursor_t, ends, is_at, is_blank};
 use crate::name::take_letters;
 use crate::problem::{problem_t, refusal_t};
 use crate::runs::class_t;
@@ -45,7 +45,7 @@ fn take_number(cursor: &mut cursor_t) -> Result<u32, refusal_t>
         };
         value = value * 10 + digit;
     }
-    let long = is_digit(cursor.peek(9));
+    let long = is_at!(cursor, is_digit, 9);
     cursor.skip(9);
     if long {
         return Err(refusal_t::OFFENCE(problem_t::LONG_NUMBER));
@@ -60,7 +60,7 @@ fn take_version(cursor: &mut cursor_t) -> Result<unnamed_yaml_token_t_data, refu
 {
     cursor.skip_run(class_t::BLANK);
     let major = take_number(cursor)?;
-    if cursor.peek(0) != '.' {
+    if !check_at!(cursor, '.', 0) {
         return Err(refusal_t::OFFENCE(problem_t::NO_DOT));
     }
     cursor.advance();
@@ -76,14 +76,14 @@ fn take_version(cursor: &mut cursor_t) -> Result<unnamed_yaml_token_t_data, refu
 fn take_handle(alloc: Global, cursor: &mut cursor_t) -> Result<Vec<u8>, refusal_t>
     ensures { Gives (λ v. v.items) result cursor.new (spec.handle_at cursor.old) }
 {
-    if cursor.peek(0) != '!' {
+    if !check_at!(cursor, '!', 0) {
         return Err(refusal_t::OFFENCE(problem_t::NO_HANDLE));
     }
     cursor.advance();
     let letters = take_letters(cursor);
     let mut handle = Vec::new(alloc);
     push_byte(&mut handle, b'!')?;
-    if cursor.peek(0) == '!' {
+    if check_at!(cursor, '!', 0) {
         handle.extend_from_slice(letters)?;
         push_byte(&mut handle, b'!')?;
         cursor.advance();
@@ -105,12 +105,12 @@ fn take_tag_directive(
 {
     cursor.skip_run(class_t::BLANK);
     let handle = take_handle(alloc, cursor)?;
-    if !is_blank(cursor.peek(0)) {
+    if !is_at!(cursor, is_blank, 0) {
         return Err(refusal_t::OFFENCE(problem_t::NO_BLANK));
     }
     cursor.skip_run(class_t::BLANK);
     let prefix = take_some_uri(alloc, cursor, true)?;
-    if !ends(cursor.peek(0)) {
+    if !is_at!(cursor, ends, 0) {
         return Err(refusal_t::OFFENCE(problem_t::NO_BLANK_OR_BREAK));
     }
     Ok(unnamed_yaml_token_t_data::TAG_DIRECTIVE { handle, prefix })
@@ -144,7 +144,7 @@ pub(crate) fn take_directive(alloc: Global, cursor: &mut cursor_t) -> Result<dir
     if letters.is_empty() {
         return Err(refusal_t::OFFENCE(problem_t::NO_DIRECTIVE_NAME));
     }
-    if !ends(cursor.peek(0)) {
+    if !is_at!(cursor, ends, 0) {
         return Err(refusal_t::OFFENCE(problem_t::DIRECTIVE_NAME_GOES_ON));
     }
     let says = take_named(alloc, cursor, letters)?;

@@ -1,10 +1,10 @@
 //! What stands between lexemes.
-ghost use Rattle.std.specs.Prelude.{ℕ, ◌≡◌};
-ghost use Rattle.yaml_lexeme.specs.Place.{IsMarkOf, place_at, behind};
+ghost use Rattle.std.specs.Prelude.{ℕ, ◌≡◌, true, false};
+ghost use Rattle.yaml_lexeme.specs.Place.{IsMarkOf, place_at, behind, peek};
 ghost use Rattle.yaml_lexeme.specs.Classes.{is_in_line};
 ghost use Rattle.yaml_lexeme.specs.Gap as spec;
 
-use crate::cursor::cursor_t;
+use crate::cursor::{check_at, cursor_t};
 use crate::runs::class_t;
 use yaml_text::{yaml_mark_t, yaml_text_t};
 
@@ -21,7 +21,7 @@ fn skip_line(cursor: &mut cursor_t)
 pub(crate) fn skip_comment(cursor: &mut cursor_t)
     ensures { cursor.new ≡ spec.after_comment cursor.old }
 {
-    if cursor.peek(0) == '#' {
+    if check_at!(cursor, '#', 0) {
         skip_line(cursor);
     }
 }
@@ -31,16 +31,16 @@ pub(crate) fn skip_comment(cursor: &mut cursor_t)
 fn skip_gap_line(cursor: &mut cursor_t, tabs: bool)
     ensures { cursor.new ≡ spec.after_gap_line tabs cursor.old }
 {
-    if cursor.mark().column == 0 && cursor.peek(0) == '\u{FEFF}' {
+    if cursor.mark().column == 0 && check_at!(cursor, '\u{FEFF}', 0) {
         cursor.advance();
     }
     cursor.skip_run(class_t::GAP_BLANK(tabs));
     skip_comment(cursor);
 }
 
-/// Takes the gap that stands here, and tells whether a break is in it.
-#[inline(always)]
-fn skip_gap(cursor: &mut cursor_t, in_flow: bool, allowed: bool) -> bool
+/// Takes the gap that stands here, line by line, and tells whether a break is in it.
+#[inline(never)]
+fn skip_gap_lines(cursor: &mut cursor_t, in_flow: bool, allowed: bool) -> bool
     ensures { (cursor.new, result) ≡ spec.gap in_flow allowed cursor.old }
 {
     skip_gap_line(cursor, in_flow || !allowed);
@@ -50,6 +50,54 @@ fn skip_gap(cursor: &mut cursor_t, in_flow: bool, allowed: bool) -> bool
         skip_gap_line(cursor, in_flow);
     }
     broken
+}
+
+/// Whether a character of ASCII stands here that belongs to no gap.
+#[inline(always)]
+fn is_solid(cursor: &cursor_t, k: usize) -> bool
+    ensures { result ≡ spec.is_solid (peek cursor.now k) }
+{
+    let c = cursor.peek(k);
+    c > ' ' && c < '\u{80}' && c != '#'
+}
+
+/// Takes a line feed and spaces, where these are the gap that stands here.
+#[inline(always)]
+fn skip_feed(cursor: &mut cursor_t) -> bool
+    ensures some { result ≡ true → spec.IsGap cursor.old cursor.new true }
+    ensures none { result ≡ false → cursor.new ≡ cursor.old }
+{
+    if !check_at!(cursor, '\n', 0) {
+        return false;
+    }
+    let mut next = cursor.again();
+    next.advance();
+    next.skip_run(class_t::SPACE);
+    let found = is_solid(&next, 0);
+    if found {
+        *cursor = next;
+    }
+    found
+}
+
+/// Takes a gap that is not empty, and tells whether a break is in it.
+#[inline(never)]
+fn skip_some_gap(cursor: &mut cursor_t, in_flow: bool, allowed: bool) -> bool
+    ensures { (cursor.new, result) ≡ spec.gap in_flow allowed cursor.old }
+{
+    if check_at!(cursor, ' ', 0) && is_solid(cursor, 1) {
+        cursor.advance();
+        return false;
+    }
+    skip_feed(cursor) || skip_gap_lines(cursor, in_flow, allowed)
+}
+
+/// Takes the gap that stands here, and tells whether a break is in it.
+#[inline(always)]
+fn skip_gap(cursor: &mut cursor_t, in_flow: bool, allowed: bool) -> bool
+    ensures { (cursor.new, result) ≡ spec.gap in_flow allowed cursor.old }
+{
+    !is_solid(cursor, 0) && skip_some_gap(cursor, in_flow, allowed)
 }
 
 /// The gap from a place on: the mark of the place after it, and whether a break stands in it (YAML 1.1, 6.2 Comments

@@ -3,7 +3,7 @@ ghost use Rattle.std.specs.Prelude.{ℕ, ◌≡◌};
 ghost use Rattle.yaml_lexeme.specs.Place.{IsMarkOf, place_at};
 ghost use Rattle.yaml_lexeme.specs.Kind as spec;
 
-use crate::cursor::{cursor_t, ends};
+use crate::cursor::{check_at, cursor_t, ends, is_at};
 use yaml_text::{yaml_mark_t, yaml_text_t};
 
 /// What kind of lexeme stands at a place. "Ends" means that a blank, a break or the end of the text follows.
@@ -57,10 +57,10 @@ pub(crate) fn is_marker_of(cursor: &cursor_t, c: char) -> bool
     ensures { result ≡ spec.is_marker_of c cursor.now }
 {
     cursor.mark().column == 0
-        && cursor.peek(0) == c
-        && cursor.peek(1) == c
-        && cursor.peek(2) == c
-        && ends(cursor.peek(3))
+        && check_at!(cursor, c, 0)
+        && check_at!(cursor, c, 1)
+        && check_at!(cursor, c, 2)
+        && is_at!(cursor, ends, 3)
 }
 
 /// Whether a document marker stands here.
@@ -109,43 +109,40 @@ fn kind_at(cursor: &cursor_t, in_flow: bool) -> Option<yaml_lexeme_kind_t>
     ensures { result ≡ spec.kind_at in_flow cursor.now }
 {
     let c = cursor.peek(0);
-    let alone = ends(cursor.peek(1));
-    let first = cursor.mark().column == 0;
-    if c == '\0' {
-        return Some(yaml_lexeme_kind_t::STREAM_END);
+    if c.is_ascii_alphanumeric() {
+        return Some(yaml_lexeme_kind_t::PLAIN);
     }
-    if first && c == '%' {
-        return Some(yaml_lexeme_kind_t::DIRECTIVE);
+    if cursor.mark().column == 0 {
+        if c == '%' {
+            return Some(yaml_lexeme_kind_t::DIRECTIVE);
+        }
+        if is_marker_of(cursor, '-') {
+            return Some(yaml_lexeme_kind_t::DOCUMENT_START);
+        }
+        if is_marker_of(cursor, '.') {
+            return Some(yaml_lexeme_kind_t::DOCUMENT_END);
+        }
     }
-    if is_marker_of(cursor, '-') {
-        return Some(yaml_lexeme_kind_t::DOCUMENT_START);
-    }
-    if is_marker_of(cursor, '.') {
-        return Some(yaml_lexeme_kind_t::DOCUMENT_END);
-    }
-    match c {
-        '[' => return Some(yaml_lexeme_kind_t::FLOW_SEQUENCE_START),
-        '{' => return Some(yaml_lexeme_kind_t::FLOW_MAPPING_START),
-        ']' => return Some(yaml_lexeme_kind_t::FLOW_SEQUENCE_END),
-        '}' => return Some(yaml_lexeme_kind_t::FLOW_MAPPING_END),
-        ',' => return Some(yaml_lexeme_kind_t::FLOW_ENTRY),
-        '-' if alone => return Some(yaml_lexeme_kind_t::BLOCK_ENTRY),
-        '?' if in_flow || alone => return Some(yaml_lexeme_kind_t::KEY),
-        ':' if in_flow || alone => return Some(yaml_lexeme_kind_t::VALUE),
-        '*' => return Some(yaml_lexeme_kind_t::ALIAS),
-        '&' => return Some(yaml_lexeme_kind_t::ANCHOR),
-        '!' => return Some(yaml_lexeme_kind_t::TAG),
-        '|' if !in_flow => return Some(yaml_lexeme_kind_t::LITERAL),
-        '>' if !in_flow => return Some(yaml_lexeme_kind_t::FOLDED),
-        '\'' => return Some(yaml_lexeme_kind_t::SINGLE_QUOTED),
-        '"' => return Some(yaml_lexeme_kind_t::DOUBLE_QUOTED),
-        _ => {}
-    }
-    if starts_plain(cursor, in_flow) {
-        Some(yaml_lexeme_kind_t::PLAIN)
-    } else {
-        None
-    }
+    Some(match c {
+        '\0' => yaml_lexeme_kind_t::STREAM_END,
+        '[' => yaml_lexeme_kind_t::FLOW_SEQUENCE_START,
+        '{' => yaml_lexeme_kind_t::FLOW_MAPPING_START,
+        ']' => yaml_lexeme_kind_t::FLOW_SEQUENCE_END,
+        '}' => yaml_lexeme_kind_t::FLOW_MAPPING_END,
+        ',' => yaml_lexeme_kind_t::FLOW_ENTRY,
+        '-' if is_at!(cursor, ends, 1) => yaml_lexeme_kind_t::BLOCK_ENTRY,
+        '?' if in_flow || is_at!(cursor, ends, 1) => yaml_lexeme_kind_t::KEY,
+        ':' if in_flow || is_at!(cursor, ends, 1) => yaml_lexeme_kind_t::VALUE,
+        '*' => yaml_lexeme_kind_t::ALIAS,
+        '&' => yaml_lexeme_kind_t::ANCHOR,
+        '!' => yaml_lexeme_kind_t::TAG,
+        '|' if !in_flow => yaml_lexeme_kind_t::LITERAL,
+        '>' if !in_flow => yaml_lexeme_kind_t::FOLDED,
+        '\'' => yaml_lexeme_kind_t::SINGLE_QUOTED,
+        '"' => yaml_lexeme_kind_t::DOUBLE_QUOTED,
+        _ if starts_plain(cursor, in_flow) => yaml_lexeme_kind_t::PLAIN,
+        _ => return None,
+    })
 }
 
 /// The kind of the lexeme that stands at a place, or `None` where no token can start (YAML 1.1, 5.3 Indicator

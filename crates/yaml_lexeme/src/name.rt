@@ -5,7 +5,7 @@ ghost use Rattle.yaml_lexeme.specs.Place as place;
 ghost use Rattle.yaml_lexeme.specs.Name as spec;
 ghost use Rattle.yaml_lexeme.specs.Gives.{Gives};
 
-use crate::cursor::{cursor_t, ends};
+use crate::cursor::{cursor_t, ends, is_at};
 use crate::problem::{problem_t, refusal_t};
 use crate::runs::class_t;
 use std::alloc::Global;
@@ -39,7 +39,7 @@ pub(crate) fn take_name(alloc: Global, cursor: &mut cursor_t) -> Result<Vec<u8>,
 {
     cursor.advance();
     let letters = take_letters(cursor);
-    if letters.is_empty() || !is_behind_name(cursor.peek(0)) {
+    if letters.is_empty() || !is_at!(cursor, is_behind_name, 0) {
         return Err(refusal_t::OFFENCE(problem_t::NO_NAME));
     }
     Ok(Vec::from_slice(alloc, letters)?)

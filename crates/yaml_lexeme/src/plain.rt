@@ -1,18 +1,22 @@
 //! Plain scalars.
-ghost use Rattle.std.specs.Prelude.{◌≡◌, ◌||◌, ◌<◌, ◌≤◌, [], true, nat_le, OnOk, IfOk, length};
+ghost use Rattle.std.specs.Prelude.{◌≡◌, ◌+◌, ◌||◌, ◌<◌, ◌≤◌, [], None, true, false, nat_le, length};
+ghost use Rattle.std.specs.Prelude.{OnOk, IfOk, IfSome};
+ghost use Rattle.std.specs.List.{list_any};
+ghost use Rattle.yaml_text.specs.Classes as classes;
+ghost use Rattle.yaml_lexeme.specs.Classes as sets;
+ghost use Rattle.yaml_lexeme.specs.Place.{Place, first, peek, run, behind};
 ghost use Rattle.yaml_lexeme.specs.Plain as spec;
 ghost use Rattle.yaml_lexeme.specs.Gives.{Gives, Appends};
 ghost use Rattle.yaml_lexeme.specs.Lexeme.{scalar_of};
-ghost use Rattle.yaml_lexeme.specs.Reading.{with_front};
-ghost use Rattle.yaml_lexeme.specs.Runs as runs;
-ghost use Rattle.yaml_lexeme.specs.Words.{links, words, plain_of, Leaves, LeavesMore};
+ghost use Rattle.yaml_lexeme.specs.Reading.{with_front, over};
+ghost use Rattle.yaml_lexeme.specs.Words.{links, words, Goes, LeadsTo, Leaves, LeavesMore};
 
-use crate::cursor::{cursor_t, ends, is_break, is_white};
+use crate::cursor::{check_at, cursor_t, ends, is_at, is_break, is_white};
 use crate::fold::{push_char, push_separator};
 use crate::kind::is_marker;
 use crate::problem::{problem_t, refusal_t};
 use crate::runs::class_t;
-use std::alloc::{AllocError, Global};
+use std::alloc::Global;
 use yaml_text::yaml_mark_t;
 
 /// A scalar that was read.
@@ -31,54 +35,66 @@ fn is_flow_indicator(c: char) -> bool
     c == ',' || c == '[' || c == ']' || c == '{' || c == '}'
 }
 
-fn is_bad_colon(in_flow: bool, c: char, next: char) -> bool
-    ensures { result ≡ spec.is_bad_colon in_flow c next }
-{
-    in_flow && c == ':' && (next == '?' || is_flow_indicator(next))
-}
-
-fn is_chunk(in_flow: bool, c: char, next: char) -> bool
-    ensures { result ≡ spec.is_chunk in_flow c next }
-{
-    !(ends(c) || c == ':' && ends(next))
-        && !(in_flow && is_flow_indicator(c))
-        && !is_bad_colon(in_flow, c, next)
-}
-
-fn line_class(in_flow: bool) -> class_t
-    ensures class { result ≡ plain_of in_flow }
-    ensures line { runs.is_line result ≡ true }
-{
-    if in_flow {
-        class_t::FLOW
-    } else {
-        class_t::PLAIN
-    }
-}
-
-fn goes_far(cursor: &cursor_t, in_flow: bool, least: u64) -> bool
-    ensures { result ≡ (in_flow || nat_le least cursor.now.mark.column) }
-{
-    in_flow || least <= cursor.mark().column
-}
-
-/// Takes what stands in this line unchanged, and puts it behind `out` as one piece.
+/// Whether a `:` stands here that may not stand in a chunk.
 #[inline(always)]
-fn push_words(
-    cursor: &mut cursor_t,
-    in_flow: bool,
-    least: u64,
-    out: &mut Vec<u8>,
-) -> Result<(), AllocError>
-    ensures goes { OnOk result (with_front out.old.items (words in_flow least cursor.old) ≡ with_front out.new.items (words in_flow least cursor.new)) }
-    ensures shorter { OnOk result (length cursor.new.rest ≤ length cursor.old.rest) }
+fn is_bad_colon(cursor: &cursor_t, in_flow: bool) -> bool
+    ensures { result ≡ spec.is_bad_colon in_flow (first cursor.now) (peek cursor.now 1) }
+{
+    if !in_flow || !check_at!(cursor, ':', 0) {
+        return false;
+    }
+    let next = cursor.peek(1);
+    next == '?' || is_flow_indicator(next)
+}
+
+/// Whether the character that stands here belongs to a chunk.
+#[inline(always)]
+fn is_chunk(cursor: &cursor_t, in_flow: bool) -> bool
+    ensures { result ≡ spec.is_chunk in_flow (first cursor.now) (peek cursor.now 1) }
+{
+    let c = cursor.peek(0);
+    if ends(c) || in_flow && is_flow_indicator(c) {
+        return false;
+    }
+    !(c == ':' && (is_at!(cursor, ends, 1) || is_bad_colon(cursor, in_flow)))
+}
+
+/// Whether a line may go on at any column behind the character that stands here.
+fn goes_far(cursor: &cursor_t, in_flow: bool, least: u64) -> bool
+    ensures { result ≡ (in_flow || nat_le least (cursor.now.mark.column + 1)) }
+{
+    in_flow || least.saturating_sub(1) <= cursor.mark().column
+}
+
+/// Takes what stands unchanged in this line, up to a byte that needs a closer look.
+#[inline(always)]
+fn skip_words(cursor: &mut cursor_t, in_flow: bool, least: u64)
+    ensures { Goes in_flow least cursor.old cursor.new }
 {
     if !goes_far(cursor, in_flow, least) {
-        return Ok(());
+        return;
     }
-    let piece = cursor.run_trimmed(line_class(in_flow));
-    out.extend_from_slice(piece)?;
-    Ok(())
+    if in_flow {
+        cursor.skip_solid(class_t::FLOW);
+    } else {
+        cursor.skip_solid(class_t::PLAIN);
+    }
+}
+
+/// Takes a chunk, and the separators and chunks behind it in the same line, and gives their bytes.
+#[inline(always)]
+fn line_words<'a>(cursor: &mut cursor_t<'a>, in_flow: bool, least: u64) -> &'a [u8]
+    ensures goes { words in_flow least cursor.old ≡ with_front result.now (words in_flow least cursor.new) }
+    ensures over { spec.is_chunk in_flow (first cursor.new) (peek cursor.new 1) ≡ false }
+    ensures shorter { length cursor.new.rest ≤ length cursor.old.rest }
+{
+    let start = cursor.again();
+    skip_words(cursor, in_flow, least);
+    'chunk: while is_chunk(cursor, in_flow) {
+        cursor.advance();
+        skip_words(cursor, in_flow, least);
+    }
+    cursor.since(&start)
 }
 
 /// Takes a chunk, and the separators and chunks behind it in the same line, and puts them behind `out`.
@@ -91,22 +107,18 @@ fn take_words(
     ensures value { Leaves result (with_front out.old.items (words in_flow least cursor.old)) (with_front out.new.items (links in_flow least cursor.new)) cursor.new }
     ensures shorter { OnOk result (length cursor.new.rest ≤ length cursor.old.rest) }
 {
-    push_words(cursor, in_flow, least, out)?;
-    'chunk: while is_chunk(in_flow, cursor.peek(0), cursor.peek(1)) {
-        push_char(out, cursor.peek(0))?;
-        cursor.advance();
-        push_words(cursor, in_flow, least, out)?;
-    }
-    if is_bad_colon(in_flow, cursor.peek(0), cursor.peek(1)) {
+    let piece = line_words(cursor, in_flow, least);
+    if is_bad_colon(cursor, in_flow) {
         return Err(refusal_t::OFFENCE(problem_t::COLON_IN_FLOW));
     }
+    out.extend_from_slice(piece)?;
     Ok(())
 }
 
 fn is_bad_tab(cursor: &cursor_t, broken: bool, least: u64) -> bool
     ensures { result ≡ spec.is_tab least broken cursor.now }
 {
-    cursor.peek(0) == '\t' && broken && cursor.mark().column < least
+    check_at!(cursor, '\t', 0) && broken && cursor.mark().column < least
 }
 
 /// Takes a separator, where no tab may stand in indentation.
@@ -114,11 +126,11 @@ fn skip_separator(cursor: &mut cursor_t, least: u64) -> Result<(), refusal_t>
     ensures { Appends (λ run. []) result [] [] cursor.new (spec.separator least cursor.old) }
 {
     let mut broken = false;
-    'run: while is_white(cursor.peek(0)) {
+    'run: while is_at!(cursor, is_white, 0) {
         if is_bad_tab(cursor, broken, least) {
             return Err(refusal_t::OFFENCE(problem_t::TAB_IN_PLAIN));
         }
-        broken |= is_break(cursor.peek(0));
+        broken |= is_at!(cursor, is_break, 0);
         cursor.advance();
         cursor.skip_run(class_t::SPACE);
     }
@@ -128,7 +140,7 @@ fn skip_separator(cursor: &mut cursor_t, least: u64) -> Result<(), refusal_t>
 fn is_over(cursor: &cursor_t, in_flow: bool, least: u64) -> bool
     ensures { result ≡ spec.is_over in_flow least cursor.now }
 {
-    !in_flow && cursor.mark().column < least || is_marker(cursor) || cursor.peek(0) == '#'
+    !in_flow && cursor.mark().column < least || is_marker(cursor) || check_at!(cursor, '#', 0)
 }
 
 /// Takes a separator and the words behind it, and puts them behind `out`. The flag is false where the scalar is over.
@@ -141,7 +153,7 @@ fn take_link(
     ensures value { LeavesMore result (with_front out.old.items (links in_flow least cursor.old)) (with_front out.new.items (links in_flow least cursor.new)) out.new.items cursor.new }
     ensures shorter { IfOk result (λ more. more ≡ true → length cursor.new.rest < length cursor.old.rest) }
 {
-    if !is_white(cursor.peek(0)) {
+    if !is_at!(cursor, is_white, 0) {
         return Ok(false);
     }
     let mut start = cursor.again();
@@ -150,16 +162,64 @@ fn take_link(
         *cursor = start;
         return Ok(false);
     }
-    if is_bad_colon(in_flow, cursor.peek(0), cursor.peek(1)) {
+    if is_bad_colon(cursor, in_flow) {
         return Err(refusal_t::OFFENCE(problem_t::COLON_IN_FLOW));
     }
-    if !is_chunk(in_flow, cursor.peek(0), cursor.peek(1)) {
+    if !is_chunk(cursor, in_flow) {
         *cursor = start;
         return Ok(false);
     }
     push_separator(&mut start, out)?;
     take_words(cursor, in_flow, least, out)?;
     Ok(true)
+}
+
+/// Takes the separator that stands here, where a quick look shows that the scalar is over in front of it. Then it is empty,
+/// or is a line feed and spaces in front of a line that is not indented enough. Tells whether a break stands in it.
+#[inline(always)]
+fn ends_at_once(cursor: &mut cursor_t, in_flow: bool, least: u64) -> Option<bool>
+    ensures over { IfSome result (λ b. spec.link in_flow least cursor.old ≡ over) }
+    ensures end { IfSome result (λ b. cursor.new ≡ behind sets.is_white cursor.old) }
+    ensures broken { IfSome result (λ b. b ≡ list_any classes.is_break (run sets.is_white cursor.old)) }
+    ensures stays { result ≡ None → cursor.new ≡ cursor.old }
+{
+    let c = cursor.peek(0);
+    if !is_white(c) {
+        return Some(false);
+    }
+    if in_flow || c != '\n' {
+        return None;
+    }
+    let mut next = cursor.again();
+    next.advance();
+    next.skip_run(class_t::SPACE);
+    if next.mark().column >= least || is_white(next.peek(0)) {
+        return None;
+    }
+    *cursor = next;
+    Some(true)
+}
+
+/// Takes the separators and words behind those of the first line, which are in `out`.
+#[inline(never)]
+fn take_links(
+    cursor: &mut cursor_t,
+    in_flow: bool,
+    least: u64,
+    mut out: Vec<u8>,
+) -> Result<scalar_t, refusal_t>
+    ensures { (p : Place) → LeadsTo in_flow least p out.items cursor.old → Gives scalar_of result cursor.new (spec.plain in_flow least p) }
+{
+    'links: while take_link(cursor, in_flow, least, &mut out)? {}
+    let end = cursor.mark();
+    cursor.skip_run(class_t::BLANK);
+    let passed_break = is_at!(cursor, is_break, 0);
+    cursor.skip_run(class_t::BLANK_OR_BREAK);
+    Ok(scalar_t {
+        value: out,
+        end,
+        passed_break,
+    })
 }
 
 /// Takes a plain scalar. `least` is the least column of a line that goes on.
@@ -171,13 +231,15 @@ pub(crate) fn take_plain(
 ) -> Result<scalar_t, refusal_t>
     ensures { Gives scalar_of result cursor.new (spec.plain in_flow least cursor.old) }
 {
-    let mut out = Vec::new(alloc);
-    take_words(cursor, in_flow, least, &mut out)?;
-    'links: while take_link(cursor, in_flow, least, &mut out)? {}
+    let piece = line_words(cursor, in_flow, least);
+    if is_bad_colon(cursor, in_flow) {
+        return Err(refusal_t::OFFENCE(problem_t::COLON_IN_FLOW));
+    }
+    let out = Vec::from_slice(alloc, piece)?;
     let end = cursor.mark();
-    cursor.skip_run(class_t::BLANK);
-    let passed_break = is_break(cursor.peek(0));
-    cursor.skip_run(class_t::BLANK_OR_BREAK);
+    let Some(passed_break) = ends_at_once(cursor, in_flow, least) else {
+        return take_links(cursor, in_flow, least, out);
+    };
     Ok(scalar_t {
         value: out,
         end,

@@ -1,5 +1,5 @@
 //! Quoted scalars.
-ghost use Rattle.std.specs.Prelude.{◌≡◌, ◌≤◌, true, Ok, Err, if◌then◌else◌, OnOk, length};
+ghost use Rattle.std.specs.Prelude.{ℕ, ◌≡◌, ◌≤◌, ◌++◌, true, List, Ok, Err, if◌then◌else◌, OnOk, length};
 ghost use Rattle.yaml_text.specs.Chars.{utf8};
 ghost use Rattle.yaml_lexeme.specs.declared.problem.refusal_t.TheVariants.{OFFENCE};
 ghost use Rattle.yaml_lexeme.specs.declared.problem.problem_t.TheVariants.{DOCUMENT_MARKER};
@@ -9,7 +9,7 @@ ghost use Rattle.yaml_lexeme.specs.Runs as runs;
 ghost use Rattle.yaml_lexeme.specs.Gives.{Gives, Takes};
 ghost use Rattle.yaml_lexeme.specs.Words.{GoesOn};
 
-use crate::cursor::{cursor_t, is_break, is_white};
+use crate::cursor::{check_at, cursor_t, is_at, is_break, is_white};
 use crate::escape::take_escape;
 use crate::fold::{push_breaks, push_char, push_separator};
 use crate::kind::is_marker;
@@ -48,7 +48,7 @@ fn take_part(cursor: &mut cursor_t, single: bool, out: &mut Vec<u8>) -> Result<b
         return unmarked(cursor);
     }
     if c == quote(single) {
-        if !(single && cursor.peek(1) == c) {
+        if !(single && check_at!(cursor, c, 1)) {
             return Ok(false);
         }
         push_char(out, c)?;
@@ -60,7 +60,7 @@ fn take_part(cursor: &mut cursor_t, single: bool, out: &mut Vec<u8>) -> Result<b
         cursor.advance();
         return Ok(true);
     }
-    if is_break(cursor.peek(1)) {
+    if is_at!(cursor, is_break, 1) {
         cursor.advance();
         cursor.skip(cursor.break_len());
         push_breaks(cursor, out)?;
@@ -81,22 +81,42 @@ fn line_class(single: bool) -> class_t
     }
 }
 
+/// Takes what stands in this line unchanged, and gives its bytes, without the blanks before a break.
+#[inline(always)]
+fn line_piece<'a>(cursor: &mut cursor_t<'a>, single: bool) -> &'a [u8]
+    ensures goes { (out : List ℕ) → GoesOn single cursor.old out cursor.new (out ++ result.now) }
+    ensures shorter { length cursor.new.rest ≤ length cursor.old.rest }
+{
+    let piece = cursor.run(line_class(single));
+    if is_at!(cursor, is_break, 0) {
+        return trimmed(piece);
+    }
+    piece
+}
+
 /// Takes what stands in this line unchanged, and puts it behind `out` as one piece, without the blanks before a break.
 #[inline(always)]
 fn push_line(cursor: &mut cursor_t, single: bool, out: &mut Vec<u8>) -> Result<(), AllocError>
     ensures goes { OnOk result (GoesOn single cursor.old out.old.items cursor.new out.new.items) }
     ensures shorter { OnOk result (length cursor.new.rest ≤ length cursor.old.rest) }
 {
-    if matches!(cursor.peek(0), '\\' | '"') {
+    if !single && matches!(cursor.peek(0), '\\' | '"') {
         return Ok(());
     }
-    let piece = cursor.run(line_class(single));
-    if !is_break(cursor.peek(0)) {
-        out.extend_from_slice(piece)?;
-        return Ok(());
-    }
-    out.extend_from_slice(trimmed(piece))?;
+    out.extend_from_slice(line_piece(cursor, single))?;
     Ok(())
+}
+
+/// How many bytes a scalar is given room for behind what was taken of it: none where its quote stands here.
+#[inline(always)]
+fn room_behind(cursor: &cursor_t, single: bool) -> usize
+    ensures { result ≤ 64 }
+{
+    if cursor.peek(0) == quote(single) {
+        0
+    } else {
+        64
+    }
 }
 
 /// Takes a quoted scalar, at its opening quote.
@@ -108,8 +128,9 @@ pub(crate) fn take_quoted(
     ensures { Gives (λ v. v.items) result cursor.new (spec.quoted single cursor.old) }
 {
     cursor.advance();
-    let mut out = Vec::new(alloc);
-    push_line(cursor, single, &mut out)?;
+    let piece = line_piece(cursor, single);
+    let mut out = Vec::with_capacity(alloc, piece.len() + room_behind(cursor, single))?;
+    out.extend_from_slice(piece)?;
     'parts: while take_part(cursor, single, &mut out)? {
         push_line(cursor, single, &mut out)?;
     }

@@ -3,7 +3,7 @@ ghost use Rattle.std.specs.Prelude.{◌≡◌, ◌+◌, ◌-◌, ◌≤◌, true
 ghost use Rattle.std.specs.List.{prefix_len, count_by};
 ghost use Rattle.std.specs.Simd.Lanes.{mask_l};
 ghost use Rattle.yaml_lexeme.specs.Runs as spec;
-ghost use Rattle.yaml_lexeme.specs.declared.runs.class_t.TheVariants.{ALPHA, BLANK, IN_LINE, DOUBLE, SINGLE, PLAIN, FLOW};
+ghost use Rattle.yaml_lexeme.specs.declared.runs.class_t.TheVariants.{SPACE, ALPHA, BLANK, IN_LINE, DOUBLE, SINGLE, PLAIN, FLOW};
 
 use std::simd::prelude::*;
 
@@ -247,6 +247,38 @@ fn quiet_line(class: class_t, text: &[u8]) -> (usize, usize)
     (end, n + count_chars(part(text, i, end)))
 }
 
+#[inline(always)]
+fn stops_space(v: u8x16) -> u64
+    ensures { result ≡ mask_l (map (spec.is_stop SPACE) v) }
+{
+    v.simd_ne(u8x16::splat(b' ')).to_bitmask()
+}
+
+/// How many spaces stand in front.
+#[inline(always)]
+pub(crate) fn spaces_len(text: &[u8]) -> usize
+    ensures { result ≡ prefix_len (spec.is_quiet SPACE) text.now }
+{
+    if text.len() >= 16 {
+        let found = stops_space(u8x16::from_slice(text));
+        if found != 0 {
+            return found.trailing_zeros() as usize;
+        }
+    }
+    slow_end(class_t::SPACE, text, 0)
+}
+
+/// How many bytes in front need no closer look, where the class is not that of a line.
+#[inline(always)]
+fn narrow_len(class: class_t, text: &[u8]) -> usize
+    ensures { result ≡ prefix_len (spec.is_quiet class) text.now }
+{
+    match class {
+        class_t::SPACE => spaces_len(text),
+        _ => end_from(class, text, 0),
+    }
+}
+
 /// How many bytes in front need no closer look, and how many of them begin a character.
 #[inline(always)]
 pub(crate) fn quiet_len(class: class_t, text: &[u8]) -> (usize, usize)
@@ -257,7 +289,7 @@ pub(crate) fn quiet_len(class: class_t, text: &[u8]) -> (usize, usize)
     if is_line(class) {
         return quiet_line(class, text);
     }
-    let n = end_from(class, text, 0);
+    let n = narrow_len(class, text);
     (n, n)
 }
 

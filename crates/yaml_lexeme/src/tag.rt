@@ -5,7 +5,7 @@ ghost use Rattle.yaml_text.specs.Token.TokenData.{TAG};
 ghost use Rattle.yaml_lexeme.specs.Tag as spec;
 ghost use Rattle.yaml_lexeme.specs.Gives.{Gives};
 
-use crate::cursor::{cursor_t, ends};
+use crate::cursor::{check_at, cursor_t, ends};
 use crate::name::take_letters;
 use crate::problem::{problem_t, refusal_t};
 use crate::uri::{push_byte, take_some_uri, take_uri};
@@ -25,7 +25,7 @@ fn take_angled(alloc: Global, cursor: &mut cursor_t) -> Result<unnamed_yaml_toke
 {
     cursor.advance();
     let suffix = take_some_uri(alloc, cursor, true)?;
-    if cursor.peek(0) != '>' {
+    if !check_at!(cursor, '>', 0) {
         return Err(refusal_t::OFFENCE(problem_t::NO_CLOSING_ANGLE));
     }
     cursor.advance();
@@ -41,7 +41,7 @@ fn take_handled(
     ensures { Gives data_of result cursor.new (spec.handled cursor.old) }
 {
     let letters = take_letters(cursor);
-    if cursor.peek(0) == '!' {
+    if check_at!(cursor, '!', 0) {
         cursor.advance();
         let suffix = take_some_uri(alloc, cursor, false)?;
         let mut handle = Vec::new(alloc);
@@ -67,7 +67,7 @@ fn take_tag_parts(
     ensures { Gives data_of result cursor.new (spec.tag_parts cursor.old) }
 {
     cursor.advance();
-    if cursor.peek(0) == '<' {
+    if check_at!(cursor, '<', 0) {
         take_angled(alloc, cursor)
     } else {
         take_handled(alloc, cursor)

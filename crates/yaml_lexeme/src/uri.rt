@@ -3,7 +3,7 @@ ghost use Rattle.std.specs.Prelude.{◌≡◌, ◌++◌, ◌∷◌, [], ◌<◌,
 ghost use Rattle.yaml_lexeme.specs.Uri as spec;
 ghost use Rattle.yaml_lexeme.specs.Gives.{Gives, Takes, Appends, OctetIs};
 
-use crate::cursor::{cursor_t, is_alpha};
+use crate::cursor::{check_at, cursor_t, is_alpha};
 use crate::problem::{problem_t, refusal_t};
 use std::alloc::{AllocError, Global};
 
@@ -43,7 +43,7 @@ pub(crate) fn push_byte(out: &mut Vec<u8>, byte: u8) -> Result<(), AllocError>
 fn octet_at(cursor: &cursor_t) -> Result<u8, refusal_t>
     ensures { OctetIs result cursor.now }
 {
-    if cursor.peek(0) != '%' {
+    if !check_at!(cursor, '%', 0) {
         return Err(refusal_t::OFFENCE(problem_t::NO_OCTET));
     }
     let Some(high) = cursor.peek(1).to_digit(16) else {

@@ -1,5 +1,5 @@
 //! Runs of characters of one byte.
-ghost use Rattle.std.specs.Prelude.{◌≡◌, ◌+◌, ◌≤◌, length, drop, map};
+ghost use Rattle.std.specs.Prelude.{◌≡◌, ◌+◌, ◌≤◌, true, length, drop, map};
 ghost use Rattle.std.specs.List.{prefix_len};
 ghost use Rattle.std.specs.Simd.Lanes.{mask_l};
 ghost use Rattle.yaml_text.specs.Utf8.{is_single, is_other};
@@ -22,6 +22,45 @@ fn others(v: u8x16) -> u64
             & (v.simd_ne(u8x16::splat(b'\t')) & v.simd_ne(u8x16::splat(b'\r'))))).to_bitmask()
 }
 
+/// Whether the first 64 bytes are characters by themselves.
+#[inline(always)]
+fn are_single(bytes: &[u8]) -> bool
+    requires { 64 ≤ length bytes.now }
+    ensures { result ≡ true → prefix_len is_single bytes.now ≡ 64 + prefix_len is_single (drop 64 bytes.now) }
+{
+    if others(u8x16::from_slice(bytes)) != 0 {
+        return false;
+    }
+    if others(u8x16::from_slice(&bytes[16..])) != 0 {
+        return false;
+    }
+    if others(u8x16::from_slice(&bytes[32..])) != 0 {
+        return false;
+    }
+    others(u8x16::from_slice(&bytes[48..])) == 0
+}
+
+#[inline(always)]
+fn rest(bytes: &[u8], n: usize) -> &[u8]
+    requires { n ≤ length bytes.now }
+    ensures { result.now ≡ drop n bytes.now }
+{
+    &bytes[n..]
+}
+
+/// How many times 64 bytes in front are characters by themselves, in bytes.
+#[inline(always)]
+fn far_len(bytes: &[u8]) -> usize
+    ensures value { prefix_len is_single bytes.now ≡ result + prefix_len is_single (drop result bytes.now) }
+    ensures bound { result ≤ length bytes.now }
+{
+    let mut i = 0;
+    'wide: while bytes.len() - i >= 64 && are_single(rest(bytes, i)) {
+        i += 64;
+    }
+    i
+}
+
 fn slow_len(bytes: &[u8], from: usize) -> usize
     requires { from ≤ length bytes.now }
     ensures { result ≡ from + prefix_len is_single (drop from bytes.now) }
@@ -39,7 +78,7 @@ pub(crate) fn single_len(bytes: &[u8]) -> usize
     ensures value { result ≡ prefix_len is_single bytes.now }
     ensures bound { result ≤ length bytes.now }
 {
-    let mut i = 0;
+    let mut i = far_len(bytes);
     'wide: while bytes.len() - i >= 16 {
         let found = others(u8x16::from_slice(&bytes[i..]));
         if found != 0 {

@@ -35,7 +35,7 @@ lines-init c =
     let blanks = rw (c.leading_limit.ensures, c.new-empties.ensures.items) at c.in_ok-leading.ensures in
     let indent : c.block_indent-indent.result ≡ block_indent c.args.least c.in_ok-header.header.digit c.in_ok-leading.leading.column q.mark.column =
     c.block_indent-indent.ensures ∙ ap (λ (m : yaml_mark_t). block_indent c.args.least c.in_ok-header.header.digit c.in_ok-leading.leading.column m.column) c.mark.ensures.value in
-    rw c.new-out.ensures.items (blocks_begin c.args.folded c.args.least p c.in_ok-header.header c.take_header.new.cursor c.take_line_end.new.cursor q c.in_ok-leading.leading.column c.block_indent-indent.result _ header c.in_ok-take_line_end.ensures blanks refl refl indent)
+    rw c.in_ok-out.ensures.items (blocks_begin c.args.folded c.args.least p c.in_ok-header.header c.take_header.new.cursor c.take_line_end.new.cursor q c.in_ok-leading.leading.column c.block_indent-indent.result _ header c.in_ok-take_line_end.ensures blanks refl refl indent)
 
 pub returns-in_err-tail : goal.returns-in_err-tail
 returns-in_err-tail c =

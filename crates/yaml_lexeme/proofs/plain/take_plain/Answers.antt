@@ -1,39 +1,41 @@
-use Rattle.std.proofs.Common.{◌≡◌, ◌∙◌, []}
-use Rattle.std.proofs.lemmas.Result.{err_from_is_err_and}
-use Rattle.yaml_text.specs.Classes.{is_blank, is_break}
-use Rattle.yaml_lexeme.specs.Classes.{is_white}
-use Rattle.yaml_lexeme.specs.Place.{first, behind}
+use Rattle.std.proofs.Common.{◌≡◌, ◌∙◌, refl, true, false, sym, ap}
+use Rattle.yaml_lexeme.specs.declared.problem.problem_t.TheVariants.{COLON_IN_FLOW}
+use Rattle.yaml_lexeme.specs.declared.problem.refusal_t.TheVariants.{OFFENCE}
+use Rattle.yaml_lexeme.specs.Place.{Place, first, peek}
+use Rattle.yaml_lexeme.specs.Plain.{is_bad_colon}
 use Rattle.yaml_lexeme.specs.Reading.{with_front}
 use Rattle.yaml_lexeme.specs.Words.{links, words}
-use Rattle.yaml_lexeme.proofs.Plains.{scalar_made}
-use Rattle.yaml_lexeme.proofs.PlainRuns.{plain_words, plain_none, links_go_wrong}
+use Rattle.yaml_lexeme.proofs.Plains.{scalar_ends}
+use Rattle.yaml_lexeme.proofs.PlainRuns.{no_front, plain_none, plain_words, words_colon, plain_out, links_end}
 use Rattle.yaml_lexeme.proofs.plain.take_plain.Goals as goal
 
-pub returns-in_err-take_words : goal.returns-in_err-take_words
-returns-in_err-take_words c =
-    let e = err_from_is_err_and c.from_residual.result c.from_residual.ensures.1 in
-    let none = rw c.new-out.ensures.items at c.in_err-take_words.ensures.value in
-    rw (e.1, e.2) (plain_none c.in_err-take_words.field-0.0 c.args.in_flow c.args.least c.args.cursor.now c.take_words.new.cursor none)
+pub returns-then-is_bad_colon : goal.returns-then-is_bad_colon
+returns-then-is_bad_colon c =
+    let p = c.args.cursor.now in
+    let q = c.line_words-piece.new.cursor in
+    let bad : is_bad_colon c.args.in_flow (first q) (peek q 1) ≡ true = cc in
+    plain_none (OFFENCE COLON_IN_FLOW) c.args.in_flow c.args.least p q
+    (no_front (words c.args.in_flow c.args.least p) ∙ c.line_words-piece.ensures.goes ∙ ap (with_front c.line_words-piece.result.now) (words_colon c.args.in_flow c.args.least q c.line_words-piece.ensures.over bad))
 
-pub returns-in_err-take_link : goal.returns-in_err-take_link
-returns-in_err-take_link c =
+pub returns-in_default : goal.returns-in_default
+returns-in_default c =
     let flow = c.args.in_flow in
     let least = c.args.least in
     let p = c.args.cursor.now in
-    let error = c.in_err-take_link.field-0.0 in
-    let e = err_from_is_err_and c.from_residual-in_err-take_link.result c.from_residual-in_err-take_link.ensures.1 in
-    let none = links_go_wrong error (with_front [] (words flow least p)) (with_front c.links.out.items (links flow least c.links.cursor)) c.take_link.new.cursor c.links.invariant c.in_err-take_link.ensures.value in
-    rw (e.1, e.2) (plain_none error flow least p c.take_link.new.cursor none)
+    let q = c.line_words-piece.new.cursor in
+    let out = c.in_ok-out.out.items in
+    let fine : is_bad_colon flow (first q) (peek q 1) ≡ false = cc in
+    let same : c.ends_at_once.new.cursor ≡ q = c.in_default.ensures.stays refl in
+    c.take_links.ensures p (plain_out flow least p q out c.line_words-piece.result.now c.line_words-piece.ensures.goes c.line_words-piece.ensures.over fine c.in_ok-out.ensures.items ∙ ap (λ (r : Place). with_front out (links flow least r)) (sym same))
 
 pub returns : goal.returns
 returns c =
     let flow = c.args.in_flow in
     let least = c.args.least in
     let p = c.args.cursor.now in
-    let q = c.take_link.new.cursor in
-    let out = c.take_link.new.out.items in
-    let took = rw c.if-branch.false at c.in_ok-take_link.ensures.value in
-    let all = plain_words flow least p q out (c.links.invariant ∙ took) in
-    let b : c.is_break-passed_break.result ≡ is_break (first (behind is_blank q)) = cc in
-    let r : c.skip_run-2.new.self ≡ behind is_white (behind is_blank q) = cc in
-    scalar_made flow least p q c.skip_run-2.new.self out c.mark-end.result c.is_break-passed_break.result all c.mark-end.ensures.value b r
+    let q = c.line_words-piece.new.cursor in
+    let out = c.in_ok-out.out.items in
+    let fine : is_bad_colon flow (first q) (peek q 1) ≡ false = cc in
+    let read = plain_out flow least p q out c.line_words-piece.result.now c.line_words-piece.ensures.goes c.line_words-piece.ensures.over fine c.in_ok-out.ensures.items in
+    let all = plain_words flow least p q out (read ∙ links_end flow least q out c.in-Some.ensures.over) in
+    scalar_ends flow least p q c.ends_at_once.new.cursor out c.mark-end.result c.in-Some.passed_break all c.mark-end.ensures.value c.in-Some.ensures.broken c.in-Some.ensures.end

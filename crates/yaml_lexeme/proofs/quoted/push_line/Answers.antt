@@ -1,47 +1,8 @@
-use Rattle.std.proofs.Common.{◌≡◌, ◌++◌, length, true, false, ap, ◌∙◌, arith, List, ℕ}
-use Rattle.yaml_text.specs.Chars.{utf8}
-use Rattle.yaml_text.specs.Classes.{is_break}
-use Rattle.yaml_lexeme.proofs.Places.{length_skip}
-use Rattle.yaml_lexeme.proofs.Trims.{trim_bytes}
-use Rattle.yaml_lexeme.proofs.WordRuns.{run_goes_on, trimmed_goes_on}
-use Rattle.yaml_lexeme.specs.Place.{Place, first, behind, run, run_len}
-use Rattle.yaml_lexeme.specs.Runs.{class_test, line_of, trim}
+use Rattle.std.proofs.Common.{sym, subst, List, ℕ}
+use Rattle.yaml_lexeme.specs.Words.{GoesOn}
 use Rattle.yaml_lexeme.proofs.quoted.push_line.Goals as goal
-
-pub returns-then-not-is_break-clause-goes : goal.returns-then-not-is_break-clause-goes
-returns-then-not-is_break-clause-goes c =
-    let single = c.args.single in
-    let p = c.args.cursor.now in
-    let out = c.args.out.now.items in
-    let q = c.run-piece.new.self in
-    let class = c.line_class.ensures in
-    let e : q ≡ behind (class_test (line_of single)) p = c.run-piece.ensures.end ∙ ap (λ l. behind (class_test l) p) class in
-    let v : c.run-piece.result.now ≡ utf8 (run (class_test (line_of single)) p) = c.run-piece.ensures.value ∙ ap (λ l. utf8 (run (class_test l) p)) class in
-    let none : is_break (first q) ≡ false = cc in
-    run_goes_on single p q out c.extend_from_slice.new.self.items e (c.in_ok-extend_from_slice.ensures.items ∙ ap (λ (x : List ℕ). out ++ x) v) none
-
-pub returns-then-not-is_break-clause-shorter : goal.returns-then-not-is_break-clause-shorter
-returns-then-not-is_break-clause-shorter c =
-    let p = c.args.cursor.now in
-    let test = class_test c.line_class.result in
-    omega (arith, ap (λ (x : Place). length x.rest) c.run-piece.ensures.end, length_skip (run_len test p) p)
 
 pub returns-clause-goes : goal.returns-clause-goes
 returns-clause-goes c =
-    let single = c.args.single in
-    let p = c.args.cursor.now in
     let out = c.args.out.now.items in
-    let q = c.run-piece.new.self in
-    let class = c.line_class.ensures in
-    let test = class_test (line_of single) in
-    let e : q ≡ behind test p = c.run-piece.ensures.end ∙ ap (λ l. behind (class_test l) p) class in
-    let v : c.run-piece.result.now ≡ utf8 (run test p) = c.run-piece.ensures.value ∙ ap (λ l. utf8 (run (class_test l) p)) class in
-    let t : c.trimmed.result.now ≡ utf8 (trim (run test p)) = c.trimmed.ensures ∙ ap trim v ∙ trim_bytes (run test p) in
-    let some : is_break (first q) ≡ true = cc in
-    trimmed_goes_on single p q out c.extend_from_slice-2.new.self.items e (c.in_ok-extend_from_slice-2.ensures.items ∙ ap (λ (x : List ℕ). out ++ x) t) some
-
-pub returns-clause-shorter : goal.returns-clause-shorter
-returns-clause-shorter c =
-    let p = c.args.cursor.now in
-    let test = class_test c.line_class.result in
-    omega (arith, ap (λ (x : Place). length x.rest) c.run-piece.ensures.end, length_skip (run_len test p) p)
+    subst (λ (x : List ℕ). GoesOn c.args.single c.args.cursor.now out c.line_piece.new.cursor x) (sym c.in_ok-extend_from_slice.ensures.items) (c.line_piece.ensures.goes out)

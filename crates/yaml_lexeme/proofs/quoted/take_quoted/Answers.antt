@@ -1,4 +1,4 @@
-use Rattle.std.proofs.Common.{refl, arith}
+use Rattle.std.proofs.Common.{◌≡◌, ◌++◌, ◌∙◌, ap, refl, arith, List, ℕ, []}
 use Rattle.std.proofs.lemmas.Result.{err_from_is_err_and}
 use Rattle.yaml_text.specs.Chars.{utf8}
 use Rattle.yaml_lexeme.specs.Place.{skip}
@@ -12,8 +12,10 @@ pub parts-init : goal.parts-init
 parts-init c =
     let one = body_part c.args.single in
     let start = skip 1 c.args.cursor.now in
-    let goes = rw (c.advance.ensures, c.new-out.ensures.items) at c.in_ok-push_line.ensures.goes in
-    goes (spelled (many one start)) (begins utf8 one start)
+    let goes = rw c.advance.ensures at (c.line_piece-piece.ensures.goes []) in
+    let piece = c.line_piece-piece.result.now in
+    let same : c.extend_from_slice.new.self.items ≡ piece = c.in_ok-extend_from_slice.ensures.items ∙ ap (λ (x : List ℕ). x ++ piece) c.in_ok-out.ensures.items in
+    rw same (goes (spelled (many one start)) (begins utf8 one start))
 
 pub parts-preserved : goal.parts-preserved
 parts-preserved c =
@@ -21,7 +23,7 @@ parts-preserved c =
     let whole = spelled (many one (skip 1 c.args.cursor.now)) in
     let took = rw c.if-branch.true at c.in_ok-take_part.ensures in
     let more = (reads_more utf8 one (body_shortens c.args.single) c.parts.cursor c.take_part.new.cursor _ _ whole took c.parts.invariant).1 in
-    c.in_ok-push_line-2.ensures.goes whole more
+    c.in_ok-push_line.ensures.goes whole more
 
 pub parts-smaller : goal.parts-smaller
 parts-smaller c =
@@ -29,7 +31,7 @@ parts-smaller c =
     let whole = spelled (many one (skip 1 c.args.cursor.now)) in
     let took = rw c.if-branch.true at c.in_ok-take_part.ensures in
     let less = (reads_more utf8 one (body_shortens c.args.single) c.parts.cursor c.take_part.new.cursor _ _ whole took c.parts.invariant).0 in
-    omega (arith, less, c.in_ok-push_line-2.ensures.shorter)
+    omega (arith, less, c.in_ok-push_line.ensures.shorter)
 
 pub returns : goal.returns
 returns c =

@@ -1,0 +1,14 @@
+use Rattle.std.proofs.Common.{◌≡◌, ◌∙◌, sym, ap, arith}
+use Rattle.yaml_lexeme.proofs.Gaps.{gap_feed}
+use Rattle.yaml_lexeme.specs.Place.{first, skip, behind}
+use Rattle.yaml_lexeme.specs.Runs.{class_test}
+use Rattle.yaml_lexeme.specs.declared.runs.class_t.TheVariants.{SPACE}
+use Rattle.yaml_lexeme.proofs.gap.skip_feed.Goals as goal
+
+pub returns-then-found-clause-some : goal.returns-then-found-clause-some
+returns-then-found-clause-some c = λ some.
+    let p = c.args.cursor.now in
+    let q = c.skip_run.new.self in
+    let feed : first p ≡ 10 = omega (arith, c.peek.ensures) in
+    let at : q ≡ behind (class_test SPACE) (skip 1 p) = c.skip_run.ensures ∙ ap (behind (class_test SPACE)) (c.advance.ensures ∙ ap (skip 1) c.again-next.ensures) in
+    gap_feed p q feed at (sym c.is_solid-found.ensures ∙ some)

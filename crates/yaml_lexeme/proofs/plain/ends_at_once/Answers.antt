@@ -1,0 +1,44 @@
+use Rattle.std.proofs.Common.{◌≡◌, ◌∙◌, false, sym, ap, arith}
+use Rattle.yaml_lexeme.proofs.Places.{behind_none}
+use Rattle.yaml_lexeme.proofs.Plains.{link_none}
+use Rattle.yaml_lexeme.proofs.PlainRuns.{over_below, passed_feed}
+use Rattle.yaml_lexeme.specs.Classes.{is_white}
+use Rattle.yaml_lexeme.specs.Place.{first, skip, behind}
+use Rattle.yaml_lexeme.specs.Runs.{class_test}
+use Rattle.yaml_lexeme.specs.declared.runs.class_t.TheVariants.{SPACE}
+use Rattle.yaml_lexeme.proofs.plain.ends_at_once.Goals as goal
+
+pub returns-then-not-is_white-clause-over : goal.returns-then-not-is_white-clause-over
+returns-then-not-is_white-clause-over c =
+    let p = c.args.cursor.now in
+    let none : is_white (first p) ≡ false = cc in
+    link_none c.args.in_flow c.args.least p none
+
+pub returns-then-not-is_white-clause-end : goal.returns-then-not-is_white-clause-end
+returns-then-not-is_white-clause-end c =
+    let p = c.args.cursor.now in
+    let none : is_white (first p) ≡ false = cc in
+    sym (behind_none is_white p none)
+
+pub returns-clause-over : goal.returns-clause-over
+returns-clause-over c =
+    let p = c.args.cursor.now in
+    let q = c.skip_run.new.self in
+    let feed : first p ≡ 10 = omega (arith, c.peek-c.ensures) in
+    let at : q ≡ behind (class_test SPACE) (skip 1 p) = c.skip_run.ensures ∙ ap (behind (class_test SPACE)) (c.advance.ensures ∙ ap (skip 1) c.again-next.ensures) in
+    let solid : is_white (first q) ≡ false = cc in
+    (over_below c.args.in_flow c.args.least p q c.if-in_flow.false feed at solid (omega (arith, ap (λ m. m.column) c.mark.ensures.value))).0
+
+pub returns-clause-end : goal.returns-clause-end
+returns-clause-end c =
+    let p = c.args.cursor.now in
+    let q = c.skip_run.new.self in
+    let feed : first p ≡ 10 = omega (arith, c.peek-c.ensures) in
+    let at : q ≡ behind (class_test SPACE) (skip 1 p) = c.skip_run.ensures ∙ ap (behind (class_test SPACE)) (c.advance.ensures ∙ ap (skip 1) c.again-next.ensures) in
+    let solid : is_white (first q) ≡ false = cc in
+    (over_below c.args.in_flow c.args.least p q c.if-in_flow.false feed at solid (omega (arith, ap (λ m. m.column) c.mark.ensures.value))).1
+
+pub returns-clause-broken : goal.returns-clause-broken
+returns-clause-broken c =
+    let feed : first c.args.cursor.now ≡ 10 = omega (arith, c.peek-c.ensures) in
+    sym (passed_feed c.args.cursor.now feed)

@@ -1,0 +1,18 @@
+use Rattle.std.proofs.Common.{◌≡◌, Bool, not, true, false, refl, arith, eqb-true}
+use Rattle.yaml_text.specs.Utf8.{is_single, is_other}
+use Rattle.yaml_text.proofs.Vectors.{run_through}
+use Rattle.yaml_text.proofs.ascii.are_single.Goals as goal
+
+twice : (b : Bool) → b ≡ not (not b)
+twice true = refl
+twice false = refl
+
+pub returns : goal.returns
+returns c = λ none.
+    let d = c.args.bytes.now in
+    let last = eqb-true c.others-4.result 0 none in
+    let one = run_through is_other is_single (λ x. twice (is_single x)) d 0 16 (omega arith) (omega (arith, c.others.ensures)) in
+    let two = run_through is_other is_single (λ x. twice (is_single x)) d 16 16 (omega arith) (omega (arith, c.others-2.ensures)) in
+    let three = run_through is_other is_single (λ x. twice (is_single x)) d 32 16 (omega arith) (omega (arith, c.others-3.ensures)) in
+    let four = run_through is_other is_single (λ x. twice (is_single x)) d 48 16 (omega arith) (omega (arith, c.others-4.ensures, last)) in
+    omega (arith, one, two, three, four)
