@@ -13,6 +13,7 @@ mod args;
 mod devices;
 mod listing;
 mod outcome;
+mod put;
 mod run;
 #[cfg(test)]
 mod scan_tests;
