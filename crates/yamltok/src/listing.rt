@@ -1,18 +1,18 @@
 //! The lines that the program writes: numbers are decimal, parts are parted by one space, and a line
 //! ends with a line feed.
-ghost use Rattle.std.specs.Prelude.{◌≡◌, ◌≢◌, ◌<◌, ◌++◌, ◌∷◌, [], codes, flat_map, map, OnOk, OnErr, IfOk, string_bytes};
-ghost use Rattle.std.specs.Char.{digit_char};
+ghost use Rattle.std.specs.Prelude.{◌≡◌, ◌≢◌, ◌++◌, ◌∷◌, [], codes, map, OnOk, OnErr};
 ghost use Rattle.std.specs.Fmt.{signed_decimal};
 ghost use Rattle.yaml_text.specs.declared.types.yaml_encoding_t.TheVariants.{YAML_ANY_ENCODING};
 ghost use Rattle.yaml_text.specs.declared.types.yaml_scalar_style_t.TheVariants.{YAML_ANY_SCALAR_STYLE};
 ghost use Rattle.yaml_text.specs.Fault.{fault_of};
 ghost use Rattle.yaml_text.specs.Mark.{mark_of};
 ghost use Rattle.yaml_text.specs.Token.{data_of, token_of};
-ghost use Rattle.yaml_scan.specs.Words.{HasLine, HasWords, HaveWords};
+ghost use Rattle.yaml_scan.specs.Words.{HasLine, HasWords};
 ghost use Rattle.yaml_scan.specs.Calls.{seen_of};
 ghost use Rattle.yaml_scan.specs.CallWords.{SeenHasLine, SeenHaveLines};
-ghost use Rattle.yamltok.specs.Put.{Puts};
-ghost use Rattle.yamltok.specs.Listing.{line_by, parted, mark_text, encoding_word, reader_line, scanner_line, fault_line, text_line, bytes_text, type_name, style_word, head_parts, data_parts, token_line, peek_line, token_lines, answer_line, answer_lines};
+ghost use Rattle.yamltok.specs.Put.{Puts, spaced};
+ghost use Rattle.yamltok.specs.Listing.{parted, encoding_word, reader_line, scanner_line, fault_line, text_line, bytes_text};
+ghost use Rattle.yamltok.specs.Listing.{type_name, style_word, head_parts, data_parts, token_line, peek_line, answer_line, answer_lines};
 
 use crate::put::{cut_back, put_bytes, put_decimal, put_mark, put_part, put_signed, put_text};
 use std::alloc::{AllocError, Global};
@@ -51,7 +51,7 @@ fn put_reader_fault(
 
 /// Puts a context, with `;` behind it, a problem and the line's end behind `out`.
 fn put_problem(context: &str, problem: &str, out: &mut Vec<u8>) -> Result<(), AllocError>
-    ensures { Puts result out.old.items (flat_map (λ part. codes " " ++ part) ((context.now ++ codes ";") ∷ problem.now ∷ []) ++ 10 ∷ []) out.new.items }
+    ensures { Puts result out.old.items (spaced ((context.now ++ codes ";") ∷ problem.now ∷ []) ++ 10 ∷ []) out.new.items }
 {
     put_part(out, context)?;
     put_text(out, ";")?;
@@ -201,14 +201,14 @@ fn put_head(
 }
 
 fn put_version(major: i32, minor: i32, out: &mut Vec<u8>) -> Result<(), AllocError>
-    ensures { Puts result out.old.items ((codes " " ++ signed_decimal major) ++ (codes " " ++ signed_decimal minor)) out.new.items }
+    ensures { Puts result out.old.items (spaced (signed_decimal major ∷ signed_decimal minor ∷ [])) out.new.items }
 {
     put_signed(out, major)?;
     put_signed(out, minor)
 }
 
 fn put_pair(first: &[u8], second: &[u8], out: &mut Vec<u8>) -> Result<(), AllocError>
-    ensures { Puts result out.old.items ((codes " " ++ bytes_text first.now) ++ (codes " " ++ bytes_text second.now)) out.new.items }
+    ensures { Puts result out.old.items (spaced (bytes_text first.now ∷ bytes_text second.now ∷ [])) out.new.items }
 {
     put_bytes(out, first)?;
     put_bytes(out, second)
@@ -216,7 +216,7 @@ fn put_pair(first: &[u8], second: &[u8], out: &mut Vec<u8>) -> Result<(), AllocE
 
 fn put_scalar(value: &[u8], style: yaml_scalar_style_t, out: &mut Vec<u8>) -> Result<(), AllocError>
     requires { style ≢ YAML_ANY_SCALAR_STYLE }
-    ensures { Puts result out.old.items ((codes " " ++ style_word style) ++ (codes " " ++ bytes_text value.now)) out.new.items }
+    ensures { Puts result out.old.items (spaced (style_word style ∷ bytes_text value.now ∷ [])) out.new.items }
 {
     put_part(out, style_word(style))?;
     put_bytes(out, value)
@@ -225,7 +225,7 @@ fn put_scalar(value: &[u8], style: yaml_scalar_style_t, out: &mut Vec<u8>) -> Re
 /// Puts what a token says, beside its type, behind `out`, with a space in front of each part.
 fn put_data(said: &unnamed_yaml_token_t_data, out: &mut Vec<u8>) -> Result<(), AllocError>
     requires { HasWords (data_of said.now) }
-    ensures { Puts result out.old.items (flat_map (λ part. codes " " ++ part) (data_parts (data_of said.now))) out.new.items }
+    ensures { Puts result out.old.items (spaced (data_parts (data_of said.now))) out.new.items }
 {
     match said {
         unnamed_yaml_token_t_data::STREAM_START { encoding } => {

@@ -1,5 +1,5 @@
 //! Puts texts, numbers, marks and bytes behind bytes. Where memory is refused, the old bytes stay in front.
-ghost use Rattle.std.specs.Prelude.{◌≡◌, ◌++◌, ◌∷◌, [], ◌+◌, ◌<◌, ◌≤◌, codes, drop, take, length, vec_len, OnOk, OnErr};
+ghost use Rattle.std.specs.Prelude.{◌≡◌, ◌++◌, ◌∷◌, ◌+◌, ◌*◌, ◌<◌, ◌≤◌, codes, drop, take, flat_map, length, OnOk, OnErr};
 ghost use Rattle.std.specs.Char.{digit_char};
 ghost use Rattle.std.specs.Fmt.{decimal, signed_decimal};
 ghost use Rattle.yamltok.specs.Listing.{mark_text, byte_text, bytes_text};
@@ -13,6 +13,9 @@ const DIGITS: usize = 20;
 
 /// Three numbers, and a byte in front of each.
 const MARK: usize = 63;
+
+/// So many bytes are put at a time.
+const RUN: usize = 32;
 
 /// Puts a text behind `out`.
 pub fn put_text(out: &mut Vec<u8>, text: &str) -> Result<(), AllocError>
@@ -122,10 +125,25 @@ fn hex_digit(value: u8) -> u8
     }
 }
 
-fn put_byte(out: &mut Vec<u8>, byte: u8) -> Result<(), AllocError>
-    ensures { Puts result out.old.items (byte_text byte) out.new.items }
+/// Writes the two digits of each of these bytes.
+fn set_bytes(place: &mut [u8], bytes: &[u8])
+    requires { length place.old ≡ 2 * length bytes.now }
+    ensures { place.new ≡ flat_map byte_text bytes.now }
 {
-    out.extend_from_slice(&[hex_digit(byte / 16), hex_digit(byte % 16)])
+    for (i, byte) in bytes.iter().enumerate() {
+        place[2 * i] = hex_digit(*byte / 16);
+        place[2 * i + 1] = hex_digit(*byte % 16);
+    }
+}
+
+fn put_run(out: &mut Vec<u8>, bytes: &[u8]) -> Result<(), AllocError>
+    requires { length bytes.now ≤ 32 }
+    ensures { Puts result out.old.items (flat_map byte_text bytes.now) out.new.items }
+{
+    let mut buffer = [0u8; 2 * RUN];
+    let place = &mut buffer[..2 * bytes.len()];
+    set_bytes(place, bytes);
+    out.extend_from_slice(place)
 }
 
 /// Puts two hexadecimal digits a byte behind `out`, or `-` where there is none, with a space in front.
@@ -136,9 +154,11 @@ pub fn put_bytes(out: &mut Vec<u8>, bytes: &[u8]) -> Result<(), AllocError>
         return put_text(out, " -");
     }
     put_text(out, " ")?;
-    out.reserve(bytes.len().saturating_mul(2))?;
-    for byte in bytes {
-        put_byte(out, *byte)?;
+    let mut at = 0;
+    while at < bytes.len() {
+        let end = at + (bytes.len() - at).min(RUN);
+        put_run(out, &bytes[at..end])?;
+        at = end;
     }
     Ok(())
 }
