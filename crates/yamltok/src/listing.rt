@@ -1,5 +1,6 @@
 //! The lines that the program writes: numbers are decimal, parts are parted by one space, and a line
-//! ends with a line feed.
+//! ends with a line feed. A line is put straight behind the bytes, which grow by their own allocator;
+//! nothing else is allocated.
 ghost use Rattle.std.specs.Prelude.{◌≡◌, ◌≢◌, ◌++◌, ◌∷◌, [], codes, map, OnOk, OnErr};
 ghost use Rattle.std.specs.Fmt.{signed_decimal};
 ghost use Rattle.yaml_text.specs.declared.types.yaml_encoding_t.TheVariants.{YAML_ANY_ENCODING};
@@ -35,10 +36,10 @@ fn encoding_word(encoding: yaml_encoding_t) -> &'static str
 }
 
 fn put_reader_fault(
+    out: &mut Vec<u8>,
     offset: u64,
     value: i32,
     problem: &str,
-    out: &mut Vec<u8>,
 ) -> Result<(), AllocError>
     ensures { Puts result out.old.items (reader_line offset value problem.now) out.new.items }
 {
@@ -50,7 +51,7 @@ fn put_reader_fault(
 }
 
 /// Puts a context, with `;` behind it, a problem and the line's end behind `out`.
-fn put_problem(context: &str, problem: &str, out: &mut Vec<u8>) -> Result<(), AllocError>
+fn put_problem(out: &mut Vec<u8>, context: &str, problem: &str) -> Result<(), AllocError>
     ensures { Puts result out.old.items (spaced ((context.now ++ codes ";") ∷ problem.now ∷ []) ++ 10 ∷ []) out.new.items }
 {
     put_part(out, context)?;
@@ -60,37 +61,37 @@ fn put_problem(context: &str, problem: &str, out: &mut Vec<u8>) -> Result<(), Al
 }
 
 fn put_scanner_fault(
+    out: &mut Vec<u8>,
     context_mark: yaml_mark_t,
     context: &str,
     problem_mark: yaml_mark_t,
     problem: &str,
-    out: &mut Vec<u8>,
 ) -> Result<(), AllocError>
     ensures { Puts result out.old.items (scanner_line context_mark context.now problem_mark problem.now) out.new.items }
 {
     put_text(out, "FAULT scanner")?;
     put_mark(out, context_mark)?;
     put_mark(out, problem_mark)?;
-    put_problem(context, problem, out)
+    put_problem(out, context, problem)
 }
 
-fn put_fault(fault: &yaml_fault_t, out: &mut Vec<u8>) -> Result<(), AllocError>
+fn put_fault(out: &mut Vec<u8>, fault: &yaml_fault_t) -> Result<(), AllocError>
     requires { HasLine (fault_of fault.now) }
     ensures { Puts result out.old.items (fault_line (fault_of fault.now)) out.new.items }
 {
     let problem = fault.problem.unwrap_or("");
     match fault.error {
         yaml_error_type_t::YAML_READER_ERROR => {
-            put_reader_fault(fault.problem_offset, fault.problem_value, problem, out)
+            put_reader_fault(out, fault.problem_offset, fault.problem_value, problem)
         }
         yaml_error_type_t::YAML_SCANNER_ERROR => {
             let context = fault.context.unwrap_or("-");
             put_scanner_fault(
+                out,
                 fault.context_mark,
                 context,
                 fault.problem_mark,
                 problem,
-                out,
             )
         }
         _ => put_text(out, "FAULT memory\n"),
@@ -106,7 +107,7 @@ pub fn list_fault(_alloc: Global, fault: &yaml_fault_t, out: &mut Vec<u8>) -> Re
     ensures err { OnErr result (out.new.items ≡ out.old.items) }
 {
     let len = out.len();
-    let outcome = put_fault(fault, out);
+    let outcome = put_fault(out, fault);
     cut_back(out, len, outcome)
 }
 
@@ -117,7 +118,7 @@ fn end_mark(text: &yaml_text_t) -> yaml_mark_t
     yaml_mark_at(text, text.bytes().len())
 }
 
-fn put_decoded(text: &yaml_text_t, out: &mut Vec<u8>) -> Result<(), AllocError>
+fn put_decoded(out: &mut Vec<u8>, text: &yaml_text_t) -> Result<(), AllocError>
     ensures { Puts result out.old.items (text_line text.now) out.new.items }
 {
     put_text(out, "TEXT")?;
@@ -134,7 +135,7 @@ pub fn list_text(text: &yaml_text_t, out: &mut Vec<u8>) -> Result<(), AllocError
     ensures err { OnErr result (out.new.items ≡ out.old.items) }
 {
     let len = out.len();
-    let outcome = put_decoded(text, out);
+    let outcome = put_decoded(out, text);
     cut_back(out, len, outcome)
 }
 
@@ -183,10 +184,10 @@ fn style_word(style: yaml_scalar_style_t) -> &'static str
 
 /// Puts the type and the marks of a token behind `out`; the empty token has none.
 fn put_head(
+    out: &mut Vec<u8>,
     kind: yaml_token_type_t,
     start_mark: yaml_mark_t,
     end_mark: yaml_mark_t,
-    out: &mut Vec<u8>,
 ) -> Result<(), AllocError>
     ensures { Puts result out.old.items (parted (head_parts kind start_mark end_mark)) out.new.items }
 {
@@ -200,21 +201,21 @@ fn put_head(
     }
 }
 
-fn put_version(major: i32, minor: i32, out: &mut Vec<u8>) -> Result<(), AllocError>
+fn put_version(out: &mut Vec<u8>, major: i32, minor: i32) -> Result<(), AllocError>
     ensures { Puts result out.old.items (spaced (signed_decimal major ∷ signed_decimal minor ∷ [])) out.new.items }
 {
     put_signed(out, major)?;
     put_signed(out, minor)
 }
 
-fn put_pair(first: &[u8], second: &[u8], out: &mut Vec<u8>) -> Result<(), AllocError>
+fn put_pair(out: &mut Vec<u8>, first: &[u8], second: &[u8]) -> Result<(), AllocError>
     ensures { Puts result out.old.items (spaced (bytes_text first.now ∷ bytes_text second.now ∷ [])) out.new.items }
 {
     put_bytes(out, first)?;
     put_bytes(out, second)
 }
 
-fn put_scalar(value: &[u8], style: yaml_scalar_style_t, out: &mut Vec<u8>) -> Result<(), AllocError>
+fn put_scalar(out: &mut Vec<u8>, value: &[u8], style: yaml_scalar_style_t) -> Result<(), AllocError>
     requires { style ≢ YAML_ANY_SCALAR_STYLE }
     ensures { Puts result out.old.items (spaced (style_word style ∷ bytes_text value.now ∷ [])) out.new.items }
 {
@@ -223,7 +224,7 @@ fn put_scalar(value: &[u8], style: yaml_scalar_style_t, out: &mut Vec<u8>) -> Re
 }
 
 /// Puts what a token says, beside its type, behind `out`, with a space in front of each part.
-fn put_data(said: &unnamed_yaml_token_t_data, out: &mut Vec<u8>) -> Result<(), AllocError>
+fn put_data(out: &mut Vec<u8>, said: &unnamed_yaml_token_t_data) -> Result<(), AllocError>
     requires { HasWords (data_of said.now) }
     ensures { Puts result out.old.items (spaced (data_parts (data_of said.now))) out.new.items }
 {
@@ -232,29 +233,29 @@ fn put_data(said: &unnamed_yaml_token_t_data, out: &mut Vec<u8>) -> Result<(), A
             put_part(out, encoding_word(*encoding))
         }
         unnamed_yaml_token_t_data::VERSION_DIRECTIVE { major, minor } => {
-            put_version(*major, *minor, out)
+            put_version(out, *major, *minor)
         }
         unnamed_yaml_token_t_data::TAG_DIRECTIVE { handle, prefix } => {
-            put_pair(handle.as_slice(), prefix.as_slice(), out)
+            put_pair(out, handle.as_slice(), prefix.as_slice())
         }
         unnamed_yaml_token_t_data::ALIAS { value } | unnamed_yaml_token_t_data::ANCHOR { value } =>
             put_bytes(out, value.as_slice()),
         unnamed_yaml_token_t_data::TAG { handle, suffix } => {
-            put_pair(handle.as_slice(), suffix.as_slice(), out)
+            put_pair(out, handle.as_slice(), suffix.as_slice())
         }
         unnamed_yaml_token_t_data::SCALAR { value, style } => {
-            put_scalar(value.as_slice(), *style, out)
+            put_scalar(out, value.as_slice(), *style)
         }
         _ => Ok(()),
     }
 }
 
-fn put_token(token: &yaml_token_t, out: &mut Vec<u8>) -> Result<(), AllocError>
+fn put_token(out: &mut Vec<u8>, token: &yaml_token_t) -> Result<(), AllocError>
     requires { HasWords (data_of token.now.token_data) }
     ensures { Puts result out.old.items (token_line (token_of token.now)) out.new.items }
 {
-    put_head(token.type_(), token.start_mark, token.end_mark, out)?;
-    put_data(&token.token_data, out)?;
+    put_head(out, token.type_(), token.start_mark, token.end_mark)?;
+    put_data(out, &token.token_data)?;
     put_text(out, "\n")
 }
 
@@ -268,20 +269,20 @@ pub fn list_token(_alloc: Global, token: &yaml_token_t, out: &mut Vec<u8>) -> Re
     ensures err { OnErr result (out.new.items ≡ out.old.items) }
 {
     let len = out.len();
-    let outcome = put_token(token, out);
+    let outcome = put_token(out, token);
     cut_back(out, len, outcome)
 }
 
 fn put_peek(
+    out: &mut Vec<u8>,
     kind: yaml_token_type_t,
     start_mark: yaml_mark_t,
     end_mark: yaml_mark_t,
-    out: &mut Vec<u8>,
 ) -> Result<(), AllocError>
     ensures { Puts result out.old.items (peek_line kind start_mark end_mark) out.new.items }
 {
     put_text(out, "PEEK ")?;
-    put_head(kind, start_mark, end_mark, out)?;
+    put_head(out, kind, start_mark, end_mark)?;
     put_text(out, "\n")
 }
 
@@ -298,7 +299,7 @@ pub fn list_peek(
     ensures err { OnErr result (out.new.items ≡ out.old.items) }
 {
     let len = out.len();
-    let outcome = put_peek(kind, start_mark, end_mark, out);
+    let outcome = put_peek(out, kind, start_mark, end_mark);
     cut_back(out, len, outcome)
 }
 
