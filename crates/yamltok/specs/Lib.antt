@@ -1,5 +1,7 @@
 pub mod Devices
+pub mod Put
 pub mod Listing
+pub mod Lines
 pub mod Args
 pub mod Outcome
 pub mod Run

@@ -13,8 +13,9 @@ use Rattle.yaml_scan.specs.declared.calls.yaml_call_t.{yaml_call_t}
 use Rattle.yaml_scan.specs.declared.calls.yaml_call_t.TheVariants.{SCAN, PEEK, SKIP}
 use Rattle.yaml_scan.specs.Token.{yaml_token_t}
 use Rattle.yaml_scan.specs.Session.{Call, new_session}
-use Rattle.yaml_scan.specs.Parser.{Parser}
-use Rattle.yaml_scan.specs.All.{ReadsAll}
+use Rattle.yaml_scan.specs.Inputs.{decoded_input, answers_to}
+use Rattle.yaml_scan.specs.Parser.{Parser, IsRefusedEarly}
+use Rattle.yaml_scan.specs.All.{AllOf, ReadsAll}
 use Rattle.yaml_scan.specs.Calls.{Seen, Runs, call_of}
 use Rattle.yamltok.specs.Args.{is_right}
 use Rattle.yamltok.specs.Listing.{decode_line, token_lines, fault_lines, answer_lines, is_fault}
@@ -40,6 +41,8 @@ pub record ListsScan (limit : ℕ) (setting : yaml_encoding_t) (input lines : Li
   pub tokens : List yaml_token_t
   pub fault : Option Fault
   pub answers : ReadsAll limit setting input tokens fault
+  -- where the input is refused early, they are those of its answers, whatever memory there is
+  pub early : IsRefusedEarly (decoded_input setting input) → AllOf (answers_to limit setting input) tokens fault
   pub lines_are : lines ≡ token_lines tokens ++ fault_lines fault
   pub fault_is : has_fault ≡ is_some fault
 

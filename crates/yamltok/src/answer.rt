@@ -11,12 +11,12 @@ ghost use Rattle.yamltok.specs.Listing.{token_lines, fault_lines, is_fault};
 ghost use Rattle.yamltok.specs.Run.{Lists, ListsDecode, ListsScan, AnswersCalls, ListsCalls, call_for, calls_in};
 
 use crate::args::yaml_command_t;
-use crate::listing::{list_answers, list_fault, list_text, list_tokens};
+use crate::listing::{list_answers, list_fault, list_text, list_token};
 use std::alloc::{AllocError, Global};
 use yaml_scan::{
-    yaml_answer_t, yaml_call_t, yaml_parser_t, yaml_run, yaml_scan_all, yaml_scan_all_limit,
+    yaml_answer_t, yaml_call_t, yaml_parser_t, yaml_run, yaml_scan_to, yaml_token_sink_t,
 };
-use yaml_text::{yaml_decode, yaml_encoding_t, yaml_fault_t, yaml_token_t};
+use yaml_text::{yaml_decode, yaml_encoding_t, yaml_token_t};
 
 /// The line of what the input decodes to, and whether it is that of a fault.
 fn list_decoded(
@@ -29,7 +29,7 @@ fn list_decoded(
     let mut lines = Vec::new(alloc);
     match yaml_decode(alloc, input, setting) {
         Ok(text) => {
-            list_text(alloc, &text, &mut lines)?;
+            list_text(&text, &mut lines)?;
             Ok((lines, false))
         }
         Err(fault) => {
@@ -39,41 +39,31 @@ fn list_decoded(
     }
 }
 
-/// The lines of the tokens and of the fault behind them, and whether there is one.
-fn list_all(
+/// The lines of the tokens that were given.
+#[derive(Drop)]
+struct token_lines_t {
     alloc: Global,
-    tokens: &[yaml_token_t],
-    fault: &Option<yaml_fault_t>,
-) -> Result<(Vec<u8>, bool), AllocError>
-    requires { HaveLines (map token_of tokens.now) (option_map fault_of fault.now) }
-    ensures lines { IfOk result (λ answer. answer.0.items ≡ token_lines (map token_of tokens.now) ++ fault_lines (option_map fault_of fault.now)) }
-    ensures fault { IfOk result (λ answer. answer.1 ≡ is_some fault.now) }
-{
-    let mut lines = Vec::new(alloc);
-    list_tokens(alloc, tokens, &mut lines)?;
-    match fault {
-        Some(fault) => {
-            list_fault(alloc, fault, &mut lines)?;
-            Ok((lines, true))
-        }
-        None => Ok((lines, false)),
+    lines: Vec<u8>,
+}
+
+impl yaml_token_sink_t for token_lines_t {
+    ghost use Rattle.std.specs.Prelude.{◌≡◌, ◌++◌};
+    ghost use Rattle.yamltok.specs.Listing.{token_lines};
+    ghost use Rattle.yamltok.specs.Lines.{lines_none, lines_more};
+
+    ghost took = { λ a tokens b. b.lines.items ≡ a.lines.items ++ token_lines tokens };
+
+    fn put(&mut self, token: yaml_token_t) -> Result<(), AllocError> {
+        list_token(self.alloc, &token, &mut self.lines)
     }
+
+    ghost took_none = { λ s. lines_none s.lines.items };
+
+    ghost took_more = { λ a b c xs ys e f. lines_more a.lines.items b.lines.items c.lines.items xs ys e f };
 }
 
-/// The lines of the tokens of the input and of its fault, and whether it has one.
+/// The lines of the tokens of the input and of its fault, and whether it has one. The key limit is in bytes.
 fn list_scanned(
-    alloc: Global,
-    input: &[u8],
-    setting: yaml_encoding_t,
-) -> Result<(Vec<u8>, bool), AllocError>
-    ensures { IfOk result (λ answer. ListsScan 1024 setting input.now answer.0.items answer.1) }
-{
-    let (tokens, fault) = yaml_scan_all(alloc, input, setting)?;
-    list_all(alloc, &tokens, &fault)
-}
-
-/// The same with another key limit.
-fn list_scanned_limit(
     alloc: Global,
     input: &[u8],
     setting: yaml_encoding_t,
@@ -82,8 +72,17 @@ fn list_scanned_limit(
     requires { is_limit limit ≡ true }
     ensures { IfOk result (λ answer. ListsScan limit setting input.now answer.0.items answer.1) }
 {
-    let (tokens, fault) = yaml_scan_all_limit(alloc, input, setting, limit)?;
-    list_all(alloc, &tokens, &fault)
+    let mut sink = token_lines_t {
+        alloc,
+        lines: Vec::new(alloc),
+    };
+    match yaml_scan_to(alloc, input, setting, limit, &mut sink)? {
+        Some(fault) => {
+            list_fault(alloc, &fault, &mut sink.lines)?;
+            Ok((sink.lines, true))
+        }
+        None => Ok((sink.lines, false)),
+    }
 }
 
 fn call_for(letter: u8) -> yaml_call_t
@@ -158,10 +157,8 @@ pub fn answer_to(
 {
     match command {
         yaml_command_t::Decode(setting) => list_decoded(alloc, input, *setting),
-        yaml_command_t::Scan(setting) => list_scanned(alloc, input, *setting),
-        yaml_command_t::ScanLimit(setting, limit) => {
-            list_scanned_limit(alloc, input, *setting, *limit)
-        }
+        yaml_command_t::Scan(setting) => list_scanned(alloc, input, *setting, 1024),
+        yaml_command_t::ScanLimit(setting, limit) => list_scanned(alloc, input, *setting, *limit),
         yaml_command_t::Calls(setting, word) => list_called(alloc, input, *setting, word),
     }
 }

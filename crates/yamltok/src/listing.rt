@@ -1,38 +1,27 @@
 //! The lines that the program writes: numbers are decimal, parts are parted by one space, and a line
-//! ends with a line feed.
-ghost use Rattle.std.specs.Prelude.{◌≡◌, ◌≢◌, ◌<◌, ◌++◌, codes, flat_map, map, OnOk, OnErr, IfOk, string_bytes};
-ghost use Rattle.std.specs.Char.{digit_char};
+//! ends with a line feed. A line is put straight behind the bytes, which grow by their own allocator;
+//! nothing else is allocated.
+ghost use Rattle.std.specs.Prelude.{◌≡◌, ◌≢◌, ◌++◌, ◌∷◌, [], codes, map, OnOk, OnErr};
 ghost use Rattle.std.specs.Fmt.{signed_decimal};
 ghost use Rattle.yaml_text.specs.declared.types.yaml_encoding_t.TheVariants.{YAML_ANY_ENCODING};
 ghost use Rattle.yaml_text.specs.declared.types.yaml_scalar_style_t.TheVariants.{YAML_ANY_SCALAR_STYLE};
 ghost use Rattle.yaml_text.specs.Fault.{fault_of};
+ghost use Rattle.yaml_text.specs.Mark.{mark_of};
 ghost use Rattle.yaml_text.specs.Token.{data_of, token_of};
-ghost use Rattle.yaml_scan.specs.Words.{HasLine, HasWords, HaveWords};
+ghost use Rattle.yaml_scan.specs.Words.{HasLine, HasWords};
 ghost use Rattle.yaml_scan.specs.Calls.{seen_of};
 ghost use Rattle.yaml_scan.specs.CallWords.{SeenHasLine, SeenHaveLines};
-ghost use Rattle.yamltok.specs.Listing.{line_by, parted, mark_text, encoding_word, reader_line, scanner_line, fault_line, text_line, bytes_text, type_name, style_word, head_parts, data_parts, token_line, peek_line, token_lines, answer_line, answer_lines};
+ghost use Rattle.yamltok.specs.Put.{Puts, spaced};
+ghost use Rattle.yamltok.specs.Listing.{parted, encoding_word, reader_line, scanner_line, fault_line, text_line, bytes_text};
+ghost use Rattle.yamltok.specs.Listing.{type_name, style_word, head_parts, data_parts, token_line, peek_line, answer_line, answer_lines};
 
+use crate::put::{cut_back, put_bytes, put_decimal, put_mark, put_part, put_signed, put_text};
 use std::alloc::{AllocError, Global};
 use yaml_scan::yaml_answer_t;
 use yaml_text::{
-    unnamed_yaml_token_t_data, yaml_encoding_t, yaml_error_type_t, yaml_fault_t, yaml_is_place,
-    yaml_mark_at, yaml_mark_t, yaml_scalar_style_t, yaml_text_t, yaml_token_t, yaml_token_type_t,
+    unnamed_yaml_token_t_data, yaml_encoding_t, yaml_error_type_t, yaml_fault_t, yaml_mark_at,
+    yaml_mark_t, yaml_scalar_style_t, yaml_text_t, yaml_token_t, yaml_token_type_t,
 };
-
-fn line_of(alloc: Global, parts: &[&str]) -> Result<String, AllocError>
-    ensures { IfOk result (λ text. string_bytes text ≡ line_by (λ part. part.now) parts.now) }
-{
-    let mut line = parts.join(alloc, " ")?;
-    line.push_str("\n")?;
-    Ok(line)
-}
-
-fn mark_text(alloc: Global, mark: yaml_mark_t) -> Result<String, AllocError>
-    ensures { IfOk result (λ text. string_bytes text ≡ mark_text mark) }
-{
-    let (index, line, column) = (mark.index, mark.line, mark.column);
-    format!(in alloc; "{index}:{line}:{column}")
-}
 
 fn encoding_word(encoding: yaml_encoding_t) -> &'static str
     requires { encoding ≢ YAML_ANY_ENCODING }
@@ -46,121 +35,108 @@ fn encoding_word(encoding: yaml_encoding_t) -> &'static str
     }
 }
 
-fn reader_line(alloc: Global, offset: u64, value: i32, problem: &str) -> Result<String, AllocError>
-    ensures { IfOk result (λ text. string_bytes text ≡ reader_line offset value problem.now) }
+fn put_reader_fault(
+    out: &mut Vec<u8>,
+    offset: u64,
+    value: i32,
+    problem: &str,
+) -> Result<(), AllocError>
+    ensures { Puts result out.old.items (reader_line offset value problem.now) out.new.items }
 {
-    let offset = offset.to_string(alloc)?;
-    let value = value.to_string(alloc)?;
-    line_of(
-        alloc,
-        &["FAULT", "reader", offset.as_str(), value.as_str(), problem],
-    )
+    put_text(out, "FAULT reader")?;
+    put_decimal(out, offset)?;
+    put_signed(out, value)?;
+    put_part(out, problem)?;
+    put_text(out, "\n")
 }
 
-fn scanner_line(
-    alloc: Global,
+/// Puts a context, with `;` behind it, a problem and the line's end behind `out`.
+fn put_problem(out: &mut Vec<u8>, context: &str, problem: &str) -> Result<(), AllocError>
+    ensures { Puts result out.old.items (spaced ((context.now ++ codes ";") ∷ problem.now ∷ []) ++ 10 ∷ []) out.new.items }
+{
+    put_part(out, context)?;
+    put_text(out, ";")?;
+    put_part(out, problem)?;
+    put_text(out, "\n")
+}
+
+fn put_scanner_fault(
+    out: &mut Vec<u8>,
     context_mark: yaml_mark_t,
     context: &str,
     problem_mark: yaml_mark_t,
     problem: &str,
-) -> Result<String, AllocError>
-    ensures { IfOk result (λ text. string_bytes text ≡ scanner_line context_mark context.now problem_mark problem.now) }
+) -> Result<(), AllocError>
+    ensures { Puts result out.old.items (scanner_line context_mark context.now problem_mark problem.now) out.new.items }
 {
-    let from = mark_text(alloc, context_mark)?;
-    let at = mark_text(alloc, problem_mark)?;
-    let context = format!(in alloc; "{context};")?;
-    line_of(
-        alloc,
-        &[
-            "FAULT",
-            "scanner",
-            from.as_str(),
-            at.as_str(),
-            context.as_str(),
-            problem,
-        ],
-    )
+    put_text(out, "FAULT scanner")?;
+    put_mark(out, context_mark)?;
+    put_mark(out, problem_mark)?;
+    put_problem(out, context, problem)
 }
 
-fn fault_text(alloc: Global, fault: &yaml_fault_t) -> Result<String, AllocError>
+fn put_fault(out: &mut Vec<u8>, fault: &yaml_fault_t) -> Result<(), AllocError>
     requires { HasLine (fault_of fault.now) }
-    ensures { IfOk result (λ text. string_bytes text ≡ fault_line (fault_of fault.now)) }
+    ensures { Puts result out.old.items (fault_line (fault_of fault.now)) out.new.items }
 {
     let problem = fault.problem.unwrap_or("");
     match fault.error {
         yaml_error_type_t::YAML_READER_ERROR => {
-            reader_line(alloc, fault.problem_offset, fault.problem_value, problem)
+            put_reader_fault(out, fault.problem_offset, fault.problem_value, problem)
         }
         yaml_error_type_t::YAML_SCANNER_ERROR => {
             let context = fault.context.unwrap_or("-");
-            scanner_line(
-                alloc,
+            put_scanner_fault(
+                out,
                 fault.context_mark,
                 context,
                 fault.problem_mark,
                 problem,
             )
         }
-        _ => String::from_str(alloc, "FAULT memory\n"),
+        _ => put_text(out, "FAULT memory\n"),
     }
 }
 
 /// Puts the line of a fault behind `out`: `FAULT reader`, offset, value and problem text; `FAULT
 /// scanner`, the marks of context and problem, the context text or `-` with `;` behind it, and the
 /// problem text; or `FAULT memory`. Where memory is refused, `out` is as before.
-pub fn list_fault(alloc: Global, fault: &yaml_fault_t, out: &mut Vec<u8>) -> Result<(), AllocError>
+pub fn list_fault(_alloc: Global, fault: &yaml_fault_t, out: &mut Vec<u8>) -> Result<(), AllocError>
     requires { HasLine (fault_of fault.now) }
     ensures ok { OnOk result (out.new.items ≡ out.old.items ++ fault_line (fault_of fault.now)) }
     ensures err { OnErr result (out.new.items ≡ out.old.items) }
 {
-    let text = fault_text(alloc, fault)?;
-    out.extend_from_slice(text.as_bytes())
+    let len = out.len();
+    let outcome = put_fault(out, fault);
+    cut_back(out, len, outcome)
 }
 
-fn text_line(alloc: Global, text: &yaml_text_t) -> Result<String, AllocError>
-    ensures { IfOk result (λ line. string_bytes line ≡ text_line text.now) }
+/// The mark behind all characters of a text.
+fn end_mark(text: &yaml_text_t) -> yaml_mark_t
+    ensures { result ≡ mark_of text.now.chars }
 {
-    let count = text.bytes().len();
-    let end = mark_text(alloc, yaml_mark_at(text, count))?;
-    let count = count.to_string(alloc)?;
-    let encoding = encoding_word(text.encoding());
-    line_of(alloc, &["TEXT", encoding, count.as_str(), end.as_str()])
+    yaml_mark_at(text, text.bytes().len())
+}
+
+fn put_decoded(out: &mut Vec<u8>, text: &yaml_text_t) -> Result<(), AllocError>
+    ensures { Puts result out.old.items (text_line text.now) out.new.items }
+{
+    put_text(out, "TEXT")?;
+    put_part(out, encoding_word(text.encoding()))?;
+    put_decimal(out, text.bytes().len() as u64)?;
+    put_mark(out, end_mark(text))?;
+    put_text(out, "\n")
 }
 
 /// Puts the line of a decoded text behind `out`: `TEXT`, the encoding, the number of bytes in UTF-8
 /// and the mark of the end. Where memory is refused, `out` is as before.
-pub fn list_text(alloc: Global, text: &yaml_text_t, out: &mut Vec<u8>) -> Result<(), AllocError>
+pub fn list_text(text: &yaml_text_t, out: &mut Vec<u8>) -> Result<(), AllocError>
     ensures ok { OnOk result (out.new.items ≡ out.old.items ++ text_line text.now) }
     ensures err { OnErr result (out.new.items ≡ out.old.items) }
 {
-    let line = text_line(alloc, text)?;
-    out.extend_from_slice(line.as_bytes())
-}
-
-fn hex_digit(value: u8) -> u8
-    requires { value < 16 }
-    ensures { result ≡ digit_char value }
-{
-    if value < 10 {
-        b'0' + value
-    } else {
-        b'a' + (value - 10)
-    }
-}
-
-/// Two hexadecimal digits a byte, or `-` where there is none.
-fn bytes_text(alloc: Global, bytes: &[u8]) -> Result<String, AllocError>
-    ensures { IfOk result (λ text. string_bytes text ≡ bytes_text bytes.now) }
-{
-    if bytes.is_empty() {
-        return String::from_str(alloc, "-");
-    }
-    let mut text = String::new(alloc);
-    for byte in bytes {
-        text.push(char::from(hex_digit(byte / 16)))?;
-        text.push(char::from(hex_digit(byte % 16)))?;
-    }
-    Ok(text)
+    let len = out.len();
+    let outcome = put_decoded(out, text);
+    cut_back(out, len, outcome)
 }
 
 fn type_name(kind: yaml_token_type_t) -> &'static str
@@ -206,113 +182,114 @@ fn style_word(style: yaml_scalar_style_t) -> &'static str
     }
 }
 
-/// The type and the marks of a token; the empty token has none.
-fn head_text(
-    alloc: Global,
+/// Puts the type and the marks of a token behind `out`; the empty token has none.
+fn put_head(
+    out: &mut Vec<u8>,
     kind: yaml_token_type_t,
     start_mark: yaml_mark_t,
     end_mark: yaml_mark_t,
-) -> Result<String, AllocError>
-    ensures { IfOk result (λ text. string_bytes text ≡ parted (head_parts kind start_mark end_mark)) }
+) -> Result<(), AllocError>
+    ensures { Puts result out.old.items (parted (head_parts kind start_mark end_mark)) out.new.items }
 {
-    let name = type_name(kind);
+    put_text(out, type_name(kind))?;
     match kind {
-        yaml_token_type_t::YAML_NO_TOKEN => String::from_str(alloc, name),
+        yaml_token_type_t::YAML_NO_TOKEN => Ok(()),
         _ => {
-            let start = mark_text(alloc, start_mark)?;
-            let end = mark_text(alloc, end_mark)?;
-            [name, start.as_str(), end.as_str()].join(alloc, " ")
+            put_mark(out, start_mark)?;
+            put_mark(out, end_mark)
         }
     }
 }
 
-/// A part with a space in front.
-fn part_text(alloc: Global, part: &str) -> Result<String, AllocError>
-    ensures { IfOk result (λ text. string_bytes text ≡ codes " " ++ part.now) }
+fn put_version(out: &mut Vec<u8>, major: i32, minor: i32) -> Result<(), AllocError>
+    ensures { Puts result out.old.items (spaced (signed_decimal major ∷ signed_decimal minor ∷ [])) out.new.items }
 {
-    format!(in alloc; " {part}")
+    put_signed(out, major)?;
+    put_signed(out, minor)
 }
 
-/// Two parts with a space in front of each.
-fn parts_text(alloc: Global, first: &str, second: &str) -> Result<String, AllocError>
-    ensures { IfOk result (λ text. string_bytes text ≡ (codes " " ++ first.now) ++ (codes " " ++ second.now)) }
+fn put_pair(out: &mut Vec<u8>, first: &[u8], second: &[u8]) -> Result<(), AllocError>
+    ensures { Puts result out.old.items (spaced (bytes_text first.now ∷ bytes_text second.now ∷ [])) out.new.items }
 {
-    format!(in alloc; " {first} {second}")
+    put_bytes(out, first)?;
+    put_bytes(out, second)
 }
 
-fn version_text(alloc: Global, major: i32, minor: i32) -> Result<String, AllocError>
-    ensures { IfOk result (λ text. string_bytes text ≡ (codes " " ++ signed_decimal major) ++ (codes " " ++ signed_decimal minor)) }
+fn put_scalar(out: &mut Vec<u8>, value: &[u8], style: yaml_scalar_style_t) -> Result<(), AllocError>
+    requires { style ≢ YAML_ANY_SCALAR_STYLE }
+    ensures { Puts result out.old.items (spaced (style_word style ∷ bytes_text value.now ∷ [])) out.new.items }
 {
-    let major = major.to_string(alloc)?;
-    let minor = minor.to_string(alloc)?;
-    parts_text(alloc, major.as_str(), minor.as_str())
+    put_part(out, style_word(style))?;
+    put_bytes(out, value)
 }
 
-fn pair_text(alloc: Global, first: &[u8], second: &[u8]) -> Result<String, AllocError>
-    ensures { IfOk result (λ text. string_bytes text ≡ (codes " " ++ bytes_text first.now) ++ (codes " " ++ bytes_text second.now)) }
-{
-    let first = bytes_text(alloc, first)?;
-    let second = bytes_text(alloc, second)?;
-    parts_text(alloc, first.as_str(), second.as_str())
-}
-
-/// What a token says, beside its type, with a space in front of each part.
-fn data_text(alloc: Global, said: &unnamed_yaml_token_t_data) -> Result<String, AllocError>
+/// Puts what a token says, beside its type, behind `out`, with a space in front of each part.
+fn put_data(out: &mut Vec<u8>, said: &unnamed_yaml_token_t_data) -> Result<(), AllocError>
     requires { HasWords (data_of said.now) }
-    ensures { IfOk result (λ text. string_bytes text ≡ flat_map (λ part. codes " " ++ part) (data_parts (data_of said.now))) }
+    ensures { Puts result out.old.items (spaced (data_parts (data_of said.now))) out.new.items }
 {
     match said {
         unnamed_yaml_token_t_data::STREAM_START { encoding } => {
-            part_text(alloc, encoding_word(*encoding))
+            put_part(out, encoding_word(*encoding))
         }
         unnamed_yaml_token_t_data::VERSION_DIRECTIVE { major, minor } => {
-            version_text(alloc, *major, *minor)
+            put_version(out, *major, *minor)
         }
         unnamed_yaml_token_t_data::TAG_DIRECTIVE { handle, prefix } => {
-            pair_text(alloc, handle.as_slice(), prefix.as_slice())
+            put_pair(out, handle.as_slice(), prefix.as_slice())
         }
         unnamed_yaml_token_t_data::ALIAS { value } | unnamed_yaml_token_t_data::ANCHOR { value } =>
-            {
-                let value = bytes_text(alloc, value.as_slice())?;
-                part_text(alloc, value.as_str())
-            }
+            put_bytes(out, value.as_slice()),
         unnamed_yaml_token_t_data::TAG { handle, suffix } => {
-            pair_text(alloc, handle.as_slice(), suffix.as_slice())
+            put_pair(out, handle.as_slice(), suffix.as_slice())
         }
         unnamed_yaml_token_t_data::SCALAR { value, style } => {
-            let value = bytes_text(alloc, value.as_slice())?;
-            parts_text(alloc, style_word(*style), value.as_str())
+            put_scalar(out, value.as_slice(), *style)
         }
-        _ => Ok(String::new(alloc)),
+        _ => Ok(()),
     }
 }
 
-fn token_text(alloc: Global, token: &yaml_token_t) -> Result<String, AllocError>
+fn put_token(out: &mut Vec<u8>, token: &yaml_token_t) -> Result<(), AllocError>
     requires { HasWords (data_of token.now.token_data) }
-    ensures { IfOk result (λ text. string_bytes text ≡ token_line (token_of token.now)) }
+    ensures { Puts result out.old.items (token_line (token_of token.now)) out.new.items }
 {
-    let head = head_text(alloc, token.type_(), token.start_mark, token.end_mark)?;
-    let said = data_text(alloc, &token.token_data)?;
-    format!(in alloc; "{head}{said}\n")
+    put_head(out, token.type_(), token.start_mark, token.end_mark)?;
+    put_data(out, &token.token_data)?;
+    put_text(out, "\n")
 }
 
 /// Puts the line of a token behind `out`: the name of its type, the marks of its start and end, and
 /// what it says: the encoding of a stream; the two numbers of a `%YAML` directive; the texts of other
 /// tokens, two hexadecimal digits a byte or `-` for none, with the style in front of a scalar's. The
 /// empty token is `NO-TOKEN`. Where memory is refused, `out` is as before.
-pub fn list_token(alloc: Global, token: &yaml_token_t, out: &mut Vec<u8>) -> Result<(), AllocError>
+pub fn list_token(_alloc: Global, token: &yaml_token_t, out: &mut Vec<u8>) -> Result<(), AllocError>
     requires { HasWords (data_of token.now.token_data) }
     ensures ok { OnOk result (out.new.items ≡ out.old.items ++ token_line (token_of token.now)) }
     ensures err { OnErr result (out.new.items ≡ out.old.items) }
 {
-    let text = token_text(alloc, token)?;
-    out.extend_from_slice(text.as_bytes())
+    let len = out.len();
+    let outcome = put_token(out, token);
+    cut_back(out, len, outcome)
+}
+
+fn put_peek(
+    out: &mut Vec<u8>,
+    kind: yaml_token_type_t,
+    start_mark: yaml_mark_t,
+    end_mark: yaml_mark_t,
+) -> Result<(), AllocError>
+    ensures { Puts result out.old.items (peek_line kind start_mark end_mark) out.new.items }
+{
+    put_text(out, "PEEK ")?;
+    put_head(out, kind, start_mark, end_mark)?;
+    put_text(out, "\n")
 }
 
 /// Puts the line of a token that is shown and stays behind `out`: `PEEK`, the name of its type and its
 /// marks, or `PEEK NO-TOKEN` for the empty token. Where memory is refused, `out` is as before.
 pub fn list_peek(
-    alloc: Global,
+    _alloc: Global,
     kind: yaml_token_type_t,
     start_mark: yaml_mark_t,
     end_mark: yaml_mark_t,
@@ -321,24 +298,9 @@ pub fn list_peek(
     ensures ok { OnOk result (out.new.items ≡ out.old.items ++ peek_line kind start_mark end_mark) }
     ensures err { OnErr result (out.new.items ≡ out.old.items) }
 {
-    let head = head_text(alloc, kind, start_mark, end_mark)?;
-    let text = format!(in alloc; "PEEK {head}\n")?;
-    out.extend_from_slice(text.as_bytes())
-}
-
-/// Puts the lines of these tokens behind `out`.
-pub fn list_tokens(
-    alloc: Global,
-    tokens: &[yaml_token_t],
-    out: &mut Vec<u8>,
-) -> Result<(), AllocError>
-    requires { HaveWords (map token_of tokens.now) }
-    ensures { OnOk result (out.new.items ≡ out.old.items ++ token_lines (map token_of tokens.now)) }
-{
-    for token in tokens {
-        list_token(alloc, token, out)?;
-    }
-    Ok(())
+    let len = out.len();
+    let outcome = put_peek(out, kind, start_mark, end_mark);
+    cut_back(out, len, outcome)
 }
 
 /// Puts the line of an answer to a call behind `out`: that of a token, of a peek, or of a fault, or `SKIP`,

@@ -13,6 +13,7 @@ mod args;
 mod devices;
 mod listing;
 mod outcome;
+mod put;
 #[cfg(test)]
 mod row_tests;
 mod run;

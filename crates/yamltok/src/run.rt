@@ -10,19 +10,23 @@ use crate::devices::{yaml_sink_t, yaml_source_t};
 use crate::outcome::tool_fault_t;
 use std::alloc::Global;
 
-const CHUNK: usize = 4096;
+const CHUNK: usize = 65536;
 
-/// Reads once, and answers whether there was anything left to read.
-fn read_chunk<R: yaml_source_t>(reader: &mut R, input: &mut Vec<u8>) -> Result<bool, tool_fault_t>
-    requires { R.failed reader.old ≡ false }
+/// Reads once, at most as much as the buffer holds, and answers whether there was anything left to read.
+fn read_chunk<R: yaml_source_t>(
+    reader: &mut R,
+    buffer: &mut [u8],
+    input: &mut Vec<u8>,
+) -> Result<bool, tool_fault_t>
+    requires working { R.failed reader.old ≡ false }
+    requires room { 0 < length buffer.old }
     ensures bytes { OnOk result ((bytes : List ℕ) × (input.new.items ≡ input.old.items ++ bytes) × Consumes (R.remaining reader.old) (R.remaining reader.new) bytes) }
     ensures more { IfOk result (λ more. more ≡ true → vec_len input.old < vec_len input.new) }
     ensures end { IfOk result (λ more. more ≡ false → IsAtEnd (R.remaining reader.new)) }
     ensures read { is_read_fault result ≡ R.failed reader.new }
     ensures faults { IfErr result (λ fault. (fault ≡ tool_fault_t.Read) ⊎ (fault ≡ tool_fault_t.Memory)) }
 {
-    let mut buffer = [0u8; CHUNK];
-    let Ok(count) = reader.pull(&mut buffer) else {
+    let Ok(count) = reader.pull(buffer) else {
         return Err(tool_fault_t::Read);
     };
     input.extend_from_slice(&buffer[..count])?;
@@ -38,7 +42,8 @@ fn read_all<R: yaml_source_t>(alloc: Global, reader: &mut R) -> Result<Vec<u8>, 
     ensures faults { IfErr result (λ fault. (fault ≡ tool_fault_t.Read) ⊎ (fault ≡ tool_fault_t.Memory)) }
 {
     let mut input = Vec::new(alloc);
-    while read_chunk(reader, &mut input)? {}
+    let mut buffer = [0u8; CHUNK];
+    while read_chunk(reader, &mut buffer, &mut input)? {}
     Ok(input)
 }
 

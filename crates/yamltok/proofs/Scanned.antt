@@ -1,0 +1,27 @@
+-- What was told of a scan is its listing.
+use Rattle.std.proofs.Common.{◌≡◌, ◌++◌, [], ℕ, List, Option, ap, ◌∙◌, refl}
+use Rattle.std.specs.Prelude.{IfSome, is_some}
+use Rattle.yaml_text.specs.declared.types.yaml_encoding_t.{yaml_encoding_t}
+use Rattle.yaml_text.specs.Fault.{Fault}
+use Rattle.yaml_scan.specs.Sink.{IsGivenAll}
+use Rattle.yaml_scan.specs.Words.{HasLine}
+use Rattle.yaml_scan.proofs.AllLaws.{reads_early}
+use Rattle.yaml_scan.proofs.AllTold.{reads_have_lines}
+use Rattle.yamltok.specs.Listing.{token_lines, fault_lines}
+use Rattle.yamltok.specs.Run.{ListsScan}
+
+module _ (limit : ℕ) (setting : yaml_encoding_t) (input before told : List ℕ) (fault : Option Fault) (given : IsGivenAll (λ tokens. told ≡ before ++ token_lines tokens) limit setting input fault) where
+  -- the fault has a line
+  pub fault_has_line : IfSome fault HasLine
+  fault_has_line = (reads_have_lines limit setting input given.tokens fault given.reads).1
+
+  -- the lines are those of the tokens, and of the fault
+  pub lists_scan : (lines : List ℕ) → before ≡ [] → lines ≡ told ++ fault_lines fault → ListsScan limit setting input lines (is_some fault)
+  lists_scan lines none more = record {
+    tokens = given.tokens;
+    fault = fault;
+    answers = given.reads;
+    early = λ e. reads_early limit setting input given.tokens fault given.reads e;
+    lines_are = more ∙ ap (λ (z : List ℕ). z ++ fault_lines fault) (given.given ∙ ap (λ (z : List ℕ). z ++ token_lines given.tokens) none);
+    fault_is = refl;
+  }

@@ -1,0 +1,14 @@
+use Rattle.std.proofs.Common.{◌≡◌, ◌++◌, ◌≤◌, ◌^◌, ◌<◌, drop}
+use Rattle.std.specs.Fmt.{decimal}
+use Rattle.yamltok.proofs.put.set_digits.Given as goal
+
+-- the digits so far stand behind those of the number that is left
+abbrev pub invariant-digits : goal.invariant-digits
+invariant-digits l = record {
+  within : l.at ≤ l.end;
+  fits : l.left < 2 ^ 64;
+  written : decimal l.left ++ drop l.at l.buffer ≡ decimal l.number ++ drop l.end l.fn.buffer;
+}
+
+abbrev pub decreases-digits : goal.decreases-digits
+decreases-digits l = l.left
