@@ -26,6 +26,7 @@ pub use parser::{
     yaml_parser_fault, yaml_parser_has_token, yaml_parser_mark, yaml_parser_peek,
     yaml_parser_queued, yaml_parser_scan, yaml_parser_skip, yaml_parser_t,
 };
+pub use sink::{yaml_scan_to, yaml_token_sink_t};
 pub use yaml_lexeme::{
     yaml_context_t, yaml_gap, yaml_lexeme_at, yaml_lexeme_kind, yaml_lexeme_kind_t, yaml_lexeme_t,
 };
