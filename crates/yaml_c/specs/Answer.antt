@@ -1,10 +1,10 @@
 -- What is answered beside the two rooms, and all that a call leaves.
-use Rattle.std.specs.Prelude.{◌≡◌, ℕ, ◌<◌, ◌⊎◌, ◌++◌, pos, List, [], length, Option, Some, None}
+use Rattle.std.specs.Prelude.{◌≡◌, ℕ, ◌≤◌, ◌<◌, ◌⊎◌, ◌++◌, pos, List, [], length, Option, Some, None}
 use Rattle.yaml_text.specs.declared.types.yaml_encoding_t.{yaml_encoding_t}
 use Rattle.yaml_text.specs.Fault.{Fault, zero_mark}
 use Rattle.yaml_text.specs.Token.{Token}
 use Rattle.yaml_scan.specs.All.{ReadsAll}
-use Rattle.yaml_c.specs.Numbers.{error_number}
+use Rattle.yaml_c.specs.Numbers.{error_number, encoding_of}
 use Rattle.yaml_c.specs.Record.{held, mark_of, records_of, all_texts}
 use Rattle.yaml_c.specs.Room.{covered}
 use Rattle.yaml_c.specs.declared.answer.yaml_c_answer.{yaml_c_answer}
@@ -62,14 +62,24 @@ no_answer = answer_with 0 0 None
 abbrev pub IsWrong : ℕ → ℕ → Type 0
 IsWrong setting limit = (3 < setting) ⊎ (limit < 1) ⊎ (65536 < limit)
 
--- the caller's two rooms
+-- what a call leaves and what was there before: the caller's two rooms
 pub record Rooms : Type 0 where
   pub tokens : List yaml_c_token
   pub texts : List ℕ
 
+-- both, by what they hold
+abbrev pub rooms : List yaml_c_token → List ℕ → Rooms
+rooms tokens texts = record { tokens = tokens; texts = texts }
+
 -- What a call leaves that scanned an input: there are tokens and a fault which are those of the whole list, and status,
 -- answer and both rooms say them.
-pub record IsScanned (setting : yaml_encoding_t) (limit : ℕ) (input : List ℕ) (before after : Rooms) (answer : yaml_c_answer) (status : ℕ) : Type 0 where
+pub record IsScanned
+    (setting : yaml_encoding_t)
+    (limit : ℕ)
+    (input : List ℕ)
+    (before after : Rooms)
+    (answer : yaml_c_answer)
+    (status : ℕ) : Type 0 where
   pub list : List Token
   pub fault : Option Fault
   pub reads : ReadsAll limit setting input list fault
@@ -80,8 +90,18 @@ pub record IsScanned (setting : yaml_encoding_t) (limit : ℕ) (input : List ℕ
   -- the texts of the tokens and then those of the fault cover the beginning of the other
   pub texts_are : after.texts ≡ covered (all_texts list ++ fault_texts fault) before.texts
 
--- What a call leaves that was asked wrongly: nothing is touched but the answer.
+-- Nothing is touched but the answer, and the status is 2.
 pub record IsUntouched (before after : Rooms) (answer : yaml_c_answer) (status : ℕ) : Type 0 where
   pub status_is : status ≡ 2
   pub answer_is : answer ≡ no_answer
   pub rooms_are : after ≡ before
+
+-- What a call leaves that was asked rightly.
+abbrev pub ScansRight : ℕ → ℕ → List ℕ → Rooms → Rooms → yaml_c_answer → ℕ → Type 0
+ScansRight setting limit input before after answer status =
+    (e : yaml_encoding_t) → encoding_of setting ≡ Some e → 1 ≤ limit → limit ≤ 65536
+    → IsScanned e limit input before after answer status
+
+-- What a call leaves that was asked wrongly.
+abbrev pub RefusesWrong : ℕ → ℕ → Rooms → Rooms → yaml_c_answer → ℕ → Type 0
+RefusesWrong setting limit before after answer status = IsWrong setting limit → IsUntouched before after answer status

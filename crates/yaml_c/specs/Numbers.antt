@@ -63,4 +63,9 @@ encoding_number YAML_UTF16BE_ENCODING = 3
 
 -- the encoding setting that a number names
 abbrev pub encoding_of : ℕ → Option yaml_encoding_t
-encoding_of n = if nat_eq n 0 then Some YAML_ANY_ENCODING else if nat_eq n 1 then Some YAML_UTF8_ENCODING else if nat_eq n 2 then Some YAML_UTF16LE_ENCODING else if nat_eq n 3 then Some YAML_UTF16BE_ENCODING else None
+encoding_of n =
+    if nat_eq n 0 then Some YAML_ANY_ENCODING
+    else if nat_eq n 1 then Some YAML_UTF8_ENCODING
+    else if nat_eq n 2 then Some YAML_UTF16LE_ENCODING
+    else if nat_eq n 3 then Some YAML_UTF16BE_ENCODING
+    else None

@@ -1,7 +1,8 @@
 -- Room that a caller gives, and what is written into it.
 use Rattle.std.specs.Prelude.{ℕ, ◌++◌, List, length, take, drop}
 
--- A room of which a list covers the beginning: as much of the list as there is room for, and behind it what stood there.
+-- A room of which a list covers the beginning: as much of the list as there is room for, and behind it what stood
+-- there.
 abbrev pub covered : {A : Type 0} → List A → List A → List A
 covered xs room = take (length room) xs ++ drop (length xs) room
 

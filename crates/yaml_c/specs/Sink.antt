@@ -6,7 +6,8 @@ use Rattle.yaml_c.specs.Room.{covered_from}
 use Rattle.yaml_c.specs.Record.{held, record_of, texts_of}
 use Rattle.yaml_c.specs.declared.sink.token_rooms_t.{token_rooms_t}
 
--- A token is put behind what was put before: its record into the one room, its texts into the other, and both are counted.
+-- A token is put behind what was put before: its record into the one room, its texts into the other, and both are
+-- counted.
 pub record IsPut (a : token_rooms_t) (token : Token) (b : token_rooms_t) : Type 0 where
   pub same_tokens : b.tokens.ghost_name ≡ a.tokens.ghost_name
   pub same_texts : b.texts.ghost_name ≡ a.texts.ghost_name

@@ -1,12 +1,10 @@
 //! The scanner for C and Rust: all tokens of an input as plain records, in room that the caller gives.
 #![tactic(auto)]
 
-ghost use Rattle.std.specs.Prelude.{◌≡◌, ◌≤◌, Some, option_map};
-ghost use Rattle.yaml_text.specs.declared.types.yaml_encoding_t.{yaml_encoding_t};
+ghost use Rattle.std.specs.Prelude.{◌≤◌, option_map};
 ghost use Rattle.yaml_text.specs.Fault.{fault_of};
 ghost use Rattle.yaml_scan.specs.Sink.{IsGivenAll};
-ghost use Rattle.yaml_c.specs.Answer.{IsScanned, IsUntouched, IsWrong};
-ghost use Rattle.yaml_c.specs.Numbers as numbers;
+ghost use Rattle.yaml_c.specs.Answer.{RefusesWrong, ScansRight, rooms};
 ghost use Rattle.yaml_c.specs.Sink.{ArePut};
 
 mod answer;
@@ -34,7 +32,8 @@ fn scan(
 ) -> Option<yaml_fault_t>
     requires least { 1 ≤ limit }
     requires most { limit ≤ 65536 }
-    ensures { IsGivenAll (λ tokens. ArePut rooms.old tokens rooms.new) limit setting input.now (option_map fault_of result) }
+    ensures { IsGivenAll (λ list. ArePut rooms.old list rooms.new)
+        limit setting input.now (option_map fault_of result) }
 {
     match yaml_scan_to(alloc, input, setting, limit, rooms) {
         Ok(fault) => fault,
@@ -55,8 +54,10 @@ pub extern "C" fn yaml_c_scan_all(
     texts: &mut [u8],
     out: &mut yaml_c_answer,
 ) -> u32
-    ensures wrong { IsWrong setting limit → IsUntouched (record { tokens = tokens.old; texts = texts.old }) (record { tokens = tokens.new; texts = texts.new }) out.new result }
-    ensures scanned { (e : yaml_encoding_t) → numbers.encoding_of setting ≡ Some e → 1 ≤ limit → limit ≤ 65536 → IsScanned e limit input.now (record { tokens = tokens.old; texts = texts.old }) (record { tokens = tokens.new; texts = texts.new }) out.new result }
+    ensures wrong { RefusesWrong setting limit
+        (rooms tokens.old texts.old) (rooms tokens.new texts.new) out.new result }
+    ensures scanned { ScansRight setting limit input.now
+        (rooms tokens.old texts.old) (rooms tokens.new texts.new) out.new result }
 {
     *out = counts(0, 0);
     let Some(encoding) = encoding_of(setting) else {
