@@ -13,6 +13,8 @@ mod numbers;
 mod record;
 mod room;
 mod sink;
+#[cfg(test)]
+mod tests;
 
 use crate::answer::{counts, counts_and_fault, put_fault_texts};
 use crate::numbers::encoding_of;
