@@ -27,6 +27,8 @@ impl yaml_token_sink_t for token_list_t {
 
     ghost took = { λ a tokens b. map token_of b.tokens.items ≡ map token_of a.tokens.items ++ tokens };
 
+    ghost may_refuse = { Unit {0} };
+
     fn put(&mut self, token: yaml_token_t) -> Result<(), AllocError> {
         self.tokens.push(token)?;
         Ok(())

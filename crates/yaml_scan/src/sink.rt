@@ -1,5 +1,5 @@
 //! Sinks: what takes the tokens of an input, one after the other.
-ghost use Rattle.std.specs.Prelude.{◌≡◌, ◌++◌, ◌∷◌, ◌≤◌, [], List, IfOk, OnOk, map, option_map};
+ghost use Rattle.std.specs.Prelude.{◌≡◌, ◌++◌, ◌∷◌, ◌≤◌, [], List, IfOk, OnErr, OnOk, map, option_map};
 ghost use Rattle.yaml_text.specs.Fault.{fault_of};
 ghost use Rattle.yaml_text.specs.Token.{Token, token_of};
 ghost use Rattle.yaml_scan.specs.Session.{new_session};
@@ -15,10 +15,14 @@ pub trait yaml_token_sink_t {
     // Between two states these tokens were taken, in this order, and nothing else.
     ghost took: { Self → List Token → Self → Type 0 };
 
+    // What is known where it found no memory for a token: nothing, or that this does not happen.
+    ghost may_refuse: { Type 0 };
+
     /// Takes a token. `AllocError` if it found no memory.
     fn put(&mut self, token: yaml_token_t) -> Result<(), AllocError>
         requires { HasWords (token_of token).token_data }
-        ensures { OnOk result (took self.old (token_of token ∷ []) self.new) };
+        ensures taken { OnOk result (took self.old (token_of token ∷ []) self.new) }
+        ensures refused { OnErr result may_refuse };
 
     ghost took_none: { (s : Self) → took s [] s };
 
@@ -31,7 +35,8 @@ fn scan_rest<S: yaml_token_sink_t>(
     sink: &mut S,
 ) -> Result<Option<yaml_fault_t>, AllocError>
     requires { parser.old.session ≡ new_session }
-    ensures { IfOk result (λ fault. IsGivenAll (λ tokens. S.took sink.old tokens sink.new) parser.old.limit parser.old.setting parser.old.input (option_map fault_of fault)) }
+    ensures given { IfOk result (λ fault. IsGivenAll (λ tokens. S.took sink.old tokens sink.new) parser.old.limit parser.old.setting parser.old.input (option_map fault_of fault)) }
+    ensures refused { OnErr result S.may_refuse }
 {
     let mut last = false;
     'tokens: while !last {
@@ -60,7 +65,8 @@ pub fn yaml_scan_to<S: yaml_token_sink_t>(
 ) -> Result<Option<yaml_fault_t>, AllocError>
     requires least { 1 ≤ limit }
     requires most { limit ≤ 65536 }
-    ensures { IfOk result (λ fault. IsGivenAll (λ tokens. S.took sink.old tokens sink.new) limit setting input.now (option_map fault_of fault)) }
+    ensures given { IfOk result (λ fault. IsGivenAll (λ tokens. S.took sink.old tokens sink.new) limit setting input.now (option_map fault_of fault)) }
+    ensures refused { OnErr result S.may_refuse }
 {
     let mut parser = yaml_parser_t::with_key_limit(alloc, input, setting, limit);
     scan_rest(&mut parser, sink)

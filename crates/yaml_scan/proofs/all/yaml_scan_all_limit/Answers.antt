@@ -13,7 +13,7 @@ use Rattle.yaml_scan.proofs.all.yaml_scan_all_limit.Goals as goal
 -- what the new parser's tokens are
 pub returns-clause-answers : goal.returns-clause-answers
 returns-clause-answers c =
-    let e = c.in_ok-fault.ensures in
+    let e = c.in_ok-fault.ensures.given in
     let given : map token_of c.yaml_scan_to.new.sink.tokens.items ≡ e.tokens = e.given ∙ ap (λ (z : List code_token_t). map token_of z ++ e.tokens) c.new.ensures.items in
     subst (λ (z : List yaml_token_t). ReadsAll c.args.limit c.args.setting c.args.input.now z (option_map fault_of c.in_ok-fault.fault)) (sym given) e.reads
 

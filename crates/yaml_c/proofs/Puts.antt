@@ -1,0 +1,82 @@
+-- What a list of tokens leaves in both rooms.
+use Rattle.std.proofs.Common.{◌≡◌, ◌<◌, ◌^◌, ◌+◌, ◌∷◌, [], ℕ, List, length, arith, refl, sym, ap, ◌∙◌, subst, length-append}
+use Rattle.yaml_text.specs.Token.{Token}
+use Rattle.yaml_c.specs.declared.record.yaml_c_token.{yaml_c_token}
+use Rattle.yaml_c.specs.declared.sink.token_rooms_t.{token_rooms_t}
+use Rattle.yaml_c.specs.Room.{covered_from}
+use Rattle.yaml_c.specs.Record.{held, record_of, records_of, texts_of, all_texts}
+use Rattle.yaml_c.specs.Sink.{IsPut, ArePut}
+use Rattle.yaml_c.proofs.Rooms.{covered_from_by_none, covered_held, length-covered_from, more_covered_from}
+
+held_held : (n k : ℕ) → held (held n + k) ≡ held (n + k)
+held_held n k = omega arith
+
+-- a place that 64 bits do not hold is told alike
+records_of_held : (n : ℕ) (ts : List Token) → records_of (held n) ts ≡ records_of n ts
+records_of_held n [] = refl
+records_of_held n (t ∷ ts) =
+    let k = length (texts_of t) in
+    let same : held (held n) ≡ held n = omega arith in
+    let here : record_of (held n) t ≡ record_of n t = ap (λ (m : ℕ). record (record_of n t) { text_at = m }) same in
+    let rest : records_of (held n + k) ts ≡ records_of (n + k) ts = sym (records_of_held (held n + k) ts) ∙ ap (λ (m : ℕ). records_of m ts) (held_held n k) ∙ records_of_held (n + k) ts in
+    ap (λ (r : yaml_c_token). r ∷ records_of (held n + k) ts) here ∙ ap (λ (rs : List yaml_c_token). record_of n t ∷ rs) rest
+
+-- rooms and counts as a machine has them
+pub record Fits (a : token_rooms_t) : Type 0 where
+  pub tokens : length a.tokens.now < 2 ^ 63
+  pub texts : length a.texts.now < 2 ^ 63
+  pub token_count : a.token_count < 2 ^ 64
+  pub text_len : a.text_len < 2 ^ 64
+
+pub record HavePut (a : token_rooms_t) (list : List Token) (b : token_rooms_t) : Type 0 where
+  pub same_tokens : b.tokens.ghost_name ≡ a.tokens.ghost_name
+  pub same_texts : b.texts.ghost_name ≡ a.texts.ghost_name
+  pub token_count : b.token_count ≡ held (a.token_count + length list)
+  pub text_len : b.text_len ≡ held (a.text_len + length (all_texts list))
+  pub records : b.tokens.now ≡ covered_from a.token_count (records_of a.text_len list) a.tokens.now
+  pub texts : b.texts.now ≡ covered_from a.text_len (all_texts list) a.texts.now
+
+fits_on : (a b : token_rooms_t) (t : Token) → Fits a → IsPut a t b → Fits b
+fits_on a b t fits put =
+    let one : length b.tokens.now ≡ length a.tokens.now = ap length put.records ∙ length-covered_from a.token_count (record_of a.text_len t ∷ []) a.tokens.now in
+    let two : length b.texts.now ≡ length a.texts.now = ap length put.texts ∙ length-covered_from a.text_len (texts_of t) a.texts.now in
+    record { tokens = omega arith; texts = omega arith; token_count = omega arith; text_len = omega arith }
+
+none_put : (a : token_rooms_t) → Fits a → HavePut a [] a
+none_put a fits = record {
+  same_tokens = refl;
+  same_texts = refl;
+  token_count = omega arith;
+  text_len = omega arith;
+  records = sym (covered_from_by_none a.token_count a.tokens.now);
+  texts = sym (covered_from_by_none a.text_len a.texts.now);
+}
+
+one_more : (a m b : token_rooms_t) (t : Token) (ts : List Token) → Fits a → IsPut a t m → HavePut m ts b → HavePut a (t ∷ ts) b
+one_more a m b t ts fits put more =
+    let k = length (texts_of t) in
+    let sum : length (all_texts (t ∷ ts)) ≡ k + length (all_texts ts) = length-append (texts_of t) (all_texts ts) in
+    let next = fits_on a m t fits put in
+    record {
+      same_tokens = more.same_tokens ∙ put.same_tokens;
+      same_texts = more.same_texts ∙ put.same_texts;
+      token_count = omega (arith, more.token_count, put.token_count);
+      text_len = omega (arith, more.text_len, put.text_len);
+      records = more.records
+          ∙ ap (λ (n : ℕ). covered_from n (records_of m.text_len ts) m.tokens.now) put.token_count
+          ∙ covered_held (a.token_count + 1) (records_of m.text_len ts) m.tokens.now next.tokens
+          ∙ ap (λ (n : ℕ). covered_from (a.token_count + 1) (records_of n ts) m.tokens.now) put.text_len
+          ∙ ap (λ (rs : List yaml_c_token). covered_from (a.token_count + 1) rs m.tokens.now) (records_of_held (a.text_len + k) ts)
+          ∙ ap (λ (z : List yaml_c_token). covered_from (a.token_count + 1) (records_of (a.text_len + k) ts) z) put.records
+          ∙ more_covered_from a.token_count (record_of a.text_len t ∷ []) (records_of (a.text_len + k) ts) a.tokens.now;
+      texts = more.texts
+          ∙ ap (λ (n : ℕ). covered_from n (all_texts ts) m.texts.now) put.text_len
+          ∙ covered_held (a.text_len + k) (all_texts ts) m.texts.now next.texts
+          ∙ ap (λ (z : List ℕ). covered_from (a.text_len + k) (all_texts ts) z) put.texts
+          ∙ more_covered_from a.text_len (texts_of t) (all_texts ts) a.texts.now;
+    }
+
+-- what a list of tokens leaves
+pub have_put : (a b : token_rooms_t) (list : List Token) → Fits a → ArePut a list b → HavePut a list b
+have_put a b [] fits put = subst (λ (z : token_rooms_t). HavePut a [] z) (sym put) (none_put a fits)
+have_put a b (t ∷ ts) fits put = one_more a put.0 b t ts fits put.1 (have_put put.0 b ts (fits_on a put.0 t fits put.1) put.2)

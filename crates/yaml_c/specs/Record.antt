@@ -1,0 +1,75 @@
+-- Tokens as plain records, whose texts stand elsewhere.
+use Rattle.std.specs.Prelude.{ℕ, ◌+◌, ℤ, pos, List, [], ◌∷◌, ◌++◌, length, min}
+use Rattle.yaml_text.specs.declared.types.yaml_mark_t.{yaml_mark_t}
+use Rattle.yaml_text.specs.Token.{Token, TokenData, type_of}
+use Rattle.yaml_text.specs.Token.TokenData.{STREAM_START, VERSION_DIRECTIVE, TAG_DIRECTIVE, ALIAS, ANCHOR, TAG, SCALAR}
+use Rattle.yaml_c.specs.Numbers.{type_number, style_number, encoding_number}
+use Rattle.yaml_c.specs.declared.record.yaml_c_mark.{yaml_c_mark}
+use Rattle.yaml_c.specs.declared.record.yaml_c_token.{yaml_c_token}
+
+-- A number as 64 bits hold it: itself, or the greatest that they hold where it is greater.
+abbrev pub held : ℕ → ℕ
+held n = min n 18446744073709551615
+
+-- a mark as a record
+abbrev pub mark_of : yaml_mark_t → yaml_c_mark
+mark_of m = record { index = m.index; line = m.line; column = m.column }
+
+-- a token's first text: a handle, a name or a value
+abbrev pub first_text : TokenData → List ℕ
+first_text (TAG_DIRECTIVE handle prefix) = handle
+first_text (TAG handle suffix) = handle
+first_text (ALIAS value) = value
+first_text (ANCHOR value) = value
+first_text (SCALAR value style) = value
+first_text _ = []
+
+-- its second text: a prefix or a suffix
+abbrev pub second_text : TokenData → List ℕ
+second_text (TAG_DIRECTIVE handle prefix) = prefix
+second_text (TAG handle suffix) = suffix
+second_text _ = []
+
+-- the number of a stream's encoding or of a scalar's style
+abbrev pub detail_of : TokenData → ℕ
+detail_of (STREAM_START encoding) = encoding_number encoding
+detail_of (SCALAR value style) = style_number style
+detail_of _ = 0
+
+-- the major number of a version
+abbrev pub major_of : TokenData → ℤ
+major_of (VERSION_DIRECTIVE major minor) = major
+major_of _ = pos 0
+
+-- the minor number of a version
+abbrev pub minor_of : TokenData → ℤ
+minor_of (VERSION_DIRECTIVE major minor) = minor
+minor_of _ = pos 0
+
+-- the texts of a token, the first and then the second
+abbrev pub texts_of : Token → List ℕ
+texts_of t = first_text t.token_data ++ second_text t.token_data
+
+-- the record of a token whose texts stand at a place
+abbrev pub record_of : ℕ → Token → yaml_c_token
+record_of at t = record {
+  token_type = type_number (type_of t.token_data);
+  detail = detail_of t.token_data;
+  major = major_of t.token_data;
+  minor = minor_of t.token_data;
+  text_at = held at;
+  first_len = length (first_text t.token_data);
+  second_len = length (second_text t.token_data);
+  start_mark = mark_of t.start_mark;
+  end_mark = mark_of t.end_mark;
+}
+
+-- the records of tokens whose texts stand one after the other, from a place on
+abbrev pub records_of : ℕ → List Token → List yaml_c_token
+records_of at [] = []
+records_of at (t ∷ ts) = record_of at t ∷ records_of (at + length (texts_of t)) ts
+
+-- the texts of tokens, one after the other
+abbrev pub all_texts : List Token → List ℕ
+all_texts [] = []
+all_texts (t ∷ ts) = texts_of t ++ all_texts ts

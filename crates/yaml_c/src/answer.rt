@@ -1,0 +1,95 @@
+//! What is answered beside the two rooms: how much there is, and the fault.
+ghost use Rattle.std.specs.Prelude.{◌≡◌, ◌+◌, ◌++◌, length, option_map};
+ghost use Rattle.std.specs.Option.{option_copied};
+ghost use Rattle.yaml_text.specs.Fault.{fault_of};
+ghost use Rattle.yaml_c.specs.Answer as answers;
+ghost use Rattle.yaml_c.specs.Answer.{answer_with, no_answer, text_or_none};
+ghost use Rattle.yaml_c.specs.Room.{covered_from};
+
+use crate::numbers::error_number;
+use crate::record::{mark_of, yaml_c_mark};
+use crate::room::put_bytes;
+use yaml_scan::yaml_fault_t;
+
+/// How much there is, whether there was room for it or not, and the fault behind it.
+#[repr(C)]
+#[derive(Clone, Copy)]
+pub struct yaml_c_answer {
+    /// How many tokens there are.
+    pub token_count: u64,
+    /// How many bytes their texts have.
+    pub text_len: u64,
+    /// The number of the kind of fault, or 0.
+    pub error: u32,
+    pub problem_value: i32,
+    pub problem_offset: u64,
+    pub problem_mark: yaml_c_mark,
+    pub context_mark: yaml_c_mark,
+    /// The length of the problem, which stands in the room for texts behind those of the tokens.
+    pub problem_len: u64,
+    /// The length of the context, which stands behind the problem.
+    pub context_len: u64,
+}
+
+const ZERO: yaml_c_mark = yaml_c_mark {
+    index: 0,
+    line: 0,
+    column: 0,
+};
+
+/// The answer where there is no fault.
+pub(crate) fn counts(token_count: u64, text_len: u64) -> yaml_c_answer
+    ensures { result ≡ answer_with token_count text_len None }
+{
+    yaml_c_answer {
+        token_count,
+        text_len,
+        error: 0,
+        problem_value: 0,
+        problem_offset: 0,
+        problem_mark: ZERO,
+        context_mark: ZERO,
+        problem_len: 0,
+        context_len: 0,
+    }
+}
+
+fn text_or_none(text: Option<&'static str>) -> &'static [u8]
+    ensures { result.now ≡ text_or_none (option_copied text.entry) }
+{
+    match text {
+        Some(text) => text.as_bytes(),
+        None => b"",
+    }
+}
+
+/// The answer where there is a fault.
+pub(crate) fn counts_and_fault(
+    token_count: u64,
+    text_len: u64,
+    fault: yaml_fault_t,
+) -> yaml_c_answer
+    ensures { result ≡ answer_with token_count text_len (Some (fault_of fault)) }
+{
+    yaml_c_answer {
+        token_count,
+        text_len,
+        error: error_number(fault.error),
+        problem_value: fault.problem_value,
+        problem_offset: fault.problem_offset,
+        problem_mark: mark_of(fault.problem_mark),
+        context_mark: mark_of(fault.context_mark),
+        problem_len: text_or_none(fault.problem).len() as u64,
+        context_len: text_or_none(fault.context).len() as u64,
+    }
+}
+
+/// Puts the texts of a fault into a room from a place on: the problem, and behind it the context.
+pub(crate) fn put_fault_texts(room: &mut [u8], at: u64, fault: yaml_fault_t)
+    ensures { room.new ≡ covered_from at (answers.fault_texts (Some (fault_of fault))) room.old }
+{
+    let problem = text_or_none(fault.problem);
+    let behind = at.saturating_add(problem.len() as u64);
+    put_bytes(room, at, problem);
+    put_bytes(room, behind, text_or_none(fault.context));
+}

@@ -1,0 +1,91 @@
+//! The scanner for C and Rust: all tokens of an input as plain records, in room that the caller gives.
+#![tactic(auto)]
+
+ghost use Rattle.std.specs.Prelude.{◌≤◌, option_map};
+ghost use Rattle.yaml_text.specs.Fault.{fault_of};
+ghost use Rattle.yaml_scan.specs.Sink.{IsGivenAll};
+ghost use Rattle.yaml_c.specs.Answer.{RefusesWrong, ScansRight, rooms};
+ghost use Rattle.yaml_c.specs.Sink.{ArePut};
+
+mod answer;
+pub mod laws;
+mod numbers;
+mod record;
+mod room;
+mod sink;
+#[cfg(test)]
+mod tests;
+
+use crate::answer::{counts, counts_and_fault, put_fault_texts};
+use crate::numbers::encoding_of;
+use crate::sink::token_rooms_t;
+pub use answer::yaml_c_answer;
+pub use record::{yaml_c_mark, yaml_c_token};
+use std::alloc::Global;
+use yaml_scan::{yaml_encoding_t, yaml_fault_t, yaml_scan_to};
+
+/// Puts all tokens of an input into two rooms, and returns the fault behind them.
+fn scan(
+    alloc: Global,
+    input: &[u8],
+    setting: yaml_encoding_t,
+    limit: u32,
+    rooms: &mut token_rooms_t,
+) -> Option<yaml_fault_t>
+    requires least { 1 ≤ limit }
+    requires most { limit ≤ 65536 }
+    ensures { IsGivenAll (λ list. ArePut rooms.old list rooms.new)
+        limit setting input.now (option_map fault_of result) }
+{
+    match yaml_scan_to(alloc, input, setting, limit, rooms) {
+        Ok(fault) => fault,
+        Err(_) => unreachable!(),
+    }
+}
+
+/// All tokens of an input: their records in the one room, their texts and then those of the fault in the other, each as
+/// far as it has room. Returns 0 where the stream ended, 1 where there is a fault, and 2 for a setting above 3 or a
+/// limit outside 1 to 65,536, where nothing is touched but `out`.
+#[unsafe(no_mangle)]
+pub extern "C" fn yaml_c_scan_all(
+    alloc: Global,
+    input: &[u8],
+    setting: u32,
+    limit: u32,
+    tokens: &mut [yaml_c_token],
+    texts: &mut [u8],
+    out: &mut yaml_c_answer,
+) -> u32
+    ensures wrong { RefusesWrong setting limit
+        (rooms tokens.old texts.old) (rooms tokens.new texts.new) out.new result }
+    ensures scanned { ScansRight setting limit input.now
+        (rooms tokens.old texts.old) (rooms tokens.new texts.new) out.new result }
+{
+    *out = counts(0, 0);
+    let Some(encoding) = encoding_of(setting) else {
+        return 2;
+    };
+    if limit < 1 || limit > 65536 {
+        return 2;
+    }
+    let mut rooms = token_rooms_t {
+        tokens,
+        texts,
+        token_count: 0,
+        text_len: 0,
+    };
+    let fault = scan(alloc, input, encoding, limit, &mut rooms);
+    let token_count = rooms.token_count;
+    let text_len = rooms.text_len;
+    match fault {
+        None => {
+            *out = counts(token_count, text_len);
+            0
+        }
+        Some(fault) => {
+            put_fault_texts(rooms.texts, text_len, fault);
+            *out = counts_and_fault(token_count, text_len, fault);
+            1
+        }
+    }
+}

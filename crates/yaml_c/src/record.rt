@@ -1,0 +1,115 @@
+//! Tokens as plain records.
+ghost use Rattle.std.specs.Prelude.{◌≡◌, length};
+ghost use Rattle.yaml_text.specs.Token.{data_of, token_of};
+ghost use Rattle.yaml_c.specs.Record as records;
+ghost use Rattle.yaml_c.specs.Record.{held, record_of};
+
+use crate::numbers::{encoding_number, style_number, type_number};
+use yaml_scan::{unnamed_yaml_token_t_data, yaml_mark_t, yaml_token_t};
+
+/// A place in a text.
+#[repr(C)]
+#[derive(Clone, Copy)]
+pub struct yaml_c_mark {
+    /// Bytes of the text in UTF-8 that stand before it, from 0.
+    pub index: u64,
+    /// Line breaks that end before it, from 0.
+    pub line: u64,
+    /// Characters since the last break, from 0.
+    pub column: u64,
+}
+
+/// A token. Its texts stand one after the other in the room for texts, from `text_at` on.
+#[repr(C)]
+#[derive(Clone, Copy)]
+pub struct yaml_c_token {
+    /// The number of its type.
+    pub token_type: u32,
+    /// The number of a scalar's style, or of a stream's encoding; otherwise 0.
+    pub detail: u32,
+    /// The version of a `%YAML` directive; otherwise 0.
+    pub major: i32,
+    pub minor: i32,
+    /// Where its texts stand.
+    pub text_at: u64,
+    /// The length of a handle, a name or a value.
+    pub first_len: u64,
+    /// The length of a prefix or a suffix.
+    pub second_len: u64,
+    pub start_mark: yaml_c_mark,
+    pub end_mark: yaml_c_mark,
+}
+
+/// A mark as a record.
+pub(crate) fn mark_of(mark: yaml_mark_t) -> yaml_c_mark
+    ensures { result ≡ records.mark_of mark }
+{
+    yaml_c_mark {
+        index: mark.index,
+        line: mark.line,
+        column: mark.column,
+    }
+}
+
+/// A token's first text: a handle, a name or a value.
+pub(crate) fn first_text(said: &unnamed_yaml_token_t_data) -> &[u8]
+    ensures { result.now ≡ records.first_text (data_of said.now) }
+{
+    match said {
+        unnamed_yaml_token_t_data::TAG_DIRECTIVE { handle, prefix: _ }
+        | unnamed_yaml_token_t_data::TAG { handle, suffix: _ } => handle.as_slice(),
+        unnamed_yaml_token_t_data::ALIAS { value }
+        | unnamed_yaml_token_t_data::ANCHOR { value }
+        | unnamed_yaml_token_t_data::SCALAR { value, style: _ } => value.as_slice(),
+        _ => b"",
+    }
+}
+
+/// Its second text: a prefix or a suffix.
+pub(crate) fn second_text(said: &unnamed_yaml_token_t_data) -> &[u8]
+    ensures { result.now ≡ records.second_text (data_of said.now) }
+{
+    match said {
+        unnamed_yaml_token_t_data::TAG_DIRECTIVE { handle: _, prefix } => prefix.as_slice(),
+        unnamed_yaml_token_t_data::TAG { handle: _, suffix } => suffix.as_slice(),
+        _ => b"",
+    }
+}
+
+fn detail_of(said: &unnamed_yaml_token_t_data) -> u32
+    ensures { result ≡ records.detail_of (data_of said.now) }
+{
+    match said {
+        unnamed_yaml_token_t_data::STREAM_START { encoding } => encoding_number(*encoding),
+        unnamed_yaml_token_t_data::SCALAR { value: _, style } => style_number(*style),
+        _ => 0,
+    }
+}
+
+fn version_of(said: &unnamed_yaml_token_t_data) -> (i32, i32)
+    ensures major { result.0 ≡ records.major_of (data_of said.now) }
+    ensures minor { result.1 ≡ records.minor_of (data_of said.now) }
+{
+    match said {
+        unnamed_yaml_token_t_data::VERSION_DIRECTIVE { major, minor } => (*major, *minor),
+        _ => (0, 0),
+    }
+}
+
+/// The record of a token whose texts stand at a place.
+pub(crate) fn record_of(text_at: u64, token: &yaml_token_t) -> yaml_c_token
+    ensures { result ≡ record_of text_at (token_of token.now) }
+{
+    let (major, minor) = version_of(&token.token_data);
+    yaml_c_token {
+        token_type: type_number(token.type_()),
+        detail: detail_of(&token.token_data),
+        major,
+        minor,
+        text_at,
+        first_len: first_text(&token.token_data).len() as u64,
+        second_len: second_text(&token.token_data).len() as u64,
+        start_mark: mark_of(token.start_mark),
+        end_mark: mark_of(token.end_mark),
+    }
+}

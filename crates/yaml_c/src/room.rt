@@ -1,0 +1,25 @@
+//! Writing into room that a caller gave: what has no room is left out.
+ghost use Rattle.std.specs.Prelude.{◌≡◌, ◌∷◌, []};
+ghost use Rattle.yaml_c.specs.Room.{covered_from};
+
+use crate::record::yaml_c_token;
+
+/// Puts bytes into a room from a place on, as many as there is room for.
+pub(crate) fn put_bytes(room: &mut [u8], at: u64, bytes: &[u8])
+    ensures { room.new ≡ covered_from at bytes.now room.old }
+{
+    if at < room.len() as u64 {
+        let start = at as usize;
+        let count = (room.len() - start).min(bytes.len());
+        room[start..start + count].copy_from_slice(&bytes[..count]);
+    }
+}
+
+/// Puts a record into a room at a place, if it has that place.
+pub(crate) fn put_record(room: &mut [yaml_c_token], at: u64, token: yaml_c_token)
+    ensures { room.new ≡ covered_from at (token ∷ []) room.old }
+{
+    if at < room.len() as u64 {
+        room[at as usize] = token;
+    }
+}

@@ -1,0 +1,149 @@
+//! Calls as a C program makes them.
+use super::*;
+use std::test::Fail;
+
+const NO_MARK: yaml_c_mark = yaml_c_mark {
+    index: 77,
+    line: 77,
+    column: 77,
+};
+
+const NO_TOKEN: yaml_c_token = yaml_c_token {
+    token_type: 77,
+    detail: 77,
+    major: 77,
+    minor: 77,
+    text_at: 77,
+    first_len: 77,
+    second_len: 77,
+    start_mark: NO_MARK,
+    end_mark: NO_MARK,
+};
+
+const NO_ANSWER: yaml_c_answer = yaml_c_answer {
+    token_count: 77,
+    text_len: 77,
+    error: 77,
+    problem_value: 77,
+    problem_offset: 77,
+    problem_mark: NO_MARK,
+    context_mark: NO_MARK,
+    problem_len: 77,
+    context_len: 77,
+};
+
+const TAGGED: &[u8] = b"!a!xkey\n|\n";
+
+/// A tag with a handle and a suffix, and an empty literal scalar.
+#[test]
+fn records_and_texts(rt: HostRuntime) -> Result<(), Fail> {
+    let mut tokens = [NO_TOKEN; 5];
+    let mut texts = [77u8; 8];
+    let mut out = NO_ANSWER;
+    let status = yaml_c_scan_all(
+        rt.alloc(),
+        TAGGED,
+        0,
+        1024,
+        &mut tokens,
+        &mut texts,
+        &mut out,
+    );
+    assert_eq!(rt; (status, out.token_count, out.text_len), (0, 4, 7));
+    assert_eq!(rt; (out.error, out.problem_len, out.context_len), (0, 0, 0));
+    assert_eq!(rt; texts, *b"!a!xkeyM");
+    let [start, tag, scalar, end, rest] = tokens;
+    assert_eq!(rt; (start.token_type, start.detail), (1, 1));
+    assert_eq!(rt; (tag.token_type, tag.detail, tag.major), (20, 0, 0));
+    assert_eq!(rt; (tag.text_at, tag.first_len, tag.second_len), (0, 3, 4));
+    assert_eq!(rt; (tag.start_mark.index, tag.end_mark.index), (0, 7));
+    assert_eq!(rt; (scalar.token_type, scalar.detail), (21, 4));
+    assert_eq!(rt; (scalar.text_at, scalar.first_len), (7, 0));
+    assert_eq!(rt; (scalar.start_mark.line, scalar.end_mark.line), (1, 2));
+    assert_eq!(rt; (end.token_type, rest.token_type), (2, 77));
+    Ok(())
+}
+
+/// A quoted scalar that is not closed: the texts of the fault stand behind those of the tokens.
+#[test]
+fn fault_and_its_texts(rt: HostRuntime) -> Result<(), Fail> {
+    let mut tokens = [NO_TOKEN; 3];
+    let mut texts = [77u8; 64];
+    let mut out = NO_ANSWER;
+    let input = b"!!a\n\"\" \"\n";
+    let status = yaml_c_scan_all(
+        rt.alloc(),
+        input,
+        0,
+        1024,
+        &mut tokens,
+        &mut texts,
+        &mut out,
+    );
+    assert_eq!(rt;
+        (status, out.token_count, out.text_len, out.error),
+        (1, 2, 3, 3)
+    );
+    assert_eq!(rt; (out.problem_mark.index, out.context_mark.index), (9, 7));
+    assert_eq!(rt; (out.problem_len, out.context_len), (30, 30));
+    assert_eq!(rt;
+        texts,
+        *b"!!afound unexpected end of streamwhile scanning a quoted scalarM"
+    );
+    Ok(())
+}
+
+/// What has no room is counted and not written; a text is cut where the room ends.
+#[test]
+fn rooms_that_are_too_small(rt: HostRuntime) -> Result<(), Fail> {
+    let mut tokens = [NO_TOKEN; 1];
+    let mut texts = [77u8; 4];
+    let mut out = NO_ANSWER;
+    let status = yaml_c_scan_all(
+        rt.alloc(),
+        TAGGED,
+        0,
+        1024,
+        &mut tokens,
+        &mut texts,
+        &mut out,
+    );
+    assert_eq!(rt; (status, out.token_count, out.text_len), (0, 4, 7));
+    assert_eq!(rt; tokens[0].token_type, 1);
+    assert_eq!(rt; texts, *b"!a!x");
+    Ok(())
+}
+
+/// A setting or a limit that is none touches nothing but the answer.
+#[test]
+fn wrong_settings_and_limits(rt: HostRuntime) -> Result<(), Fail> {
+    for (setting, limit, wanted) in [
+        (4, 1024, 2),
+        (u32::MAX, 1024, 2),
+        (0, 0, 2),
+        (0, 65_537, 2),
+        (3, 65_536, 0),
+        (0, 1, 0),
+    ] {
+        let mut tokens = [NO_TOKEN; 1];
+        let mut texts = [77u8; 1];
+        let mut out = NO_ANSWER;
+        let status = yaml_c_scan_all(
+            rt.alloc(),
+            b"",
+            setting,
+            limit,
+            &mut tokens,
+            &mut texts,
+            &mut out,
+        );
+        assert_eq!(rt; status, wanted, "{setting} {limit}");
+        let [token] = tokens;
+        let count = if wanted == 2 { 0 } else { 2 };
+        assert_eq!(rt; out.token_count, count, "{setting} {limit}");
+        assert_eq!(rt; out.error, 0, "{setting} {limit}");
+        let first = if wanted == 2 { 77 } else { 1 };
+        assert_eq!(rt; token.token_type, first, "{setting} {limit}");
+    }
+    Ok(())
+}

@@ -1,0 +1,358 @@
+#!/usr/bin/env python3
+"""Builds the library of ffi/, and calls it from C, from Rust and from here: ffi.py [PROGRAM].
+
+All inputs of vectors/scan.txt.gz are scanned through the shared library: with no room, with exactly the room that is asked for
+and with about half of it; the tokens and the fault are those that are wanted, and nothing else in a room has changed. Wrong
+settings and limits touch nothing but the answer. The records have the same sizes and places in C, in Rust and in the crate, and
+the header's numbers are the crate's. The examples list.c and list.rs list what is wanted, and list.c frees all that it took. Each
+request for memory of list.c is refused in turn. What needs a C compiler, rustc or valgrind is skipped where there is none.
+"""
+
+import ctypes as c
+import gzip
+import os
+import re
+import shutil
+import subprocess
+import sys
+import tempfile
+from concurrent.futures import ProcessPoolExecutor, ThreadPoolExecutor
+
+HERE = os.path.dirname(os.path.abspath(__file__))
+FFI = os.path.join(os.path.dirname(HERE), "ffi")
+CRATE = os.path.join(os.path.dirname(HERE), "crates", "yaml_c", "src")
+sys.path.insert(0, os.path.join(HERE, "lib"))
+sys.dont_write_bytecode = True
+from worked import MEMORY, build_refuser, run
+
+PLAIN = {"u32": c.c_uint32, "i32": c.c_int32, "u64": c.c_uint64}
+RECORDS = ["yaml_c_mark", "yaml_c_token", "yaml_c_answer"]
+SETTINGS = ["any", "utf8", "utf16le", "utf16be"]
+ENCODINGS = ["ANY", "UTF8", "UTF16LE", "UTF16BE"]
+STYLES = ["any", "plain", "single", "double", "literal", "folded"]
+NOWHERE = c.c_void_p(64)  # an address that holds nothing and is not null
+FILL = 0xA5
+SPARE = 3
+SMALL = [b"a: 1", b"- [a, b]\n- {c: d}\n", b"? |\n  text\n: 'x'\n", b"a: b: c", b"\xff\xfea\0:\0 \0b\0", b"a\xff"]
+
+
+def source(name):
+    with open(os.path.join(CRATE, name), encoding="utf-8") as text:
+        return text.read()
+
+
+def crate_records():
+    """The records that the crate declares, as ctypes has them."""
+    text, made = source("record.rt") + source("answer.rt"), {}
+    for name in RECORDS:
+        body = re.search(r"#\[repr\(C\)\]\n#\[derive\(Clone, Copy\)\]\npub struct " + name + r" \{\n(.*?)\n\}", text, re.S).group(1)
+        fields = re.findall(r"^    pub (\w+): (\w+),$", body, re.M)
+        made[name] = type(name, (c.Structure,), {"_fields_": [(field, {**PLAIN, **made}[kind]) for field, kind in fields]})
+    return made
+
+
+MADE = crate_records()
+Token, Answer = MADE["yaml_c_token"], MADE["yaml_c_answer"]
+
+
+def layout():
+    """A line for each record's size, and for each field's place and size."""
+    for name in RECORDS:
+        yield f"{name} {c.sizeof(MADE[name])}"
+        for field, _ in MADE[name]._fields_:
+            place = getattr(MADE[name], field)
+            yield f"{name}.{field} {place.offset} {place.size}"
+
+
+def c_layout(room):
+    """The same, from a C program that includes the header."""
+    lines = []
+    for name in RECORDS:
+        lines.append(f'printf("{name} %zu\\n", sizeof(struct {name}));')
+        for field, _ in MADE[name]._fields_:
+            at, size = f"offsetof(struct {name}, {field})", f"sizeof(((struct {name} *)0)->{field})"
+            lines.append(f'printf("{name}.{field} %zu %zu\\n", {at}, {size});')
+    path = os.path.join(room, "layout")
+    with open(path + ".c", "w", encoding="ascii") as text:
+        text.write('#include "yaml_c.h"\n#include <stdio.h>\nint main(void) {\n' + "\n".join(lines) + "\nreturn 0;\n}\n")
+    subprocess.run(["cc", "-Wall", "-Werror", "-I", FFI, path + ".c", "-o", path], check=True)
+    subprocess.run(["cc", "-x", "c++", "-Wall", "-Werror", "-fsyntax-only", os.path.join(FFI, "yaml_c.h")], check=True) if cxx() else None
+    return subprocess.run([path], check=True, capture_output=True, text=True).stdout.split("\n")[:-1]
+
+
+def rust_layout(room):
+    """The same, from a Rust program that has scanner.rs as a module."""
+    names, lines = dict(zip(RECORDS, ["Mark", "Record", "Answer"])), []
+    for name in RECORDS:
+        lines.append(f'println!("{name} {{}}", std::mem::size_of::<scanner::{names[name]}>());')
+        for field, _ in MADE[name]._fields_:
+            at = f"std::mem::offset_of!(scanner::{names[name]}, {field})"
+            size = f"std::mem::size_of_val(&scanner::{names[name]}::default().{field})"
+            lines.append(f'println!("{name}.{field} {{}} {{}}", {at}, {size});')
+    path = os.path.join(room, "layout_rs")
+    with open(path + ".rs", "w", encoding="ascii") as text:
+        module = os.path.join(FFI, "scanner.rs")
+        text.write(f'#[path = "{module}"]\nmod scanner;\nfn main() {{\n' + "\n".join(lines) + "\n}\n")
+    build_rust(path + ".rs", path)
+    return subprocess.run([path], check=True, capture_output=True, text=True).stdout.split("\n")[:-1]
+
+
+def cxx():
+    return shutil.which("c++") is not None
+
+
+def build_rust(text, path):
+    link = "link-arg=" + os.path.join(FFI, "out", "libyaml_c.a")
+    subprocess.run(["rustc", "-O", "--edition", "2021", text, "-C", link, "-o", path], check=True)
+
+
+def build_c(room):
+    path = os.path.join(room, "list")
+    words = ["-std=c99", "-Wall", "-Wextra", "-Wpedantic", "-Werror", "-O2", "-I", FFI]
+    subprocess.run(["cc", *words, os.path.join(FFI, "list.c"), os.path.join(FFI, "out", "libyaml_c.a"), "-o", path], check=True)
+    return path
+
+
+def same_numbers():
+    """How many names of the header have the crate's numbers, and those that have not."""
+    with open(os.path.join(FFI, "yaml_c.h"), encoding="ascii") as text:
+        header = {name: int(number) for name, number in re.findall(r"\bYAML_C_(\w+) = (\d+)", text.read())}
+    crate = {name: int(number) for name, number in re.findall(r"::YAML_(\w+) => (\d+),", source("numbers.rt"))}
+    return len(header), sorted(set(header.items()) ^ set(crate.items()))
+
+
+def load():
+    library = c.CDLL(os.path.join(FFI, "out", "libyaml_c.so"))
+    call = library.yaml_c_scan_all
+    call.restype = c.c_uint32
+    size, number = c.c_size_t, c.c_uint32
+    call.argtypes = [c.c_void_p, size, number, number, c.c_void_p, size, c.c_void_p, size, c.c_void_p]
+    return call
+
+
+class Call:
+    """One call, with rooms that are filled before, and with spare room behind that is not told of."""
+
+    def __init__(self, call, data, setting, limit, token_room, text_room):
+        self.tokens = (Token * (token_room + SPARE))()
+        self.texts = (c.c_uint8 * (text_room + SPARE))()
+        self.answer = Answer()
+        for room in (self.tokens, self.texts, self.answer):
+            c.memset(c.byref(room), FILL, c.sizeof(room))
+        tokens = c.byref(self.tokens) if token_room else NOWHERE
+        texts = c.byref(self.texts) if text_room else NOWHERE
+        given = c.c_char_p(data) if data else NOWHERE
+        self.status = call(given, len(data), setting, limit, tokens, token_room, texts, text_room, c.byref(self.answer))
+
+    def untouched(self, token_count, text_len):
+        """Whether what stands behind so many records and bytes is as it was."""
+        size = c.sizeof(Token)
+        tokens = bytes(self.tokens)[token_count * size :]
+        texts = bytes(self.texts)[text_len:]
+        return tokens.count(FILL) == len(tokens) and texts.count(FILL) == len(texts)
+
+
+def mark(m):
+    return f"{m.index}:{m.line}:{m.column}"
+
+
+def token_line(t, texts, names):
+    """A token's line, as the program lists it."""
+    first = texts[t.text_at : t.text_at + t.first_len].hex() or "-"
+    second = texts[t.text_at + t.first_len : t.text_at + t.first_len + t.second_len].hex() or "-"
+    name = names[t.token_type]
+    more = {
+        "STREAM-START": [ENCODINGS[t.detail]] if t.detail < len(ENCODINGS) else ["?"],
+        "VERSION-DIRECTIVE": [str(t.major), str(t.minor)],
+        "TAG-DIRECTIVE": [first, second],
+        "TAG": [first, second],
+        "ALIAS": [first],
+        "ANCHOR": [first],
+        "SCALAR": [STYLES[t.detail] if t.detail < len(STYLES) else "?", first],
+    }
+    return " ".join([name, mark(t.start_mark), mark(t.end_mark), *more.get(name, [])])
+
+
+def fault_line(a, texts):
+    problem = texts[a.text_len : a.text_len + a.problem_len].decode("ascii")
+    context = texts[a.text_len + a.problem_len : a.text_len + a.problem_len + a.context_len].decode("ascii")
+    if a.error == 2:
+        return f"FAULT reader {a.problem_offset} {a.problem_value} {problem}"
+    if a.error == 3:
+        return f"FAULT scanner {mark(a.context_mark)} {mark(a.problem_mark)} {context or '-'}; {problem}"
+    return MEMORY
+
+
+def type_names():
+    """The names of the types as the program lists them, by their numbers in the header."""
+    with open(os.path.join(FFI, "yaml_c.h"), encoding="ascii") as text:
+        found = re.findall(r"\bYAML_C_(\w+?)(?:_TOKEN)? = (\d+)", text.read().split("enum yaml_c_encoding")[0])
+    return {int(number): name.replace("_", "-") for name, number in found}
+
+
+def vectors():
+    with gzip.open(os.path.join(HERE, "vectors", "scan.txt.gz"), "rt", encoding="ascii") as lines:
+        for line in lines:
+            words, data, wanted = line.rstrip("\n").split("\t")
+            words = words.split(" ")
+            yield words[1:], bytes.fromhex(data.strip("-")), wanted.split(" / ")
+
+
+def fields(record):
+    """A record's numbers, with those of the records in it."""
+    for name, _ in record._fields_:
+        value = getattr(record, name)
+        yield from fields(value) if isinstance(value, c.Structure) else [value]
+
+
+def wrong_with(call, names, words, data, wanted):
+    """What is wrong with the library's answers to an input, or None."""
+    setting, limit = SETTINGS.index(words[0]), int(words[1]) if len(words) > 1 else 1024
+    none = Call(call, data, setting, limit, 0, 0)
+    answer = list(fields(none.answer))
+    tokens, texts = none.answer.token_count, none.answer.text_len + none.answer.problem_len + none.answer.context_len
+    if not none.untouched(0, 0):
+        return "something is written where there is no room"
+    whole = Call(call, data, setting, limit, tokens + 1, texts + 1)
+    written = bytes(whole.texts)
+    found = [token_line(t, written, names) for t in whole.tokens[:tokens]]
+    found += [fault_line(whole.answer, written)] if whole.status == 1 else []
+    if found != wanted or whole.status != any(line.startswith("FAULT") for line in wanted) or none.status != whole.status:
+        return f"wanted {wanted}, got {found} and status {whole.status}"
+    if not whole.untouched(tokens, texts):
+        return "something is written behind what is wanted"
+    half = Call(call, data, setting, limit, tokens // 2, texts // 2)
+    size = c.sizeof(Token) * (tokens // 2)
+    if bytes(half.tokens)[:size] != bytes(whole.tokens)[:size] or bytes(half.texts)[: texts // 2] != written[: texts // 2]:
+        return "what a smaller room holds is no beginning"
+    if not half.untouched(tokens // 2, texts // 2):
+        return "something is written past a room"
+    if list(fields(whole.answer)) != answer or list(fields(half.answer)) != answer:
+        return "the answers to one input in three sizes of room differ"
+    return None
+
+
+def compare(rows):
+    call, names = load(), type_names()
+    return [(words, data, text) for words, data, wanted in rows if (text := wrong_with(call, names, words, data, wanted))]
+
+
+def wrong_calls():
+    """How many wrong settings and limits were tried, and those that were not refused as is wanted."""
+    call, bad = load(), []
+    tried = [(4, 1024), (2**32 - 1, 1024), (0, 0), (3, 65537), (1, 2**32 - 1), (4, 0)]
+    for setting, limit in tried:
+        done = Call(call, b"a: 1", setting, limit, 9, 9)
+        if done.status != 2 or any(fields(done.answer)) or not done.untouched(0, 0):
+            bad.append((setting, limit))
+    for setting, limit in [(0, 1), (0, 65536), (3, 1024)]:
+        if Call(call, b"", setting, limit, 9, 99).status == 2:
+            bad.append((setting, limit))
+    return len(tried) + 3, bad
+
+
+def lists_wrong(program, row):
+    words, data, wanted = row
+    done = subprocess.run([program, *words], input=data, capture_output=True, timeout=60)
+    status = int(any(line.startswith("FAULT") for line in wanted))
+    return (done.stdout.decode("ascii").split("\n")[:-1], done.returncode) != (wanted, status)
+
+
+def refused(program, refuser, data):
+    """Refuses each request for memory in turn until three runs in a row are whole; how many runs there were of each kind."""
+    whole = subprocess.run([program], input=data, capture_output=True, timeout=60).stdout.decode("ascii").split("\n")[:-1]
+    seen, in_a_row, number = {"whole": 0, "beginning": 0, "nothing": 0, "wrong": 0}, 0, 0
+    while in_a_row < 3 and number < 2000:
+        number += 1
+        done = run(program, [], data, refuser, number)
+        found = done.stdout.decode("ascii").split("\n")[:-1]
+        kind = "wrong"
+        if found == whole and done.returncode in (0, 1):
+            kind = "whole"
+        elif done.returncode == 3 and not found:
+            kind = "nothing"
+        elif done.returncode == 1 and found[-1:] == [MEMORY] and found[:-1] == whole[: len(found) - 1]:
+            kind = "beginning"
+        seen[kind] += 1
+        in_a_row = in_a_row + 1 if kind == "whole" else 0
+    return seen
+
+
+def leaks(program, row):
+    """Whether valgrind finds memory that is lost, or a wrong access."""
+    words = ["valgrind", "-q", "--error-exitcode=99", "--leak-check=full", "--show-leak-kinds=all", program, *row[0]]
+    return subprocess.run(words, input=row[1], capture_output=True, timeout=300).returncode == 99
+
+
+def try_library(every):
+    count = os.cpu_count()
+    with ProcessPoolExecutor(max_workers=count) as pool:
+        bad = [one for part in pool.map(compare, [every[i::count] for i in range(count)]) for one in part]
+    for words, data, text in bad[:5]:
+        print(words, data[:80], text[:600])
+    tried, wrong = wrong_calls()
+    numbers, others = same_numbers()
+    print(f"ffi: {len(every)} inputs compared, {len(bad)} differ; {tried} settings and limits, {len(wrong)} wrong")
+    print(f"ffi: {numbers} numbers of the header, {len(others)} not the crate's")
+    return not bad and not wrong and not others and numbers > 30 and len(every) > 20000
+
+
+def try_records(room, rust):
+    wanted = list(layout())
+    differ = [line for found in [c_layout(room), *([rust_layout(room)] if rust else [])] for line in set(found) ^ set(wanted)]
+    print(f"ffi: {len(wanted)} sizes and places in C{' and Rust' if rust else ''}, {len(differ)} differ from the crate's {differ or ''}")
+    return not differ and len(wanted) > 20
+
+
+def try_examples(programs, rows):
+    good = True
+    for program in programs:
+        with ThreadPoolExecutor(max_workers=os.cpu_count()) as pool:
+            bad = [row for row, is_bad in zip(rows, pool.map(lambda row: lists_wrong(program, row), rows)) if is_bad]
+        print(f"ffi: {os.path.basename(program)}: {len(rows)} inputs listed, {len(bad)} wrong {[row[:2] for row in bad[:3]] or ''}")
+        good = good and not bad
+    return good
+
+
+def try_memory(program, rows):
+    with tempfile.TemporaryDirectory() as room:
+        refuser = build_refuser(room)
+        with ThreadPoolExecutor(max_workers=os.cpu_count()) as pool:
+            seen = list(pool.map(lambda data: refused(program, refuser, data), SMALL))
+    total = {kind: sum(one[kind] for one in seen) for kind in seen[0]}
+    print(f"ffi: growths refused, {len(SMALL)} inputs: " + ", ".join(f"{count} {kind}" for kind, count in total.items()))
+    good = not total["wrong"] and total["whole"] and total["beginning"] and total["nothing"]
+    if shutil.which("valgrind") is None:
+        print("ffi: leaks skipped: no valgrind")
+        return good
+    with ThreadPoolExecutor(max_workers=os.cpu_count()) as pool:
+        lost = sum(pool.map(lambda row: leaks(program, row), rows))
+    print(f"ffi: {len(rows)} inputs under valgrind, {lost} with a leak or a wrong access")
+    return good and not lost
+
+
+def main():
+    if shutil.which("cc") is None:
+        print("ffi: skipped: no C compiler")
+        return 0
+    subprocess.run([os.path.join(FFI, "build")], check=True)
+    every = list(vectors())
+    rust = shutil.which("rustc") is not None
+    if not rust:
+        print("ffi: Rust skipped: no rustc")
+    with tempfile.TemporaryDirectory() as room:
+        programs = [build_c(room)]
+        if rust:
+            programs.append(os.path.join(room, "list_rs"))
+            build_rust(os.path.join(FFI, "list.rs"), programs[1])
+        good = [
+            try_library(every),
+            try_records(room, rust),
+            try_examples(programs, every[::40]),
+            try_memory(programs[0], every[::2000]),
+        ]
+    return 0 if all(good) else 1
+
+
+if __name__ == "__main__":
+    sys.exit(main())
