@@ -53,6 +53,8 @@ impl yaml_token_sink_t for token_lines_t {
 
     ghost took = { λ a tokens b. b.lines.items ≡ a.lines.items ++ token_lines tokens };
 
+    ghost may_refuse = { Unit {0} };
+
     fn put(&mut self, token: yaml_token_t) -> Result<(), AllocError> {
         list_token(self.alloc, &token, &mut self.lines)
     }
