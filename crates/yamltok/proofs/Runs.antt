@@ -4,14 +4,20 @@ use Rattle.std.proofs.Math.Seq.{take-add}
 use Rattle.std.proofs.lemmas.List.Concat.{flat_map-append}
 
 module _ {X A : Type 0} (f : X → List A) (xs : List X) (at n : ℕ) where
-  run_added : take at xs ++ take (at + n - at) (drop at xs) ≡ take (at + n) xs
+  abbrev run : List X
+  run = take (at + n - at) (drop at xs)
+
+  run_added : take at xs ++ run ≡ take (at + n) xs
   run_added =
       let count : at + n - at ≡ n = omega arith in
       ap (λ (k : ℕ). take at xs ++ take k (drop at xs)) count ∙ sym (take-add at n xs)
 
   -- what the next run is mapped to stands behind what those before it are
-  pub next_run : (a b c : List A) → b ≡ a ++ flat_map f (take at xs) → c ≡ b ++ flat_map f (take (at + n - at) (drop at xs)) → c ≡ a ++ flat_map f (take (at + n) xs)
+  pub next_run : (a b c : List A) → b ≡ a ++ flat_map f (take at xs) → c ≡ b ++ flat_map f run
+      → c ≡ a ++ flat_map f (take (at + n) xs)
   next_run a b c e g =
-      g ∙ ap (λ (z : List A). z ++ flat_map f (take (at + n - at) (drop at xs))) e
-      ∙ append_assoc a (flat_map f (take at xs)) (flat_map f (take (at + n - at) (drop at xs)))
-      ∙ ap (λ (z : List A). a ++ z) (sym (flat_map-append f (take at xs) (take (at + n - at) (drop at xs))) ∙ ap (λ (z : List X). flat_map f z) run_added)
+      let both : flat_map f (take at xs) ++ flat_map f run ≡ flat_map f (take (at + n) xs) =
+      sym (flat_map-append f (take at xs) run) ∙ ap (λ (z : List X). flat_map f z) run_added in
+      g ∙ ap (λ (z : List A). z ++ flat_map f run) e
+      ∙ append_assoc a (flat_map f (take at xs)) (flat_map f run)
+      ∙ ap (λ (z : List A). a ++ z) both

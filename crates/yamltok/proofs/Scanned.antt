@@ -10,18 +10,27 @@ use Rattle.yaml_scan.proofs.AllTold.{reads_have_lines}
 use Rattle.yamltok.specs.Listing.{token_lines, fault_lines}
 use Rattle.yamltok.specs.Run.{ListsScan}
 
-module _ (limit : ℕ) (setting : yaml_encoding_t) (input before told : List ℕ) (fault : Option Fault) (given : IsGivenAll (λ tokens. told ≡ before ++ token_lines tokens) limit setting input fault) where
+-- the lines of what a sink was given stand behind those before
+abbrev pub Tells : ℕ → yaml_encoding_t → (input before told : List ℕ) → Option Fault → Type 0
+Tells limit setting input before told fault =
+    IsGivenAll (λ tokens. told ≡ before ++ token_lines tokens) limit setting input fault
+
+module _ (limit : ℕ) (setting : yaml_encoding_t) (input before told : List ℕ) (fault : Option Fault) where
   -- the fault has a line
-  pub fault_has_line : IfSome fault HasLine
-  fault_has_line = (reads_have_lines limit setting input given.tokens fault given.reads).1
+  pub fault_has_line : Tells limit setting input before told fault → IfSome fault HasLine
+  fault_has_line given = (reads_have_lines limit setting input given.tokens fault given.reads).1
 
   -- the lines are those of the tokens, and of the fault
-  pub lists_scan : (lines : List ℕ) → before ≡ [] → lines ≡ told ++ fault_lines fault → ListsScan limit setting input lines (is_some fault)
-  lists_scan lines none more = record {
-    tokens = given.tokens;
-    fault = fault;
-    answers = given.reads;
-    early = λ e. reads_early limit setting input given.tokens fault given.reads e;
-    lines_are = more ∙ ap (λ (z : List ℕ). z ++ fault_lines fault) (given.given ∙ ap (λ (z : List ℕ). z ++ token_lines given.tokens) none);
-    fault_is = refl;
-  }
+  pub lists_scan : Tells limit setting input before told fault → (lines : List ℕ) → before ≡ []
+      → lines ≡ told ++ fault_lines fault → ListsScan limit setting input lines (is_some fault)
+  lists_scan given lines none more =
+      let alone : told ≡ token_lines given.tokens =
+      given.given ∙ ap (λ (z : List ℕ). z ++ token_lines given.tokens) none in
+      record {
+        tokens = given.tokens;
+        fault = fault;
+        answers = given.reads;
+        early = λ e. reads_early limit setting input given.tokens fault given.reads e;
+        lines_are = more ∙ ap (λ (z : List ℕ). z ++ fault_lines fault) alone;
+        fault_is = refl;
+      }

@@ -12,8 +12,9 @@ ghost use Rattle.yaml_scan.specs.Words.{HasLine, HasWords};
 ghost use Rattle.yaml_scan.specs.Calls.{seen_of};
 ghost use Rattle.yaml_scan.specs.CallWords.{SeenHasLine, SeenHaveLines};
 ghost use Rattle.yamltok.specs.Put.{Puts, spaced};
-ghost use Rattle.yamltok.specs.Listing.{parted, encoding_word, reader_line, scanner_line, fault_line, text_line, bytes_text};
-ghost use Rattle.yamltok.specs.Listing.{type_name, style_word, head_parts, data_parts, token_line, peek_line, answer_line, answer_lines};
+ghost use Rattle.yamltok.specs.Listing.{parted, encoding_word, bytes_text, type_name, style_word, head_parts, data_parts};
+ghost use Rattle.yamltok.specs.Listing.{reader_line, scanner_line, fault_line, text_line, token_line, peek_line};
+ghost use Rattle.yamltok.specs.Listing.{answer_line, answer_lines};
 
 use crate::put::{cut_back, put_bytes, put_decimal, put_mark, put_part, put_signed, put_text};
 use std::alloc::{AllocError, Global};
@@ -50,14 +51,13 @@ fn put_reader_fault(
     put_text(out, "\n")
 }
 
-/// Puts a context, with `;` behind it, a problem and the line's end behind `out`.
-fn put_problem(out: &mut Vec<u8>, context: &str, problem: &str) -> Result<(), AllocError>
-    ensures { Puts result out.old.items (spaced ((context.now ++ codes ";") ∷ problem.now ∷ []) ++ 10 ∷ []) out.new.items }
+/// Puts a context, with `;` behind it, and a problem behind `out`.
+fn put_texts(out: &mut Vec<u8>, context: &str, problem: &str) -> Result<(), AllocError>
+    ensures { Puts result out.old.items (spaced ((context.now ++ codes ";") ∷ problem.now ∷ [])) out.new.items }
 {
     put_part(out, context)?;
     put_text(out, ";")?;
-    put_part(out, problem)?;
-    put_text(out, "\n")
+    put_part(out, problem)
 }
 
 fn put_scanner_fault(
@@ -72,7 +72,8 @@ fn put_scanner_fault(
     put_text(out, "FAULT scanner")?;
     put_mark(out, context_mark)?;
     put_mark(out, problem_mark)?;
-    put_problem(out, context, problem)
+    put_texts(out, context, problem)?;
+    put_text(out, "\n")
 }
 
 fn put_fault(out: &mut Vec<u8>, fault: &yaml_fault_t) -> Result<(), AllocError>

@@ -1,11 +1,12 @@
-use Rattle.std.proofs.Common.{◌≡◌, ◌++◌, ◌≤◌, ◌^◌, ◌<◌, drop}
+use Rattle.std.proofs.Common.{◌≡◌, ◌++◌, ◌+◌, ◌≤◌, ◌^◌, ◌<◌, drop}
 use Rattle.std.specs.Fmt.{decimal}
 use Rattle.yamltok.proofs.put.set_digits.Given as goal
 
--- the digits so far stand behind those of the number that is left
+-- the digits so far stand behind those of the number that is left, for which there is room
 abbrev pub invariant-digits : goal.invariant-digits
 invariant-digits l = record {
   within : l.at ≤ l.end;
+  room : l.end + 1 ≤ l.at + 20;
   fits : l.left < 2 ^ 64;
   written : decimal l.left ++ drop l.at l.buffer ≡ decimal l.number ++ drop l.end l.fn.buffer;
 }
