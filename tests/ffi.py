@@ -76,7 +76,8 @@ def c_layout(room):
     with open(path + ".c", "w", encoding="ascii") as text:
         text.write('#include "yaml_c.h"\n#include <stdio.h>\nint main(void) {\n' + "\n".join(lines) + "\nreturn 0;\n}\n")
     subprocess.run(["cc", "-Wall", "-Werror", "-I", FFI, path + ".c", "-o", path], check=True)
-    subprocess.run(["cc", "-x", "c++", "-Wall", "-Werror", "-fsyntax-only", os.path.join(FFI, "yaml_c.h")], check=True) if cxx() else None
+    if shutil.which("c++"):
+        subprocess.run(["c++", "-x", "c++", "-Wall", "-Werror", "-fsyntax-only", os.path.join(FFI, "yaml_c.h")], check=True)
     return subprocess.run([path], check=True, capture_output=True, text=True).stdout.split("\n")[:-1]
 
 
@@ -97,8 +98,13 @@ def rust_layout(room):
     return subprocess.run([path], check=True, capture_output=True, text=True).stdout.split("\n")[:-1]
 
 
-def cxx():
-    return shutil.which("c++") is not None
+def has_rust():
+    """Whether there is a Rust compiler of at least 1.82, which knows `unsafe extern`."""
+    if shutil.which("rustc") is None:
+        return False
+    told = subprocess.run(["rustc", "--version"], capture_output=True, text=True).stdout
+    found = re.match(r"rustc (\d+)\.(\d+)", told)
+    return bool(found) and (int(found[1]), int(found[2])) >= (1, 82)
 
 
 def build_rust(text, path):
@@ -337,9 +343,9 @@ def main():
         return 0
     subprocess.run([os.path.join(FFI, "build")], check=True)
     every = list(vectors())
-    rust = shutil.which("rustc") is not None
+    rust = has_rust()
     if not rust:
-        print("ffi: Rust skipped: no rustc")
+        print("ffi: Rust skipped: no rustc of 1.82 or later")
     with tempfile.TemporaryDirectory() as room:
         programs = [build_c(room)]
         if rust:

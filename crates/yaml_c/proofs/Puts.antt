@@ -18,8 +18,10 @@ records_of_held n (t ∷ ts) =
     let k = length (texts_of t) in
     let same : held (held n) ≡ held n = omega arith in
     let here : record_of (held n) t ≡ record_of n t = ap (λ (m : ℕ). record (record_of n t) { text_at = m }) same in
-    let rest : records_of (held n + k) ts ≡ records_of (n + k) ts = sym (records_of_held (held n + k) ts) ∙ ap (λ (m : ℕ). records_of m ts) (held_held n k) ∙ records_of_held (n + k) ts in
-    ap (λ (r : yaml_c_token). r ∷ records_of (held n + k) ts) here ∙ ap (λ (rs : List yaml_c_token). record_of n t ∷ rs) rest
+    let rest : records_of (held n + k) ts ≡ records_of (n + k) ts = sym (records_of_held (held n + k) ts)
+    ∙ ap (λ (m : ℕ). records_of m ts) (held_held n k) ∙ records_of_held (n + k) ts in
+    ap (λ (r : yaml_c_token). r ∷ records_of (held n + k) ts) here
+    ∙ ap (λ (rs : List yaml_c_token). record_of n t ∷ rs) rest
 
 -- rooms and counts as a machine has them
 pub record Fits (a : token_rooms_t) : Type 0 where
@@ -38,8 +40,10 @@ pub record HavePut (a : token_rooms_t) (list : List Token) (b : token_rooms_t) :
 
 fits_on : (a b : token_rooms_t) (t : Token) → Fits a → IsPut a t b → Fits b
 fits_on a b t fits put =
-    let one : length b.tokens.now ≡ length a.tokens.now = ap length put.records ∙ length-covered_from a.token_count (record_of a.text_len t ∷ []) a.tokens.now in
-    let two : length b.texts.now ≡ length a.texts.now = ap length put.texts ∙ length-covered_from a.text_len (texts_of t) a.texts.now in
+    let one : length b.tokens.now ≡ length a.tokens.now = ap length put.records
+    ∙ length-covered_from a.token_count (record_of a.text_len t ∷ []) a.tokens.now in
+    let two : length b.texts.now ≡ length a.texts.now = ap length put.texts
+    ∙ length-covered_from a.text_len (texts_of t) a.texts.now in
     record { tokens = omega arith; texts = omega arith; token_count = omega arith; text_len = omega arith }
 
 none_put : (a : token_rooms_t) → Fits a → HavePut a [] a
@@ -52,7 +56,8 @@ none_put a fits = record {
   texts = sym (covered_from_by_none a.text_len a.texts.now);
 }
 
-one_more : (a m b : token_rooms_t) (t : Token) (ts : List Token) → Fits a → IsPut a t m → HavePut m ts b → HavePut a (t ∷ ts) b
+one_more : (a m b : token_rooms_t) (t : Token) (ts : List Token) → Fits a → IsPut a t m → HavePut m ts b
+    → HavePut a (t ∷ ts) b
 one_more a m b t ts fits put more =
     let k = length (texts_of t) in
     let sum : length (all_texts (t ∷ ts)) ≡ k + length (all_texts ts) = length-append (texts_of t) (all_texts ts) in
@@ -79,4 +84,5 @@ one_more a m b t ts fits put more =
 -- what a list of tokens leaves
 pub have_put : (a b : token_rooms_t) (list : List Token) → Fits a → ArePut a list b → HavePut a list b
 have_put a b [] fits put = subst (λ (z : token_rooms_t). HavePut a [] z) (sym put) (none_put a fits)
-have_put a b (t ∷ ts) fits put = one_more a put.0 b t ts fits put.1 (have_put put.0 b ts (fits_on a put.0 t fits put.1) put.2)
+have_put a b (t ∷ ts) fits put =
+    one_more a put.0 b t ts fits put.1 (have_put put.0 b ts (fits_on a put.0 t fits put.1) put.2)

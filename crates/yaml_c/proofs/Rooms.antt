@@ -23,16 +23,24 @@ covered_from_by_none (suc at) [] = refl
 covered_from_by_none (suc at) (y ∷ room) = ap (λ z. y ∷ z) (covered_from_by_none at room)
 
 -- one list behind another, from the beginning
-more_covered : {A : Type 0} → (xs ys room : List A) → covered_from (length xs) ys (covered xs room) ≡ covered (xs ++ ys) room
+more_covered : {A : Type 0} → (xs ys room : List A)
+    → covered_from (length xs) ys (covered xs room) ≡ covered (xs ++ ys) room
 more_covered [] ys room = ap (λ z. covered ys z) (covered_by_none room)
 more_covered (x ∷ xs) ys [] = covered_nowhere ys
 more_covered (x ∷ xs) ys (y ∷ room) = ap (λ z. x ∷ z) (more_covered xs ys room)
 
 -- the same, from any place on
-pub more_covered_from : {A : Type 0} → (at : ℕ) (xs ys room : List A) → covered_from (at + length xs) ys (covered_from at xs room) ≡ covered_from at (xs ++ ys) room
+pub more_covered_from : {A : Type 0} → (at : ℕ) (xs ys room : List A)
+    → covered_from (at + length xs) ys (covered_from at xs room) ≡ covered_from at (xs ++ ys) room
 more_covered_from zero xs ys room = rw (zero-add (length xs)) (more_covered xs ys room)
-more_covered_from (suc at) xs ys [] = rw (covered_from_nowhere (suc at) xs, covered_from_nowhere (suc at + length xs) ys, covered_from_nowhere (suc at) (xs ++ ys)) refl
-more_covered_from (suc at) xs ys (y ∷ room) = rw (suc-add at (length xs)) (ap (λ z. y ∷ z) (more_covered_from at xs ys room))
+more_covered_from (suc at) xs ys [] =
+    rw (
+      covered_from_nowhere (suc at) xs,
+      covered_from_nowhere (suc at + length xs) ys,
+      covered_from_nowhere (suc at) (xs ++ ys),
+    ) refl
+more_covered_from (suc at) xs ys (y ∷ room) =
+    rw (suc-add at (length xs)) (ap (λ z. y ∷ z) (more_covered_from at xs ys room))
 
 pub length-covered : {A : Type 0} → (xs room : List A) → length (covered xs room) ≡ length room
 length-covered xs [] = ap length (covered_nowhere xs)
@@ -51,41 +59,53 @@ covered_past zero xs (y ∷ room) h = absurd (omega arith)
 covered_past (suc at) xs (y ∷ room) h = ap (λ z. y ∷ z) (covered_past at xs room (omega arith))
 
 -- no room reaches the greatest number of 64 bits
-pub covered_held : {A : Type 0} → (at : ℕ) (xs room : List A) → length room < 2 ^ 63 → covered_from (held at) xs room ≡ covered_from at xs room
+pub covered_held : {A : Type 0} → (at : ℕ) (xs room : List A) → length room < 2 ^ 63
+    → covered_from (held at) xs room ≡ covered_from at xs room
 covered_held at xs room h = elim (cases_lt at (2 ^ 64)) [
   | inl low ↦ let same : held at ≡ at = omega arith in ap (λ n. covered_from n xs room) same
-  | inr high ↦ let past : length room ≤ held at = omega arith in covered_past (held at) xs room past ∙ sym (covered_past at xs room (omega arith))
+  | inr high ↦ let past : length room ≤ held at = omega arith in covered_past (held at) xs room past
+      ∙ sym (covered_past at xs room (omega arith))
 ]
 
 -- a record that is written in its place
-pub covered_by_one : {A : Type 0} → (at : ℕ) (x : A) (room : List A) → at < length room → slice_set room at x ≡ covered_from at (x ∷ []) room
+pub covered_by_one : {A : Type 0} → (at : ℕ) (x : A) (room : List A) → at < length room
+    → slice_set room at x ≡ covered_from at (x ∷ []) room
 covered_by_one at x [] h = absurd (omega arith)
 covered_by_one zero x (y ∷ room) h = ap (λ z. x ∷ z) (sym (covered_by_none room))
 covered_by_one (suc at) x (y ∷ room) h = ap (λ z. y ∷ z) (covered_by_one at x room (omega arith))
 
 -- as much of a list as there is room for
-covered_by_part : {A : Type 0} → (n : ℕ) (xs room : List A) → n ≤ length room → n ≤ length xs → (n < length room → length xs ≤ n) → take n xs ++ drop n room ≡ covered xs room
+covered_by_part : {A : Type 0} → (n : ℕ) (xs room : List A) → n ≤ length room → n ≤ length xs
+    → (n < length room → length xs ≤ n) → take n xs ++ drop n room ≡ covered xs room
 covered_by_part zero [] room h k full = sym (covered_by_none room)
 covered_by_part zero (x ∷ xs) [] h k full = sym (covered_nowhere (x ∷ xs))
 covered_by_part zero (x ∷ xs) (y ∷ room) h k full = absurd (omega arith)
 covered_by_part (suc n) [] room h k full = absurd (omega arith)
 covered_by_part (suc n) (x ∷ xs) [] h k full = absurd (omega arith)
-covered_by_part (suc n) (x ∷ xs) (y ∷ room) h k full = ap (λ z. x ∷ z) (covered_by_part n xs room (omega arith) (omega arith) (λ low. omega (arith, full)))
+covered_by_part (suc n) (x ∷ xs) (y ∷ room) h k full =
+    ap (λ z. x ∷ z) (covered_by_part n xs room (omega arith) (omega arith) (λ low. omega (arith, full)))
 
-pub covered_by_copy : {A : Type 0} → (at n : ℕ) (xs room : List A) → at < length room → n ≡ min (length room - at) (length xs) → take at room ++ (take n xs ++ drop n (drop at room)) ≡ covered_from at xs room
+pub covered_by_copy : {A : Type 0} → (at n : ℕ) (xs room : List A) → at < length room
+    → n ≡ min (length room - at) (length xs)
+    → take at room ++ (take n xs ++ drop n (drop at room)) ≡ covered_from at xs room
 covered_by_copy at n xs room h e =
     let size : length (drop at room) ≡ length room - at = length-drop at room in
     ap (λ z. take at room ++ z) (covered_by_part n xs (drop at room) (omega arith) (omega arith) (λ low. omega arith))
 
 -- two texts, one put behind the other
-pub both_covered : {A : Type 0} → (at behind : ℕ) (f s first second old mid new : List A) → f ≡ first → s ≡ second → length old < 2 ^ 63 → behind ≡ held (at + length f)
+pub both_covered : {A : Type 0} → (at behind : ℕ) (f s first second old mid new : List A) → f ≡ first
+    → s ≡ second → length old < 2 ^ 63 → behind ≡ held (at + length f)
     → mid ≡ covered_from at f old → new ≡ covered_from behind s mid → new ≡ covered_from at (first ++ second) old
 both_covered at behind f s first second old mid new ef es low eb em en =
     let same : length mid ≡ length old = ap length em ∙ length-covered_from at f old in
     let room : length mid < 2 ^ 63 = omega arith in
-    en ∙ ap (λ n. covered_from n s mid) eb ∙ covered_held (at + length f) s mid room ∙ ap (λ z. covered_from (at + length f) s z) em ∙ more_covered_from at f s old ∙ ap (λ z. covered_from at (z ++ s) old) ef ∙ ap (λ z. covered_from at (first ++ z) old) es
+    en ∙ ap (λ n. covered_from n s mid) eb ∙ covered_held (at + length f) s mid room
+    ∙ ap (λ z. covered_from (at + length f) s z) em ∙ more_covered_from at f s old
+    ∙ ap (λ z. covered_from at (z ++ s) old) ef ∙ ap (λ z. covered_from at (first ++ z) old) es
 
-pub both_counted : {A : Type 0} → (at behind end : ℕ) (f s first second : List A) → f ≡ first → s ≡ second → behind ≡ held (at + length f) → end ≡ held (behind + length s) → end ≡ held (at + length (first ++ second))
+pub both_counted : {A : Type 0} → (at behind end : ℕ) (f s first second : List A) → f ≡ first → s ≡ second
+    → behind ≡ held (at + length f) → end ≡ held (behind + length s)
+    → end ≡ held (at + length (first ++ second))
 both_counted at behind end f s first second ef es eb ee =
     let lf : length f ≡ length first = ap length ef in
     let ls : length s ≡ length second = ap length es in
@@ -93,13 +113,15 @@ both_counted at behind end f s first second ef es eb ee =
     omega arith
 
 -- a list that there is room for
-pub covered_whole : {A : Type 0} → (xs room : List A) → length xs ≤ length room → covered xs room ≡ xs ++ drop (length xs) room
+pub covered_whole : {A : Type 0} → (xs room : List A) → length xs ≤ length room
+    → covered xs room ≡ xs ++ drop (length xs) room
 covered_whole [] room h = covered_by_none room
 covered_whole (x ∷ xs) [] h = absurd (omega arith)
 covered_whole (x ∷ xs) (y ∷ room) h = ap (λ z. x ∷ z) (covered_whole xs room (omega arith))
 
 -- one that there is not
-pub covered_short : {A : Type 0} → (xs room : List A) → length room ≤ length xs → covered xs room ≡ take (length room) xs
+pub covered_short : {A : Type 0} → (xs room : List A) → length room ≤ length xs
+    → covered xs room ≡ take (length room) xs
 covered_short xs [] h = covered_nowhere xs
 covered_short [] (y ∷ room) h = absurd (omega arith)
 covered_short (x ∷ xs) (y ∷ room) h = ap (λ z. x ∷ z) (covered_short xs room (omega arith))

@@ -14,7 +14,9 @@ use Rattle.yaml_c.specs.Sink.{ArePut}
 use Rattle.yaml_c.proofs.Puts.{Fits, have_put}
 use Rattle.yaml_c.proofs.Rooms.{covered_held, length-covered_from, more_covered_from}
 
-pub are_scanned : (setting e : yaml_encoding_t) (limit : ℕ) (input : List ℕ) (a b : token_rooms_t) (fault : Option Fault) (tokens : List yaml_c_token) (texts last : List ℕ) (answer : yaml_c_answer) (status : ℕ)
+pub are_scanned : (setting e : yaml_encoding_t) (limit : ℕ) (input : List ℕ)
+    (a b : token_rooms_t) (fault : Option Fault)
+    (tokens : List yaml_c_token) (texts last : List ℕ) (answer : yaml_c_answer) (status : ℕ)
     → setting ≡ e → Fits a → a.token_count ≡ 0 → a.text_len ≡ 0
     → IsGivenAll (λ list. ArePut a list b) limit setting input fault
     → (a.tokens.ghost_name ≡ b.tokens.ghost_name → tokens ≡ b.tokens.now)
@@ -22,21 +24,25 @@ pub are_scanned : (setting e : yaml_encoding_t) (limit : ℕ) (input : List ℕ)
     → last ≡ covered_from b.text_len (fault_texts fault) b.texts.now
     → answer ≡ answer_with b.token_count b.text_len fault
     → status ≡ status_of fault
-    → IsScanned e limit input (record { tokens = a.tokens.now; texts = a.texts.now }) (record { tokens = tokens; texts = texts }) answer status
-are_scanned setting e limit input a b fault tokens texts last answer status same fits no_token no_text given is_tokens is_texts is_last is_answer is_status =
+    → IsScanned e limit input (record { tokens = a.tokens.now; texts = a.texts.now })
+    (record { tokens = tokens; texts = texts }) answer status
+are_scanned setting e limit input a b fault tokens texts last answer status
+    same fits no_token no_text given is_tokens is_texts is_last is_answer is_status =
     let list = given.tokens in
     let words = all_texts list in
     let put = have_put a b list fits given.given in
     let count : b.token_count ≡ held (length list) = omega (arith, put.token_count) in
     let size : b.text_len ≡ held (length words) = omega (arith, put.text_len) in
-    let kept : length b.texts.now ≡ length a.texts.now = ap length put.texts ∙ length-covered_from a.text_len words a.texts.now in
+    let kept : length b.texts.now ≡ length a.texts.now = ap length put.texts
+    ∙ length-covered_from a.text_len words a.texts.now in
     let room : length b.texts.now < 2 ^ 63 = omega (arith, fits.texts, kept) in
     record {
       list = list;
       fault = fault;
       reads = subst (λ (z : yaml_encoding_t). ReadsAll limit z input list fault) same given.reads;
       status_is = is_status;
-      answer_is = is_answer ∙ ap (λ (n : ℕ). answer_with n b.text_len fault) count ∙ ap (λ (n : ℕ). answer_with (held (length list)) n fault) size;
+      answer_is = is_answer ∙ ap (λ (n : ℕ). answer_with n b.text_len fault) count
+          ∙ ap (λ (n : ℕ). answer_with (held (length list)) n fault) size;
       records_are = is_tokens (sym put.same_tokens) ∙ put.records
           ∙ ap (λ (n : ℕ). covered_from n (records_of a.text_len list) a.tokens.now) no_token
           ∙ ap (λ (n : ℕ). covered_from 0 (records_of n list) a.tokens.now) no_text;
