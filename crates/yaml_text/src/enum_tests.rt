@@ -1,5 +1,6 @@
 //! The numbers and the order of the variants of the enums, and the words of errors and faults.
 use super::*;
+use crate::fault::make_memory_fault;
 use std::hash::{DefaultHasher, Hash, Hasher};
 use std::process::Abort;
 use std::test::Fail;

@@ -1,4 +1,5 @@
 use super::*;
+use crate::fault::make_memory_fault;
 use crate::utf8::push_char;
 use std::alloc::Global;
 use std::test::Fail;
