@@ -14,15 +14,19 @@ use Rattle.yaml_scan.specs.Session.{settled, pace, all_steps, first_steps, sessi
 use Rattle.yaml_scan.specs.Inputs.{decoded_input}
 use Rattle.yaml_scan.specs.Scanning.{Runs, IsOpen, history, course_of, input_of}
 use Rattle.yaml_scan.specs.Parser.{Parser}
+use Rattle.yaml_scan.specs.Groups.{IsLead}
 
 -- nothing was read yet
 pub record IsNew (s : scanner_t) : Type 0 where
-  pub levels : s.levels.items ≡ []
-  pub outer : s.outer.items ≡ []
-  pub empty : s.not_simple_keys ≡ 0
-  pub top : s.top ≡ None
+  pub levels : s.layout.levels.items ≡ []
+  pub outer : s.slots.outer.items ≡ []
+  pub empty : s.slots.not_simple_keys ≡ 0
+  pub top : s.slots.top ≡ None
+  pub awaited : s.slots.awaited ≡ 0
   pub allowed : s.allowed ≡ true
-  pub queue : s.queue.items ≡ []
+  pub queue : s.layout.queue.groups.items ≡ []
+  pub done : s.layout.queue.done ≡ 0
+  pub early : s.layout.queue.early ≡ 0
   pub reach : s.reach ≡ zero_mark
   pub taken : s.taken ≡ 0
   pub made : s.made ≡ 0
@@ -53,11 +57,13 @@ pub record IsSettled (setting : yaml_encoding_t) (input : List ℕ) (s t : scann
   pub made : t.made ≡ pace s.limit (course_in s.limit setting input).read s.taken s.made
   pub limit : t.limit ≡ s.limit
   pub taken : t.taken ≡ s.taken
+  pub done : t.layout.queue.done ≡ s.layout.queue.done
 
 -- a scanner that has stopped: no more steps were made than the next token asks for, and another one was asked for
 pub record IsStopped (setting : yaml_encoding_t) (input : List ℕ) (s t : scanner_t) : Type 0 where
   pub limit : t.limit ≡ s.limit
   pub taken : t.taken ≡ s.taken
+  pub done : t.layout.queue.done ≡ s.layout.queue.done
   pub least : s.made ≤ t.made
   pub most : t.made ≤ pace s.limit (course_in s.limit setting input).read s.taken s.made
   pub unsettled : settled s.limit (course_in s.limit setting input).read s.taken t.made ≡ false
@@ -100,8 +106,9 @@ pub record Sound (p : Inside) : Type 0 where
   pub peeked : p.peeked ≡ true → (p.over ≡ false) × IsShown p.setting p.input.now p.scanner
   pub reach : p.scanner.reach ≡ reach (first_steps p.scanner.made (course_in p.scanner.limit p.setting p.input.now).read)
   pub empty : p.empty ≡ empty
+  pub lead : p.peeked ≡ true → IsLead p.scanner.text.encoding p.scanner.layout.queue p.lead
   pub limit : p.scanner.limit ≤ 65536
-  pub queued : session_queued (course_in p.scanner.limit p.setting p.input.now) (parser_of p).session + p.done ≡ p.scanner.made
+  pub queued : session_queued (course_in p.scanner.limit p.setting p.input.now) (parser_of p).session + p.scanner.layout.queue.done ≡ p.scanner.made
   pub few : session_queued (course_in p.scanner.limit p.setting p.input.now) (parser_of p).session ≤ p.scanner.limit + 1
 
 -- STREAM-START was made
@@ -111,6 +118,7 @@ pub record Begins (setting : yaml_encoding_t) (input : List ℕ) (s t : scanner_
   pub made : t.made ≡ 1
   pub limit : t.limit ≡ s.limit
   pub taken : t.taken ≡ s.taken
+  pub done : t.layout.queue.done ≡ s.layout.queue.done
 
 -- the first step was made, now or before
 pub record IsStarted (setting : yaml_encoding_t) (input : List ℕ) (s t : scanner_t) : Type 0 where
@@ -119,3 +127,4 @@ pub record IsStarted (setting : yaml_encoding_t) (input : List ℕ) (s t : scann
   pub made : t.made ≡ max 1 s.made
   pub limit : t.limit ≡ s.limit
   pub taken : t.taken ≡ s.taken
+  pub done : t.layout.queue.done ≡ s.layout.queue.done

@@ -14,7 +14,7 @@ ghost use Rattle.yaml_text.specs.Utf8.{continues};
 
 /// The least index whose place has fewer than eight characters behind it.
 pub(crate) fn near_from(bytes: &[u8]) -> u64
-    ensures small { length bytes.now + 1 < 2 ^ 64 }
+    ensures small { length bytes.now < 2 ^ 63 }
     ensures near { (cs : List ℕ) → AreChars cs → bytes.now ≡ utf8 cs → IsNearFrom cs result }
 {
     let mut at = bytes.len();

@@ -9,8 +9,10 @@ ghost use Rattle.yaml_scan.specs.Ready.{IsNew, IsReady, IsSettled, IsStopped, Is
 ghost use Rattle.yaml_scan.specs.Parser.{Scans};
 ghost use Rattle.yaml_scan.specs.Token.{is_last_type, type_of};
 
+use crate::keys::slots_t;
 use crate::near::near_from;
-use crate::queue::{put_stream_start, queued_t};
+use crate::levels::layout_t;
+use crate::queue::{has_lead, lead, put_stream_start, queue_t, take_next};
 use crate::run::settle_head;
 use crate::step::scanner_t;
 use std::alloc::Global;
@@ -31,12 +33,12 @@ pub struct yaml_parser_t<'a> {
     input: &'a [u8],
     setting: yaml_encoding_t,
     scanner: scanner_t<'a>,
-    /// How many steps have no token left to take.
-    done: u128,
     peeked: bool,
     over: bool,
     fault: Option<yaml_fault_t>,
     empty: yaml_token_t,
+    /// The token that is shown, where the head of the queue hands out one before its own.
+    lead: yaml_token_t,
 }
 
 impl<'a> Model for yaml_parser_t<'a> {
@@ -62,22 +64,33 @@ fn new_scanner<'a>(alloc: Global, limit: u64) -> scanner_t<'a>
     ensures new { IsNew result }
     ensures limit { result.limit ≡ limit }
 {
+    let zero = yaml_mark_t {
+        index: 0,
+        line: 0,
+        column: 0,
+    };
     scanner_t {
         text: empty_text(alloc),
         refusal: None,
         near: 0,
         limit,
-        levels: Vec::new(alloc),
-        outer: Vec::new(alloc),
-        not_simple_keys: 0,
-        top: None,
-        allowed: true,
-        queue: VecDeque::new(alloc),
-        reach: yaml_mark_t {
-            index: 0,
-            line: 0,
-            column: 0,
+        slots: slots_t {
+            outer: Vec::new(alloc),
+            not_simple_keys: 0,
+            top: None,
+            awaited: 0,
         },
+        allowed: true,
+        layout: layout_t {
+            levels: Vec::new(alloc),
+            queue: queue_t {
+                groups: VecDeque::new(alloc),
+                done: 0,
+                early: 0,
+                front: zero,
+            },
+        },
+        reach: zero,
         taken: 0,
         made: 0,
     }
@@ -109,7 +122,7 @@ fn begin<'a>(
     if let Some(fault) = near_start(refusal, near) {
         return Err(fault);
     }
-    put_stream_start(&mut scanner.queue, encoding)?;
+    put_stream_start(&mut scanner.layout.queue, encoding)?;
     scanner.text = text;
     scanner.refusal = refusal;
     scanner.near = near;
@@ -188,9 +201,8 @@ fn take_head(scanner: &mut scanner_t) -> yaml_token_t
     requires settled { scanner.old.taken < length (before scanner.old.limit (history scanner.old)) }
     ensures { Pops scanner.old scanner.new result }
 {
-    let queued = scanner.queue.pop_front().unwrap();
     scanner.taken += 1;
-    queued.token
+    take_next(&mut scanner.layout.queue)
 }
 
 pub(crate) fn is_stream_end(token: &yaml_token_t) -> bool
@@ -223,11 +235,11 @@ impl<'a> yaml_parser_t<'a> {
             input,
             setting,
             scanner: new_scanner(alloc, limit as u64),
-            done: 0,
             peeked: false,
             over: false,
             fault: None,
             empty: yaml_token_t::empty(),
+            lead: yaml_token_t::empty(),
         }
     }
 }
@@ -236,10 +248,12 @@ impl<'a> yaml_parser_t<'a> {
 fn shown<'s>(parser: &'s yaml_parser_t<'_>) -> &'s yaml_token_t
     ensures { result.now ≡ token_shown parser.now }
 {
-    if parser.peeked {
-        &parser.scanner.queue.front().unwrap().token
-    } else {
+    if !parser.peeked {
         &parser.empty
+    } else if has_lead(&parser.scanner.layout.queue) {
+        &parser.lead
+    } else {
+        &parser.scanner.layout.queue.groups.front().unwrap().token
     }
 }
 
@@ -260,6 +274,7 @@ pub(crate) fn show(parser: &mut yaml_parser_t) -> Result<(), yaml_fault_t>
         parser.peeked,
     ) {
         Ok(_) => {
+            parser.lead = lead(&parser.scanner.layout.queue);
             parser.peeked = true;
             Ok(())
         }
@@ -274,19 +289,6 @@ pub(crate) fn show(parser: &mut yaml_parser_t) -> Result<(), yaml_fault_t>
 
 ghost use Rattle.yaml_scan.specs.Parser.{Shows};
 
-/// How many steps have no token left to take.
-fn steps_done(scanner: &scanner_t) -> u128
-    requires { Runs scanner.now }
-    ensures { queued (history scanner.now) scanner.now.taken (history scanner.now) + result ≡ scanner.now.made }
-{
-    match scanner.queue.front() {
-        Some(queued) => queued.step - 1,
-        None => scanner.made,
-    }
-}
-
-ghost use Rattle.yaml_scan.specs.Offline.{queued};
-
 /// Takes the token that was shown.
 fn take_shown(parser: &mut yaml_parser_t) -> yaml_token_t
     requires { parser.old.session.peeked ≡ true }
@@ -294,7 +296,6 @@ fn take_shown(parser: &mut yaml_parser_t) -> yaml_token_t
     ensures left { parser.new ≡ behind parser.old SKIP }
 {
     let token = take_head(&mut parser.scanner);
-    parser.done = steps_done(&parser.scanner);
     parser.peeked = false;
     parser.over = is_stream_end(&token);
     token
@@ -317,9 +318,25 @@ pub fn yaml_parser_scan(parser: &mut yaml_parser_t) -> Result<yaml_token_t, yaml
     if parser.over {
         return Ok(yaml_token_t::empty());
     }
-    match show(parser) {
-        Ok(_) => Ok(take_shown(parser)),
-        Err(fault) => Err(fault),
+    match look(
+        parser.alloc,
+        &mut parser.scanner,
+        parser.input,
+        parser.setting,
+        parser.peeked,
+    ) {
+        Ok(_) => {
+            let token = take_head(&mut parser.scanner);
+            parser.peeked = false;
+            parser.over = is_stream_end(&token);
+            Ok(token)
+        }
+        Err(fault) => {
+            parser.peeked = false;
+            parser.over = true;
+            parser.fault = Some(fault);
+            Err(fault)
+        }
     }
 }
 
@@ -384,7 +401,7 @@ pub fn yaml_parser_queued(parser: &yaml_parser_t) -> u64
     ensures steps { result ≡ session_queued (course_read parser.now) parser.now.session }
     ensures few { result ≤ parser.now.limit + 1 }
 {
-    (parser.scanner.made - parser.done) as u64
+    parser.scanner.made - parser.scanner.layout.queue.done
 }
 
 ghost use Rattle.yaml_scan.specs.Session.{session_queued, session_reach};

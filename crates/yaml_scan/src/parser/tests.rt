@@ -8,12 +8,12 @@ fn counter_rises_past_a_stale_slot(rt: HostRuntime) -> Result<(), Fail> {
     let mut parser = yaml_parser_t::new(rt.alloc(), b"[\"x\ny\", z: w]", any);
     let token = yaml_parser_scan(&mut parser).map_err(|_| "a fault")?;
     assert_eq!(rt; token.type_(), yaml_token_type_t::YAML_STREAM_START_TOKEN);
-    assert_eq!(rt; parser.scanner.not_simple_keys, 0);
+    assert_eq!(rt; parser.scanner.slots.not_simple_keys, 0);
     let token = yaml_parser_peek(&mut parser).map_err(|_| "a fault")?;
     assert_eq!(rt;
         token.type_(),
         yaml_token_type_t::YAML_FLOW_SEQUENCE_START_TOKEN
     );
-    assert_eq!(rt; parser.scanner.not_simple_keys, 1);
+    assert_eq!(rt; parser.scanner.slots.not_simple_keys, 1);
     Ok(())
 }

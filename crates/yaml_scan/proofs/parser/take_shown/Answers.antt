@@ -6,6 +6,7 @@ use Rattle.yaml_scan.specs.Parser.{Parser}
 use Rattle.yaml_scan.specs.Ready.{parser_of}
 use Rattle.yaml_scan.proofs.Scans.{shown_settled, stands_u, open_u, last_is, take_told_of, take_left_of, shown_session}
 use Rattle.yaml_scan.proofs.Keeps.{keeps_taken, reach_in}
+use Rattle.yaml_scan.proofs.Waits.{done_is}
 use Rattle.yaml_scan.proofs.parser.take_shown.Goals as goal
 
 pub invariant_of-parser : goal.invariant_of-parser
@@ -13,10 +14,11 @@ invariant_of-parser c = let i = c.parser.inside in let v = c.parser.invariant in
     let s = i.scanner in let u = c.take_head-token.new.scanner in let x = c.take_head-token.result in let p = c.take_head-token.ensures in
     let k = shown_settled i.setting i.input.now s (v.peeked (ap (λ (z : Parser). z.session.peeked) c.parser.view_is ∙ c.requires)).1 in
     let t = stands_u i.setting i.input.now s s u x k p in
-    let w = keeps_taken i.setting i.input.now s u x p t c.steps_done-parser-inside.result i.done (record { queued = v.queued; few = v.few }) c.steps_done-parser-inside.ensures in
+    let w = keeps_taken i.setting i.input.now s u x p t u.layout.queue.done s.layout.queue.done (record { queued = v.queued; few = v.few }) (done_is u p.runs) in
     record {
       ready = λ n. inr (t, open_u i.setting i.input.now s s u x k p (sym (last_is i.setting i.input.now s s u x k p) ∙ sym c.is_stream_end-parser-inside.ensures ∙ n));
       peeked = λ n. absurd (false≢true n);
+      lead = λ n. absurd (false≢true n);
       reach = reach_in i.setting i.input.now u t;
       empty = v.empty;
       limit = (let a = v.limit in let b = p.limit in omega arith);

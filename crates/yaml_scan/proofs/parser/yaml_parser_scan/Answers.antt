@@ -1,21 +1,71 @@
-use Rattle.std.proofs.Common.{Ok, Err, sym, ap, ◌∙◌}
+use Rattle.std.proofs.Common.{◌≡◌, Ok, Err, Some, true, false, refl, sym, ap, ◌∙◌, inr, arith}
+use Rattle.std.specs.Prelude.{option_map}
+use Rattle.std.proofs.lemmas.Bool.{false≢true}
+use Rattle.yaml_text.specs.Fault.{fault_of}
 use Rattle.yaml_scan.specs.Parser.{Parser, Scans, told}
+use Rattle.yaml_scan.specs.Ready.{parser_of, IsShown}
 use Rattle.yaml_scan.specs.Session.Call.{SCAN}
 use Rattle.yaml_scan.proofs.InputLaws.{late_faults}
-use Rattle.yaml_scan.proofs.Scans.{scan_shown, scan_not_shown, bare, early}
+use Rattle.yaml_scan.proofs.Scans.{show_token, show_fault_of, open_session, shown_settled, stands_u, open_u, last_is, take_told_of, take_left_of, scan_shown, scan_not_shown, bare, early}
+use Rattle.yaml_scan.proofs.Keeps.{stands_ready, keeps_settled, keeps_stopped, keeps_taken, reach_in, reach_stopped}
+use Rattle.yaml_scan.proofs.Waits.{done_is}
 use Rattle.yaml_scan.proofs.parser.yaml_parser_scan.Goals as goal
 
+pub invariant_of-parser : goal.invariant_of-parser
+invariant_of-parser c = let i = c.parser.inside in let v = c.parser.invariant in let g = c.in-Ok.ensures in
+    let t = c.look.new.scanner in let u = c.take_head-token.new.scanner in let x = c.take_head-token.result in let p = c.take_head-token.ensures in
+    let h : IsShown i.setting i.input.now t = record { stands = g.stands; still_open = g.still_open; settled = g.settled } in
+    let k = shown_settled i.setting i.input.now t h in
+    let b = stands_u i.setting i.input.now t t u x k p in
+    let n = keeps_settled i.setting i.input.now i.scanner t g (stands_ready i.setting i.input.now i.scanner (v.ready c.if-parser.false)) i.scanner.layout.queue.done (record { queued = v.queued; few = v.few }) in
+    let w = keeps_taken i.setting i.input.now t u x p b u.layout.queue.done i.scanner.layout.queue.done n (done_is u p.runs) in
+    record {
+      ready = λ n. inr (b, open_u i.setting i.input.now t t u x k p (sym (last_is i.setting i.input.now t t u x k p) ∙ sym c.is_stream_end-parser-inside.ensures ∙ n));
+      peeked = λ n. absurd (false≢true n);
+      lead = λ n. absurd (false≢true n);
+      reach = reach_in i.setting i.input.now u b;
+      empty = v.empty;
+      limit = (let a = v.limit in let b = p.limit in let d = g.limit in omega arith);
+      queued = w.queued;
+      few = w.few;
+    }
+
+pub invariant_of-parser-in-Err : goal.invariant_of-parser-in-Err
+invariant_of-parser-in-Err c = let i = c.parser.inside in let v = c.parser.invariant in let k = c.in-Err.ensures.1 in
+    let w = keeps_stopped i.setting i.input.now i.scanner c.look.new.scanner k (stands_ready i.setting i.input.now i.scanner (v.ready c.if-parser.false)) i.scanner.layout.queue.done (record { queued = v.queued; few = v.few }) in
+    record {
+      ready = λ n. absurd (false≢true (sym n));
+      peeked = λ n. absurd (false≢true n);
+      lead = λ n. absurd (false≢true n);
+      reach = reach_stopped i.setting i.input.now i.scanner c.look.new.scanner k;
+      empty = v.empty;
+      limit = (let a = v.limit in let b = k.limit in omega arith);
+      queued = (let a = w.queued in let b = k.done in omega arith);
+      few = w.few;
+    }
+
 pub returns-in-Ok : goal.returns-in-Ok
-returns-in-Ok c =
+returns-in-Ok c = let i = c.parser.inside in let g = c.in-Ok.ensures in
+    let t = c.look.new.scanner in let u = c.take_head-token.new.scanner in let x = c.take_head-token.result in let p = c.take_head-token.ensures in
+    let e : c.args.parser.now ≡ parser_of i = sym c.parser.view_is in
     let o = sym (ap (λ (p : Parser). p.session.over) c.parser.view_is) ∙ c.if-parser.false in
-    let a : Scans c.args.parser.now (Ok c.take_shown.result) c.take_shown.new.parser = scan_shown c.args.parser.now c.show.new.parser o c.take_shown.result c.take_shown.new.parser c.in-Ok.ensures c.take_shown.ensures.token c.take_shown.ensures.left in
-    record { answers = a; bare = bare SCAN c.args.parser.now (told (Ok c.take_shown.result)) c.take_shown.new.parser a; early = early SCAN c.args.parser.now (told (Ok c.take_shown.result)) c.take_shown.new.parser a; local = late_faults c.args.parser.now.limit c.args.parser.now.setting c.args.parser.now.input }
+    let h : IsShown i.setting i.input.now t = record { stands = g.stands; still_open = g.still_open; settled = g.settled } in
+    let k = shown_settled i.setting i.input.now t h in
+    let fault = option_map fault_of i.fault in
+    let q : Parser = record { input = i.input.now; setting = i.setting; limit = t.limit; session = record { taken = t.taken; steps = t.made; peeked = true; over = false; fault = fault } } in
+    let s = show_token i.setting i.input.now i.scanner t g i.peeked fault c.args.parser.now (e ∙ open_session (parser_of i) c.if-parser.false) false refl in
+    let r : Parser = record { input = i.input.now; setting = i.setting; limit = u.limit; session = record { taken = u.taken; steps = u.made; peeked = false; over = c.is_stream_end-parser-inside.result; fault = fault } } in
+    let a : Scans c.args.parser.now (Ok x) r = scan_shown c.args.parser.now q o x r s (take_told_of i.setting i.input.now t t u x k p refl fault q refl) (take_left_of i.setting i.input.now t t u x k p refl fault q refl c.is_stream_end-parser-inside.result c.is_stream_end-parser-inside.ensures) in
+    record { answers = a; bare = bare SCAN c.args.parser.now (told (Ok x)) r a; early = early SCAN c.args.parser.now (told (Ok x)) r a; local = late_faults c.args.parser.now.limit c.args.parser.now.setting c.args.parser.now.input }
 
 pub returns-in-Err : goal.returns-in-Err
-returns-in-Err c =
+returns-in-Err c = let i = c.parser.inside in let f = c.in-Err.ensures in let t = c.look.new.scanner in
+    let e : c.args.parser.now ≡ parser_of i = sym c.parser.view_is in
     let o = sym (ap (λ (p : Parser). p.session.over) c.parser.view_is) ∙ c.if-parser.false in
-    let a : Scans c.args.parser.now (Err c.in-Err.fault) c.show.new.parser = scan_not_shown c.args.parser.now c.show.new.parser o c.in-Err.fault c.in-Err.ensures in
-    record { answers = a; bare = bare SCAN c.args.parser.now (told (Err c.in-Err.fault)) c.show.new.parser a; early = early SCAN c.args.parser.now (told (Err c.in-Err.fault)) c.show.new.parser a; local = late_faults c.args.parser.now.limit c.args.parser.now.setting c.args.parser.now.input }
+    let r : Parser = record { input = i.input.now; setting = i.setting; limit = t.limit; session = record { taken = t.taken; steps = t.made; peeked = false; over = true; fault = Some (fault_of c.in-Err.fault) } } in
+    let s = show_fault_of i.setting i.input.now i.scanner t i.peeked (option_map fault_of i.fault) c.in-Err.fault f.1 c.args.parser.now (e ∙ open_session (parser_of i) c.if-parser.false) f.0 f.2 in
+    let a : Scans c.args.parser.now (Err c.in-Err.fault) r = scan_not_shown c.args.parser.now r o c.in-Err.fault s in
+    record { answers = a; bare = bare SCAN c.args.parser.now (told (Err c.in-Err.fault)) r a; early = early SCAN c.args.parser.now (told (Err c.in-Err.fault)) r a; local = late_faults c.args.parser.now.limit c.args.parser.now.setting c.args.parser.now.input }
 
 pub returns-then-parser-clause-local : goal.returns-then-parser-clause-local
 returns-then-parser-clause-local c = late_faults c.args.parser.now.limit c.args.parser.now.setting c.args.parser.now.input
