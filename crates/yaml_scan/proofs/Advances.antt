@@ -1,5 +1,5 @@
 -- A lexeme is laid: the rows of its reading, and what the scanner holds then.
-use Rattle.std.proofs.Common.{◌≡◌, ℕ, ◌+◌, ◌-◌, ◌≤◌, ◌<◌, not, ◌&&◌, Bool, true, false, List, [], ◌∷◌, ◌++◌, reverse, map, filter, drop, length, length-append, length-drop, Option, Some, None, refl, ap, sym, ◌∙◌, subst, arith, inl, inr, eqb, vec_len, eqb-true, eq-eqb, ne_eqb}
+use Rattle.std.proofs.Common.{◌≡◌, ℕ, ◌+◌, ◌≤◌, ◌<◌, not, ◌&&◌, Bool, true, false, List, [], ◌∷◌, ◌++◌, reverse, map, filter, drop, length, Option, Some, None, refl, ap, sym, ◌∙◌, subst, arith, inl, inr, eqb, vec_len, eqb-true, eq-eqb, ne_eqb}
 use Rattle.std.specs.Bool.{◌==◌}
 use Rattle.std.specs.Option.{is_some, IfSome}
 use Rattle.std.specs.Prelude.{if◌then◌else◌, option_map, nat_eq, nat_lt, Result, Ok, Err}
@@ -19,8 +19,8 @@ use Rattle.yaml_scan.specs.TextReads.{IsRead, IsOffence}
 use Rattle.yaml_scan.specs.Laid.{Laid, candidate, depth, live, reach, completed_by, is_none, allowed, allowed_behind, allows}
 use Rattle.yaml_scan.specs.Levels.{AllLess, IsFalling, laid, is_required, stays, open_columns, kept_columns, level, greatest_level, greater_of}
 use Rattle.yaml_scan.specs.Order.{IsHistory, IsNotBefore, Follows, ended}
-use Rattle.yaml_scan.specs.Offline.{Token, end_at, block_ends, offline, before}
-use Rattle.yaml_scan.specs.Offline.Token.{BlockEnd, OfLexeme}
+use Rattle.yaml_scan.specs.Offline.{end_at, offline, before}
+use Rattle.yaml_scan.specs.Offline.Token.{BlockEnd}
 use Rattle.yaml_scan.specs.Queue.{opened, is_new}
 use Rattle.yaml_scan.specs.Slots.{Held, held, held_of, still_held, lost_held, outer_to, root_of, slot_behind, completed_held, nested_outer, nested_top, is_margin_level}
 use Rattle.yaml_scan.specs.Step.{Outcome, step, read_step, after_read, unless, stale, required, lost, start_at, lexeme_of, front_of, place_behind}
@@ -30,14 +30,12 @@ use Rattle.yaml_scan.specs.Moves.{IsLost}
 use Rattle.yaml_scan.specs.Groups.{IsQueue, Fitting, ends_at, completed_in, opened_by}
 use Rattle.yaml_scan.specs.Scanning.{Holds, IsMet, Offends}
 use Rattle.yaml_scan.proofs.Histories.{IsNotBefore-trans, to_start, to_reach, completion_is}
-use Rattle.yaml_scan.proofs.Bound.{length-begins}
-use Rattle.yaml_scan.proofs.Extend.{before-offline}
 use Rattle.yaml_scan.proofs.Stable.{start_in}
 use Rattle.yaml_scan.proofs.Candidates.{candidate-other, candidate-saved, candidate-kept, candidate-cleared, candidate_split}
 use Rattle.yaml_scan.proofs.Falling.{open_columns-falls, falling_filter}
 use Rattle.yaml_scan.proofs.Look.{completed_later, lost_later, root_is, outer_length}
 use Rattle.yaml_scan.proofs.Refusals.{margin_is, flow_is, mark_is, later, Loses, is_none_some, is_none_map}
-use Rattle.yaml_scan.proofs.Onward.{ends_are, levels_more, queue_more, fits, new_is, taken_more, allowed_more, outer_swept, top_swept, nested_outer_is, nested_top_is, required_is, candidate_is, allowed_of, at_depth, enters_below, reach_is}
+use Rattle.yaml_scan.proofs.Onward.{ends_are, levels_more, queue_more, fits, new_is, taken_more, allowed_more, outer_swept, top_swept, nested_outer_is, nested_top_is, candidate_is, allowed_of, at_depth, enters_below, reach_is}
 use Rattle.yaml_scan.proofs.TextOrder.{text_order, text_problem, text_sums, text_reach}
 
 held_eq : (h : Held) (n : ℕ) (st : yaml_mark_t) (q : Bool) → h.step ≡ n → h.start ≡ st → h.required ≡ q → h ≡ record { step = n; start = st; required = q }

@@ -1,18 +1,14 @@
 -- The key slots, one step on.
-use Rattle.std.proofs.Common.{◌≡◌, ℕ, ◌+◌, ◌≤◌, Bool, true, false, List, [], ◌∷◌, ◌++◌, length, length-append, Option, Some, None, refl, ap, sym, ◌∙◌, arith, eqb, inl, inr}
+use Rattle.std.proofs.Common.{◌≡◌, ℕ, ◌≤◌, Bool, true, false, List, ◌∷◌, Option, Some, None, refl, ap, sym, ◌∙◌, arith, eqb, inl, inr}
 use Rattle.std.specs.Prelude.{if◌then◌else◌, option_map}
 use Rattle.std.proofs.lemmas.Bool.{cases_Bool, cases_eq}
-use Rattle.yaml_scan.specs.Offline.{Token, up_to, offline, block_ends, groups}
 use Rattle.yaml_scan.specs.Laid.{Laid, candidate, depth, live, reach, only_live, is_candidate, enters}
 use Rattle.yaml_scan.specs.Order.{IsHistory}
-use Rattle.yaml_scan.specs.Levels.{is_required}
 use Rattle.yaml_scan.specs.Slots.{held, held_of, still_held}
 use Rattle.yaml_scan.proofs.Candidates.{candidate-entered, candidate-other, candidate-saved, candidate-kept, candidate-cleared, candidate_split}
 use Rattle.yaml_scan.proofs.Histories.{to_start, to_reach, completed_is, live_earlier, IsNotBefore-trans}
-use Rattle.yaml_scan.proofs.Stable.{start_in, up_to-split, groups-other, other_below}
+use Rattle.yaml_scan.proofs.Stable.{start_in}
 use Rattle.yaml_scan.proofs.Whole.{candidate_order}
-use Rattle.yaml_scan.proofs.Queued.{up_to-more}
-use Rattle.yaml_scan.proofs.Falling.{candidate_completes_nothing}
 
 -- what is completed does not stand before the candidate of a depth entered
 pub completed_from : (limit : ℕ) (i : Laid) (H : List Laid) (k : ℕ) (c : Laid) → IsHistory limit (i ∷ H) → candidate H k ≡ Some c → k ≤ depth H → (n : ℕ) → i.completed ≡ Some n → c.number ≤ n

@@ -7,7 +7,7 @@ use Rattle.yaml_scan.specs.Kind.{Kind, is_block_entry, is_candidate_kind, is_flo
 use Rattle.yaml_text.specs.declared.types.yaml_mark_t.{yaml_mark_t}
 use Rattle.yaml_scan.specs.Slots.{Held, held, held_of, still_held, outer_to, slot_behind, nested_outer, nested_top, or_top, is_margin_level}
 use Rattle.yaml_scan.specs.Lexeme.{Lexeme}
-use Rattle.yaml_scan.specs.Offline.{Token, end_at, start_token, block_ends, group, inserted, offline, before, up_to, groups}
+use Rattle.yaml_scan.specs.Offline.{Token, end_at, start_token, block_ends, group, inserted, offline, before, up_to}
 use Rattle.yaml_scan.specs.Offline.Token.{BlockEnd, BlockSequenceStart, BlockMappingStart, InsertedKey, OfLexeme}
 use Rattle.yaml_scan.specs.Laid.{Laid, depth, live, reach, completed_by, is_none, allowed, allowed_behind, allows, column, is_candidate, enters}
 use Rattle.yaml_scan.specs.Levels.{laid, is_required, stays, open_columns, kept_columns, level, greatest_level, is_above, opens_level}
@@ -25,8 +25,7 @@ use Rattle.yaml_scan.proofs.Histories.{to_start, laid_completed, completion_is, 
 use Rattle.yaml_scan.proofs.KindTests.{flow_kinds}
 use Rattle.yaml_scan.proofs.Candidates.{candidate_split}
 use Rattle.yaml_scan.proofs.HeldMore.{held-entered, held-cleared, held-other, held-kept, held-saved}
-use Rattle.yaml_scan.specs.Begins.{Begins}
-use Rattle.yaml_scan.proofs.Stable.{up_to-split, start_in, number_in}
+use Rattle.yaml_scan.proofs.Stable.{start_in, number_in}
 use Rattle.yaml_scan.proofs.Bound.{length-begins}
 use Rattle.yaml_scan.proofs.Extend.{before-before, before-offline}
 use Rattle.yaml_scan.proofs.Columns.{opens_itself, open_columns-none, open_columns-some, opens_self, completed_self, completes_not_opener}
@@ -162,7 +161,7 @@ module _ (limit : ℕ) (H : List Laid) (x : Lexeme) (h : IsHistory limit (laid l
           ap (λ (l : List Token). drop t l) insertion.now
           ∙ drop-append-le t (insertion.front ++ (ks ++ (OfLexeme c.lexeme ∷ insertion.rest))) (group (laid limit H x ∷ H) (laid limit H x)) m
           ∙ ap (λ (l : List Token). l ++ group (laid limit H x ∷ H) (laid limit H x)) (drop-append-le t insertion.front (ks ++ (OfLexeme c.lexeme ∷ insertion.rest)) f
-            ∙ ap (λ (l : List Token). l ++ (ks ++ (OfLexeme c.lexeme ∷ insertion.rest))) place.front_is ∙ append_assoc place.whole place.ends (ks ++ (OfLexeme c.lexeme ∷ insertion.rest)))
+          ∙ ap (λ (l : List Token). l ++ (ks ++ (OfLexeme c.lexeme ∷ insertion.rest))) place.front_is ∙ append_assoc place.whole place.ends (ks ++ (OfLexeme c.lexeme ∷ insertion.rest)))
           ∙ (rw (group_some, key_same) refl)
 
       module _ (e : yaml_encoding_t) (m : yaml_mark_t) (ys : List group_t) (Q : IsQueue e 0 m ys (drop t (offline H))) (d : ℕ) (D : d + length ys ≡ length H + 1) where

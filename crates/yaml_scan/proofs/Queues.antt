@@ -1,7 +1,7 @@
 -- The queue of groups, as it is taken from, marked and put to.
-use Rattle.std.proofs.Common.{◌≡◌, ℕ, zero, suc, ◌+◌, ◌-◌, ◌≤◌, ◌<◌, ◌&&◌, Bool, true, false, List, [], ◌∷◌, ◌++◌, length, length-append, filter, drop, refl, ap, sym, ◌∙◌, subst, arith, get_or, set, append_assoc, append-nil, inl, inr, ltb, eqb, lt-ltb, ne_eqb, ltb-true, eqb-true}
-use Rattle.std.specs.Prelude.{◌⊎◌, nat_lt, nat_eq, if◌then◌else◌, slice_get, Some}
-use Rattle.std.proofs.lemmas.Bool.{cases_Bool, false≢true, and_parts}
+use Rattle.std.proofs.Common.{◌≡◌, ℕ, zero, suc, ◌+◌, ◌≤◌, ◌<◌, ◌&&◌, Bool, true, false, List, [], ◌∷◌, ◌++◌, length, drop, refl, ap, sym, ◌∙◌, subst, arith, get_or, set, append_assoc, inl, inr, lt-ltb, ne_eqb, eqb-true}
+use Rattle.std.specs.Prelude.{◌⊎◌, nat_lt, nat_eq, if◌then◌else◌}
+use Rattle.std.proofs.lemmas.Bool.{false≢true, and_parts}
 use Rattle.yaml_text.specs.declared.types.yaml_encoding_t.{yaml_encoding_t}
 use Rattle.yaml_text.specs.declared.types.yaml_mark_t.{yaml_mark_t}
 use Rattle.yaml_scan.specs.declared.queue.block_t.{block_t}
@@ -10,9 +10,8 @@ use Rattle.yaml_scan.specs.declared.queue.group_t.{group_t}
 use Rattle.yaml_scan.specs.declared.queue.queue_t.{queue_t}
 use Rattle.yaml_scan.specs.Token.{yaml_token_t}
 use Rattle.yaml_scan.specs.Offline.{Token, handed_out}
-use Rattle.yaml_scan.specs.Offline.Token.{BlockEnd, BlockMappingStart, InsertedKey}
-use Rattle.yaml_scan.specs.Queue.{key_at}
-use Rattle.yaml_scan.specs.Laws.{is_of_lexeme, is_block_end}
+use Rattle.yaml_scan.specs.Offline.Token.{InsertedKey}
+use Rattle.yaml_scan.specs.Laws.{is_of_lexeme}
 use Rattle.yaml_scan.specs.Groups.{IsQueue, IsLead, Takes, DropsLead, ends_at, start_at, leads, early_before, pending, begins_with_end, keyed, keyed_at}
 
 -- WHAT IS NEXT
@@ -198,8 +197,14 @@ token_first e q xs y i l g n = go q.groups.items refl i
 pub put_behind : (e : yaml_encoding_t) (f m : yaml_mark_t) (n : ℕ) (ys : List group_t) (q : List Token) (y : group_t) (x : Token) → IsQueue e 0 f ys q → y.token ≡ handed_out e x → is_of_lexeme x ≡ true
     → IsQueue e n m (ys ++ y ∷ []) (q ++ ((ends_at n m ++ leads y) ++ x ∷ []))
 put_behind e f m n [] q y x i t l = rw i (x, [], refl, t, l, refl)
-put_behind e f m n (z ∷ ys) q y x i t l = (i.0, i.1 ++ ((ends_at n m ++ leads y) ++ x ∷ []),
-    ap (λ (r : List Token). r ++ ((ends_at n m ++ leads y) ++ x ∷ [])) i.2 ∙ (rw (front_of ys, behind_of ys) (append_assoc (leads z) (i.0 ∷ i.1) _)), i.3, i.4, put_behind e f m n ys i.1 y x i.5 t l)
+put_behind e f m n (z ∷ ys) q y x i t l = (
+  i.0,
+  i.1 ++ ((ends_at n m ++ leads y) ++ x ∷ []),
+  ap (λ (r : List Token). r ++ ((ends_at n m ++ leads y) ++ x ∷ [])) i.2 ∙ (rw (front_of ys, behind_of ys) (append_assoc (leads z) (i.0 ∷ i.1) _)),
+  i.3,
+  i.4,
+  put_behind e f m n ys i.1 y x i.5 t l,
+)
   where
     front_of : (ys : List group_t) → early_before 0 f ys ≡ []
     front_of [] = refl

@@ -1,10 +1,10 @@
 -- The head is the next token exactly where it is not the token of the lowest candidate.
-use Rattle.std.proofs.Common.{◌≡◌, ℕ, ◌+◌, ◌-◌, ◌≤◌, ◌<◌, not, ◌&&◌, Bool, true, false, List, drop, length, Option, Some, None, refl, ap, sym, ◌∙◌, arith, inl, inr, ltb, eqb, lt-ltb, le-ltb, eq-eqb, ne_eqb}
-use Rattle.std.specs.Prelude.{◌⊎◌, option_map}
-use Rattle.std.proofs.lemmas.Bool.{cases_Bool, cases_eq, cases_lt, false≢true, eqb-false}
+use Rattle.std.proofs.Common.{◌≡◌, ℕ, ◌+◌, ◌-◌, ◌≤◌, ◌<◌, not, ◌&&◌, Bool, true, false, List, length, Some, None, refl, ap, sym, ◌∙◌, arith, inl, inr, ltb, eqb, lt-ltb, le-ltb, eq-eqb, ne_eqb}
+use Rattle.std.specs.Prelude.{◌⊎◌}
+use Rattle.std.proofs.lemmas.Bool.{cases_eq, cases_lt}
 use Rattle.yaml_scan.specs.Slots.{Held, held, held_of, outer_to, step_of, lowest}
-use Rattle.yaml_scan.specs.Offline.{Token, up_to, offline, before}
-use Rattle.yaml_scan.specs.Laid.{Laid, candidate, depth, live, reach, only_live}
+use Rattle.yaml_scan.specs.Offline.{up_to, offline, before}
+use Rattle.yaml_scan.specs.Laid.{Laid, candidate, depth, live, reach}
 use Rattle.yaml_scan.specs.Order.{IsHistory}
 use Rattle.yaml_scan.proofs.Bound.{length-begins}
 use Rattle.yaml_scan.proofs.Extend.{before-offline}

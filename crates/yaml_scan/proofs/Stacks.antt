@@ -1,5 +1,5 @@
 -- Closing levels: a stack whose top stays keeps all.
-use Rattle.std.proofs.Common.{◌≡◌, ℕ, Bool, true, false, ◌≤◌, not, List, [], ◌∷◌, ◌++◌, ◌+◌, map, filter, length, leb, le-leb, ltb, le-ltb, ltb-false, refl, ap, sym, ◌∙◌, arith, Some, None, inl, inr}
+use Rattle.std.proofs.Common.{◌≡◌, ℕ, Bool, true, false, ◌≤◌, not, List, [], ◌∷◌, ◌++◌, ◌+◌, map, filter, length, leb, le-leb, le-ltb, ltb-false, refl, ap, sym, arith, Some, None, inl, inr}
 use Rattle.std.proofs.lemmas.Bool.{cases_Bool, and_parts, and_from, leb-true}
 use Rattle.yaml_text.specs.declared.types.yaml_mark_t.{yaml_mark_t}
 use Rattle.yaml_scan.specs.Kind.{Kind, is_stream_end, closes_all}

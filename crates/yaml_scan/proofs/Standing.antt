@@ -1,8 +1,8 @@
 -- Where the token of a candidate stands in the queue.
-use Rattle.std.proofs.Common.{◌≡◌, ℕ, zero, suc, ◌+◌, ◌-◌, ◌≤◌, ◌<◌, not, ◌&&◌, Bool, true, false, List, [], ◌∷◌, ◌++◌, map, filter, take, drop, take-append-drop, length, length-append, length-drop, Option, Some, refl, ap, sym, ◌∙◌, subst, arith, inl, inr, eqb, eq-eqb, ne_eqb, append_assoc, append-nil}
-use Rattle.std.specs.Prelude.{◌⊎◌, if◌then◌else◌}
+use Rattle.std.proofs.Common.{◌≡◌, ℕ, zero, suc, ◌+◌, ◌-◌, ◌≤◌, ◌<◌, not, ◌&&◌, Bool, true, false, List, [], ◌∷◌, ◌++◌, map, filter, take, drop, take-append-drop, length, length-append, length-drop, Some, refl, ap, sym, ◌∙◌, subst, arith, inl, inr, eqb, eq-eqb, ne_eqb, append_assoc, append-nil}
+use Rattle.std.specs.Prelude.{if◌then◌else◌}
 use Rattle.std.proofs.lemmas.Bool.{cases_Bool, cases_eq, cases_lt, false≢true}
-use Rattle.std.proofs.lemmas.List.{drop-append-le, drop_all, take-append-le, length-map}
+use Rattle.std.proofs.lemmas.List.{drop-append-le, drop_all, take-append-le}
 use Rattle.std.proofs.lemmas.List.Elements.{filter-append}
 use Rattle.yaml_text.specs.declared.types.yaml_encoding_t.{yaml_encoding_t}
 use Rattle.yaml_text.specs.declared.types.yaml_mark_t.{yaml_mark_t}
@@ -12,11 +12,11 @@ use Rattle.yaml_scan.specs.declared.queue.group_t.{group_t}
 use Rattle.yaml_scan.specs.Laid.{Laid, candidate}
 use Rattle.yaml_scan.specs.Levels.{opens, is_completed}
 use Rattle.yaml_scan.specs.Lexeme.{Lexeme}
-use Rattle.yaml_scan.specs.Laws.{is_of_lexeme, is_block_end, key_tokens}
+use Rattle.yaml_scan.specs.Laws.{is_of_lexeme, is_block_end}
 use Rattle.yaml_scan.specs.Order.{IsHistory}
 use Rattle.yaml_scan.specs.Offline.{Token, end_mark, group, groups, inserted, block_ends, block_start, offline, up_to, handed_out}
 use Rattle.yaml_scan.specs.Offline.Token.{StreamStart, BlockEnd, BlockSequenceStart, BlockMappingStart, InsertedKey, OfLexeme}
-use Rattle.yaml_scan.specs.Queue.{key_at, put_in}
+use Rattle.yaml_scan.specs.Queue.{key_at}
 use Rattle.yaml_scan.specs.Groups.{IsQueue, ends_at, start_at, leads, early_before, pending, begins_with_end, keyed, keyed_at}
 use Rattle.yaml_scan.proofs.Candidates.{IsCandidateOf, candidate_split}
 use Rattle.yaml_scan.proofs.Insertion.{groups_from, groups_was, candidate_not_completed}
@@ -360,11 +360,11 @@ head_awaited limit H k c t e n m ys d h Q D s l =
     let a = candidate_split H k c s in
     let f = up_to-split limit H a.newer c a.older a.is h in
     let was : groups H H ≡ up_to H (Some c) ++ (OfLexeme c.lexeme ∷ groups_from H a.newer) =
-        ap (λ (X : List Laid). groups H X) a.is ∙ groups_was H a.newer c a.older a.saved.candidate (candidate_not_completed limit H k c h s) ∙ ap (λ (x : List Token). x ++ (OfLexeme c.lexeme ∷ groups_from H a.newer)) (sym f) in
+    ap (λ (X : List Laid). groups H X) a.is ∙ groups_was H a.newer c a.older a.saved.candidate (candidate_not_completed limit H k c h s) ∙ ap (λ (x : List Token). x ++ (OfLexeme c.lexeme ∷ groups_from H a.newer)) (sym f) in
     let p = stands limit H k c t (up_to H (Some c)) (groups_from H a.newer) h s refl was l in
     let q : drop t (groups H H) ≡ p.whole ++ (p.ends ++ OfLexeme c.lexeme ∷ groups_from H a.newer) =
-        ap (λ (x : List Token). drop t x) was ∙ drop-append-le t (up_to H (Some c)) (OfLexeme c.lexeme ∷ groups_from H a.newer) l
-        ∙ ap (λ (x : List Token). x ++ OfLexeme c.lexeme ∷ groups_from H a.newer) p.front_is ∙ append_assoc p.whole p.ends (OfLexeme c.lexeme ∷ groups_from H a.newer) in
+    ap (λ (x : List Token). drop t x) was ∙ drop-append-le t (up_to H (Some c)) (OfLexeme c.lexeme ∷ groups_from H a.newer) l
+    ∙ ap (λ (x : List Token). x ++ OfLexeme c.lexeme ∷ groups_from H a.newer) p.front_is ∙ append_assoc p.whole p.ends (OfLexeme c.lexeme ∷ groups_from H a.newer) in
     let r = head_is_candidate e n m ys p.whole p.ends c.lexeme (groups_from H a.newer) (subst (λ (x : List Token). IsQueue e n m ys x) q Q) p.is_whole p.are_ends in
     let u = taken_count H t e n m ys Q d D in
     let v = p.place in

@@ -1,11 +1,10 @@
 -- The head of the queue is taken.
-use Rattle.std.proofs.Common.{◌≡◌, ℕ, zero, suc, ◌+◌, ◌-◌, ◌<◌, ◌^◌, List, [], ◌∷◌, ◌++◌, length, length-drop, drop, slice_get, Some, refl, ap, sym, ◌∙◌, subst, arith}
-use Rattle.yaml_text.specs.declared.types.yaml_encoding_t.{yaml_encoding_t}
+use Rattle.std.proofs.Common.{◌≡◌, ℕ, zero, suc, ◌+◌, ◌-◌, ◌<◌, ◌^◌, List, [], ◌∷◌, ◌++◌, length, drop, slice_get, Some, refl, ap, sym, ◌∙◌, subst, arith}
 use Rattle.yaml_scan.specs.declared.step.scanner_t.{scanner_t}
 use Rattle.yaml_scan.specs.Token.{yaml_token_t}
 use Rattle.yaml_scan.specs.Laid.{Laid}
 use Rattle.yaml_scan.specs.Order.{IsHistory}
-use Rattle.yaml_scan.specs.Offline.{Token, before, offline, handed_out}
+use Rattle.yaml_scan.specs.Offline.{Token, before, offline}
 use Rattle.yaml_scan.specs.Groups.{IsQueue, Takes}
 use Rattle.yaml_scan.specs.Scanning.{Holds, Runs, history, course_of}
 use Rattle.yaml_scan.specs.Answers.{Course}

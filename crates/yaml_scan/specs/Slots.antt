@@ -1,5 +1,5 @@
 -- The key slots of a running scanner, in the words of the definitions.
-use Rattle.std.specs.Prelude.{◌≡◌, ◌≢◌, ℕ, zero, suc, ◌+◌, ◌-◌, ◌<◌, ◌≤◌, take, slice_get, Bool, false, not, ◌&&◌, List, [], ◌∷◌, ◌++◌, length, nat_eq, nat_le, Option, Some, None, option_map, if◌then◌else◌}
+use Rattle.std.specs.Prelude.{◌≡◌, ◌≢◌, ℕ, zero, suc, ◌+◌, ◌-◌, ◌<◌, ◌≤◌, take, slice_get, Bool, not, ◌&&◌, List, [], ◌∷◌, ◌++◌, length, nat_eq, nat_le, Option, Some, None, option_map, if◌then◌else◌}
 use Rattle.yaml_text.specs.declared.types.yaml_mark_t.{yaml_mark_t}
 use Rattle.yaml_scan.specs.Kind.{Kind, is_flow_start, is_flow_end, is_value, is_candidate_kind}
 use Rattle.yaml_scan.specs.Laid.{Laid, names, candidate, reach, only_live}

@@ -10,8 +10,8 @@ ghost use Rattle.yaml_scan.specs.Parser.{Scans};
 ghost use Rattle.yaml_scan.specs.Token.{is_last_type, type_of};
 
 use crate::keys::slots_t;
-use crate::near::near_from;
 use crate::levels::layout_t;
+use crate::near::near_from;
 use crate::queue::{has_lead, lead, put_stream_start, queue_t, take_next};
 use crate::run::settle_head;
 use crate::step::scanner_t;

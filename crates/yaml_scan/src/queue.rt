@@ -131,7 +131,11 @@ fn lead_of(head: &group_t) -> lead_t
     match head.opens {
         block_t::SEQUENCE => lead_t::SEQUENCE_START,
         block_t::MAPPING => lead_t::MAPPING_START,
-        block_t::NONE => if head.key { lead_t::KEY } else { lead_t::NOTHING },
+        block_t::NONE => if head.key {
+            lead_t::KEY
+        } else {
+            lead_t::NOTHING
+        },
     }
 }
 

@@ -159,7 +159,14 @@ pub(crate) fn meet(scanner: &scanner_t) -> Result<met_t, yaml_fault_t>
     refuse_kind(kind, margin, allowed, completed.is_none(), front)?;
     let start = start_behind(kind, front);
     refuse_lost(
-        cleared(kind, allowed, margin, scanner.slots.top, scanner.limit, front),
+        cleared(
+            kind,
+            allowed,
+            margin,
+            scanner.slots.top,
+            scanner.limit,
+            front,
+        ),
         start,
     )?;
     Ok(met_t {
@@ -233,7 +240,13 @@ pub(crate) fn lay(alloc: Global, scanner: &mut scanner_t, met: met_t) -> Result<
     let completed = completed_by(kind, scanner.slots.top, scanner.limit, start);
     keep_candidates(&mut scanner.slots, met, new, scanner.limit, reach)?;
     let opens = put_key(&mut scanner.layout, margin, completed, kind, start);
-    put_group(&mut scanner.layout.queue, closed, met.front, opens, token_of(start, x));
+    put_group(
+        &mut scanner.layout.queue,
+        closed,
+        met.front,
+        opens,
+        token_of(start, x),
+    );
     scanner.allowed = is_allowed_after(kind, margin, completed.is_none(), passed_break);
     scanner.reach = reach;
     Ok(())

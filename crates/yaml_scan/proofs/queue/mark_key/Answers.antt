@@ -1,6 +1,4 @@
-use Rattle.std.proofs.Common.{refl, sym, ◌∙◌, arith, true, false, subst, Bool, List}
-use Rattle.yaml_scan.specs.declared.queue.group_t.{group_t}
-use Rattle.yaml_scan.specs.Groups.{keyed_at}
+use Rattle.std.proofs.Common.{true, false}
 use Rattle.yaml_scan.proofs.Queues.{set_keyed}
 use Rattle.yaml_scan.proofs.queue.mark_key.Goals as goal
 

@@ -1,4 +1,4 @@
-use Rattle.std.proofs.Common.{◌≡◌, ℕ, ◌+◌, ◌++◌, ◌∷◌, [], not, false, List, Option, reverse, map, filter, length, length-append, subst, ap, ◌∙◌, refl, sym, inl, inr, arith}
+use Rattle.std.proofs.Common.{ℕ, ◌+◌, ◌++◌, ◌∷◌, [], not, false, List, Option, reverse, map, filter, length, length-append, subst, ap, ◌∙◌, refl, sym, inl, inr, arith}
 use Rattle.std.proofs.lemmas.Result.{err_from_is_err_and}
 use Rattle.yaml_text.specs.declared.types.yaml_mark_t.{yaml_mark_t}
 use Rattle.yaml_scan.specs.declared.queue.group_t.{group_t}
@@ -55,35 +55,35 @@ returns g c =
     let s = c.args.scanner.now in
     let closed = c.close_levels-closed.result in
     let groups = c.put_group.ensures.groups ∙ ap (λ (ys : List group_t). ys ++ record { ends = closed.ends; opens = c.put_key-opens.result; key = false; token = c.token_of.result } ∷ [])
-        (c.put_key-opens.ensures.groups ∙ ap (λ (ys : List group_t). completed_in c.is_empty-margin.result c.completed_by-completed.result (reverse c.close_levels-closed.new.levels.items) s.layout.queue.done ys) c.in_ok-reserve-3.ensures.items) in
+    (c.put_key-opens.ensures.groups ∙ ap (λ (ys : List group_t). completed_in c.is_empty-margin.result c.completed_by-completed.result (reverse c.close_levels-closed.new.levels.items) s.layout.queue.done ys) c.in_ok-reserve-3.ensures.items) in
     let ends = c.close_levels-closed.ensures.ends ∙ ap (λ (l : List ℕ). map (λ z. BlockEnd (end_at c.args.met.kind c.args.met.front c.start_behind-start.result z)) (filter (λ z. not (stays (not c.is_empty-margin.result) c.args.met.kind c.start_behind-start.result z)) (reverse l))) c.in_ok-reserve-2.ensures.items in record {
-  lexeme = _;
-  step = step_reads g.before (c.args.scanner.now.made + 1) c.args.scanner.now c.requires.0 c.requires.1.0 c.args.met c.requires.1.1.1.1 c.is_empty-margin.result c.is_empty-margin.ensures c.start_behind-start.result c.start_behind-start.ensures c.close_levels-closed.new.levels.items (c.close_levels-closed.ensures.levels ∙ ap (λ (l : List ℕ). filter (stays (not c.is_empty-margin.result) c.args.met.kind c.start_behind-start.result) (reverse l)) c.in_ok-reserve-2.ensures.items) c.top_level-level.result (c.top_level-level.ensures ∙ ap (λ (l : List ℕ). greatest_level (reverse l)) c.deref.ensures.value) c.len-depth.result (c.len-depth.ensures ∙ c.in_ok-reserve.ensures.len) c.in_ok-x.x (c.in_ok-x.ensures (front_of (source_of c.args.scanner.now.text.chars) g.before) c.requires.1.1.1.1.front) c.completed_by-completed.result c.completed_by-completed.ensures record { step = c.args.scanner.now.made + 1; start = c.start_behind-start.result; required = c.is_level.result } refl refl c.is_level.ensures c.args.met.allowed c.requires.1.1.1.1.allowed _ refl _ _ c.in_ok-reserve.ensures.items refl _ refl c.in_ok-keep_candidates.ensures.lost;
-  holds = record {
-    text = c.requires.0.text;
-    is_history = history g.before (c.args.scanner.now.made + 1) c.args.scanner.now c.requires.0 c.requires.1.0 c.args.met c.requires.1.1.1.1 c.is_empty-margin.result c.is_empty-margin.ensures c.start_behind-start.result c.start_behind-start.ensures c.close_levels-closed.new.levels.items (c.close_levels-closed.ensures.levels ∙ ap (λ (l : List ℕ). filter (stays (not c.is_empty-margin.result) c.args.met.kind c.start_behind-start.result) (reverse l)) c.in_ok-reserve-2.ensures.items) c.top_level-level.result (c.top_level-level.ensures ∙ ap (λ (l : List ℕ). greatest_level (reverse l)) c.deref.ensures.value) c.len-depth.result (c.len-depth.ensures ∙ c.in_ok-reserve.ensures.len) c.in_ok-x.x (c.in_ok-x.ensures (front_of (source_of c.args.scanner.now.text.chars) g.before) c.requires.1.1.1.1.front);
-    number = number_then g.before (c.args.scanner.now.made + 1) c.args.scanner.now c.requires.0 c.requires.1.0 c.args.met c.requires.1.1.1.1 c.is_empty-margin.result c.is_empty-margin.ensures c.start_behind-start.result c.start_behind-start.ensures c.close_levels-closed.new.levels.items (c.close_levels-closed.ensures.levels ∙ ap (λ (l : List ℕ). filter (stays (not c.is_empty-margin.result) c.args.met.kind c.start_behind-start.result) (reverse l)) c.in_ok-reserve-2.ensures.items) c.top_level-level.result (c.top_level-level.ensures ∙ ap (λ (l : List ℕ). greatest_level (reverse l)) c.deref.ensures.value) c.len-depth.result (c.len-depth.ensures ∙ c.in_ok-reserve.ensures.len) c.in_ok-x.x (c.in_ok-x.ensures (front_of (source_of c.args.scanner.now.text.chars) g.before) c.requires.1.1.1.1.front);
-    fresh = fresh_then g.before (c.args.scanner.now.made + 1) c.args.scanner.now c.requires.0 c.requires.1.0 c.args.met c.requires.1.1.1.1 c.is_empty-margin.result c.is_empty-margin.ensures c.start_behind-start.result c.start_behind-start.ensures c.close_levels-closed.new.levels.items (c.close_levels-closed.ensures.levels ∙ ap (λ (l : List ℕ). filter (stays (not c.is_empty-margin.result) c.args.met.kind c.start_behind-start.result) (reverse l)) c.in_ok-reserve-2.ensures.items) c.top_level-level.result (c.top_level-level.ensures ∙ ap (λ (l : List ℕ). greatest_level (reverse l)) c.deref.ensures.value) c.len-depth.result (c.len-depth.ensures ∙ c.in_ok-reserve.ensures.len) c.in_ok-x.x (c.in_ok-x.ensures (front_of (source_of c.args.scanner.now.text.chars) g.before) c.requires.1.1.1.1.front) c.completed_by-completed.result c.completed_by-completed.ensures record { step = c.args.scanner.now.made + 1; start = c.start_behind-start.result; required = c.is_level.result } refl refl c.is_level.ensures c.args.met.allowed c.requires.1.1.1.1.allowed _ refl _ _ c.in_ok-reserve.ensures.items refl _ refl c.in_ok-keep_candidates.ensures.lost;
-    levels = levels_then g.before (c.args.scanner.now.made + 1) c.args.scanner.now c.requires.0 c.requires.1.0 c.args.met c.requires.1.1.1.1 c.is_empty-margin.result c.is_empty-margin.ensures c.start_behind-start.result c.start_behind-start.ensures c.close_levels-closed.new.levels.items (c.close_levels-closed.ensures.levels ∙ ap (λ (l : List ℕ). filter (stays (not c.is_empty-margin.result) c.args.met.kind c.start_behind-start.result) (reverse l)) c.in_ok-reserve-2.ensures.items) c.top_level-level.result (c.top_level-level.ensures ∙ ap (λ (l : List ℕ). greatest_level (reverse l)) c.deref.ensures.value) c.len-depth.result (c.len-depth.ensures ∙ c.in_ok-reserve.ensures.len) c.in_ok-x.x (c.in_ok-x.ensures (front_of (source_of c.args.scanner.now.text.chars) g.before) c.requires.1.1.1.1.front) c.completed_by-completed.result c.completed_by-completed.ensures c.put_key-opens.new.layout.levels.items c.put_key-opens.ensures.levels;
-    columns = columns_then g.before (c.args.scanner.now.made + 1) c.args.scanner.now c.requires.0 c.requires.1.0 c.args.met c.requires.1.1.1.1 c.is_empty-margin.result c.is_empty-margin.ensures c.start_behind-start.result c.start_behind-start.ensures c.close_levels-closed.new.levels.items (c.close_levels-closed.ensures.levels ∙ ap (λ (l : List ℕ). filter (stays (not c.is_empty-margin.result) c.args.met.kind c.start_behind-start.result) (reverse l)) c.in_ok-reserve-2.ensures.items) c.top_level-level.result (c.top_level-level.ensures ∙ ap (λ (l : List ℕ). greatest_level (reverse l)) c.deref.ensures.value) c.len-depth.result (c.len-depth.ensures ∙ c.in_ok-reserve.ensures.len) c.in_ok-x.x (c.in_ok-x.ensures (front_of (source_of c.args.scanner.now.text.chars) g.before) c.requires.1.1.1.1.front) c.completed_by-completed.result c.completed_by-completed.ensures;
-    outer = outer_then g.before (c.args.scanner.now.made + 1) c.args.scanner.now c.requires.0 c.requires.1.0 c.args.met c.requires.1.1.1.1 c.is_empty-margin.result c.is_empty-margin.ensures c.start_behind-start.result c.start_behind-start.ensures c.close_levels-closed.new.levels.items (c.close_levels-closed.ensures.levels ∙ ap (λ (l : List ℕ). filter (stays (not c.is_empty-margin.result) c.args.met.kind c.start_behind-start.result) (reverse l)) c.in_ok-reserve-2.ensures.items) c.top_level-level.result (c.top_level-level.ensures ∙ ap (λ (l : List ℕ). greatest_level (reverse l)) c.deref.ensures.value) c.len-depth.result (c.len-depth.ensures ∙ c.in_ok-reserve.ensures.len) c.in_ok-x.x (c.in_ok-x.ensures (front_of (source_of c.args.scanner.now.text.chars) g.before) c.requires.1.1.1.1.front) c.completed_by-completed.result c.completed_by-completed.ensures record { step = c.args.scanner.now.made + 1; start = c.start_behind-start.result; required = c.is_level.result } refl refl c.is_level.ensures c.args.met.allowed c.requires.1.1.1.1.allowed _ refl c.keep_candidates.new.slots.outer.items _ c.in_ok-reserve.ensures.items c.in_ok-keep_candidates.ensures.outer;
-    empty = c.in_ok-keep_candidates.ensures.empty;
-    top = top_then g.before (c.args.scanner.now.made + 1) c.args.scanner.now c.requires.0 c.requires.1.0 c.args.met c.requires.1.1.1.1 c.is_empty-margin.result c.is_empty-margin.ensures c.start_behind-start.result c.start_behind-start.ensures c.close_levels-closed.new.levels.items (c.close_levels-closed.ensures.levels ∙ ap (λ (l : List ℕ). filter (stays (not c.is_empty-margin.result) c.args.met.kind c.start_behind-start.result) (reverse l)) c.in_ok-reserve-2.ensures.items) c.top_level-level.result (c.top_level-level.ensures ∙ ap (λ (l : List ℕ). greatest_level (reverse l)) c.deref.ensures.value) c.len-depth.result (c.len-depth.ensures ∙ c.in_ok-reserve.ensures.len) c.in_ok-x.x (c.in_ok-x.ensures (front_of (source_of c.args.scanner.now.text.chars) g.before) c.requires.1.1.1.1.front) c.completed_by-completed.result c.completed_by-completed.ensures record { step = c.args.scanner.now.made + 1; start = c.start_behind-start.result; required = c.is_level.result } refl refl c.is_level.ensures c.args.met.allowed c.requires.1.1.1.1.allowed _ refl _ _ c.in_ok-reserve.ensures.items c.in_ok-keep_candidates.ensures.top;
-    awaited = c.in_ok-keep_candidates.ensures.awaited;
-    allowed = allowed_then g.before (c.args.scanner.now.made + 1) c.args.scanner.now c.requires.0 c.requires.1.0 c.args.met c.requires.1.1.1.1 c.is_empty-margin.result c.is_empty-margin.ensures c.start_behind-start.result c.start_behind-start.ensures c.close_levels-closed.new.levels.items (c.close_levels-closed.ensures.levels ∙ ap (λ (l : List ℕ). filter (stays (not c.is_empty-margin.result) c.args.met.kind c.start_behind-start.result) (reverse l)) c.in_ok-reserve-2.ensures.items) c.top_level-level.result (c.top_level-level.ensures ∙ ap (λ (l : List ℕ). greatest_level (reverse l)) c.deref.ensures.value) c.len-depth.result (c.len-depth.ensures ∙ c.in_ok-reserve.ensures.len) c.in_ok-x.x (c.in_ok-x.ensures (front_of (source_of c.args.scanner.now.text.chars) g.before) c.requires.1.1.1.1.front) c.completed_by-completed.result c.completed_by-completed.ensures c.is_none.result c.is_none.ensures c.is_allowed_after-scanner.result c.is_allowed_after-scanner.ensures;
-    queue = rw (c.put_group.ensures.early, c.put_group.ensures.front) (queue_then g.before (c.args.scanner.now.made + 1) c.args.scanner.now c.requires.0 c.requires.1.0 c.args.met c.requires.1.1.1.1 c.is_empty-margin.result c.is_empty-margin.ensures c.start_behind-start.result c.start_behind-start.ensures c.close_levels-closed.new.levels.items (c.close_levels-closed.ensures.levels ∙ ap (λ (l : List ℕ). filter (stays (not c.is_empty-margin.result) c.args.met.kind c.start_behind-start.result) (reverse l)) c.in_ok-reserve-2.ensures.items) c.top_level-level.result (c.top_level-level.ensures ∙ ap (λ (l : List ℕ). greatest_level (reverse l)) c.deref.ensures.value) c.len-depth.result (c.len-depth.ensures ∙ c.in_ok-reserve.ensures.len) c.in_ok-x.x (c.in_ok-x.ensures (front_of (source_of c.args.scanner.now.text.chars) g.before) c.requires.1.1.1.1.front) c.completed_by-completed.result c.completed_by-completed.ensures _ closed.early c.args.met.front ends c.token_of.ensures refl c.put_key-opens.ensures.opens c.put_group.new.queue.groups.items groups);
-    count = (let k = c.put_key-opens.ensures.rest in let a = c.put_group.ensures.done in let b = k.done in let l = k.long in
-        let n = ap (λ (ys : List group_t). length ys) c.in_ok-reserve-3.ensures.items in
-        let m = ap (λ (ys : List group_t). length ys) c.put_group.ensures.groups in
-        let o = length-append c.put_key-opens.new.layout.queue.groups.items (record { ends = closed.ends; opens = c.put_key-opens.result; key = false; token = c.token_of.result } ∷ []) in
-        let z = c.requires.0.count in omega arith);
-    early = early_then g.before (c.args.scanner.now.made + 1) c.args.scanner.now c.requires.0 c.requires.1.0 c.args.met c.requires.1.1.1.1 c.is_empty-margin.result c.is_empty-margin.ensures c.start_behind-start.result c.start_behind-start.ensures c.close_levels-closed.new.levels.items (c.close_levels-closed.ensures.levels ∙ ap (λ (l : List ℕ). filter (stays (not c.is_empty-margin.result) c.args.met.kind c.start_behind-start.result) (reverse l)) c.in_ok-reserve-2.ensures.items) c.top_level-level.result (c.top_level-level.ensures ∙ ap (λ (l : List ℕ). greatest_level (reverse l)) c.deref.ensures.value) c.len-depth.result (c.len-depth.ensures ∙ c.in_ok-reserve.ensures.len) c.in_ok-x.x (c.in_ok-x.ensures (front_of (source_of c.args.scanner.now.text.chars) g.before) c.requires.1.1.1.1.front) _ (λ z. c.put_group.ensures.early ∙ c.close_levels-closed.ensures.none z);
-    reach = reach_then g.before (c.args.scanner.now.made + 1) c.args.scanner.now c.requires.0 c.requires.1.0 c.args.met c.requires.1.1.1.1 c.is_empty-margin.result c.is_empty-margin.ensures c.start_behind-start.result c.start_behind-start.ensures c.close_levels-closed.new.levels.items (c.close_levels-closed.ensures.levels ∙ ap (λ (l : List ℕ). filter (stays (not c.is_empty-margin.result) c.args.met.kind c.start_behind-start.result) (reverse l)) c.in_ok-reserve-2.ensures.items) c.top_level-level.result (c.top_level-level.ensures ∙ ap (λ (l : List ℕ). greatest_level (reverse l)) c.deref.ensures.value) c.len-depth.result (c.len-depth.ensures ∙ c.in_ok-reserve.ensures.len) c.in_ok-x.x (c.in_ok-x.ensures (front_of (source_of c.args.scanner.now.text.chars) g.before) c.requires.1.1.1.1.front);
-    taken = taken_then g.before (c.args.scanner.now.made + 1) c.args.scanner.now c.requires.0 c.requires.1.0 c.args.met c.requires.1.1.1.1 c.is_empty-margin.result c.is_empty-margin.ensures c.start_behind-start.result c.start_behind-start.ensures c.close_levels-closed.new.levels.items (c.close_levels-closed.ensures.levels ∙ ap (λ (l : List ℕ). filter (stays (not c.is_empty-margin.result) c.args.met.kind c.start_behind-start.result) (reverse l)) c.in_ok-reserve-2.ensures.items) c.top_level-level.result (c.top_level-level.ensures ∙ ap (λ (l : List ℕ). greatest_level (reverse l)) c.deref.ensures.value) c.len-depth.result (c.len-depth.ensures ∙ c.in_ok-reserve.ensures.len) c.in_ok-x.x (c.in_ok-x.ensures (front_of (source_of c.args.scanner.now.text.chars) g.before) c.requires.1.1.1.1.front);
-    place = place_then g.before (c.args.scanner.now.made + 1) c.args.scanner.now c.requires.0 c.requires.1.0 c.args.met c.requires.1.1.1.1 c.is_empty-margin.result c.is_empty-margin.ensures c.start_behind-start.result c.start_behind-start.ensures c.close_levels-closed.new.levels.items (c.close_levels-closed.ensures.levels ∙ ap (λ (l : List ℕ). filter (stays (not c.is_empty-margin.result) c.args.met.kind c.start_behind-start.result) (reverse l)) c.in_ok-reserve-2.ensures.items) c.top_level-level.result (c.top_level-level.ensures ∙ ap (λ (l : List ℕ). greatest_level (reverse l)) c.deref.ensures.value) c.len-depth.result (c.len-depth.ensures ∙ c.in_ok-reserve.ensures.len) c.in_ok-x.x (c.in_ok-x.ensures (front_of (source_of c.args.scanner.now.text.chars) g.before) c.requires.1.1.1.1.front);
-  };
-  index = index_is g.before (c.args.scanner.now.made + 1) c.args.scanner.now c.requires.0 c.requires.1.0 c.args.met c.requires.1.1.1.1 c.is_empty-margin.result c.is_empty-margin.ensures c.start_behind-start.result c.start_behind-start.ensures c.close_levels-closed.new.levels.items (c.close_levels-closed.ensures.levels ∙ ap (λ (l : List ℕ). filter (stays (not c.is_empty-margin.result) c.args.met.kind c.start_behind-start.result) (reverse l)) c.in_ok-reserve-2.ensures.items) c.top_level-level.result (c.top_level-level.ensures ∙ ap (λ (l : List ℕ). greatest_level (reverse l)) c.deref.ensures.value) c.len-depth.result (c.len-depth.ensures ∙ c.in_ok-reserve.ensures.len) c.in_ok-x.x (c.in_ok-x.ensures (front_of (source_of c.args.scanner.now.text.chars) g.before) c.requires.1.1.1.1.front);
-  within = place_within g.before (c.args.scanner.now.made + 1) c.args.scanner.now c.requires.0 c.requires.1.0 c.args.met c.requires.1.1.1.1 c.is_empty-margin.result c.is_empty-margin.ensures c.start_behind-start.result c.start_behind-start.ensures c.close_levels-closed.new.levels.items (c.close_levels-closed.ensures.levels ∙ ap (λ (l : List ℕ). filter (stays (not c.is_empty-margin.result) c.args.met.kind c.start_behind-start.result) (reverse l)) c.in_ok-reserve-2.ensures.items) c.top_level-level.result (c.top_level-level.ensures ∙ ap (λ (l : List ℕ). greatest_level (reverse l)) c.deref.ensures.value) c.len-depth.result (c.len-depth.ensures ∙ c.in_ok-reserve.ensures.len) c.in_ok-x.x (c.in_ok-x.ensures (front_of (source_of c.args.scanner.now.text.chars) g.before) c.requires.1.1.1.1.front);
-  same = record { text = refl; refusal = refl; near = refl; limit = refl; taken = refl; done = c.put_group.ensures.done ∙ (let k = c.put_key-opens.ensures.rest in k.done) };
-  made = refl;
-}
+      lexeme = _;
+      step = step_reads g.before (c.args.scanner.now.made + 1) c.args.scanner.now c.requires.0 c.requires.1.0 c.args.met c.requires.1.1.1.1 c.is_empty-margin.result c.is_empty-margin.ensures c.start_behind-start.result c.start_behind-start.ensures c.close_levels-closed.new.levels.items (c.close_levels-closed.ensures.levels ∙ ap (λ (l : List ℕ). filter (stays (not c.is_empty-margin.result) c.args.met.kind c.start_behind-start.result) (reverse l)) c.in_ok-reserve-2.ensures.items) c.top_level-level.result (c.top_level-level.ensures ∙ ap (λ (l : List ℕ). greatest_level (reverse l)) c.deref.ensures.value) c.len-depth.result (c.len-depth.ensures ∙ c.in_ok-reserve.ensures.len) c.in_ok-x.x (c.in_ok-x.ensures (front_of (source_of c.args.scanner.now.text.chars) g.before) c.requires.1.1.1.1.front) c.completed_by-completed.result c.completed_by-completed.ensures record { step = c.args.scanner.now.made + 1; start = c.start_behind-start.result; required = c.is_level.result } refl refl c.is_level.ensures c.args.met.allowed c.requires.1.1.1.1.allowed _ refl _ _ c.in_ok-reserve.ensures.items refl _ refl c.in_ok-keep_candidates.ensures.lost;
+      holds = record {
+        text = c.requires.0.text;
+        is_history = history g.before (c.args.scanner.now.made + 1) c.args.scanner.now c.requires.0 c.requires.1.0 c.args.met c.requires.1.1.1.1 c.is_empty-margin.result c.is_empty-margin.ensures c.start_behind-start.result c.start_behind-start.ensures c.close_levels-closed.new.levels.items (c.close_levels-closed.ensures.levels ∙ ap (λ (l : List ℕ). filter (stays (not c.is_empty-margin.result) c.args.met.kind c.start_behind-start.result) (reverse l)) c.in_ok-reserve-2.ensures.items) c.top_level-level.result (c.top_level-level.ensures ∙ ap (λ (l : List ℕ). greatest_level (reverse l)) c.deref.ensures.value) c.len-depth.result (c.len-depth.ensures ∙ c.in_ok-reserve.ensures.len) c.in_ok-x.x (c.in_ok-x.ensures (front_of (source_of c.args.scanner.now.text.chars) g.before) c.requires.1.1.1.1.front);
+        number = number_then g.before (c.args.scanner.now.made + 1) c.args.scanner.now c.requires.0 c.requires.1.0 c.args.met c.requires.1.1.1.1 c.is_empty-margin.result c.is_empty-margin.ensures c.start_behind-start.result c.start_behind-start.ensures c.close_levels-closed.new.levels.items (c.close_levels-closed.ensures.levels ∙ ap (λ (l : List ℕ). filter (stays (not c.is_empty-margin.result) c.args.met.kind c.start_behind-start.result) (reverse l)) c.in_ok-reserve-2.ensures.items) c.top_level-level.result (c.top_level-level.ensures ∙ ap (λ (l : List ℕ). greatest_level (reverse l)) c.deref.ensures.value) c.len-depth.result (c.len-depth.ensures ∙ c.in_ok-reserve.ensures.len) c.in_ok-x.x (c.in_ok-x.ensures (front_of (source_of c.args.scanner.now.text.chars) g.before) c.requires.1.1.1.1.front);
+        fresh = fresh_then g.before (c.args.scanner.now.made + 1) c.args.scanner.now c.requires.0 c.requires.1.0 c.args.met c.requires.1.1.1.1 c.is_empty-margin.result c.is_empty-margin.ensures c.start_behind-start.result c.start_behind-start.ensures c.close_levels-closed.new.levels.items (c.close_levels-closed.ensures.levels ∙ ap (λ (l : List ℕ). filter (stays (not c.is_empty-margin.result) c.args.met.kind c.start_behind-start.result) (reverse l)) c.in_ok-reserve-2.ensures.items) c.top_level-level.result (c.top_level-level.ensures ∙ ap (λ (l : List ℕ). greatest_level (reverse l)) c.deref.ensures.value) c.len-depth.result (c.len-depth.ensures ∙ c.in_ok-reserve.ensures.len) c.in_ok-x.x (c.in_ok-x.ensures (front_of (source_of c.args.scanner.now.text.chars) g.before) c.requires.1.1.1.1.front) c.completed_by-completed.result c.completed_by-completed.ensures record { step = c.args.scanner.now.made + 1; start = c.start_behind-start.result; required = c.is_level.result } refl refl c.is_level.ensures c.args.met.allowed c.requires.1.1.1.1.allowed _ refl _ _ c.in_ok-reserve.ensures.items refl _ refl c.in_ok-keep_candidates.ensures.lost;
+        levels = levels_then g.before (c.args.scanner.now.made + 1) c.args.scanner.now c.requires.0 c.requires.1.0 c.args.met c.requires.1.1.1.1 c.is_empty-margin.result c.is_empty-margin.ensures c.start_behind-start.result c.start_behind-start.ensures c.close_levels-closed.new.levels.items (c.close_levels-closed.ensures.levels ∙ ap (λ (l : List ℕ). filter (stays (not c.is_empty-margin.result) c.args.met.kind c.start_behind-start.result) (reverse l)) c.in_ok-reserve-2.ensures.items) c.top_level-level.result (c.top_level-level.ensures ∙ ap (λ (l : List ℕ). greatest_level (reverse l)) c.deref.ensures.value) c.len-depth.result (c.len-depth.ensures ∙ c.in_ok-reserve.ensures.len) c.in_ok-x.x (c.in_ok-x.ensures (front_of (source_of c.args.scanner.now.text.chars) g.before) c.requires.1.1.1.1.front) c.completed_by-completed.result c.completed_by-completed.ensures c.put_key-opens.new.layout.levels.items c.put_key-opens.ensures.levels;
+        columns = columns_then g.before (c.args.scanner.now.made + 1) c.args.scanner.now c.requires.0 c.requires.1.0 c.args.met c.requires.1.1.1.1 c.is_empty-margin.result c.is_empty-margin.ensures c.start_behind-start.result c.start_behind-start.ensures c.close_levels-closed.new.levels.items (c.close_levels-closed.ensures.levels ∙ ap (λ (l : List ℕ). filter (stays (not c.is_empty-margin.result) c.args.met.kind c.start_behind-start.result) (reverse l)) c.in_ok-reserve-2.ensures.items) c.top_level-level.result (c.top_level-level.ensures ∙ ap (λ (l : List ℕ). greatest_level (reverse l)) c.deref.ensures.value) c.len-depth.result (c.len-depth.ensures ∙ c.in_ok-reserve.ensures.len) c.in_ok-x.x (c.in_ok-x.ensures (front_of (source_of c.args.scanner.now.text.chars) g.before) c.requires.1.1.1.1.front) c.completed_by-completed.result c.completed_by-completed.ensures;
+        outer = outer_then g.before (c.args.scanner.now.made + 1) c.args.scanner.now c.requires.0 c.requires.1.0 c.args.met c.requires.1.1.1.1 c.is_empty-margin.result c.is_empty-margin.ensures c.start_behind-start.result c.start_behind-start.ensures c.close_levels-closed.new.levels.items (c.close_levels-closed.ensures.levels ∙ ap (λ (l : List ℕ). filter (stays (not c.is_empty-margin.result) c.args.met.kind c.start_behind-start.result) (reverse l)) c.in_ok-reserve-2.ensures.items) c.top_level-level.result (c.top_level-level.ensures ∙ ap (λ (l : List ℕ). greatest_level (reverse l)) c.deref.ensures.value) c.len-depth.result (c.len-depth.ensures ∙ c.in_ok-reserve.ensures.len) c.in_ok-x.x (c.in_ok-x.ensures (front_of (source_of c.args.scanner.now.text.chars) g.before) c.requires.1.1.1.1.front) c.completed_by-completed.result c.completed_by-completed.ensures record { step = c.args.scanner.now.made + 1; start = c.start_behind-start.result; required = c.is_level.result } refl refl c.is_level.ensures c.args.met.allowed c.requires.1.1.1.1.allowed _ refl c.keep_candidates.new.slots.outer.items _ c.in_ok-reserve.ensures.items c.in_ok-keep_candidates.ensures.outer;
+        empty = c.in_ok-keep_candidates.ensures.empty;
+        top = top_then g.before (c.args.scanner.now.made + 1) c.args.scanner.now c.requires.0 c.requires.1.0 c.args.met c.requires.1.1.1.1 c.is_empty-margin.result c.is_empty-margin.ensures c.start_behind-start.result c.start_behind-start.ensures c.close_levels-closed.new.levels.items (c.close_levels-closed.ensures.levels ∙ ap (λ (l : List ℕ). filter (stays (not c.is_empty-margin.result) c.args.met.kind c.start_behind-start.result) (reverse l)) c.in_ok-reserve-2.ensures.items) c.top_level-level.result (c.top_level-level.ensures ∙ ap (λ (l : List ℕ). greatest_level (reverse l)) c.deref.ensures.value) c.len-depth.result (c.len-depth.ensures ∙ c.in_ok-reserve.ensures.len) c.in_ok-x.x (c.in_ok-x.ensures (front_of (source_of c.args.scanner.now.text.chars) g.before) c.requires.1.1.1.1.front) c.completed_by-completed.result c.completed_by-completed.ensures record { step = c.args.scanner.now.made + 1; start = c.start_behind-start.result; required = c.is_level.result } refl refl c.is_level.ensures c.args.met.allowed c.requires.1.1.1.1.allowed _ refl _ _ c.in_ok-reserve.ensures.items c.in_ok-keep_candidates.ensures.top;
+        awaited = c.in_ok-keep_candidates.ensures.awaited;
+        allowed = allowed_then g.before (c.args.scanner.now.made + 1) c.args.scanner.now c.requires.0 c.requires.1.0 c.args.met c.requires.1.1.1.1 c.is_empty-margin.result c.is_empty-margin.ensures c.start_behind-start.result c.start_behind-start.ensures c.close_levels-closed.new.levels.items (c.close_levels-closed.ensures.levels ∙ ap (λ (l : List ℕ). filter (stays (not c.is_empty-margin.result) c.args.met.kind c.start_behind-start.result) (reverse l)) c.in_ok-reserve-2.ensures.items) c.top_level-level.result (c.top_level-level.ensures ∙ ap (λ (l : List ℕ). greatest_level (reverse l)) c.deref.ensures.value) c.len-depth.result (c.len-depth.ensures ∙ c.in_ok-reserve.ensures.len) c.in_ok-x.x (c.in_ok-x.ensures (front_of (source_of c.args.scanner.now.text.chars) g.before) c.requires.1.1.1.1.front) c.completed_by-completed.result c.completed_by-completed.ensures c.is_none.result c.is_none.ensures c.is_allowed_after-scanner.result c.is_allowed_after-scanner.ensures;
+        queue = rw (c.put_group.ensures.early, c.put_group.ensures.front) (queue_then g.before (c.args.scanner.now.made + 1) c.args.scanner.now c.requires.0 c.requires.1.0 c.args.met c.requires.1.1.1.1 c.is_empty-margin.result c.is_empty-margin.ensures c.start_behind-start.result c.start_behind-start.ensures c.close_levels-closed.new.levels.items (c.close_levels-closed.ensures.levels ∙ ap (λ (l : List ℕ). filter (stays (not c.is_empty-margin.result) c.args.met.kind c.start_behind-start.result) (reverse l)) c.in_ok-reserve-2.ensures.items) c.top_level-level.result (c.top_level-level.ensures ∙ ap (λ (l : List ℕ). greatest_level (reverse l)) c.deref.ensures.value) c.len-depth.result (c.len-depth.ensures ∙ c.in_ok-reserve.ensures.len) c.in_ok-x.x (c.in_ok-x.ensures (front_of (source_of c.args.scanner.now.text.chars) g.before) c.requires.1.1.1.1.front) c.completed_by-completed.result c.completed_by-completed.ensures _ closed.early c.args.met.front ends c.token_of.ensures refl c.put_key-opens.ensures.opens c.put_group.new.queue.groups.items groups);
+        count = (let k = c.put_key-opens.ensures.rest in let a = c.put_group.ensures.done in let b = k.done in let l = k.long in
+            let n = ap (λ (ys : List group_t). length ys) c.in_ok-reserve-3.ensures.items in
+            let m = ap (λ (ys : List group_t). length ys) c.put_group.ensures.groups in
+            let o = length-append c.put_key-opens.new.layout.queue.groups.items (record { ends = closed.ends; opens = c.put_key-opens.result; key = false; token = c.token_of.result } ∷ []) in
+            let z = c.requires.0.count in omega arith);
+        early = early_then g.before (c.args.scanner.now.made + 1) c.args.scanner.now c.requires.0 c.requires.1.0 c.args.met c.requires.1.1.1.1 c.is_empty-margin.result c.is_empty-margin.ensures c.start_behind-start.result c.start_behind-start.ensures c.close_levels-closed.new.levels.items (c.close_levels-closed.ensures.levels ∙ ap (λ (l : List ℕ). filter (stays (not c.is_empty-margin.result) c.args.met.kind c.start_behind-start.result) (reverse l)) c.in_ok-reserve-2.ensures.items) c.top_level-level.result (c.top_level-level.ensures ∙ ap (λ (l : List ℕ). greatest_level (reverse l)) c.deref.ensures.value) c.len-depth.result (c.len-depth.ensures ∙ c.in_ok-reserve.ensures.len) c.in_ok-x.x (c.in_ok-x.ensures (front_of (source_of c.args.scanner.now.text.chars) g.before) c.requires.1.1.1.1.front) _ (λ z. c.put_group.ensures.early ∙ c.close_levels-closed.ensures.none z);
+        reach = reach_then g.before (c.args.scanner.now.made + 1) c.args.scanner.now c.requires.0 c.requires.1.0 c.args.met c.requires.1.1.1.1 c.is_empty-margin.result c.is_empty-margin.ensures c.start_behind-start.result c.start_behind-start.ensures c.close_levels-closed.new.levels.items (c.close_levels-closed.ensures.levels ∙ ap (λ (l : List ℕ). filter (stays (not c.is_empty-margin.result) c.args.met.kind c.start_behind-start.result) (reverse l)) c.in_ok-reserve-2.ensures.items) c.top_level-level.result (c.top_level-level.ensures ∙ ap (λ (l : List ℕ). greatest_level (reverse l)) c.deref.ensures.value) c.len-depth.result (c.len-depth.ensures ∙ c.in_ok-reserve.ensures.len) c.in_ok-x.x (c.in_ok-x.ensures (front_of (source_of c.args.scanner.now.text.chars) g.before) c.requires.1.1.1.1.front);
+        taken = taken_then g.before (c.args.scanner.now.made + 1) c.args.scanner.now c.requires.0 c.requires.1.0 c.args.met c.requires.1.1.1.1 c.is_empty-margin.result c.is_empty-margin.ensures c.start_behind-start.result c.start_behind-start.ensures c.close_levels-closed.new.levels.items (c.close_levels-closed.ensures.levels ∙ ap (λ (l : List ℕ). filter (stays (not c.is_empty-margin.result) c.args.met.kind c.start_behind-start.result) (reverse l)) c.in_ok-reserve-2.ensures.items) c.top_level-level.result (c.top_level-level.ensures ∙ ap (λ (l : List ℕ). greatest_level (reverse l)) c.deref.ensures.value) c.len-depth.result (c.len-depth.ensures ∙ c.in_ok-reserve.ensures.len) c.in_ok-x.x (c.in_ok-x.ensures (front_of (source_of c.args.scanner.now.text.chars) g.before) c.requires.1.1.1.1.front);
+        place = place_then g.before (c.args.scanner.now.made + 1) c.args.scanner.now c.requires.0 c.requires.1.0 c.args.met c.requires.1.1.1.1 c.is_empty-margin.result c.is_empty-margin.ensures c.start_behind-start.result c.start_behind-start.ensures c.close_levels-closed.new.levels.items (c.close_levels-closed.ensures.levels ∙ ap (λ (l : List ℕ). filter (stays (not c.is_empty-margin.result) c.args.met.kind c.start_behind-start.result) (reverse l)) c.in_ok-reserve-2.ensures.items) c.top_level-level.result (c.top_level-level.ensures ∙ ap (λ (l : List ℕ). greatest_level (reverse l)) c.deref.ensures.value) c.len-depth.result (c.len-depth.ensures ∙ c.in_ok-reserve.ensures.len) c.in_ok-x.x (c.in_ok-x.ensures (front_of (source_of c.args.scanner.now.text.chars) g.before) c.requires.1.1.1.1.front);
+      };
+      index = index_is g.before (c.args.scanner.now.made + 1) c.args.scanner.now c.requires.0 c.requires.1.0 c.args.met c.requires.1.1.1.1 c.is_empty-margin.result c.is_empty-margin.ensures c.start_behind-start.result c.start_behind-start.ensures c.close_levels-closed.new.levels.items (c.close_levels-closed.ensures.levels ∙ ap (λ (l : List ℕ). filter (stays (not c.is_empty-margin.result) c.args.met.kind c.start_behind-start.result) (reverse l)) c.in_ok-reserve-2.ensures.items) c.top_level-level.result (c.top_level-level.ensures ∙ ap (λ (l : List ℕ). greatest_level (reverse l)) c.deref.ensures.value) c.len-depth.result (c.len-depth.ensures ∙ c.in_ok-reserve.ensures.len) c.in_ok-x.x (c.in_ok-x.ensures (front_of (source_of c.args.scanner.now.text.chars) g.before) c.requires.1.1.1.1.front);
+      within = place_within g.before (c.args.scanner.now.made + 1) c.args.scanner.now c.requires.0 c.requires.1.0 c.args.met c.requires.1.1.1.1 c.is_empty-margin.result c.is_empty-margin.ensures c.start_behind-start.result c.start_behind-start.ensures c.close_levels-closed.new.levels.items (c.close_levels-closed.ensures.levels ∙ ap (λ (l : List ℕ). filter (stays (not c.is_empty-margin.result) c.args.met.kind c.start_behind-start.result) (reverse l)) c.in_ok-reserve-2.ensures.items) c.top_level-level.result (c.top_level-level.ensures ∙ ap (λ (l : List ℕ). greatest_level (reverse l)) c.deref.ensures.value) c.len-depth.result (c.len-depth.ensures ∙ c.in_ok-reserve.ensures.len) c.in_ok-x.x (c.in_ok-x.ensures (front_of (source_of c.args.scanner.now.text.chars) g.before) c.requires.1.1.1.1.front);
+      same = record { text = refl; refusal = refl; near = refl; limit = refl; taken = refl; done = c.put_group.ensures.done ∙ (let k = c.put_key-opens.ensures.rest in k.done) };
+      made = refl;
+    }
