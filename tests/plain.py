@@ -87,7 +87,7 @@ class Reading:
         said = yield f"lex {len(self.slots) - 1} {'-' if level is None else level} {front[0]} {self.text}"
         if said.startswith("FAULT "):
             raise Refused(*[mark(m) for m in said.split(" ")[1:3]], said.split(" ", 3)[3])
-        *parts, _, end, reach, passed = said.split(" ")[1:]
+        *parts, _, end, reach, passed = said.split(" ")[2:]
         self.take(kind, start, mark(end), mark(reach), parts, passed == "true", key, allowed, levels, ends)
         return kind == "STREAM_END"
 

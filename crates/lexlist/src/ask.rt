@@ -3,7 +3,7 @@ ghost use Rattle.std.specs.Prelude.{ℕ, ◌≤◌, IfSome, IsTrue, length};
 ghost use Rattle.yaml_text.specs.Chars.{utf8};
 ghost use Rattle.yaml_lexeme.specs.Place.{IsMarkOf};
 
-use crate::show::{show_fault, show_lexeme, show_mark};
+use crate::show::{kind_name, show_fault, show_lexeme, show_mark};
 use crate::words::{bytes_of, flag_of, level_of};
 use std::alloc::{AllocError, Global};
 use yaml_lexeme::{yaml_context_t, yaml_gap, yaml_lexeme_at, yaml_lexeme_kind};
@@ -45,7 +45,7 @@ fn ask_kind(
     requires { (n : ℕ) × IsMarkOf text.now.chars at n }
 {
     match yaml_lexeme_kind(text, at, in_flow) {
-        Some(kind) => format!(in alloc; "{kind:?}"),
+        Some(kind) => String::from_str(alloc, kind_name(kind)),
         None => String::from_str(alloc, "-"),
     }
 }

@@ -7,21 +7,29 @@
 //! - `lex DEPTH LEVEL INDEX TEXT`: the lexeme of the kind that stands there: its type, the bytes of its parts, its start, end
 //!   and reach, and whether it passed a break; or the fault's context, problem and their marks; or `-`.
 //!
-//! FLOW and ALLOWED are 0 or 1, INDEX counts bytes, LEVEL is a column or `-`, TEXT is hexadecimal or `-`. A line that asks
-//! nothing of the kind is answered by `?`.
+//! FLOW and ALLOWED are 0 or 1, INDEX counts bytes, LEVEL is a column or `-`, TEXT is hexadecimal or `-`. A line that
+//! asks nothing of the kind is answered by `?`.
 //!
-//! With the word `measure` something is done nine times with the input as a text: the lexeme at its front is read, with
-//! `measure walk` all its lexemes one behind the other, and with `measure scan` its tokens are scanned. The answer is how many
-//! bytes were read, or tokens scanned, and the best and the median time in nanoseconds.
+//! With the word `measure` something is done nine times with the input as a text: the lexeme at its front is read,
+//! with `measure walk` all its lexemes one behind the other, and with `measure scan` its tokens are scanned. The
+//! answer is how many bytes were read, or tokens scanned, and the best and the median time in nanoseconds.
+//!
+//! Four commands show what a session does where memory is refused: behind the reading of the input only the calls
+//! that are named take memory (`session.rt`). `each ENC LIMIT WORD` makes the calls of WORD one by one (`s` for a
+//! scan, `p` for a peek, `k` for a skip), `calls ENC LIMIT WORD..` those of each WORD by one `yaml_run`, all on one
+//! parser; `all ENC LIMIT` lists all tokens by one call, and `decode ENC` decodes the input. ENC is `any`, `utf8`,
+//! `utf16le` or `utf16be`, LIMIT a key limit of 1 to 65536 bytes.
 #![tactic(auto)]
 
 mod ask;
 mod measure;
+mod session;
 mod show;
 mod words;
 
 use ask::answer;
 use measure::{measure, task_of, task_t};
+use session::list_session;
 use std::io::{BufRead, BufReader, BufWriter, Read, Write};
 use std::{env, io};
 
@@ -49,6 +57,7 @@ fn main(rt: HostRuntime) -> io::Result<()> {
         Some(word) if word.as_str() == "measure" => {
             measure_input(&rt, task_of(words.get(1).map(|w| w.as_str())))
         }
-        _ => answer_lines(&rt),
+        Some(_) => list_session(&rt, &words),
+        None => answer_lines(&rt),
     }
 }

@@ -1,16 +1,42 @@
-//! What a lexeme and a fault look like in a line.
+//! What a kind, a lexeme and a fault look like in a line.
 use std::alloc::{AllocError, Global};
-use yaml_lexeme::yaml_lexeme_t;
-use yaml_text::{unnamed_yaml_token_t_data, yaml_bytes_t, yaml_fault_t, yaml_mark_t};
+use yaml_lexeme::{yaml_lexeme_kind_t, yaml_lexeme_t};
+use yaml_text::{unnamed_yaml_token_t_data, yaml_fault_t, yaml_mark_t};
 
 pub fn show_mark(alloc: Global, mark: yaml_mark_t) -> Result<String, AllocError> {
     let (index, line, column) = (mark.index, mark.line, mark.column);
     format!(in alloc; "{index}:{line}:{column}")
 }
 
-fn show_bytes(alloc: Global, bytes: &yaml_bytes_t) -> Result<String, AllocError> {
+/// The name of a kind.
+pub fn kind_name(kind: yaml_lexeme_kind_t) -> &'static str {
+    match kind {
+        yaml_lexeme_kind_t::STREAM_END => "STREAM_END",
+        yaml_lexeme_kind_t::DIRECTIVE => "DIRECTIVE",
+        yaml_lexeme_kind_t::DOCUMENT_START => "DOCUMENT_START",
+        yaml_lexeme_kind_t::DOCUMENT_END => "DOCUMENT_END",
+        yaml_lexeme_kind_t::FLOW_SEQUENCE_START => "FLOW_SEQUENCE_START",
+        yaml_lexeme_kind_t::FLOW_MAPPING_START => "FLOW_MAPPING_START",
+        yaml_lexeme_kind_t::FLOW_SEQUENCE_END => "FLOW_SEQUENCE_END",
+        yaml_lexeme_kind_t::FLOW_MAPPING_END => "FLOW_MAPPING_END",
+        yaml_lexeme_kind_t::FLOW_ENTRY => "FLOW_ENTRY",
+        yaml_lexeme_kind_t::BLOCK_ENTRY => "BLOCK_ENTRY",
+        yaml_lexeme_kind_t::KEY => "KEY",
+        yaml_lexeme_kind_t::VALUE => "VALUE",
+        yaml_lexeme_kind_t::ALIAS => "ALIAS",
+        yaml_lexeme_kind_t::ANCHOR => "ANCHOR",
+        yaml_lexeme_kind_t::TAG => "TAG",
+        yaml_lexeme_kind_t::LITERAL => "LITERAL",
+        yaml_lexeme_kind_t::FOLDED => "FOLDED",
+        yaml_lexeme_kind_t::SINGLE_QUOTED => "SINGLE_QUOTED",
+        yaml_lexeme_kind_t::DOUBLE_QUOTED => "DOUBLE_QUOTED",
+        yaml_lexeme_kind_t::PLAIN => "PLAIN",
+    }
+}
+
+fn show_bytes(alloc: Global, bytes: &[u8]) -> Result<String, AllocError> {
     let mut text = String::new(alloc);
-    for b in bytes.as_slice() {
+    for b in bytes {
         let b = *b;
         text.push_str(format!(in alloc; "{b:02x}")?.as_str())?;
     }
@@ -51,13 +77,38 @@ fn show_parts(alloc: Global, says: &unnamed_yaml_token_t_data) -> Result<String,
     }
 }
 
+/// The type of a lexeme's token, as listings name it.
+fn type_name(says: &unnamed_yaml_token_t_data) -> &'static str {
+    match says {
+        unnamed_yaml_token_t_data::STREAM_END => "STREAM-END",
+        unnamed_yaml_token_t_data::VERSION_DIRECTIVE { .. } => "VERSION-DIRECTIVE",
+        unnamed_yaml_token_t_data::TAG_DIRECTIVE { .. } => "TAG-DIRECTIVE",
+        unnamed_yaml_token_t_data::DOCUMENT_START => "DOCUMENT-START",
+        unnamed_yaml_token_t_data::DOCUMENT_END => "DOCUMENT-END",
+        unnamed_yaml_token_t_data::FLOW_SEQUENCE_START => "FLOW-SEQUENCE-START",
+        unnamed_yaml_token_t_data::FLOW_SEQUENCE_END => "FLOW-SEQUENCE-END",
+        unnamed_yaml_token_t_data::FLOW_MAPPING_START => "FLOW-MAPPING-START",
+        unnamed_yaml_token_t_data::FLOW_MAPPING_END => "FLOW-MAPPING-END",
+        unnamed_yaml_token_t_data::FLOW_ENTRY => "FLOW-ENTRY",
+        unnamed_yaml_token_t_data::BLOCK_ENTRY => "BLOCK-ENTRY",
+        unnamed_yaml_token_t_data::KEY => "KEY",
+        unnamed_yaml_token_t_data::VALUE => "VALUE",
+        unnamed_yaml_token_t_data::ALIAS { .. } => "ALIAS",
+        unnamed_yaml_token_t_data::ANCHOR { .. } => "ANCHOR",
+        unnamed_yaml_token_t_data::TAG { .. } => "TAG",
+        unnamed_yaml_token_t_data::SCALAR { .. } => "SCALAR",
+        _ => "NO-LEXEME",
+    }
+}
+
 pub fn show_lexeme(alloc: Global, lexeme: &yaml_lexeme_t) -> Result<String, AllocError> {
     let parts = show_parts(alloc, &lexeme.token_data)?;
     let start = show_mark(alloc, lexeme.start_mark)?;
     let end = show_mark(alloc, lexeme.end_mark)?;
     let reach = show_mark(alloc, lexeme.reach)?;
     let passed = lexeme.passed_break;
-    format!(in alloc; "LEXEME{parts} {start} {end} {reach} {passed}")
+    let name = type_name(&lexeme.token_data);
+    format!(in alloc; "LEXEME {name}{parts} {start} {end} {reach} {passed}")
 }
 
 pub fn show_fault(alloc: Global, fault: &yaml_fault_t) -> Result<String, AllocError> {

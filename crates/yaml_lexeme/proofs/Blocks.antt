@@ -27,7 +27,7 @@ use Rattle.yaml_lexeme.specs.declared.block.tail_t.{tail_t}
 use Rattle.yaml_lexeme.specs.declared.block.chomp_t.{chomp_t}
 use Rattle.yaml_lexeme.specs.declared.block.chomp_t.TheVariants.{STRIP, CLIP, KEEP}
 use Rattle.yaml_lexeme.specs.declared.block.header_t.{header_t}
-use Rattle.yaml_lexeme.specs.declared.plain.scalar_t.{scalar_t}
+use Rattle.yaml_lexeme.specs.Lexeme.{Scalar as scalar_t}
 
 space_run : (m : yaml_mark_t) (cs : List ℕ) → let p : Place = record { mark = m; rest = cs } in first p ≡ 0x20 → (run_len (λ c. c == 0x20) p ≡ suc (run_len (λ c. c == 0x20) (skip 1 p))) × ((skip 1 p).mark.column ≡ m.column + 1)
 unfolding skip

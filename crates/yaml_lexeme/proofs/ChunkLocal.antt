@@ -7,7 +7,8 @@ use Rattle.yaml_lexeme.proofs.Local.{agree_less, run_same, take_same}
 use Rattle.yaml_lexeme.proofs.Places.{length_skip, length_one, behind_more, behind_none, skip_skip}
 use Rattle.yaml_lexeme.proofs.Plains.{tab_at, tab_over, tab_here, tab_more}
 use Rattle.yaml_lexeme.specs.Classes.{is_white}
-use Rattle.yaml_lexeme.specs.Locality.{Agree, move}
+use Rattle.yaml_lexeme.proofs.Agreeing.{Agree}
+use Rattle.yaml_lexeme.specs.Locality.{move}
 use Rattle.yaml_lexeme.specs.Place.{Place, first, peek, skip, run, run_len, behind}
 use Rattle.yaml_lexeme.specs.Plain.{is_tab, is_bad_colon, is_chunk, chunk_len, chunk, untabbed}
 use Rattle.yaml_lexeme.specs.Reading.{Found, Read, found, refuse, ◌>>=◌}

@@ -13,14 +13,14 @@ use Rattle.yaml_lexeme.specs.Block.{after_line}
 use Rattle.yaml_lexeme.specs.Classes.{ends}
 use Rattle.yaml_lexeme.specs.Directive.{number, version_at, handle_at, tag_directive_at, named, directive}
 use Rattle.yaml_lexeme.specs.Gap.{after_comment}
-use Rattle.yaml_lexeme.specs.Locality.{Agree}
+use Rattle.yaml_lexeme.proofs.Agreeing.{Agree}
 use Rattle.yaml_lexeme.specs.Place.{Place, first, skip, run, run_len, behind, break_len}
 use Rattle.yaml_lexeme.specs.Reading.{Read, found, refuse, ◌>>=◌}
 use Rattle.yaml_lexeme.specs.Uri.{some_uri}
-use Rattle.yaml_lexeme.specs.declared.directive.directive_t.{directive_t}
+use Rattle.yaml_lexeme.specs.Lexeme.{Directive as directive_t}
 use Rattle.yaml_lexeme.specs.declared.problem.problem_t.TheVariants.{NO_NUMBER, LONG_NUMBER, NO_COMMENT_OR_BREAK, OPEN_HANDLE, NO_DIRECTIVE_NAME, DIRECTIVE_NAME_GOES_ON}
 use Rattle.yaml_text.specs.Classes.{is_alpha, is_blank, is_break, is_digit, is_z}
-use Rattle.yaml_text.specs.declared.token.unnamed_yaml_token_t_data.TheVariants.{VERSION_DIRECTIVE}
+use Rattle.yaml_text.specs.Token.TokenData.{VERSION_DIRECTIVE}
 use Rattle.yaml_text.specs.declared.types.yaml_mark_t.{yaml_mark_t}
 
 at_none : (p : Place) → (run_len is_digit p == 0) ≡ true → number p ≡ refuse NO_NUMBER p

@@ -1,12 +1,15 @@
 -- Gaps are local.
-use Rattle.std.proofs.Common.{◌≡◌, ℕ, zero, suc, ◌+◌, ◌-◌, ◌≤◌, Bool, not, ◌==◌, ◌&&◌, ◌||◌, nat_lt, length, refl, sym, ap, ◌∙◌, subst, arith}
+use Rattle.std.proofs.Common.{◌≡◌, ℕ, zero, suc, ◌+◌, ◌-◌, ◌≤◌, Bool, not, ◌==◌, ◌&&◌, ◌||◌, nat_lt, length, refl, sym, ap, ◌∙◌, subst, arith, inl, inr}
 use Rattle.yaml_lexeme.proofs.Gaps.{any_fuel}
 use Rattle.yaml_lexeme.proofs.Like.{Step, IsStep, step_here, step_skip, step_run, step_if, step_then, agree_behind}
+use Rattle.yaml_lexeme.proofs.Local.{distance_on}
+use Rattle.yaml_lexeme.proofs.Orders.{gap_order}
 use Rattle.yaml_lexeme.proofs.Places.{length_skip, skip_skip}
 use Rattle.yaml_lexeme.specs.Classes.{is_in_line}
 use Rattle.yaml_lexeme.specs.Gap.{byte_order_mark, is_gap_blank, after_mark, after_comment, after_gap_line, after_gap_lines, gap}
-use Rattle.yaml_lexeme.specs.Locality.{Agree, GapIsLocal}
-use Rattle.yaml_lexeme.specs.Place.{Place, first, skip, behind, break_len}
+use Rattle.yaml_lexeme.proofs.Agreeing.{Agree, by_agreeing}
+use Rattle.yaml_lexeme.specs.Locality.{GapIsLocal}
+use Rattle.yaml_lexeme.specs.Place.{Place, first, skip, distance, behind, break_len}
 
 pub break_same : (n : ℕ) (p q : Place) → Agree n p q → 8 ≤ n → break_len q ≡ break_len p
 break_same n p q a h = rw (a.same 0 (omega arith), a.same 1 (omega arith)) refl
@@ -37,9 +40,10 @@ lines_step (suc m) flow n p q a =
 broken_same : (n : ℕ) (p q : Place) → 8 ≤ n → Agree n p q → nat_lt 0 (break_len q) ≡ nat_lt 0 (break_len p)
 broken_same n p q h a = ap (λ (i : ℕ). nat_lt 0 i) (break_same n p q a h)
 
-pub gap_is_local : GapIsLocal
+-- a gap that ends k characters on
+pub gap_local_to : (flow allowed : Bool) (p q : Place) (k : ℕ) → (gap flow allowed p).0 ≡ skip k p → Agree (k + 8) p q → gap flow allowed q ≡ (skip k q, (gap flow allowed p).1)
 unfolding gap
-gap_is_local flow allowed p q k e a =
+gap_local_to flow allowed p q k e a =
     let n = k + 8 in
     let tabs = flow || not allowed in
     let x = after_gap_line tabs p in
@@ -60,3 +64,13 @@ gap_is_local flow allowed p q k e a =
     let end : after_gap_lines (length y.rest) flow y ≡ skip k q = yz ∙ t.same (omega arith) ∙ ap (λ (i : ℕ). skip i q) all in
     let flag : nat_lt 0 (break_len y) ≡ nat_lt 0 (break_len x) = broken_same (n - s.count) x y (omega arith) there in
     rw (end, flag) refl
+
+pub gap_is_local : GapIsLocal
+gap_is_local flow allowed p q a =
+    let end = (gap flow allowed p).0 in
+    let k = distance p end in
+    let is = distance_on p end (gap_order flow allowed p).0 in
+    elim (by_agreeing (k + 8) p q a) [
+      | inl same ↦ subst (λ (x : Place). gap flow allowed x ≡ (skip k x, (gap flow allowed p).1)) same (ap (λ (x : Place). (x, (gap flow allowed p).1)) is)
+      | inr long ↦ gap_local_to flow allowed p q k is long
+    ]

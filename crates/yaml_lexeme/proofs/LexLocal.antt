@@ -1,13 +1,13 @@
 -- Lexemes are local.
 use Rattle.std.proofs.Common.{ℕ, true, false, Ok, Err, refl, sym, ap, ◌∙◌, subst}
 use Rattle.yaml_lexeme.specs.declared.kind.yaml_lexeme_kind_t.TheVariants as kind
-use Rattle.yaml_text.specs.declared.token.unnamed_yaml_token_t_data.TheVariants as token
+use Rattle.yaml_text.specs.Token.{TokenData as token}
 use Rattle.yaml_lexeme.proofs.Ahead.{ahead_any}
 use Rattle.yaml_lexeme.proofs.BlockLocal.{block_like}
 use Rattle.yaml_lexeme.proofs.BodyLocal.{quoted_local}
 use Rattle.yaml_lexeme.proofs.DirectivesLocal.{directive_like}
-use Rattle.yaml_lexeme.proofs.Like.{IsLike, agree_self, like_found, like_bind, like_of, like_law, agree_behind}
-use Rattle.yaml_lexeme.proofs.Local.{EndsAt}
+use Rattle.yaml_lexeme.proofs.Like.{IsLike, agree_self, like_found, like_bind, like_of, like_law, like_to, agree_behind}
+use Rattle.yaml_lexeme.proofs.Local.{EndsAt, IsLocalTo}
 use Rattle.yaml_lexeme.proofs.NamesLocal.{name_like, tag_like}
 use Rattle.yaml_lexeme.proofs.Places.{skip_none}
 use Rattle.yaml_lexeme.proofs.PlainLocal.{plain_like}
@@ -24,9 +24,9 @@ use Rattle.yaml_lexeme.specs.Reading.{Read}
 use Rattle.yaml_lexeme.specs.Tag.{tag}
 use Rattle.yaml_lexeme.specs.declared.kind.yaml_lexeme_kind_t.{yaml_lexeme_kind_t}
 use Rattle.yaml_lexeme.specs.declared.lex.yaml_context_t.{yaml_context_t}
-use Rattle.yaml_lexeme.specs.declared.lex.yaml_lexeme_t.{yaml_lexeme_t}
-use Rattle.yaml_lexeme.specs.declared.plain.scalar_t.{scalar_t}
-use Rattle.yaml_text.specs.declared.token.unnamed_yaml_token_t_data.{unnamed_yaml_token_t_data}
+use Rattle.yaml_lexeme.specs.Lexeme.{Lexeme as yaml_lexeme_t}
+use Rattle.yaml_lexeme.specs.Lexeme.{Scalar as scalar_t}
+use Rattle.yaml_text.specs.Token.{TokenData as unnamed_yaml_token_t_data}
 use Rattle.yaml_text.specs.declared.types.yaml_mark_t.{yaml_mark_t}
 use Rattle.yaml_text.specs.declared.types.yaml_scalar_style_t.{yaml_scalar_style_t}
 use Rattle.yaml_text.specs.declared.types.yaml_scalar_style_t.TheVariants.{YAML_PLAIN_SCALAR_STYLE, YAML_SINGLE_QUOTED_SCALAR_STYLE, YAML_DOUBLE_QUOTED_SCALAR_STYLE, YAML_LITERAL_SCALAR_STYLE, YAML_FOLDED_SCALAR_STYLE}
@@ -76,6 +76,9 @@ lex_like kind.DOUBLE_QUOTED c n p q a = whole_like (quoted_as YAML_DOUBLE_QUOTED
 lex_like kind.LITERAL c n p q a = scalar_like YAML_LITERAL_SCALAR_STYLE (block false (least c)) (block_like false (least c)) n p q a
 lex_like kind.FOLDED c n p q a = scalar_like YAML_FOLDED_SCALAR_STYLE (block true (least c)) (block_like true (least c)) n p q a
 lex_like kind.PLAIN c n p q a = scalar_like YAML_PLAIN_SCALAR_STYLE (plain (in_flow c) (least c)) (plain_like (in_flow c) (least c)) n p q a
+
+pub lex_local_to : (k : yaml_lexeme_kind_t) (c : yaml_context_t) → IsLocalTo (lex k c)
+lex_local_to k c = like_to (lex k c) (lex_like k c)
 
 pub lex_is_local : LexIsLocal
 lex_is_local k c = like_law (lex k c) (lex_like k c)

@@ -1,3 +1,4 @@
+pub mod Agreeing
 pub mod Local
 pub mod Like
 pub mod Loop
@@ -20,6 +21,8 @@ pub mod WholeLaws
 pub mod CountLaws
 pub mod PartLaws
 pub mod ScalarParts
+pub mod GapLaws
+pub mod ListParts
 mod Rows
 pub mod Lanes
 pub mod Vectors

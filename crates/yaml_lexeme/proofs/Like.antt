@@ -1,10 +1,11 @@
 -- Locality, put together from smaller readers.
 use Rattle.std.proofs.Common.{◌≡◌, ℕ, ◌+◌, ◌-◌, ◌≤◌, Bool, true, false, if◌then◌else◌, inl, inr, List, length, take, Some, None, Ok, Err, refl, sym, ap, ◌∙◌, subst, arith}
 use Rattle.std.proofs.lemmas.Bool.{cases_lt}
-use Rattle.yaml_lexeme.proofs.Local.{agree_less, agree_skip, run_same, take_same, EndsAt, PartEndsAt, Local, LocalPart, move_part, local_many, is_local}
+use Rattle.yaml_lexeme.proofs.Local.{agree_less, agree_skip, run_same, take_same, EndsAt, PartEndsAt, Local, LocalPart, move_part, local_many, is_local, IsLocalTo, is_local_to}
 use Rattle.yaml_lexeme.proofs.Many.{Shortens}
 use Rattle.yaml_lexeme.proofs.Places.{skip_none, length_skip, skip_skip}
-use Rattle.yaml_lexeme.specs.Locality.{Agree, move, IsLocal}
+use Rattle.yaml_lexeme.proofs.Agreeing.{Agree}
+use Rattle.yaml_lexeme.specs.Locality.{move, IsLocal}
 use Rattle.yaml_lexeme.specs.Place.{Place, skip, run, run_len, behind}
 use Rattle.yaml_lexeme.specs.Reading.{Found, Read, found, refuse, ◌>>=◌, Part, part, over, many}
 use Rattle.yaml_lexeme.specs.declared.problem.problem_t.{problem_t}
@@ -191,6 +192,9 @@ many_like one short all = like_of (many one) (local_many one short (part_local o
 
 pub like_law : {A : Type 0} (read : Place → Read A) → IsLike read → IsLocal read
 like_law read all = is_local read (local_of read all)
+
+pub like_to : {A : Type 0} (read : Place → Read A) → IsLike read → IsLocalTo read
+like_to read all = is_local_to read (local_of read all)
 
 -- The place that a step reaches from p, and from q.
 pub record Step (n : ℕ) (p q x y : Place) : Type 0 where

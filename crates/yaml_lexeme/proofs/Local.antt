@@ -1,11 +1,14 @@
 -- What is read depends on no character eight or more past the place where reading ends.
-use Rattle.std.proofs.Common.{◌≡◌, ℕ, zero, suc, ◌+◌, ◌<◌, ◌≤◌, Bool, List, [], ◌∷◌, length, take, Some, None, Ok, Err, refl, sym, ap, ◌∙◌, subst, arith, get_or-drop, get_or-take}
+use Rattle.std.proofs.Common.{◌≡◌, ℕ, zero, suc, ◌+◌, ◌<◌, ◌≤◌, Bool, List, [], ◌∷◌, length, take, Some, None, Ok, Err, refl, sym, ap, ◌∙◌, subst, arith, inl, inr, get_or-drop, get_or-take}
 use Rattle.std.proofs.lemmas.List.{ext_get_or, length-take-le}
 use Rattle.std.proofs.lemmas.List.Sums.{prefix_len_is, prefix_len_passes, prefix_len_stops}
+use Rattle.yaml_lexeme.proofs.Agreeing.{Agree, by_agreeing}
+use Rattle.yaml_lexeme.proofs.Ahead.{ahead_any}
 use Rattle.yaml_lexeme.proofs.Many.{IsShorter, Shortens, many_turn}
 use Rattle.yaml_lexeme.proofs.Places.{skip_one, skip_more, skip_none, length_skip, skip_skip}
-use Rattle.yaml_lexeme.specs.Locality.{Agree, reach, move, IsLocal}
-use Rattle.yaml_lexeme.specs.Place.{Place, peek, skip, run_len}
+use Rattle.yaml_lexeme.specs.Locality.{reach, move, IsLocal}
+use Rattle.yaml_lexeme.specs.Order.{IsAhead}
+use Rattle.yaml_lexeme.specs.Place.{Place, peek, skip, distance, run_len}
 use Rattle.yaml_lexeme.specs.Reading.{Read, found, refuse, ◌>>=◌, Part, part, over, with_front, go_on, many}
 
 pub agree_less : (m n : ℕ) (p q : Place) → m ≤ n → Agree n p q → Agree m p q
@@ -147,11 +150,38 @@ reach_is : {A : Type 0} → (k : ℕ) (p : Place) (r : Read A) → EndsAt k p r 
 reach_is k p (Ok r) h = h
 reach_is k p (Err r) h = h
 
--- the law, from the count of characters that was found
-pub is_local : {A : Type 0} → (read : Place → Read A) → ((p : Place) → Local read p) → IsLocal read
-is_local read all p q k e a =
+-- reading that ended k characters on is the same at a place with k + 8 characters in common
+abbrev pub IsLocalTo : {A : Type 0} → (Place → Read A) → Type 0
+IsLocalTo read = (p q : Place) (k : ℕ) → reach (read p) ≡ skip k p → Agree (k + 8) p q → read q ≡ move (read p) (skip k q)
+
+pub is_local_to : {A : Type 0} → (read : Place → Read A) → ((p : Place) → Local read p) → IsLocalTo read
+is_local_to read all p q k e a =
     let here = all p in
     let c = here.count in
     let lengths = ap (λ (x : Place). length x.rest) (sym (reach_is c p (read p) here.ends) ∙ e) in
     let same : c ≡ k = omega (arith, a.left, length_skip c p, length_skip k p, lengths) in
     subst (λ (n : ℕ). read q ≡ move (read p) (skip n q)) same (here.same q (subst (λ (n : ℕ). Agree (n + 8) p q) (sym same) a))
+
+-- the place that a distance leads to
+pub distance_on : (p x : Place) → IsAhead 0 p x → x ≡ skip (distance p x) p
+distance_on p x a =
+    let l = ap (λ (y : Place). length y.rest) a.is in
+    let c : a.count ≡ distance p x = omega (arith, a.within, length_skip a.count p) in
+    a.is ∙ ap (λ (n : ℕ). skip n p) c
+
+move_self : {A : Type 0} → (r : Read A) (x : Place) → reach r ≡ x → r ≡ move r x
+move_self (Ok f) x e = ap (λ (y : Place). found f.value y) e
+move_self (Err o) x e = ap (λ (y : Place). refuse o.problem y) e
+
+-- the law, from the count of characters that was found
+pub is_local : {A : Type 0} → (read : Place → Read A) → ((p : Place) → Local read p) → IsLocal read
+is_local read all p q a =
+    let here = all p in
+    let k = distance p (reach (read p)) in
+    let e = reach_is here.count p (read p) here.ends in
+    let ahead : IsAhead 0 p (reach (read p)) = subst (λ (x : Place). IsAhead 0 p x) (sym e) (ahead_any here.count p) in
+    let is = distance_on p (reach (read p)) ahead in
+    elim (by_agreeing (k + 8) p q a) [
+      | inl same ↦ subst (λ (x : Place). read x ≡ move (read p) (skip k x)) same (move_self (read p) (skip k p) is)
+      | inr long ↦ is_local_to read all p q k is long
+    ]

@@ -6,7 +6,7 @@ use Rattle.std.specs.Str.Parse.{digits_value}
 use Rattle.yaml_lexeme.proofs.Like.{IsLike, IsPartLike, found_here, refuse_here, found_on, like_if, part_like_if, like_on, like_bind, like_run, like_same, like_map, like_part, part_on, over_here, many_like}
 use Rattle.yaml_lexeme.proofs.Uris.{uri_shortens}
 use Rattle.yaml_lexeme.specs.Classes.{ends}
-use Rattle.yaml_lexeme.specs.Locality.{Agree}
+use Rattle.yaml_lexeme.proofs.Agreeing.{Agree}
 use Rattle.yaml_lexeme.specs.Name.{is_behind_name, name}
 use Rattle.yaml_lexeme.specs.Place.{Place, first, peek, skip, run, behind}
 use Rattle.yaml_lexeme.specs.Reading.{Read, found, refuse, ◌>>=◌, with_front}
@@ -14,8 +14,8 @@ use Rattle.yaml_lexeme.specs.Tag.{lone, angled, handled, tag}
 use Rattle.yaml_lexeme.specs.Uri.{octet, octet_width, is_bad_next, next_octets, is_uri, uri_escape, uri_part, uri, some_uri}
 use Rattle.yaml_lexeme.specs.declared.problem.problem_t.TheVariants.{NO_OCTET, BAD_NEXT_OCTET, BAD_LEAD_OCTET, NO_NAME}
 use Rattle.yaml_text.specs.Classes.{is_alpha, is_hex}
-use Rattle.yaml_text.specs.declared.token.unnamed_yaml_token_t_data.{unnamed_yaml_token_t_data}
-use Rattle.yaml_text.specs.declared.token.unnamed_yaml_token_t_data.TheVariants.{TAG}
+use Rattle.yaml_text.specs.Token.{TokenData as unnamed_yaml_token_t_data}
+use Rattle.yaml_text.specs.Token.TokenData.{TAG}
 
 -- behind the letters
 abbrev name_then : List ℕ → Place → Read (List ℕ)

@@ -12,11 +12,11 @@ use Rattle.yaml_lexeme.proofs.Plains.{tab_at, link_shortens}
 use Rattle.yaml_lexeme.proofs.Spaces.{run_none}
 use Rattle.yaml_lexeme.specs.Classes.{is_white}
 use Rattle.yaml_lexeme.specs.Fold.{fold}
-use Rattle.yaml_lexeme.specs.Locality.{Agree}
+use Rattle.yaml_lexeme.proofs.Agreeing.{Agree}
 use Rattle.yaml_lexeme.specs.Place.{Place, first, peek, skip, run, behind}
 use Rattle.yaml_lexeme.specs.Plain.{is_bad_colon, is_chunk, chunk_len, chunk, untabbed, separator, is_over, link, plain}
 use Rattle.yaml_lexeme.specs.Reading.{Found, Read, found, refuse, ◌>>=◌, Part, part, over, many}
-use Rattle.yaml_lexeme.specs.declared.plain.scalar_t.{scalar_t}
+use Rattle.yaml_lexeme.specs.Lexeme.{Scalar as scalar_t}
 use Rattle.yaml_lexeme.specs.declared.problem.problem_t.TheVariants.{COLON_IN_FLOW}
 use Rattle.yaml_text.specs.Chars.{utf8}
 use Rattle.yaml_text.specs.Classes.{is_break}

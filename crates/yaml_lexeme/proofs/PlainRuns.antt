@@ -14,7 +14,7 @@ use Rattle.yaml_text.specs.Classes.{is_blank, is_break}
 use Rattle.yaml_lexeme.specs.declared.problem.problem_t.TheVariants.{COLON_IN_FLOW}
 use Rattle.yaml_lexeme.specs.declared.problem.refusal_t.{refusal_t}
 use Rattle.yaml_lexeme.specs.declared.problem.refusal_t.TheVariants as errors
-use Rattle.yaml_lexeme.specs.declared.plain.scalar_t.{scalar_t}
+use Rattle.yaml_lexeme.specs.Lexeme.{Scalar as scalar_t}
 use Rattle.yaml_lexeme.proofs.Cursors.{rest_skip}
 use Rattle.yaml_lexeme.proofs.Many.{joined, many_turn, reads_all, reads_none}
 use Rattle.yaml_lexeme.proofs.Parts.{fold_none, no_breaks, column_behind, no_marker, space_first}

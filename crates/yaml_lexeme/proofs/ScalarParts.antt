@@ -1,24 +1,26 @@
 -- Quoted and plain scalars are their parts.
-use Rattle.std.proofs.Common.{◌≡◌, ℕ, zero, suc, ◌+◌, ◌<◌, ◌⊎◌, Bool, true, false, not, ◌==◌, ◌&&◌, ◌||◌, if◌then◌else◌, inl, inr, List, [], ◌∷◌, ◌++◌, length, take, drop, slice_index, Option, Some, None, Ok, Err, refl, sym, ap, ◌∙◌, subst, arith, append_assoc}
+use Rattle.std.proofs.Common.{◌≡◌, ℕ, zero, suc, ◌+◌, ◌<◌, ◌≤◌, ◌⊎◌, Bool, true, false, not, ◌==◌, ◌&&◌, ◌||◌, if◌then◌else◌, inl, inr, List, [], ◌∷◌, ◌++◌, length, take, drop, slice_index, Option, Some, None, Ok, Err, refl, sym, ap, ◌∙◌, subst, arith, append_assoc, length-append, get_or-drop}
 use Rattle.std.proofs.lemmas.Bool.{cases_Bool}
 use Rattle.std.proofs.lemmas.Bool.Decides.{nat_tests}
 use Rattle.std.proofs.lemmas.List.{length-take-le}
-use Rattle.std.specs.List.{list_any, flat_map}
+use Rattle.std.specs.List.{flat_map}
 use Rattle.yaml_text.specs.Chars.{utf8}
 use Rattle.yaml_text.specs.Classes.{is_break, is_z}
-use Rattle.yaml_lexeme.specs.declared.plain.scalar_t.{scalar_t}
-use Rattle.yaml_lexeme.specs.declared.problem.problem_t.TheVariants.{DOCUMENT_MARKER}
+use Rattle.yaml_lexeme.specs.Lexeme.{Scalar as scalar_t}
+use Rattle.yaml_lexeme.specs.declared.problem.problem_t.{problem_t}
+use Rattle.yaml_lexeme.specs.declared.problem.problem_t.TheVariants.{DOCUMENT_MARKER, COLON_IN_FLOW}
 use Rattle.yaml_lexeme.specs.Classes.{is_white}
 use Rattle.yaml_lexeme.specs.Escape.{backslash, escape}
 use Rattle.yaml_lexeme.specs.Fold.{fold}
 use Rattle.yaml_lexeme.specs.Kind.{is_marker}
-use Rattle.yaml_lexeme.specs.Parts.{Piece, texts, values, IsLongest, QuotedParts, QuotedIsParts, QuotedIsRefused, PlainParts, PlainIsParts, PlainIsRefused, ChunkIsLongest, LinkIsLongest}
+use Rattle.yaml_lexeme.specs.Parts.{Piece, texts, values, IsLongest, QuotedParts, QuotedIsParts, QuotedIsRefused, plain_scalar, PlainParts, PlainIsParts, ChunkRefused, LinksRefused, PlainIsRefused, ChunkIsLongest, LinkParts, LinkIsLongest, SeparatorEnds, LinkIsOver}
 use Rattle.yaml_lexeme.specs.Place.{Place, first, peek, skip, run, behind}
 use Rattle.yaml_lexeme.specs.Plain.{is_bad_colon, is_chunk, chunk_len, chunk, tab_from, untabbed, separator, is_over, link, plain}
 use Rattle.yaml_lexeme.specs.Quoted.{quote, body_part, spelled, quoted}
 use Rattle.yaml_lexeme.specs.Reading.{Offence, Found, Read, found, refuse, ◌>>=◌, Part, part, over, many}
 use Rattle.yaml_lexeme.proofs.CountLaws.{rest_behind}
 use Rattle.yaml_lexeme.proofs.PartLaws.{Advances, split, many_longest, many_refused, found_of, refused_of}
+use Rattle.yaml_lexeme.proofs.Places.{skip_none}
 use Rattle.yaml_lexeme.proofs.PlainLocal.{unless_bad, chunk_within}
 use Rattle.yaml_lexeme.proofs.Spaces.{stopped}
 use Rattle.yaml_lexeme.proofs.Spans.{body_goes, link_goes}
@@ -108,7 +110,7 @@ pub quoted_parts : QuotedIsParts
 quoted_parts single p f = (λ h. body_from single p f (many (body_part single) (skip 1 p)) refl (sym (quoted_is single p) ∙ h), body_to single p f)
 
 abbrev BodyRefused : Bool → Place → Offence → Type 0
-BodyRefused single p e = (parts : List Piece) × (q : Place) × IsLongest (body_part single) (skip 1 p) parts q (Err e)
+BodyRefused single p e = (parts : List (Piece (List ℕ))) × (q : Place) × IsLongest (body_part single) (skip 1 p) parts q (Err e)
 
 refused_from : (single : Bool) (p : Place) (e : Offence) (r : Read (List (List ℕ))) → many (body_part single) (skip 1 p) ≡ r → finish r ≡ Err e → BodyRefused single p e
 refused_from single p e (Ok b) is h = absurd cc
@@ -170,13 +172,74 @@ chunk_longest flow p f h =
       subst (λ (cs : List ℕ). is_chunk flow (slice_index cs 0) (slice_index cs 1) ≡ false) (sym rest) (chunk_over flow p.rest),
     )
 
+-- a chunk that is refused
+abbrev problem_or : problem_t → Read (List ℕ) → problem_t
+problem_or x (Ok f) = x
+problem_or x (Err e) = e.problem
+
+abbrev at_or : Place → Read (List ℕ) → Place
+at_or x (Ok f) = x
+at_or x (Err e) = e.at
+
+bad_of : (b : Bool) (v : List ℕ) (end : Place) (e : Offence) → (if b then refuse COLON_IN_FLOW end else found v end) ≡ Err e → (b ≡ true) × (e.problem ≡ COLON_IN_FLOW) × (e.at ≡ end)
+bad_of true v end e h = (refl, sym (ap (problem_or COLON_IN_FLOW) h), sym (ap (at_or end) h))
+bad_of false v end e h = absurd cc
+
+chunk_refused_from : (flow : Bool) (p : Place) (e : Offence) → chunk flow p ≡ Err e → ChunkRefused flow p e
+unfolding chunk
+chunk_refused_from flow p e h =
+    let k = chunk_len flow p.rest in
+    let end = skip k p in
+    let t = bad_of (is_bad_colon flow (first end) (peek end 1)) (take k p.rest) end e h in
+    let len : length (take k p.rest) ≡ k = length-take-le k p.rest (chunk_within flow p.rest) in
+    record {
+      text = take k p.rest;
+      joined = split k p ∙ ap (λ (q : Place). take k p.rest ++ q.rest) (sym t.2);
+      at = t.2 ∙ ap (λ (n : ℕ). skip n p) (sym len);
+      all = λ i l. chunk_all flow p.rest i (omega (arith, len));
+      colon = subst (λ (q : Place). is_bad_colon flow (first q) (peek q 1) ≡ true) (sym t.2) t.0;
+      problem = t.1;
+    }
+
+chunk_len_is : (flow : Bool) (cs : List ℕ) (k : ℕ) → k ≤ length cs → ((i : ℕ) → i < k → is_chunk flow (slice_index cs i) (slice_index cs (i + 1)) ≡ true) → is_chunk flow (slice_index cs k) (slice_index cs (k + 1)) ≡ false → chunk_len flow cs ≡ k
+chunk_len_is flow [] k h all stop = omega arith
+chunk_len_is flow (c ∷ cs) zero h all stop = rw stop refl
+chunk_len_is flow (c ∷ cs) (suc k) h all stop =
+    let next : (i : ℕ) → i < k → is_chunk flow (slice_index cs i) (slice_index cs (i + 1)) ≡ true = λ i l. (let e : suc i + 1 ≡ suc (i + 1) = omega arith in rw e at (all (suc i) (omega arith))) in
+    let e : suc k + 1 ≡ suc (k + 1) = omega arith in
+    let more = chunk_len_is flow cs k (omega arith) next (rw e at stop) in
+    rw (all 0 (omega arith)) (omega (arith, more))
+
+no_chunk : (x b : Bool) → b ≡ true → (x && not b) ≡ false
+no_chunk true true h = refl
+no_chunk false b h = refl
+no_chunk true false h = absurd cc
+
+peek_on : (k i : ℕ) (p : Place) → peek (skip k p) i ≡ peek p (k + i)
+peek_on k i p = ap (λ (cs : List ℕ). slice_index cs i) (rest_behind k p) ∙ get_or-drop k p.rest i 0
+
+text_within : (text more rest : List ℕ) → rest ≡ text ++ more → length text ≤ length rest
+text_within text more rest e = omega (arith, length-append text more, ap length e)
+
+chunk_refused_to : (flow : Bool) (p : Place) (e : Offence) → ChunkRefused flow p e → chunk flow p ≡ Err e
+unfolding chunk
+chunk_refused_to flow p e r =
+    let k = length r.text in
+    let bad : is_bad_colon flow (peek (skip k p) 0) (peek (skip k p) 1) ≡ true = subst (λ (q : Place). is_bad_colon flow (first q) (peek q 1) ≡ true) r.at r.colon in
+    let none : is_chunk flow (peek (skip k p) 0) (peek (skip k p) 1) ≡ false = no_chunk _ (is_bad_colon flow (peek (skip k p) 0) (peek (skip k p) 1)) bad in
+    let zero_on : k + 0 ≡ k = omega arith in
+    let here : is_chunk flow (peek p k) (peek p (k + 1)) ≡ false = subst (λ (c : ℕ). is_chunk flow c (peek p (k + 1)) ≡ false) (peek_on k 0 p ∙ ap (peek p) zero_on) (subst (λ (d : ℕ). is_chunk flow (peek (skip k p) 0) d ≡ false) (peek_on k 1 p) none) in
+    let len : chunk_len flow p.rest ≡ k = chunk_len_is flow p.rest k (text_within r.text e.at.rest p.rest r.joined) r.all here in
+    rw (len, bad) (ap (λ (x : problem_t). refuse x (skip k p)) (sym r.problem) ∙ ap (λ (x : Place). refuse e.problem x) (sym r.at))
+
 -- links
 not_over : (b : Bool) (y : Part (List ℕ)) (f : Found (List ℕ)) → (if b then over else y) ≡ part f.value f.end → (b ≡ false) × (y ≡ part f.value f.end)
 not_over true y f h = absurd cc
 not_over false y f h = (refl, h)
 
-no_tab : (o : Option Place) (v : List ℕ) (e : Place) (g : Found (List ℕ) → Part (List ℕ)) (f : Found (List ℕ)) → (untabbed o v e >>= g) ≡ part f.value f.end → g (record { value = v; end = e }) ≡ part f.value f.end
-no_tab None v e g f h = h
+no_tab : (o : Option Place) (v : List ℕ) (e : Place) (g : Found (List ℕ) → Part (List ℕ)) (f : Found (List ℕ)) → (untabbed o v e >>= g) ≡ part f.value f.end
+    → (untabbed o v e ≡ found v e) × (g (record { value = v; end = e }) ≡ part f.value f.end)
+no_tab None v e g f h = (refl, h)
 no_tab (Some t) v e g f h = absurd cc
 
 abbrev value_in : Part (List ℕ) → List ℕ
@@ -201,25 +264,120 @@ by_chunk flow gap q f (Ok c) e h =
     (c.value, e ∙ ap (λ (x : Place). found c.value x) (ap (end_in q) t.1), some (length c.value) t.0, sym (ap value_in t.1))
 by_chunk flow gap q f (Err o) e h = absurd cc
 
-pub link_longest : LinkIsLongest
+is_so : (b : Bool) → not b ≡ false → b ≡ true
+is_so true h = refl
+is_so false h = absurd cc
+
+link_from : (flow : Bool) (least : ℕ) (p : Place) (f : Found (List ℕ)) → link flow least p ≡ part f.value f.end → LinkParts flow least p f
 unfolding link separator
-link_longest flow least p f h =
+link_from flow least p f h =
     let end = behind is_white p in
-    let h1 = (not_over (not (is_white (first p))) _ f h).1 in
-    let h2 = no_tab (tab_from least false p.mark p.rest) (fold (run is_white p)) end _ f h1 in
-    let h3 = (not_over (is_over flow least end) _ f h2).1 in
-    let t = by_chunk flow (fold (run is_white p)) end f (chunk flow end) refl h3 in
-    (t.0, t.1, t.2, t.3, stopped is_white p refl)
+    let h1 = not_over (not (is_white (first p))) _ f h in
+    let h2 = no_tab (tab_from least false p.mark p.rest) (fold (run is_white p)) end _ f h1.1 in
+    let h3 = not_over (is_over flow least end) _ f h2.1 in
+    let t = by_chunk flow (fold (run is_white p)) end f (chunk flow end) refl h3.1 in
+    record {
+      text = t.0;
+      white = is_so (is_white (first p)) h1.0;
+      stops = stopped is_white p refl;
+      separator = h2.0;
+      goes_on = h3.0;
+      chunk = t.1;
+      some = t.2;
+      value = t.3;
+    }
+
+not_none : (k : ℕ) → 0 < k → (k == 0) ≡ false
+not_none k h = grind (arith, nat_tests)
+
+link_to : (flow : Bool) (least : ℕ) (p : Place) (f : Found (List ℕ)) → LinkParts flow least p f → link flow least p ≡ part f.value f.end
+unfolding link
+link_to flow least p f l =
+    let none : (length l.text == 0) ≡ false = not_none (length l.text) l.some in
+    rw (l.white, l.separator, l.goes_on, l.chunk, none) (ap (λ (v : List ℕ). part v f.end) (sym l.value))
+
+pub link_longest : LinkIsLongest
+link_longest flow least p f = (link_from flow least p f, link_to flow least p f)
+
+-- where a link is over
+over_or : (b : Bool) (y : Part (List ℕ)) → (if b then over else y) ≡ over → (b ≡ true) ⊎ (y ≡ over)
+over_or true y h = inl refl
+over_or false y h = inr h
+
+tab_or : (o : Option Place) (v : List ℕ) (e : Place) (g : Found (List ℕ) → Part (List ℕ)) → (untabbed o v e >>= g) ≡ over → (untabbed o v e ≡ found v e) × (g (record { value = v; end = e }) ≡ over)
+tab_or None v e g h = (refl, h)
+tab_or (Some t) v e g h = absurd cc
+
+empty : (cs : List ℕ) → length cs ≡ 0 → cs ≡ []
+empty [] h = refl
+empty (c ∷ cs) h = absurd (omega arith)
+
+zero_of : (k : ℕ) → (k == 0) ≡ true → k ≡ 0
+zero_of k h = grind (arith, nat_tests)
+
+no_more : (b : Bool) (v : List ℕ) (q : Place) → (if b then over else part v q) ≡ over → b ≡ true
+no_more true v q h = refl
+no_more false v q h = absurd cc
+
+chunk_none : (flow : Bool) (gap : List ℕ) (q : Place) (r : Read (List ℕ)) → chunk flow q ≡ r → (r >>= λ c. if length c.value == 0 then over else part (gap ++ c.value) c.end) ≡ over → chunk flow q ≡ found [] q
+chunk_none flow gap q (Ok c) e h =
+    let k = chunk_len flow q.rest in
+    let z : length c.value ≡ 0 = zero_of (length c.value) (no_more (length c.value == 0) (gap ++ c.value) c.end h) in
+    let t = chunk_is flow q c e in
+    let len : length (take k q.rest) ≡ k = length-take-le k q.rest (chunk_within flow q.rest) in
+    let none : k ≡ 0 = omega (arith, z, len, ap length t.0) in
+    let end : c.end ≡ q = t.1 ∙ ap (λ (n : ℕ). skip n q) none ∙ skip_none q in
+    e ∙ ap (λ (v : List ℕ). found v c.end) (empty c.value z) ∙ ap (λ (x : Place). found [] x) end
+chunk_none flow gap q (Err o) e h = absurd cc
+
+over_from : (flow : Bool) (least : ℕ) (p : Place) → link flow least p ≡ over → (is_white (first p) ≡ false) ⊎ SeparatorEnds flow least p
+unfolding link separator
+over_from flow least p h =
+    elim (over_or (not (is_white (first p))) _ h) [
+      | inl none ↦ inl (is_not (is_white (first p)) none)
+      | inr h1 ↦
+          let end = behind is_white p in
+          let h2 = tab_or (tab_from least false p.mark p.rest) (fold (run is_white p)) end _ h1 in
+          inr (record {
+            separator = h2.0;
+            ends = elim (over_or (is_over flow least end) _ h2.1) [
+              | inl e ↦ inl e
+              | inr h3 ↦ inr (chunk_none flow (fold (run is_white p)) end (chunk flow end) refl h3)
+            ];
+          })
+    ]
+  where
+    is_not : (b : Bool) → not b ≡ true → b ≡ false
+    is_not true h = sym h
+    is_not false h = refl
+
+separator_over : (flow : Bool) (least : ℕ) (p : Place) (w : Bool) → is_white (first p) ≡ w → SeparatorEnds flow least p → link flow least p ≡ over
+unfolding link
+separator_over flow least p false w s = rw w refl
+separator_over flow least p true w s =
+    elim s.ends [
+      | inl e ↦ rw (w, s.separator, e) refl
+      | inr e ↦ rw (w, s.separator) (either (is_over flow least (behind is_white p)) _ (rw e refl))
+    ]
+  where
+    either : (b : Bool) (y : Part (List ℕ)) → y ≡ over → (if b then over else y) ≡ over
+    either true y h = refl
+    either false y h = h
+
+over_to : (flow : Bool) (least : ℕ) (p : Place) → (is_white (first p) ≡ false) ⊎ SeparatorEnds flow least p → link flow least p ≡ over
+unfolding link
+over_to flow least p (inl none) = rw none refl
+over_to flow least p (inr s) = separator_over flow least p (is_white (first p)) refl s
+
+pub link_over : LinkIsOver
+link_over flow least p = (over_from flow least p, over_to flow least p)
 
 -- plain scalars
 link_advances : (flow : Bool) (least : ℕ) → Advances (link flow least)
 link_advances flow least p = (link_goes flow least p).goes
 
-abbrev scalar_of : List ℕ → List (List ℕ) → Place → scalar_t
-scalar_of v links q = record { value = utf8 v ++ flat_map utf8 links; end = q.mark; passed_break = list_any is_break (run is_white q) }
-
 abbrev tail_of : List ℕ → Read (List (List ℕ)) → Read scalar_t
-tail_of v r = r >>= λ links. found (scalar_of v links.value links.end) (behind is_white links.end)
+tail_of v r = r >>= λ links. found (plain_scalar v links.value links.end) (behind is_white links.end)
 
 abbrev with_links : Bool → ℕ → Read (List ℕ) → Read scalar_t
 with_links flow least r = r >>= λ head. tail_of head.value (many (link flow least) head.end)
@@ -238,7 +396,7 @@ links_from flow least p f head starts (Ok b) e h =
       starts = starts;
       longest = l.is;
       joined = chunk_joined flow p head starts ∙ ap (λ (cs : List ℕ). head.value ++ cs) l.is.joined ∙ sym (append_assoc head.value (texts l.pieces) b.end.rest);
-      value = sym (ap (value_or (scalar_of head.value b.value b.end)) h) ∙ ap (λ (vs : List (List ℕ)). scalar_of head.value vs b.end) l.values_are;
+      value = sym (ap (value_or (plain_scalar head.value b.value b.end)) h) ∙ ap (λ (vs : List (List ℕ)). plain_scalar head.value vs b.end) l.values_are;
       end = sym (ap (end_or b.end) h);
     }
 links_from flow least p f head starts (Err o) e h = absurd cc
@@ -250,28 +408,25 @@ head_from flow least p f (Err o) e h = absurd cc
 plain_to : (flow : Bool) (least : ℕ) (p : Place) (f : Found scalar_t) → PlainParts flow least p f → plain flow least p ≡ Ok f
 plain_to flow least p f q =
     plain_is flow least p ∙ ap (with_links flow least) q.starts ∙ ap (tail_of q.head.value) (found_of (link flow least) (link_advances flow least) q.head.end q.links q.last q.longest)
-    ∙ both f (scalar_of q.head.value (values q.links) q.last) (behind is_white q.last) q.value q.end
+    ∙ both f (plain_scalar q.head.value (values q.links) q.last) (behind is_white q.last) q.value q.end
 
 pub plain_parts : PlainIsParts
 plain_parts flow least p f = (λ h. head_from flow least p f (chunk flow p) refl (sym (plain_is flow least p) ∙ h), plain_to flow least p f)
-
-abbrev LinksRefused : Bool → ℕ → Place → Offence → Type 0
-LinksRefused flow least p e = (head : Found (List ℕ)) × (links : List Piece) × (q : Place) × (chunk flow p ≡ Ok head) × IsLongest (link flow least) head.end links q (Err e)
 
 links_refused : (flow : Bool) (least : ℕ) (p : Place) (e : Offence) (head : Found (List ℕ)) → chunk flow p ≡ Ok head → (r : Read (List (List ℕ))) → many (link flow least) head.end ≡ r → tail_of head.value r ≡ Err e → LinksRefused flow least p e
 links_refused flow least p e head starts (Ok b) is h = absurd cc
 links_refused flow least p e head starts (Err o) is h =
     let m = many_refused (link flow least) (link_advances flow least) head.end e (is ∙ ap (λ (x : Offence). Err x) (ap (offence_or o) h)) in
-    (head, m.0, m.1, starts, m.2)
+    record { head = head; links = m.0; last = m.1; starts = starts; longest = m.2 }
 
-head_refused : (flow : Bool) (least : ℕ) (p : Place) (e : Offence) (r : Read (List ℕ)) → chunk flow p ≡ r → with_links flow least r ≡ Err e → (chunk flow p ≡ Err e) ⊎ LinksRefused flow least p e
+head_refused : (flow : Bool) (least : ℕ) (p : Place) (e : Offence) (r : Read (List ℕ)) → chunk flow p ≡ r → with_links flow least r ≡ Err e → ChunkRefused flow p e ⊎ LinksRefused flow least p e
 head_refused flow least p e (Ok head) is h = inr (links_refused flow least p e head is (many (link flow least) head.end) refl h)
-head_refused flow least p e (Err o) is h = inl (is ∙ ap (λ (x : Offence). Err x) (ap (offence_or o) h))
+head_refused flow least p e (Err o) is h = inl (chunk_refused_from flow p e (is ∙ ap (λ (x : Offence). Err x) (ap (offence_or o) h)))
 
-refused_to : (flow : Bool) (least : ℕ) (p : Place) (e : Offence) → (chunk flow p ≡ Err e) ⊎ LinksRefused flow least p e → plain flow least p ≡ Err e
-refused_to flow least p e (inl h) = plain_is flow least p ∙ ap (with_links flow least) h
+refused_to : (flow : Bool) (least : ℕ) (p : Place) (e : Offence) → ChunkRefused flow p e ⊎ LinksRefused flow least p e → plain flow least p ≡ Err e
+refused_to flow least p e (inl h) = plain_is flow least p ∙ ap (with_links flow least) (chunk_refused_to flow p e h)
 refused_to flow least p e (inr r) =
-    plain_is flow least p ∙ ap (with_links flow least) r.3 ∙ ap (tail_of r.0.value) (refused_of (link flow least) (link_advances flow least) r.0.end r.1 r.2 e r.4)
+    plain_is flow least p ∙ ap (with_links flow least) r.starts ∙ ap (tail_of r.head.value) (refused_of (link flow least) (link_advances flow least) r.head.end r.links r.last e r.longest)
 
 pub plain_refused : PlainIsRefused
 plain_refused flow least p e = (λ h. head_refused flow least p e (chunk flow p) refl (sym (plain_is flow least p) ∙ h), refused_to flow least p e)

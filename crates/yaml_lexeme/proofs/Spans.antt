@@ -20,8 +20,8 @@ use Rattle.yaml_lexeme.specs.Place.{Place, first, peek, skip, run, behind, break
 use Rattle.yaml_lexeme.specs.Plain.{is_chunk, is_bad_colon, chunk_len, chunk, tab_from, untabbed, separator, is_over, link, plain}
 use Rattle.yaml_lexeme.specs.Quoted.{quote, unmarked, body_part, quoted}
 use Rattle.yaml_lexeme.specs.Reading.{Read, ◌>>=◌, Part, part, over, many, with_front, go_on}
-use Rattle.yaml_lexeme.specs.declared.directive.directive_t.{directive_t}
-use Rattle.yaml_lexeme.specs.declared.plain.scalar_t.{scalar_t}
+use Rattle.yaml_lexeme.specs.Lexeme.{Directive as directive_t}
+use Rattle.yaml_lexeme.specs.Lexeme.{Scalar as scalar_t}
 use Rattle.yaml_text.specs.Classes.{is_z, is_break, is_alpha, is_blank, is_hex, is_digit}
 use Rattle.yaml_text.specs.declared.types.yaml_mark_t.{yaml_mark_t}
 

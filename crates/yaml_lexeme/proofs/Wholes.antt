@@ -5,8 +5,8 @@ use Rattle.std.proofs.lemmas.Bool.Decides.{nat_tests}
 use Rattle.std.specs.List.{list_all}
 use Rattle.std.specs.Str.Parse.{digits_value}
 use Rattle.yaml_text.specs.declared.types.yaml_mark_t.{yaml_mark_t}
-use Rattle.yaml_lexeme.specs.declared.plain.scalar_t.{scalar_t}
-use Rattle.yaml_lexeme.specs.declared.directive.directive_t.{directive_t}
+use Rattle.yaml_lexeme.specs.Lexeme.{Scalar as scalar_t}
+use Rattle.yaml_lexeme.specs.Lexeme.{Directive as directive_t}
 use Rattle.yaml_lexeme.proofs.Ahead.{shorter, part_shorter, PartAhead}
 use Rattle.yaml_lexeme.proofs.Clear.{parts, Clear, clear_here, clear_trans, clear_skip, clear_behind, clear_one, clear_run, clear_within, clear_break, second, other, one_more, no_return, end_whole}
 use Rattle.yaml_lexeme.proofs.Clears.{Held, Holds, ok_holds, refuse_holds, if_holds, bind_holds, from_holds, Clears, PartClears, ClearsTo, then_clears, then_to, many_clears, sure_white, sure_in_line, sure_alpha, is_not, is_true, named_clears, line_end_clears}

@@ -1,4 +1,4 @@
--- Literal and folded scalars (YAML 1.1, sections 9.2.1 to 9.2.4).
+-- Literal and folded scalars (YAML 1.1, 9.2 Block Scalar Header, 9.3 Block Scalar Styles and 6.1 Indentation Spaces).
 use Rattle.std.specs.Prelude.{ℕ, ◌+◌, ◌-◌, min, max, Bool, true, false, not, ◌&&◌, ◌||◌, ◌==◌, nat_lt, if◌then◌else◌, List, [], ◌∷◌, ◌++◌, map, slice_index, Option, Some, None, is_some, Result, Ok}
 use Rattle.std.specs.List.{fold as fold_list}
 use Rattle.yaml_text.specs.declared.types.yaml_mark_t.{yaml_mark_t}
@@ -7,7 +7,7 @@ use Rattle.yaml_text.specs.Classes.{is_blank, is_break, is_digit, is_z}
 use Rattle.yaml_lexeme.specs.declared.block.chomp_t.{chomp_t}
 use Rattle.yaml_lexeme.specs.declared.block.chomp_t.TheVariants.{STRIP, CLIP, KEEP}
 use Rattle.yaml_lexeme.specs.declared.block.header_t.{header_t}
-use Rattle.yaml_lexeme.specs.declared.plain.scalar_t.{scalar_t}
+use Rattle.yaml_lexeme.specs.Lexeme.{Scalar as scalar_t}
 use Rattle.yaml_lexeme.specs.declared.problem.problem_t.TheVariants.{NO_COMMENT_OR_BREAK, INDICATOR_ZERO, TAB_IN_INDENTATION}
 use Rattle.yaml_lexeme.specs.Classes.{is_in_line, line_feed}
 use Rattle.yaml_lexeme.specs.Place.{Place, first, skip, run, run_len, behind, break_len}

@@ -8,7 +8,8 @@ line_feed = 0x0A
 abbrev pub carriage_return : ℕ
 carriage_return = 0x0D
 
--- the two breaks that stand in a value as themselves: line and paragraph separator (YAML 1.1, section 5.4)
+-- the two breaks that stand in a value as themselves: line and paragraph separator (YAML 1.1, 5.4 Line Break
+-- Characters)
 abbrev pub is_kept_break : ℕ → Bool
 is_kept_break c = c == 0x2028 || c == 0x2029
 

@@ -1,12 +1,12 @@
--- Directives (YAML 1.1, section 6.8).
+-- Directives (YAML 1.1, 7.1 Directives).
 use Rattle.std.specs.Prelude.{ℕ, pos, true, not, ◌==◌, nat_lt, if◌then◌else◌, List, ◌++◌, length, codes}
 use Rattle.std.specs.Str.{bytes_eq}
 use Rattle.std.specs.Str.Parse.{digits_value}
 use Rattle.yaml_text.specs.Classes.{is_alpha, is_blank, is_digit}
-use Rattle.yaml_text.specs.declared.token.unnamed_yaml_token_t_data.{unnamed_yaml_token_t_data}
-use Rattle.yaml_text.specs.declared.token.unnamed_yaml_token_t_data.TheVariants.{VERSION_DIRECTIVE, TAG_DIRECTIVE}
+use Rattle.yaml_text.specs.Token.{TokenData as unnamed_yaml_token_t_data}
+use Rattle.yaml_text.specs.Token.TokenData.{VERSION_DIRECTIVE, TAG_DIRECTIVE}
 use Rattle.yaml_lexeme.specs.declared.problem.problem_t.TheVariants.{UNKNOWN_DIRECTIVE, NO_DIRECTIVE_NAME, DIRECTIVE_NAME_GOES_ON, NO_DOT, LONG_NUMBER, NO_NUMBER, NO_BLANK, NO_BLANK_OR_BREAK, NO_HANDLE, OPEN_HANDLE}
-use Rattle.yaml_lexeme.specs.declared.directive.directive_t.{directive_t}
+use Rattle.yaml_lexeme.specs.Lexeme.{Directive as directive_t}
 use Rattle.yaml_lexeme.specs.Classes.{ends}
 use Rattle.yaml_lexeme.specs.Place.{Place, first, skip, run, run_len, behind}
 use Rattle.yaml_lexeme.specs.Block.{after_line}

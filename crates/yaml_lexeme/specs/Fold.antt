@@ -1,9 +1,9 @@
--- What a run of blanks and breaks is worth in a value.
+-- What a run of blanks and breaks is worth in a value (YAML 1.1, 6.5 Line Folding).
 use Rattle.std.specs.Prelude.{ℕ, ◌==◌, if◌then◌else◌, List, [], ◌∷◌, slice_index}
 use Rattle.yaml_lexeme.specs.Classes.{is_kept_break, line_feed}
 use Rattle.yaml_lexeme.specs.Place.{ends_line}
 
--- a break as it is written in a value (YAML 1.1, section 5.4)
+-- a break as it is written in a value (YAML 1.1, 5.4 Line Break Characters)
 abbrev pub written : ℕ → ℕ
 written c = if is_kept_break c then c else line_feed
 

@@ -1,4 +1,4 @@
--- What stands between lexemes.
+-- What stands between lexemes (YAML 1.1, 6.2 Comments and 6.3 Separation Spaces).
 use Rattle.std.specs.Prelude.{ℕ, zero, suc, length, Bool, not, ◌&&◌, ◌||◌, ◌==◌, nat_lt, if◌then◌else◌}
 use Rattle.yaml_lexeme.specs.Classes.{is_in_line}
 use Rattle.yaml_lexeme.specs.Place.{Place, first, skip, behind, break_len}
@@ -14,7 +14,7 @@ is_gap_blank tabs c = c == 0x20 || (c == 0x09 && tabs)
 abbrev pub after_mark : Place → Place
 after_mark p = if p.mark.column == 0 && first p == byte_order_mark then skip 1 p else p
 
--- a comment goes on to the end of its line (YAML 1.1, section 6.6)
+-- a comment goes on to the end of its line
 abbrev pub after_comment : Place → Place
 after_comment p = if first p == 0x23 then behind is_in_line p else p
 

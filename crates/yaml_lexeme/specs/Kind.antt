@@ -11,11 +11,11 @@ abbrev pub is_marker_of : ℕ → Place → Bool
 is_marker_of c p =
     (p.mark.column == 0 && (peek p 0 == c && peek p 1 == c)) && (peek p 2 == c && ends (peek p 3))
 
--- a document marker: `---` or `...` (YAML 1.1, section 9.1)
+-- a document marker: `---` or `...` (YAML 1.1, 7.2 Document Boundary Markers)
 abbrev pub is_marker : Place → Bool
 is_marker p = is_marker_of 0x2D p || is_marker_of 0x2E p
 
--- the indicators (YAML 1.1, section 5.3), which begin no plain scalar
+-- the indicators (YAML 1.1, 5.3 Indicator Characters), which begin no plain scalar
 abbrev pub is_indicator : ℕ → Bool
 is_indicator c = is_one_of (codes "-?:,[]{}#&*!|>'\"%@`") c
 

@@ -2,8 +2,10 @@ pub mod Classes
 pub mod Place
 pub mod Reading
 pub mod Gap
+pub mod GapText
 pub mod Kind
 pub mod Fold
+pub mod Lexeme
 pub mod Escape
 pub mod Quoted
 pub mod Plain

@@ -1,4 +1,4 @@
--- Anchors and aliases (YAML 1.1, sections 6.8.2 and 7.1).
+-- Anchors and aliases (YAML 1.1, 8.1 Node Anchors and 8.4 Alias Nodes).
 use Rattle.std.specs.Prelude.{ℕ, Bool, ◌&&◌, ◌||◌, nat_lt, if◌then◌else◌, List, length, codes}
 use Rattle.yaml_text.specs.Classes.{is_alpha}
 use Rattle.yaml_lexeme.specs.declared.problem.problem_t.TheVariants.{NO_NAME}

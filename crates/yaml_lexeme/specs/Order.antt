@@ -9,7 +9,7 @@ use Rattle.yaml_lexeme.specs.Kind.{kind_at}
 use Rattle.yaml_lexeme.specs.declared.lex.yaml_context_t.{yaml_context_t}
 use Rattle.yaml_lexeme.specs.Reading.{Offence, Found}
 use Rattle.yaml_lexeme.specs.Lex.{lex, in_flow}
-use Rattle.yaml_lexeme.specs.declared.lex.yaml_lexeme_t.{yaml_lexeme_t}
+use Rattle.yaml_lexeme.specs.Lexeme.{Lexeme as yaml_lexeme_t}
 
 -- q is n characters or more behind p, in the text
 pub record IsAhead (n : ℕ) (p q : Place) : Type 0 where

@@ -1,51 +1,58 @@
 -- Lists of parts: one behind the other, and as many as can be.
-use Rattle.std.specs.Prelude.{ℕ, ◌≡◌, ◌↔◌, ◌⊎◌, ◌+◌, ◌<◌, ◌≤◌, Bool, true, false, List, [], ◌∷◌, ◌++◌, length, map, Ok, Err}
-use Rattle.std.specs.List.{list_any, flat_map}
+use Rattle.std.specs.Prelude.{ℕ, ◌≡◌, ◌↔◌, ◌⊎◌, ◌+◌, ◌<◌, Bool, true, false, List, [], ◌∷◌, ◌++◌, length, map, Option, Ok, Err}
+use Rattle.std.specs.List.{concat, list_any, flat_map}
 use Rattle.yaml_text.specs.Chars.{utf8}
 use Rattle.yaml_text.specs.Classes.{is_break}
-use Rattle.yaml_lexeme.specs.declared.plain.scalar_t.{scalar_t}
+use Rattle.yaml_lexeme.specs.declared.block.chomp_t.{chomp_t}
+use Rattle.yaml_lexeme.specs.declared.block.header_t.{header_t}
+use Rattle.yaml_lexeme.specs.Lexeme.{Scalar as scalar_t}
+use Rattle.yaml_lexeme.specs.declared.problem.problem_t.TheVariants.{COLON_IN_FLOW}
 use Rattle.yaml_lexeme.specs.Classes.{is_white}
 use Rattle.yaml_lexeme.specs.Place.{Place, peek, first, skip, run, behind}
 use Rattle.yaml_lexeme.specs.Reading.{Offence, Found, found, Part, part, over}
 use Rattle.yaml_lexeme.specs.Fold.{fold}
 use Rattle.yaml_lexeme.specs.Quoted.{quote, body_part, quoted}
-use Rattle.yaml_lexeme.specs.Plain.{is_chunk, chunk, link, plain}
+use Rattle.yaml_lexeme.specs.Plain.{is_bad_colon, is_chunk, chunk, separator, is_over, link, plain}
+use Rattle.yaml_lexeme.specs.Uri.{uri_part, uri}
+use Rattle.yaml_lexeme.specs.Block.{Blank, Blanks, Line, header_at, after_line, after_indent, blank_line, blank_lines, blanks_of, block_indent, block_value, end_of, leading_limit, text_line, block}
 
 -- a part that was read: its characters, and what they are worth
-pub record Piece : Type 0 where
+pub record Piece (A : Type 0) : Type 0 where
   pub text : List ℕ
-  pub value : List ℕ
+  pub value : A
 
-abbrev pub past : Piece → Place → Place
+abbrev pub past : {A : Type 0} → Piece A → Place → Place
 past t p = skip (length t.text) p
 
 -- the piece stands at p, and takes a character or more
-pub record IsPiece (one : Place → Part (List ℕ)) (p : Place) (t : Piece) : Type 0 where
+pub record IsPiece {A : Type 0} (one : Place → Part A) (p : Place) (t : Piece A) : Type 0 where
   pub some : 0 < length t.text
   pub text : p.rest ≡ t.text ++ (past t p).rest
   pub read : one p ≡ part t.value (past t p)
 
 -- pieces stand one behind the other, from p up to q
-abbrev pub Pieces : (Place → Part (List ℕ)) → Place → List Piece → Place → Type 0
+abbrev pub Pieces : {A : Type 0} → (Place → Part A) → Place → List (Piece A) → Place → Type 0
 Pieces one p [] q = q ≡ p
 Pieces one p (t ∷ ts) q = IsPiece one p t × Pieces one (past t p) ts q
 
-abbrev pub texts : List Piece → List ℕ
+abbrev pub texts : {A : Type 0} → List (Piece A) → List ℕ
 texts ts = flat_map (λ t. t.text) ts
 
-abbrev pub values : List Piece → List (List ℕ)
+abbrev pub values : {A : Type 0} → List (Piece A) → List A
 values ts = map (λ t. t.value) ts
 
--- The pieces from p up to q make up the text between, and are as many as can be: `next`, which is no part, stands at q.
-pub record IsLongest (one : Place → Part (List ℕ)) (p : Place) (ts : List Piece) (q : Place) (next : Part (List ℕ)) : Type 0 where
+-- The pieces from p up to q make up the text between. At q stands no further one, but `next`: an end or an offence. All
+-- other pieces from p are the first of these.
+pub record IsLongest {A : Type 0}
+    (one : Place → Part A) (p : Place) (ts : List (Piece A)) (q : Place) (next : Part A) : Type 0 where
   pub pieces : Pieces one p ts q
   pub joined : p.rest ≡ texts ts ++ q.rest
   pub stops : one q ≡ next
-  pub longest : (us : List Piece) (x : Place) → Pieces one p us x → length us ≤ length ts
+  pub longest : (us : List (Piece A)) (x : Place) → Pieces one p us x → (more : List (Piece A)) × (ts ≡ us ++ more)
 
 -- A quoted scalar at p: the parts between its quotes, and the place of the closing one.
 pub record QuotedParts (single : Bool) (p : Place) (f : Found (List ℕ)) : Type 0 where
-  pub parts : List Piece
+  pub parts : List (Piece (List ℕ))
   pub close : Place
   pub longest : IsLongest (body_part single) (skip 1 p) parts close over
   pub closed : first close ≡ quote single
@@ -57,32 +64,138 @@ QuotedIsParts = (single : Bool) (p : Place) (f : Found (List ℕ)) → (quoted s
 
 -- an offence stands behind as many parts as can be
 abbrev pub QuotedIsRefused : Type 0
-QuotedIsRefused = (single : Bool) (p : Place) (e : Offence) → (quoted single p ≡ Err e) ↔ ((parts : List Piece) × (q : Place) × IsLongest (body_part single) (skip 1 p) parts q (Err e))
+QuotedIsRefused = (single : Bool) (p : Place) (e : Offence) → (quoted single p ≡ Err e) ↔
+    ((parts : List (Piece (List ℕ))) × (q : Place) × IsLongest (body_part single) (skip 1 p) parts q (Err e))
+
+-- what a plain scalar is worth whose last chunk ends at a place
+abbrev pub plain_scalar : List ℕ → List (List ℕ) → Place → scalar_t
+plain_scalar head links last = record {
+  value = utf8 head ++ flat_map utf8 links;
+  end = last.mark;
+  passed_break = list_any is_break (run is_white last);
+}
 
 -- A plain scalar at p: a chunk, links of a separator and a chunk, and the place where the last chunk ends.
 pub record PlainParts (flow : Bool) (least : ℕ) (p : Place) (f : Found scalar_t) : Type 0 where
   pub head : Found (List ℕ)
-  pub links : List Piece
+  pub links : List (Piece (List ℕ))
   pub last : Place
   pub starts : chunk flow p ≡ Ok head
   pub longest : IsLongest (link flow least) head.end links last over
   pub joined : p.rest ≡ head.value ++ texts links ++ last.rest
-  pub value : f.value ≡ record { value = utf8 head.value ++ flat_map utf8 (values links); end = last.mark; passed_break = list_any is_break (run is_white last) }
+  pub value : f.value ≡ plain_scalar head.value (values links) last
   pub end : f.end ≡ behind is_white last
 
 abbrev pub PlainIsParts : Type 0
-PlainIsParts = (flow : Bool) (least : ℕ) (p : Place) (f : Found scalar_t) → (plain flow least p ≡ Ok f) ↔ PlainParts flow least p f
+PlainIsParts = (flow : Bool) (least : ℕ) (p : Place) (f : Found scalar_t) →
+    (plain flow least p ≡ Ok f) ↔ PlainParts flow least p f
+
+-- From p on stand as many characters of a chunk as can be, and after them, in flow, a `:` before `?` or a flow
+-- indicator.
+pub record ChunkRefused (flow : Bool) (p : Place) (e : Offence) : Type 0 where
+  pub text : List ℕ
+  pub joined : p.rest ≡ text ++ e.at.rest
+  pub at : e.at ≡ skip (length text) p
+  pub all : (i : ℕ) → i < length text → is_chunk flow (peek p i) (peek p (i + 1)) ≡ true
+  pub colon : is_bad_colon flow (first e.at) (peek e.at 1) ≡ true
+  pub problem : e.problem ≡ COLON_IN_FLOW
+
+-- after a chunk as many links as can be, and an offence
+pub record LinksRefused (flow : Bool) (least : ℕ) (p : Place) (e : Offence) : Type 0 where
+  pub head : Found (List ℕ)
+  pub links : List (Piece (List ℕ))
+  pub last : Place
+  pub starts : chunk flow p ≡ Ok head
+  pub longest : IsLongest (link flow least) head.end links last (Err e)
 
 abbrev pub PlainIsRefused : Type 0
-PlainIsRefused = (flow : Bool) (least : ℕ) (p : Place) (e : Offence) → (plain flow least p ≡ Err e)
-    ↔ ((chunk flow p ≡ Err e) ⊎ ((head : Found (List ℕ)) × (links : List Piece) × (q : Place) × (chunk flow p ≡ Ok head) × IsLongest (link flow least) head.end links q (Err e)))
+PlainIsRefused = (flow : Bool) (least : ℕ) (p : Place) (e : Offence) →
+    (plain flow least p ≡ Err e) ↔ (ChunkRefused flow p e ⊎ LinksRefused flow least p e)
 
 -- a chunk is as many characters as can be
 abbrev pub ChunkIsLongest : Type 0
 ChunkIsLongest = (flow : Bool) (p : Place) (f : Found (List ℕ)) → chunk flow p ≡ Ok f
-    → (p.rest ≡ f.value ++ f.end.rest) × ((i : ℕ) → i < length f.value → is_chunk flow (peek p i) (peek p (i + 1)) ≡ true) × (is_chunk flow (first f.end) (peek f.end 1) ≡ false)
+    → (p.rest ≡ f.value ++ f.end.rest)
+    × ((i : ℕ) → i < length f.value → is_chunk flow (peek p i) (peek p (i + 1)) ≡ true)
+    × (is_chunk flow (first f.end) (peek f.end 1) ≡ false)
 
--- a link is a separator, as many blanks and breaks as can be, and a chunk of a character or more
+-- A link at p: as many blanks and breaks as can be, with no tab in indentation, after which the scalar goes on,
+-- and a chunk of a character or more.
+pub record LinkParts (flow : Bool) (least : ℕ) (p : Place) (f : Found (List ℕ)) : Type 0 where
+  pub text : List ℕ
+  pub white : is_white (first p) ≡ true
+  pub stops : is_white (first (behind is_white p)) ≡ false
+  pub separator : separator least p ≡ found (fold (run is_white p)) (behind is_white p)
+  pub goes_on : is_over flow least (behind is_white p) ≡ false
+  pub chunk : chunk flow (behind is_white p) ≡ found text f.end
+  pub some : 0 < length text
+  pub value : f.value ≡ fold (run is_white p) ++ text
+
 abbrev pub LinkIsLongest : Type 0
-LinkIsLongest = (flow : Bool) (least : ℕ) (p : Place) (f : Found (List ℕ)) → link flow least p ≡ part f.value f.end
-    → (c : List ℕ) × (chunk flow (behind is_white p) ≡ found c f.end) × (0 < length c) × (f.value ≡ fold (run is_white p) ++ c) × (is_white (first (behind is_white p)) ≡ false)
+LinkIsLongest = (flow : Bool) (least : ℕ) (p : Place) (f : Found (List ℕ)) →
+    (link flow least p ≡ part f.value f.end) ↔ LinkParts flow least p f
+
+-- After a separator, with no tab in indentation, the scalar is over, or no character of a chunk stands there.
+pub record SeparatorEnds (flow : Bool) (least : ℕ) (p : Place) : Type 0 where
+  pub separator : separator least p ≡ found (fold (run is_white p)) (behind is_white p)
+  pub ends : (is_over flow least (behind is_white p) ≡ true)
+      ⊎ (chunk flow (behind is_white p) ≡ found [] (behind is_white p))
+
+-- no link stands where no blank or break does, or the scalar ends after them
+abbrev pub LinkIsOver : Type 0
+LinkIsOver = (flow : Bool) (least : ℕ) (p : Place) →
+    (link flow least p ≡ over) ↔ ((is_white (first p) ≡ false) ⊎ SeparatorEnds flow least p)
+
+-- A uri at p: characters and escapes, as many as can be.
+pub record UriParts (listed : Bool) (p : Place) (f : Found (List ℕ)) : Type 0 where
+  pub parts : List (Piece (List ℕ))
+  pub longest : IsLongest (uri_part listed) p parts f.end over
+  pub value : f.value ≡ concat (values parts)
+
+abbrev pub UriIsParts : Type 0
+UriIsParts = (listed : Bool) (p : Place) (f : Found (List ℕ)) → (uri listed p ≡ Ok f) ↔ UriParts listed p f
+
+-- an offence stands after as many of them as can be
+abbrev pub UriIsRefused : Type 0
+UriIsRefused = (listed : Bool) (p : Place) (e : Offence) → (uri listed p ≡ Err e) ↔
+    ((parts : List (Piece (List ℕ))) × (q : Place) × IsLongest (uri_part listed) p parts q (Err e))
+
+-- Empty lines at p, as many as can be, and the indentation after them.
+pub record BlankParts (limit : Option ℕ) (p : Place) (f : Found Blanks) : Type 0 where
+  pub lines : List (Piece Blank)
+  pub last : Place
+  pub longest : IsLongest (blank_line limit) p lines last over
+  pub indent : after_indent limit last ≡ Ok f.end
+  pub value : f.value ≡ blanks_of (values lines) last.mark
+
+abbrev pub BlanksAreLines : Type 0
+BlanksAreLines = (limit : Option ℕ) (p : Place) (f : Found Blanks) →
+    (blank_lines limit p ≡ Ok f) ↔ BlankParts limit p f
+
+-- the indentation of the text lines, after the leading empty lines
+abbrev pub indent_of : ℕ → header_t → Found Blanks → ℕ
+indent_of least h leading = block_indent least h.digit leading.value.column leading.end.mark.column
+
+-- what a literal or folded scalar is worth, and where it ends
+abbrev pub block_scalar : Bool → chomp_t → Blanks → List Line → scalar_t
+block_scalar folded chomp leading lines = record {
+  value = utf8 (block_value folded chomp leading.breaks lines);
+  end = end_of leading.end lines;
+  passed_break = false;
+}
+
+-- A literal or folded scalar at p: its header, leading empty lines, and text lines, as many as can be.
+pub record BlockParts (folded : Bool) (least : ℕ) (p : Place) (f : Found scalar_t) : Type 0 where
+  pub header : Found header_t
+  pub start : Place
+  pub leading : Found Blanks
+  pub lines : List (Piece Line)
+  pub header_is : header_at (skip 1 p) ≡ Ok header
+  pub start_is : after_line header.end ≡ Ok start
+  pub leading_is : blank_lines (leading_limit least header.value.digit) start ≡ Ok leading
+  pub longest : IsLongest (text_line (indent_of least header.value leading)) leading.end lines f.end over
+  pub value : f.value ≡ block_scalar folded header.value.chomp leading.value (values lines)
+
+abbrev pub BlockIsLines : Type 0
+BlockIsLines = (folded : Bool) (least : ℕ) (p : Place) (f : Found scalar_t) →
+    (block folded least p ≡ Ok f) ↔ BlockParts folded least p f

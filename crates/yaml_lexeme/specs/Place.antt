@@ -1,5 +1,5 @@
 -- A place is a mark and the characters from it on.
-use Rattle.std.specs.Prelude.{ℕ, zero, suc, ◌≡◌, ◌+◌, ◌≤◌, Bool, not, ◌&&◌, ◌==◌, nat_lt, if◌then◌else◌, List, [], ◌∷◌, length, take, slice_index}
+use Rattle.std.specs.Prelude.{ℕ, zero, suc, ◌≡◌, ◌+◌, ◌-◌, ◌≤◌, Bool, not, ◌&&◌, ◌==◌, nat_lt, if◌then◌else◌, List, [], ◌∷◌, length, take, slice_index}
 use Rattle.std.specs.List.{prefix_len}
 use Rattle.yaml_text.specs.declared.types.yaml_mark_t.{yaml_mark_t}
 use Rattle.yaml_text.specs.Classes.{is_break}
@@ -41,6 +41,10 @@ skip_from (suc n) m (c ∷ cs) = skip_from n (mark_behind m c (slice_index cs 0)
 -- the place n characters on, or the end
 unfoldable pub skip : ℕ → Place → Place
 skip n p = skip_from n p.mark p.rest
+
+-- how many characters stand from p up to q, which is ahead of it
+abbrev pub distance : Place → Place → ℕ
+distance p q = length p.rest - length q.rest
 
 -- the place behind the first n characters of a text
 abbrev pub place_at : List ℕ → ℕ → Place

@@ -1,11 +1,11 @@
--- Plain scalars (YAML 1.1, section 9.1.3).
+-- Plain scalars (YAML 1.1, 9.1.3 Plain).
 use Rattle.std.specs.Prelude.{ℕ, ◌+◌, Bool, false, not, ◌&&◌, ◌||◌, ◌==◌, nat_lt, if◌then◌else◌, List, [], ◌∷◌, ◌++◌, length, take, slice_index, codes, Option, Some, None}
 use Rattle.std.specs.List.{list_any, flat_map}
 use Rattle.yaml_text.specs.declared.types.yaml_mark_t.{yaml_mark_t}
 use Rattle.yaml_text.specs.Chars.{utf8}
 use Rattle.yaml_text.specs.Classes.{is_break}
 use Rattle.yaml_lexeme.specs.declared.problem.problem_t.TheVariants.{COLON_IN_FLOW, TAB_IN_PLAIN}
-use Rattle.yaml_lexeme.specs.declared.plain.scalar_t.{scalar_t}
+use Rattle.yaml_lexeme.specs.Lexeme.{Scalar as scalar_t}
 use Rattle.yaml_lexeme.specs.Classes.{is_white, ends, is_one_of}
 use Rattle.yaml_lexeme.specs.Place.{Place, peek, first, skip, run, behind, mark_behind}
 use Rattle.yaml_lexeme.specs.Kind.{is_marker}

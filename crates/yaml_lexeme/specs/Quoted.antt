@@ -1,4 +1,4 @@
--- Quoted scalars (YAML 1.1, sections 9.1.1 and 9.1.2).
+-- Quoted scalars (YAML 1.1, 9.1.1 Double Quoted and 9.1.2 Single Quoted).
 use Rattle.std.specs.Prelude.{ℕ, Bool, not, ◌&&◌, ◌||◌, ◌==◌, if◌then◌else◌, List, [], ◌∷◌}
 use Rattle.std.specs.List.{flat_map}
 use Rattle.yaml_text.specs.Chars.{utf8}

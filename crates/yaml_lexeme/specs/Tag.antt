@@ -1,8 +1,8 @@
--- Tags (YAML 1.1, section 6.8.1).
+-- Tags (YAML 1.1, 8.2 Node Tags).
 use Rattle.std.specs.Prelude.{Bool, true, false, ◌&&◌, ◌||◌, ◌==◌, if◌then◌else◌, ℕ, List, [], ◌∷◌, ◌++◌, codes}
 use Rattle.yaml_text.specs.Classes.{is_alpha}
-use Rattle.yaml_text.specs.declared.token.unnamed_yaml_token_t_data.{unnamed_yaml_token_t_data}
-use Rattle.yaml_text.specs.declared.token.unnamed_yaml_token_t_data.TheVariants.{TAG}
+use Rattle.yaml_text.specs.Token.{TokenData as unnamed_yaml_token_t_data}
+use Rattle.yaml_text.specs.Token.TokenData.{TAG}
 use Rattle.yaml_lexeme.specs.declared.problem.problem_t.TheVariants.{NO_BLANK_OR_BREAK, NO_CLOSING_ANGLE}
 use Rattle.yaml_lexeme.specs.Classes.{ends}
 use Rattle.yaml_lexeme.specs.Place.{Place, first, skip, run, behind}

@@ -1,4 +1,4 @@
--- Uris of tags, and their escapes (YAML 1.1, section 5.3).
+-- Uris of tags, and their escapes (YAML 1.1, 5.5 Miscellaneous Characters).
 use Rattle.std.specs.Prelude.{ℕ, zero, suc, ◌-◌, Bool, ◌&&◌, ◌||◌, ◌==◌, nat_lt, nat_le, if◌then◌else◌, List, [], ◌∷◌, length, codes}
 use Rattle.std.specs.List.{concat}
 use Rattle.std.specs.Str.Parse.{digits_value}

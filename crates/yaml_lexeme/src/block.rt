@@ -2,6 +2,7 @@
 ghost use Rattle.std.specs.Prelude.{◌≡◌, ◌+◌, ◌++◌, ◌<◌, ◌^◌, OnOk, IfOk, IfSome};
 ghost use Rattle.yaml_text.specs.Chars.{utf8};
 ghost use Rattle.yaml_lexeme.specs.Block as spec;
+ghost use Rattle.yaml_lexeme.specs.Lexeme.{scalar_of};
 ghost use Rattle.yaml_lexeme.specs.Gives.{Gives, Moves};
 ghost use Rattle.yaml_lexeme.specs.Tails.{TakesBlanks, TakesLine, between_tail, chomped_tail};
 
@@ -12,7 +13,7 @@ use crate::plain::scalar_t;
 use crate::problem::{problem_t, refusal_t};
 use crate::runs::class_t;
 use std::alloc::{AllocError, Global};
-use yaml_text::{yaml_bytes_t, yaml_mark_t};
+use yaml_text::yaml_mark_t;
 
 /// What is kept behind the last text line.
 #[derive(Clone, Copy)]
@@ -296,7 +297,7 @@ pub(crate) fn take_block(
     least: u64,
 ) -> Result<scalar_t, refusal_t>
     requires { least + 10 < 2 ^ 64 }
-    ensures { Gives (λ s. s) result cursor.new (spec.block folded least cursor.old) }
+    ensures { Gives scalar_of result cursor.new (spec.block folded least cursor.old) }
 {
     cursor.advance();
     let header = take_header(cursor)?;
@@ -317,7 +318,7 @@ pub(crate) fn take_block(
     }
     push_chomped(&mut out, header.chomp, &tail)?;
     Ok(scalar_t {
-        value: yaml_bytes_t::from_vec(out),
+        value: out,
         end: tail.end,
         passed_break: false,
     })

@@ -1,7 +1,9 @@
 //! Directives.
 ghost use Rattle.std.specs.Prelude.{◌≡◌, ◌^◌, ◌<◌, IfOk};
 ghost use Rattle.yaml_text.specs.Classes as classes;
+ghost use Rattle.yaml_text.specs.Token.{data_of};
 ghost use Rattle.yaml_lexeme.specs.Directive as spec;
+ghost use Rattle.yaml_lexeme.specs.Lexeme.{directive_of};
 ghost use Rattle.yaml_lexeme.specs.Gives.{Gives};
 
 use crate::block::take_line_end;
@@ -11,7 +13,7 @@ use crate::problem::{problem_t, refusal_t};
 use crate::runs::class_t;
 use crate::uri::{push_byte, take_some_uri};
 use std::alloc::Global;
-use yaml_text::{unnamed_yaml_token_t_data, yaml_bytes_t, yaml_mark_t};
+use yaml_text::{unnamed_yaml_token_t_data, yaml_mark_t};
 
 /// A directive that was read.
 #[derive(Drop)]
@@ -54,7 +56,7 @@ fn take_number(cursor: &mut cursor_t) -> Result<u32, refusal_t>
 /// Takes what stands behind `YAML`.
 #[tactic(auto, unfolding(crate::specs::Directive::version_at))]
 fn take_version(cursor: &mut cursor_t) -> Result<unnamed_yaml_token_t_data, refusal_t>
-    ensures { Gives (λ d. d) result cursor.new (spec.version_at cursor.old) }
+    ensures { Gives data_of result cursor.new (spec.version_at cursor.old) }
 {
     cursor.skip_run(class_t::BLANK);
     let major = take_number(cursor)?;
@@ -99,7 +101,7 @@ fn take_tag_directive(
     alloc: Global,
     cursor: &mut cursor_t,
 ) -> Result<unnamed_yaml_token_t_data, refusal_t>
-    ensures { Gives (λ d. d) result cursor.new (spec.tag_directive_at cursor.old) }
+    ensures { Gives data_of result cursor.new (spec.tag_directive_at cursor.old) }
 {
     cursor.skip_run(class_t::BLANK);
     let handle = take_handle(alloc, cursor)?;
@@ -111,10 +113,7 @@ fn take_tag_directive(
     if !ends(cursor.peek(0)) {
         return Err(refusal_t::OFFENCE(problem_t::NO_BLANK_OR_BREAK));
     }
-    Ok(unnamed_yaml_token_t_data::TAG_DIRECTIVE {
-        handle: yaml_bytes_t::from_vec(handle),
-        prefix: yaml_bytes_t::from_vec(prefix),
-    })
+    Ok(unnamed_yaml_token_t_data::TAG_DIRECTIVE { handle, prefix })
 }
 
 /// Takes what stands behind a directive's name.
@@ -124,7 +123,7 @@ fn take_named(
     cursor: &mut cursor_t,
     letters: &[u8],
 ) -> Result<unnamed_yaml_token_t_data, refusal_t>
-    ensures { Gives (λ d. d) result cursor.new (spec.named letters.now cursor.old) }
+    ensures { Gives data_of result cursor.new (spec.named letters.now cursor.old) }
 {
     if letters == b"YAML".as_slice() {
         take_version(cursor)
@@ -138,7 +137,7 @@ fn take_named(
 /// Takes a directive, and the rest of its line.
 #[tactic(auto, unfolding(crate::specs::Directive::directive))]
 pub(crate) fn take_directive(alloc: Global, cursor: &mut cursor_t) -> Result<directive_t, refusal_t>
-    ensures { Gives (λ d. d) result cursor.new (spec.directive cursor.old) }
+    ensures { Gives directive_of result cursor.new (spec.directive cursor.old) }
 {
     cursor.advance();
     let letters = take_letters(cursor);

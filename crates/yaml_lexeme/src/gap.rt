@@ -52,11 +52,16 @@ fn skip_gap(cursor: &mut cursor_t, in_flow: bool, allowed: bool) -> bool
     broken
 }
 
-/// The gap from a place on: the mark behind it, and whether a break stands in it (YAML 1.1, sections 5.4, 6.2 and 6.6).
+/// The gap from a place on: the mark of the place after it, and whether a break stands in it (YAML 1.1, 6.2 Comments
+/// and 6.3 Separation Spaces). Where none stands, that is the place itself.
 ///
-/// A gap is lines of blanks and perhaps a comment, as many as can be. `in_flow` tells whether the flow depth is above 0,
-/// `allowed` whether a key may stand here: tabs count as blanks in flow, and on the first line where none may. A byte
-/// order mark at the start of a line belongs to the gap. No memory is taken.
+/// A gap is gap lines joined by breaks, as many as can be. A gap line is perhaps a byte order mark, where the line
+/// begins at column 0, then blanks, and then perhaps a comment up to a break or the end. Spaces are blanks, and tabs
+/// are so in flow, and on the first line where no key is allowed.
+///
+/// `at` must be the mark of a place of this text: what `yaml_mark_at` answers of it, the mark after a gap of it, or
+/// the reach of a lexeme of it other than the stream end. `in_flow` says whether the flow depth is above 0, and
+/// `allowed` whether a key is allowed at the place. Every gap can be read: there is no fault, and no memory is taken.
 #[inline(always)]
 pub fn yaml_gap(
     text: &yaml_text_t,

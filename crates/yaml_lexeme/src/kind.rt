@@ -6,28 +6,48 @@ ghost use Rattle.yaml_lexeme.specs.Kind as spec;
 use crate::cursor::{cursor_t, ends};
 use yaml_text::{yaml_mark_t, yaml_text_t};
 
-/// What kind of lexeme stands at a place.
-#[derive(Clone, Copy, Debug, PartialEq, Eq)]
+/// What kind of lexeme stands at a place. "Ends" means that a blank, a break or the end of the text follows.
+#[derive(Clone, Copy, PartialEq, Eq)]
 pub enum yaml_lexeme_kind_t {
+    /// The end of the text.
     STREAM_END,
+    /// `%` at column 0, also in flow.
     DIRECTIVE,
+    /// `---` at column 0, which ends, also in flow.
     DOCUMENT_START,
+    /// `...` at column 0, which ends, also in flow.
     DOCUMENT_END,
+    /// `[`.
     FLOW_SEQUENCE_START,
+    /// `{`.
     FLOW_MAPPING_START,
+    /// `]`.
     FLOW_SEQUENCE_END,
+    /// `}`.
     FLOW_MAPPING_END,
+    /// `,`.
     FLOW_ENTRY,
+    /// `-`, which ends.
     BLOCK_ENTRY,
+    /// `?`, in flow or where it ends.
     KEY,
+    /// `:`, in flow or where it ends.
     VALUE,
+    /// `*` and a name.
     ALIAS,
+    /// `&` and a name.
     ANCHOR,
+    /// A tag, which starts with `!`.
     TAG,
+    /// A block scalar after `|`, outside of flow.
     LITERAL,
+    /// A block scalar after `>`, outside of flow.
     FOLDED,
+    /// A scalar between `'`.
     SINGLE_QUOTED,
+    /// A scalar between `"`.
     DOUBLE_QUOTED,
+    /// A scalar that starts with no indicator, or with a `-`, `?` or `:` that stands for no token of its own.
     PLAIN,
 }
 
@@ -128,9 +148,12 @@ fn kind_at(cursor: &cursor_t, in_flow: bool) -> Option<yaml_lexeme_kind_t>
     }
 }
 
-/// The kind of the lexeme that stands at a place, or `None` where no token can start (YAML 1.1, section 5.3).
+/// The kind of the lexeme that stands at a place, or `None` where no token can start (YAML 1.1, 5.3 Indicator
+/// Characters and 7.2 Document Boundary Markers).
 ///
-/// `in_flow` tells whether the flow depth is above 0. No memory is taken.
+/// `at` must be the mark of a place of this text: what `yaml_mark_at` answers of it, the mark after a gap of it, or
+/// the reach of a lexeme of it other than the stream end. At a place where a gap stands that is not empty, the answer
+/// is that for its first character. `in_flow` says whether the flow depth is above 0. No memory is taken.
 #[inline(always)]
 pub fn yaml_lexeme_kind(
     text: &yaml_text_t,

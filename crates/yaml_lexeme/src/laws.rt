@@ -1,13 +1,21 @@
 //! Laws about the definitions.
 ghost use Rattle.yaml_lexeme.specs.Counted.{PlacesAreCounted, MarksAreCounted};
 ghost use Rattle.yaml_lexeme.specs.Whole.{GapIsWhole, ReachIsWhole, EndIsWhole, GapIsCounted, LexemeIsCounted, ProblemIsCounted};
+ghost use Rattle.yaml_lexeme.specs.GapText.{GapIsLongest, RunIsLongest};
 ghost use Rattle.yaml_lexeme.specs.Locality.{GapIsLocal, KindIsLocal, LexIsLocal};
-ghost use Rattle.yaml_lexeme.specs.Parts.{QuotedIsParts, QuotedIsRefused, PlainIsParts, PlainIsRefused, ChunkIsLongest, LinkIsLongest};
+ghost use Rattle.yaml_lexeme.specs.Parts.{QuotedIsParts, QuotedIsRefused, PlainIsParts, PlainIsRefused, ChunkIsLongest, LinkIsLongest, LinkIsOver, UriIsParts, UriIsRefused, BlanksAreLines, BlockIsLines};
 ghost use Rattle.yaml_lexeme.specs.Order.{GapOrder, LexemeSpans, LexemeOrder, StreamEndOrder, OffenceIsAhead, LexemeFollows};
 
 /// A gap ends where it starts or further on.
 pub fn gap_order()
     ensures { GapOrder }
+{}
+
+/// A gap is the longest text that is gap lines joined by breaks, and says whether a break is in it. A run of a class is
+/// as many of its characters as can be.
+pub fn gap_is_longest()
+    ensures gaps { GapIsLongest }
+    ensures runs { RunIsLongest }
 {}
 
 /// A lexeme starts at its place, takes a character or more, and ends and reaches at places of the text.
@@ -25,7 +33,7 @@ pub fn stream_end_order()
     ensures { StreamEndOrder }
 {}
 
-/// A problem stands at a place of the text, where its lexeme would start or further on. The law of locality asks for that.
+/// A problem stands at a place of the text, where its lexeme would start or further on.
 pub fn offence_is_ahead()
     ensures { OffenceIsAhead }
 {}
@@ -35,59 +43,77 @@ pub fn lexeme_follows()
     ensures { LexemeFollows }
 {}
 
-/// A gap depends on no character eight or more past its end.
+/// A gap depends on no character eight or more past its end, the end of the text counted as a character.
 pub fn gap_is_local()
     ensures { GapIsLocal }
 {}
 
-/// A kind depends on no character eight or more past its place.
+/// A kind depends on no character eight or more past its place, the end of the text counted as a character.
 pub fn kind_is_local()
     ensures { KindIsLocal }
 {}
 
-/// A lexeme depends on no character eight or more past its reach, or past the place of its problem.
+/// A lexeme depends on no character eight or more past its reach, or past the place of its problem, the end of the text
+/// counted as a character.
 pub fn lex_is_local()
     ensures { LexIsLocal }
 {}
 
-/// A place that parts no CR LF has the mark that is counted from the front of the text, and what is left there is what stands
-/// behind it: so a counted mark is one that gaps, kinds and lexemes can be asked at.
+/// A place that parts no CR LF has the mark that is counted from the front of the text, and what is left there is what
+/// stands after it: so a counted mark is one that gaps, kinds and lexemes can be asked at.
 pub fn marks_are_counted()
     ensures places { PlacesAreCounted }
     ensures marks { MarksAreCounted }
 {}
 
-/// From a place that parts no CR LF, the places where a gap ends, where a lexeme of the kind that stands there ends and which it
-/// reaches, and where its problem stands, part none.
+/// From a place that parts no CR LF, the places where a gap ends, where a lexeme of the kind that stands there ends and
+/// which it reaches, and where its problem stands, part none.
 pub fn ends_are_whole()
     ensures gaps { GapIsWhole }
     ensures reaches { ReachIsWhole }
     ensures ends { EndIsWhole }
 {}
 
-/// So the marks of these places, other than the mark of a stream end, are those that are counted from the front of the text.
+/// So the marks of these places, other than the mark of a stream end, are those that are counted from the front of the
+/// text.
 pub fn ends_are_counted()
     ensures gaps { GapIsCounted }
     ensures lexemes { LexemeIsCounted }
     ensures problems { ProblemIsCounted }
 {}
 
-/// The text between the quotes of a scalar is its parts, one behind the other and as many as can be, and its value is theirs.
-/// Where it is refused, the offence stands behind as many parts as can be.
+/// The text between the quotes of a scalar is its parts, one after the other and as many as can be, and its value is
+/// theirs. Where it is refused, the offence stands after as many parts as can be.
 pub fn quoted_is_its_parts()
     ensures parts { QuotedIsParts }
     ensures refused { QuotedIsRefused }
 {}
 
-/// The text of a plain scalar is a chunk and links, one behind the other and as many as can be, and its value is theirs. Where
-/// it is refused, the offence is that of the chunk, or stands behind as many links as can be.
+/// The text of a plain scalar is a chunk and links, one after the other and as many as can be, and its value is
+/// theirs. Where it is refused, the offence is that of the chunk, or stands after as many links as can be.
 pub fn plain_is_its_parts()
     ensures parts { PlainIsParts }
     ensures refused { PlainIsRefused }
 {}
 
-/// A chunk of a plain scalar is as many characters as can be. A link is as many blanks and breaks as can be, and a chunk.
+/// A chunk of a plain scalar is as many characters as can be. A link is as many blanks and breaks as can be, and a
+/// chunk; none stands where no blank or break does, or the scalar ends after them.
 pub fn links_are_longest()
     ensures chunk { ChunkIsLongest }
     ensures link { LinkIsLongest }
+    ensures over { LinkIsOver }
+{}
+
+/// A uri is characters and escapes, one after the other and as many as can be, and its octets are theirs. Where it is
+/// refused, the offence stands after as many of them as can be.
+pub fn uri_is_its_parts()
+    ensures parts { UriIsParts }
+    ensures refused { UriIsRefused }
+{}
+
+/// The empty lines of a literal or folded scalar, in front of its text lines and between them, are as many as can be;
+/// so are its text lines, and its value is that of these lines.
+pub fn block_is_its_lines()
+    ensures empty { BlanksAreLines }
+    ensures text { BlockIsLines }
 {}

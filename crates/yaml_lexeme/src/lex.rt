@@ -11,16 +11,19 @@ ghost use Rattle.yaml_lexeme.specs.Name as names;
 ghost use Rattle.yaml_lexeme.specs.Plain as plains;
 ghost use Rattle.yaml_lexeme.specs.Quoted as quotes;
 ghost use Rattle.yaml_lexeme.specs.Tag as tags;
-ghost use Rattle.yaml_text.specs.declared.token.unnamed_yaml_token_t_data.TheVariants as token;
+ghost use Rattle.yaml_text.specs.Token.{TokenData as token};
 ghost use Rattle.yaml_text.specs.declared.types.yaml_scalar_style_t.TheVariants.{YAML_PLAIN_SCALAR_STYLE};
 ghost use Rattle.yaml_lexeme.specs.Place.{IsMarkOf, place_at};
 ghost use Rattle.yaml_lexeme.specs.Reading.{found};
 ghost use Rattle.yaml_lexeme.specs.Gives.{Gives};
 ghost use Rattle.yaml_lexeme.specs.Answers.{Answers};
+ghost use Rattle.yaml_lexeme.specs.Lexeme.{lexeme_of, scalar_of, directive_of};
+ghost use Rattle.yaml_text.specs.Token.{data_of};
 
 use crate::block::take_block;
 use crate::cursor::cursor_t;
 use crate::directive::{directive_t, take_directive};
+use crate::fault::{make_memory_fault, make_scanner_fault};
 use crate::kind::yaml_lexeme_kind_t;
 use crate::name::take_name;
 use crate::plain::{scalar_t, take_plain};
@@ -30,28 +33,35 @@ use crate::tag::take_tag;
 use crate::texts::{context_text, problem_text};
 use std::alloc::Global;
 use yaml_text::{
-    make_memory_fault, make_scanner_fault, unnamed_yaml_token_t_data, yaml_bytes_t, yaml_fault_t,
-    yaml_mark_t, yaml_scalar_style_t, yaml_text_t,
+    unnamed_yaml_token_t_data, yaml_fault_t, yaml_mark_t, yaml_scalar_style_t, yaml_text_t,
 };
 
-/// Where a lexeme stands.
+/// Where a lexeme stands among the collections that are open.
 #[derive(Clone, Copy, PartialEq, Eq)]
 pub struct yaml_context_t {
-    /// The flow depth.
+    /// The flow depth: how many flow collections are open. Above 0 the lexeme stands in flow.
     pub depth: u64,
-    /// The greatest open level, a column; `None` where none is open.
+    /// The greatest open level: the column of the innermost open block collection, from 0. `None` where none is open.
     pub level: Option<u64>,
 }
 
 /// A lexeme that was read.
 #[derive(Drop, PartialEq, Eq)]
 pub struct yaml_lexeme_t {
+    /// What its token says: the token's type and the parts that tokens of this type have.
     pub token_data: unnamed_yaml_token_t_data,
+    /// Where its token starts: the mark of its first character. A stream end has one mark three times, that of the
+    /// text's end, or where its column is not 0 that of the next line's start.
     pub start_mark: yaml_mark_t,
+    /// Where its token ends: the mark after its last character. A plain scalar ends after its last chunk, a literal
+    /// or folded one after the last break that was read or at the end of the text, a directive before the blanks
+    /// and the comment after it.
     pub end_mark: yaml_mark_t,
-    /// The mark up to which was read.
+    /// The mark up to which was read, where the next gap begins. It is `end_mark`, or after it: for a plain scalar
+    /// after the separator that was read last, for a literal or folded one after the spaces, for a directive after
+    /// its line's break.
     pub reach: yaml_mark_t,
-    /// For a plain scalar, whether a break stands in the separator behind it; else false.
+    /// For a plain scalar, whether a break stands between `end_mark` and `reach`; false for every other kind.
     pub passed_break: bool,
 }
 
@@ -73,7 +83,7 @@ fn stream_end(mark: yaml_mark_t) -> yaml_mark_t
 
 /// What stands between two marks.
 fn whole(says: unnamed_yaml_token_t_data, start: yaml_mark_t, end: yaml_mark_t) -> yaml_lexeme_t
-    ensures { result ≡ spec.whole_of says start end }
+    ensures { lexeme_of result ≡ spec.whole_of (data_of says) start end }
 {
     yaml_lexeme_t {
         token_data: says,
@@ -85,7 +95,7 @@ fn whole(says: unnamed_yaml_token_t_data, start: yaml_mark_t, end: yaml_mark_t) 
 }
 
 fn at_end(cursor: &cursor_t) -> yaml_lexeme_t
-    ensures { spec.at_end cursor.now ≡ found result cursor.now }
+    ensures { spec.at_end cursor.now ≡ found (lexeme_of result) cursor.now }
 {
     let mark = stream_end(cursor.mark());
     whole(unnamed_yaml_token_t_data::STREAM_END, mark, mark)
@@ -93,7 +103,7 @@ fn at_end(cursor: &cursor_t) -> yaml_lexeme_t
 
 /// What a lexeme that is one character says, or a document marker.
 fn says_of(kind: yaml_lexeme_kind_t) -> unnamed_yaml_token_t_data
-    ensures { result ≡ spec.says_of kind }
+    ensures { data_of result ≡ spec.says_of kind }
 {
     match kind {
         yaml_lexeme_kind_t::DOCUMENT_START => unnamed_yaml_token_t_data::DOCUMENT_START,
@@ -121,8 +131,8 @@ fn len_of(kind: yaml_lexeme_kind_t) -> usize
     }
 }
 
-fn scalar_of(value: yaml_bytes_t, style: yaml_scalar_style_t) -> unnamed_yaml_token_t_data
-    ensures { result ≡ spec.quoted_as style value }
+fn scalar_of(value: Vec<u8>, style: yaml_scalar_style_t) -> unnamed_yaml_token_t_data
+    ensures { data_of result ≡ spec.quoted_as style value.items }
 {
     unnamed_yaml_token_t_data::SCALAR { value, style }
 }
@@ -133,7 +143,7 @@ fn scalar(
     scalar: scalar_t,
     reach: yaml_mark_t,
 ) -> yaml_lexeme_t
-    ensures { result ≡ spec.scalar_to style start scalar reach }
+    ensures { lexeme_of result ≡ spec.scalar_to style start (scalar_of scalar) reach }
 {
     yaml_lexeme_t {
         token_data: scalar_of(scalar.value, style),
@@ -156,7 +166,7 @@ fn least(context: yaml_context_t) -> u64
 }
 
 fn directive(start: yaml_mark_t, directive: directive_t, reach: yaml_mark_t) -> yaml_lexeme_t
-    ensures { result ≡ spec.directive_to start directive reach }
+    ensures { lexeme_of result ≡ spec.directive_to start (directive_of directive) reach }
 {
     yaml_lexeme_t {
         token_data: directive.says,
@@ -173,7 +183,7 @@ fn take_characters(
     cursor: &mut cursor_t,
     kind: yaml_lexeme_kind_t,
 ) -> Result<yaml_lexeme_t, refusal_t>
-    ensures value { Gives (λ l. l) result cursor.new (spec.characters (spec.says_of kind) (spec.len_of kind) cursor.old) }
+    ensures value { Gives lexeme_of result cursor.new (spec.characters (spec.says_of kind) (spec.len_of kind) cursor.old) }
     ensures taken { IsOk result }
 {
     let start = cursor.mark();
@@ -183,7 +193,7 @@ fn take_characters(
 
 #[inline(never)]
 fn take_end(cursor: &mut cursor_t) -> Result<yaml_lexeme_t, refusal_t>
-    ensures value { Gives (λ l. l) result cursor.new (spec.at_end cursor.old) }
+    ensures value { Gives lexeme_of result cursor.new (spec.at_end cursor.old) }
     ensures taken { IsOk result }
 {
     Ok(at_end(cursor))
@@ -191,7 +201,7 @@ fn take_end(cursor: &mut cursor_t) -> Result<yaml_lexeme_t, refusal_t>
 
 #[inline(never)]
 fn take_alias(alloc: Global, cursor: &mut cursor_t) -> Result<yaml_lexeme_t, refusal_t>
-    ensures { Gives (λ l. l) result cursor.new (spec.whole token.ALIAS cursor.old (names.name cursor.old)) }
+    ensures { Gives lexeme_of result cursor.new (spec.whole token.ALIAS cursor.old (names.name cursor.old)) }
 {
     let start = cursor.mark();
     let value = take_name(alloc, cursor)?;
@@ -201,7 +211,7 @@ fn take_alias(alloc: Global, cursor: &mut cursor_t) -> Result<yaml_lexeme_t, ref
 
 #[inline(never)]
 fn take_anchor(alloc: Global, cursor: &mut cursor_t) -> Result<yaml_lexeme_t, refusal_t>
-    ensures { Gives (λ l. l) result cursor.new (spec.whole token.ANCHOR cursor.old (names.name cursor.old)) }
+    ensures { Gives lexeme_of result cursor.new (spec.whole token.ANCHOR cursor.old (names.name cursor.old)) }
 {
     let start = cursor.mark();
     let value = take_name(alloc, cursor)?;
@@ -215,7 +225,7 @@ fn take_whole_tag(
     cursor: &mut cursor_t,
     context: yaml_context_t,
 ) -> Result<yaml_lexeme_t, refusal_t>
-    ensures { Gives (λ l. l) result cursor.new (spec.whole (λ t. t) cursor.old (tags.tag (spec.in_flow context) cursor.old)) }
+    ensures { Gives lexeme_of result cursor.new (spec.whole (λ t. t) cursor.old (tags.tag (spec.in_flow context) cursor.old)) }
 {
     let start = cursor.mark();
     let says = take_tag(alloc, cursor, context.depth > 0)?;
@@ -224,7 +234,7 @@ fn take_whole_tag(
 
 #[inline(never)]
 fn take_whole_directive(alloc: Global, cursor: &mut cursor_t) -> Result<yaml_lexeme_t, refusal_t>
-    ensures { Gives (λ l. l) result cursor.new (spec.ended cursor.old (directives.directive cursor.old)) }
+    ensures { Gives lexeme_of result cursor.new (spec.ended cursor.old (directives.directive cursor.old)) }
 {
     let start = cursor.mark();
     let d = take_directive(alloc, cursor)?;
@@ -249,7 +259,7 @@ fn take_block_scalar(
     context: yaml_context_t,
 ) -> Result<yaml_lexeme_t, refusal_t>
     requires { spec.least context + 10 < 2 ^ 64 }
-    ensures { Gives (λ l. l) result cursor.new (spec.scalar (spec.block_style folded) cursor.old (blocks.block folded (spec.least context) cursor.old)) }
+    ensures { Gives lexeme_of result cursor.new (spec.scalar (spec.block_style folded) cursor.old (blocks.block folded (spec.least context) cursor.old)) }
 {
     let start = cursor.mark();
     let s = take_block(alloc, cursor, folded, least(context))?;
@@ -272,7 +282,7 @@ fn take_quoted_scalar(
     cursor: &mut cursor_t,
     single: bool,
 ) -> Result<yaml_lexeme_t, refusal_t>
-    ensures { Gives (λ l. l) result cursor.new (spec.whole (spec.quoted_as (spec.quoted_style single)) cursor.old (quotes.quoted single cursor.old)) }
+    ensures { Gives lexeme_of result cursor.new (spec.whole (spec.quoted_as (spec.quoted_style single)) cursor.old (quotes.quoted single cursor.old)) }
 {
     let start = cursor.mark();
     let value = take_quoted(alloc, cursor, single)?;
@@ -286,7 +296,7 @@ fn take_plain_scalar(
     context: yaml_context_t,
 ) -> Result<yaml_lexeme_t, refusal_t>
     requires { spec.least context + 10 < 2 ^ 64 }
-    ensures { Gives (λ l. l) result cursor.new (spec.scalar YAML_PLAIN_SCALAR_STYLE cursor.old (plains.plain (spec.in_flow context) (spec.least context) cursor.old)) }
+    ensures { Gives lexeme_of result cursor.new (spec.scalar YAML_PLAIN_SCALAR_STYLE cursor.old (plains.plain (spec.in_flow context) (spec.least context) cursor.old)) }
 {
     let start = cursor.mark();
     let s = take_plain(alloc, cursor, context.depth > 0, least(context))?;
@@ -308,7 +318,7 @@ fn take_lexeme(
     context: yaml_context_t,
 ) -> Result<yaml_lexeme_t, refusal_t>
     requires { spec.least context + 10 < 2 ^ 64 }
-    ensures value { Gives (λ l. l) result cursor.new (spec.lex kind context cursor.old) }
+    ensures value { Gives lexeme_of result cursor.new (spec.lex kind context cursor.old) }
     ensures bare { spec.is_bare kind ≡ true → IsOk result }
 {
     match kind {
@@ -352,11 +362,35 @@ fn make_fault(
     )
 }
 
-/// The lexeme that stands at a place, or the fault of its first offence.
+/// The lexeme that stands at a place, or the fault of its first offence (YAML 1.1, 7.1 Directives, 7.2 Document
+/// Boundary Markers, 8.1 Node Anchors, 8.2 Node Tags, 8.4 Alias Nodes and chapter 9, Scalar Styles).
 ///
-/// `kind` is what `yaml_lexeme_kind` answers there with `in_flow` for a depth above 0, and the level is at most the
-/// number of the text's bytes. A fault of kind memory comes only where a growth was refused. Stream ends, document markers and
-/// lexemes of one character take no memory and are never refused.
+/// `at` must be the mark of a place of this text: what `yaml_mark_at` answers of it, the mark after a gap of it, or
+/// the reach of a lexeme of it other than the stream end. `kind` must be what `yaml_lexeme_kind` answers there with
+/// `in_flow` for a depth above 0. The level of the context must be at most the number of the text's bytes. The lexeme
+/// starts at `at`, but for a stream end, which may start with the next line.
+///
+/// # Errors
+///
+/// A fault of kind scanner is the first offence of the lexeme. Its problem text says what is wrong, and its problem
+/// mark where: at the first character that does not fit, which may be the end. Its context text says what was being
+/// read, and its context mark is `at`. These are the problems:
+///
+/// - a directive: no name after `%`, a name that goes on with another character, an unknown name, what is not a
+///   comment or a break after it; in `%YAML` no number, a number of more than nine digits (at the tenth), no `.`; in
+///   `%TAG` a handle that does not start with `!` or does not end with one, no blank after the handle or the prefix;
+/// - an anchor or alias: no name, or a character after the name that may not stand there;
+/// - a tag: no `>` after a uri in `<`, or a character after the tag that may not stand there;
+/// - a uri in a tag or in `%TAG`: no character where one must stand, no `%` with two hexadecimal digits, a lead octet
+///   or a later one that UTF-8 does not have there (each at its `%`);
+/// - a literal or folded scalar: the indentation indicator 0, what is not a comment or a break after the header, a tab
+///   where a space of indentation may stand;
+/// - a quoted scalar: the end of the text, a document marker at the start of a line; in double quotes an unknown escape
+///   (at the backslash), a digit that is not hexadecimal, and digits that write no character (both at the first digit);
+/// - a plain scalar: in flow a `:` before `?` or a flow indicator, and a tab in the indentation of a line that goes on.
+///
+/// A fault of kind memory may be answered in place of the lexeme or its offence, for a growth that was refused. The
+/// contract does not say that one was. Stream ends, document markers and lexemes of one character are always answered.
 #[inline(always)]
 pub fn yaml_lexeme_at(
     alloc: Global,
@@ -367,7 +401,7 @@ pub fn yaml_lexeme_at(
 ) -> Result<yaml_lexeme_t, yaml_fault_t>
     requires place { (n : ℕ) × IsMarkOf text.now.chars at n × (kinds.kind_at (spec.in_flow context) (place_at text.now.chars n) ≡ Some kind) }
     requires level { IfSome context.level (λ l. l ≤ length (utf8 text.now.chars)) }
-    ensures value { (n : ℕ) → IsMarkOf text.now.chars at n → Answers result (spec.lexeme_at kind context (place_at text.now.chars n)) }
+    ensures value { (n : ℕ) → IsMarkOf text.now.chars at n → Answers lexeme_of result (spec.lexeme_at kind context (place_at text.now.chars n)) }
     ensures bare { spec.is_bare kind ≡ true → IsOk result }
 {
     let mut cursor = cursor_t::at(text, at);

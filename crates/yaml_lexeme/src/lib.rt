@@ -5,6 +5,7 @@ mod block;
 mod cursor;
 mod directive;
 mod escape;
+mod fault;
 mod fold;
 mod gap;
 mod kind;

@@ -9,7 +9,6 @@ use crate::cursor::{cursor_t, ends};
 use crate::problem::{problem_t, refusal_t};
 use crate::runs::class_t;
 use std::alloc::Global;
-use yaml_text::yaml_bytes_t;
 
 /// Takes letters, digits, `_` and `-`, as many as can be.
 pub(crate) fn take_letters<'a>(cursor: &mut cursor_t<'a>) -> &'a [u8]
@@ -35,13 +34,13 @@ fn is_behind_name(c: char) -> bool
 
 /// Takes the name behind `&` or `*`.
 #[tactic(auto, unfolding(crate::specs::Name::name))]
-pub(crate) fn take_name(alloc: Global, cursor: &mut cursor_t) -> Result<yaml_bytes_t, refusal_t>
-    ensures { Gives (λ v. v) result cursor.new (spec.name cursor.old) }
+pub(crate) fn take_name(alloc: Global, cursor: &mut cursor_t) -> Result<Vec<u8>, refusal_t>
+    ensures { Gives (λ v. v.items) result cursor.new (spec.name cursor.old) }
 {
     cursor.advance();
     let letters = take_letters(cursor);
     if letters.is_empty() || !is_behind_name(cursor.peek(0)) {
         return Err(refusal_t::OFFENCE(problem_t::NO_NAME));
     }
-    Ok(yaml_bytes_t::from_vec(Vec::from_slice(alloc, letters)?))
+    Ok(Vec::from_slice(alloc, letters)?)
 }

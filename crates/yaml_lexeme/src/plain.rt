@@ -2,6 +2,7 @@
 ghost use Rattle.std.specs.Prelude.{◌≡◌, ◌||◌, ◌<◌, ◌≤◌, [], true, nat_le, OnOk, IfOk, length};
 ghost use Rattle.yaml_lexeme.specs.Plain as spec;
 ghost use Rattle.yaml_lexeme.specs.Gives.{Gives, Appends};
+ghost use Rattle.yaml_lexeme.specs.Lexeme.{scalar_of};
 ghost use Rattle.yaml_lexeme.specs.Reading.{with_front};
 ghost use Rattle.yaml_lexeme.specs.Runs as runs;
 ghost use Rattle.yaml_lexeme.specs.Words.{links, words, plain_of, Leaves, LeavesMore};
@@ -12,12 +13,12 @@ use crate::kind::is_marker;
 use crate::problem::{problem_t, refusal_t};
 use crate::runs::class_t;
 use std::alloc::{AllocError, Global};
-use yaml_text::{yaml_bytes_t, yaml_mark_t};
+use yaml_text::yaml_mark_t;
 
 /// A scalar that was read.
 #[derive(Drop)]
 pub(crate) struct scalar_t {
-    pub value: yaml_bytes_t,
+    pub value: Vec<u8>,
     /// The mark behind its last character.
     pub end: yaml_mark_t,
     /// A break stands in the separator behind it.
@@ -168,7 +169,7 @@ pub(crate) fn take_plain(
     in_flow: bool,
     least: u64,
 ) -> Result<scalar_t, refusal_t>
-    ensures { Gives (λ s. s) result cursor.new (spec.plain in_flow least cursor.old) }
+    ensures { Gives scalar_of result cursor.new (spec.plain in_flow least cursor.old) }
 {
     let mut out = Vec::new(alloc);
     take_words(cursor, in_flow, least, &mut out)?;
@@ -178,7 +179,7 @@ pub(crate) fn take_plain(
     let passed_break = is_break(cursor.peek(0));
     cursor.skip_run(class_t::BLANK_OR_BREAK);
     Ok(scalar_t {
-        value: yaml_bytes_t::from_vec(out),
+        value: out,
         end,
         passed_break,
     })

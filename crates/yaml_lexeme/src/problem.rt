@@ -5,7 +5,7 @@ ghost use Rattle.yaml_lexeme.specs.declared.problem.refusal_t.TheVariants.{MEMOR
 use std::alloc::{AllocError, AllocFailed};
 
 /// What is wrong with a text at a place.
-#[derive(Clone, Copy, Debug, PartialEq, Eq)]
+#[derive(Clone, Copy, PartialEq, Eq)]
 pub(crate) enum problem_t {
     UNKNOWN_DIRECTIVE,
     NO_COMMENT_OR_BREAK,
@@ -36,7 +36,7 @@ pub(crate) enum problem_t {
 }
 
 /// Why a reader gave nothing.
-#[derive(Debug, Drop)]
+#[derive(Drop)]
 pub(crate) enum refusal_t {
     /// A growth was refused.
     MEMORY,

@@ -16,7 +16,6 @@ use crate::kind::is_marker;
 use crate::problem::{problem_t, refusal_t};
 use crate::runs::{class_t, trimmed};
 use std::alloc::{AllocError, Global};
-use yaml_text::yaml_bytes_t;
 
 /// No document marker may stand here.
 fn unmarked(cursor: &cursor_t) -> Result<bool, refusal_t>
@@ -105,8 +104,8 @@ pub(crate) fn take_quoted(
     alloc: Global,
     cursor: &mut cursor_t,
     single: bool,
-) -> Result<yaml_bytes_t, refusal_t>
-    ensures { Gives (λ v. v) result cursor.new (spec.quoted single cursor.old) }
+) -> Result<Vec<u8>, refusal_t>
+    ensures { Gives (λ v. v.items) result cursor.new (spec.quoted single cursor.old) }
 {
     cursor.advance();
     let mut out = Vec::new(alloc);
@@ -115,5 +114,5 @@ pub(crate) fn take_quoted(
         push_line(cursor, single, &mut out)?;
     }
     cursor.advance();
-    Ok(yaml_bytes_t::from_vec(out))
+    Ok(out)
 }

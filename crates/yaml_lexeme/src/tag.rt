@@ -1,6 +1,7 @@
 //! Tags.
 ghost use Rattle.std.specs.Prelude.{◌≡◌};
-ghost use Rattle.yaml_text.specs.declared.token.unnamed_yaml_token_t_data.TheVariants.{TAG};
+ghost use Rattle.yaml_text.specs.Token.{data_of};
+ghost use Rattle.yaml_text.specs.Token.TokenData.{TAG};
 ghost use Rattle.yaml_lexeme.specs.Tag as spec;
 ghost use Rattle.yaml_lexeme.specs.Gives.{Gives};
 
@@ -9,21 +10,18 @@ use crate::name::take_letters;
 use crate::problem::{problem_t, refusal_t};
 use crate::uri::{push_byte, take_some_uri, take_uri};
 use std::alloc::Global;
-use yaml_text::{unnamed_yaml_token_t_data, yaml_bytes_t};
+use yaml_text::unnamed_yaml_token_t_data;
 
 fn make_tag(handle: Vec<u8>, suffix: Vec<u8>) -> unnamed_yaml_token_t_data
-    ensures { result ≡ TAG handle.items suffix.items }
+    ensures { data_of result ≡ TAG handle.items suffix.items }
 {
-    unnamed_yaml_token_t_data::TAG {
-        handle: yaml_bytes_t::from_vec(handle),
-        suffix: yaml_bytes_t::from_vec(suffix),
-    }
+    unnamed_yaml_token_t_data::TAG { handle, suffix }
 }
 
 /// Takes `<`, a uri and `>`, behind a tag's `!`.
 #[tactic(auto, unfolding(crate::specs::Tag::angled))]
 fn take_angled(alloc: Global, cursor: &mut cursor_t) -> Result<unnamed_yaml_token_t_data, refusal_t>
-    ensures { Gives (λ t. t) result cursor.new (spec.angled cursor.old) }
+    ensures { Gives data_of result cursor.new (spec.angled cursor.old) }
 {
     cursor.advance();
     let suffix = take_some_uri(alloc, cursor, true)?;
@@ -40,7 +38,7 @@ fn take_handled(
     alloc: Global,
     cursor: &mut cursor_t,
 ) -> Result<unnamed_yaml_token_t_data, refusal_t>
-    ensures { Gives (λ t. t) result cursor.new (spec.handled cursor.old) }
+    ensures { Gives data_of result cursor.new (spec.handled cursor.old) }
 {
     let letters = take_letters(cursor);
     if cursor.peek(0) == '!' {
@@ -66,7 +64,7 @@ fn take_tag_parts(
     alloc: Global,
     cursor: &mut cursor_t,
 ) -> Result<unnamed_yaml_token_t_data, refusal_t>
-    ensures { Gives (λ t. t) result cursor.new (spec.tag_parts cursor.old) }
+    ensures { Gives data_of result cursor.new (spec.tag_parts cursor.old) }
 {
     cursor.advance();
     if cursor.peek(0) == '<' {
@@ -83,7 +81,7 @@ pub(crate) fn take_tag(
     cursor: &mut cursor_t,
     in_flow: bool,
 ) -> Result<unnamed_yaml_token_t_data, refusal_t>
-    ensures { Gives (λ t. t) result cursor.new (spec.tag in_flow cursor.old) }
+    ensures { Gives data_of result cursor.new (spec.tag in_flow cursor.old) }
 {
     let tag = take_tag_parts(alloc, cursor)?;
     let c = cursor.peek(0);

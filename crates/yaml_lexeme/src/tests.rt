@@ -2,8 +2,8 @@ use super::*;
 use std::alloc::Global;
 use std::test::Fail;
 use yaml_text::{
-    unnamed_yaml_token_t_data, yaml_decode, yaml_encoding_t, yaml_fault_t, yaml_mark_t,
-    yaml_scalar_style_t,
+    unnamed_yaml_token_t_data, yaml_decode, yaml_encoding_t, yaml_fault_t, yaml_is_place,
+    yaml_mark_at, yaml_mark_t, yaml_scalar_style_t,
 };
 
 const ANY: yaml_encoding_t = yaml_encoding_t::YAML_ANY_ENCODING;
@@ -52,6 +52,24 @@ fn style_name(style: yaml_scalar_style_t) -> &'static str {
     }
 }
 
+/// The type of a token that says nothing more.
+fn bare_name(data: &unnamed_yaml_token_t_data) -> &'static str {
+    match data {
+        unnamed_yaml_token_t_data::STREAM_END => "end",
+        unnamed_yaml_token_t_data::DOCUMENT_START => "document start",
+        unnamed_yaml_token_t_data::DOCUMENT_END => "document end",
+        unnamed_yaml_token_t_data::FLOW_SEQUENCE_START => "sequence start",
+        unnamed_yaml_token_t_data::FLOW_SEQUENCE_END => "sequence end",
+        unnamed_yaml_token_t_data::FLOW_MAPPING_START => "mapping start",
+        unnamed_yaml_token_t_data::FLOW_MAPPING_END => "mapping end",
+        unnamed_yaml_token_t_data::FLOW_ENTRY => "flow entry",
+        unnamed_yaml_token_t_data::BLOCK_ENTRY => "block entry",
+        unnamed_yaml_token_t_data::KEY => "key",
+        unnamed_yaml_token_t_data::VALUE => "value",
+        _ => "no lexeme",
+    }
+}
+
 fn show_data(alloc: Global, data: &unnamed_yaml_token_t_data) -> Result<String, Fail> {
     match data {
         unnamed_yaml_token_t_data::VERSION_DIRECTIVE { major, minor } => {
@@ -68,9 +86,7 @@ fn show_data(alloc: Global, data: &unnamed_yaml_token_t_data) -> Result<String, 
         unnamed_yaml_token_t_data::SCALAR { value, style } => {
             show_one(alloc, style_name(*style), value.as_slice())
         }
-        unnamed_yaml_token_t_data::STREAM_END => Ok(String::from_str(alloc, "end")?),
-        unnamed_yaml_token_t_data::DOCUMENT_START => Ok(String::from_str(alloc, "---")?),
-        _ => Ok(String::from_str(alloc, "other")?),
+        _ => Ok(String::from_str(alloc, bare_name(data))?),
     }
 }
 
@@ -101,6 +117,21 @@ fn show_gap(alloc: Global, bytes: &[u8], in_flow: bool, allowed: bool) -> Result
     Ok(format!(in alloc; "{mark} {broken}")?)
 }
 
+/// The kind behind so many bytes of a text.
+fn kind_behind(
+    alloc: Global,
+    bytes: &[u8],
+    index: usize,
+    in_flow: bool,
+) -> Result<Option<yaml_lexeme_kind_t>, Fail> {
+    let text = yaml_decode(alloc, bytes, ANY).map_err(|_| "refused")?;
+    if !yaml_is_place(&text, index) {
+        return Err("no place".into());
+    }
+    let at = yaml_mark_at(&text, index);
+    Ok(yaml_lexeme_kind(&text, at, in_flow))
+}
+
 fn kind_of(alloc: Global, bytes: &[u8], in_flow: bool) -> Result<Option<yaml_lexeme_kind_t>, Fail> {
     let text = yaml_decode(alloc, bytes, ANY).map_err(|_| "refused")?;
     Ok(yaml_lexeme_kind(&text, FRONT, in_flow))
@@ -129,7 +160,7 @@ fn names_tags_and_directives(rt: HostRuntime) -> Result<(), Fail> {
     let alloc = rt.alloc();
     let rows: [(&str, u64, Option<u64>, &str); 13] = [
         ("", 0, None, "end 0:0:0 0:0:0 0:0:0 false"),
-        ("---", 0, None, "--- 0:0:0 3:0:3 3:0:3 false"),
+        ("---", 0, None, "document start 0:0:0 3:0:3 3:0:3 false"),
         ("@", 0, None, "no kind"),
         ("|", 1, None, "no kind"),
         (
@@ -532,6 +563,45 @@ fn block_scalars(rt: HostRuntime) -> Result<(), Fail> {
     for (text, depth, level, want) in rows {
         let shown = lexed(alloc, text.as_bytes(), depth, level)?;
         assert_eq!(rt; shown.as_str(), want, "{text}");
+    }
+    Ok(())
+}
+
+#[test]
+fn one_character_and_markers(rt: HostRuntime) -> Result<(), Fail> {
+    let alloc = rt.alloc();
+    let rows: [(&str, u64, Option<u64>, &str); 12] = [
+        ("---\n", 1, None, "document start 0:0:0 3:0:3 3:0:3 false"),
+        ("... x", 0, None, "document end 0:0:0 3:0:3 3:0:3 false"),
+        ("[a", 0, None, "sequence start 0:0:0 1:0:1 1:0:1 false"),
+        ("]", 1, None, "sequence end 0:0:0 1:0:1 1:0:1 false"),
+        ("{a", 1, None, "mapping start 0:0:0 1:0:1 1:0:1 false"),
+        ("}", 0, None, "mapping end 0:0:0 1:0:1 1:0:1 false"),
+        (",", 1, None, "flow entry 0:0:0 1:0:1 1:0:1 false"),
+        ("- a", 0, Some(0), "block entry 0:0:0 1:0:1 1:0:1 false"),
+        ("? a", 0, None, "key 0:0:0 1:0:1 1:0:1 false"),
+        ("?a", 1, None, "key 0:0:0 1:0:1 1:0:1 false"),
+        (": a", 0, None, "value 0:0:0 1:0:1 1:0:1 false"),
+        (":a", 1, None, "value 0:0:0 1:0:1 1:0:1 false"),
+    ];
+    for (text, depth, level, want) in rows {
+        let shown = lexed(alloc, text.as_bytes(), depth, level)?;
+        assert_eq!(rt; shown.as_str(), want, "{text}");
+    }
+    Ok(())
+}
+
+#[test]
+fn a_directive_begins_a_line(rt: HostRuntime) -> Result<(), Fail> {
+    let alloc = rt.alloc();
+    let rows: [(&str, usize, Option<yaml_lexeme_kind_t>); 3] = [
+        (" %", 1, None),
+        ("\n%", 1, Some(yaml_lexeme_kind_t::DIRECTIVE)),
+        (" ---", 1, Some(yaml_lexeme_kind_t::PLAIN)),
+    ];
+    for (text, index, want) in rows {
+        let found = kind_behind(alloc, text.as_bytes(), index, false)?;
+        assert!(rt; found == want, "{text}");
     }
     Ok(())
 }

@@ -6,11 +6,12 @@ use Rattle.std.specs.Prelude.{if◌then◌else◌, option_map, nat_eq, nat_lt, R
 use Rattle.std.proofs.lemmas.Bool.{cases_Bool, cases_eq, and_parts}
 use Rattle.yaml_text.specs.declared.types.yaml_mark_t.{yaml_mark_t}
 use Rattle.yaml_text.specs.Fault.{Fault}
-use Rattle.yaml_lexeme.specs.declared.lex.yaml_lexeme_t.{yaml_lexeme_t}
+use Rattle.yaml_lexeme.specs.Lexeme.{Lexeme as yaml_lexeme_t}
 use Rattle.yaml_lexeme.specs.Place.{IsMarkOf, place_at}
 use Rattle.yaml_scan.specs.declared.step.scanner_t.{scanner_t}
 use Rattle.yaml_scan.specs.declared.step.met_t.{met_t}
 use Rattle.yaml_scan.specs.declared.queue.group_t.{group_t}
+use Rattle.yaml_text.specs.Token.{token_of}
 use Rattle.yaml_scan.specs.Kind.{Kind, is_candidate_kind, is_stream_end}
 use Rattle.yaml_scan.specs.Lexeme.{Lexeme}
 use Rattle.yaml_scan.specs.Source.{Source, Reading, Offence}
@@ -286,7 +287,7 @@ module _ (H : List Laid) (N : ℕ) (s : scanner_t) (r : Holds H N s) (running : 
               (rw START (start_less m.kind m.front (length s.text.chars) front_column)) (kept_less X.kind X.start))
 
           pub queue_then : (y : group_t) (n : ℕ) (f : yaml_mark_t) → ends_at n f ++ ends_at y.ends start ≡ map (λ z. BlockEnd (end_at m.kind m.front start z)) (filter (λ z. not (stays (not margin) m.kind start z)) (reverse s.layout.levels.items))
-              → y.token ≡ record { token_data = b.token_data; start_mark = start; end_mark = b.end_mark } → y.key ≡ false → y.opens ≡ opened_by margin c m.kind start.column (reverse l)
+              → token_of y.token ≡ record { token_data = b.token_data; start_mark = start; end_mark = b.end_mark } → y.key ≡ false → y.opens ≡ opened_by margin c m.kind start.column (reverse l)
               → (ys : List group_t) → ys ≡ completed_in margin c (reverse l) s.layout.queue.done s.layout.queue.groups.items ++ y ∷ [] → IsQueue s.text.encoding n f ys (drop s.taken (offline (laid s.limit H X ∷ H)))
           queue_then y n f E Y K O ys V = rw V (rw (margin_is H N s r running margin M, c_is, l_is) (queue_more s.limit H X history s.taken r.taken s.text.encoding s.layout.queue.front s.layout.queue.groups.items none_early s.layout.queue.done r.count y n f
               (E ∙ ap (λ (f : Bool). map (λ z. BlockEnd (end_at m.kind m.front start z)) (filter (λ z. not (stays f m.kind start z)) (reverse s.layout.levels.items))) (flow_is H N s r running margin M)

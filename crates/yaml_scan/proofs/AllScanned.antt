@@ -1,6 +1,6 @@
 -- Scanning an input to its end.
 use Rattle.std.proofs.Common.{◌≡◌, ℕ, zero, suc, ◌+◌, ◌-◌, ◌<◌, ◌≤◌, ◌||◌, Bool, true, false, List, [], ◌∷◌, ◌++◌, map, take, length, slice_get, Option, Some, None, refl, ap, sym, ◌∙◌, subst, arith, inl, inr}
-use Rattle.std.specs.Prelude.{if◌then◌else◌, Ok, Err}
+use Rattle.std.specs.Prelude.{if◌then◌else◌, Err}
 use Rattle.std.specs.List.{list_any}
 use Rattle.std.proofs.lemmas.Bool.{false≢true}
 use Rattle.std.proofs.lemmas.List.Folds.{list_any-append}
@@ -8,6 +8,8 @@ use Rattle.yaml_text.specs.declared.types.yaml_encoding_t.{yaml_encoding_t}
 use Rattle.yaml_text.specs.declared.fault.yaml_fault_t.{yaml_fault_t}
 use Rattle.yaml_scan.specs.Fault.{Fault, memory_fault}
 use Rattle.yaml_text.specs.Fault.{fault_of}
+use Rattle.yaml_text.specs.declared.token.yaml_token_t.{yaml_token_t as code_token_t}
+use Rattle.yaml_text.specs.Token.{token_of}
 use Rattle.yaml_scan.specs.Token.{yaml_token_t, is_last_type, type_of}
 use Rattle.yaml_scan.specs.Begins.{Begins}
 use Rattle.yaml_scan.specs.Offline.{Token, handed_out}
@@ -16,7 +18,7 @@ use Rattle.yaml_scan.specs.Inputs.{decoded_input, answers_to}
 use Rattle.yaml_scan.specs.Session.{Session, Call, Answer, settled, settled_tokens, all_steps, pace, new_session, is_last, next_token, why, scan_answer, after_scan, paced, took, after, after_all}
 use Rattle.yaml_scan.specs.Session.Call.{SCAN}
 use Rattle.yaml_scan.specs.Session.Answer.{TOKEN, FAULT}
-use Rattle.yaml_scan.specs.Parser.{Parser, WantsMemory, Scans, answered, behind, course_read, input_read}
+use Rattle.yaml_scan.specs.Parser.{Parser, WantsMemory, Calls, Scans, answered, behind, course_read, input_read}
 use Rattle.yaml_scan.specs.All.{AllOf, AreSettled, ReadsAll}
 use Rattle.yaml_scan.proofs.AnswerOrder.{fit_course}
 use Rattle.yaml_scan.proofs.Courses.{none_is_stuck}
@@ -55,6 +57,12 @@ take_whole (x ∷ xs) (suc n) l = ap (λ (z : List Token). x ∷ z) (take_whole 
 map_more : (f : Token → yaml_token_t) (xs : List Token) (x : Token) → map f (xs ++ x ∷ []) ≡ map f xs ++ f x ∷ []
 map_more f [] x = refl
 map_more f (y ∷ xs) x = ap (λ (z : List yaml_token_t). f y ∷ z) (map_more f xs x)
+
+-- one token of the code more, as the definitions see it
+pub one_told : (xs : List code_token_t) (x : code_token_t)
+    → map token_of (xs ++ x ∷ []) ≡ map token_of xs ++ token_of x ∷ []
+one_told [] x = refl
+one_told (y ∷ xs) x = ap (λ (z : List yaml_token_t). token_of y ∷ z) (one_told xs x)
 
 begins_take : (f : Token → yaml_token_t) (xs : List Token) (n : ℕ) → Begins (map f (take n xs)) (map f xs)
 begins_take f [] zero = record { rest = []; is = refl }
@@ -154,7 +162,7 @@ module _ (limit : ℕ) (setting : yaml_encoding_t) (input : List ℕ) where
       is : x ≡ handed_out I.encoding token
       left : r ≡ behind q SCAN
 
-    next_is : (x : yaml_token_t) (r : Parser) → Scans q (Ok x) r → IsNextToken x r
+    next_is : (x : yaml_token_t) (r : Parser) → Calls SCAN q (TOKEN x) r → IsNextToken x r
     next_is x r (inr w) = absurd (no_fault x memory_fault w.0)
     next_is x r (inl w) = go (next_token limit C S) refl (w.0 ∙ answer_same)
       where
@@ -163,7 +171,7 @@ module _ (limit : ℕ) (setting : yaml_encoding_t) (input : List ℕ) where
         go None e k = let f = stuck e in absurd (no_fault x f.0 (k ∙ ap why f.1))
 
     -- one token more
-    pub scans_on : (x : yaml_token_t) (r : Parser) (last : Bool) → last ≡ is_last_type (type_of x.token_data) → Scans q (Ok x) r → HasScanned r (tokens ++ x ∷ []) last × (r.session.taken ≡ S.taken + 1)
+    pub scans_on : (x : yaml_token_t) (r : Parser) (last : Bool) → last ≡ is_last_type (type_of x.token_data) → Calls SCAN q (TOKEN x) r → HasScanned r (tokens ++ x ∷ []) last × (r.session.taken ≡ S.taken + 1)
     scans_on x r last l w = (
       record {
         input_is = ap (λ (z : Parser). z.input) n.left ∙ h.input_is;
@@ -244,7 +252,7 @@ module _ (limit : ℕ) (setting : yaml_encoding_t) (input : List ℕ) where
       inl (h.tokens_are ∙ ap (λ (z : List Token). map (handed_out I.encoding) z) (take_whole L q.session.taken (let a = w.0 in omega arith)), sym w.1)
 
 -- fewer are left
-pub fewer_left : (p q : Parser) (tokens : List yaml_token_t) (h : HasScanned p.limit p.setting p.input q tokens false) (x : yaml_token_t) (r : Parser) (last : Bool) → last ≡ is_last_type (type_of x.token_data) → Scans q (Ok x) r
+pub fewer_left : (p q : Parser) (tokens : List yaml_token_t) (h : HasScanned p.limit p.setting p.input q tokens false) (x : yaml_token_t) (r : Parser) (last : Bool) → last ≡ is_last_type (type_of x.token_data) → Calls SCAN q (TOKEN x) r
     → length (tokens_of p.limit (course_read p)) - r.session.taken < length (tokens_of p.limit (course_read p)) - q.session.taken
 unfolding course_read
 fewer_left p q tokens h x r last l w =

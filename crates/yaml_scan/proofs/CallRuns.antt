@@ -9,10 +9,9 @@ use Rattle.yaml_scan.specs.Session.Call.{SCAN, PEEK, SKIP}
 use Rattle.yaml_scan.specs.Parser.{Parser, IsRefusedEarly, WantsMemory, answered, behind, course_read, input_read}
 use Rattle.yaml_scan.specs.declared.calls.yaml_call_t.{yaml_call_t}
 use Rattle.yaml_scan.specs.declared.calls.yaml_answer_t.{yaml_answer_t}
-use Rattle.yaml_scan.specs.Calls.{call_of, Seen, seen, seen_of, Sees, behind_all, answered_all, idle, RunsOut, Runs, PutsAnswers, PutsSession, TakesNext}
+use Rattle.yaml_scan.specs.Calls.{call_of, Seen, seen, seen_of, Sees, behind_all, answered_all, idle, RunsOut, Runs, PutsAnswers, PutsSession}
 use Rattle.yaml_scan.specs.Calls.Seen.{FAULT}
 use Rattle.yaml_scan.proofs.Scans.{wants_late}
-use Rattle.yaml_scan.proofs.Sessions.{all_go}
 
 -- LISTS
 take_front : {A : Type 0} (n : ℕ) (xs : List A) (x : A) → n ≤ length xs → take n (xs ++ x ∷ []) ≡ take n xs
@@ -155,8 +154,3 @@ pub called_more : (xs : List yaml_call_t) (n : ℕ) (d : yaml_call_t) → n < le
 called_more [] n d l = absurd (omega arith)
 called_more (x ∷ xs) zero d l = refl
 called_more (x ∷ xs) (suc n) d l = let m : suc n + 1 ≡ suc (n + 1) = omega arith in rw m (ap (λ (z : List Call). call_of x ∷ z) (called_more xs n d (omega arith)))
-
--- the tokens that are taken
-pub takes_next : (p : Parser) (calls : List Call) → TakesNext p calls
-takes_next p calls = let r = all_go p.limit (course_read p) calls p.session in let g = r.2 in
-    (record { rest = g.rest; is = g.is }, (let a = r.1 in let b = g.count_is in omega arith))

@@ -1,14 +1,15 @@
 -- What a list of calls is answered with can be put in words.
-use Rattle.std.proofs.Common.{◌+◌, List, [], ◌∷◌, ◌++◌, map, take, drop, sym, subst, inl, inr}
-use Rattle.yaml_scan.specs.Fault.{memory_fault}
-use Rattle.yaml_scan.specs.Session.{Call, Answer}
+use Rattle.std.proofs.Common.{◌≡◌, ◌+◌, List, [], ◌∷◌, ◌++◌, map, take, drop, sym, subst, inl, inr}
+use Rattle.yaml_scan.specs.Fault.{Fault, memory_fault}
+use Rattle.yaml_scan.specs.Session.{Call, Answer, session}
 use Rattle.yaml_scan.specs.Session.Call.{SCAN, PEEK, SKIP}
 use Rattle.yaml_scan.specs.Session.{Answer as says}
-use Rattle.yaml_scan.specs.Parser.{Parser, course_read}
-use Rattle.yaml_scan.specs.Words.{AnswerHasLine, AnswersHaveLines}
-use Rattle.yaml_scan.specs.Calls.{Seen, seen, idle, answered_all}
+use Rattle.yaml_scan.specs.Parser.{Parser, Calls, course_read}
+use Rattle.yaml_scan.specs.Token.{yaml_token_t}
+use Rattle.yaml_scan.specs.Words.{HasWords, AnswerHasLine, AnswersHaveLines}
+use Rattle.yaml_scan.specs.Calls.{Seen, seen, idle, answered_all, Runs}
 use Rattle.yaml_scan.specs.Calls.Seen.{FAULT}
-use Rattle.yaml_scan.specs.CallWords.{SeenHasLine, SeenHaveLines, RunHasLines}
+use Rattle.yaml_scan.specs.CallWords.{SeenHasLine, SeenHaveLines}
 use Rattle.yaml_scan.proofs.Telling.{sessions_have_lines}
 
 seen_told : (a : Answer) → AnswerHasLine a → SeenHasLine (seen a)
@@ -39,7 +40,17 @@ answered_told : (p : Parser) (calls : List Call) → SeenHaveLines (map seen (an
 unfolding course_read
 answered_told p calls = all_seen_told (answered_all p calls) (sessions_have_lines p.limit p.setting p.input calls p.session)
 
-pub run_has_lines : (p : Parser) (calls : List Call) → RunHasLines p calls
+-- whatever calls of a parser are answered with
+pub run_has_lines : (p : Parser) (calls : List Call) (answers : List Seen) (q : Parser) → Runs p calls answers q → SeenHaveLines answers
 run_has_lines p calls answers q (inl r) = subst (λ (z : List Seen). SeenHaveLines z) (sym r.0) (answered_told p calls)
 run_has_lines p calls answers q (inr r) = subst (λ (z : List Seen). SeenHaveLines z) (sym r.answers)
     (joined_told (map seen (answered_all p (take r.n calls))) (FAULT memory_fault ∷ map idle (drop (r.n + 1) calls)) (answered_told p (take r.n calls)) (tt, all_idle_told (drop (r.n + 1) calls)))
+
+-- a token that a scan answers
+no_fault : (t : yaml_token_t) (f : Fault) → says.TOKEN t ≡ says.FAULT f → ⊥
+no_fault t f e = cc
+
+pub scan_has_words : (p : Parser) (t : yaml_token_t) (q : Parser) → Calls SCAN p (says.TOKEN t) q → HasWords t.token_data
+unfolding session course_read
+scan_has_words p t q (inl k) = subst (λ (a : Answer). AnswerHasLine a) (sym k.0) ((sessions_have_lines p.limit p.setting p.input (SCAN ∷ []) p.session).0)
+scan_has_words p t q (inr k) = absurd (no_fault t memory_fault k.0)

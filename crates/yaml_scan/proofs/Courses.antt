@@ -1,5 +1,5 @@
 -- What an input comes to.
-use Rattle.std.proofs.Common.{◌≡◌, ℕ, zero, suc, ◌+◌, ◌≤◌, ◌<◌, Bool, true, false, List, [], ◌∷◌, ◌++◌, length, length-append, slice_get, Option, Some, None, refl, ap, sym, ◌∙◌, subst, arith, inl, inr, lt-ltb, append_assoc}
+use Rattle.std.proofs.Common.{◌≡◌, ℕ, zero, suc, ◌+◌, ◌≤◌, ◌<◌, Bool, true, false, List, [], ◌∷◌, ◌++◌, length, length-append, slice_get, Option, Some, None, refl, ap, sym, ◌∙◌, subst, arith, inl, inr, lt-ltb, ltb-true, ltb-false, append_assoc}
 use Rattle.std.specs.Prelude.{option_map}
 use Rattle.std.proofs.lemmas.Bool.{cases_Bool, cases_lt, cond_both, false≢true}
 use Rattle.yaml_scan.specs.Lexeme.{Lexeme}
@@ -17,7 +17,9 @@ use Rattle.yaml_scan.specs.Cut.{Cut, cut, cut_from, cut_on, oldest, IsRun, EndsW
 use Rattle.yaml_scan.specs.Answers.{Input, Course, next, unless_near, is_near, place_of, starts_near, course, course_from, tokens_of}
 use Rattle.yaml_scan.specs.Session.{Call, Session, new_session, next_token, is_last, after_scan, after_peek, after_skip, after, after_all}
 use Rattle.yaml_scan.specs.Session.Call.{SCAN, PEEK, SKIP}
-use Rattle.yaml_scan.specs.SessionLaws.{CourseIsHistory, EndsOrFaults, RefusedHasFault, AcceptedIsCut, FrontIsCut, NoneIsStuck}
+use Rattle.yaml_scan.specs.Laws.{StepsBeginCut, CutIsOnly}
+use Rattle.yaml_scan.specs.SessionLaws.{CourseIsHistory, EndsOrFaults, NearStepIsRefused, FarStepIsItself, CourseIsRun, FaultOfRefused, RefusedHasFault, AcceptedIsCut, FrontIsCut, NoneIsStuck}
+use Rattle.yaml_scan.specs.SessionLaws.FaultOfRefused.{at_once, near, far}
 use Rattle.yaml_scan.proofs.Cuts.{IsOrderly, orderly, IsHistory-from_run, cut_of, cut_is_longest}
 use Rattle.yaml_scan.proofs.Extend.{before-before}
 use Rattle.yaml_scan.proofs.GoOn.{all_is_handed_out}
@@ -94,18 +96,68 @@ refused_not_ended limit input f k e (i ∷ H) r w =
     faults_reads : (o : Offence) (x : Lexeme) → Faults o ≡ Reads x → ⊥
     faults_reads o x v = cc
 
+is_within : (size : ℕ) (p : ℕ) → is_near size p ≡ true → size < p + 8
+is_within size p e = ltb-true size (p + 8) e
+
+is_far : (size : ℕ) (p : ℕ) → is_near size p ≡ false → p + 8 ≤ size
+is_far size p e = ltb-false size (p + 8) e
+
+near_step : (size : ℕ) (r : Option Fault) (f : Fault) (o : Outcome) → r ≡ Some f → size < place_of o + 8 → unless_near size r o ≡ Faults (record { fault = f; place = size })
+near_step size r f o e l = let q : is_near size (place_of o) ≡ true = lt-ltb size (place_of o + 8) l in rw e (rw q refl)
+
+far_step : (size : ℕ) (r : Option Fault) (o : Outcome) → place_of o + 8 ≤ size → unless_near size r o ≡ o
+far_step size None o l = refl
+far_step size (Some f) o l = elim (cases_Bool (is_near size (place_of o))) [
+  | inl q ↦ (let k = is_within size (place_of o) q in absurd (omega arith))
+  | inr q ↦ rw q refl
+]
+
+pub near_step_is_refused : NearStepIsRefused
+unfolding next
+near_step_is_refused limit input f H e l = near_step input.source.size input.refusal f (step input.source limit H) e l
+
+pub far_step_is_itself : FarStepIsItself
+unfolding next
+far_step_is_itself limit input H l = far_step input.source.size input.refusal (step input.source limit H) l
+
+pub course_is_run : CourseIsRun
+unfolding course
+course_is_run limit input k = cases (starts_near input.source.size input.refusal)
+  where
+    cases : (b : Bool) → IsRun (next input limit) limit (course_from b input.refusal (steps_of limit input k)).read
+    cases true = tt
+    cases false = (steps_are limit input k).0
+
+-- which fault
+starts_within : (size : ℕ) (r : Option Fault) → starts_near size r ≡ true → size < 8
+starts_within size None e = absurd (false≢true e)
+starts_within size (Some f) e = let k = is_within size 0 e in omega arith
+
+module _ (limit : ℕ) (input : Input) (f : Fault) (k : KeepsOrder input.source) (e : input.refusal ≡ Some f) where
+  abbrev of_steps : Option Offence → Course
+  of_steps o = record { begun = true; read = (steps_of limit input k).read; fault = option_map (λ o. o.fault) o }
+
+  same_offence : (a b : Offence) → Faults a ≡ Faults b → a ≡ b
+  same_offence a b q = cc
+
+  of_offence : (o : Offence) → next input limit (steps_of limit input k).read ≡ Faults o → FaultOfRefused limit input f (of_steps (Some o))
+  of_offence o q = elim (cases_lt input.source.size (place_of (step input.source limit (steps_of limit input k).read) + 8)) [
+    | inl l ↦ near refl l (ap (λ (z : Offence). Some z.fault) (same_offence o (record { fault = f; place = input.source.size }) (sym q ∙ near_step_is_refused limit input f (steps_of limit input k).read e l)))
+    | inr l ↦ (let s : step input.source limit (steps_of limit input k).read ≡ Faults o = sym (far_step_is_itself limit input (steps_of limit input k).read l) ∙ q in
+        far o refl s (subst (λ (z : Outcome). place_of z + 8 ≤ input.source.size) s l) refl)
+  ]
+
+  of_cut : (o : Option Offence) → EndsWith (next input limit) (steps_of limit input k).read o → FaultOfRefused limit input f (of_steps o)
+  of_cut None w = absurd (refused_not_ended limit input f k e (steps_of limit input k).read (steps_are limit input k).0 w)
+  of_cut (Some o) w = of_offence o w.1
+
 pub refused_has_fault : RefusedHasFault
 unfolding course
-refused_has_fault limit input f k e = go (starts_near input.source.size input.refusal)
+refused_has_fault limit input f k e = go (starts_near input.source.size input.refusal) refl
   where
-    of_cut : (o : Option Offence) → (steps_of limit input k).fault ≡ o → (g : Fault) × (option_map (λ o. o.fault) o ≡ Some g)
-    of_cut None q = absurd (refused_not_ended limit input f k e (steps_of limit input k).read (steps_are limit input k).0
-        (subst (λ (o : Option Offence). EndsWith (next input limit) (steps_of limit input k).read o) q (steps_are limit input k).1))
-    of_cut (Some o) q = (o.fault, refl)
-
-    go : (b : Bool) → (g : Fault) × ((course_from b input.refusal (steps_of limit input k)).fault ≡ Some g)
-    go true = (f, e)
-    go false = let r = of_cut (steps_of limit input k).fault refl in (r.0, r.1)
+    go : (b : Bool) → starts_near input.source.size input.refusal ≡ b → FaultOfRefused limit input f (course_from b input.refusal (steps_of limit input k))
+    go true q = at_once refl (starts_within input.source.size input.refusal q) e
+    go false q = of_cut limit input f k e (steps_of limit input k).fault (steps_are limit input k).1
 
 -- ACCEPTED INPUTS
 cut_same : (f g : List Laid → Outcome) (limit : ℕ) → ((H : List Laid) → f H ≡ g H) → (n : ℕ) (H : List Laid) → cut_from f n limit H ≡ cut_from g n limit H
@@ -175,6 +227,28 @@ module _ (step : List Laid → Outcome) (limit : ℕ) where
         let k = length-append y.0 (oldest (length B) A) in
         absurd (not_longer y.0 B o (subst (λ (X : List Laid). IsRun step limit (y.0 ++ X)) q t) w (omega arith)))
   ]
+
+pub steps_begin_cut : StepsBeginCut
+steps_begin_cut S limit H k r = let c = cut_is_longest S limit k in run_tail (step S limit) limit H (cut S limit).read (cut S limit).fault r c.0 c.1
+
+pub cut_is_only : CutIsOnly
+cut_is_only S limit H o k r w = both (steps_begin_cut S limit H k r)
+  where
+    c : IsRun (step S limit) limit (cut S limit).read × EndsWith (step S limit) (cut S limit).read (cut S limit).fault
+    c = cut_is_longest S limit k
+
+    one_offence : (a b : Option Offence) (X : List Laid) → EndsWith (step S limit) X a → EndsWith (step S limit) X b → a ≡ b
+    one_offence None None X u v = refl
+    one_offence None (Some b) X u v = absurd (false≢true (sym v.0 ∙ u))
+    one_offence (Some a) None X u v = absurd (false≢true (sym u.0 ∙ v))
+    one_offence (Some a) (Some b) X u v = ap (λ (z : Offence). Some z) (same a b (sym u.1 ∙ v.1))
+      where
+        same : (a b : Offence) → Faults a ≡ Faults b → a ≡ b
+        same a b q = cc
+
+    both : (y : (Y : List Laid) × ((cut S limit).read ≡ Y ++ H)) → (H ≡ (cut S limit).read) × (o ≡ (cut S limit).fault)
+    both ([], e) = (sym e, one_offence o (cut S limit).fault H w (subst (λ (X : List Laid). EndsWith (step S limit) X (cut S limit).fault) e c.1))
+    both ((y ∷ Y), e) = absurd (not_longer (step S limit) limit (y ∷ Y) H o (subst (λ (X : List Laid). IsRun (step S limit) limit X) e c.0) w (omega arith))
 
 pub front_is_cut : FrontIsCut
 unfolding course

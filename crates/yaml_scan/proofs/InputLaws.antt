@@ -50,11 +50,11 @@ get_front (x ∷ a) more (suc i) l = get_front a more i (omega arith)
 same_front : (m : ℕ) (a b : List ℕ) → Begins a b → m ≤ length a → SameBelow m a b
 same_front m a b g l i j = rw g.is (get_front a g.rest i (omega arith))
 
-agree : (s : yaml_encoding_t) (a : List ℕ) (t : yaml_encoding_t) (b : List ℕ) (fault : Fault) → GoesOn s a t b fault → AgreesWith (decoded_input s a) (decoded_input t b) fault
+pub agree : (s : yaml_encoding_t) (a : List ℕ) (t : yaml_encoding_t) (b : List ℕ) (fault : Fault) → GoesOn s a t b fault → AgreesWith (decoded_input s a) (decoded_input t b) fault
 unfolding decoded_input source_of
 agree s a t b fault g = record { refused = g.refused; accepted = g.accepted; same = λ r l. texts_are_local r (front s a).chars (front t b).chars (same_front (r + 8) (front s a).chars (front t b).chars g.agrees l) }
 
-encoding_is : (s : yaml_encoding_t) (a : List ℕ) (t : yaml_encoding_t) (b : List ℕ) (fault : Fault) → GoesOn s a t b fault → (decoded_input t b).encoding ≡ (decoded_input s a).encoding
+pub encoding_is : (s : yaml_encoding_t) (a : List ℕ) (t : yaml_encoding_t) (b : List ℕ) (fault : Fault) → GoesOn s a t b fault → (decoded_input t b).encoding ≡ (decoded_input s a).encoding
 unfolding decoded_input
 encoding_is s a t b fault g = g.encoding
 

@@ -62,3 +62,8 @@ pub mod CallsTold
 pub mod CountedMarks
 pub mod CountedSteps
 pub mod CountedTokens
+pub mod CallMarks
+pub mod ReadsOn
+pub mod Faults
+pub mod Taken
+pub mod Alike

@@ -6,6 +6,7 @@ use Rattle.std.proofs.lemmas.List.{take_at, map-append, drop-append-le}
 use Rattle.yaml_scan.specs.Kind.{Kind, is_block_entry, is_candidate_kind, is_flow_start, is_flow_end}
 use Rattle.yaml_text.specs.declared.types.yaml_mark_t.{yaml_mark_t}
 use Rattle.yaml_scan.specs.Slots.{Held, held, held_of, still_held, outer_to, slot_behind, nested_outer, nested_top, or_top, is_margin_level}
+use Rattle.yaml_scan.specs.Token.{yaml_token_t}
 use Rattle.yaml_scan.specs.Lexeme.{Lexeme}
 use Rattle.yaml_scan.specs.Offline.{Token, end_at, start_token, block_ends, group, inserted, offline, before, up_to}
 use Rattle.yaml_scan.specs.Offline.Token.{BlockEnd, BlockSequenceStart, BlockMappingStart, InsertedKey, OfLexeme}
@@ -16,6 +17,7 @@ use Rattle.yaml_text.specs.declared.types.yaml_encoding_t.{yaml_encoding_t}
 use Rattle.yaml_scan.specs.declared.queue.block_t.{block_t}
 use Rattle.yaml_scan.specs.declared.queue.block_t.TheVariants.{NONE, SEQUENCE, MAPPING}
 use Rattle.yaml_scan.specs.declared.queue.group_t.{group_t}
+use Rattle.yaml_text.specs.Token.{token_of}
 use Rattle.yaml_scan.specs.Queue.{is_new, key_at, opened}
 use Rattle.yaml_scan.specs.Laws.{key_tokens}
 use Rattle.yaml_scan.specs.Groups.{IsQueue, Fitting, ends_at, start_at, start_of, leads, keyed_at, completed_in, opened_by}
@@ -212,9 +214,12 @@ module _ (limit : ℕ) (H : List Laid) (x : Lexeme) (h : IsHistory limit (laid l
       go (Some c) e = levels_some c e
 
   module _ (t : ℕ) (T : t ≤ length (before limit H)) (e : yaml_encoding_t) (m : yaml_mark_t) (ys : List group_t) (Q : IsQueue e 0 m ys (drop t (offline H))) (d : ℕ) (D : d + length ys ≡ length H + 1)
-      (y : group_t) (n : ℕ) (f : yaml_mark_t) (E : ends_at n f ++ ends_at y.ends x.start ≡ block_ends (laid limit H x)) (Y : y.token ≡ record { token_data = x.token_data; start_mark = x.start; end_mark = x.end }) (K : y.key ≡ false) where
+      (y : group_t) (n : ℕ) (f : yaml_mark_t) (E : ends_at n f ++ ends_at y.ends x.start ≡ block_ends (laid limit H x)) (Y : token_of y.token ≡ record { token_data = x.token_data; start_mark = x.start; end_mark = x.end }) (K : y.key ≡ false) where
+    S : y.token.start_mark ≡ x.start
+    S = ap (λ (t : yaml_token_t). t.start_mark) Y
+
     leads_are : (o : block_t) → y.opens ≡ o → ends_at n f ++ leads y ≡ block_ends (laid limit H x) ++ start_at o x.start
-    leads_are o O = rw (K, O, Y) (ap (λ (l : List Token). ends_at n f ++ (ends_at y.ends x.start ++ l)) (append-nil (start_at o x.start)) ∙ sym (append_assoc (ends_at n f) (ends_at y.ends x.start) (start_at o x.start)) ∙ ap (λ (l : List Token). l ++ start_at o x.start) E)
+    leads_are o O = rw (K, O, S) (ap (λ (l : List Token). ends_at n f ++ (ends_at y.ends x.start ++ l)) (append-nil (start_at o x.start)) ∙ sym (append_assoc (ends_at n f) (ends_at y.ends x.start) (start_at o x.start)) ∙ ap (λ (l : List Token). l ++ start_at o x.start) E)
 
     put_here : (zs : List group_t) (q : List Token) (o : block_t) → IsQueue e 0 m zs q → y.opens ≡ o → IsQueue e n f (zs ++ y ∷ []) (q ++ ((block_ends (laid limit H x) ++ start_at o x.start) ++ OfLexeme x ∷ []))
     put_here zs q o R O = subst (λ (l : List Token). IsQueue e n f (zs ++ y ∷ []) (q ++ (l ++ OfLexeme x ∷ []))) (leads_are o O) (put_behind e m f n zs q y (OfLexeme x) R Y refl)

@@ -4,7 +4,8 @@ use Rattle.std.specs.Prelude.{◌⊎◌, MatchResult}
 use Rattle.yaml_text.specs.declared.types.yaml_mark_t.{yaml_mark_t}
 use Rattle.yaml_text.specs.declared.fault.yaml_fault_t.{yaml_fault_t}
 use Rattle.yaml_text.specs.Fault.{Fault, fault_of, memory_fault}
-use Rattle.yaml_lexeme.specs.declared.lex.yaml_lexeme_t.{yaml_lexeme_t}
+use Rattle.yaml_lexeme.specs.Lexeme.{Lexeme as yaml_lexeme_t, lexeme_of}
+use Rattle.yaml_lexeme.specs.declared.lex.yaml_lexeme_t.{yaml_lexeme_t as code_lexeme_t}
 use Rattle.yaml_lexeme.specs.Place.{Place, place_at, start, IsMarkOf}
 use Rattle.yaml_lexeme.specs.Order.{IsAhead}
 use Rattle.yaml_lexeme.specs.Answers.{Answers}
@@ -61,13 +62,13 @@ same_fault : (a b : Fault) → err a ≡ err b → a ≡ b
 same_fault a b q = cc
 
 -- what a lexeme's call answers
-pub read_is : (cs : List ℕ) (k : Kind) (d : ℕ) (l : Option ℕ) (p : ℕ) (r : Result yaml_lexeme_t yaml_fault_t) → Answers r (lexeme_at k (record { depth = d; level = l }) (place_at cs p))
-    → MatchResult r (λ x. IsRead cs k d l p x) (λ f. (fault_of f ≡ memory_fault) ⊎ IsOffence cs k d l p (fault_of f))
+pub read_is : (cs : List ℕ) (k : Kind) (d : ℕ) (l : Option ℕ) (p : ℕ) (r : Result code_lexeme_t yaml_fault_t) → Answers lexeme_of r (lexeme_at k (record { depth = d; level = l }) (place_at cs p))
+    → MatchResult r (λ x. IsRead cs k d l p (lexeme_of x)) (λ f. (fault_of f ≡ memory_fault) ⊎ IsOffence cs k d l p (fault_of f))
 unfolding source_of
 read_is cs k d l p (Ok x) a = go (lex k (record { depth = d; level = l }) (place_at cs p)) a
   where
-    go : (r : lexemes.Read yaml_lexeme_t) → answer k (place_at cs p) r ≡ Ok x → (n : ℕ) × (reading_of (length cs) k (place_at cs p) r ≡ Ok (reading x n))
-    go (Ok f) e = let v : f.value ≡ x = same_lexeme f.value x e in (count_to (length cs) f.end, ap (λ (y : yaml_lexeme_t). Ok (reading y (count_to (length cs) f.end))) v)
+    go : (r : lexemes.Read yaml_lexeme_t) → answer k (place_at cs p) r ≡ Ok (lexeme_of x) → (n : ℕ) × (reading_of (length cs) k (place_at cs p) r ≡ Ok (reading (lexeme_of x) n))
+    go (Ok f) e = let v : f.value ≡ lexeme_of x = same_lexeme f.value (lexeme_of x) e in (count_to (length cs) f.end, ap (λ (y : yaml_lexeme_t). Ok (reading y (count_to (length cs) f.end))) v)
     go (Err f) e = cc
 read_is cs k d l p (Err x) (inl m) = inl m
 read_is cs k d l p (Err x) (inr a) = inr (go (lex k (record { depth = d; level = l }) (place_at cs p)) a)

@@ -8,6 +8,7 @@ use Rattle.yaml_scan.specs.declared.queue.block_t.{block_t}
 use Rattle.yaml_scan.specs.declared.queue.block_t.TheVariants.{NONE, SEQUENCE, MAPPING}
 use Rattle.yaml_scan.specs.declared.queue.group_t.{group_t}
 use Rattle.yaml_scan.specs.declared.queue.queue_t.{queue_t}
+use Rattle.yaml_text.specs.Token.{token_of}
 use Rattle.yaml_scan.specs.Token.{yaml_token_t}
 use Rattle.yaml_scan.specs.Offline.{Token, handed_out}
 use Rattle.yaml_scan.specs.Offline.Token.{InsertedKey}
@@ -140,7 +141,7 @@ lead_taken e old new token xs q t l d = go (pending old.early old.front (d.was �
       rest = ps ++ i.0 ∷ i.1;
       is = i.2 ∙ ap (λ (r : List Token). r ++ i.0 ∷ i.1) P;
       told = t p ps (ap (λ (ys : List group_t). pending old.early old.front ys) d.old_is ∙ P);
-      queue = subst (λ (ys : List group_t). IsQueue e new.early new.front ys (ps ++ i.0 ∷ i.1)) (sym d.new_is) (i.0, i.1, ap (λ (r : List Token). r ++ i.0 ∷ i.1) (sym (d.pending ∙ ap (λ (r : List Token). drop 1 r) P)), d.token ∙ i.3, i.4, rest_is i.1 i.5);
+      queue = subst (λ (ys : List group_t). IsQueue e new.early new.front ys (ps ++ i.0 ∷ i.1)) (sym d.new_is) (i.0, i.1, ap (λ (r : List Token). r ++ i.0 ∷ i.1) (sym (d.pending ∙ ap (λ (r : List Token). drop 1 r) P)), ap token_of d.token ∙ i.3, i.4, rest_is i.1 i.5);
       count = (let a = ap (λ (ys : List group_t). length ys) d.old_is in let b = ap (λ (ys : List group_t). length ys) d.new_is in let c = d.done in omega arith);
       early = d.early;
     }
@@ -149,10 +150,10 @@ lead_taken e old new token xs q t l d = go (pending old.early old.front (d.was �
         rest_is r j = subst (λ (m : yaml_mark_t). IsQueue e new.early m d.others r) (sym d.front) (others_same e old.front old.early new.early d.others r d.same_early j)
 
 pub token_taken : (e : yaml_encoding_t) (old new : queue_t) (y : group_t) (ys : List group_t) (xs : List Token) → IsQueue e old.early old.front old.groups.items xs → old.groups.items ≡ y ∷ ys → new.groups.items ≡ ys → length (pending old.early old.front old.groups.items) ≤ 0 → new.done ≡ old.done + 1 → new.early ≡ old.early → new.front ≡ old.front
-    → Takes e old new y.token xs
+    → Takes e old new (token_of y.token) xs
 token_taken e old new y ys xs q g h l d a f = go (pending old.early old.front (y ∷ ys)) refl (rw g at q)
   where
-    go : (p : List Token) → pending old.early old.front (y ∷ ys) ≡ p → IsQueue e old.early old.front (y ∷ ys) xs → Takes e old new y.token xs
+    go : (p : List Token) → pending old.early old.front (y ∷ ys) ≡ p → IsQueue e old.early old.front (y ∷ ys) xs → Takes e old new (token_of y.token) xs
     go (p ∷ ps) P i = absurd (let z = ap (λ (r : List Token). length r) (ap (λ (ys : List group_t). pending old.early old.front ys) g ∙ P) in omega arith)
     go [] P i = record {
       first = i.0;
@@ -179,22 +180,22 @@ lead_first e q xs token i t l = go q.groups.items refl i
         here [] P = absurd (let z = ap (λ (r : List Token). length r) (ap (λ (ys : List group_t). pending q.early q.front ys) Y ∙ P) in omega arith)
         here (p ∷ ps) P = (p, ps ++ i.0 ∷ i.1, i.2 ∙ ap (λ (r : List Token). r ++ i.0 ∷ i.1) P, t p ps (ap (λ (ys : List group_t). pending q.early q.front ys) Y ∙ P))
 
-pub token_first : (e : yaml_encoding_t) (q : queue_t) (xs : List Token) (y : group_t) → IsQueue e q.early q.front q.groups.items xs → 0 < length q.groups.items → y ≡ get_or q.groups.items 0 y → length (pending q.early q.front q.groups.items) ≤ 0 → IsFirst e xs y.token
+pub token_first : (e : yaml_encoding_t) (q : queue_t) (xs : List Token) (y : group_t) → IsQueue e q.early q.front q.groups.items xs → 0 < length q.groups.items → y ≡ get_or q.groups.items 0 y → length (pending q.early q.front q.groups.items) ≤ 0 → IsFirst e xs (token_of y.token)
 token_first e q xs y i l g n = go q.groups.items refl i
   where
-    go : (ys : List group_t) → q.groups.items ≡ ys → IsQueue e q.early q.front ys xs → IsFirst e xs y.token
+    go : (ys : List group_t) → q.groups.items ≡ ys → IsQueue e q.early q.front ys xs → IsFirst e xs (token_of y.token)
     go [] Y i = absurd (let z = ap (λ (ys : List group_t). length ys) Y in omega arith)
     go (z ∷ ys) Y i =
         let h : y ≡ z = g ∙ ap (λ (l : List group_t). get_or l 0 y) Y in
         here (pending q.early q.front (z ∷ ys)) refl h
       where
-        here : (p : List Token) → pending q.early q.front (z ∷ ys) ≡ p → y ≡ z → IsFirst e xs y.token
-        here [] P h = (i.0, i.1, i.2 ∙ ap (λ (r : List Token). r ++ i.0 ∷ i.1) P, ap (λ (u : group_t). u.token) h ∙ i.3)
+        here : (p : List Token) → pending q.early q.front (z ∷ ys) ≡ p → y ≡ z → IsFirst e xs (token_of y.token)
+        here [] P h = (i.0, i.1, i.2 ∙ ap (λ (r : List Token). r ++ i.0 ∷ i.1) P, ap (λ (u : group_t). token_of u.token) h ∙ i.3)
         here (p ∷ ps) P h = absurd (let k = ap (λ (r : List Token). length r) (ap (λ (ys : List group_t). pending q.early q.front ys) Y ∙ P) in omega arith)
 
 -- PUTTING
 -- one group more, where no block ends of the front wait
-pub put_behind : (e : yaml_encoding_t) (f m : yaml_mark_t) (n : ℕ) (ys : List group_t) (q : List Token) (y : group_t) (x : Token) → IsQueue e 0 f ys q → y.token ≡ handed_out e x → is_of_lexeme x ≡ true
+pub put_behind : (e : yaml_encoding_t) (f m : yaml_mark_t) (n : ℕ) (ys : List group_t) (q : List Token) (y : group_t) (x : Token) → IsQueue e 0 f ys q → token_of y.token ≡ handed_out e x → is_of_lexeme x ≡ true
     → IsQueue e n m (ys ++ y ∷ []) (q ++ ((ends_at n m ++ leads y) ++ x ∷ []))
 put_behind e f m n [] q y x i t l = rw i (x, [], refl, t, l, refl)
 put_behind e f m n (z ∷ ys) q y x i t l = (

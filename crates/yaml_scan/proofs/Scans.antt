@@ -254,7 +254,7 @@ module _ (setting : yaml_encoding_t) (input : List ℕ) (s : scanner_t) (k : IsS
 pub show_over : (p : Parser) → p.session.over ≡ true → p.session.peeked ≡ false → Shows p (Ok tt) p
 show_over p o k = inl (rw (k, o) refl, rw o refl)
 
-pub scan_over : (p : Parser) → p.session.over ≡ true → Scans p (Ok empty) p
+pub scan_over : (p : Parser) → p.session.over ≡ true → Calls SCAN p (TOKEN empty) p
 scan_over p o = inl (rw o refl, rw o refl)
 
 -- a scan is a peek and a skip
@@ -308,7 +308,7 @@ module _ (p q : Parser) (o : p.session.over ≡ false) where
   unfolding course_read
   taken_behind y n = ap (λ (z : Session). record { input = p.input; setting = p.setting; limit = p.limit; session = z }) (take_after_peek p.limit (course_read p) p.session y o n)
 
-  pub scan_shown : (x : yaml_token_t) (r : Parser) → Shows p (Ok tt) q → x ≡ token_shown q → r ≡ behind q SKIP → Scans p (Ok x) r
+  pub scan_shown : (x : yaml_token_t) (r : Parser) → Shows p (Ok tt) q → x ≡ token_shown q → r ≡ behind q SKIP → Calls SCAN p (TOKEN x) r
   scan_shown x r (inl a) e f = (let y = shown_token (token_shown q) a.0 in
       inl (
         ap TOKEN (e ∙ y.2) ∙ sym (open_scan ∙ ap (λ (n : Option Token). scan_answer (input_read p).encoding (course_read p) n) y.1),

@@ -1,22 +1,23 @@
 -- What is read of texts that agree a little past its end.
-use Rattle.std.proofs.Common.{◌≡◌, ℕ, zero, suc, ◌+◌, ◌-◌, ◌≤◌, ◌<◌, Bool, List, [], ◌∷◌, length, slice_get, Option, Some, None, refl, ap, sym, ◌∙◌, subst, arith, inl, inr}
-use Rattle.std.specs.Prelude.{◌⊎◌, slice_index, Result, Ok, Err}
+use Rattle.std.proofs.Common.{◌≡◌, ℕ, ◌+◌, ◌-◌, ◌≤◌, Bool, List, length, Option, Some, refl, ap, sym, ◌∙◌, subst, arith, inl, inr}
+use Rattle.std.specs.Prelude.{Result, Ok, Err}
 use Rattle.yaml_text.specs.declared.types.yaml_mark_t.{yaml_mark_t}
 use Rattle.yaml_lexeme.specs.declared.lex.yaml_context_t.{yaml_context_t}
-use Rattle.yaml_lexeme.specs.declared.lex.yaml_lexeme_t.{yaml_lexeme_t}
+use Rattle.yaml_lexeme.specs.Lexeme.{Lexeme as yaml_lexeme_t}
 use Rattle.yaml_lexeme.specs.Place.{Place, place_at, start, skip}
 use Rattle.yaml_lexeme.specs.Reading.{Read}
 use Rattle.yaml_lexeme.specs.Gap.{gap}
 use Rattle.yaml_lexeme.specs.Kind.{kind_at}
 use Rattle.yaml_lexeme.specs.Lex.{lex}
-use Rattle.yaml_lexeme.specs.Locality.{Agree, reach, move}
+use Rattle.yaml_lexeme.specs.Locality.{reach, move}
+use Rattle.yaml_lexeme.proofs.Agreeing.{Agree, some_same, same_or_long, get_index}
 use Rattle.yaml_lexeme.proofs.Places.{length_skip, skip_skip}
 use Rattle.yaml_lexeme.proofs.Orders.{gap_order}
 use Rattle.yaml_lexeme.proofs.Like.{agree_behind}
 use Rattle.yaml_lexeme.proofs.Local.{agree_less}
-use Rattle.yaml_lexeme.proofs.GapLocal.{gap_is_local}
+use Rattle.yaml_lexeme.proofs.GapLocal.{gap_local_to}
 use Rattle.yaml_lexeme.proofs.KindLocal.{kind_local}
-use Rattle.yaml_lexeme.proofs.LexLocal.{lex_is_local}
+use Rattle.yaml_lexeme.proofs.LexLocal.{lex_local_to}
 use Rattle.yaml_scan.proofs.LexemeReads.{lex_goes_on}
 use Rattle.yaml_lexeme.specs.Texts.{problem_text, context_text}
 use Rattle.yaml_text.specs.Fault.{scanner_fault}
@@ -25,40 +26,12 @@ use Rattle.yaml_scan.specs.Source.{Source, Reading, Offence}
 use Rattle.yaml_scan.specs.SourceOf.{count_to, reading, reading_of, source_of}
 use Rattle.yaml_scan.specs.Locality.{place_read, ReadsSame, SameBelow, TextsAreLocal}
 
--- texts that agree below m are the same, or both go on to there
-same_or_long : (m : ℕ) (a b : List ℕ) → SameBelow m a b → (a ≡ b) ⊎ ((m ≤ length a) × (m ≤ length b))
-same_or_long zero a b s = inr (omega arith, omega arith)
-same_or_long (suc m) [] [] s = inl refl
-same_or_long (suc m) [] (y ∷ b) s = absurd (none_some y (s 0 (omega arith)))
-  where
-    none_some : (y : ℕ) → None ≡ Some y → ⊥
-    none_some y e = cc
-same_or_long (suc m) (x ∷ a) [] s = absurd (some_none x (s 0 (omega arith)))
-  where
-    some_none : (y : ℕ) → Some y ≡ None → ⊥
-    some_none y e = cc
-same_or_long (suc m) (x ∷ a) (y ∷ b) s = elim (same_or_long m a b (λ i l. s (suc i) (omega arith))) [
-  | inl e ↦ inl (ap (λ (z : ℕ). z ∷ a) (one x y (s 0 (omega arith))) ∙ ap (λ (z : List ℕ). y ∷ z) e)
-  | inr l ↦ inr (omega (arith, l.0), omega (arith, l.1))
-]
-  where
-    one : (x y : ℕ) → Some x ≡ Some y → x ≡ y
-    one x y e = cc
-
-get_index : (xs : List ℕ) (i : ℕ) → i < length xs → slice_get xs i ≡ Some (slice_index xs i)
-get_index [] i l = absurd (omega arith)
-get_index (x ∷ xs) zero l = refl
-get_index (x ∷ xs) (suc i) l = get_index xs i (omega arith)
-
 same_reads : (r : ℕ) (S : Source) → ReadsSame r S S
 same_reads r S = record { marks = λ p l. refl; gaps = λ f a p l. refl; kinds = λ f p l. refl; reads = λ k d l p m. refl }
 
 module _ (r : ℕ) (a b : List ℕ) (s : SameBelow (r + 8) a b) (la : r + 8 ≤ length a) (lb : r + 8 ≤ length b) where
   starts_agree : Agree (r + 8) (start a) (start b)
-  starts_agree = record { mark = refl; left = la; right = lb; same = λ i l. some_same (slice_index a i) (slice_index b i) (sym (get_index a i (omega arith)) ∙ s i l ∙ get_index b i (omega arith)) }
-    where
-      some_same : (x y : ℕ) → Some x ≡ Some y → x ≡ y
-      some_same x y e = cc
+  starts_agree = record { mark = refl; left = la; right = lb; same = λ i l. some_same (sym (get_index a i (omega arith)) ∙ s i l ∙ get_index b i (omega arith)) }
 
   places_agree : (p : ℕ) → p ≤ r → Agree (r + 8 - p) (place_at a p) (place_at b p)
   places_agree p l = agree_behind (r + 8) p (start a) (start b) (omega arith) starts_agree
@@ -88,7 +61,7 @@ module _ (r : ℕ) (a b : List ℕ) (s : SameBelow (r + 8) a b) (la : r + 8 ≤ 
       let g = (gap_order flow allowed (place_at a p)).0 in
       let c = counted g.count p (gap flow allowed (place_at a p)).0 g.is l in
       let m = c.0 in
-      let h = gap_is_local flow allowed (place_at a p) (place_at b p) g.count g.is (agree_less (g.count + 8) (r + 8 - p) (place_at a p) (place_at b p) (omega arith) (places_agree p (omega arith))) in
+      let h = gap_local_to flow allowed (place_at a p) (place_at b p) g.count g.is (agree_less (g.count + 8) (r + 8 - p) (place_at a p) (place_at b p) (omega arith) (places_agree p (omega arith))) in
       ap (λ (x : Place × Bool). count_to (length b) x.0) h ∙ other_count p g.count m ∙ sym c.1
 
   read_same : (k : Kind) (c : yaml_context_t) (p : ℕ) (n : ℕ) (x : Read yaml_lexeme_t) → reach x ≡ skip n (place_at a p) → place_read (reading_of (length a) k (place_at a p) x) ≤ r
@@ -114,7 +87,7 @@ module _ (r : ℕ) (a b : List ℕ) (s : SameBelow (r + 8) a b) (la : r + 8 ≤ 
       let x = lex k (record { depth = d; level = l }) (place_at a p) in
       let g = lex_goes_on k (record { depth = d; level = l }) (place_at a p) in
       let w = ends_within p g.0 x g.1 m in
-      let h = lex_is_local k (record { depth = d; level = l }) (place_at a p) (place_at b p) g.0 g.1 (agree_less (g.0 + 8) (r + 8 - p) (place_at a p) (place_at b p) (omega arith) (places_agree p (omega arith))) in
+      let h = lex_local_to k (record { depth = d; level = l }) (place_at a p) (place_at b p) g.0 g.1 (agree_less (g.0 + 8) (r + 8 - p) (place_at a p) (place_at b p) (omega arith) (places_agree p (omega arith))) in
       ap (reading_of (length b) k (place_at b p)) h ∙ read_same k (record { depth = d; level = l }) p g.0 x g.1 m
     where
       ends_within : (p n : ℕ) (x : Read yaml_lexeme_t) → reach x ≡ skip n (place_at a p) → place_read (reading_of (length a) k (place_at a p) x) ≤ r → p + n ≤ r

@@ -3,12 +3,12 @@ use Rattle.std.proofs.Common.{◌≡◌, ℕ, zero, suc, ◌+◌, ◌-◌, ◌�
 use Rattle.std.specs.Prelude.{if◌then◌else◌, nat_lt, nat_eq, slice_index, Result, Ok, Err}
 use Rattle.std.proofs.lemmas.Bool.{cases_Bool, cases_lt, false≢true}
 use Rattle.yaml_text.specs.declared.types.yaml_mark_t.{yaml_mark_t}
-use Rattle.yaml_text.specs.declared.token.unnamed_yaml_token_t_data.TheVariants as token
+use Rattle.yaml_text.specs.Token.{TokenData as token}
 use Rattle.yaml_text.specs.Chars.{AreChars, IsChar, is_char}
 use Rattle.yaml_text.specs.Classes.{is_z}
 use Rattle.yaml_lexeme.specs.declared.kind.yaml_lexeme_kind_t.TheVariants as kind
 use Rattle.yaml_lexeme.specs.declared.lex.yaml_context_t.{yaml_context_t}
-use Rattle.yaml_lexeme.specs.declared.lex.yaml_lexeme_t.{yaml_lexeme_t}
+use Rattle.yaml_lexeme.specs.Lexeme.{Lexeme as yaml_lexeme_t}
 use Rattle.yaml_lexeme.specs.Place.{Place, place_at, start, skip, skip_from, first, peek}
 use Rattle.yaml_lexeme.specs.Reading.{Found, Read}
 use Rattle.yaml_lexeme.specs.Gap.{gap}

@@ -6,13 +6,13 @@ use Rattle.yaml_text.specs.declared.types.yaml_mark_t.{yaml_mark_t}
 use Rattle.yaml_text.specs.declared.types.yaml_encoding_t.{yaml_encoding_t}
 use Rattle.yaml_text.specs.declared.types.yaml_encoding_t.TheVariants.{YAML_ANY_ENCODING}
 use Rattle.yaml_text.specs.declared.types.yaml_scalar_style_t.TheVariants.{YAML_ANY_SCALAR_STYLE, YAML_PLAIN_SCALAR_STYLE, YAML_SINGLE_QUOTED_SCALAR_STYLE, YAML_DOUBLE_QUOTED_SCALAR_STYLE, YAML_LITERAL_SCALAR_STYLE, YAML_FOLDED_SCALAR_STYLE}
-use Rattle.yaml_text.specs.declared.token.unnamed_yaml_token_t_data.{unnamed_yaml_token_t_data}
-use Rattle.yaml_text.specs.declared.token.unnamed_yaml_token_t_data.TheVariants as token
+use Rattle.yaml_text.specs.Token.{TokenData as unnamed_yaml_token_t_data}
+use Rattle.yaml_text.specs.Token.{TokenData as token}
 use Rattle.yaml_text.specs.Decode.{front, front_len, encoding_of, refusal, refusal_of}
 use Rattle.yaml_text.proofs.Decodings.{not_any}
 use Rattle.yaml_lexeme.specs.declared.kind.yaml_lexeme_kind_t.TheVariants as kind
 use Rattle.yaml_lexeme.specs.declared.lex.yaml_context_t.{yaml_context_t}
-use Rattle.yaml_lexeme.specs.declared.lex.yaml_lexeme_t.{yaml_lexeme_t}
+use Rattle.yaml_lexeme.specs.Lexeme.{Lexeme as yaml_lexeme_t}
 use Rattle.yaml_lexeme.specs.Place.{Place, place_at}
 use Rattle.yaml_lexeme.specs.Reading.{Found, Read, found, ◌>>=◌}
 use Rattle.yaml_lexeme.specs.Block.{block}

@@ -60,7 +60,7 @@ unfolding source_of lex
 end_reach cs d l p r w e =
     let n = length_skip p (start cs) in
     let c : count_to (length cs) (place_at cs p) ≡ p = omega arith in
-    let q : r ≡ record { token_data = Rattle.yaml_text.specs.declared.token.unnamed_yaml_token_t_data.TheVariants.STREAM_END; end = stream_end (place_at cs p).mark; reach = stream_end (place_at cs p).mark; place = count_to (length cs) (place_at cs p); passed_break = false } = cc in
+    let q : r ≡ record { token_data = Rattle.yaml_text.specs.Token.TokenData.STREAM_END; end = stream_end (place_at cs p).mark; reach = stream_end (place_at cs p).mark; place = count_to (length cs) (place_at cs p); passed_break = false } = cc in
     ap (λ (x : Reading). x.reach.index) q ∙ end_index (place_at cs p).mark ∙ ap (λ (x : ℕ). (place_at cs x).mark.index) (sym c ∙ sym (ap (λ (x : Reading). x.place) q))
 
 is_end : (k : Kind) → is_stream_end k ≡ true → k ≡ STREAM_END

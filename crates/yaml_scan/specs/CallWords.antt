@@ -1,9 +1,7 @@
 -- What a list of calls is answered with can be put in words.
 use Rattle.std.specs.Prelude.{List, [], ◌∷◌}
-use Rattle.yaml_scan.specs.Session.{Call}
-use Rattle.yaml_scan.specs.Parser.{Parser}
 use Rattle.yaml_scan.specs.Words.{HasWords, HasLine}
-use Rattle.yaml_scan.specs.Calls.{Seen, Runs}
+use Rattle.yaml_scan.specs.Calls.{Seen}
 use Rattle.yaml_scan.specs.Calls.Seen.{TOKEN, PEEKED, SKIPPED, NOTHING, FAULT}
 
 -- what is seen of an answer
@@ -17,7 +15,3 @@ SeenHasLine (FAULT fault) = HasLine fault
 abbrev pub SeenHaveLines : List Seen → Type 0
 SeenHaveLines [] = Unit {0}
 SeenHaveLines (a ∷ more) = SeenHasLine a × SeenHaveLines more
-
--- whatever these calls of a parser are answered with
-abbrev pub RunHasLines : Parser → List Call → Type 0
-RunHasLines p calls = (answers : List Seen) (q : Parser) → Runs p calls answers q → SeenHaveLines answers

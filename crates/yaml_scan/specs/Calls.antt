@@ -3,18 +3,16 @@ use Rattle.std.specs.Prelude.{◌≡◌, ◌≢◌, ◌⊎◌, ℕ, ◌+◌, ◌
 use Rattle.yaml_text.specs.declared.types.yaml_mark_t.{yaml_mark_t}
 use Rattle.yaml_text.specs.declared.types.yaml_token_type_t.{yaml_token_type_t}
 use Rattle.yaml_text.specs.Fault.{fault_of}
+use Rattle.yaml_text.specs.Token.{token_of}
 use Rattle.yaml_scan.specs.declared.calls.yaml_call_t.{yaml_call_t}
 use Rattle.yaml_scan.specs.declared.calls.yaml_call_t.TheVariants as code
 use Rattle.yaml_scan.specs.declared.calls.yaml_answer_t.{yaml_answer_t}
 use Rattle.yaml_scan.specs.declared.calls.yaml_answer_t.TheVariants as coded
 use Rattle.yaml_scan.specs.Token.{yaml_token_t, empty, type_of}
 use Rattle.yaml_scan.specs.Fault.{Fault, memory_fault}
-use Rattle.yaml_scan.specs.Begins.{Begins}
-use Rattle.yaml_scan.specs.Answers.{tokens_of}
 use Rattle.yaml_scan.specs.Session.{Call, Answer, session, after_all}
 use Rattle.yaml_scan.specs.Session.Call.{SCAN, PEEK, SKIP}
 use Rattle.yaml_scan.specs.Session.{Answer as says}
-use Rattle.yaml_scan.specs.SessionLaws.{taken_by, tokens_in}
 use Rattle.yaml_scan.specs.Parser.{Parser, WantsMemory, answered, behind, course_read, input_read}
 
 -- what can be seen of an answer: of a peeked token the type and the marks
@@ -35,7 +33,7 @@ seen (says.FAULT f) = FAULT f
 
 -- of the code's
 abbrev pub seen_of : yaml_answer_t → Seen
-seen_of (coded.TOKEN x) = TOKEN x
+seen_of (coded.TOKEN x) = TOKEN (token_of x)
 seen_of (coded.PEEKED type start end) = PEEKED type start end
 seen_of coded.SKIPPED = SKIPPED
 seen_of coded.NOTHING = NOTHING
@@ -90,8 +88,3 @@ pub record PutsSession (p : Parser) (calls : List Call) (old new : List yaml_ans
   pub is : new ≡ old ++ more
   pub answers : map seen_of more ≡ map seen (answered_all p calls)
   pub left : q ≡ behind_all p calls
-
--- the tokens that calls take are the next ones of the list, and as many as the session counts
-abbrev pub TakesNext : Parser → List Call → Type 0
-TakesNext p calls = Begins (tokens_in (taken_by p.limit (course_read p) calls p.session)) (drop p.session.taken (tokens_of p.limit (course_read p)))
-    × ((behind_all p calls).session.taken ≡ p.session.taken + length (tokens_in (taken_by p.limit (course_read p) calls p.session)))

@@ -3,6 +3,7 @@ use Rattle.std.specs.Prelude.{◌≡◌, ◌⊎◌, ℕ, zero, suc, ◌+◌, ◌
 use Rattle.std.specs.VecDeque.{deque_capacity}
 use Rattle.yaml_text.specs.declared.types.yaml_mark_t.{yaml_mark_t}
 use Rattle.yaml_text.specs.declared.types.yaml_encoding_t.{yaml_encoding_t}
+use Rattle.yaml_text.specs.Token.{token_of}
 use Rattle.yaml_scan.specs.declared.queue.block_t.{block_t}
 use Rattle.yaml_scan.specs.declared.queue.block_t.TheVariants.{NONE, SEQUENCE, MAPPING}
 use Rattle.yaml_scan.specs.declared.queue.lead_t.{lead_t}
@@ -10,7 +11,6 @@ use Rattle.yaml_scan.specs.declared.queue.lead_t.TheVariants.{NOTHING, END, SEQU
 use Rattle.yaml_scan.specs.declared.queue.group_t.{group_t}
 use Rattle.yaml_scan.specs.declared.queue.queue_t.{queue_t}
 use Rattle.yaml_scan.specs.Kind.{Kind, is_block_entry}
-use Rattle.yaml_scan.specs.Lexeme.{Lexeme}
 use Rattle.yaml_scan.specs.Token.{yaml_token_t}
 use Rattle.yaml_scan.specs.Levels.{stays, opens_level}
 use Rattle.yaml_scan.specs.Offline.{Token, handed_out}
@@ -47,7 +47,7 @@ pending early front (y ∷ ys) = early_before early front ys ++ leads y
 -- These tokens are queued: each group hands out its leads and then its token, which is that of a lexeme or the start of the stream.
 abbrev pub IsQueue : yaml_encoding_t → ℕ → yaml_mark_t → List group_t → List Token → Type 0
 IsQueue e early front [] xs = xs ≡ []
-IsQueue e early front (y ∷ ys) xs = (x : Token) × (rest : List Token) × (xs ≡ pending early front (y ∷ ys) ++ x ∷ rest) × (y.token ≡ handed_out e x) × (is_of_lexeme x ≡ true) × IsQueue e early front ys rest
+IsQueue e early front (y ∷ ys) xs = (x : Token) × (rest : List Token) × (xs ≡ pending early front (y ∷ ys) ++ x ∷ rest) × (token_of y.token ≡ handed_out e x) × (is_of_lexeme x ≡ true) × IsQueue e early front ys rest
 
 -- the token of a lead, at its mark
 abbrev pub lead_tokens : lead_t → yaml_mark_t → List Token
@@ -131,10 +131,6 @@ pub record Takes (e : yaml_encoding_t) (old new : queue_t) (token : yaml_token_t
   pub queue : IsQueue e new.early new.front new.groups.items rest
   pub count : new.done + length new.groups.items ≡ old.done + length old.groups.items
   pub early : new.early ≤ old.early
-
--- the token of x
-abbrev pub IsTokenOf : yaml_token_t → Lexeme → Type 0
-IsTokenOf token x = token ≡ record { token_data = x.token_data; start_mark = x.start; end_mark = x.end }
 
 -- the column on top of the stack of levels, if a lexeme does not keep it
 abbrev pub closing : Bool → Kind → yaml_mark_t → List ℕ → Option ℕ

@@ -9,7 +9,7 @@ use Rattle.yaml_scan.specs.Offline.Token.{StreamStart, BlockEnd, BlockSequenceSt
 use Rattle.yaml_scan.specs.Order.{IsHistory, ended}
 use Rattle.yaml_scan.specs.Begins.{Begins}
 use Rattle.yaml_scan.specs.Queue.{put_in}
-use Rattle.yaml_scan.specs.Source.{Source}
+use Rattle.yaml_scan.specs.Source.{Source, Offence}
 use Rattle.yaml_scan.specs.Step.{step}
 use Rattle.yaml_scan.specs.Cut.{cut, IsRun, EndsWith, KeepsOrder}
 
@@ -133,6 +133,17 @@ AsManyEnds = (limit : ℕ) (H : List Laid) → IsHistory limit H → ended H ≡
 -- each lexeme is the outcome of the step behind those before it, and none can be added
 abbrev pub CutIsLongest : Type 0
 CutIsLongest = (S : Source) (limit : ℕ) → KeepsOrder S → IsRun (step S limit) limit (cut S limit).read × EndsWith (step S limit) (cut S limit).read (cut S limit).fault
+
+-- every list of steps is a beginning of it
+abbrev pub StepsBeginCut : Type 0
+StepsBeginCut = (S : Source) (limit : ℕ) (H : List Laid)
+    → KeepsOrder S → IsRun (step S limit) limit H → (later : List Laid) × ((cut S limit).read ≡ later ++ H)
+
+-- and it is the only one to which none can be added, with the only offence behind it
+abbrev pub CutIsOnly : Type 0
+CutIsOnly = (S : Source) (limit : ℕ) (H : List Laid) (o : Option Offence)
+    → KeepsOrder S → IsRun (step S limit) limit H → EndsWith (step S limit) H o
+    → (H ≡ (cut S limit).read) × (o ≡ (cut S limit).fault)
 
 abbrev pub CutIsHistory : Type 0
 CutIsHistory = (S : Source) (limit : ℕ) → KeepsOrder S → IsHistory limit (cut S limit).read

@@ -29,7 +29,12 @@ pub mod AnswerLaws
 pub mod Locality
 pub mod Inputs
 pub mod All
+pub mod Sink
 pub mod Calls
 pub mod Words
 pub mod CallWords
 pub mod CountedMarks
+pub mod CallMarks
+pub mod Peek
+pub mod ReadingOn
+pub mod Puts

@@ -5,7 +5,7 @@ use Rattle.yaml_text.specs.declared.types.yaml_encoding_t.{yaml_encoding_t}
 use Rattle.yaml_scan.specs.Kind.{Kind, is_stream_end, is_block_entry}
 use Rattle.yaml_scan.specs.Lexeme.{Lexeme}
 use Rattle.yaml_scan.specs.Token.{yaml_token_t, zero_mark, at_mark}
-use Rattle.yaml_text.specs.declared.token.unnamed_yaml_token_t_data.TheVariants as told
+use Rattle.yaml_text.specs.Token.{TokenData as told}
 use Rattle.yaml_scan.specs.Laid.{Laid, names, reach, candidate, live}
 use Rattle.yaml_scan.specs.Levels.{opens, is_completed}
 

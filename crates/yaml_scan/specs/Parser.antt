@@ -4,7 +4,9 @@ use denote.Ref.{Bor}
 use Rattle.yaml_text.specs.declared.types.yaml_encoding_t.{yaml_encoding_t}
 use Rattle.yaml_text.specs.declared.types.yaml_encoding_t.TheVariants.{YAML_UTF8_ENCODING}
 use Rattle.yaml_text.specs.declared.fault.yaml_fault_t.{yaml_fault_t}
+use Rattle.yaml_text.specs.declared.token.yaml_token_t.{yaml_token_t as code_token_t}
 use Rattle.yaml_text.specs.Fault.{fault_of, memory_fault}
+use Rattle.yaml_text.specs.Token.{token_of}
 use Rattle.yaml_scan.specs.Token.{yaml_token_t, empty}
 use Rattle.yaml_scan.specs.Offline.{Token, handed_out}
 use Rattle.yaml_scan.specs.Answers.{Input, Course, course, starts_near}
@@ -55,9 +57,9 @@ pub record WantsMemory (p q : Parser) : Type 0 where
   pub was_open : p.session.over ≡ false
   pub was_not_peeked : p.session.peeked ≡ false
 
--- a token or a fault, as an answer
-abbrev pub told : Result yaml_token_t yaml_fault_t → Answer
-told (Ok token) = TOKEN token
+-- a token or a fault of the code, as an answer
+abbrev pub told : Result code_token_t yaml_fault_t → Answer
+told (Ok token) = TOKEN (token_of token)
 told (Err fault) = FAULT (fault_of fault)
 
 -- A call answers what the session says and leaves what it leaves, or it is a fault of kind memory.
@@ -72,15 +74,15 @@ IsThere p = (p.session.peeked ≡ true) ⊎ (p.session.over ≡ true)
 abbrev pub IsRefusedEarly : Input → Type 0
 IsRefusedEarly input = (input.encoding ≡ YAML_UTF8_ENCODING) × (starts_near input.source.size input.refusal ≡ true)
 
-abbrev pub Scans : Parser → Result yaml_token_t yaml_fault_t → Parser → Type 0
+abbrev pub Scans : Parser → Result code_token_t yaml_fault_t → Parser → Type 0
 Scans p result q = Calls SCAN p (told result) q
 
 -- a token that is shown or a fault, as an answer
-abbrev pub shown : Result yaml_token_t yaml_fault_t → Answer
-shown (Ok token) = PEEKED token
+abbrev pub shown : Result code_token_t yaml_fault_t → Answer
+shown (Ok token) = PEEKED (token_of token)
 shown (Err fault) = FAULT (fault_of fault)
 
-abbrev pub Peeks : Parser → Result yaml_token_t yaml_fault_t → Parser → Type 0
+abbrev pub Peeks : Parser → Result code_token_t yaml_fault_t → Parser → Type 0
 Peeks p result q = Calls PEEK p (shown result) q
 
 -- what a peek answers, also while the token that is shown is held
@@ -88,7 +90,7 @@ abbrev pub AnswersPeek : Parser → Answer → Type 0
 AnswersPeek p a = (a ≡ answered p PEEK) ⊎ (a ≡ FAULT memory_fault)
 
 -- the token behind the reference, or the fault
-abbrev pub told_copied : Result (Bor yaml_token_t) yaml_fault_t → Result yaml_token_t yaml_fault_t
+abbrev pub told_copied : Result (Bor code_token_t) yaml_fault_t → Result code_token_t yaml_fault_t
 told_copied (Ok token) = Ok token.now
 told_copied (Err fault) = Err fault
 

@@ -6,6 +6,7 @@ use Rattle.yaml_text.specs.Fault.{Fault, memory_fault, zero_mark}
 use Rattle.yaml_scan.specs.declared.step.scanner_t.{scanner_t}
 use Rattle.yaml_scan.specs.declared.parser.yaml_parser_t.TheInside.{Inside}
 use Rattle.yaml_text.specs.Fault.{fault_of}
+use Rattle.yaml_text.specs.Token.{token_of}
 use Rattle.yaml_scan.specs.Laid.{reach}
 use Rattle.yaml_scan.specs.Token.{yaml_token_t, empty}
 use Rattle.yaml_scan.specs.Offline.{Token, before, handed_out}
@@ -105,8 +106,8 @@ pub record Sound (p : Inside) : Type 0 where
   pub ready : p.over ≡ false → IsReady p.setting p.input.now p.scanner
   pub peeked : p.peeked ≡ true → (p.over ≡ false) × IsShown p.setting p.input.now p.scanner
   pub reach : p.scanner.reach ≡ reach (first_steps p.scanner.made (course_in p.scanner.limit p.setting p.input.now).read)
-  pub empty : p.empty ≡ empty
-  pub lead : p.peeked ≡ true → IsLead p.scanner.text.encoding p.scanner.layout.queue p.lead
+  pub empty : token_of p.empty ≡ empty
+  pub lead : p.peeked ≡ true → IsLead p.scanner.text.encoding p.scanner.layout.queue (token_of p.lead)
   pub limit : p.scanner.limit ≤ 65536
   pub queued : session_queued (course_in p.scanner.limit p.setting p.input.now) (parser_of p).session + p.scanner.layout.queue.done ≡ p.scanner.made
   pub few : session_queued (course_in p.scanner.limit p.setting p.input.now) (parser_of p).session ≤ p.scanner.limit + 1

@@ -6,8 +6,11 @@ use Rattle.yaml_scan.specs.Offline.{Token, offline, before}
 use Rattle.yaml_scan.specs.Order.{IsHistory, ended}
 use Rattle.yaml_scan.specs.Fault.{Fault}
 use Rattle.yaml_scan.specs.Begins.{Begins}
-use Rattle.yaml_scan.specs.Cut.{cut, KeepsOrder}
-use Rattle.yaml_scan.specs.Answers.{Input, Course, course, tokens_of}
+use Rattle.yaml_scan.specs.Source.{Offence}
+use Rattle.yaml_scan.specs.Step.{step}
+use Rattle.yaml_scan.specs.Step.Outcome.{Faults}
+use Rattle.yaml_scan.specs.Cut.{cut, IsRun, KeepsOrder}
+use Rattle.yaml_scan.specs.Answers.{Input, Course, place_of, next, course, tokens_of}
 use Rattle.yaml_scan.specs.Session.{Call, Session, new_session, settled, pace, next_token, after, after_all, session_queued}
 use Rattle.yaml_scan.specs.Session.Call.{SCAN, PEEK, SKIP}
 
@@ -20,9 +23,39 @@ abbrev pub EndsOrFaults : Type 0
 EndsOrFaults = (limit : ℕ) (input : Input) → KeepsOrder input.source → (course limit input).fault ≡ None
     → ((course limit input).begun ≡ true) × (ended (course limit input).read ≡ true) × (tokens_of limit (course limit input) ≡ offline (course limit input).read)
 
--- a refused input always has a fault
+-- NEAR STEPS
+-- the step of a refused front that ends or faults fewer than eight characters before the front's end is answered by the
+-- reader's fault, also where it has a fault of its own
+abbrev pub NearStepIsRefused : Type 0
+NearStepIsRefused = (limit : ℕ) (input : Input) (f : Fault) (H : List Laid)
+    → input.refusal ≡ Some f → input.source.size < place_of (step input.source limit H) + 8
+    → next input limit H ≡ Faults (record { fault = f; place = input.source.size })
+
+-- every other one is what it is
+abbrev pub FarStepIsItself : Type 0
+FarStepIsItself = (limit : ℕ) (input : Input) (H : List Laid)
+    → place_of (step input.source limit H) + 8 ≤ input.source.size → next input limit H ≡ step input.source limit H
+
+-- each lexeme of a course is such a step behind those before it
+abbrev pub CourseIsRun : Type 0
+CourseIsRun = (limit : ℕ) (input : Input)
+    → KeepsOrder input.source → IsRun (next input limit) limit (course limit input).read
+
+-- why an input ends with a fault that was refused for f
+pub data FaultOfRefused (limit : ℕ) (input : Input) (f : Fault) (c : Course) : Type 0 where
+  -- its front is so short that STREAM-START is near the end: the reader's fault comes at once
+  at_once : c.begun ≡ false → input.source.size < 8 → c.fault ≡ Some f → FaultOfRefused limit input f c
+  -- the step behind the lexemes is near the end, with a fault or not: the reader's fault
+  near : c.begun ≡ true → input.source.size < place_of (step input.source limit c.read) + 8 → c.fault ≡ Some f
+      → FaultOfRefused limit input f c
+  -- that step faults further in front: its own fault
+  far : (o : Offence) → c.begun ≡ true → step input.source limit c.read ≡ Faults o → o.place + 8 ≤ input.source.size
+      → c.fault ≡ Some o.fault → FaultOfRefused limit input f c
+
+-- the fault of a refused input is the reader's, or that of a step in front of what is near
 abbrev pub RefusedHasFault : Type 0
-RefusedHasFault = (limit : ℕ) (input : Input) (f : Fault) → KeepsOrder input.source → input.refusal ≡ Some f → (g : Fault) × ((course limit input).fault ≡ Some g)
+RefusedHasFault = (limit : ℕ) (input : Input) (f : Fault)
+    → KeepsOrder input.source → input.refusal ≡ Some f → FaultOfRefused limit input f (course limit input)
 
 -- an accepted one has the course of its cut
 abbrev pub AcceptedIsCut : Type 0

@@ -1,7 +1,7 @@
 -- What the characters of a text give to read.
 use Rattle.std.specs.Prelude.{ℕ, ◌-◌, List, length, Some, Result, Ok, Err}
 use Rattle.yaml_text.specs.Fault.{scanner_fault}
-use Rattle.yaml_lexeme.specs.declared.lex.yaml_lexeme_t.{yaml_lexeme_t}
+use Rattle.yaml_lexeme.specs.Lexeme.{Lexeme as yaml_lexeme_t}
 use Rattle.yaml_lexeme.specs.Place.{Place, place_at}
 use Rattle.yaml_lexeme.specs.Reading as lexemes
 use Rattle.yaml_lexeme.specs.Gap.{gap}

@@ -2,7 +2,7 @@
 use Rattle.std.specs.Prelude.{◌≡◌, ℕ, ◌≤◌, List, Option, Ok, Err}
 use Rattle.yaml_text.specs.declared.types.yaml_error_type_t.TheVariants.{YAML_SCANNER_ERROR}
 use Rattle.yaml_text.specs.Fault.{Fault}
-use Rattle.yaml_lexeme.specs.declared.lex.yaml_lexeme_t.{yaml_lexeme_t}
+use Rattle.yaml_lexeme.specs.Lexeme.{Lexeme as yaml_lexeme_t}
 use Rattle.yaml_scan.specs.Kind.{Kind}
 use Rattle.yaml_scan.specs.Source.{Source, Offence}
 use Rattle.yaml_scan.specs.SourceOf.{source_of, reading}

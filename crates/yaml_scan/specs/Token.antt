@@ -4,9 +4,9 @@ use Rattle.yaml_text.specs.declared.types.yaml_mark_t.{yaml_mark_t}
 use Rattle.yaml_text.specs.declared.types.yaml_token_type_t.{yaml_token_type_t}
 use Rattle.yaml_text.specs.declared.types.yaml_token_type_t.TheVariants.{YAML_STREAM_END_TOKEN, YAML_BLOCK_SEQUENCE_START_TOKEN, YAML_BLOCK_MAPPING_START_TOKEN, YAML_BLOCK_END_TOKEN, YAML_KEY_TOKEN, YAML_VALUE_TOKEN}
 pub use Rattle.yaml_text.specs.Token.{type_of}
-use Rattle.yaml_text.specs.declared.token.unnamed_yaml_token_t_data.TheVariants as token
-pub use Rattle.yaml_text.specs.declared.token.yaml_token_t.{yaml_token_t}
-pub use Rattle.yaml_text.specs.declared.token.unnamed_yaml_token_t_data.{unnamed_yaml_token_t_data}
+use Rattle.yaml_text.specs.Token.{TokenData as token}
+-- the tokens of the definitions, by the names of the types of the code
+pub use Rattle.yaml_text.specs.Token.{Token as yaml_token_t, TokenData as unnamed_yaml_token_t_data}
 pub use Rattle.yaml_text.specs.Fault.{zero_mark}
 
 -- a token of one mark

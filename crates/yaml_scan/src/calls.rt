@@ -2,11 +2,14 @@
 ghost use Rattle.std.specs.Prelude.{◌≡◌, ◌+◌, ◌≤◌, length, map, OnOk, OnErr, vec_len};
 ghost use Rattle.std.specs.Vec.{vec_capacity};
 ghost use Rattle.yaml_text.specs.Fault.{fault_of};
+ghost use Rattle.yaml_text.specs.Token.{token_of};
 ghost use Rattle.yaml_scan.specs.Session.{session_queued};
 ghost use Rattle.yaml_scan.specs.Session.Call.{SCAN, PEEK, SKIP};
 ghost use Rattle.yaml_scan.specs.Parser.{course_read, input_read, IsRefusedEarly};
-ghost use Rattle.yaml_scan.specs.CallWords.{RunHasLines};
-ghost use Rattle.yaml_scan.specs.Inputs.{IsLocal};
+ghost use Rattle.yaml_scan.specs.CallWords.{SeenHaveLines};
+ghost use Rattle.yaml_scan.specs.ReadingOn.{ReadsOn, HaveOneFault};
+ghost use Rattle.yaml_scan.specs.Puts.{Puts, TakesNext, HasNext, AreAnsweredAlike};
+ghost use Rattle.yaml_scan.specs.CallMarks.{text_read, SeenAreCounted};
 
 use crate::parser::{
     yaml_parser_has_token, yaml_parser_peek, yaml_parser_queued, yaml_parser_scan,
@@ -34,7 +37,7 @@ pub enum yaml_answer_t {
     FAULT(yaml_fault_t),
 }
 
-ghost use Rattle.yaml_scan.specs.Calls.{Sees, seen_of, call_of, PutsAnswers, PutsSession, TakesNext};
+ghost use Rattle.yaml_scan.specs.Calls.{Sees, seen_of, call_of, PutsAnswers, PutsSession};
 
 fn answer_scan(parser: &mut yaml_parser_t) -> yaml_answer_t
     ensures { Sees SCAN parser.old (seen_of result) parser.new }
@@ -47,7 +50,7 @@ fn answer_scan(parser: &mut yaml_parser_t) -> yaml_answer_t
 
 /// What is told of a token that was peeked.
 fn peeked(token: &yaml_token_t) -> yaml_answer_t
-    ensures { seen_of result ≡ seen (PEEKED token.now) }
+    ensures { seen_of result ≡ seen (PEEKED (token_of token.now)) }
 {
     yaml_answer_t::PEEKED(token.type_(), token.start_mark, token.end_mark)
 }
@@ -98,18 +101,23 @@ fn answer_all(parser: &mut yaml_parser_t, calls: &[yaml_call_t], out: &mut Vec<y
     }
 }
 
-/// Few steps wait in a parser, whatever was called.
+/// Few steps wait in a parser, whatever was called, and where a token was peeked there is one.
 fn few_wait(parser: &yaml_parser_t)
-    ensures { session_queued (course_read parser.now) parser.now.session ≤ parser.now.limit + 1 }
+    ensures few { session_queued (course_read parser.now) parser.now.session ≤ parser.now.limit + 1 }
+    ensures next { HasNext parser.now }
 {
     let _ = yaml_parser_queued(parser);
+    let _ = yaml_parser_has_token(parser);
 }
 
 /// Makes the calls in order, and puts one answer each behind `out`: a peeked token as its type, start and end, and
 /// `NOTHING` for a skip where no token was shown.
 ///
 /// Room for all answers is reserved first; where it is refused, `AllocError`, nothing has changed. Where memory is
-/// refused later, that call is answered with the fault, and those behind it as where the session is over.
+/// refused later, that call is answered with the fault, and those after it as where the session is over.
+///
+/// More scans than there are tokens left answer all of these in order, the fault once, if there is one, and then empty
+/// tokens.
 pub fn yaml_run(
     parser: &mut yaml_parser_t,
     calls: &[yaml_call_t],
@@ -119,9 +127,12 @@ pub fn yaml_run(
     ensures early { OnOk result (IsRefusedEarly (input_read parser.old) → PutsSession parser.old (map call_of calls.now) out.old.items out.new.items parser.new) }
     ensures refused { OnErr result ((parser.new ≡ parser.old) × (out.new.items ≡ out.old.items)) }
     ensures few { session_queued (course_read parser.new) parser.new.session ≤ parser.new.limit + 1 }
-    ensures taken { TakesNext parser.old (map call_of calls.now) }
-    ensures lines { RunHasLines parser.old (map call_of calls.now) }
-    ensures local { IsLocal parser.old.limit parser.old.setting parser.old.input }
+    ensures reads_on { OnOk result (ReadsOn parser.old (map call_of calls.now) out.old.items out.new.items parser.new) }
+    ensures taken { OnOk result (Puts (λ a. TakesNext parser.old a parser.new) out.old.items out.new.items) }
+    ensures once { OnOk result (Puts HaveOneFault out.old.items out.new.items) }
+    ensures lines { OnOk result (Puts SeenHaveLines out.old.items out.new.items) }
+    ensures marks { OnOk result (Puts (SeenAreCounted (text_read parser.old)) out.old.items out.new.items) }
+    ensures local { OnOk result (Puts (AreAnsweredAlike parser.old (map call_of calls.now)) out.old.items out.new.items) }
 {
     few_wait(parser);
     out.reserve(calls.len())?;

@@ -1,7 +1,9 @@
 //! What holds of the layout: each law is the contract of a function that does nothing.
 ghost use Rattle.yaml_scan.specs.Laws.{DepthGoesOn, CandidatesGoOn, CandidatesAreNested, AllowedGoesOn, ColumnsGoOn, ColumnsFall, LevelIsFirst, LevelStays, OfflineGoesOn, CandidateStandsThere, NeverRevised, FewWait, FewWaitOneStepOn, AllIsHandedOut, LexemesComeInOrder, EndsNeverOutnumber, AsManyEnds, CutIsLongest, CutIsHistory, CutIsShort};
+ghost use Rattle.yaml_scan.specs.Laws.{StepsBeginCut, CutIsOnly};
 ghost use Rattle.yaml_scan.specs.TokenLaws.{TokensStandInOrder, KeysAreFollowed, FourTokensAStep};
 ghost use Rattle.yaml_scan.specs.SessionLaws.{CourseIsHistory, EndsOrFaults, RefusedHasFault, AcceptedIsCut, FrontIsCut, TakenAreBeginning, PeeksChangeNothing, NoneIsStuck, PaceSettles, PaceIsLeast, FewStepsQueued};
+ghost use Rattle.yaml_scan.specs.SessionLaws.{NearStepIsRefused, FarStepIsItself, CourseIsRun};
 ghost use Rattle.yaml_scan.specs.AnswerLaws.{AnswersStandInOrder, AnswersEndFewer, AnswersEndAll, AnswersFollowKeys};
 ghost use Rattle.yaml_scan.specs.Locality.{StepIsLocal, TokensBeforeRefusal, FaultBeforeRefusal, TextsAreLocal, TextsKeepOrder};
 
@@ -43,9 +45,12 @@ pub fn all_is_handed_out()
     ensures { AllIsHandedOut }
 {}
 
-/// The steps of a text: the longest list, and short.
+/// The steps of a text: a list of steps to which none can be added, the only one, of which every list of steps is a
+/// beginning; and it is short.
 pub fn cut_is_longest()
     ensures longest { CutIsLongest }
+    ensures beginnings { StepsBeginCut }
+    ensures only { CutIsOnly }
     ensures history { CutIsHistory }
     ensures short { CutIsShort }
 {}
@@ -81,10 +86,16 @@ pub fn tokens_are_few()
 {}
 
 /// What an input comes to: its steps are a history, and end with the stream end or with a fault; an accepted input has
-/// the cut of its text, and a refused one, which always has a fault, a beginning of what its front alone would have.
+/// the cut of its text, and a refused one a beginning of what its front alone would have.
+///
+/// A step near the end of a refused front is answered by the reader's fault, so that the fault of a refused input is the
+/// reader's, or that of a step further in front.
 pub fn course_of_an_input()
     ensures history { CourseIsHistory }
     ensures ends { EndsOrFaults }
+    ensures near { NearStepIsRefused }
+    ensures far { FarStepIsItself }
+    ensures run { CourseIsRun }
     ensures refused { RefusedHasFault }
     ensures accepted { AcceptedIsCut }
     ensures front { FrontIsCut }
@@ -156,4 +167,20 @@ pub fn marks_are_counted()
     ensures inputs { AnswersAreCounted }
     ensures sessions { SessionsAreCounted }
     ensures reach { ReachIsCounted }
+{}
+
+ghost use Rattle.yaml_scan.specs.ReadingOn.{AllIsTold, RestIsTold, ScansReadOn, FaultIsToldOnce, RunsFaultOnce};
+
+/// More scans than there are tokens left answer all of these in order, then the fault once, if there is one, and then
+/// empty tokens.
+pub fn reading_on()
+    ensures all { AllIsTold }
+    ensures rest { RestIsTold }
+    ensures in_turn { ScansReadOn }
+{}
+
+/// Whatever the calls, a fault is answered at most once.
+pub fn fault_is_told_once()
+    ensures sessions { FaultIsToldOnce }
+    ensures runs { RunsFaultOnce }
 {}

@@ -1,4 +1,4 @@
-//! Indentation levels: the columns of the block collections that are open (YAML 1.1, section 8.2).
+//! Indentation levels: the columns of the block collections that are open (YAML 1.1, 6.1 Indentation Spaces).
 ghost use Rattle.std.specs.Prelude.{◌≡◌, ◌+◌, ◌-◌, ◌<◌, ◌≤◌, ◌&&◌, ◌++◌, ◌∷◌, [], true, false, not, reverse, map, filter, length, vec_len, nat_lt, None, Some, if◌then◌else◌};
 ghost use Rattle.std.specs.Vec.{vec_capacity};
 ghost use Rattle.std.specs.VecDeque.{deque_capacity};

@@ -5,6 +5,7 @@ mod all;
 #[cfg(test)]
 mod all_tests;
 mod calls;
+mod fault;
 mod keys;
 mod kind;
 pub mod laws;
@@ -13,6 +14,7 @@ mod near;
 mod parser;
 mod queue;
 mod run;
+mod sink;
 mod source;
 mod step;
 #[cfg(test)]
@@ -29,10 +31,9 @@ pub use yaml_lexeme::{
 };
 pub use yaml_text::{
     AS_DIGIT, AS_HEX, IS_ALPHA, IS_ASCII, IS_BLANK, IS_BLANKZ, IS_BOM, IS_BREAK, IS_BREAKZ,
-    IS_CRLF, IS_DIGIT, IS_HEX, IS_PRINTABLE, IS_SPACE, IS_TAB, IS_Z, WIDTH, make_memory_fault,
-    make_scanner_fault, push_char, unnamed_yaml_token_t_data, yaml_break_t, yaml_bytes_t,
-    yaml_decode, yaml_decode_front, yaml_encoding_t, yaml_error_type_t, yaml_fault_t,
-    yaml_is_place, yaml_mapping_style_t, yaml_mark_at, yaml_mark_t, yaml_scalar_style_t,
-    yaml_sequence_style_t, yaml_simple_key_t, yaml_tag_directive_t, yaml_text_t, yaml_token_t,
-    yaml_token_type_t, yaml_version_directive_t,
+    IS_CRLF, IS_DIGIT, IS_HEX, IS_PRINTABLE, IS_SPACE, IS_TAB, IS_Z, WIDTH,
+    unnamed_yaml_token_t_data, yaml_break_t, yaml_decode, yaml_decode_front, yaml_encoding_t,
+    yaml_error_type_t, yaml_fault_t, yaml_is_place, yaml_mapping_style_t, yaml_mark_at,
+    yaml_mark_t, yaml_scalar_style_t, yaml_sequence_style_t, yaml_simple_key_t,
+    yaml_tag_directive_t, yaml_text_t, yaml_token_t, yaml_token_type_t, yaml_version_directive_t,
 };

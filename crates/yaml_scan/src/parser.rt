@@ -1,14 +1,17 @@
 //! The parser: scan, peek and skip, one call after the other.
 ghost use Rattle.std.specs.Prelude.{◌≡◌, ◌⊎◌, ℕ, ◌+◌, ◌≤◌, ◌<◌, [], length, MatchResult, Some, true, false};
 ghost use Rattle.yaml_text.specs.Fault.{fault_of, zero_mark};
+ghost use Rattle.yaml_text.specs.Token.{data_of, token_of};
 ghost use Rattle.yaml_text.specs.declared.types.yaml_encoding_t.TheVariants.{YAML_UTF8_ENCODING};
 ghost use Rattle.yaml_scan.specs.Offline.{before};
 ghost use Rattle.yaml_scan.specs.Session.{new_session};
 ghost use Rattle.yaml_scan.specs.Scanning.{Runs, IsOpen, history};
 ghost use Rattle.yaml_scan.specs.Ready.{IsNew, IsReady, IsSettled, IsStopped, IsShort, IsEnded, Pops};
 ghost use Rattle.yaml_scan.specs.Parser.{Scans};
+ghost use Rattle.yaml_scan.specs.CallMarks.{IsCountedIn, ReachesTo};
 ghost use Rattle.yaml_scan.specs.Token.{is_last_type, type_of};
 
+use crate::fault::failure_t;
 use crate::keys::slots_t;
 use crate::levels::layout_t;
 use crate::near::near_from;
@@ -112,15 +115,15 @@ fn begin<'a>(
     scanner: &mut scanner_t<'a>,
     input: &'a [u8],
     setting: yaml_encoding_t,
-) -> Result<(), yaml_fault_t>
+) -> Result<(), failure_t>
     requires { IsNew scanner.old }
-    ensures { MatchResult result (λ _. Begins setting input.now scanner.old scanner.new) (λ f. (IsShort setting input.now scanner.old (fault_of f) ⊎ IsEnded setting input.now scanner.old scanner.new (fault_of f)) × IsStopped setting input.now scanner.old scanner.new) }
+    ensures { MatchResult result (λ _. Begins setting input.now scanner.old scanner.new) (λ e. (IsShort setting input.now scanner.old (fault_of e.fault) ⊎ IsEnded setting input.now scanner.old scanner.new (fault_of e.fault)) × IsStopped setting input.now scanner.old scanner.new) }
 {
     let (text, refusal) = yaml_decode_front(alloc, input, setting)?;
     let near = near_from(text.bytes());
     let encoding = text.encoding();
     if let Some(fault) = near_start(refusal, near) {
-        return Err(fault);
+        return Err(failure_t { fault });
     }
     put_stream_start(&mut scanner.layout.queue, encoding)?;
     scanner.text = text;
@@ -147,7 +150,7 @@ fn start<'a>(
     }
     match begin(alloc, scanner, input, setting) {
         Ok(_) => Ok(()),
-        Err(fault) => Err(fault),
+        Err(failure) => Err(failure.fault),
     }
 }
 
@@ -199,14 +202,14 @@ ghost use Rattle.yaml_scan.specs.Ready.{IsShown};
 fn take_head(scanner: &mut scanner_t) -> yaml_token_t
     requires runs { Runs scanner.old }
     requires settled { scanner.old.taken < length (before scanner.old.limit (history scanner.old)) }
-    ensures { Pops scanner.old scanner.new result }
+    ensures { Pops scanner.old scanner.new (token_of result) }
 {
     scanner.taken += 1;
     take_next(&mut scanner.layout.queue)
 }
 
 pub(crate) fn is_stream_end(token: &yaml_token_t) -> bool
-    ensures { result ≡ is_last_type (type_of token.now.token_data) }
+    ensures { result ≡ is_last_type (type_of (data_of token.now.token_data)) }
 {
     matches!(token.token_data, unnamed_yaml_token_t_data::STREAM_END)
 }
@@ -246,7 +249,7 @@ impl<'a> yaml_parser_t<'a> {
 
 /// The token that was shown, or the empty one.
 fn shown<'s>(parser: &'s yaml_parser_t<'_>) -> &'s yaml_token_t
-    ensures { result.now ≡ token_shown parser.now }
+    ensures { token_of result.now ≡ token_shown parser.now }
 {
     if !parser.peeked {
         &parser.empty
@@ -292,7 +295,7 @@ ghost use Rattle.yaml_scan.specs.Parser.{Shows};
 /// Takes the token that was shown.
 fn take_shown(parser: &mut yaml_parser_t) -> yaml_token_t
     requires { parser.old.session.peeked ≡ true }
-    ensures token { result ≡ token_shown parser.old }
+    ensures token { token_of result ≡ token_shown parser.old }
     ensures left { parser.new ≡ behind parser.old SKIP }
 {
     let token = take_head(&mut parser.scanner);
@@ -313,7 +316,8 @@ pub fn yaml_parser_scan(parser: &mut yaml_parser_t) -> Result<yaml_token_t, yaml
     ensures answers { Scans parser.old result parser.new }
     ensures bare { IsThere parser.old → (told result ≡ answered parser.old SCAN) × (parser.new ≡ behind parser.old SCAN) }
     ensures early { IsRefusedEarly (input_read parser.old) → (told result ≡ answered parser.old SCAN) × (parser.new ≡ behind parser.old SCAN) }
-    ensures local { IsLocal parser.old.limit parser.old.setting parser.old.input }
+    ensures local { IsAnsweredAlike parser.old SCAN (told result) }
+    ensures marks { IsCountedIn parser.old (told result) }
 {
     if parser.over {
         return Ok(yaml_token_t::empty());
@@ -340,7 +344,6 @@ pub fn yaml_parser_scan(parser: &mut yaml_parser_t) -> Result<yaml_token_t, yaml
     }
 }
 
-ghost use Rattle.yaml_scan.specs.Inputs.{IsLocal};
 ghost use Rattle.yaml_scan.specs.Parser.{IsThere, IsRefusedEarly, input_read, told, answered};
 ghost use Rattle.yaml_scan.specs.Session.Call.{SCAN};
 
@@ -358,11 +361,12 @@ pub fn yaml_parser_skip(parser: &mut yaml_parser_t)
 pub fn yaml_parser_peek<'s>(
     parser: &'s mut yaml_parser_t<'_>,
 ) -> Result<&'s yaml_token_t, yaml_fault_t>
-    ensures* answers { sem 𝓛 (follows_so (the_row (record { mir = named 1; lft = [] })) (the_row (record { mir = named 1; lft = [] })) parser.entry.ghost_name none (λ _ _. ⊤) (λ q. Peeks parser.old (told_copied result) q)) }
+    ensures* answers { sem 𝓛 (OnceLetGo parser.entry (λ q. Peeks parser.old (told_copied result) q)) }
     ensures shows { AnswersPeek parser.old (shown (told_copied result)) }
     ensures bare { IsThere parser.old → shown (told_copied result) ≡ answered parser.old PEEK }
     ensures early { IsRefusedEarly (input_read parser.old) → shown (told_copied result) ≡ answered parser.old PEEK }
-    ensures local { IsLocal parser.old.limit parser.old.setting parser.old.input }
+    ensures local { IsAnsweredAlike parser.old PEEK (shown (told_copied result)) }
+    ensures marks { IsCountedIn parser.old (shown (told_copied result)) }
 {
     match show(parser) {
         Ok(_) => Ok(shown(parser)),
@@ -370,18 +374,17 @@ pub fn yaml_parser_peek<'s>(
     }
 }
 
-ghost use Rattle.std.specs.Prelude.{⊤};
 ghost use Rattle.std.specs.Borrow.{sem};
-ghost use mathlib.Core.Option.{none};
-ghost use denote.Follow.{follows_so};
-ghost use mir.Syntax.{named};
-ghost use Rattle.yaml_scan.specs.contracts.parser.yaml_parser_t.{the_row};
+ghost use Rattle.yaml_scan.specs.Peek.{OnceLetGo};
+ghost use Rattle.yaml_scan.specs.Puts.{HasNext, IsAnsweredAlike};
 ghost use Rattle.yaml_scan.specs.Parser.{Peeks, AnswersPeek, told_copied, shown};
 ghost use Rattle.yaml_scan.specs.Session.Call.{PEEK};
 
-/// Whether a peek showed a token, other than the empty one, that was not taken since.
+/// Whether a peek showed a token, other than the empty one, that was not taken since. Where one was shown, there is a
+/// next token, and the session is not over.
 pub fn yaml_parser_has_token(parser: &yaml_parser_t) -> bool
-    ensures { result ≡ parser.now.session.peeked }
+    ensures peeked { result ≡ parser.now.session.peeked }
+    ensures next { HasNext parser.now }
 {
     parser.peeked
 }
@@ -410,7 +413,8 @@ ghost use Rattle.yaml_scan.specs.Parser.{course_read};
 /// How far the last step without a fault was read: bytes of the text in UTF-8, lines and characters, all from 0. It is zero
 /// before any step.
 pub fn yaml_parser_mark(parser: &yaml_parser_t) -> yaml_mark_t
-    ensures { result ≡ session_reach (course_read parser.now) parser.now.session }
+    ensures reach { result ≡ session_reach (course_read parser.now) parser.now.session }
+    ensures marks { ReachesTo parser.now result }
 {
     parser.scanner.reach
 }

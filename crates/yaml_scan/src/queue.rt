@@ -2,6 +2,7 @@
 ghost use Rattle.std.specs.Prelude.{◌≡◌, ◌+◌, ◌-◌, ◌<◌, ◌++◌, ◌∷◌, [], ◌&&◌, nat_eq, nat_lt, length, take, drop, OnOk, List, ◌^◌};
 ghost use Rattle.std.specs.VecDeque.{deque_capacity};
 ghost use Rattle.yaml_text.specs.declared.types.yaml_encoding_t.{yaml_encoding_t};
+ghost use Rattle.yaml_text.specs.Token.{data_of, token_of};
 ghost use Rattle.yaml_scan.specs.Token.{at_mark};
 ghost use Rattle.yaml_scan.specs.Groups.{IsQueue, IsLead, Takes, DropsLead, keyed_at, leads, pending, begins_with_end, mark_next, lead_tokens};
 ghost use Rattle.yaml_scan.specs.Offline.{Token, handed_out};
@@ -42,7 +43,7 @@ pub(crate) struct queue_t {
 
 /// A token with one mark.
 fn token_at(says: unnamed_yaml_token_t_data, mark: yaml_mark_t) -> yaml_token_t
-    ensures { result ≡ at_mark says mark }
+    ensures { token_of result ≡ at_mark (data_of says) mark }
 {
     yaml_token_t {
         token_data: says,
@@ -189,7 +190,7 @@ fn lead_mark(queue: &queue_t) -> yaml_mark_t
 
 /// The token that is handed out before that of the head. There is one.
 pub(crate) fn lead(queue: &queue_t) -> yaml_token_t
-    ensures { (e : yaml_encoding_t) → IsLead e queue.now result }
+    ensures { (e : yaml_encoding_t) → IsLead e queue.now (token_of result) }
 {
     let says = match next_lead(queue) {
         lead_t::END => unnamed_yaml_token_t_data::BLOCK_END,
@@ -219,7 +220,7 @@ fn drop_lead(queue: &mut queue_t)
 pub(crate) fn take_next(queue: &mut queue_t) -> yaml_token_t
     requires some { 0 < length queue.old.groups.items }
     requires few { queue.old.done + 1 < 2 ^ 64 }
-    ensures { (e : yaml_encoding_t) (xs : List Token) → IsQueue e queue.old.early queue.old.front queue.old.groups.items xs → Takes e queue.old queue.new result xs }
+    ensures { (e : yaml_encoding_t) (xs : List Token) → IsQueue e queue.old.early queue.old.front queue.old.groups.items xs → Takes e queue.old queue.new (token_of result) xs }
 {
     if has_lead(queue) {
         let token = lead(queue);

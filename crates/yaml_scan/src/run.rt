@@ -64,7 +64,10 @@ fn step(alloc: Global, scanner: &mut scanner_t) -> Result<(), yaml_fault_t>
     ensures { MatchResult result (λ _. Advances (history scanner.old) scanner.old scanner.new) (λ f. ((fault_of f ≡ memory_fault) ⊎ Offends (history scanner.old) scanner.old (fault_of f)) × Stays scanner.old scanner.new) }
 {
     let met = meet(scanner)?;
-    lay(alloc, scanner, met)
+    match lay(alloc, scanner, met) {
+        Ok(_) => Ok(()),
+        Err(failure) => Err(failure.fault),
+    }
 }
 
 ghost use Rattle.yaml_scan.specs.Scanning.{Advances, Offends};

@@ -1,6 +1,7 @@
 //! What is read of a text, place by place.
 ghost use Rattle.std.specs.Prelude.{◌≡◌, ℕ, ◌≤◌, ◌⊎◌, Some, Ok, Err, length, nat_lt, IfSome, MatchResult};
 ghost use Rattle.yaml_text.specs.Fault.{fault_of, memory_fault};
+ghost use Rattle.yaml_lexeme.specs.Lexeme.{lexeme_of};
 ghost use Rattle.yaml_lexeme.specs.Place.{IsMarkOf};
 ghost use Rattle.yaml_scan.specs.SourceOf.{source_of};
 ghost use Rattle.yaml_scan.specs.TextReads.{IsRead, IsOffence};
@@ -48,7 +49,7 @@ pub(crate) fn read_lexeme(
 ) -> Result<yaml_lexeme_t, yaml_fault_t>
     requires place { (p : ℕ) × IsMarkOf text.now.chars at p × ((source_of text.now.chars).kind (nat_lt 0 depth) p ≡ Some kind) }
     requires level { IfSome level (λ l. l ≤ length text.now.chars) }
-    ensures { (p : ℕ) → IsMarkOf text.now.chars at p → MatchResult result (λ l. IsRead text.now.chars kind depth level p l) (λ f. (fault_of f ≡ memory_fault) ⊎ IsOffence text.now.chars kind depth level p (fault_of f)) }
+    ensures { (p : ℕ) → IsMarkOf text.now.chars at p → MatchResult result (λ l. IsRead text.now.chars kind depth level p (lexeme_of l)) (λ f. (fault_of f ≡ memory_fault) ⊎ IsOffence text.now.chars kind depth level p (fault_of f)) }
 {
     let context = yaml_context_t {
         depth: depth as u64,

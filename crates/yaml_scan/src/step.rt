@@ -1,6 +1,7 @@
 //! The steps of a text: the next lexeme, and what the layout makes of it.
 ghost use Rattle.std.specs.Prelude.{◌≡◌, ◌⊎◌, ℕ, ◌+◌, ◌-◌, ◌<◌, ◌≤◌, ◌^◌, ◌&&◌, ◌||◌, not, nat_lt, nat_eq, length, List, [], ◌∷◌, ◌++◌, vec_len, reverse, map, true, false, Option, Some, None, option_map, IfOk, OnOk, OnErr, MatchResult, if◌then◌else◌};
 ghost use Rattle.yaml_text.specs.Fault.{fault_of, memory_fault, scanner_fault};
+ghost use Rattle.yaml_text.specs.Token.{data_of, token_of};
 ghost use Rattle.yaml_scan.specs.Fault.{no_token, in_next_token};
 ghost use Rattle.yaml_scan.specs.Laid.{Laid, allowed};
 ghost use Rattle.yaml_scan.specs.Order.{ended};
@@ -11,13 +12,14 @@ ghost use Rattle.yaml_scan.specs.Moves.{IsLost, IsRefused};
 ghost use Rattle.yaml_scan.specs.Scanning.{Holds, IsMet, Advances, Offends, Stays, text_of};
 ghost use Rattle.std.specs.Option.{option_copied};
 
+use crate::fault::{failure_t, make_scanner_fault};
 use crate::keys::{completed_by, held_t, lost_at, move_slots, needed_at, root, settle, slots_t};
 use crate::kind::{is_allowed_after, is_candidate, is_colon, start_behind};
 use crate::levels::{close_levels, is_level, layout_t, put_group, put_key, top_level};
 use crate::source::{gap_end, kind_at, read_lexeme};
 use std::alloc::Global;
 use yaml_lexeme::{yaml_lexeme_kind_t, yaml_lexeme_t};
-use yaml_text::{make_scanner_fault, yaml_fault_t, yaml_mark_t, yaml_text_t, yaml_token_t};
+use yaml_text::{yaml_fault_t, yaml_mark_t, yaml_text_t, yaml_token_t};
 
 /// The running scanner of a text.
 #[derive(Drop)]
@@ -201,7 +203,7 @@ fn keep_candidates(
 
 /// The token of a lexeme that starts at a mark.
 fn token_of(start: yaml_mark_t, x: yaml_lexeme_t) -> yaml_token_t
-    ensures { result ≡ record { token_data = x.token_data; start_mark = start; end_mark = x.end_mark } }
+    ensures { token_of result ≡ record { token_data = data_of x.token_data; start_mark = start; end_mark = x.end_mark } }
 {
     yaml_token_t {
         token_data: x.token_data,
@@ -211,14 +213,14 @@ fn token_of(start: yaml_mark_t, x: yaml_lexeme_t) -> yaml_token_t
 }
 
 /// The lexeme that was met, laid behind those before it.
-pub(crate) fn lay(alloc: Global, scanner: &mut scanner_t, met: met_t) -> Result<(), yaml_fault_t>
+pub(crate) fn lay(alloc: Global, scanner: &mut scanner_t, met: met_t) -> Result<(), failure_t>
     ghost before: { List Laid }
     requires holds { Holds before (scanner.old.made + 1) scanner.old }
     requires running { ended before ≡ false }
     requires small { length scanner.old.text.chars < 2 ^ 63 }
     requires few_steps { scanner.old.made + 1 < 2 ^ 64 }
     requires met { IsMet before scanner.old met }
-    ensures { MatchResult result (λ _. Advances before scanner.old scanner.new) (λ f. ((fault_of f ≡ memory_fault) ⊎ Offends before scanner.old (fault_of f)) × Stays scanner.old scanner.new) }
+    ensures { MatchResult result (λ _. Advances before scanner.old scanner.new) (λ e. ((fault_of e.fault ≡ memory_fault) ⊎ Offends before scanner.old (fault_of e.fault)) × Stays scanner.old scanner.new) }
 {
     let margin = scanner.slots.outer.is_empty();
     let kind = met.kind;

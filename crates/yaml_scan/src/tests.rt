@@ -1,6 +1,9 @@
 use super::*;
 use std::test::Fail;
-use yaml_text::{yaml_encoding_t, yaml_token_type_t};
+use yaml_text::{
+    make_memory_fault, yaml_encoding_t, yaml_error_type_t, yaml_fault_t, yaml_mark_t,
+    yaml_token_type_t,
+};
 
 #[test]
 fn first_tokens(rt: HostRuntime) -> Result<(), Fail> {
@@ -55,21 +58,41 @@ fn peeks_and_skips(rt: HostRuntime) -> Result<(), Fail> {
     Ok(())
 }
 
-/// How many steps are queued, and the column of the mark, behind each call.
+/// How many steps are queued, and how far the text was read, behind each call.
 #[test]
 fn steps_are_made_as_they_are_asked_for(rt: HostRuntime) -> Result<(), Fail> {
     let any = yaml_encoding_t::YAML_ANY_ENCODING;
     let mut parser = yaml_parser_t::new(rt.alloc(), b"&a b: c", any);
-    for (call, queued, column) in [
-        (b's', 0, 0),
-        (b'p', 3, 5),
-        (b's', 3, 5),
-        (b's', 3, 5),
-        (b's', 2, 5),
+    let front = yaml_mark_t {
+        index: 0,
+        line: 0,
+        column: 0,
+    };
+    let value = yaml_mark_t {
+        index: 5,
+        line: 0,
+        column: 5,
+    };
+    for (call, kind, queued, mark) in [
+        (b's', yaml_token_type_t::YAML_STREAM_START_TOKEN, 0, front),
+        (
+            b'p',
+            yaml_token_type_t::YAML_BLOCK_MAPPING_START_TOKEN,
+            3,
+            value,
+        ),
+        (
+            b's',
+            yaml_token_type_t::YAML_BLOCK_MAPPING_START_TOKEN,
+            3,
+            value,
+        ),
+        (b's', yaml_token_type_t::YAML_KEY_TOKEN, 3, value),
+        (b's', yaml_token_type_t::YAML_ANCHOR_TOKEN, 2, value),
     ] {
-        let _ = called(&mut parser, call)?;
+        assert_eq!(rt; called(&mut parser, call)?, kind);
         assert_eq!(rt; yaml_parser_queued(&parser), queued);
-        assert_eq!(rt; yaml_parser_mark(&parser).column, column);
+        assert_eq!(rt; yaml_parser_mark(&parser), mark);
     }
     Ok(())
 }
@@ -83,10 +106,29 @@ fn a_candidate_keeps_tokens_in_the_queue(rt: HostRuntime) -> Result<(), Fail> {
     }
     for (limit, queued) in [(1024, 1025), (4, 5)] {
         let mut parser = yaml_parser_t::with_key_limit(rt.alloc(), &input, any, limit);
-        let _ = called(&mut parser, b's')?;
-        let _ = called(&mut parser, b'p')?;
+        let kind = called(&mut parser, b's')?;
+        assert_eq!(rt; kind, yaml_token_type_t::YAML_STREAM_START_TOKEN);
+        let kind = called(&mut parser, b'p')?;
+        assert_eq!(rt; kind, yaml_token_type_t::YAML_FLOW_SEQUENCE_START_TOKEN);
         assert_eq!(rt; yaml_parser_queued(&parser), queued);
     }
+    Ok(())
+}
+
+/// The fault of a refused text. That no memory is taken for it is seen by `tests/sessions.py`.
+#[test]
+fn a_refused_text(rt: HostRuntime) -> Result<(), Fail> {
+    let any = yaml_encoding_t::YAML_ANY_ENCODING;
+    let mut parser = yaml_parser_t::new(rt.alloc(), b"a\xFF", any);
+    let want = yaml_fault_t {
+        error: yaml_error_type_t::YAML_READER_ERROR,
+        problem: Some("invalid leading UTF-8 octet"),
+        problem_offset: 1,
+        problem_value: 255,
+        ..make_memory_fault()
+    };
+    assert_eq!(rt; yaml_parser_scan(&mut parser).err(), Some(want));
+    assert_eq!(rt; yaml_parser_fault(&parser).copied(), Some(want));
     Ok(())
 }
 

@@ -7,13 +7,13 @@ ghost use Rattle.yaml_text.specs.Fault.{fault_of, memory_fault, reader_fault};
 ghost use Rattle.yaml_text.specs.declared.types.yaml_encoding_t.TheVariants.{YAML_UTF8_ENCODING, YAML_UTF16LE_ENCODING, YAML_UTF16BE_ENCODING};
 
 use crate::ascii::single_len;
-use crate::fault::{make_reader_fault, yaml_fault_t};
+use crate::fault::{make_memory_fault, make_reader_fault, yaml_fault_t};
 use crate::offence::offence_t;
 use crate::text::{borrowed_text, owned_text, yaml_text_t};
 use crate::types::yaml_encoding_t;
 use crate::utf8::first_char;
 use crate::utf16::front16;
-use std::alloc::{AllocError, Global};
+use std::alloc::Global;
 
 /// The bytes from a place on.
 pub(crate) fn from(bytes: &[u8], at: usize) -> &[u8]
@@ -105,11 +105,14 @@ fn front_in_utf16<'a>(
     bytes: &[u8],
     big: bool,
     before: usize,
-) -> Result<(yaml_text_t<'a>, Option<yaml_fault_t>), AllocError>
+) -> Result<(yaml_text_t<'a>, Option<yaml_fault_t>), yaml_fault_t>
     requires { before + length bytes.now < 2 ^ 64 }
-    ensures { IfOk result (λ r. Fronts (order big) before bytes.now r.0 (refusal_seen r.1)) }
+    ensures front { IfOk result (λ r. Fronts (order big) before bytes.now r.0 (refusal_seen r.1)) }
+    ensures memory { IfErr result (λ fault. fault_of fault ≡ memory_fault) }
 {
-    let (utf8, len, offence) = front16(alloc, bytes, big)?;
+    let Ok((utf8, len, offence)) = front16(alloc, bytes, big) else {
+        return Err(make_memory_fault());
+    };
     let text = owned_text(order(big), utf8);
     Ok((text, refusal(before + len, offence)))
 }

@@ -1,11 +1,9 @@
 //! Faults: why an input was refused, where, and in what context.
-ghost use Rattle.std.specs.Prelude.{◌≡◌, ◌+◌, ◌^◌, ◌<◌, Option, None, option_map};
-ghost use Rattle.std.specs.Option.{option_copied};
-ghost use Rattle.yaml_text.specs.Fault.{fault_of, memory_fault, reader_fault, scanner_fault};
+ghost use Rattle.std.specs.Prelude.{◌≡◌, ◌+◌, ◌^◌, ◌<◌};
+ghost use Rattle.yaml_text.specs.Fault.{fault_of, memory_fault, reader_fault};
 
 use crate::offence::{offence_t, problem_text};
 use crate::types::{yaml_error_type_t, yaml_mark_t};
-use std::alloc::{AllocError, AllocFailed};
 use thiserror::Error;
 
 /// Why an input was refused.
@@ -35,7 +33,7 @@ const ZERO: yaml_mark_t = yaml_mark_t {
 };
 
 /// A want of memory.
-pub fn make_memory_fault() -> yaml_fault_t
+pub(crate) fn make_memory_fault() -> yaml_fault_t
     ensures { fault_of result ≡ memory_fault }
 {
     yaml_fault_t {
@@ -62,41 +60,5 @@ pub(crate) fn make_reader_fault(before: u64, offence: offence_t) -> yaml_fault_t
         problem_mark: ZERO,
         context: None,
         context_mark: ZERO,
-    }
-}
-
-/// A problem at a mark, with a context at another.
-pub fn make_scanner_fault(
-    problem: &'static str,
-    problem_mark: yaml_mark_t,
-    context: Option<&'static str>,
-    context_mark: yaml_mark_t,
-) -> yaml_fault_t
-    ensures { fault_of result ≡ scanner_fault problem.now problem_mark (option_copied context.entry) context_mark }
-{
-    yaml_fault_t {
-        error: yaml_error_type_t::YAML_SCANNER_ERROR,
-        problem: Some(problem),
-        problem_offset: 0,
-        problem_value: 0,
-        problem_mark,
-        context,
-        context_mark,
-    }
-}
-
-impl From<AllocError> for yaml_fault_t {
-    ghost from_gives = { λ _ e. fault_of e ≡ memory_fault };
-
-    fn from(_e: AllocError) -> yaml_fault_t {
-        make_memory_fault()
-    }
-}
-
-impl<T: Drop> From<AllocFailed<T>> for yaml_fault_t {
-    ghost from_gives = { λ _ e. fault_of e ≡ memory_fault };
-
-    fn from(_e: AllocFailed<T>) -> yaml_fault_t {
-        make_memory_fault()
     }
 }

@@ -2,11 +2,12 @@
 #![tactic(auto)]
 
 mod ascii;
-mod bytes;
 #[cfg(test)]
 mod class_tests;
 mod classes;
 mod decode;
+#[cfg(test)]
+mod enum_tests;
 mod fault;
 pub mod laws;
 mod mark;
@@ -19,13 +20,12 @@ mod types;
 mod utf16;
 mod utf8;
 
-pub use bytes::yaml_bytes_t;
 pub use classes::{
     AS_DIGIT, AS_HEX, IS_ALPHA, IS_ASCII, IS_BLANK, IS_BLANKZ, IS_BOM, IS_BREAK, IS_BREAKZ,
     IS_CRLF, IS_DIGIT, IS_HEX, IS_PRINTABLE, IS_SPACE, IS_TAB, IS_Z, WIDTH,
 };
 pub use decode::{yaml_decode, yaml_decode_front};
-pub use fault::{make_memory_fault, make_scanner_fault, yaml_fault_t};
+pub use fault::yaml_fault_t;
 pub use mark::{yaml_is_place, yaml_mark_at};
 pub use text::yaml_text_t;
 pub use token::{unnamed_yaml_token_t_data, yaml_token_t};
@@ -34,4 +34,3 @@ pub use types::{
     yaml_scalar_style_t, yaml_sequence_style_t, yaml_simple_key_t, yaml_tag_directive_t,
     yaml_token_type_t, yaml_version_directive_t,
 };
-pub use utf8::push_char;

@@ -3,7 +3,7 @@ ghost use Rattle.std.specs.Prelude.{◌≡◌};
 ghost use Rattle.yaml_text.specs.Offence as spec;
 
 /// Why no character stands in front of bytes.
-#[derive(Clone, Copy, Debug, PartialEq, Eq)]
+#[derive(Clone, Copy, PartialEq, Eq)]
 pub(crate) enum problem_t {
     LEAD,
     SHORT,
@@ -18,7 +18,7 @@ pub(crate) enum problem_t {
 }
 
 /// A problem, how many bytes on it stands, and a value to show.
-#[derive(Clone, Copy, Debug)]
+#[derive(Clone, Copy)]
 pub(crate) struct offence_t {
     pub problem: problem_t,
     pub offset: u64,

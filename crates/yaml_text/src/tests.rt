@@ -1,4 +1,5 @@
 use super::*;
+use crate::utf8::push_char;
 use std::alloc::Global;
 use std::test::Fail;
 
@@ -55,6 +56,26 @@ fn refusals(rt: HostRuntime) -> Result<(), Fail> {
     Ok(())
 }
 
+/// The bytes of a text, and all that is said of a refused one. That no memory is taken for them is seen by `tests/sessions.py`.
+#[test]
+fn text_or_fault(rt: HostRuntime) -> Result<(), Fail> {
+    let text = yaml_decode(rt.alloc(), b"a: 1", ANY).map_err(|_| "a text")?;
+    assert_eq!(rt; text.encoding(), UTF8);
+    assert_eq!(rt; text.bytes(), b"a: 1".as_slice());
+    let fault = yaml_decode(rt.alloc(), b"a\xFF", ANY)
+        .err()
+        .ok_or("a fault")?;
+    let want = yaml_fault_t {
+        error: yaml_error_type_t::YAML_READER_ERROR,
+        problem: Some("invalid leading UTF-8 octet"),
+        problem_offset: 1,
+        problem_value: 255,
+        ..make_memory_fault()
+    };
+    assert_eq!(rt; fault, want);
+    Ok(())
+}
+
 #[test]
 fn fronts(rt: HostRuntime) -> Result<(), Fail> {
     let (text, refusal) = yaml_decode_front(rt.alloc(), b"ab\xFF", ANY).map_err(|_| "no memory")?;
@@ -89,8 +110,8 @@ fn shown(rt: HostRuntime) -> Result<(), Fail> {
 
 #[test]
 fn tokens(rt: HostRuntime) -> Result<(), Fail> {
-    let value = yaml_bytes_t::from_vec(Vec::from_slice(rt.alloc(), b"abc")?);
-    let other = yaml_bytes_t::from_vec(Vec::from_slice(rt.alloc(), b"abc")?);
+    let value = Vec::from_slice(rt.alloc(), b"abc")?;
+    let other = Vec::from_slice(rt.alloc(), b"abc")?;
     let style = yaml_scalar_style_t::YAML_PLAIN_SCALAR_STYLE;
     let says = unnamed_yaml_token_t_data::SCALAR { value, style };
     assert_eq!(rt; says.length(), 3);
@@ -116,7 +137,5 @@ fn written(rt: HostRuntime) -> Result<(), Fail> {
     let mut out = Vec::new(rt.alloc());
     push_char(&mut out, 0x20AC)?;
     assert_eq!(rt; out.as_slice(), b"\xE2\x82\xAC".as_slice());
-    let text = yaml_bytes_t::from_vec(out).into_vec();
-    assert_eq!(rt; text.len(), 3);
     Ok(())
 }

@@ -1,13 +1,10 @@
 //! Tokens: what a scanner answers.
-ghost use Rattle.std.specs.Prelude.{◌≡◌, List, ℕ};
-ghost use Rattle.yaml_text.specs.Token.{type_of, length_of};
+ghost use Rattle.std.specs.Prelude.{◌≡◌};
 ghost use Rattle.yaml_text.specs.Fault.{zero_mark};
-ghost use Rattle.yaml_text.specs.declared.token.unnamed_yaml_token_t_data.TheVariants.{NO_TOKEN};
 
-use crate::bytes::yaml_bytes_t;
 use crate::types::{yaml_encoding_t, yaml_mark_t, yaml_scalar_style_t, yaml_token_type_t};
 
-/// What a token says: one variant a type.
+/// What a token says: one variant a type. Texts are bytes: UTF-8, but for what a tag or a `%TAG` directive writes by `%`.
 #[derive(Drop, PartialEq, Eq)]
 pub enum unnamed_yaml_token_t_data {
     NO_TOKEN,
@@ -20,8 +17,8 @@ pub enum unnamed_yaml_token_t_data {
         minor: i32,
     },
     TAG_DIRECTIVE {
-        handle: yaml_bytes_t,
-        prefix: yaml_bytes_t,
+        handle: Vec<u8>,
+        prefix: Vec<u8>,
     },
     DOCUMENT_START,
     DOCUMENT_END,
@@ -37,36 +34,36 @@ pub enum unnamed_yaml_token_t_data {
     KEY,
     VALUE,
     ALIAS {
-        value: yaml_bytes_t,
+        value: Vec<u8>,
     },
     ANCHOR {
-        value: yaml_bytes_t,
+        value: Vec<u8>,
     },
     TAG {
-        handle: yaml_bytes_t,
-        suffix: yaml_bytes_t,
+        handle: Vec<u8>,
+        suffix: Vec<u8>,
     },
     SCALAR {
-        value: yaml_bytes_t,
+        value: Vec<u8>,
         style: yaml_scalar_style_t,
     },
 }
 
 impl unnamed_yaml_token_t_data {
-    ghost use Rattle.yaml_text.specs.Token.{type_of, length_of};
+    ghost use Rattle.yaml_text.specs.Token.{data_of, type_of, length_of};
 
     /// The length of a scalar's value, in bytes; 0 for what is no scalar.
     pub fn length(&self) -> u64
-        ensures { result ≡ length_of self.now }
+        ensures { result ≡ length_of (data_of self.now) }
     {
         match self {
-            unnamed_yaml_token_t_data::SCALAR { value, style: _ } => value.as_slice().len() as u64,
+            unnamed_yaml_token_t_data::SCALAR { value, style: _ } => value.len() as u64,
             _ => 0,
         }
     }
 
     fn type_(&self) -> yaml_token_type_t
-        ensures { result ≡ type_of self.now }
+        ensures { result ≡ type_of (data_of self.now) }
     {
         match self {
             unnamed_yaml_token_t_data::NO_TOKEN => yaml_token_type_t::YAML_NO_TOKEN,
@@ -130,18 +127,19 @@ pub struct yaml_token_t {
 }
 
 impl yaml_token_t {
-    ghost use Rattle.yaml_text.specs.Token.{type_of};
+    ghost use Rattle.yaml_text.specs.Token.{data_of, token_of, type_of};
+    ghost use Rattle.yaml_text.specs.Token.TokenData.{NO_TOKEN};
 
     /// The token's type.
     pub fn type_(&self) -> yaml_token_type_t
-        ensures { result ≡ type_of self.now.token_data }
+        ensures { result ≡ type_of (data_of self.now.token_data) }
     {
         self.token_data.type_()
     }
 
     /// The token that stands for none: of type `YAML_NO_TOKEN`, with zero marks.
     pub fn empty() -> yaml_token_t
-        ensures { result ≡ record { token_data = NO_TOKEN; start_mark = zero_mark; end_mark = zero_mark } }
+        ensures { token_of result ≡ record { token_data = NO_TOKEN; start_mark = zero_mark; end_mark = zero_mark } }
     {
         let zero = yaml_mark_t {
             index: 0,

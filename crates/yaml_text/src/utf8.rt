@@ -126,7 +126,7 @@ pub(crate) fn first_char(bytes: &[u8]) -> Result<usize, offence_t>
 }
 
 /// Puts a character behind bytes, in UTF-8.
-pub fn push_char(out: &mut Vec<u8>, c: u32) -> Result<(), AllocError>
+pub(crate) fn push_char(out: &mut Vec<u8>, c: u32) -> Result<(), AllocError>
     requires { IsScalar c }
     ensures ok { OnOk result (out.new.items ≡ out.old.items ++ encode_utf8 c) }
     ensures err { OnErr result (out.new.items ≡ out.old.items) }

@@ -1,6 +1,7 @@
 //! The listing of what a command answers to an input.
 ghost use Rattle.std.specs.Prelude.{◌≡◌, ◌++◌, true, map, is_some, IfOk, option_map};
 ghost use Rattle.yaml_text.specs.Fault.{fault_of};
+ghost use Rattle.yaml_text.specs.Token.{token_of};
 ghost use Rattle.yaml_scan.specs.Words.{HaveLines};
 ghost use Rattle.yaml_scan.specs.Calls.{call_of, seen_of};
 ghost use Rattle.yaml_scan.specs.CallWords.{SeenHaveLines};
@@ -44,8 +45,8 @@ fn list_all(
     tokens: &[yaml_token_t],
     fault: &Option<yaml_fault_t>,
 ) -> Result<(Vec<u8>, bool), AllocError>
-    requires { HaveLines tokens.now (option_map fault_of fault.now) }
-    ensures lines { IfOk result (λ answer. answer.0.items ≡ token_lines tokens.now ++ fault_lines (option_map fault_of fault.now)) }
+    requires { HaveLines (map token_of tokens.now) (option_map fault_of fault.now) }
+    ensures lines { IfOk result (λ answer. answer.0.items ≡ token_lines (map token_of tokens.now) ++ fault_lines (option_map fault_of fault.now)) }
     ensures fault { IfOk result (λ answer. answer.1 ≡ is_some fault.now) }
 {
     let mut lines = Vec::new(alloc);

@@ -6,6 +6,7 @@ ghost use Rattle.std.specs.Fmt.{signed_decimal};
 ghost use Rattle.yaml_text.specs.declared.types.yaml_encoding_t.TheVariants.{YAML_ANY_ENCODING};
 ghost use Rattle.yaml_text.specs.declared.types.yaml_scalar_style_t.TheVariants.{YAML_ANY_SCALAR_STYLE};
 ghost use Rattle.yaml_text.specs.Fault.{fault_of};
+ghost use Rattle.yaml_text.specs.Token.{data_of, token_of};
 ghost use Rattle.yaml_scan.specs.Words.{HasLine, HasWords, HaveWords};
 ghost use Rattle.yaml_scan.specs.Calls.{seen_of};
 ghost use Rattle.yaml_scan.specs.CallWords.{SeenHasLine, SeenHaveLines};
@@ -257,8 +258,8 @@ fn pair_text(alloc: Global, first: &[u8], second: &[u8]) -> Result<String, Alloc
 
 /// What a token says, beside its type, with a space in front of each part.
 fn data_text(alloc: Global, said: &unnamed_yaml_token_t_data) -> Result<String, AllocError>
-    requires { HasWords said.now }
-    ensures { IfOk result (λ text. string_bytes text ≡ flat_map (λ part. codes " " ++ part) (data_parts said.now)) }
+    requires { HasWords (data_of said.now) }
+    ensures { IfOk result (λ text. string_bytes text ≡ flat_map (λ part. codes " " ++ part) (data_parts (data_of said.now))) }
 {
     match said {
         unnamed_yaml_token_t_data::STREAM_START { encoding } => {
@@ -287,8 +288,8 @@ fn data_text(alloc: Global, said: &unnamed_yaml_token_t_data) -> Result<String, 
 }
 
 fn token_text(alloc: Global, token: &yaml_token_t) -> Result<String, AllocError>
-    requires { HasWords token.now.token_data }
-    ensures { IfOk result (λ text. string_bytes text ≡ token_line token.now) }
+    requires { HasWords (data_of token.now.token_data) }
+    ensures { IfOk result (λ text. string_bytes text ≡ token_line (token_of token.now)) }
 {
     let head = head_text(alloc, token.type_(), token.start_mark, token.end_mark)?;
     let said = data_text(alloc, &token.token_data)?;
@@ -300,8 +301,8 @@ fn token_text(alloc: Global, token: &yaml_token_t) -> Result<String, AllocError>
 /// tokens, two hexadecimal digits a byte or `-` for none, with the style in front of a scalar's. The
 /// empty token is `NO-TOKEN`. Where memory is refused, `out` is as before.
 pub fn list_token(alloc: Global, token: &yaml_token_t, out: &mut Vec<u8>) -> Result<(), AllocError>
-    requires { HasWords token.now.token_data }
-    ensures ok { OnOk result (out.new.items ≡ out.old.items ++ token_line token.now) }
+    requires { HasWords (data_of token.now.token_data) }
+    ensures ok { OnOk result (out.new.items ≡ out.old.items ++ token_line (token_of token.now)) }
     ensures err { OnErr result (out.new.items ≡ out.old.items) }
 {
     let text = token_text(alloc, token)?;
@@ -331,8 +332,8 @@ pub fn list_tokens(
     tokens: &[yaml_token_t],
     out: &mut Vec<u8>,
 ) -> Result<(), AllocError>
-    requires { HaveWords tokens.now }
-    ensures { OnOk result (out.new.items ≡ out.old.items ++ token_lines tokens.now) }
+    requires { HaveWords (map token_of tokens.now) }
+    ensures { OnOk result (out.new.items ≡ out.old.items ++ token_lines (map token_of tokens.now)) }
 {
     for token in tokens {
         list_token(alloc, token, out)?;

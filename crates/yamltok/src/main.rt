@@ -13,6 +13,8 @@ mod args;
 mod devices;
 mod listing;
 mod outcome;
+#[cfg(test)]
+mod row_tests;
 mod run;
 #[cfg(test)]
 mod scan_tests;

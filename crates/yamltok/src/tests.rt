@@ -1,6 +1,7 @@
 //! The program over devices in memory.
 ghost use Rattle.std.specs.Prelude.{◌≡◌, ◌≢◌, false};
 ghost use Rattle.yaml_text.specs.declared.types.yaml_scalar_style_t.TheVariants.{YAML_ANY_SCALAR_STYLE};
+ghost use Rattle.yaml_text.specs.Token.{data_of};
 ghost use Rattle.yaml_scan.specs.Words.{HasWords};
 ghost use Rattle.yamltok.specs.Devices.{source_failed, sink_failed};
 
@@ -15,8 +16,8 @@ use std::io::{Read, Write};
 use std::process::Abort;
 use std::test::Fail;
 use yaml_text::{
-    make_memory_fault, make_scanner_fault, unnamed_yaml_token_t_data, yaml_bytes_t,
-    yaml_encoding_t, yaml_mark_t, yaml_scalar_style_t, yaml_token_t, yaml_token_type_t,
+    unnamed_yaml_token_t_data, yaml_encoding_t, yaml_error_type_t, yaml_fault_t, yaml_mark_t,
+    yaml_scalar_style_t, yaml_token_t, yaml_token_type_t,
 };
 
 /// Gives one byte a call, and fails behind so many calls.
@@ -279,50 +280,100 @@ fn wrong_words(rt: HostRuntime) -> Result<(), Fail> {
     Ok(())
 }
 
+/// Commands, and what they write for `a: 1`.
+const LISTED: [(&str, &str); 3] = [
+    ("decode any", "TEXT UTF8 4 4:0:4\n"),
+    (
+        "scan any",
+        "\
+STREAM-START 0:0:0 0:0:0 UTF8
+BLOCK-MAPPING-START 0:0:0 0:0:0
+KEY 0:0:0 0:0:0
+SCALAR 0:0:0 1:0:1 plain 61
+VALUE 1:0:1 2:0:2
+SCALAR 3:0:3 4:0:4 plain 31
+BLOCK-END 4:1:0 4:1:0
+STREAM-END 4:1:0 4:1:0
+",
+    ),
+    (
+        "calls any spks",
+        "\
+STREAM-START 0:0:0 0:0:0 UTF8
+PEEK BLOCK-MAPPING-START 0:0:0 0:0:0
+SKIP
+KEY 0:0:0 0:0:0
+",
+    ),
+];
+
 /// A read that fails before the end is met, at any call, and one byte a call.
+fn expect_read(
+    rt: &(impl Abort + AllocGlobal),
+    command: &str,
+    lines: &str,
+    calls: usize,
+) -> Result<(), Fail> {
+    let alloc = rt.alloc();
+    let reader = slow_reader_t {
+        bytes: b"a: 1",
+        calls,
+    };
+    let (outcome, written) = outcome_of(alloc, command, reader, Vec::new(alloc))?;
+    if calls > 4 {
+        assert_eq!(rt; yaml_status(&outcome), 0);
+        assert_eq!(rt; written.as_slice(), lines.as_bytes());
+    } else {
+        assert_eq!(rt; outcome, Err(tool_fault_t::Read));
+        assert_eq!(rt; yaml_status(&outcome), 3);
+        assert_eq!(rt; written.len(), 0);
+    }
+    Ok(())
+}
+
 #[test]
 fn reads_fail(rt: HostRuntime) -> Result<(), Fail> {
-    let alloc = rt.alloc();
-    let input = b"a: 1";
-    for calls in 0..6 {
-        let reader = slow_reader_t {
-            bytes: input,
-            calls,
-        };
-        let (outcome, written) = outcome_of(alloc, "decode any", reader, Vec::new(alloc))?;
-        if calls > input.len() {
-            assert_eq!(rt; yaml_status(&outcome), 0);
-            assert_eq!(rt; written.as_slice(), b"TEXT UTF8 4 4:0:4\n".as_slice());
-        } else {
-            assert_eq!(rt; outcome, Err(tool_fault_t::Read));
-            assert_eq!(rt; yaml_status(&outcome), 3);
-            assert_eq!(rt; written.len(), 0);
+    for (command, lines) in LISTED {
+        for calls in 0..6 {
+            expect_read(&rt, command, lines, calls)?;
         }
     }
     Ok(())
 }
 
 /// A write that fails or takes nothing, at any call, and one byte a call.
+fn expect_written(
+    rt: &(impl Abort + AllocGlobal),
+    command: &str,
+    lines: &str,
+    calls: usize,
+    fails: bool,
+) -> Result<(), Fail> {
+    let alloc = rt.alloc();
+    let lines = lines.as_bytes();
+    let writer = slow_writer_t {
+        taken: Vec::new(alloc),
+        calls,
+        fails,
+    };
+    let (outcome, writer) = outcome_of(alloc, command, b"a: 1".as_slice(), writer)?;
+    let count = calls.min(lines.len());
+    assert_eq!(rt; writer.taken.as_slice(), &lines[..count]);
+    if count == lines.len() {
+        assert_eq!(rt; outcome, Ok(false));
+    } else {
+        assert_eq!(rt; outcome, Err(tool_fault_t::Write));
+        assert_eq!(rt; yaml_status(&outcome), 3);
+    }
+    Ok(())
+}
+
 #[test]
 fn writes_fail(rt: HostRuntime) -> Result<(), Fail> {
-    let alloc = rt.alloc();
-    let line = b"TEXT UTF8 4 4:0:4\n";
-    for fails in [true, false] {
-        for calls in 0..20 {
-            let writer = slow_writer_t {
-                taken: Vec::new(alloc),
-                calls,
-                fails,
-            };
-            let (outcome, writer) = outcome_of(alloc, "decode any", b"a: 1".as_slice(), writer)?;
-            let count = calls.min(line.len());
-            assert_eq!(rt; writer.taken.as_slice(), &line[..count]);
-            if count == line.len() {
-                assert_eq!(rt; outcome, Ok(false));
-            } else {
-                assert_eq!(rt; outcome, Err(tool_fault_t::Write));
-                assert_eq!(rt; yaml_status(&outcome), 3);
-            }
+    for (command, lines) in LISTED {
+        for calls in 0..250 {
+            expect_written(&rt, command, lines, calls, true)?;
+            expect_written(&rt, command, lines, calls, false)?;
         }
     }
     Ok(())
@@ -343,14 +394,31 @@ fn fault_lines(rt: HostRuntime) -> Result<(), Fail> {
     };
     let mut out = Vec::new(alloc);
     out.push(b'>')?;
-    list_fault(alloc, &make_memory_fault(), &mut out)?;
-    let fault = make_scanner_fault("found no end", at, Some("while reading"), from);
+    let memory = yaml_fault_t {
+        error: yaml_error_type_t::YAML_MEMORY_ERROR,
+        problem: None,
+        problem_offset: 0,
+        problem_value: 0,
+        problem_mark: FROM,
+        context: None,
+        context_mark: FROM,
+    };
+    list_fault(alloc, &memory, &mut out)?;
+    let fault = yaml_fault_t {
+        error: yaml_error_type_t::YAML_SCANNER_ERROR,
+        problem: Some("found no end"),
+        problem_mark: at,
+        context: Some("while reading"),
+        context_mark: from,
+        ..memory
+    };
     list_fault(alloc, &fault, &mut out)?;
-    list_fault(
-        alloc,
-        &make_scanner_fault("found no end", at, None, at),
-        &mut out,
-    )?;
+    let bare = yaml_fault_t {
+        context: None,
+        context_mark: at,
+        ..fault
+    };
+    list_fault(alloc, &bare, &mut out)?;
     let lines = "\
 >FAULT memory
 FAULT scanner 7:1:0 9:1:2 while reading; found no end
@@ -375,13 +443,13 @@ fn words_of_faults(rt: HostRuntime) -> Result<(), Fail> {
     Ok(())
 }
 
-fn bytes_of(alloc: Global, bytes: &[u8]) -> Result<yaml_bytes_t, Fail> {
-    Ok(yaml_bytes_t::from_vec(Vec::from_slice(alloc, bytes)?))
+fn bytes_of(alloc: Global, bytes: &[u8]) -> Result<Vec<u8>, Fail> {
+    Ok(Vec::from_slice(alloc, bytes)?)
 }
 
 /// Lists a token of these data.
 fn put(alloc: Global, token_data: unnamed_yaml_token_t_data, out: &mut Vec<u8>) -> Result<(), Fail>
-    requires { HasWords token_data }
+    requires { HasWords (data_of token_data) }
 {
     let token = yaml_token_t {
         token_data,

@@ -1,5 +1,6 @@
 use Rattle.std.proofs.Common.{◌≡◌, false, sym, subst, ◌∙◌}
 use Rattle.yaml_text.specs.declared.types.yaml_mark_t.{yaml_mark_t}
+use Rattle.yaml_lexeme.specs.Lexeme.{lexeme_of}
 use Rattle.yaml_lexeme.specs.Order.{is_stream_end}
 use Rattle.yaml_lexeme.specs.Place.{IsMarkOf}
 use Rattle.yaml_scan.proofs.Places.{gap_ends}
@@ -23,5 +24,5 @@ returns-in-Ok c =
     let n = c.requires.0 in
     let g = gap_ends c.args.text.now.chars _ _ n c.args.at c.yaml_gap.result.0 c.requires.1 (c.yaml_gap.ensures.mark n c.requires.1) in
     let some : is_stream_end c.in-Some.kind ≡ false = cc in
-    let r = reaches c.args.text.now.chars c.in-Some.kind _ _ c.in-Ok.lexeme g.within (sym (c.yaml_lexeme_kind.ensures _ g) ∙ c.in-Some.is) some (c.in-Ok.ensures.value _ g) in
+    let r = reaches c.args.text.now.chars c.in-Some.kind _ _ (lexeme_of c.in-Ok.lexeme) g.within (sym (c.yaml_lexeme_kind.ensures _ g) ∙ c.in-Some.is) some (c.in-Ok.ensures.value _ g) in
     (r.0, subst (λ (m : yaml_mark_t). IsMarkOf c.args.text.now.chars m r.0) (sym c.reach.ensures) r.1)

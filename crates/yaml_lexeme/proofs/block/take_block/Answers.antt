@@ -62,4 +62,4 @@ pub returns : goal.returns
 returns c =
     let p = c.lines.cursor in
     let none : is_text c.block_indent-indent.result p ≡ false = sym c.is_text.ensures ∙ c.lines-test.false in
-    rw c.from_vec.ensures (blocks_all c.args.folded c.args.least c.args.cursor.now c.in_ok-header.header.chomp c.block_indent-indent.result p c.lines.out.items c.push_chomped.new.out.items c.lines.tail none c.lines.invariant c.in_ok-push_chomped.ensures)
+    blocks_all c.args.folded c.args.least c.args.cursor.now c.in_ok-header.header.chomp c.block_indent-indent.result p c.lines.out.items c.push_chomped.new.out.items c.lines.tail none c.lines.invariant c.in_ok-push_chomped.ensures

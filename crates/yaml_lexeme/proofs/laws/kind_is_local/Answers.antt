@@ -2,4 +2,4 @@ use Rattle.yaml_lexeme.proofs.KindLocal as law
 use Rattle.yaml_lexeme.proofs.laws.kind_is_local.Goals as goal
 
 pub returns : goal.returns
-returns c = law.kind_local
+returns c = law.kind_is_local

@@ -36,4 +36,4 @@ returns c =
     let all = plain_words flow least p q out (c.links.invariant ∙ took) in
     let b : c.is_break-passed_break.result ≡ is_break (first (behind is_blank q)) = cc in
     let r : c.skip_run-2.new.self ≡ behind is_white (behind is_blank q) = cc in
-    rw c.from_vec.ensures (scalar_made flow least p q c.skip_run-2.new.self out c.mark-end.result c.is_break-passed_break.result all c.mark-end.ensures.value b r)
+    scalar_made flow least p q c.skip_run-2.new.self out c.mark-end.result c.is_break-passed_break.result all c.mark-end.ensures.value b r

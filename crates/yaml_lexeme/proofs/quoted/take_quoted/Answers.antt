@@ -37,7 +37,7 @@ returns c =
     let p = c.args.cursor.now in
     let took = rw c.if-branch.false at c.in_ok-take_part.ensures in
     let all = reads_all utf8 one (body_shortens c.args.single) c.parts.cursor c.take_part.new.cursor _ _ (spelled (many one (skip 1 p))) took c.parts.invariant in
-    rw (c.from_vec.ensures, c.advance-2.ensures) (quoted_all c.args.single p (skip 1 p) c.take_part.new.cursor c.take_part.new.out.items refl all)
+    rw c.advance-2.ensures (quoted_all c.args.single p (skip 1 p) c.take_part.new.cursor c.take_part.new.out.items refl all)
 
 pub returns-in_err-take_part : goal.returns-in_err-take_part
 returns-in_err-take_part c =

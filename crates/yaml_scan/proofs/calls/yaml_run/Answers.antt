@@ -1,29 +1,47 @@
 use Rattle.std.proofs.Common.{List, map, subst}
 use Rattle.yaml_scan.specs.declared.calls.yaml_answer_t.{yaml_answer_t}
 use Rattle.yaml_scan.specs.Calls.{call_of, PutsAnswers}
-use Rattle.yaml_scan.proofs.InputLaws.{late_faults}
-use Rattle.yaml_scan.proofs.CallRuns.{takes_next, puts_session}
+use Rattle.yaml_scan.specs.CallWords.{SeenHaveLines}
+use Rattle.yaml_scan.specs.ReadingOn.{HaveOneFault}
+use Rattle.yaml_scan.specs.Puts.{TakesNext, AreAnsweredAlike}
+use Rattle.yaml_scan.specs.CallMarks.{text_read, SeenAreCounted}
+use Rattle.yaml_scan.proofs.CallMarks.{runs_are_counted}
+use Rattle.yaml_scan.proofs.Alike.{runs_alike}
+use Rattle.yaml_scan.proofs.CallRuns.{puts_session}
 use Rattle.yaml_scan.proofs.CallsTold.{run_has_lines}
+use Rattle.yaml_scan.proofs.Faults.{runs_fault_once}
+use Rattle.yaml_scan.proofs.ReadsOn.{reads_on}
+use Rattle.yaml_scan.proofs.Taken.{puts, takes_next}
 use Rattle.yaml_scan.proofs.calls.yaml_run.Goals as goal
 
 pub returns-clause-early : goal.returns-clause-early
 returns-clause-early c = λ e. puts_session c.args.parser.now (map call_of c.args.calls.now) c.args.out.now.items c.answer_all.new.out.items c.answer_all.new.parser
     (subst (λ (z : List yaml_answer_t). PutsAnswers c.args.parser.now (map call_of c.args.calls.now) z c.answer_all.new.out.items c.answer_all.new.parser) c.in_ok-reserve.ensures.items c.answer_all.ensures) e
 
+-- the answers, put behind what was there when the call began
+pub returns-clause-answers : goal.returns-clause-answers
+returns-clause-answers c =
+    subst (λ (z : List yaml_answer_t). PutsAnswers c.args.parser.now (map call_of c.args.calls.now) z c.answer_all.new.out.items c.answer_all.new.parser) c.in_ok-reserve.ensures.items c.answer_all.ensures
+
+pub returns-clause-reads_on : goal.returns-clause-reads_on
+returns-clause-reads_on c = reads_on c.args.parser.now (map call_of c.args.calls.now) c.args.out.now.items c.answer_all.new.out.items c.answer_all.new.parser (returns-clause-answers c)
+
 pub returns-clause-taken : goal.returns-clause-taken
-returns-clause-taken c = takes_next c.args.parser.now (map call_of c.args.calls.now)
+returns-clause-taken c = puts (λ answers. TakesNext c.args.parser.now answers c.answer_all.new.parser) c.args.parser.now (map call_of c.args.calls.now) c.args.out.now.items c.answer_all.new.out.items c.answer_all.new.parser (returns-clause-answers c)
+    (λ answers r. takes_next c.args.parser.now (map call_of c.args.calls.now) answers c.answer_all.new.parser c.few_wait.ensures.next r)
+
+pub returns-clause-once : goal.returns-clause-once
+returns-clause-once c = puts HaveOneFault c.args.parser.now (map call_of c.args.calls.now) c.args.out.now.items c.answer_all.new.out.items c.answer_all.new.parser (returns-clause-answers c)
+    (λ answers r. runs_fault_once c.args.parser.now (map call_of c.args.calls.now) answers c.answer_all.new.parser r)
 
 pub returns-clause-lines : goal.returns-clause-lines
-returns-clause-lines c = run_has_lines c.args.parser.now (map call_of c.args.calls.now)
+returns-clause-lines c = puts SeenHaveLines c.args.parser.now (map call_of c.args.calls.now) c.args.out.now.items c.answer_all.new.out.items c.answer_all.new.parser (returns-clause-answers c)
+    (λ answers r. run_has_lines c.args.parser.now (map call_of c.args.calls.now) answers c.answer_all.new.parser r)
 
 pub returns-clause-local : goal.returns-clause-local
-returns-clause-local c = late_faults c.args.parser.now.limit c.args.parser.now.setting c.args.parser.now.input
+returns-clause-local c = puts (AreAnsweredAlike c.args.parser.now (map call_of c.args.calls.now)) c.args.parser.now (map call_of c.args.calls.now) c.args.out.now.items c.answer_all.new.out.items c.answer_all.new.parser (returns-clause-answers c)
+    (λ answers r. runs_alike c.args.parser.now (map call_of c.args.calls.now) answers c.answer_all.new.parser c.few_wait.ensures.next r)
 
-pub returns-in_err-reserve-clause-taken : goal.returns-in_err-reserve-clause-taken
-returns-in_err-reserve-clause-taken c = takes_next c.args.parser.now (map call_of c.args.calls.now)
-
-pub returns-in_err-reserve-clause-lines : goal.returns-in_err-reserve-clause-lines
-returns-in_err-reserve-clause-lines c = run_has_lines c.args.parser.now (map call_of c.args.calls.now)
-
-pub returns-in_err-reserve-clause-local : goal.returns-in_err-reserve-clause-local
-returns-in_err-reserve-clause-local c = late_faults c.args.parser.now.limit c.args.parser.now.setting c.args.parser.now.input
+pub returns-clause-marks : goal.returns-clause-marks
+returns-clause-marks c = puts (SeenAreCounted (text_read c.args.parser.now)) c.args.parser.now (map call_of c.args.calls.now) c.args.out.now.items c.answer_all.new.out.items c.answer_all.new.parser (returns-clause-answers c)
+    (λ answers r. runs_are_counted c.args.parser.now (map call_of c.args.calls.now) answers c.answer_all.new.parser r)

@@ -1,4 +1,5 @@
 use Rattle.std.proofs.Common.{refl, arith, drop}
+use Rattle.yaml_text.specs.Token.{token_of}
 use Rattle.yaml_scan.specs.Offline.{offline}
 use Rattle.yaml_scan.specs.Scanning.{history}
 use Rattle.yaml_scan.proofs.Stepped.{few_taken}
@@ -15,4 +16,4 @@ pub take_next-requires-clause-few : goal.take_next-requires-clause-few
 take_next-requires-clause-few c = few_done c.args.scanner.now c.requires.runs c.requires.settled
 
 pub returns : goal.returns
-returns c = let s = c.args.scanner.now in pops s c.requires.runs c.requires.settled _ c.take_next.result (c.take_next.ensures s.text.encoding (drop s.taken (offline (history s))) c.requires.runs.holds.queue) refl refl refl refl refl refl refl refl refl refl
+returns c = let s = c.args.scanner.now in pops s c.requires.runs c.requires.settled _ (token_of c.take_next.result) (c.take_next.ensures s.text.encoding (drop s.taken (offline (history s))) c.requires.runs.holds.queue) refl refl refl refl refl refl refl refl refl refl

@@ -1,19 +1,23 @@
-use Rattle.std.proofs.Common.{◌≡◌, Ok, Err, Some, true, false, refl, sym, ap, ◌∙◌, inr, arith}
+use Rattle.std.proofs.Common.{◌≡◌, Ok, Err, Some, true, false, refl, sym, ap, ◌∙◌, inr, subst, arith}
 use Rattle.std.specs.Prelude.{option_map}
 use Rattle.std.proofs.lemmas.Bool.{false≢true}
 use Rattle.yaml_text.specs.Fault.{fault_of}
-use Rattle.yaml_scan.specs.Parser.{Parser, Scans, told}
+use Rattle.yaml_text.specs.Token.{token_of}
+use Rattle.yaml_scan.specs.Token.{yaml_token_t}
+use Rattle.yaml_scan.specs.Session.Answer.{TOKEN}
+use Rattle.yaml_scan.specs.Parser.{Parser, Calls, Scans, told}
 use Rattle.yaml_scan.specs.Ready.{parser_of, IsShown}
 use Rattle.yaml_scan.specs.Session.Call.{SCAN}
-use Rattle.yaml_scan.proofs.InputLaws.{late_faults}
-use Rattle.yaml_scan.proofs.Scans.{show_token, show_fault_of, open_session, shown_settled, stands_u, open_u, last_is, take_told_of, take_left_of, scan_shown, scan_not_shown, bare, early}
+use Rattle.yaml_scan.proofs.CallMarks.{call_is_counted}
+use Rattle.yaml_scan.proofs.Alike.{scanned_alike}
+use Rattle.yaml_scan.proofs.Scans.{show_token, show_fault_of, open_session, shown_settled, stands_u, open_u, last_is, take_told_of, take_left_of, scan_over, scan_shown, scan_not_shown, bare, early}
 use Rattle.yaml_scan.proofs.Keeps.{stands_ready, keeps_settled, keeps_stopped, keeps_taken, reach_in, reach_stopped}
 use Rattle.yaml_scan.proofs.Waits.{done_is}
 use Rattle.yaml_scan.proofs.parser.yaml_parser_scan.Goals as goal
 
 pub invariant_of-parser : goal.invariant_of-parser
 invariant_of-parser c = let i = c.parser.inside in let v = c.parser.invariant in let g = c.in-Ok.ensures in
-    let t = c.look.new.scanner in let u = c.take_head-token.new.scanner in let x = c.take_head-token.result in let p = c.take_head-token.ensures in
+    let t = c.look.new.scanner in let u = c.take_head-token.new.scanner in let x = token_of c.take_head-token.result in let p = c.take_head-token.ensures in
     let h : IsShown i.setting i.input.now t = record { stands = g.stands; still_open = g.still_open; settled = g.settled } in
     let k = shown_settled i.setting i.input.now t h in
     let b = stands_u i.setting i.input.now t t u x k p in
@@ -46,7 +50,7 @@ invariant_of-parser-in-Err c = let i = c.parser.inside in let v = c.parser.invar
 
 pub returns-in-Ok : goal.returns-in-Ok
 returns-in-Ok c = let i = c.parser.inside in let g = c.in-Ok.ensures in
-    let t = c.look.new.scanner in let u = c.take_head-token.new.scanner in let x = c.take_head-token.result in let p = c.take_head-token.ensures in
+    let t = c.look.new.scanner in let u = c.take_head-token.new.scanner in let x = token_of c.take_head-token.result in let p = c.take_head-token.ensures in
     let e : c.args.parser.now ≡ parser_of i = sym c.parser.view_is in
     let o = sym (ap (λ (p : Parser). p.session.over) c.parser.view_is) ∙ c.if-parser.false in
     let h : IsShown i.setting i.input.now t = record { stands = g.stands; still_open = g.still_open; settled = g.settled } in
@@ -55,8 +59,8 @@ returns-in-Ok c = let i = c.parser.inside in let g = c.in-Ok.ensures in
     let q : Parser = record { input = i.input.now; setting = i.setting; limit = t.limit; session = record { taken = t.taken; steps = t.made; peeked = true; over = false; fault = fault } } in
     let s = show_token i.setting i.input.now i.scanner t g i.peeked fault c.args.parser.now (e ∙ open_session (parser_of i) c.if-parser.false) false refl in
     let r : Parser = record { input = i.input.now; setting = i.setting; limit = u.limit; session = record { taken = u.taken; steps = u.made; peeked = false; over = c.is_stream_end-parser-inside.result; fault = fault } } in
-    let a : Scans c.args.parser.now (Ok x) r = scan_shown c.args.parser.now q o x r s (take_told_of i.setting i.input.now t t u x k p refl fault q refl) (take_left_of i.setting i.input.now t t u x k p refl fault q refl c.is_stream_end-parser-inside.result c.is_stream_end-parser-inside.ensures) in
-    record { answers = a; bare = bare SCAN c.args.parser.now (told (Ok x)) r a; early = early SCAN c.args.parser.now (told (Ok x)) r a; local = late_faults c.args.parser.now.limit c.args.parser.now.setting c.args.parser.now.input }
+    let a : Calls SCAN c.args.parser.now (TOKEN x) r = scan_shown c.args.parser.now q o x r s (take_told_of i.setting i.input.now t t u x k p refl fault q refl) (take_left_of i.setting i.input.now t t u x k p refl fault q refl c.is_stream_end-parser-inside.result c.is_stream_end-parser-inside.ensures) in
+    record { answers = a; bare = bare SCAN c.args.parser.now (TOKEN x) r a; early = early SCAN c.args.parser.now (TOKEN x) r a; local = scanned_alike c.args.parser.now (TOKEN x) r a; marks = call_is_counted SCAN c.args.parser.now (TOKEN x) r a }
 
 pub returns-in-Err : goal.returns-in-Err
 returns-in-Err c = let i = c.parser.inside in let f = c.in-Err.ensures in let t = c.look.new.scanner in
@@ -65,7 +69,16 @@ returns-in-Err c = let i = c.parser.inside in let f = c.in-Err.ensures in let t 
     let r : Parser = record { input = i.input.now; setting = i.setting; limit = t.limit; session = record { taken = t.taken; steps = t.made; peeked = false; over = true; fault = Some (fault_of c.in-Err.fault) } } in
     let s = show_fault_of i.setting i.input.now i.scanner t i.peeked (option_map fault_of i.fault) c.in-Err.fault f.1 c.args.parser.now (e ∙ open_session (parser_of i) c.if-parser.false) f.0 f.2 in
     let a : Scans c.args.parser.now (Err c.in-Err.fault) r = scan_not_shown c.args.parser.now r o c.in-Err.fault s in
-    record { answers = a; bare = bare SCAN c.args.parser.now (told (Err c.in-Err.fault)) r a; early = early SCAN c.args.parser.now (told (Err c.in-Err.fault)) r a; local = late_faults c.args.parser.now.limit c.args.parser.now.setting c.args.parser.now.input }
+    record { answers = a; bare = bare SCAN c.args.parser.now (told (Err c.in-Err.fault)) r a; early = early SCAN c.args.parser.now (told (Err c.in-Err.fault)) r a; local = scanned_alike c.args.parser.now (told (Err c.in-Err.fault)) r a; marks = call_is_counted SCAN c.args.parser.now (told (Err c.in-Err.fault)) r a }
 
 pub returns-then-parser-clause-local : goal.returns-then-parser-clause-local
-returns-then-parser-clause-local c = late_faults c.args.parser.now.limit c.args.parser.now.setting c.args.parser.now.input
+returns-then-parser-clause-local c =
+    let p = c.args.parser.now in
+    let o = sym (ap (λ (p : Parser). p.session.over) c.parser.view_is) ∙ c.if-parser.true in
+    scanned_alike p (TOKEN (token_of c.empty.result)) p (subst (λ (x : yaml_token_t). Calls SCAN p (TOKEN x) p) (sym c.empty.ensures) (scan_over p o))
+
+pub returns-then-parser-clause-marks : goal.returns-then-parser-clause-marks
+returns-then-parser-clause-marks c =
+    let p = c.args.parser.now in
+    let o = sym (ap (λ (p : Parser). p.session.over) c.parser.view_is) ∙ c.if-parser.true in
+    call_is_counted SCAN p (TOKEN (token_of c.empty.result)) p (subst (λ (x : yaml_token_t). Calls SCAN p (TOKEN x) p) (sym c.empty.ensures) (scan_over p o))

@@ -4,22 +4,22 @@ use Rattle.yaml_text.proofs.decode.yaml_decode_front.Goals as goal
 pub returns-in_ok-front_in_utf16-in-YAML_UTF16LE_ENCODING-clause-front : goal.returns-in_ok-front_in_utf16-in-YAML_UTF16LE_ENCODING-clause-front
 returns-in_ok-front_in_utf16-in-YAML_UTF16LE_ENCODING-clause-front c =
     let t = c.told-encoding.ensures in
-    (told _ _ _ _ _ _ _ _ t.encoding c.in-YAML_UTF16LE_ENCODING.is t.dropped c.from-bytes.ensures c.in_ok-front_in_utf16-in-YAML_UTF16LE_ENCODING.ensures).text_is
+    (told _ _ _ _ _ _ _ _ t.encoding c.in-YAML_UTF16LE_ENCODING.is t.dropped c.from-bytes.ensures c.in_ok-front_in_utf16-in-YAML_UTF16LE_ENCODING.ensures.front).text_is
 
 pub returns-in_ok-front_in_utf16-in-YAML_UTF16LE_ENCODING-clause-refusal : goal.returns-in_ok-front_in_utf16-in-YAML_UTF16LE_ENCODING-clause-refusal
 returns-in_ok-front_in_utf16-in-YAML_UTF16LE_ENCODING-clause-refusal c =
     let t = c.told-encoding.ensures in
-    (told _ _ _ _ _ _ _ _ t.encoding c.in-YAML_UTF16LE_ENCODING.is t.dropped c.from-bytes.ensures c.in_ok-front_in_utf16-in-YAML_UTF16LE_ENCODING.ensures).refusal_is
+    (told _ _ _ _ _ _ _ _ t.encoding c.in-YAML_UTF16LE_ENCODING.is t.dropped c.from-bytes.ensures c.in_ok-front_in_utf16-in-YAML_UTF16LE_ENCODING.ensures.front).refusal_is
 
 pub returns-in_ok-front_in_utf16-in-YAML_UTF16BE_ENCODING-clause-front : goal.returns-in_ok-front_in_utf16-in-YAML_UTF16BE_ENCODING-clause-front
 returns-in_ok-front_in_utf16-in-YAML_UTF16BE_ENCODING-clause-front c =
     let t = c.told-encoding.ensures in
-    (told _ _ _ _ _ _ _ _ t.encoding c.in-YAML_UTF16BE_ENCODING.is t.dropped c.from-bytes.ensures c.in_ok-front_in_utf16-in-YAML_UTF16BE_ENCODING.ensures).text_is
+    (told _ _ _ _ _ _ _ _ t.encoding c.in-YAML_UTF16BE_ENCODING.is t.dropped c.from-bytes.ensures c.in_ok-front_in_utf16-in-YAML_UTF16BE_ENCODING.ensures.front).text_is
 
 pub returns-in_ok-front_in_utf16-in-YAML_UTF16BE_ENCODING-clause-refusal : goal.returns-in_ok-front_in_utf16-in-YAML_UTF16BE_ENCODING-clause-refusal
 returns-in_ok-front_in_utf16-in-YAML_UTF16BE_ENCODING-clause-refusal c =
     let t = c.told-encoding.ensures in
-    (told _ _ _ _ _ _ _ _ t.encoding c.in-YAML_UTF16BE_ENCODING.is t.dropped c.from-bytes.ensures c.in_ok-front_in_utf16-in-YAML_UTF16BE_ENCODING.ensures).refusal_is
+    (told _ _ _ _ _ _ _ _ t.encoding c.in-YAML_UTF16BE_ENCODING.is t.dropped c.from-bytes.ensures c.in_ok-front_in_utf16-in-YAML_UTF16BE_ENCODING.ensures.front).refusal_is
 
 pub returns-in_default-clause-front : goal.returns-in_default-clause-front
 returns-in_default-clause-front c =

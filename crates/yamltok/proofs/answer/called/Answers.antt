@@ -18,6 +18,6 @@ returns-clause-answers c =
 
 pub returns-clause-lines : goal.returns-clause-lines
 returns-clause-lines c =
-    let r = c.in_ok-yaml_run.ensures.answers in
+    let r = c.in_ok-yaml_run.ensures.lines in
     let e : c.yaml_run.new.out.items ≡ r.more = r.is ∙ ap (λ (l : List yaml_answer_t). l ++ r.more) c.new-answers.ensures.items in
-    subst (λ (l : List yaml_answer_t). SeenHaveLines (map seen_of l)) (sym e) (c.in_ok-yaml_run.ensures.lines (map seen_of r.more) c.yaml_run.new.parser r.runs)
+    subst (λ (l : List yaml_answer_t). SeenHaveLines (map seen_of l)) (sym e) r.holds

@@ -1,0 +1,322 @@
+//! What is answered to an input, and what the session is then, taking no memory by itself.
+//!
+//! The calls are made ready before the input is read, the input is read into an array, and lines are written piece by
+//! piece. So each request for memory behind the reading of the input is made by the call that is looked at.
+ghost use Rattle.std.specs.Prelude.{◌≤◌, IfOk, IfSome, length};
+
+use std::alloc::{AllocError, Global};
+use std::io;
+use std::io::{Read, Write};
+use yaml_scan::{
+    unnamed_yaml_token_t_data, yaml_answer_t, yaml_call_t, yaml_decode,
+    yaml_encoding_t, yaml_fault_t, yaml_mark_t, yaml_parser_fault, yaml_parser_has_token,
+    yaml_parser_mark, yaml_parser_peek, yaml_parser_queued, yaml_parser_scan, yaml_parser_skip,
+    yaml_parser_t, yaml_run, yaml_scan_all_limit, yaml_token_t,
+};
+
+/// What is behind so many bytes of an input is not read.
+const MOST: usize = 8192;
+
+fn put_mark(out: &mut impl Write, mark: yaml_mark_t) -> io::Result<()> {
+    let (index, line, column) = (mark.index, mark.line, mark.column);
+    write!(out, " {index}:{line}:{column}")
+}
+
+fn put_bytes(out: &mut impl Write, bytes: &[u8]) -> io::Result<()> {
+    write!(out, " ")?;
+    if bytes.is_empty() {
+        return write!(out, "-");
+    }
+    for b in bytes {
+        let b = *b;
+        write!(out, "{b:02x}")?;
+    }
+    Ok(())
+}
+
+fn put_data(out: &mut impl Write, data: &unnamed_yaml_token_t_data) -> io::Result<()> {
+    match data {
+        unnamed_yaml_token_t_data::STREAM_START { encoding } => {
+            let encoding = *encoding;
+            write!(out, " {encoding:?}")
+        }
+        unnamed_yaml_token_t_data::VERSION_DIRECTIVE { major, minor } => {
+            let (major, minor) = (*major, *minor);
+            write!(out, " {major} {minor}")
+        }
+        unnamed_yaml_token_t_data::TAG_DIRECTIVE { handle, prefix } => {
+            put_bytes(out, handle)?;
+            put_bytes(out, prefix)
+        }
+        unnamed_yaml_token_t_data::ALIAS { value } => put_bytes(out, value),
+        unnamed_yaml_token_t_data::ANCHOR { value } => put_bytes(out, value),
+        unnamed_yaml_token_t_data::TAG { handle, suffix } => {
+            put_bytes(out, handle)?;
+            put_bytes(out, suffix)
+        }
+        unnamed_yaml_token_t_data::SCALAR { value, style } => {
+            let style = *style;
+            write!(out, " {style:?}")?;
+            put_bytes(out, value)
+        }
+        _ => Ok(()),
+    }
+}
+
+fn put_token(out: &mut impl Write, token: &yaml_token_t) -> io::Result<()> {
+    let kind = token.type_();
+    write!(out, "TOKEN {kind:?}")?;
+    put_mark(out, token.start_mark)?;
+    put_mark(out, token.end_mark)?;
+    put_data(out, &token.token_data)?;
+    writeln!(out)
+}
+
+fn put_fault(out: &mut impl Write, fault: &yaml_fault_t) -> io::Result<()> {
+    let (error, offset, value) = (fault.error, fault.problem_offset, fault.problem_value);
+    let problem = fault.problem.unwrap_or("-");
+    let context = fault.context.unwrap_or("-");
+    write!(out, "FAULT {error} {offset} {value}")?;
+    put_mark(out, fault.context_mark)?;
+    put_mark(out, fault.problem_mark)?;
+    writeln!(out, " {context}; {problem}")
+}
+
+fn put_answer(out: &mut impl Write, answer: &yaml_answer_t) -> io::Result<()> {
+    match answer {
+        yaml_answer_t::TOKEN(token) => put_token(out, token),
+        yaml_answer_t::PEEKED(kind, start, end) => {
+            let kind = *kind;
+            write!(out, "PEEKED {kind:?}")?;
+            put_mark(out, *start)?;
+            put_mark(out, *end)?;
+            writeln!(out)
+        }
+        yaml_answer_t::SKIPPED => writeln!(out, "SKIPPED"),
+        yaml_answer_t::NOTHING => writeln!(out, "NOTHING"),
+        yaml_answer_t::FAULT(fault) => put_fault(out, fault),
+    }
+}
+
+fn put_answers(out: &mut impl Write, answers: &[yaml_answer_t]) -> io::Result<()> {
+    for answer in answers {
+        put_answer(out, answer)?;
+    }
+    Ok(())
+}
+
+/// Whether a token was peeked, how many steps are queued, how far was read, and the fault.
+fn put_state(out: &mut impl Write, parser: &yaml_parser_t) -> io::Result<()> {
+    let (has_token, queued) = (yaml_parser_has_token(parser), yaml_parser_queued(parser));
+    write!(out, "STATE {has_token} {queued}")?;
+    put_mark(out, yaml_parser_mark(parser))?;
+    match yaml_parser_fault(parser) {
+        Some(fault) => {
+            write!(out, " ")?;
+            put_fault(out, fault)
+        }
+        None => writeln!(out, " -"),
+    }
+}
+
+fn call_of(letter: u8) -> yaml_call_t {
+    match letter {
+        b's' => yaml_call_t::SCAN,
+        b'p' => yaml_call_t::PEEK,
+        _ => yaml_call_t::SKIP,
+    }
+}
+
+fn calls_of(alloc: Global, word: &str) -> Result<Vec<yaml_call_t>, AllocError> {
+    word.bytes().map(call_of).collect(alloc)
+}
+
+fn lists_of(alloc: Global, words: &[String]) -> Result<Vec<Vec<yaml_call_t>>, AllocError> {
+    let mut lists = Vec::new(alloc);
+    for word in words {
+        lists.push(calls_of(alloc, word.as_str())?)?;
+    }
+    Ok(lists)
+}
+
+/// Reads the input to its end, or until there is no room, and answers how many bytes it has.
+fn read_input(reader: &mut impl Read, room: &mut [u8]) -> io::Result<usize>
+    ensures { IfOk result (λ count. count ≤ length room.new) }
+{
+    let mut count = 0;
+    for _ in 0..MOST {
+        if count >= room.len() {
+            break;
+        }
+        let more = reader.read(&mut room[count..])?;
+        if more == 0 {
+            break;
+        }
+        count += more;
+    }
+    Ok(count.min(room.len()))
+}
+
+/// Makes the calls of each word by one `yaml_run`, all on one parser. Behind each of them it writes whether that was
+/// answered or refused, all answers so far, and what the session is. The answers begin with one that none of the
+/// calls gave.
+fn run_words(
+    rt: &HostRuntime,
+    setting: yaml_encoding_t,
+    limit: u32,
+    words: &[String],
+) -> io::Result<()>
+    requires least { 1 ≤ limit }
+    requires most { limit ≤ 65536 }
+{
+    let lists = lists_of(rt.alloc(), words)?;
+    let mut answers = vec![in rt.alloc(); yaml_answer_t::NOTHING]?;
+    let mut room = [0u8; MOST];
+    let count = read_input(&mut rt.stdin(), &mut room)?;
+    let mut out = rt.stdout();
+    let mut parser = yaml_parser_t::with_key_limit(rt.alloc(), &room[..count], setting, limit);
+    for calls in &lists {
+        match yaml_run(&mut parser, calls, &mut answers) {
+            Ok(()) => writeln!(out, "ANSWERED")?,
+            Err(_) => writeln!(out, "REFUSED")?,
+        }
+        put_answers(&mut out, &answers)?;
+        put_state(&mut out, &parser)?;
+    }
+    Ok(())
+}
+
+/// Makes one call and writes its answer.
+fn make_call(
+    out: &mut impl Write,
+    parser: &mut yaml_parser_t,
+    call: yaml_call_t,
+) -> io::Result<()> {
+    match call {
+        yaml_call_t::SCAN => match yaml_parser_scan(parser) {
+            Ok(token) => put_token(out, &token),
+            Err(fault) => put_fault(out, &fault),
+        },
+        yaml_call_t::PEEK => match yaml_parser_peek(parser) {
+            Ok(token) => {
+                write!(out, "PEEKED ")?;
+                put_token(out, token)
+            }
+            Err(fault) => put_fault(out, &fault),
+        },
+        yaml_call_t::SKIP => {
+            if !yaml_parser_has_token(parser) {
+                return writeln!(out, "NOTHING");
+            }
+            yaml_parser_skip(parser);
+            writeln!(out, "SKIPPED")
+        }
+    }
+}
+
+/// Makes the calls of a word one by one on a parser, and writes behind each what the session is.
+fn make_calls(rt: &HostRuntime, setting: yaml_encoding_t, limit: u32, word: &str) -> io::Result<()>
+    requires least { 1 ≤ limit }
+    requires most { limit ≤ 65536 }
+{
+    let mut room = [0u8; MOST];
+    let count = read_input(&mut rt.stdin(), &mut room)?;
+    let mut out = rt.stdout();
+    let mut parser = yaml_parser_t::with_key_limit(rt.alloc(), &room[..count], setting, limit);
+    for letter in word.bytes() {
+        make_call(&mut out, &mut parser, call_of(letter))?;
+        put_state(&mut out, &parser)?;
+    }
+    Ok(())
+}
+
+fn put_tokens(out: &mut impl Write, tokens: &[yaml_token_t]) -> io::Result<()> {
+    for token in tokens {
+        put_token(out, token)?;
+    }
+    Ok(())
+}
+
+/// Writes all tokens of the input and its fault, by one `yaml_scan_all_limit`.
+fn scan_all(rt: &HostRuntime, setting: yaml_encoding_t, limit: u32) -> io::Result<()>
+    requires least { 1 ≤ limit }
+    requires most { limit ≤ 65536 }
+{
+    let mut room = [0u8; MOST];
+    let count = read_input(&mut rt.stdin(), &mut room)?;
+    let mut out = rt.stdout();
+    match yaml_scan_all_limit(rt.alloc(), &room[..count], setting, limit) {
+        Ok((tokens, fault)) => {
+            writeln!(out, "ANSWERED")?;
+            put_tokens(&mut out, &tokens)?;
+            match &fault {
+                Some(fault) => put_fault(&mut out, fault),
+                None => Ok(()),
+            }
+        }
+        Err(_) => writeln!(out, "REFUSED"),
+    }
+}
+
+/// Writes the encoding and the bytes of the text of the input, or its fault, by one `yaml_decode`.
+fn decode(rt: &HostRuntime, setting: yaml_encoding_t) -> io::Result<()> {
+    let mut room = [0u8; MOST];
+    let count = read_input(&mut rt.stdin(), &mut room)?;
+    let mut out = rt.stdout();
+    match yaml_decode(rt.alloc(), &room[..count], setting) {
+        Ok(text) => {
+            let encoding = text.encoding();
+            write!(out, "TEXT {encoding:?} ")?;
+            out.write_all(text.bytes())?;
+            writeln!(out)
+        }
+        Err(fault) => put_fault(&mut out, &fault),
+    }
+}
+
+fn setting_of(word: &str) -> Option<yaml_encoding_t> {
+    match word {
+        "any" => Some(yaml_encoding_t::YAML_ANY_ENCODING),
+        "utf8" => Some(yaml_encoding_t::YAML_UTF8_ENCODING),
+        "utf16le" => Some(yaml_encoding_t::YAML_UTF16LE_ENCODING),
+        "utf16be" => Some(yaml_encoding_t::YAML_UTF16BE_ENCODING),
+        _ => None,
+    }
+}
+
+fn limit_of(word: &str) -> Option<u32>
+    ensures { IfSome result (λ limit. (1 ≤ limit) × (limit ≤ 65536)) }
+{
+    match word.parse() {
+        Ok(limit) if limit >= 1 && limit <= 65536 => Some(limit),
+        _ => None,
+    }
+}
+
+fn wrong_words() -> io::Error {
+    io::Error::from(io::ErrorKind::InvalidInput)
+}
+
+/// Does what the words ask for: `each ENC LIMIT WORD`, `calls ENC LIMIT WORD..`, `all ENC LIMIT` or
+/// `decode ENC`.
+pub fn list_session(rt: &HostRuntime, words: &[String]) -> io::Result<()> {
+    let [command, setting, rest @ ..] = words else {
+        return Err(wrong_words());
+    };
+    let setting = setting_of(setting.as_str()).ok_or(wrong_words())?;
+    let [limit, words @ ..] = rest else {
+        return decode(rt, setting);
+    };
+    let limit = limit_of(limit.as_str()).ok_or(wrong_words())?;
+    match command.as_str() {
+        "each" => make_calls(
+            rt,
+            setting,
+            limit,
+            words.first().map_or("", |word| word.as_str()),
+        ),
+        "calls" => run_words(rt, setting, limit, words),
+        "all" => scan_all(rt, setting, limit),
+        _ => Err(wrong_words()),
+    }
+}

@@ -1,0 +1,169 @@
+-- Uris, empty lines and text lines are longest lists.
+use Rattle.std.proofs.Common.{◌≡◌, ℕ, Bool, List, Option, Ok, Err, Result, refl, sym, ap, ◌∙◌, subst}
+use Rattle.std.specs.List.{concat}
+use Rattle.yaml_lexeme.specs.declared.block.header_t.{header_t}
+use Rattle.yaml_lexeme.specs.Lexeme.{Scalar as scalar_t}
+use Rattle.yaml_lexeme.proofs.PartLaws.{Advances, many_longest, many_refused, found_of, refused_of}
+use Rattle.yaml_lexeme.proofs.Spans.{blank_goes, line_spans, line_goes_of}
+use Rattle.yaml_lexeme.proofs.Uris.{uri_ahead}
+use Rattle.yaml_lexeme.specs.Block.{Blank, Blanks, Line, header_at, after_line, after_indent, blank_line, blank_lines, blanks_of, leading_limit, text_line, block}
+use Rattle.yaml_lexeme.specs.Parts.{Piece, values, IsLongest, UriParts, UriIsParts, UriIsRefused, BlankParts, BlanksAreLines, BlockParts, BlockIsLines, indent_of, block_scalar}
+use Rattle.yaml_lexeme.specs.Place.{Place, skip}
+use Rattle.yaml_lexeme.specs.Reading.{Offence, Found, Read, found, ◌>>=◌, over, many}
+use Rattle.yaml_lexeme.specs.Uri.{uri_part, uri}
+
+-- what was read, taken apart
+abbrev value_or : {A : Type 0} → A → Read A → A
+value_or a (Ok f) = f.value
+value_or a (Err e) = a
+
+abbrev end_or : {A : Type 0} → Place → Read A → Place
+end_or p (Ok f) = f.end
+end_or p (Err e) = p
+
+abbrev offence_or : {A : Type 0} → Offence → Read A → Offence
+offence_or o (Ok f) = o
+offence_or o (Err e) = e
+
+both : {A : Type 0} (f : Found A) (v : A) (e : Place) → f.value ≡ v → f.end ≡ e → found v e ≡ Ok f
+both {A} f v e hv he = ap (λ (x : A). found x e) (sym hv) ∙ ap (λ (x : Place). found f.value x) (sym he)
+
+-- uris
+uri_advances : (listed : Bool) → Advances (uri_part listed)
+uri_advances listed p = uri_ahead listed p
+
+abbrev concat_of : Read (List (List ℕ)) → Read (List ℕ)
+concat_of r = r >>= λ parts. found (concat parts.value) parts.end
+
+uri_is : (listed : Bool) (p : Place) → uri listed p ≡ concat_of (many (uri_part listed) p)
+unfolding uri
+uri_is listed p = refl
+
+uri_from : (listed : Bool) (p : Place) (f : Found (List ℕ)) (r : Read (List (List ℕ))) → many (uri_part listed) p ≡ r → concat_of r ≡ Ok f → UriParts listed p f
+uri_from listed p f (Ok b) e h =
+    let l = many_longest (uri_part listed) (uri_advances listed) p b e in
+    record {
+      parts = l.pieces;
+      longest = subst (λ (x : Place). IsLongest (uri_part listed) p l.pieces x over) (ap (end_or b.end) h) l.is;
+      value = sym (ap (value_or (concat b.value)) h) ∙ ap (λ (vs : List (List ℕ)). concat vs) l.values_are;
+    }
+uri_from listed p f (Err o) e h = absurd cc
+
+uri_to : (listed : Bool) (p : Place) (f : Found (List ℕ)) → UriParts listed p f → uri listed p ≡ Ok f
+uri_to listed p f q =
+    uri_is listed p ∙ ap concat_of (found_of (uri_part listed) (uri_advances listed) p q.parts f.end q.longest) ∙ both f (concat (values q.parts)) f.end q.value refl
+
+pub uri_parts : UriIsParts
+uri_parts listed p f = (λ h. uri_from listed p f (many (uri_part listed) p) refl (sym (uri_is listed p) ∙ h), uri_to listed p f)
+
+abbrev UriRefused : Bool → Place → Offence → Type 0
+UriRefused listed p e = (parts : List (Piece (List ℕ))) × (q : Place) × IsLongest (uri_part listed) p parts q (Err e)
+
+uri_refused_from : (listed : Bool) (p : Place) (e : Offence) (r : Read (List (List ℕ))) → many (uri_part listed) p ≡ r → concat_of r ≡ Err e → UriRefused listed p e
+uri_refused_from listed p e (Ok b) is h = absurd cc
+uri_refused_from listed p e (Err o) is h = many_refused (uri_part listed) (uri_advances listed) p e (is ∙ ap (λ (x : Offence). Err x) (ap (offence_or o) h))
+
+pub uri_refused : UriIsRefused
+uri_refused listed p e = (
+  λ h. uri_refused_from listed p e (many (uri_part listed) p) refl (sym (uri_is listed p) ∙ h),
+  λ r. uri_is listed p ∙ ap concat_of (refused_of (uri_part listed) (uri_advances listed) p r.0 r.1 e r.2),
+)
+
+-- empty lines
+blank_advances : (limit : Option ℕ) → Advances (blank_line limit)
+blank_advances limit p = (blank_goes limit p).goes
+
+abbrev at_indent : Blanks → Result Place Offence → Read Blanks
+at_indent b r = r >>= λ next. found b next
+
+abbrev indented : Option ℕ → Read (List Blank) → Read Blanks
+indented limit r = r >>= λ lines. at_indent (blanks_of lines.value lines.end.mark) (after_indent limit lines.end)
+
+blanks_is : (limit : Option ℕ) (p : Place) → blank_lines limit p ≡ indented limit (many (blank_line limit) p)
+unfolding blank_lines
+blanks_is limit p = refl
+
+indent_from : (b : Blanks) (r : Result Place Offence) (f : Found Blanks) → at_indent b r ≡ Ok f → (r ≡ Ok f.end) × (f.value ≡ b)
+indent_from b (Ok x) f h = (ap (λ (y : Place). Ok y) (ap (end_or x) h), sym (ap (value_or b) h))
+indent_from b (Err o) f h = absurd cc
+
+blanks_from : (limit : Option ℕ) (p : Place) (f : Found Blanks) (r : Read (List Blank)) → many (blank_line limit) p ≡ r → indented limit r ≡ Ok f → BlankParts limit p f
+blanks_from limit p f (Ok b) e h =
+    let l = many_longest (blank_line limit) (blank_advances limit) p b e in
+    let t = indent_from (blanks_of b.value b.end.mark) (after_indent limit b.end) f h in
+    record {
+      lines = l.pieces;
+      last = b.end;
+      longest = l.is;
+      indent = t.0;
+      value = t.1 ∙ ap (λ (vs : List Blank). blanks_of vs b.end.mark) l.values_are;
+    }
+blanks_from limit p f (Err o) e h = absurd cc
+
+blanks_to : (limit : Option ℕ) (p : Place) (f : Found Blanks) → BlankParts limit p f → blank_lines limit p ≡ Ok f
+blanks_to limit p f q =
+    blanks_is limit p ∙ ap (indented limit) (found_of (blank_line limit) (blank_advances limit) p q.lines q.last q.longest)
+    ∙ ap (at_indent (blanks_of (values q.lines) q.last.mark)) q.indent ∙ both f (blanks_of (values q.lines) q.last.mark) f.end q.value refl
+
+pub blanks_lines : BlanksAreLines
+blanks_lines limit p f = (λ h. blanks_from limit p f (many (blank_line limit) p) refl (sym (blanks_is limit p) ∙ h), blanks_to limit p f)
+
+-- text lines
+line_advances : (indent : ℕ) → Advances (text_line indent)
+line_advances indent p = (line_goes_of p (text_line indent p) (line_spans indent p)).goes
+
+abbrev with_lines : Bool → header_t → Blanks → Read (List Line) → Read scalar_t
+with_lines folded h leading r = r >>= λ lines. found (block_scalar folded h.chomp leading lines.value) lines.end
+
+abbrev with_leading : Bool → ℕ → header_t → Read Blanks → Read scalar_t
+with_leading folded least h r = r >>= λ leading. with_lines folded h leading.value (many (text_line (indent_of least h leading)) leading.end)
+
+abbrev with_start : Bool → ℕ → header_t → Result Place Offence → Read scalar_t
+with_start folded least h r = r >>= λ start. with_leading folded least h (blank_lines (leading_limit least h.digit) start)
+
+abbrev with_header : Bool → ℕ → Read header_t → Read scalar_t
+with_header folded least r = r >>= λ header. with_start folded least header.value (after_line header.end)
+
+block_is : (folded : Bool) (least : ℕ) (p : Place) → block folded least p ≡ with_header folded least (header_at (skip 1 p))
+unfolding block
+block_is folded least p = refl
+
+module _ (folded : Bool) (least : ℕ) (p : Place) (f : Found scalar_t) where
+  lines_from : (header : Found header_t) (start : Place) (leading : Found Blanks) → header_at (skip 1 p) ≡ Ok header → after_line header.end ≡ Ok start → blank_lines (leading_limit least header.value.digit) start ≡ Ok leading
+      → (r : Read (List Line)) → many (text_line (indent_of least header.value leading)) leading.end ≡ r → with_lines folded header.value leading.value r ≡ Ok f → BlockParts folded least p f
+  lines_from header start leading eh es el (Ok b) e h =
+      let l = many_longest (text_line (indent_of least header.value leading)) (line_advances (indent_of least header.value leading)) leading.end b e in
+      record {
+        header = header;
+        start = start;
+        leading = leading;
+        lines = l.pieces;
+        header_is = eh;
+        start_is = es;
+        leading_is = el;
+        longest = subst (λ (x : Place). IsLongest (text_line (indent_of least header.value leading)) leading.end l.pieces x over) (ap (end_or b.end) h) l.is;
+        value = sym (ap (value_or (block_scalar folded header.value.chomp leading.value b.value)) h) ∙ ap (λ (vs : List Line). block_scalar folded header.value.chomp leading.value vs) l.values_are;
+      }
+  lines_from header start leading eh es el (Err o) e h = absurd cc
+
+  leading_from : (header : Found header_t) (start : Place) → header_at (skip 1 p) ≡ Ok header → after_line header.end ≡ Ok start → (r : Read Blanks) → blank_lines (leading_limit least header.value.digit) start ≡ r
+      → with_leading folded least header.value r ≡ Ok f → BlockParts folded least p f
+  leading_from header start eh es (Ok leading) e h = lines_from header start leading eh es e (many (text_line (indent_of least header.value leading)) leading.end) refl h
+  leading_from header start eh es (Err o) e h = absurd cc
+
+  start_from : (header : Found header_t) → header_at (skip 1 p) ≡ Ok header → (r : Result Place Offence) → after_line header.end ≡ r → with_start folded least header.value r ≡ Ok f → BlockParts folded least p f
+  start_from header eh (Ok start) e h = leading_from header start eh e (blank_lines (leading_limit least header.value.digit) start) refl h
+  start_from header eh (Err o) e h = absurd cc
+
+  header_from : (r : Read header_t) → header_at (skip 1 p) ≡ r → with_header folded least r ≡ Ok f → BlockParts folded least p f
+  header_from (Ok header) e h = start_from header e (after_line header.end) refl h
+  header_from (Err o) e h = absurd cc
+
+  block_to : BlockParts folded least p f → block folded least p ≡ Ok f
+  block_to q =
+      block_is folded least p ∙ ap (with_header folded least) q.header_is ∙ ap (with_start folded least q.header.value) q.start_is ∙ ap (with_leading folded least q.header.value) q.leading_is
+      ∙ ap (with_lines folded q.header.value q.leading.value) (found_of (text_line (indent_of least q.header.value q.leading)) (line_advances (indent_of least q.header.value q.leading)) q.leading.end q.lines f.end q.longest)
+      ∙ both f (block_scalar folded q.header.value.chomp q.leading.value (values q.lines)) f.end q.value refl
+
+pub block_lines : BlockIsLines
+block_lines folded least p f = (λ h. header_from folded least p f (header_at (skip 1 p)) refl (sym (block_is folded least p) ∙ h), block_to folded least p f)

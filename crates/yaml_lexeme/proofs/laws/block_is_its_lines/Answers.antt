@@ -1,0 +1,5 @@
+use Rattle.yaml_lexeme.proofs.ListParts as law
+use Rattle.yaml_lexeme.proofs.laws.block_is_its_lines.Goals as goal
+
+pub returns : goal.returns
+returns c = record { empty = law.blanks_lines; text = law.block_lines }

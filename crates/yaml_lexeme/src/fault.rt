@@ -1,0 +1,47 @@
+//! Faults of lexemes.
+ghost use Rattle.std.specs.Prelude.{◌≡◌};
+ghost use Rattle.std.specs.Option.{option_copied};
+ghost use Rattle.yaml_text.specs.Fault.{fault_of, memory_fault, scanner_fault};
+
+use yaml_text::{yaml_error_type_t, yaml_fault_t, yaml_mark_t};
+
+const ZERO: yaml_mark_t = yaml_mark_t {
+    index: 0,
+    line: 0,
+    column: 0,
+};
+
+/// A want of memory.
+pub(crate) fn make_memory_fault() -> yaml_fault_t
+    ensures { fault_of result ≡ memory_fault }
+{
+    yaml_fault_t {
+        error: yaml_error_type_t::YAML_MEMORY_ERROR,
+        problem: None,
+        problem_offset: 0,
+        problem_value: 0,
+        problem_mark: ZERO,
+        context: None,
+        context_mark: ZERO,
+    }
+}
+
+/// A problem at a mark, with a context at another.
+pub(crate) fn make_scanner_fault(
+    problem: &'static str,
+    problem_mark: yaml_mark_t,
+    context: Option<&'static str>,
+    context_mark: yaml_mark_t,
+) -> yaml_fault_t
+    ensures { fault_of result ≡ scanner_fault problem.now problem_mark (option_copied context.entry) context_mark }
+{
+    yaml_fault_t {
+        error: yaml_error_type_t::YAML_SCANNER_ERROR,
+        problem: Some(problem),
+        problem_offset: 0,
+        problem_value: 0,
+        problem_mark,
+        context,
+        context_mark,
+    }
+}

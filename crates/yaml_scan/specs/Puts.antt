@@ -1,0 +1,98 @@
+-- What the answers say that a list of calls puts behind others, and what is answered to other inputs as well.
+use Rattle.std.specs.Prelude.{◌≡◌, ◌⊎◌, ℕ, ◌+◌, ◌<◌, true, false, Option, None, Some, IfSome}
+use Rattle.std.specs.Prelude.{List, [], ◌∷◌, ◌++◌, map, take, drop, replicate, length}
+use Rattle.yaml_text.specs.declared.types.yaml_encoding_t.{yaml_encoding_t}
+use Rattle.yaml_scan.specs.declared.calls.yaml_answer_t.{yaml_answer_t}
+use Rattle.yaml_scan.specs.Token.{yaml_token_t, empty}
+use Rattle.yaml_scan.specs.Fault.{Fault, memory_fault}
+use Rattle.yaml_scan.specs.Offline.{Token}
+use Rattle.yaml_scan.specs.Begins.{Begins}
+use Rattle.yaml_scan.specs.Inputs.{answers_to, GoesOn}
+use Rattle.yaml_scan.specs.Session.{Call, Answer, next_token}
+use Rattle.yaml_scan.specs.Parser.{Parser, answered, course_read}
+use Rattle.yaml_scan.specs.Session.Answer.{FAULT}
+use Rattle.yaml_scan.specs.Calls.{Seen, seen, seen_of, answered_all, idle}
+use Rattle.yaml_scan.specs.Calls.Seen.{TOKEN, PEEKED, SKIPPED, NOTHING}
+use Rattle.yaml_scan.specs.Calls.{Seen as sight}
+
+-- of the answers that were put behind the old ones this holds
+pub record Puts (Holds : List Seen → Type 0) (old new : List yaml_answer_t) : Type 0 where
+  pub more : List yaml_answer_t
+  pub is : new ≡ old ++ more
+  pub holds : Holds (map seen_of more)
+
+-- THE TOKENS THAT WERE TAKEN
+-- what answers tell of them, in order: a scan the token, a skip that there was one
+abbrev pub taken_told : List Seen → List (Option yaml_token_t)
+taken_told [] = []
+taken_told (TOKEN t ∷ more) = Some t ∷ taken_told more
+taken_told (PEEKED type start end ∷ more) = taken_told more
+taken_told (SKIPPED ∷ more) = None ∷ taken_told more
+taken_told (NOTHING ∷ more) = taken_told more
+taken_told (sight.FAULT f ∷ more) = taken_told more
+
+-- that is told of these
+abbrev pub AreTold : List (Option yaml_token_t) → List yaml_token_t → Type 0
+AreTold [] [] = Unit {0}
+AreTold [] (t ∷ ts) = ⊥
+AreTold (o ∷ os) [] = ⊥
+AreTold (o ∷ os) (t ∷ ts) = IfSome o (λ u. u ≡ t) × AreTold os ts
+
+-- of tokens, of which n were taken, the next ones were taken in order, up to the m-th; what else was handed out, after
+-- these, were empty tokens
+pub record TakesOn (tokens : List yaml_token_t) (n : ℕ) (answers : List Seen) (m : ℕ) : Type 0 where
+  pub took : List yaml_token_t
+  pub are_next : Begins took (drop n tokens)
+  pub count : m ≡ n + length took
+  pub says : List (Option yaml_token_t)
+  pub are_told : AreTold says took
+  pub idle : ℕ
+  pub answers_are : taken_told answers ≡ says ++ replicate idle (Some empty)
+
+-- the answers tell of the next tokens of the list that is answered to the input, of as many as the parser's session
+-- counts further
+abbrev pub TakesNext : Parser → List Seen → Parser → Type 0
+TakesNext p answers q =
+    TakesOn (answers_to p.limit p.setting p.input).tokens p.session.taken answers q.session.taken
+
+-- where a token was peeked the session is not over, and there is a next token
+abbrev pub HasNext : Parser → Type 0
+HasNext p = p.session.peeked ≡ true
+    → (p.session.over ≡ false) × ((token : Token) × (next_token p.limit (course_read p) p.session ≡ Some token))
+
+-- OTHER INPUTS
+-- the same parser of another input
+abbrev pub of_input : Parser → yaml_encoding_t → List ℕ → Parser
+of_input p setting input =
+    record { input = input; setting = setting; limit = p.limit; session = p.session }
+
+-- a call is answered as for each accepted input that agrees up to the refused character, but for the reader's fault and
+-- a refused growth
+abbrev pub IsAnsweredAlike : Parser → Call → Answer → Type 0
+IsAnsweredAlike p call a = (t : yaml_encoding_t) (b : List ℕ) (fault : Fault)
+    → GoesOn p.setting p.input t b fault
+    → (a ≡ answered (of_input p t b) call) ⊎ ((a ≡ FAULT fault) ⊎ (a ≡ FAULT memory_fault))
+
+-- calls are answered as a parser answers them, up to this fault, and after it as where the session is over
+pub record StopsWith (fault : Fault) (p : Parser) (calls : List Call) (answers : List Seen) : Type 0 where
+  pub n : ℕ
+  pub within : n < length calls
+  pub answers_are : answers
+      ≡ map seen (answered_all p (take n calls)) ++ (sight.FAULT fault ∷ map idle (drop (n + 1) calls))
+
+-- calls are answered as for each accepted input that agrees up to the refused character: all of them, or those before
+-- the reader's fault or before a refused growth
+abbrev pub AreAnsweredAlike : Parser → List Call → List Seen → Type 0
+AreAnsweredAlike p calls answers = (t : yaml_encoding_t) (b : List ℕ) (fault : Fault)
+    → GoesOn p.setting p.input t b fault
+    → (answers ≡ map seen (answered_all (of_input p t b) calls))
+    ⊎ (StopsWith fault (of_input p t b) calls answers ⊎ StopsWith memory_fault (of_input p t b) calls answers)
+
+-- these tokens and this fault are those of each accepted input that agrees up to the refused character, or a beginning
+-- of its tokens and the reader's fault or a refused growth
+abbrev pub AreReadAlike : ℕ → yaml_encoding_t → List ℕ → List yaml_token_t → Option Fault → Type 0
+AreReadAlike limit s a tokens fault = (t : yaml_encoding_t) (b : List ℕ) (refused : Fault)
+    → GoesOn s a t b refused
+    → Begins tokens (answers_to limit t b).tokens
+    × (((tokens ≡ (answers_to limit t b).tokens) × (fault ≡ (answers_to limit t b).fault))
+    ⊎ ((fault ≡ Some refused) ⊎ (fault ≡ Some memory_fault)))

@@ -1,0 +1,20 @@
+-- What a sink is given.
+use Rattle.std.specs.Prelude.{◌≡◌, ◌++◌, [], ℕ, List, Option}
+use Rattle.std.proofs.Common.{sym, ap, ◌∙◌, append-nil, append_assoc}
+use Rattle.yaml_text.specs.declared.types.yaml_encoding_t.{yaml_encoding_t}
+use Rattle.yaml_scan.specs.Token.{yaml_token_t}
+use Rattle.yaml_scan.specs.Fault.{Fault}
+use Rattle.yaml_scan.specs.All.{ReadsAll}
+
+-- a sink was given, in order, what reading an input to its end answers
+pub record IsGivenAll (took : List yaml_token_t → Type 0) (limit : ℕ) (setting : yaml_encoding_t) (input : List ℕ) (fault : Option Fault) : Type 0 where
+  pub tokens : List yaml_token_t
+  pub given : took tokens
+  pub reads : ReadsAll limit setting input tokens fault
+
+-- what a list of tokens has taken: none, and some and then others
+pub list_none : (xs : List yaml_token_t) → xs ≡ xs ++ []
+list_none xs = sym (append-nil xs)
+
+pub list_more : (a b c xs ys : List yaml_token_t) → b ≡ a ++ xs → c ≡ b ++ ys → c ≡ a ++ (xs ++ ys)
+list_more a b c xs ys e f = f ∙ ap (λ (z : List yaml_token_t). z ++ ys) e ∙ append_assoc a xs ys

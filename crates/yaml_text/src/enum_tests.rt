@@ -1,0 +1,176 @@
+//! The numbers and the order of the variants of the enums, and the words of errors and faults.
+use super::*;
+use std::hash::{DefaultHasher, Hash, Hasher};
+use std::process::Abort;
+use std::test::Fail;
+
+fn hash_of<T: Hash>(value: &T) -> u64 {
+    let mut hasher = DefaultHasher::new();
+    value.hash(&mut hasher);
+    hasher.finish()
+}
+
+/// Asserts that the value of that number stands where it is among all of them, is equal to itself alone, and has its
+/// own hash.
+fn expect_place<T: Copy + Ord + Hash>(rt: &impl Abort, i: usize, a: &T, values: &[T]) {
+    for (j, b) in values.iter().enumerate() {
+        assert_eq!(rt; a < b, i < j, "{i} and {j}");
+        assert_eq!(rt; a.cmp(b), i.cmp(&j), "{i} and {j}");
+        assert_eq!(rt; a.partial_cmp(b), Some(i.cmp(&j)), "{i} and {j}");
+        assert_eq!(rt; a == b, i == j, "{i} and {j}");
+        assert_eq!(rt; hash_of(a) == hash_of(b), i == j, "{i} and {j}");
+    }
+}
+
+/// Asserts that the values stand in their order, and that equal values, and they alone, have the same hash.
+fn expect_order<T: Copy + Ord + Hash>(rt: &impl Abort, values: &[T]) {
+    for (i, a) in values.iter().enumerate() {
+        expect_place(rt, i, a, values);
+    }
+}
+
+#[test]
+fn encodings(rt: HostRuntime) {
+    let values = [
+        yaml_encoding_t::YAML_ANY_ENCODING,
+        yaml_encoding_t::YAML_UTF8_ENCODING,
+        yaml_encoding_t::YAML_UTF16LE_ENCODING,
+        yaml_encoding_t::YAML_UTF16BE_ENCODING,
+    ];
+    expect_order(&rt, &values);
+    for (number, value) in (0u8..).zip(values) {
+        assert_eq!(rt; value as u8, number);
+    }
+}
+
+#[test]
+fn breaks(rt: HostRuntime) {
+    let values = [
+        yaml_break_t::YAML_ANY_BREAK,
+        yaml_break_t::YAML_CR_BREAK,
+        yaml_break_t::YAML_LN_BREAK,
+        yaml_break_t::YAML_CRLN_BREAK,
+    ];
+    expect_order(&rt, &values);
+    for (number, value) in (0u8..).zip(values) {
+        assert_eq!(rt; value as u8, number);
+    }
+}
+
+#[test]
+fn error_types(rt: HostRuntime) {
+    let values = [
+        yaml_error_type_t::YAML_NO_ERROR,
+        yaml_error_type_t::YAML_MEMORY_ERROR,
+        yaml_error_type_t::YAML_READER_ERROR,
+        yaml_error_type_t::YAML_SCANNER_ERROR,
+        yaml_error_type_t::YAML_PARSER_ERROR,
+        yaml_error_type_t::YAML_COMPOSER_ERROR,
+        yaml_error_type_t::YAML_WRITER_ERROR,
+        yaml_error_type_t::YAML_EMITTER_ERROR,
+    ];
+    expect_order(&rt, &values);
+    for (number, value) in (0u8..).zip(values) {
+        assert_eq!(rt; value as u8, number);
+    }
+}
+
+#[test]
+fn scalar_styles(rt: HostRuntime) {
+    let values = [
+        yaml_scalar_style_t::YAML_ANY_SCALAR_STYLE,
+        yaml_scalar_style_t::YAML_PLAIN_SCALAR_STYLE,
+        yaml_scalar_style_t::YAML_SINGLE_QUOTED_SCALAR_STYLE,
+        yaml_scalar_style_t::YAML_DOUBLE_QUOTED_SCALAR_STYLE,
+        yaml_scalar_style_t::YAML_LITERAL_SCALAR_STYLE,
+        yaml_scalar_style_t::YAML_FOLDED_SCALAR_STYLE,
+    ];
+    expect_order(&rt, &values);
+    for (number, value) in (0u8..).zip(values) {
+        assert_eq!(rt; value as u8, number);
+    }
+}
+
+#[test]
+fn sequence_styles(rt: HostRuntime) {
+    let values = [
+        yaml_sequence_style_t::YAML_ANY_SEQUENCE_STYLE,
+        yaml_sequence_style_t::YAML_BLOCK_SEQUENCE_STYLE,
+        yaml_sequence_style_t::YAML_FLOW_SEQUENCE_STYLE,
+    ];
+    expect_order(&rt, &values);
+    for (number, value) in (0u8..).zip(values) {
+        assert_eq!(rt; value as u8, number);
+    }
+}
+
+#[test]
+fn mapping_styles(rt: HostRuntime) {
+    let values = [
+        yaml_mapping_style_t::YAML_ANY_MAPPING_STYLE,
+        yaml_mapping_style_t::YAML_BLOCK_MAPPING_STYLE,
+        yaml_mapping_style_t::YAML_FLOW_MAPPING_STYLE,
+    ];
+    expect_order(&rt, &values);
+    for (number, value) in (0u8..).zip(values) {
+        assert_eq!(rt; value as u8, number);
+    }
+}
+
+#[test]
+fn token_types(rt: HostRuntime) {
+    let values = [
+        yaml_token_type_t::YAML_NO_TOKEN,
+        yaml_token_type_t::YAML_STREAM_START_TOKEN,
+        yaml_token_type_t::YAML_STREAM_END_TOKEN,
+        yaml_token_type_t::YAML_VERSION_DIRECTIVE_TOKEN,
+        yaml_token_type_t::YAML_TAG_DIRECTIVE_TOKEN,
+        yaml_token_type_t::YAML_DOCUMENT_START_TOKEN,
+        yaml_token_type_t::YAML_DOCUMENT_END_TOKEN,
+        yaml_token_type_t::YAML_BLOCK_SEQUENCE_START_TOKEN,
+        yaml_token_type_t::YAML_BLOCK_MAPPING_START_TOKEN,
+        yaml_token_type_t::YAML_BLOCK_END_TOKEN,
+        yaml_token_type_t::YAML_FLOW_SEQUENCE_START_TOKEN,
+        yaml_token_type_t::YAML_FLOW_SEQUENCE_END_TOKEN,
+        yaml_token_type_t::YAML_FLOW_MAPPING_START_TOKEN,
+        yaml_token_type_t::YAML_FLOW_MAPPING_END_TOKEN,
+        yaml_token_type_t::YAML_BLOCK_ENTRY_TOKEN,
+        yaml_token_type_t::YAML_FLOW_ENTRY_TOKEN,
+        yaml_token_type_t::YAML_KEY_TOKEN,
+        yaml_token_type_t::YAML_VALUE_TOKEN,
+        yaml_token_type_t::YAML_ALIAS_TOKEN,
+        yaml_token_type_t::YAML_ANCHOR_TOKEN,
+        yaml_token_type_t::YAML_TAG_TOKEN,
+        yaml_token_type_t::YAML_SCALAR_TOKEN,
+    ];
+    expect_order(&rt, &values);
+    for (number, value) in (0u8..).zip(values) {
+        assert_eq!(rt; value as u8, number);
+    }
+}
+
+/// The word of each kind of error, and a fault of that kind.
+#[test]
+fn words(rt: HostRuntime) -> Result<(), Fail> {
+    let alloc = rt.alloc();
+    let rows = [
+        (yaml_error_type_t::YAML_NO_ERROR, "none"),
+        (yaml_error_type_t::YAML_MEMORY_ERROR, "memory"),
+        (yaml_error_type_t::YAML_READER_ERROR, "reader"),
+        (yaml_error_type_t::YAML_SCANNER_ERROR, "scanner"),
+        (yaml_error_type_t::YAML_PARSER_ERROR, "parser"),
+        (yaml_error_type_t::YAML_COMPOSER_ERROR, "composer"),
+        (yaml_error_type_t::YAML_WRITER_ERROR, "writer"),
+        (yaml_error_type_t::YAML_EMITTER_ERROR, "emitter"),
+    ];
+    for (error, word) in rows {
+        assert_eq!(rt; error.to_string(alloc)?.as_str(), word);
+        let fault = yaml_fault_t {
+            error,
+            ..make_memory_fault()
+        };
+        let words = format!(in alloc; "YAML {word} fault")?;
+        assert_eq!(rt; fault.to_string(alloc)?.as_str(), words.as_str());
+    }
+    Ok(())
+}

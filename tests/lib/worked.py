@@ -1,0 +1,99 @@
+"""The worked rows of vectors/rows.txt, and what a session answers to calls on one of them, with and without memory."""
+
+import os
+import subprocess
+
+HERE = os.path.dirname(os.path.dirname(os.path.abspath(__file__)))
+MEMORY = "FAULT memory"
+IDLE = {"s": "NO-TOKEN", "p": "PEEK NO-TOKEN", "k": "SKIP NOTHING"}
+
+
+def rows():
+    """Each row: the words of its command, its input, and its lines."""
+    with open(os.path.join(HERE, "vectors", "rows.txt"), encoding="ascii") as lines:
+        for line in lines:
+            words, data, wanted = line.rstrip("\n").split("\t")
+            yield words.split(" "), bytes.fromhex(data.strip("-")), wanted.split(" / ") if wanted else []
+
+
+def is_utf8(setting, data):
+    """Whether the setting, or the input where none is set, tells UTF-8."""
+    return setting == "utf8" or setting == "any" and not data.startswith((b"\xff\xfe", b"\xfe\xff"))
+
+
+def takes_no_memory(words, data, lines):
+    """Whether the answers take no memory: decoding of UTF-8, and UTF-8 that is refused where the first step is near."""
+    return is_utf8(words[1], data) and (words[0] == "decode" or lines[0].startswith("FAULT reader"))
+
+
+def is_ended(line):
+    return line.startswith("STREAM-END")
+
+
+class Session:
+    """What is answered to calls, by the lines of a scan of the whole input. At call number `refused` memory is."""
+
+    def __init__(self, lines, refused=None):
+        self.tokens = [line for line in lines if not line.startswith("FAULT")]
+        self.fault = lines[-1] if lines[-1].startswith("FAULT") else None
+        self.taken, self.made, self.refused = 0, 0, refused
+        self.peeked = self.over = False
+        self.shown = None
+
+    def may_want_memory(self, letter):
+        return letter in "sp" and not self.over and not self.peeked
+
+    def take(self):
+        self.taken += 1
+        self.peeked = False
+        self.over = is_ended(self.tokens[self.taken - 1])
+        return self.tokens[self.taken - 1]
+
+    def call(self, letter):
+        number, self.made = self.made, self.made + 1
+        if letter == "k":
+            return "SKIP" if self.peeked and self.take() else IDLE["k"]
+        if self.over:
+            return IDLE[letter]
+        if number == self.refused or self.taken == len(self.tokens):
+            self.over, self.shown = True, MEMORY if number == self.refused else self.fault
+            return self.shown
+        if letter == "s":
+            return self.take()
+        self.peeked = True
+        return "PEEK " + " ".join(self.tokens[self.taken].split(" ")[:3])
+
+    def calls(self, word):
+        return [self.call(letter) for letter in word]
+
+
+def session_of(lines, word, found, may_refuse=True):
+    """The session that answers to the calls of the word what was found, with at most one want of memory, or None."""
+    if Session(lines).calls(word) == found:
+        session = Session(lines)
+        session.calls(word)
+        return session
+    if not may_refuse or found.count(MEMORY) != 1:
+        return None
+    at = found.index(MEMORY)
+    before = Session(lines)
+    before.calls(word[:at])
+    if at >= len(word) or not before.may_want_memory(word[at]):
+        return None
+    session = Session(lines, at)
+    return session if session.calls(word) == found else None
+
+
+def build_refuser(room):
+    """Compiles growths.c, which stands in front of the C library's `malloc`."""
+    path = os.path.join(room, "growths.so")
+    subprocess.run(["cc", "-O1", "-shared", "-fPIC", "-o", path, os.path.join(HERE, "growths.c")], check=True)
+    return path
+
+
+def run(program, words, data, refuser, number, behind_read=False):
+    """Runs a program in which the request of that number is refused, none for 0, and all from N on for `N-`."""
+    environment = {**os.environ, "LD_PRELOAD": refuser, "REFUSED_GROWTH": str(number)}
+    if behind_read:
+        environment["REFUSED_BEHIND_READ"] = "1"
+    return subprocess.run([program, *words], input=data, capture_output=True, timeout=60, env=environment)

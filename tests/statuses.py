@@ -1,0 +1,83 @@
+#!/usr/bin/env python3
+"""Looks at how the real process ends: statuses.py PROGRAM.
+
+For each command: its exit status, and what is on standard output and on standard error, where its words are wrong or
+no text, its input is closed or a folder, and its output is closed, full or a pipe that no one reads.
+"""
+
+import os
+import subprocess
+import sys
+
+HERE = os.path.dirname(os.path.abspath(__file__))
+COMMANDS = ["decode any", "scan any", "scan any 9", "calls any spks"]
+STREAM_START = b"STREAM-START 0:0:0 0:0:0 UTF8\n"
+GOOD = {
+    "decode any": b"TEXT UTF8 1 1:0:1\n",
+    "scan any": STREAM_START + b"SCALAR 0:0:0 1:0:1 plain 61\nSTREAM-END 1:1:0 1:1:0\n",
+    "scan any 9": STREAM_START + b"SCALAR 0:0:0 1:0:1 plain 61\nSTREAM-END 1:1:0 1:1:0\n",
+    "calls any spks": STREAM_START + b"PEEK SCALAR 0:0:0 1:0:1\nSKIP\nSTREAM-END 1:1:0 1:1:0\n",
+}
+READER_FAULT = b"FAULT reader 1 255 invalid leading UTF-8 octet\n"
+FAULTY = dict.fromkeys(COMMANDS, READER_FAULT)
+FAULTY["calls any spks"] = READER_FAULT + b"PEEK NO-TOKEN\nSKIP NOTHING\nNO-TOKEN\n"
+WRONG = [b"", b"decode", b"scan", b"calls", b"decode latin1", b"decode any any", b"scan any 0", b"scan any 65537",
+         b"scan any 07", b"scan any +1", b"scan any ", b"calls any", b"calls any x", b"calls any s s", b"list any",
+         b"\xff any", b"decode \xff", b"scan any \xff", b"calls any s\xff"]
+ARGUMENTS, READ, WRITE = (b"yamltok: " + text + b"\n" for text in (b"wrong arguments", b"read failed", b"write failed"))
+
+
+def run(program, words, data=b"", before=None, **devices):
+    """Runs the program; `before` is done in the new process, as closing one of its files."""
+    if "stdin" not in devices:
+        devices["input"] = data
+    devices.setdefault("stdout", subprocess.PIPE)
+    done = subprocess.run([program, *words], stderr=subprocess.PIPE, preexec_fn=before, timeout=60, **devices)
+    return done.returncode, done.stdout or b"", done.stderr
+
+
+def unread_pipe():
+    """The end of a pipe to write to whose other end is closed."""
+    reading, writing = os.pipe()
+    os.close(reading)
+    return writing
+
+
+def ends(program):
+    """What is looked at: a name, what came, and what is wanted: status, standard output, standard error."""
+    for words in WRONG:
+        yield words, run(program, words.split(b" ") if words else [], b"a"), (2, b"", ARGUMENTS)
+    with open(os.devnull, "rb") as unread:
+        yield "wrong words, no input", run(program, ["scan", "any", "0"], stdin=unread), (2, b"", ARGUMENTS)
+    folder = os.open(HERE, os.O_RDONLY)
+    for command in COMMANDS:
+        words = command.split(" ")
+        yield command, run(program, words, b"a"), (0, GOOD[command], b"")
+        yield f"{command}, a fault", run(program, words, b"a\xff"), (1, FAULTY[command], b"")
+        yield f"{command}, input closed", run(program, words, stdin=None, before=lambda: os.close(0)), (3, b"", READ)
+        yield f"{command}, input a folder", run(program, words, stdin=folder), (3, b"", READ)
+        closed = run(program, words, b"a", stdout=None, before=lambda: os.close(1))
+        yield f"{command}, output closed", closed, (3, b"", WRITE)
+        with open("/dev/full", "wb") as full:
+            yield f"{command}, output full", run(program, words, b"a", stdout=full), (3, b"", WRITE)
+        pipe = unread_pipe()
+        yield f"{command}, output a closed pipe", run(program, words, b"a", stdout=pipe), (3, b"", WRITE)
+        os.close(pipe)
+        closed = run(program, words, stdin=None, stdout=None, before=lambda: (os.close(0), os.close(1)))
+        yield f"{command}, input and output closed", closed, (3, b"", READ)
+    os.close(folder)
+
+
+def main(program):
+    count = wrong = 0
+    for name, found, wanted in ends(program):
+        count += 1
+        if found != wanted:
+            wrong += 1
+            print(f"{name!r}: wanted {wanted}, got {found}")
+    print(f"statuses: {count} ends, {wrong} wrong")
+    return 1 if wrong or not count else 0
+
+
+if __name__ == "__main__":
+    sys.exit(main(sys.argv[1]))
