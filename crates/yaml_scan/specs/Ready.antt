@@ -99,15 +99,15 @@ parser_of p = record {
   input = p.input.now;
   setting = p.setting;
   limit = p.scanner.limit;
-  session = record { taken = p.scanner.taken; steps = p.scanner.made; peeked = p.peeked; over = p.over; fault = option_map fault_of p.fault };
+  session = record { taken = p.scanner.taken; steps = p.scanner.made; peeked = p.session.peeked; over = p.session.over; fault = option_map fault_of p.session.fault };
 }
 
 pub record Sound (p : Inside) : Type 0 where
-  pub ready : p.over ≡ false → IsReady p.setting p.input.now p.scanner
-  pub peeked : p.peeked ≡ true → (p.over ≡ false) × IsShown p.setting p.input.now p.scanner
+  pub ready : p.session.over ≡ false → IsReady p.setting p.input.now p.scanner
+  pub peeked : p.session.peeked ≡ true → (p.session.over ≡ false) × IsShown p.setting p.input.now p.scanner
   pub reach : p.scanner.reach ≡ reach (first_steps p.scanner.made (course_in p.scanner.limit p.setting p.input.now).read)
   pub empty : token_of p.empty ≡ empty
-  pub lead : p.peeked ≡ true → IsLead p.scanner.text.encoding p.scanner.layout.queue (token_of p.lead)
+  pub lead : p.session.peeked ≡ true → IsLead p.scanner.text.encoding p.scanner.layout.queue (token_of p.lead)
   pub limit : p.scanner.limit ≤ 65536
   pub queued : session_queued (course_in p.scanner.limit p.setting p.input.now) (parser_of p).session + p.scanner.layout.queue.done ≡ p.scanner.made
   pub few : session_queued (course_in p.scanner.limit p.setting p.input.now) (parser_of p).session ≤ p.scanner.limit + 1

@@ -29,6 +29,14 @@ use yaml_text::{
 #[cfg(test)]
 mod tests;
 
+/// What the calls so far have come to.
+#[derive(Drop)]
+struct session_t {
+    peeked: bool,
+    over: bool,
+    fault: Option<yaml_fault_t>,
+}
+
 /// A parser of an input: its tokens are asked for one after the other.
 #[derive(Drop)]
 pub struct yaml_parser_t<'a> {
@@ -36,9 +44,7 @@ pub struct yaml_parser_t<'a> {
     input: &'a [u8],
     setting: yaml_encoding_t,
     scanner: scanner_t<'a>,
-    peeked: bool,
-    over: bool,
-    fault: Option<yaml_fault_t>,
+    session: session_t,
     empty: yaml_token_t,
     /// The token that is shown, where the head of the queue hands out one before its own.
     lead: yaml_token_t,
@@ -214,6 +220,23 @@ pub(crate) fn is_stream_end(token: &yaml_token_t) -> bool
     matches!(token.token_data, unnamed_yaml_token_t_data::STREAM_END)
 }
 
+/// Goes on behind a token that was taken: with the stream end the session is over.
+fn pass(session: &mut session_t, token: &yaml_token_t)
+    ensures { session.new ≡ record { peeked = false; over = is_last_type (type_of (data_of token.now.token_data)); fault = session.old.fault } }
+{
+    session.peeked = false;
+    session.over = is_stream_end(token);
+}
+
+/// Ends the session with a fault.
+fn end(session: &mut session_t, fault: yaml_fault_t)
+    ensures { session.new ≡ record { peeked = false; over = true; fault = Some fault } }
+{
+    session.peeked = false;
+    session.over = true;
+    session.fault = Some(fault);
+}
+
 impl<'a> yaml_parser_t<'a> {
     /// A parser of the input, with a key limit of 1,024 bytes.
     pub fn new(alloc: Global, input: &'a [u8], setting: yaml_encoding_t) -> yaml_parser_t<'a>
@@ -238,9 +261,11 @@ impl<'a> yaml_parser_t<'a> {
             input,
             setting,
             scanner: new_scanner(alloc, limit as u64),
-            peeked: false,
-            over: false,
-            fault: None,
+            session: session_t {
+                peeked: false,
+                over: false,
+                fault: None,
+            },
             empty: yaml_token_t::empty(),
             lead: yaml_token_t::empty(),
         }
@@ -251,7 +276,7 @@ impl<'a> yaml_parser_t<'a> {
 fn shown<'s>(parser: &'s yaml_parser_t<'_>) -> &'s yaml_token_t
     ensures { token_of result.now ≡ token_shown parser.now }
 {
-    if !parser.peeked {
+    if !parser.session.peeked {
         &parser.empty
     } else if has_lead(&parser.scanner.layout.queue) {
         &parser.lead
@@ -266,7 +291,7 @@ ghost use Rattle.yaml_scan.specs.Parser.{token_shown};
 pub(crate) fn show(parser: &mut yaml_parser_t) -> Result<(), yaml_fault_t>
     ensures { Shows parser.old result parser.new }
 {
-    if parser.over {
+    if parser.session.over {
         return Ok(());
     }
     match look(
@@ -274,17 +299,15 @@ pub(crate) fn show(parser: &mut yaml_parser_t) -> Result<(), yaml_fault_t>
         &mut parser.scanner,
         parser.input,
         parser.setting,
-        parser.peeked,
+        parser.session.peeked,
     ) {
         Ok(_) => {
             parser.lead = lead(&parser.scanner.layout.queue);
-            parser.peeked = true;
+            parser.session.peeked = true;
             Ok(())
         }
         Err(fault) => {
-            parser.peeked = false;
-            parser.over = true;
-            parser.fault = Some(fault);
+            end(&mut parser.session, fault);
             Err(fault)
         }
     }
@@ -299,8 +322,7 @@ fn take_shown(parser: &mut yaml_parser_t) -> yaml_token_t
     ensures left { parser.new ≡ behind parser.old SKIP }
 {
     let token = take_head(&mut parser.scanner);
-    parser.peeked = false;
-    parser.over = is_stream_end(&token);
+    pass(&mut parser.session, &token);
     token
 }
 
@@ -319,7 +341,7 @@ pub fn yaml_parser_scan(parser: &mut yaml_parser_t) -> Result<yaml_token_t, yaml
     ensures local { IsAnsweredAlike parser.old SCAN (told result) }
     ensures marks { IsCountedIn parser.old (told result) }
 {
-    if parser.over {
+    if parser.session.over {
         return Ok(yaml_token_t::empty());
     }
     match look(
@@ -327,18 +349,15 @@ pub fn yaml_parser_scan(parser: &mut yaml_parser_t) -> Result<yaml_token_t, yaml
         &mut parser.scanner,
         parser.input,
         parser.setting,
-        parser.peeked,
+        parser.session.peeked,
     ) {
         Ok(_) => {
             let token = take_head(&mut parser.scanner);
-            parser.peeked = false;
-            parser.over = is_stream_end(&token);
+            pass(&mut parser.session, &token);
             Ok(token)
         }
         Err(fault) => {
-            parser.peeked = false;
-            parser.over = true;
-            parser.fault = Some(fault);
+            end(&mut parser.session, fault);
             Err(fault)
         }
     }
@@ -386,14 +405,14 @@ pub fn yaml_parser_has_token(parser: &yaml_parser_t) -> bool
     ensures peeked { result ≡ parser.now.session.peeked }
     ensures next { HasNext parser.now }
 {
-    parser.peeked
+    parser.session.peeked
 }
 
 /// The fault that has ended the session, if one has: of kind reader, scanner or memory.
 pub fn yaml_parser_fault<'s>(parser: &'s yaml_parser_t<'_>) -> Option<&'s yaml_fault_t>
     ensures { option_map (λ f. fault_of f.now) result ≡ parser.now.session.fault }
 {
-    parser.fault.as_ref()
+    parser.session.fault.as_ref()
 }
 
 ghost use Rattle.std.specs.Prelude.{option_map};

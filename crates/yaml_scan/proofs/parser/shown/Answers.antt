@@ -18,11 +18,11 @@ returns-then-has_lead c = let i = c.parser.inside in let s = i.scanner in
     let k = (c.parser.invariant.peeked c.if-not-parser.false).1 in
     let l : 0 < length (pending s.layout.queue.early s.layout.queue.front s.layout.queue.groups.items) = ltb-true _ _ (sym c.has_lead.ensures ∙ c.if-has_lead.true) in
     head_shown i.setting i.input.now s k (token_of i.lead) (lead_first s.text.encoding s.layout.queue (drop s.taken (offline (history s))) (token_of i.lead) k.stands.runs.holds.queue (c.parser.invariant.lead c.if-not-parser.false) l)
-    i.peeked i.over (option_map fault_of i.fault) c.if-not-parser.false c.args.parser.now (sym c.parser.view_is)
+    i.session.peeked i.session.over (option_map fault_of i.session.fault) c.if-not-parser.false c.args.parser.now (sym c.parser.view_is)
 
 pub returns-else-has_lead : goal.returns-else-has_lead
 returns-else-has_lead c = let i = c.parser.inside in let s = i.scanner in
     let k = (c.parser.invariant.peeked c.if-not-parser.false).1 in
     let l : length (pending s.layout.queue.early s.layout.queue.front s.layout.queue.groups.items) ≤ 0 = ltb-false _ _ (sym c.has_lead.ensures ∙ c.if-has_lead.false) in
     head_shown i.setting i.input.now s k (token_of c.unwrap.result.now.token) (token_first s.text.encoding s.layout.queue (drop s.taken (offline (history s))) c.unwrap.result.now k.stands.runs.holds.queue (groups_some s k.stands.runs k.settled) (rw c.unwrap.ensures at c.front.ensures.lookup) l)
-    i.peeked i.over (option_map fault_of i.fault) c.if-not-parser.false c.args.parser.now (sym c.parser.view_is)
+    i.session.peeked i.session.over (option_map fault_of i.session.fault) c.if-not-parser.false c.args.parser.now (sym c.parser.view_is)

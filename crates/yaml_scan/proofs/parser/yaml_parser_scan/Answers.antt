@@ -3,7 +3,7 @@ use Rattle.std.specs.Prelude.{option_map}
 use Rattle.std.proofs.lemmas.Bool.{false≢true}
 use Rattle.yaml_text.specs.Fault.{fault_of}
 use Rattle.yaml_text.specs.Token.{token_of}
-use Rattle.yaml_scan.specs.Token.{yaml_token_t}
+use Rattle.yaml_scan.specs.Token.{yaml_token_t, is_last_type, type_of}
 use Rattle.yaml_scan.specs.Session.Answer.{TOKEN}
 use Rattle.yaml_scan.specs.Parser.{Parser, Calls, Scans, told}
 use Rattle.yaml_scan.specs.Ready.{parser_of, IsShown}
@@ -23,8 +23,8 @@ invariant_of-parser c = let i = c.parser.inside in let v = c.parser.invariant in
     let b = stands_u i.setting i.input.now t t u x k p in
     let n = keeps_settled i.setting i.input.now i.scanner t g (stands_ready i.setting i.input.now i.scanner (v.ready c.if-parser.false)) i.scanner.layout.queue.done (record { queued = v.queued; few = v.few }) in
     let w = keeps_taken i.setting i.input.now t u x p b u.layout.queue.done i.scanner.layout.queue.done n (done_is u p.runs) in
-    record {
-      ready = λ n. inr (b, open_u i.setting i.input.now t t u x k p (sym (last_is i.setting i.input.now t t u x k p) ∙ sym c.is_stream_end-parser-inside.ensures ∙ n));
+    rw c.pass.ensures (record {
+      ready = λ n. inr (b, open_u i.setting i.input.now t t u x k p (sym (last_is i.setting i.input.now t t u x k p) ∙ n));
       peeked = λ n. absurd (false≢true n);
       lead = λ n. absurd (false≢true n);
       reach = reach_in i.setting i.input.now u b;
@@ -32,12 +32,12 @@ invariant_of-parser c = let i = c.parser.inside in let v = c.parser.invariant in
       limit = (let a = v.limit in let b = p.limit in let d = g.limit in omega arith);
       queued = w.queued;
       few = w.few;
-    }
+    })
 
 pub invariant_of-parser-in-Err : goal.invariant_of-parser-in-Err
 invariant_of-parser-in-Err c = let i = c.parser.inside in let v = c.parser.invariant in let k = c.in-Err.ensures.1 in
     let w = keeps_stopped i.setting i.input.now i.scanner c.look.new.scanner k (stands_ready i.setting i.input.now i.scanner (v.ready c.if-parser.false)) i.scanner.layout.queue.done (record { queued = v.queued; few = v.few }) in
-    record {
+    rw c.end.ensures (record {
       ready = λ n. absurd (false≢true (sym n));
       peeked = λ n. absurd (false≢true n);
       lead = λ n. absurd (false≢true n);
@@ -46,7 +46,7 @@ invariant_of-parser-in-Err c = let i = c.parser.inside in let v = c.parser.invar
       limit = (let a = v.limit in let b = k.limit in omega arith);
       queued = (let a = w.queued in let b = k.done in omega arith);
       few = w.few;
-    }
+    })
 
 pub returns-in-Ok : goal.returns-in-Ok
 returns-in-Ok c = let i = c.parser.inside in let g = c.in-Ok.ensures in
@@ -55,21 +55,21 @@ returns-in-Ok c = let i = c.parser.inside in let g = c.in-Ok.ensures in
     let o = sym (ap (λ (p : Parser). p.session.over) c.parser.view_is) ∙ c.if-parser.false in
     let h : IsShown i.setting i.input.now t = record { stands = g.stands; still_open = g.still_open; settled = g.settled } in
     let k = shown_settled i.setting i.input.now t h in
-    let fault = option_map fault_of i.fault in
+    let fault = option_map fault_of i.session.fault in
     let q : Parser = record { input = i.input.now; setting = i.setting; limit = t.limit; session = record { taken = t.taken; steps = t.made; peeked = true; over = false; fault = fault } } in
-    let s = show_token i.setting i.input.now i.scanner t g i.peeked fault c.args.parser.now (e ∙ open_session (parser_of i) c.if-parser.false) false refl in
-    let r : Parser = record { input = i.input.now; setting = i.setting; limit = u.limit; session = record { taken = u.taken; steps = u.made; peeked = false; over = c.is_stream_end-parser-inside.result; fault = fault } } in
-    let a : Calls SCAN c.args.parser.now (TOKEN x) r = scan_shown c.args.parser.now q o x r s (take_told_of i.setting i.input.now t t u x k p refl fault q refl) (take_left_of i.setting i.input.now t t u x k p refl fault q refl c.is_stream_end-parser-inside.result c.is_stream_end-parser-inside.ensures) in
-    record { answers = a; bare = bare SCAN c.args.parser.now (TOKEN x) r a; early = early SCAN c.args.parser.now (TOKEN x) r a; local = scanned_alike c.args.parser.now (TOKEN x) r a; marks = call_is_counted SCAN c.args.parser.now (TOKEN x) r a }
+    let s = show_token i.setting i.input.now i.scanner t g i.session.peeked fault c.args.parser.now (e ∙ open_session (parser_of i) c.if-parser.false) false refl in
+    let r : Parser = record { input = i.input.now; setting = i.setting; limit = u.limit; session = record { taken = u.taken; steps = u.made; peeked = false; over = is_last_type (type_of x.token_data); fault = fault } } in
+    let a : Calls SCAN c.args.parser.now (TOKEN x) r = scan_shown c.args.parser.now q o x r s (take_told_of i.setting i.input.now t t u x k p refl fault q refl) (take_left_of i.setting i.input.now t t u x k p refl fault q refl (is_last_type (type_of x.token_data)) refl) in
+    rw c.pass.ensures (record { answers = a; bare = bare SCAN c.args.parser.now (TOKEN x) r a; early = early SCAN c.args.parser.now (TOKEN x) r a; local = scanned_alike c.args.parser.now (TOKEN x) r a; marks = call_is_counted SCAN c.args.parser.now (TOKEN x) r a })
 
 pub returns-in-Err : goal.returns-in-Err
 returns-in-Err c = let i = c.parser.inside in let f = c.in-Err.ensures in let t = c.look.new.scanner in
     let e : c.args.parser.now ≡ parser_of i = sym c.parser.view_is in
     let o = sym (ap (λ (p : Parser). p.session.over) c.parser.view_is) ∙ c.if-parser.false in
     let r : Parser = record { input = i.input.now; setting = i.setting; limit = t.limit; session = record { taken = t.taken; steps = t.made; peeked = false; over = true; fault = Some (fault_of c.in-Err.fault) } } in
-    let s = show_fault_of i.setting i.input.now i.scanner t i.peeked (option_map fault_of i.fault) c.in-Err.fault f.1 c.args.parser.now (e ∙ open_session (parser_of i) c.if-parser.false) f.0 f.2 in
+    let s = show_fault_of i.setting i.input.now i.scanner t i.session.peeked (option_map fault_of i.session.fault) c.in-Err.fault f.1 c.args.parser.now (e ∙ open_session (parser_of i) c.if-parser.false) f.0 f.2 in
     let a : Scans c.args.parser.now (Err c.in-Err.fault) r = scan_not_shown c.args.parser.now r o c.in-Err.fault s in
-    record { answers = a; bare = bare SCAN c.args.parser.now (told (Err c.in-Err.fault)) r a; early = early SCAN c.args.parser.now (told (Err c.in-Err.fault)) r a; local = scanned_alike c.args.parser.now (told (Err c.in-Err.fault)) r a; marks = call_is_counted SCAN c.args.parser.now (told (Err c.in-Err.fault)) r a }
+    rw c.end.ensures (record { answers = a; bare = bare SCAN c.args.parser.now (told (Err c.in-Err.fault)) r a; early = early SCAN c.args.parser.now (told (Err c.in-Err.fault)) r a; local = scanned_alike c.args.parser.now (told (Err c.in-Err.fault)) r a; marks = call_is_counted SCAN c.args.parser.now (told (Err c.in-Err.fault)) r a })
 
 pub returns-then-parser-clause-local : goal.returns-then-parser-clause-local
 returns-then-parser-clause-local c =
