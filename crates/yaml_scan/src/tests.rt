@@ -1,9 +1,6 @@
 use super::*;
 use std::test::Fail;
-use yaml_text::{
-    make_memory_fault, yaml_encoding_t, yaml_error_type_t, yaml_fault_t, yaml_mark_t,
-    yaml_token_type_t,
-};
+use yaml_text::{yaml_encoding_t, yaml_error_type_t, yaml_fault_t, yaml_mark_t, yaml_token_type_t};
 
 #[test]
 fn first_tokens(rt: HostRuntime) -> Result<(), Fail> {
@@ -120,12 +117,19 @@ fn a_candidate_keeps_tokens_in_the_queue(rt: HostRuntime) -> Result<(), Fail> {
 fn a_refused_text(rt: HostRuntime) -> Result<(), Fail> {
     let any = yaml_encoding_t::YAML_ANY_ENCODING;
     let mut parser = yaml_parser_t::new(rt.alloc(), b"a\xFF", any);
+    let start = yaml_mark_t {
+        index: 0,
+        line: 0,
+        column: 0,
+    };
     let want = yaml_fault_t {
         error: yaml_error_type_t::YAML_READER_ERROR,
         problem: Some("invalid leading UTF-8 octet"),
         problem_offset: 1,
         problem_value: 255,
-        ..make_memory_fault()
+        problem_mark: start,
+        context: None,
+        context_mark: start,
     };
     assert_eq!(rt; yaml_parser_scan(&mut parser).err(), Some(want));
     assert_eq!(rt; yaml_parser_fault(&parser).copied(), Some(want));
