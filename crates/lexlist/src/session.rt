@@ -8,10 +8,10 @@ use std::alloc::{AllocError, Global};
 use std::io;
 use std::io::{Read, Write};
 use yaml_scan::{
-    unnamed_yaml_token_t_data, yaml_answer_t, yaml_call_t, yaml_decode,
-    yaml_encoding_t, yaml_fault_t, yaml_mark_t, yaml_parser_fault, yaml_parser_has_token,
-    yaml_parser_mark, yaml_parser_peek, yaml_parser_queued, yaml_parser_scan, yaml_parser_skip,
-    yaml_parser_t, yaml_run, yaml_scan_all_limit, yaml_token_t,
+    unnamed_yaml_token_t_data, yaml_answer_t, yaml_call_t, yaml_decode, yaml_encoding_t,
+    yaml_fault_t, yaml_mark_t, yaml_parser_fault, yaml_parser_has_token, yaml_parser_mark,
+    yaml_parser_peek, yaml_parser_queued, yaml_parser_scan, yaml_parser_skip, yaml_parser_t,
+    yaml_run, yaml_scan_all_limit, yaml_token_t,
 };
 
 /// What is behind so many bytes of an input is not read.
