@@ -28,7 +28,7 @@ column cs = prefix_len (λ c. not (is_break c)) (reverse cs)
 abbrev pub mark_of : List ℕ → yaml_mark_t
 mark_of before = record { index = length (utf8 before); line = breaks before; column = column before }
 
--- The mark after the character c, if the characters after follow.
+-- The mark after one character c more, which the characters `after` follow.
 abbrev pub mark_behind : yaml_mark_t → ℕ → List ℕ → yaml_mark_t
 mark_behind m c after = if ends_break c after then record { index = m.index + len_utf8 c; line = m.line + 1; column = 0 } else record { index = m.index + len_utf8 c; line = m.line; column = m.column + 1 }
 
