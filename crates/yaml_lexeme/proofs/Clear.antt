@@ -11,12 +11,12 @@ use Rattle.yaml_lexeme.proofs.Places.{skip_none, skip_skip, length_skip}
 use Rattle.yaml_lexeme.specs.Order.{IsAhead}
 use Rattle.yaml_lexeme.specs.Place.{Place, first, peek, skip, run_len, behind, break_len}
 
--- CR and LF of one break stand on the two sides of the place behind n of the characters
+-- CR and LF of one break are on the two sides of the place after n of the characters
 abbrev pub parts : List ℕ → ℕ → Bool
 parts cs zero = false
 parts cs (suc n) = is_crlf (slice_index cs n) (slice_index cs (suc n))
 
--- q is ahead of p, and if it is further on it parts no CR LF
+-- q is ahead of p, and if it is further on it is not between CR and LF
 pub record Clear (p q : Place) : Type 0 where
   pub count : ℕ
   pub within : count ≤ length p.rest
@@ -71,7 +71,7 @@ clear_skip k p h =
 pub no_return : (c d : ℕ) → (c == 0x0D) ≡ false → is_crlf c d ≡ false
 no_return c d h = grind (arith, nat_tests)
 
--- behind a character that is not CR
+-- after a character that is not CR
 pub clear_behind : (k : ℕ) (p : Place) → (peek p k == 0x0D) ≡ false → Clear p (skip (suc k) p)
 clear_behind k p h = clear_skip (suc k) p (no_return (peek p k) (peek p (suc k)) h)
 
@@ -144,7 +144,7 @@ break_one : (b : Bool) (p : Place) → is_crlf (first p) (peek p 1) ≡ false �
 break_one true p h = clear_skip 1 p h
 break_one false p h = clear_skip 0 p refl
 
--- behind a break
+-- after a break
 pub clear_break : (p : Place) → Clear p (skip (break_len p) p)
 clear_break p =
     elim (cases_Bool (first p == 0x0D && peek p 1 == 0x0A)) [
