@@ -76,7 +76,7 @@ pub encoding_in : (setting : yaml_encoding_t) (input : List ℕ) → (decoded_in
 unfolding decoded_input front
 encoding_in setting input = refl
 
--- the first step is one, where no reader's fault has replaced it
+-- the first step is one, if no reader's fault has replaced it
 pub begun_in : (limit : ℕ) (setting : yaml_encoding_t) (input : List ℕ) (text : Text) → text ≡ front setting input → (r : Option Fault) → r ≡ refusal setting input → (near : ℕ) → IsNearFrom text.chars near → near_fault near 0 r ≡ None → (course_in limit setting input).begun ≡ true
 begun_in limit setting input text T r R near N e = begun_course limit setting input text T r R near N e
 

@@ -166,7 +166,7 @@ module _ (cs : List ℕ) where
         let k = S.kind (nat_lt 0 (depth H)) p in
         unless_marked (stale limit H (S.mark p)) (S.mark p) p (kind_step S limit H p k) (stale_counts limit H (S.mark p) a) (inl (s.mark p w)) (kind_marked p k w refl)
 
-  -- near the end the reader's fault stands in for it
+  -- near the end the reader's fault comes instead
   near_marked : (size : ℕ) (r : Option Fault) (o : Outcome) → IfSome r (FaultIsCounted cs) → OutcomeMarked o → OutcomeMarked (unless_near size r o)
   near_marked size None o t u = u
   near_marked size (Some f) o t u = cases (is_near size (place_of o))
