@@ -83,7 +83,7 @@ added (b ∷ bs) out column =
     added bs (out ++ encode_utf8 b.break) (max column b.column)
     ∙ ap (λ (xs : List ℕ). (xs, fold_list max (max column b.column) (map (λ b. b.column) bs))) (append_assoc out (encode_utf8 b.break) (utf8 (map (λ b. b.break) bs)))
 
--- Empty lines are being read: those up to p are, and its block_indent, up to q.
+-- Empty lines are being read: those up to p are, and the indentation there, up to q.
 pub record Blanking (limit : Option ℕ) (start : Place) (old : List ℕ) (q : Place) (out : List ℕ) (column : ℕ) (end : yaml_mark_t) : Type 0 where
   pub line : Place
   pub indent : after_indent limit line ≡ Ok q
@@ -114,7 +114,7 @@ blanks_is : (limit : Option ℕ) (p : Place) → blank_lines limit p ≡ after_b
 unfolding blank_lines
 blanks_is limit p = refl
 
--- an block_indent is refused
+-- indentation is refused
 pub blanks_refused : (limit : Option ℕ) (start p : Place) (old : List ℕ) (s : State) (o : Offence) → gather add_blank s (many (blank_line limit) p) ≡ gather add_blank (old, 0) (many (blank_line limit) start)
     → after_indent limit p ≡ Err o → blank_lines limit start ≡ Err o
 blanks_refused limit start p old s o h e =

@@ -1,4 +1,4 @@
--- Reading ahead to places that part no CR LF.
+-- Reading ahead to places that are not between CR and LF.
 use Rattle.std.proofs.Common.{◌≡◌, ℕ, zero, suc, ◌+◌, ◌-◌, ◌≤◌, Bool, true, false, cond, ◌==◌, ◌&&◌, if◌then◌else◌, inl, inr, List, [], ◌∷◌, length, slice_index, refl, sym, ap, ◌∙◌, arith, get_or-drop}
 use Rattle.std.proofs.lemmas.Bool.{cases_Bool, cases_lt}
 use Rattle.std.proofs.lemmas.Bool.Decides.{nat_tests}
@@ -55,7 +55,7 @@ clear_ahead p q a = record { count = a.count; least = omega arith; within = a.wi
 not_crlf : (c d : ℕ) → d ≡ 0 → is_crlf c d ≡ false
 not_crlf c d e = grind (arith, nat_tests)
 
--- at the end nothing is parted
+-- the end is not between CR and LF
 pub end_whole : (n : ℕ) (cs : List ℕ) → length cs ≤ n → parts cs n ≡ false
 end_whole zero cs h = refl
 end_whole (suc n) cs h = not_crlf (slice_index cs n) (slice_index cs (suc n)) (get_or_past cs (suc n) 0 h)
@@ -82,7 +82,7 @@ pub clear_if : (b : Bool) {p q r : Place} → (b ≡ true → Clear p q) → (b 
 clear_if true {p} {q} {r} a b = a refl
 clear_if false {p} {q} {r} a b = b refl
 
--- a run with this test ends within no CR LF
+-- a run with this test does not end between CR and LF
 abbrev pub IsSure : (ℕ → Bool) → Type 0
 IsSure test = (c d : ℕ) → test c ≡ true → test d ≡ false → is_crlf c d ≡ false
 

@@ -26,7 +26,7 @@ and_none : (b : Bool) → (b && false) ≡ false
 and_none true = refl
 and_none false = refl
 
--- a blank at the end falls away
+-- a blank at the end is dropped
 pub trim_blank : (xs : List ℕ) (b : ℕ) → is_blank b ≡ true → trim (xs ++ b ∷ []) ≡ trim xs
 trim_blank [] b h = rw h refl
 trim_blank (x ∷ xs) b h =

@@ -67,7 +67,7 @@ behind_more : (p : Parser) (calls : List Call) (call : Call) → behind (behind_
 unfolding course_read
 behind_more p calls call = ap (λ (z : Session). record { input = p.input; setting = p.setting; limit = p.limit; session = z }) (sym (after_more p.limit (course_read p) calls call p.session))
 
--- if the session is over, a call answers nothing, and changes nothing
+-- if the session is over, the answer to a call is idle, and the call changes nothing
 idle_answer : (q : Parser) (call : Call) → q.session.over ≡ true → q.session.peeked ≡ false → seen (answered q call) ≡ idle call
 idle_answer q SCAN o p = rw o refl
 idle_answer q PEEK o p = rw o refl

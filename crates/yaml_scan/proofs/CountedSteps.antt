@@ -1,4 +1,4 @@
--- The marks of the lexemes and the fault that an input comes to are counted, or are those of the end of a stream.
+-- The marks of an input's lexemes and of its fault are counted, or are those of the end of a stream.
 use Rattle.std.proofs.Common.{◌≡◌, ℕ, zero, suc, ◌+◌, Bool, true, false, List, [], ◌∷◌, ◌++◌, Option, Some, None, Ok, Err, refl, sym, subst, arith, inl, inr}
 use Rattle.std.specs.Prelude.{◌⊎◌, ◌&&◌, Result, nat_lt, nat_eq, option_map, IfSome, if◌then◌else◌}
 use Rattle.std.proofs.lemmas.Bool.{cases_Bool}

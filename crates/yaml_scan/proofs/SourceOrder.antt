@@ -160,7 +160,7 @@ module _ (cs : List ℕ) where
   pub count_at : (p : ℕ) → p ≤ length cs → count_to (length cs) (place_at cs p) ≡ p
   count_at p l = let r = rest_length p in omega arith
 
-  -- the place to which one goes
+  -- the place that is reached
   record IsThere (p n : ℕ) (q : Place) : Type 0 where
     count : ℕ
     is : q ≡ place_at cs count
@@ -184,7 +184,7 @@ module _ (cs : List ℕ) where
       let s = length_skip k (place_at cs p) in
       (omega arith, omega arith)
 
-  -- what one comes to is the place that is counted
+  -- the place that is reached is the one that is counted
   at_count : (p k : ℕ) (q : Place) → p ≤ length cs → q ≡ skip k (place_at cs p) → q ≡ place_at cs (count_to (length cs) q)
   at_count p k q l e =
       let r = rest_length p in

@@ -49,7 +49,7 @@ pub record TakesOn (tokens : List yaml_token_t) (n : ℕ) (answers : List Seen) 
   pub idle : ℕ
   pub answers_are : taken_told answers ≡ says ++ replicate idle (Some empty)
 
--- the answers say the next tokens of the input's list, as many as the count of the parser's session
+-- the answers say that the next tokens of the input's list were taken, as many as the count of the parser's session
 -- grows by
 abbrev pub TakesNext : Parser → List Seen → Parser → Type 0
 TakesNext p answers q =

@@ -84,7 +84,7 @@ IsPlace text index = (p : ℕ) × IsPlaceAt text index p
 abbrev pub mark_at : List ℕ → ℕ → yaml_mark_t
 mark_at text p = mark_of (take p text)
 
--- the same by the bytes: no character and no CR LF goes over the index
+-- the same by the bytes: the index is not within a character or a CR LF
 abbrev pub is_place_by : List ℕ → ℕ → Bool
 is_place_by bytes index = (nat_le index (length bytes) && not (continues (slice_index bytes index))) && not (nat_lt 0 index && is_crlf_at bytes (index - 1))
 
