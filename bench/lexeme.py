@@ -1,5 +1,5 @@
 #!/usr/bin/env python3
-"""Measures the readers of lexemes beside libyaml's scanner and a plain copy, on one core, best and median of nine.
+"""Compares the speed of the readers of lexemes with libyaml's scanner and a plain copy, on one core, best and median of nine.
 
 lexeme.py needs the program lexlist as the gate builds it (crates/lexlist/out/lexlist), a C compiler and libyaml's header
 (Debian: libyaml-dev). Texts of about 1 MB are made anew each time, from a fixed seed.

@@ -1,4 +1,4 @@
-/* Scans each file nine times with libyaml, or fewer where that takes more than 20 seconds, and says how long the best and the
+/* Scans each file nine times with libyaml, or fewer if that takes more than 20 seconds, and says how long the best and the
    median took, in nanoseconds, beside a copy of its bytes: libyaml_scan FILE.. prints, for each, bytes, tokens, best, median,
    best copy. */
 #include <stdio.h>

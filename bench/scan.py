@@ -1,9 +1,9 @@
 #!/usr/bin/env python3
-"""Measures the proved scanner beside libyaml's, on the same bytes and one core, best and median of nine.
+"""Compares the speed of the proved scanner with libyaml's, on the same bytes and one core, best and median of nine.
 
 scan.py needs the program lexlist as the gate builds it (crates/lexlist/out/lexlist), a C compiler and libyaml's header
 (Debian: libyaml-dev). Each scans a text from memory to its end or its fault and throws the tokens away; nothing is listed.
-scan.py FILE.. measures those files in place of its own texts.
+scan.py FILE.. measures those files instead of its own texts.
 """
 
 import os

@@ -1,5 +1,5 @@
 /* list [ENC [LIMIT]] < FILE: lists the tokens of a file, one a line, as `./run scan ENC LIMIT` does.
- * An example of yaml_c.h. The exit status is 0, 1 where there is a fault, 2 for wrong words, 3 where memory is wanted. */
+ * An example of yaml_c.h. The exit status is 0, 1 if there is a fault, 2 for wrong words, 3 if memory is refused. */
 #include "yaml_c.h"
 
 #include <inttypes.h>
@@ -23,7 +23,7 @@ struct scanned {
     uint32_t status;
 };
 
-/* Reads standard input to its end; NULL where memory is wanted. */
+/* Reads standard input to its end; NULL if memory is refused. */
 static uint8_t *read_all(size_t *len) {
     size_t room = 1 << 12;
     uint8_t *bytes = malloc(room);
@@ -40,7 +40,7 @@ static uint8_t *read_all(size_t *len) {
     return NULL;
 }
 
-/* Scans, with rooms that grow until all fits. At the end tokens or texts are NULL where memory is wanted. */
+/* Scans, with rooms that grow until all fits. At the end tokens or texts are NULL if memory was refused. */
 static struct scanned scan_all(const uint8_t *input, size_t len, uint32_t setting, uint32_t limit) {
     struct scanned s = {NULL, NULL, {0}, 0};
     size_t tokens_len = len / 12 + 16, texts_len = len + 256;

@@ -1,5 +1,5 @@
 //! list [ENC [LIMIT]] < FILE: lists the tokens of a file, one a line, as `./run scan ENC LIMIT` does.
-//! An example of scanner.rs. The exit status is 0, 1 where there is a fault, 2 for wrong words.
+//! An example of scanner.rs. The exit status is 0, 1 if there is a fault, 2 for wrong words.
 mod scanner;
 
 use scanner::{Data, Encoding, Fault, Mark, Scanner, Style, Token};
@@ -54,7 +54,7 @@ fn style_word(style: Style) -> &'static str {
     }
 }
 
-/// A token's line: its type, where it starts and ends, and what else it says.
+/// A token's line: its type, the marks of its start and end, and what else it says.
 fn line(token: Token) -> String {
     let words = words(token.data);
     let (name, rest) = words.split_at(words.find(' ').unwrap_or(words.len()));

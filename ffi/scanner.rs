@@ -15,11 +15,11 @@ use std::fmt;
 #[repr(C)]
 #[derive(Clone, Copy, Debug, Default, PartialEq, Eq)]
 pub struct Mark {
-    /// Bytes that stand before it.
+    /// How many bytes come before it.
     pub index: u64,
-    /// Line breaks that end before it.
+    /// How many line breaks end before it.
     pub line: u64,
-    /// Characters since the last line break.
+    /// How many characters come between the last of these breaks and it.
     pub column: u64,
 }
 
@@ -66,7 +66,7 @@ unsafe extern "C" {
     ) -> u32;
 }
 
-/// How bytes spell a text. `Any` is for a setting alone: a byte order mark tells, and without one it is UTF-8.
+/// How bytes spell a text. `Any` is for a setting only: a byte order mark decides; without one it is UTF-8.
 #[derive(Clone, Copy, Debug, PartialEq, Eq)]
 pub enum Encoding {
     Any,
@@ -85,7 +85,7 @@ pub enum Style {
     Folded,
 }
 
-/// What a token says. Texts are UTF-8, but for what a tag or a `%TAG` directive writes by `%`.
+/// What a token says. Texts are UTF-8, except what a tag or a `%TAG` directive writes by `%`.
 #[derive(Clone, Copy, Debug, PartialEq, Eq)]
 pub enum Data<'a> {
     StreamStart { encoding: Encoding },
@@ -111,7 +111,7 @@ pub enum Data<'a> {
     Scalar { value: &'a [u8], style: Style },
 }
 
-/// A token, with the marks where it starts and behind its last character.
+/// A token, with the mark of its start and the mark after its last character.
 #[derive(Clone, Copy, Debug, PartialEq, Eq)]
 pub struct Token<'a> {
     pub data: Data<'a>,
@@ -122,12 +122,12 @@ pub struct Token<'a> {
 /// Why an input was refused.
 #[derive(Clone, Debug, PartialEq, Eq)]
 pub enum Fault {
-    /// The scanner found no memory: the tokens are a beginning of all tokens.
+    /// Memory was refused: the tokens are a beginning of all tokens.
     Memory,
     /// The bytes are no text. The offset counts bytes of the input; the value is the octet, unit or code point that is
     /// wrong, or -1.
     Reader { problem: String, offset: u64, value: i32 },
-    /// No token can stand there. The context is what was being read, from its mark on.
+    /// No token can be read there. The context is what was being read, from its mark on.
     Scanner { problem: String, mark: Mark, context: Option<String>, context_mark: Mark },
 }
 
@@ -161,14 +161,14 @@ impl Scanner {
         Scanner::with(input, Encoding::Any, 1024).expect("1,024 is a key limit")
     }
 
-    /// Scans an input in an encoding, with a key limit in bytes; `None` where the limit is not one of 1 to 65,536.
+    /// Scans an input in an encoding, with a key limit in bytes; `None` if the limit is not from 1 to 65,536.
     pub fn with(input: &[u8], encoding: Encoding, limit: u32) -> Option<Scanner> {
         let mut records = vec![Record::default(); input.len() / 12 + 16];
         let mut texts = vec![0; input.len() + 256];
         loop {
             let mut answer = Answer::default();
             // SAFETY: each pointer and length is of one live slice, initialised, apart from the others and not null, and
-            // `answer` is a place of its own.
+            // `answer` is a value of its own.
             let status = unsafe {
                 yaml_c_scan_all(
                     input.as_ptr(),
@@ -203,7 +203,7 @@ impl Scanner {
         Tokens { records: self.records.iter(), texts: &self.texts }
     }
 
-    /// The fault behind the tokens, or `None` where the stream ended.
+    /// The fault after the tokens, or `None` if the stream ended.
     pub fn fault(&self) -> Option<&Fault> {
         self.fault.as_ref()
     }

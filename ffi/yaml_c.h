@@ -21,13 +21,13 @@ extern "C" {
 
 /* A place in the text. Whatever the encoding of the input, the index counts bytes of the text in UTF-8. */
 struct yaml_c_mark {
-    uint64_t index;  /* bytes that stand before it */
-    uint64_t line;   /* line breaks that end before it */
-    uint64_t column; /* characters since the last line break */
+    uint64_t index;  /* how many bytes come before it */
+    uint64_t line;   /* how many line breaks end before it */
+    uint64_t column; /* how many characters come between the last of these breaks and it */
 };
 
-/* A token. Its texts are bytes in the room for texts, with no 0 behind them. They are UTF-8, but for what a tag or a %TAG
- * directive writes by `%`, which may be any bytes. The second stands right behind the first. */
+/* A token. Its texts are bytes in the room for texts, with no 0 after them. They are UTF-8, except what a tag or a %TAG
+ * directive writes by `%`, which may be any bytes. The second follows right after the first. */
 struct yaml_c_token {
     uint32_t token_type;           /* a number of yaml_c_token_type */
     uint32_t detail;               /* SCALAR: a number of yaml_c_scalar_style; STREAM_START: of yaml_c_encoding; otherwise 0 */
@@ -36,22 +36,22 @@ struct yaml_c_token {
     uint64_t text_at;              /* the first text is texts[text_at] to texts[text_at + first_len - 1] */
     uint64_t first_len;            /* TAG_DIRECTIVE, TAG: the handle; ALIAS, ANCHOR: the name; SCALAR: the value; otherwise 0 */
     uint64_t second_len;           /* TAG_DIRECTIVE: the prefix; TAG: the suffix; otherwise 0 */
-    struct yaml_c_mark start_mark; /* where it starts */
-    struct yaml_c_mark end_mark;   /* behind its last character */
+    struct yaml_c_mark start_mark; /* of its first character */
+    struct yaml_c_mark end_mark;   /* after its last character */
 };
 
-/* What is answered beside tokens and texts. The counts are those of all tokens, whether there was room for them or not; a
+/* What is returned besides tokens and texts. The counts are those of all tokens, whether there was room for them or not; a
  * count that 64 bits do not hold would be 2 to the power of 64, less 1. */
 struct yaml_c_answer {
     uint64_t token_count;            /* how many tokens there are */
     uint64_t text_len;               /* how many bytes their texts have; those of the fault are not among them */
-    uint32_t error;                  /* a number of yaml_c_error, or 0 where there is no fault */
+    uint32_t error;                  /* a number of yaml_c_error, or 0 if there is no fault */
     int32_t problem_value;           /* reader fault: the octet, unit or code point that is wrong, or -1; otherwise 0 */
-    uint64_t problem_offset;         /* reader fault: bytes of the input that stand before what is wrong; otherwise 0 */
+    uint64_t problem_offset;         /* reader fault: how many bytes of the input come before what is wrong; otherwise 0 */
     struct yaml_c_mark problem_mark; /* scanner fault: where the problem is; otherwise zeros */
     struct yaml_c_mark context_mark; /* scanner fault: where what was being read starts; otherwise zeros */
     uint64_t problem_len;            /* what is wrong, in words, from texts[text_len] on; 0 for a memory fault */
-    uint64_t context_len;            /* what was being read, in words, right behind the problem; 0 where nothing is told */
+    uint64_t context_len;            /* what was being read, in words, right after the problem; 0 if there is none */
 };
 
 /* The values are those of libyaml 0.2.5. */
@@ -81,7 +81,7 @@ enum yaml_c_token_type {
 };
 
 enum yaml_c_encoding {
-    YAML_C_ANY_ENCODING = 0, /* as a setting only: a byte order mark tells the encoding, and without one it is UTF-8 */
+    YAML_C_ANY_ENCODING = 0, /* as a setting only: a byte order mark decides the encoding; without one it is UTF-8 */
     YAML_C_UTF8_ENCODING = 1,
     YAML_C_UTF16LE_ENCODING = 2,
     YAML_C_UTF16BE_ENCODING = 3
@@ -98,10 +98,10 @@ enum yaml_c_scalar_style {
 
 enum yaml_c_error {
     YAML_C_NO_ERROR = 0,
-    YAML_C_MEMORY_ERROR = 1,  /* the scanner found no memory: the tokens are a beginning of all tokens */
+    YAML_C_MEMORY_ERROR = 1,  /* memory was refused: the tokens are a beginning of all tokens */
     YAML_C_READER_ERROR = 2,  /* the bytes are no text in the encoding */
-    YAML_C_SCANNER_ERROR = 3, /* no token can stand there */
-    YAML_C_PARSER_ERROR = 4,  /* these four are libyaml's, and never answered here */
+    YAML_C_SCANNER_ERROR = 3, /* no token can be read there */
+    YAML_C_PARSER_ERROR = 4,  /* these four are libyaml's, and never returned here */
     YAML_C_COMPOSER_ERROR = 5,
     YAML_C_WRITER_ERROR = 6,
     YAML_C_EMITTER_ERROR = 7
@@ -112,13 +112,13 @@ enum yaml_c_error {
  * setting is a number of yaml_c_encoding, and limit the key limit in bytes, 1 to 65536: how far a simple key may reach. 1024
  * is that of YAML 1.1 and of libyaml.
  *
- * tokens_len counts records, texts_len counts bytes. What has no room is counted and not written. What stands behind the last
+ * tokens_len counts records, texts_len counts bytes. What has no room is counted and not written. What follows the last
  * record and the last byte that are written stays as it was.
  *
- * Returns 0 where the stream ended, 1 where there is a fault (the tokens are those before it), and 2 for a wrong setting or
- * limit, where *answer is set to zeros and nothing else is touched. It returns nothing else.
+ * Returns 0 if the stream ended, 1 if there is a fault (the tokens are those before it), and 2 for a wrong setting or
+ * limit; then *answer is set to zeros and nothing else is touched. It returns nothing else.
  *
- * The caller answers for this:
+ * The caller is responsible for this:
  * - No pointer is null, not even one whose length is 0. A pointer whose length is 0 is never followed, so any other address
  *   that a pointer to such a thing may hold will do.
  * - Lengths are those of memory that is there and that was written before, as by calloc; none is above half of the address

@@ -1,7 +1,7 @@
 #!/usr/bin/env python3
 """Cuts the input of every worked row at every byte: cuts.py PROGRAM.
 
-Each cut ends with the stream end or with one fault, and the status is 1 where there is a fault, else 0. A list of
+Each cut ends with the stream end or with one fault, and the status is 1 if there is a fault, else 0. A list of
 calls has one line for each call. (For inputs of up to 200 bytes vectors/scan.txt.gz has all the lines of each cut.)
 """
 

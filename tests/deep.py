@@ -1,8 +1,8 @@
 #!/usr/bin/env python3
 """Scans deep and long inputs with the program: deep.py PROGRAM.
 
-Depth and levels have no limit but the input's length, and no input takes more than a second to scan, which the program
-`lexlist`, which stands beside the given one, measures.
+Depth and levels have no limit but the input's length, and no input takes more than a second to scan. The program
+`lexlist`, which is beside the given one, measures that.
 """
 
 import os
@@ -21,7 +21,7 @@ def one(kind, start, end):
 
 
 def run_of(kind, count):
-    """The tokens of so many characters on one line, and the stream end behind them."""
+    """The tokens of so many characters on one line, and the stream end after them."""
     end = mark(count, 1)
     return [one(kind, mark(k), mark(k + 1)) for k in range(count)] + [one("STREAM-END", end, end)]
 
@@ -34,7 +34,7 @@ def sequences(count):
     return starts + [one("BLOCK-END", end, end)] * count + [one("STREAM-END", end, end)]
 
 
-# the name, the input, the lines behind the first that are wanted, or None where only the last line is looked at
+# the name, the input, the lines expected after the first, or None if only the last line is checked
 INPUTS = [
     ("openers", "[" * MANY, run_of("FLOW-SEQUENCE-START", MANY)),
     ("closers", "]" * MANY, run_of("FLOW-SEQUENCE-END", MANY)),

@@ -1,11 +1,11 @@
 #!/usr/bin/env python3
 """Builds the library of ffi/, and calls it from C, from Rust and from here: ffi.py [PROGRAM].
 
-All inputs of vectors/scan.txt.gz are scanned through the shared library: with no room, with exactly the room that is asked for
-and with about half of it; the tokens and the fault are those that are wanted, and nothing else in a room has changed. Wrong
+All inputs of vectors/scan.txt.gz are scanned through the shared library: with no room, with exactly the room that is needed
+and with about half of it; the tokens and the fault are the expected ones, and nothing else in a room has changed. Wrong
 settings and limits touch nothing but the answer. The records have the same sizes and places in C, in Rust and in the crate, and
-the header's numbers are the crate's. The examples list.c and list.rs list what is wanted, and list.c frees all that it took. Each
-request for memory of list.c is refused in turn. What needs a C compiler, rustc or valgrind is skipped where there is none.
+the header's numbers are the crate's. The examples list.c and list.rs list what is expected, and list.c frees all that it took.
+Each request for memory of list.c is refused in turn. What needs a C compiler, rustc or valgrind is skipped if there is none.
 """
 
 import ctypes as c
@@ -137,7 +137,7 @@ def load():
 
 
 class Call:
-    """One call, with rooms that are filled before, and with spare room behind that is not told of."""
+    """One call, with rooms that are filled before, and with spare room after them that the call does not know of."""
 
     def __init__(self, call, data, setting, limit, token_room, text_room):
         self.tokens = (Token * (token_room + SPARE))()
@@ -151,7 +151,7 @@ class Call:
         self.status = call(given, len(data), setting, limit, tokens, token_room, texts, text_room, c.byref(self.answer))
 
     def untouched(self, token_count, text_len):
-        """Whether what stands behind so many records and bytes is as it was."""
+        """Whether what follows so many records and bytes is unchanged."""
         size = c.sizeof(Token)
         tokens = bytes(self.tokens)[token_count * size :]
         texts = bytes(self.texts)[text_len:]
@@ -244,7 +244,7 @@ def compare(rows):
 
 
 def wrong_calls():
-    """How many wrong settings and limits were tried, and those that were not refused as is wanted."""
+    """How many wrong settings and limits were tried, and those that were not refused as expected."""
     call, bad = load(), []
     tried = [(4, 1024), (2**32 - 1, 1024), (0, 0), (3, 65537), (1, 2**32 - 1), (4, 0)]
     for setting, limit in tried:
@@ -285,7 +285,7 @@ def refused(program, refuser, data):
 
 
 def leaks(program, row):
-    """Whether valgrind finds memory that is lost, or a wrong access."""
+    """Whether valgrind finds a leak, or a wrong access."""
     words = ["valgrind", "-q", "--error-exitcode=99", "--leak-check=full", "--show-leak-kinds=all", program, *row[0]]
     return subprocess.run(words, input=row[1], capture_output=True, timeout=300).returncode == 99
 

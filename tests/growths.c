@@ -1,7 +1,7 @@
 /* Refuses requests for memory; for the scripts that run a program with LD_PRELOAD.
  *
- * REFUSED_GROWTH is the number, from 1, of the request that is refused, or that number and `-`, where all behind it are refused
- * too. Where REFUSED_BEHIND_READ is set only requests behind the first read of the standard input's end are counted. */
+ * REFUSED_GROWTH is the number, from 1, of the request that is refused, or that number and `-`, if all after it are refused
+ * too. If REFUSED_BEHIND_READ is set, only requests after the first read of the standard input's end are counted. */
 #include <errno.h>
 #include <stddef.h>
 #include <stdlib.h>

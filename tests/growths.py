@@ -4,8 +4,8 @@
 For each worked row of vectors/rows.txt: its own command, scans past the end, and peeks with skips past the end. Each
 time the program is out of memory and has written nothing, or its lines are those of the row, or a beginning of them,
 then the one fault of kind memory, and then, for a list of calls, one line for each call that is left. The fault comes
-only at a scan or a peek of a token that was not peeked, never behind the stream end, and never where no memory is
-taken: where UTF-8 is decoded, or refused so early that the first step is near. Needs a C compiler.
+only at a scan or a peek of a token that was not peeked, never after the stream end, and never if no memory is
+taken: if UTF-8 is decoded, or refused so early that the first step is near. Needs a C compiler.
 """
 
 import os
@@ -32,7 +32,7 @@ def commands():
 
 
 def kind_of(words, done, data, lines):
-    """What a run has done: `whole`, `nothing` or `beginning`, or None where it is wrong."""
+    """What a run has done: `whole`, `nothing` or `beginning`, or None if it is wrong."""
     found = done.stdout.decode("ascii").splitlines()
     if (done.stdout, done.returncode, done.stderr) == (b"", 3, b"yamltok: out of memory\n"):
         return "nothing"
@@ -51,7 +51,7 @@ def kind_of(words, done, data, lines):
 
 
 def refuse_each(program, refuser, words, data, lines):
-    """Refuses the first request, the second, and so on, until three runs in a row are whole; answers what was seen."""
+    """Refuses the first request, the second, and so on, until three runs in a row are whole; returns what was seen."""
     seen, in_a_row, number = {}, 0, 0
     while in_a_row < 3:
         number += 1

@@ -1,7 +1,7 @@
 #!/usr/bin/env python3
-"""Compares gaps, kinds and lexemes with tests/lexemes.txt: lexemes.py PROGRAM, of which the folder's neighbour lexlist is run.
+"""Compares gaps, kinds and lexemes with tests/lexemes.txt: lexemes.py PROGRAM, which runs lexlist of the neighbouring folder.
 
-A line of the file is a line that lexlist is asked, a tab, and the line that it must answer.
+A line of the file is a question for lexlist, a tab, and the line that it must return.
 """
 
 import os

@@ -1,10 +1,9 @@
 #!/usr/bin/env python3
-"""Compares how far a session has read behind each call: paces.py PROGRAM, of which the neighbour lexlist is run.
+"""Compares how far a session has read after each call: paces.py PROGRAM, which runs its neighbour lexlist.
 
-A line of paces.txt.gz has three parts, parted by tabs: the encoding, the key limit and the calls, the input in
-hexadecimal, and behind each call how many steps have a token in the queue and the mark up to which the last good step
-has read, joined by ` / `. Behind a fault only the mark is compared, and the queue keeps to its bound of limit + 1
-steps.
+A line of paces.txt.gz has three parts, separated by tabs: the encoding, the key limit and the calls; the input in
+hexadecimal; and after each call how many steps have a token in the queue and the mark up to which the last good step
+has read, joined by ` / `. After a fault only the mark is compared, and at most limit + 1 steps are queued.
 """
 
 import gzip

@@ -1,7 +1,7 @@
 #!/usr/bin/env python3
 """Compares the scanner with a plain program of two passes: plain.py PROGRAM.
 
-The plain program asks the program `lexlist`, which stands beside the given one, for gaps, kinds and lexemes, reads all lexemes
+The plain program asks the program `lexlist`, which is beside the given one, for gaps, kinds and lexemes, reads all lexemes
 of an input first, and lays the finished list out in a second pass. The inputs are those of vectors/scan.txt.gz that are
 accepted UTF-8 without a byte order mark, and the lines are those that the given program lists.
 """
@@ -64,7 +64,7 @@ class Reading:
         return levels, ends
 
     def step(self):
-        """Asks for what stands next, and takes it; true at the stream end."""
+        """Asks for what comes next, and takes it; true at the stream end."""
         flow = len(self.slots) > 1
         gap = (yield f"gap {int(flow)} {int(self.allowed)} {self.reach[0]} {self.text}").split(" ")
         front, broken = mark(gap[0]), gap[1] == "true"
@@ -134,7 +134,7 @@ class Reading:
         return " ".join([kind.replace("_", "-"), at, *parts])
 
     def lay_out(self, fault):
-        """The second pass: the lines of the finished list, up to the first key that may yet come where there is a fault."""
+        """The second pass: the lines of the finished list, up to the first key that may yet come if there is a fault."""
         lines = ["STREAM-START 0:0:0 0:0:0 UTF8"]
         waits = min((slot for slot in self.slots if slot is not None), default=None) if fault else None
         for number, lexeme in enumerate(self.lexemes):

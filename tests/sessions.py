@@ -1,14 +1,14 @@
 #!/usr/bin/env python3
 """Refuses each request for memory in turn inside the calls of the library: sessions.py PROGRAM.
 
-The program lexlist, which stands beside the given one, makes the calls.
+The program lexlist, which is beside the given one, makes the calls.
 
 For each worked row of vectors/rows.txt, `yaml_run` is called twice on one parser, `yaml_scan_all_limit` once, and
-scan, peek and skip one by one. Behind the reading of the input only these calls take memory. Where `yaml_run` is
-refused room for its answers, the answers and the session are as before, and the next call is answered as if nothing
-had been. Otherwise the answers are those with ample memory, or those up to some call, one fault of kind memory and
+scan, peek and skip one by one. After the input is read only these calls take memory. If `yaml_run` is
+refused room for its answers, the answers and the session are as before, and the next call returns what it would without
+that. Otherwise the answers are those with ample memory, or those up to some call, one fault of kind memory and
 idle ones; then no token is peeked, the fault is shown, and at most limit + 1 steps are queued. With all requests
-refused UTF-8 is decoded, and refused where its first step is near. Needs a C compiler.
+refused UTF-8 is decoded, and the reader's fault comes if the first step is near. Needs a C compiler.
 """
 
 import os
@@ -67,14 +67,14 @@ def session_is(state, session, limit):
 
 
 def blocks(text):
-    """The parts behind each ANSWERED or REFUSED: that word, the answers behind the first one, and the state."""
+    """The parts after each ANSWERED or REFUSED: that word, the answers after the first one, and the state."""
     for part in text.replace("REFUSED\n", "\0REFUSED\n").replace("ANSWERED\n", "\0ANSWERED\n").split("\0")[1:]:
         word, first, *answers, state = part.splitlines()
         yield word, answers if first == "NOTHING" else None, state
 
 
 def judge_runs(lines, words, text, may_refuse):
-    """Judges the calls of `yaml_run`: whether one was refused, or memory was wanted; None where something is wrong."""
+    """Judges the calls of `yaml_run`: whether one was refused, or returned a memory fault; None if something is wrong."""
     limit, made, before, seen = int(words[2]), "", ([], NEW), set()
     found = list(blocks(text))
     if len(found) != len(words) - 3:
@@ -96,13 +96,13 @@ def judge_runs(lines, words, text, may_refuse):
 
 
 def every_answer(lines):
-    """All that calls on this row can be answered."""
+    """All possible answers to calls on this row."""
     scans, peeks = "s" * (len(lines) + 2), "pk" * (len(lines) + 1)
     return [MEMORY, *lines, *Session(lines).calls(scans + "k"), *Session(lines).calls(peeks)]
 
 
 def judge_each(lines, words, text, may_refuse):
-    """Judges calls that are made one by one, and the state behind each."""
+    """Judges calls that are made one by one, and the state after each."""
     backwards = {line_of(line): line for line in every_answer(lines)}
     backwards |= {"PEEKED " + line_of(line): "PEEK " + " ".join(line.split(" ")[:3]) for line in lines}
     backwards["PEEKED " + line_of("NO-TOKEN")] = "PEEK NO-TOKEN"
@@ -157,11 +157,11 @@ def refuse_each(lexlist, refuser, words, data, lines):
 
 
 def without_memory(lexlist, refuser):
-    """UTF-8 with every request refused: decoding, and a scan and a peek where the reader's fault is early."""
+    """UTF-8 with every request refused: decoding, and a scan and a peek if the reader's fault is early."""
     count = wrong = 0
     for words, data, lines in rows():
         is_read = lines and lines[-1].startswith("FAULT reader")
-        # where a scanner fault comes first the row does not tell the reader's fault
+        # if a scanner fault comes first, the row does not have the reader's fault
         is_late = data.endswith(b"\xff") and not is_read
         if words[0] != "scan" or not is_utf8(words[1], data) or is_late:
             continue

@@ -1,7 +1,7 @@
 #!/usr/bin/env python3
-"""Looks at how the real process ends: statuses.py PROGRAM.
+"""Checks how the real process ends: statuses.py PROGRAM.
 
-For each command: its exit status, and what is on standard output and on standard error, where its words are wrong or
+For each command: its exit status, and what is on standard output and on standard error, if its words are wrong or
 no text, its input is closed or a folder, and its output is closed, full or a pipe that no one reads.
 """
 
@@ -44,7 +44,7 @@ def unread_pipe():
 
 
 def ends(program):
-    """What is looked at: a name, what came, and what is wanted: status, standard output, standard error."""
+    """What is checked: a name, what came, and what is expected: status, standard output, standard error."""
     for words in WRONG:
         yield words, run(program, words.split(b" ") if words else [], b"a"), (2, b"", ARGUMENTS)
     with open(os.devnull, "rb") as unread:

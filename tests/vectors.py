@@ -1,8 +1,8 @@
 #!/usr/bin/env python3
 """Compares the program with the files of tests/vectors: vectors.py PROGRAM.
 
-A line of such a file, which may be compressed, has three parts, parted by tabs: the words of a command, the input in
-hexadecimal (`-` where it is empty), and the lines that are wanted, joined by ` / `. The exit status must be 1 where one of
+A line of such a file, which may be compressed, has three parts, separated by tabs: the words of a command, the input in
+hexadecimal (`-` if it is empty), and the expected lines, joined by ` / `. The exit status must be 1 if one of
 them is a fault, else 0.
 """
 

@@ -1,8 +1,8 @@
 #!/usr/bin/env python3
-"""Shows what wrong programs answer: wrong.py [NAME ..], where a NAME is as in tests/edits.txt, or a beginning of one.
+"""Shows the answers of wrong programs: wrong.py [NAME ..], where a NAME is as in tests/edits.txt, or a beginning of one.
 
 tests/edits.txt has a line for each edit of crates/*/must-fail and of tests/wrong, with an input that tells the wrong
-program from the right one, or the tests that do so. The script makes one edit at a time in a copy of the repository,
+program from the right one, or the tests that do. The script makes one edit at a time in a copy of the repository,
 builds the program from the edited sources without proving it (`rt try`), and prints the right answer and the wrong
 one, or says whether the tests fail.
 
@@ -102,7 +102,7 @@ def rt(folder, *words):
 
 
 def answers(room, some):
-    """What the program of a copy answers to these rows, all of one program: lists of lines and the status."""
+    """The answers of a copy's program to these rows, all of one program: lists of lines and the status."""
     with tempfile.TemporaryDirectory() as cases:
         for number, row in enumerate(some):
             with open(os.path.join(cases, f"c{number}"), "wb") as file:

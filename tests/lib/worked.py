@@ -1,4 +1,4 @@
-"""The worked rows of vectors/rows.txt, and what a session answers to calls on one of them, with and without memory."""
+"""The worked rows of vectors/rows.txt, and the answers of a session to calls on one of them, with and without memory."""
 
 import os
 import subprocess
@@ -17,12 +17,12 @@ def rows():
 
 
 def is_utf8(setting, data):
-    """Whether the setting, or the input where none is set, tells UTF-8."""
+    """Whether the encoding that is set, or the input's if none is set, is UTF-8."""
     return setting == "utf8" or setting == "any" and not data.startswith((b"\xff\xfe", b"\xfe\xff"))
 
 
 def takes_no_memory(words, data, lines):
-    """Whether the answers take no memory: decoding of UTF-8, and UTF-8 that is refused where the first step is near."""
+    """Whether the answers take no memory: decoding of UTF-8, and UTF-8 that is refused if the first step is near."""
     return is_utf8(words[1], data) and (words[0] == "decode" or lines[0].startswith("FAULT reader"))
 
 
@@ -31,7 +31,7 @@ def is_ended(line):
 
 
 class Session:
-    """What is answered to calls, by the lines of a scan of the whole input. At call number `refused` memory is."""
+    """The answers to calls, by the lines of a scan of the whole input. Memory is refused at call number `refused`."""
 
     def __init__(self, lines, refused=None):
         self.tokens = [line for line in lines if not line.startswith("FAULT")]
@@ -68,7 +68,7 @@ class Session:
 
 
 def session_of(lines, word, found, may_refuse=True):
-    """The session that answers to the calls of the word what was found, with at most one want of memory, or None."""
+    """The session whose answers to the calls of the word are those found, with at most one memory fault, or None."""
     if Session(lines).calls(word) == found:
         session = Session(lines)
         session.calls(word)
@@ -85,7 +85,7 @@ def session_of(lines, word, found, may_refuse=True):
 
 
 def build_refuser(room):
-    """Compiles growths.c, which stands in front of the C library's `malloc`."""
+    """Compiles growths.c, which is called before the C library's `malloc`."""
     path = os.path.join(room, "growths.so")
     subprocess.run(["cc", "-O1", "-shared", "-fPIC", "-o", path, os.path.join(HERE, "growths.c")], check=True)
     return path

@@ -1,4 +1,4 @@
--- Lexemes that are read one behind the other.
+-- Lexemes that are read one after the other.
 use Rattle.std.proofs.Common.{◌≡◌, ℕ, ◌≤◌, false, List, length, Some, Result, Ok, Err, refl, ap, sym, ◌∙◌, subst}
 use Rattle.std.proofs.lemmas.Bool.{true≢false}
 use Rattle.yaml_text.specs.Fault.{Fault}

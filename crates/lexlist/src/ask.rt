@@ -78,7 +78,7 @@ fn is_within(text: &yaml_text_t, level: Option<u64>) -> bool
     }
 }
 
-/// What the words ask of the text.
+/// The answer to the question of these words about the text.
 fn ask(alloc: Global, words: &[&str], text: &yaml_text_t) -> Result<Option<String>, AllocError> {
     match words {
         ["gap", in_flow, allowed, index, _] => {

@@ -1,21 +1,21 @@
-//! Lists what stands at places of texts, for tests of the lexemes and for measuring them.
+//! Lists what is at places of texts, for tests of the lexemes and for measuring them.
 //!
-//! Each line of the input asks something of a text in UTF-8, and is answered by one line:
+//! Each line of the input is a question about a text in UTF-8, and the answer is one line:
 //!
-//! - `gap FLOW ALLOWED INDEX TEXT`: the mark behind the gap, and whether a break stands in it;
+//! - `gap FLOW ALLOWED INDEX TEXT`: the mark after the gap, and whether a break is in it;
 //! - `kind FLOW INDEX TEXT`: the kind of lexeme, or `-`;
-//! - `lex DEPTH LEVEL INDEX TEXT`: the lexeme of the kind that stands there: its type, the bytes of its parts, its start, end
+//! - `lex DEPTH LEVEL INDEX TEXT`: the lexeme of the kind at that place: its type, the bytes of its parts, its start, end
 //!   and reach, and whether it passed a break; or the fault's context, problem and their marks; or `-`.
 //!
-//! FLOW and ALLOWED are 0 or 1, INDEX counts bytes, LEVEL is a column or `-`, TEXT is hexadecimal or `-`. A line that
-//! asks nothing of the kind is answered by `?`.
+//! FLOW and ALLOWED are 0 or 1, INDEX counts bytes, LEVEL is a column or `-`, TEXT is hexadecimal or `-`. The answer to a
+//! line that is no such question is `?`.
 //!
 //! With the word `measure` something is done nine times with the input as a text: the lexeme at its front is read,
-//! with `measure walk` all its lexemes one behind the other, and with `measure scan` its tokens are scanned. The
+//! with `measure walk` all its lexemes one after the other, and with `measure scan` its tokens are scanned. The
 //! answer is how many bytes were read, or tokens scanned, and the best and the median time in nanoseconds.
 //!
-//! Four commands show what a session does where memory is refused: behind the reading of the input only the calls
-//! that are named take memory (`session.rt`). `each ENC LIMIT WORD` makes the calls of WORD one by one (`s` for a
+//! Four commands show what a session does if memory is refused: after the input is read, only the named calls
+//! take memory (`session.rt`). `each ENC LIMIT WORD` makes the calls of WORD one by one (`s` for a
 //! scan, `p` for a peek, `k` for a skip), `calls ENC LIMIT WORD..` those of each WORD by one `yaml_run`, all on one
 //! parser; `all ENC LIMIT` lists all tokens by one call, and `decode ENC` decodes the input. ENC is `any`, `utf8`,
 //! `utf16le` or `utf16be`, LIMIT a key limit of 1 to 65536 bytes.

@@ -20,7 +20,7 @@ use yaml_text::{
 pub enum task_t {
     /// The lexeme at its front is read.
     FRONT,
-    /// Its lexemes are read one behind the other, with a level open at column 0.
+    /// Its lexemes are read one after the other, with a level open at column 0.
     WALK,
     /// Its tokens are scanned.
     SCAN,
@@ -71,7 +71,7 @@ fn reach(lexeme: &yaml_lexeme_t) -> yaml_mark_t
     lexeme.reach
 }
 
-/// The mark up to which the lexeme behind a gap was read, if one stands there.
+/// The mark up to which the lexeme after a gap was read, if there is one.
 fn read_behind(alloc: Global, text: &yaml_text_t, at: yaml_mark_t) -> Option<yaml_mark_t>
     requires { (n : ℕ) × IsMarkOf text.now.chars at n }
     ensures { IfSome result (λ mark. (n : ℕ) × IsMarkOf text.now.chars mark n) }
@@ -93,7 +93,7 @@ fn read_behind(alloc: Global, text: &yaml_text_t, at: yaml_mark_t) -> Option<yam
     }
 }
 
-/// How many bytes the lexemes reach over, one behind the other.
+/// How many bytes the lexemes reach over, one after the other.
 fn walk(alloc: Global, text: &yaml_text_t) -> u64 {
     let Some(mut at) = mark_at(text, 0) else {
         return 0;

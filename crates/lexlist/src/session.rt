@@ -1,7 +1,7 @@
-//! What is answered to an input, and what the session is then, taking no memory by itself.
+//! The answers to an input, and the state of the session after them, taking no memory of its own.
 //!
 //! The calls are made ready before the input is read, the input is read into an array, and lines are written piece by
-//! piece. So each request for memory behind the reading of the input is made by the call that is looked at.
+//! piece. So each request for memory after the input is read comes from the call that is tested.
 ghost use Rattle.std.specs.Prelude.{◌≤◌, IfOk, IfSome, length};
 
 use std::alloc::{AllocError, Global};
@@ -14,7 +14,7 @@ use yaml_scan::{
     yaml_run, yaml_scan_all_limit, yaml_token_t,
 };
 
-/// What is behind so many bytes of an input is not read.
+/// What comes after so many bytes of an input is not read.
 const MOST: usize = 8192;
 
 fn put_mark(out: &mut impl Write, mark: yaml_mark_t) -> io::Result<()> {
@@ -139,7 +139,7 @@ fn lists_of(alloc: Global, words: &[String]) -> Result<Vec<Vec<yaml_call_t>>, Al
     Ok(lists)
 }
 
-/// Reads the input to its end, or until there is no room, and answers how many bytes it has.
+/// Reads the input to its end, or until there is no room, and returns how many bytes it has.
 fn read_input(reader: &mut impl Read, room: &mut [u8]) -> io::Result<usize>
     ensures { IfOk result (λ count. count ≤ length room.new) }
 {
@@ -157,8 +157,8 @@ fn read_input(reader: &mut impl Read, room: &mut [u8]) -> io::Result<usize>
     Ok(count.min(room.len()))
 }
 
-/// Makes the calls of each word by one `yaml_run`, all on one parser. Behind each of them it writes whether that was
-/// answered or refused, all answers so far, and what the session is. The answers begin with one that none of the
+/// Makes the calls of each word by one `yaml_run`, all on one parser. After each of them it writes whether it returned or
+/// was refused, all answers so far, and the state of the session. The answers begin with one that none of the
 /// calls gave.
 fn run_words(
     rt: &HostRuntime,
@@ -214,7 +214,7 @@ fn make_call(
     }
 }
 
-/// Makes the calls of a word one by one on a parser, and writes behind each what the session is.
+/// Makes the calls of a word one by one on a parser, and writes the state of the session after each.
 fn make_calls(rt: &HostRuntime, setting: yaml_encoding_t, limit: u32, word: &str) -> io::Result<()>
     requires least { 1 ≤ limit }
     requires most { limit ≤ 65536 }
@@ -297,7 +297,7 @@ fn wrong_words() -> io::Error {
     io::Error::from(io::ErrorKind::InvalidInput)
 }
 
-/// Does what the words ask for: `each ENC LIMIT WORD`, `calls ENC LIMIT WORD..`, `all ENC LIMIT` or
+/// Runs the command of the words: `each ENC LIMIT WORD`, `calls ENC LIMIT WORD..`, `all ENC LIMIT` or
 /// `decode ENC`.
 pub fn list_session(rt: &HostRuntime, words: &[String]) -> io::Result<()> {
     let [command, setting, rest @ ..] = words else {

@@ -1,4 +1,4 @@
-//! What a kind, a lexeme and a fault look like in a line.
+//! The texts of a kind, a lexeme and a fault in a line.
 use std::alloc::{AllocError, Global};
 use yaml_lexeme::{yaml_lexeme_kind_t, yaml_lexeme_t};
 use yaml_text::{unnamed_yaml_token_t_data, yaml_fault_t, yaml_mark_t};

@@ -9,7 +9,7 @@ fn digit_of(b: u8) -> Option<u8> {
     }
 }
 
-/// The bytes that a word writes in hexadecimal, `-` being none.
+/// The bytes that a word spells in hexadecimal; `-` spells none.
 pub fn bytes_of(alloc: Global, word: &str) -> Result<Option<Vec<u8>>, AllocError> {
     let mut bytes = Vec::new(alloc);
     if word == "-" {

@@ -11,7 +11,7 @@ use Rattle.yaml_c.proofs.Rooms.{covered_from_by_none, covered_held, length-cover
 held_held : (n k : ℕ) → held (held n + k) ≡ held (n + k)
 held_held n k = omega arith
 
--- a place that 64 bits do not hold is told alike
+-- a place that 64 bits do not hold gives the same records
 records_of_held : (n : ℕ) (ts : List Token) → records_of (held n) ts ≡ records_of n ts
 records_of_held n [] = refl
 records_of_held n (t ∷ ts) =

@@ -22,7 +22,7 @@ covered_from_by_none zero room = covered_by_none room
 covered_from_by_none (suc at) [] = refl
 covered_from_by_none (suc at) (y ∷ room) = ap (λ z. y ∷ z) (covered_from_by_none at room)
 
--- one list behind another, from the beginning
+-- one list after another, from the beginning
 more_covered : {A : Type 0} → (xs ys room : List A)
     → covered_from (length xs) ys (covered xs room) ≡ covered (xs ++ ys) room
 more_covered [] ys room = ap (λ z. covered ys z) (covered_by_none room)
@@ -52,7 +52,7 @@ length-covered_from zero xs room = length-covered xs room
 length-covered_from (suc at) xs [] = ap length (covered_from_nowhere (suc at) xs)
 length-covered_from (suc at) xs (y ∷ room) = ap suc (length-covered_from at xs room)
 
--- where the place is past the room, nothing is covered
+-- if the place is past the room, nothing is covered
 pub covered_past : {A : Type 0} → (at : ℕ) (xs room : List A) → length room ≤ at → covered_from at xs room ≡ room
 covered_past at xs [] h = covered_from_nowhere at xs
 covered_past zero xs (y ∷ room) h = absurd (omega arith)
@@ -92,7 +92,7 @@ covered_by_copy at n xs room h e =
     let size : length (drop at room) ≡ length room - at = length-drop at room in
     ap (λ z. take at room ++ z) (covered_by_part n xs (drop at room) (omega arith) (omega arith) (λ low. omega arith))
 
--- two texts, one put behind the other
+-- two texts, one put after the other
 pub both_covered : {A : Type 0} → (at behind : ℕ) (f s first second old mid new : List A) → f ≡ first
     → s ≡ second → length old < 2 ^ 63 → behind ≡ held (at + length f)
     → mid ≡ covered_from at f old → new ≡ covered_from behind s mid → new ≡ covered_from at (first ++ second) old
@@ -119,7 +119,7 @@ covered_whole [] room h = covered_by_none room
 covered_whole (x ∷ xs) [] h = absurd (omega arith)
 covered_whole (x ∷ xs) (y ∷ room) h = ap (λ z. x ∷ z) (covered_whole xs room (omega arith))
 
--- one that there is not
+-- one that is at least as long as the room
 pub covered_short : {A : Type 0} → (xs room : List A) → length room ≤ length xs
     → covered xs room ≡ take (length room) xs
 covered_short xs [] h = covered_nowhere xs

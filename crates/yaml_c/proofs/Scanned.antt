@@ -1,4 +1,4 @@
--- What the rooms hold once all tokens are put and the texts of the fault behind them.
+-- What the rooms hold once all tokens are put and the texts of the fault after them.
 use Rattle.std.proofs.Common.{◌≡◌, ◌<◌, ◌^◌, ◌+◌, ◌++◌, ℕ, List, Option, length, arith, sym, ap, ◌∙◌, subst}
 use Rattle.yaml_text.specs.declared.types.yaml_encoding_t.{yaml_encoding_t}
 use Rattle.yaml_text.specs.Fault.{Fault}

@@ -1,4 +1,4 @@
--- What is answered beside the two rooms, and all that a call leaves.
+-- What a call returns besides the two rooms, and all that it leaves.
 use Rattle.std.specs.Prelude.{◌≡◌, ℕ, ◌≤◌, ◌<◌, ◌⊎◌, ◌++◌, pos, List, [], length, Option, Some, None}
 use Rattle.yaml_text.specs.declared.types.yaml_encoding_t.{yaml_encoding_t}
 use Rattle.yaml_text.specs.Fault.{Fault, zero_mark}
@@ -10,7 +10,7 @@ use Rattle.yaml_c.specs.Room.{covered}
 use Rattle.yaml_c.specs.declared.answer.yaml_c_answer.{yaml_c_answer}
 use Rattle.yaml_c.specs.declared.record.yaml_c_token.{yaml_c_token}
 
--- a text, or the empty one where there is none
+-- a text, or the empty one if there is none
 abbrev pub text_or_none : Option (List ℕ) → List ℕ
 text_or_none None = []
 text_or_none (Some text) = text
@@ -20,12 +20,12 @@ abbrev pub fault_texts : Option Fault → List ℕ
 fault_texts None = []
 fault_texts (Some f) = text_or_none f.problem ++ text_or_none f.context
 
--- 1 where there is a fault, otherwise 0
+-- 1 if there is a fault, otherwise 0
 abbrev pub status_of : Option Fault → ℕ
 status_of None = 0
 status_of (Some f) = 1
 
--- two counts, and a fault with the lengths of its texts in their place
+-- two counts, and a fault with the lengths of its texts instead of the texts
 abbrev pub answer_with : ℕ → ℕ → Option Fault → yaml_c_answer
 answer_with token_count text_len None = record {
   token_count = token_count;
@@ -50,11 +50,11 @@ answer_with token_count text_len (Some f) = record {
   context_len = length (text_or_none f.context);
 }
 
--- the answer to tokens and the fault behind them: how many tokens, how many bytes of texts, and the fault
+-- the answer for tokens and the fault after them: how many tokens, how many bytes of texts, and the fault
 abbrev pub answer_of : List Token → Option Fault → yaml_c_answer
 answer_of tokens fault = answer_with (held (length tokens)) (held (length (all_texts tokens))) fault
 
--- the answer where nothing was scanned: zeros
+-- the answer if nothing was scanned: zeros
 abbrev pub no_answer : yaml_c_answer
 no_answer = answer_with 0 0 None
 
@@ -71,8 +71,8 @@ pub record Rooms : Type 0 where
 abbrev pub rooms : List yaml_c_token → List ℕ → Rooms
 rooms tokens texts = record { tokens = tokens; texts = texts }
 
--- What a call leaves that scanned an input: there are tokens and a fault which are those of the whole list, and status,
--- answer and both rooms say them.
+-- What a call that scanned an input leaves: there are tokens and a fault which are those of the whole list, and status,
+-- answer and both rooms are as they say.
 pub record IsScanned
     (setting : yaml_encoding_t)
     (limit : ℕ)
@@ -96,12 +96,12 @@ pub record IsUntouched (before after : Rooms) (answer : yaml_c_answer) (status :
   pub answer_is : answer ≡ no_answer
   pub rooms_are : after ≡ before
 
--- What a call leaves that was asked rightly.
+-- What a call with a right setting and limit leaves.
 abbrev pub ScansRight : ℕ → ℕ → List ℕ → Rooms → Rooms → yaml_c_answer → ℕ → Type 0
 ScansRight setting limit input before after answer status =
     (e : yaml_encoding_t) → encoding_of setting ≡ Some e → 1 ≤ limit → limit ≤ 65536
     → IsScanned e limit input before after answer status
 
--- What a call leaves that was asked wrongly.
+-- What a call with a wrong setting or limit leaves.
 abbrev pub RefusesWrong : ℕ → ℕ → Rooms → Rooms → yaml_c_answer → ℕ → Type 0
 RefusesWrong setting limit before after answer status = IsWrong setting limit → IsUntouched before after answer status

@@ -2,14 +2,14 @@
 use Rattle.std.specs.Prelude.{◌≡◌, ◌≤◌, ◌++◌, List, length, take, drop}
 use Rattle.yaml_c.specs.Room.{covered}
 
--- where there is room for all of a list, it stands in front, and what stood behind it is as it was
+-- if there is room for all of a list, it is at the beginning, and what follows it is unchanged
 abbrev pub HoldsAll : Type 0 → Type 0
 HoldsAll A = (xs room : List A) → length xs ≤ length room → covered xs room ≡ xs ++ drop (length xs) room
 
--- where there is not, the room holds a beginning of the list
+-- if there is not, the room holds a beginning of the list
 abbrev pub HoldsBeginning : Type 0 → Type 0
 HoldsBeginning A = (xs room : List A) → length room ≤ length xs → covered xs room ≡ take (length room) xs
 
--- a room grows and shrinks by nothing
+-- a room keeps its size
 abbrev pub KeepsSize : Type 0 → Type 0
 KeepsSize A = (xs room : List A) → length (covered xs room) ≡ length room

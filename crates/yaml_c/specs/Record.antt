@@ -1,4 +1,4 @@
--- Tokens as plain records, whose texts stand elsewhere.
+-- Tokens as plain records, whose texts are elsewhere.
 use Rattle.std.specs.Prelude.{ℕ, ◌+◌, ℤ, pos, List, [], ◌∷◌, ◌++◌, length, min}
 use Rattle.yaml_text.specs.declared.types.yaml_mark_t.{yaml_mark_t}
 use Rattle.yaml_text.specs.Token.{Token, TokenData, type_of}
@@ -7,7 +7,7 @@ use Rattle.yaml_c.specs.Numbers.{type_number, style_number, encoding_number}
 use Rattle.yaml_c.specs.declared.record.yaml_c_mark.{yaml_c_mark}
 use Rattle.yaml_c.specs.declared.record.yaml_c_token.{yaml_c_token}
 
--- A number as 64 bits hold it: itself, or the greatest that they hold where it is greater.
+-- A number as 64 bits hold it: itself, or the greatest that they hold if it is greater.
 abbrev pub held : ℕ → ℕ
 held n = min n 18446744073709551615
 
@@ -50,7 +50,7 @@ minor_of _ = pos 0
 abbrev pub texts_of : Token → List ℕ
 texts_of t = first_text t.token_data ++ second_text t.token_data
 
--- the record of a token whose texts stand at a place
+-- the record of a token whose texts begin at a place
 abbrev pub record_of : ℕ → Token → yaml_c_token
 record_of at t = record {
   token_type = type_number (type_of t.token_data);
@@ -64,7 +64,7 @@ record_of at t = record {
   end_mark = mark_of t.end_mark;
 }
 
--- the records of tokens whose texts stand one after the other, from a place on
+-- the records of tokens whose texts follow one another, from a place on
 abbrev pub records_of : ℕ → List Token → List yaml_c_token
 records_of at [] = []
 records_of at (t ∷ ts) = record_of at t ∷ records_of (at + length (texts_of t)) ts

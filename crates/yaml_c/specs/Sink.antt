@@ -6,7 +6,7 @@ use Rattle.yaml_c.specs.Room.{covered_from}
 use Rattle.yaml_c.specs.Record.{held, record_of, texts_of}
 use Rattle.yaml_c.specs.declared.sink.token_rooms_t.{token_rooms_t}
 
--- A token is put behind what was put before: its record into the one room, its texts into the other, and both are
+-- A token is put after what was put before: its record into the one room, its texts into the other, and both are
 -- counted.
 pub record IsPut (a : token_rooms_t) (token : Token) (b : token_rooms_t) : Type 0 where
   pub same_tokens : b.tokens.ghost_name ≡ a.tokens.ghost_name
@@ -16,12 +16,12 @@ pub record IsPut (a : token_rooms_t) (token : Token) (b : token_rooms_t) : Type 
   pub records : b.tokens.now ≡ covered_from a.token_count (record_of a.text_len token ∷ []) a.tokens.now
   pub texts : b.texts.now ≡ covered_from a.text_len (texts_of token) a.texts.now
 
--- tokens are put, one behind the other
+-- tokens are put, one after the other
 abbrev pub ArePut : token_rooms_t → List Token → token_rooms_t → Type 0
 ArePut a [] b = b ≡ a
 ArePut a (token ∷ more) b = (between : token_rooms_t) × IsPut a token between × ArePut between more b
 
--- some are put, and others behind them
+-- some are put, and others after them
 pub more_put : (a b c : token_rooms_t) (xs ys : List Token) → ArePut a xs b → ArePut b ys c → ArePut a (xs ++ ys) c
 more_put a b c [] ys e f = subst (λ (z : token_rooms_t). ArePut z ys c) e f
 more_put a b c (x ∷ xs) ys e f = (e.0, e.1, more_put e.0 b c xs ys e.2 f)

@@ -1,4 +1,4 @@
-//! What is answered beside the two rooms: how much there is, and the fault.
+//! What is returned besides the two rooms: the counts, and the fault.
 ghost use Rattle.std.specs.Prelude.{◌≡◌, ◌+◌, ◌++◌, length, option_map};
 ghost use Rattle.std.specs.Option.{option_copied};
 ghost use Rattle.yaml_text.specs.Fault.{fault_of};
@@ -11,7 +11,7 @@ use crate::record::{mark_of, yaml_c_mark};
 use crate::room::put_bytes;
 use yaml_scan::yaml_fault_t;
 
-/// How much there is, whether there was room for it or not, and the fault behind it.
+/// How much there is, whether there was room for it or not, and the fault after it.
 #[repr(C)]
 #[derive(Clone, Copy)]
 pub struct yaml_c_answer {
@@ -25,9 +25,9 @@ pub struct yaml_c_answer {
     pub problem_offset: u64,
     pub problem_mark: yaml_c_mark,
     pub context_mark: yaml_c_mark,
-    /// The length of the problem, which stands in the room for texts behind those of the tokens.
+    /// The length of the problem, which is in the room for texts after those of the tokens.
     pub problem_len: u64,
-    /// The length of the context, which stands behind the problem.
+    /// The length of the context, which is after the problem.
     pub context_len: u64,
 }
 
@@ -37,7 +37,7 @@ const ZERO: yaml_c_mark = yaml_c_mark {
     column: 0,
 };
 
-/// The answer where there is no fault.
+/// The answer if there is no fault.
 pub(crate) fn counts(token_count: u64, text_len: u64) -> yaml_c_answer
     ensures { result ≡ answer_with token_count text_len None }
 {
@@ -63,7 +63,7 @@ fn text_or_none(text: Option<&'static str>) -> &'static [u8]
     }
 }
 
-/// The answer where there is a fault.
+/// The answer if there is a fault.
 pub(crate) fn counts_and_fault(
     token_count: u64,
     text_len: u64,
@@ -84,7 +84,7 @@ pub(crate) fn counts_and_fault(
     }
 }
 
-/// Puts the texts of a fault into a room from a place on: the problem, and behind it the context.
+/// Puts the texts of a fault into a room from a place on: the problem, and after it the context.
 pub(crate) fn put_fault_texts(room: &mut [u8], at: u64, fault: yaml_fault_t)
     ensures { room.new ≡ covered_from at (answers.fault_texts (Some (fault_of fault))) room.old }
 {

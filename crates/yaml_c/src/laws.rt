@@ -4,7 +4,7 @@ ghost use Rattle.yaml_c.specs.Laws.{HoldsAll, HoldsBeginning, KeepsSize};
 
 use crate::record::yaml_c_token;
 
-/// A room for texts holds all of them where it has room for all, with what stood behind them as it was; otherwise a
+/// A room for texts holds all of them if it has room for all, and what follows them is unchanged; otherwise it holds a
 /// beginning of them. It keeps its size.
 pub fn texts_in_room()
     ensures all { HoldsAll ℕ }

@@ -24,7 +24,7 @@ pub use record::{yaml_c_mark, yaml_c_token};
 use std::alloc::Global;
 use yaml_scan::{yaml_encoding_t, yaml_fault_t, yaml_scan_to};
 
-/// Puts all tokens of an input into two rooms, and returns the fault behind them.
+/// Puts all tokens of an input into two rooms, and returns the fault after them.
 fn scan(
     alloc: Global,
     input: &[u8],
@@ -43,9 +43,10 @@ fn scan(
     }
 }
 
-/// All tokens of an input: their records in the one room, their texts and then those of the fault in the other, each as
-/// far as it has room. Returns 0 where the stream ended, 1 where there is a fault, and 2 for a setting above 3 or a
-/// limit outside 1 to 65,536, where nothing is touched but `out`.
+/// Scans all tokens of an input: puts their records into `tokens`, their texts and then those of the fault into `texts`, each
+/// as far as it has room, and the counts and the fault into `out`. `setting` is the number of an encoding, 0 to 3, and `limit`
+/// the key limit in bytes, 1 to 65,536. Returns 0 if the stream ended, 1 if there is a fault, and 2 for another setting or
+/// limit: then nothing but `out` is touched.
 #[unsafe(no_mangle)]
 pub extern "C" fn yaml_c_scan_all(
     alloc: Global,

@@ -11,15 +11,15 @@ use yaml_scan::{unnamed_yaml_token_t_data, yaml_mark_t, yaml_token_t};
 #[repr(C)]
 #[derive(Clone, Copy)]
 pub struct yaml_c_mark {
-    /// Bytes of the text in UTF-8 that stand before it, from 0.
+    /// How many bytes of the text in UTF-8 come before it.
     pub index: u64,
-    /// Line breaks that end before it, from 0.
+    /// How many line breaks end before it.
     pub line: u64,
-    /// Characters since the last break, from 0.
+    /// How many characters come between the last of these breaks and it.
     pub column: u64,
 }
 
-/// A token. Its texts stand one after the other in the room for texts, from `text_at` on.
+/// A token. Its texts follow one another in the room for texts, from `text_at` on.
 #[repr(C)]
 #[derive(Clone, Copy)]
 pub struct yaml_c_token {
@@ -30,7 +30,7 @@ pub struct yaml_c_token {
     /// The version of a `%YAML` directive; otherwise 0.
     pub major: i32,
     pub minor: i32,
-    /// Where its texts stand.
+    /// Where its texts begin, in bytes from 0.
     pub text_at: u64,
     /// The length of a handle, a name or a value.
     pub first_len: u64,
@@ -96,7 +96,7 @@ fn version_of(said: &unnamed_yaml_token_t_data) -> (i32, i32)
     }
 }
 
-/// The record of a token whose texts stand at a place.
+/// The record of a token whose texts begin at a place.
 pub(crate) fn record_of(text_at: u64, token: &yaml_token_t) -> yaml_c_token
     ensures { result ≡ record_of text_at (token_of token.now) }
 {

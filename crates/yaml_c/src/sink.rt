@@ -1,4 +1,4 @@
-//! A caller's two rooms, as what takes the tokens of an input.
+//! A caller's two rooms, as the sink of the tokens of an input.
 ghost use Rattle.std.specs.Prelude.{◌≡◌};
 
 use crate::record::{first_text, record_of, second_text, yaml_c_token};

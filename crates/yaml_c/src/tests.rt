@@ -64,7 +64,7 @@ fn records_and_texts(rt: HostRuntime) -> Result<(), Fail> {
     Ok(())
 }
 
-/// A quoted scalar that is not closed: the texts of the fault stand behind those of the tokens.
+/// A quoted scalar that is not closed: the texts of the fault come after those of the tokens.
 #[test]
 fn fault_and_its_texts(rt: HostRuntime) -> Result<(), Fail> {
     let mut tokens = [NO_TOKEN; 3];
@@ -114,7 +114,7 @@ fn rooms_that_are_too_small(rt: HostRuntime) -> Result<(), Fail> {
     Ok(())
 }
 
-/// A setting or a limit that is none touches nothing but the answer.
+/// A setting or a limit that is wrong touches nothing but the answer.
 #[test]
 fn wrong_settings_and_limits(rt: HostRuntime) -> Result<(), Fail> {
     for (setting, limit, wanted) in [

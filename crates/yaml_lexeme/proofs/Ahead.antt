@@ -179,7 +179,7 @@ to_part m n p q (Err e) f a h g = record { goes = tt }
 pub to_part_bind : {B : Type 0} {n : ℕ} {p q : Place} {r : Result Place Offence} {f : Place → Part B} → (m : ℕ) → IsAhead m p q → GoesTo 0 q r → ((x : Place) → IsAhead m p x → PartGoes n p (f x)) → PartGoes n p (r >>= f)
 to_part_bind {B} {n} {p} {q} {r} {f} m a h g = to_part m n p q r f a h.goes g
 
--- where a mark in what was read stands
+-- where a mark in what was read is
 abbrev Spanning : {A : Type 0} → (A → yaml_mark_t) → ℕ → Place → Read A → Type 0
 Spanning mark n p (Ok f) = Spans n p (mark f.value) f.end
 Spanning mark n p (Err e) = Unit {0}

@@ -20,7 +20,7 @@ use Rattle.yaml_lexeme.specs.Runs.{class_test, is_line, is_quiet, begins, trim, 
 use Rattle.yaml_lexeme.proofs.Quiet.{along, Over, over, count_chars}
 use Rattle.yaml_lexeme.proofs.Trims.{trimmed, trim_bytes}
 
--- what stands in a line is no break
+-- the characters of a class of a line are no breaks
 in_line : (class : class_t) (c : ℕ) → is_line class ≡ true → class_test class c ≡ true → is_break c ≡ false
 in_line BLANK c l h = absurd cc
 in_line (GAP_BLANK tabs) c l h = absurd cc
@@ -61,7 +61,7 @@ longer : (cs : List ℕ) → length cs ≤ length (utf8 cs)
 longer [] = omega arith
 longer (c ∷ cs) = omega (arith, longer cs, length-append (encode c) (utf8 cs), length-encode c, len_utf8_bounds c)
 
--- The place behind what is kept of n bytes of k characters, of which none needs a closer look.
+-- The place after what is kept of n bytes of k characters, of which none needs a closer look.
 pub record Back (class : class_t) (m : yaml_mark_t) (bytes : List ℕ) (p : Place) (n k kept : ℕ) : Type 0 where
   pub within : kept ≤ n
   pub inside : kept ≤ length bytes

@@ -173,7 +173,7 @@ header_like n p q a =
     like_if (is_some x.value && is_sign (first x.end)) (is_some x.value && is_sign (first z)) (λ h. rw (b.same 0 (omega arith)) refl)
     (like_found 1 refl (λ h. refl) (λ h. ap (λ (c : ℕ). signed c x.value) (sym (b.same 0 (omega arith))))) found_here))
 
--- behind the leading empty lines
+-- after the leading empty lines
 abbrev block_end : Bool → header_t → ℕ → Found Blanks → Read scalar_t
 block_end folded header least leading =
     many (text_line (block_indent least header.digit leading.value.column leading.end.mark.column)) leading.end >>= λ lines.
@@ -182,7 +182,7 @@ block_end folded header least leading =
 abbrev block_value_of : Bool → header_t → Blanks → List Line → scalar_t
 block_value_of folded header leading lines = record { value = utf8 (block_value folded header.chomp leading.breaks lines); end = end_of leading.end lines; passed_break = false }
 
--- behind the header's line
+-- after the header's line
 abbrev block_lines : Bool → ℕ → header_t → Place → Read scalar_t
 block_lines folded least header start = blank_lines (leading_limit least header.digit) start >>= λ leading. block_end folded header least leading
 

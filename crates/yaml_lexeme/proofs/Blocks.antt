@@ -29,7 +29,7 @@ use Rattle.yaml_lexeme.specs.declared.block.chomp_t.TheVariants.{STRIP, CLIP, KE
 use Rattle.yaml_lexeme.specs.declared.block.header_t.{header_t}
 use Rattle.yaml_lexeme.specs.Lexeme.{Scalar as scalar_t}
 
--- where block_indent ends
+-- the place after indentation
 abbrev pub indent_end : Option ℕ → Place → Place
 indent_end limit p = skip (indent_len limit p) p
 
@@ -42,7 +42,7 @@ pub indent_within : (limit : Option ℕ) (p q : Place) → after_indent limit p 
 unfolding after_indent
 indent_within limit p q e = indent_if (is_indenting 0x09 limit (indent_end limit p)) p q (indent_end limit p) (omega (arith, length_skip (indent_len limit p) p)) e
 
--- what stands behind an block_indent
+-- what follows indentation
 abbrev pub blank_at : Place → Part Blank
 blank_at q = if nat_lt 0 (break_len q) then part (record { column = q.mark.column; break = written (first q) }) (skip (break_len q) q) else over
 
@@ -83,7 +83,7 @@ added (b ∷ bs) out column =
     added bs (out ++ encode_utf8 b.break) (max column b.column)
     ∙ ap (λ (xs : List ℕ). (xs, fold_list max (max column b.column) (map (λ b. b.column) bs))) (append_assoc out (encode_utf8 b.break) (utf8 (map (λ b. b.break) bs)))
 
--- Empty lines are being read: those up to p are, and its block_indent, up to q.
+-- Empty lines are being read: those up to p are, and the indentation there, up to q.
 pub record Blanking (limit : Option ℕ) (start : Place) (old : List ℕ) (q : Place) (out : List ℕ) (column : ℕ) (end : yaml_mark_t) : Type 0 where
   pub line : Place
   pub indent : after_indent limit line ≡ Ok q
@@ -93,7 +93,7 @@ pub record Blanking (limit : Option ℕ) (start : Place) (old : List ℕ) (q : P
 pub blanking_begins : (limit : Option ℕ) (start q : Place) (old : List ℕ) (end : yaml_mark_t) → end ≡ start.mark → after_indent limit start ≡ Ok q → Blanking limit start old q old 0 end
 blanking_begins limit start q old end m e = record { line = start; indent = e; mark = m; so_far = refl }
 
--- behind the next break
+-- after the next break
 pub next_blank : (limit : Option ℕ) (start : Place) (old : List ℕ) (q : Place) (out : List ℕ) (column : ℕ) (end : yaml_mark_t) → 0 < break_len q → Blanking limit start old q out column end
     → let p = skip (break_len q) q in
     (length p.rest < length q.rest) × (gather add_blank (out ++ encode_utf8 (written (first q)), max column q.mark.column) (many (blank_line limit) p) ≡ gather add_blank (old, 0) (many (blank_line limit) start))
@@ -114,7 +114,7 @@ blanks_is : (limit : Option ℕ) (p : Place) → blank_lines limit p ≡ after_b
 unfolding blank_lines
 blanks_is limit p = refl
 
--- an block_indent is refused
+-- indentation is refused
 pub blanks_refused : (limit : Option ℕ) (start p : Place) (old : List ℕ) (s : State) (o : Offence) → gather add_blank s (many (blank_line limit) p) ≡ gather add_blank (old, 0) (many (blank_line limit) start)
     → after_indent limit p ≡ Err o → blank_lines limit start ≡ Err o
 blanks_refused limit start p old s o h e =
@@ -379,7 +379,7 @@ blocks_all folded least start chomp indent p out new tail h b e =
     let value : new ≡ out ++ utf8 (chomped chomp b.last) = e ∙ ap (λ (xs : List ℕ). out ++ xs) (chomped_bytes chomp tail b.last b.keeps) in
     rw (value, b.keeps.end) (sym b.so_far ∙ ap (finish chomp) all)
 
--- what a block scalar is behind its header and leading empty lines
+-- what a block scalar is after its header and leading empty lines
 abbrev tail_of : Bool → chomp_t → Blanks → Read (List Line) → Read scalar_t
 tail_of folded chomp b m = m >>= λ lines. found (record { value = utf8 (block_value folded chomp b.breaks lines.value); end = end_of_lines b.end lines.value; passed_break = false }) lines.end
 

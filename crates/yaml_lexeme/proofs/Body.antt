@@ -48,7 +48,7 @@ marked : (b : Bool) (r : Result Bool refusal_t) (value old new : List ℕ) (p q 
 marked true r value old new p q e v = rw e refl
 marked false r value old new p q e v = rw e (v, refl)
 
--- a part behind which no marker may stand
+-- a part after which no marker may follow
 pub takes_unmarked : (read : Part (List ℕ)) (r : Result Bool refusal_t) (value old new : List ℕ) (p q : Place) → read ≡ unmarked value q
     → r ≡ cond (is_marker q) (Err (errors.OFFENCE DOCUMENT_MARKER)) (Ok true) → new ≡ old ++ utf8 value → Takes utf8 r old new p q read
 takes_unmarked read r value old new p q e f v = rw e (marked (is_marker q) r value old new p q f v)

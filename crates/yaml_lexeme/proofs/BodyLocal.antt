@@ -39,7 +39,7 @@ choose_move : (b : Bool) (value : List ℕ) (x y : Place) → cond b (refuse DOC
 choose_move true value x y = refl
 choose_move false value x y = refl
 
--- the same value behind k characters, or a marker there
+-- the same value after k characters, or a marker there
 unmarked_move : (k : ℕ) (v w : List ℕ) (p q x y : Place) → x ≡ skip k p → y ≡ skip k q → v ≡ w → Agree (k + 8) p q → unmarked w y ≡ move_part (unmarked v x) (skip k q)
 unmarked_move k v w p q x y ex ey ev a =
     let there : Agree 4 x y = rw (ex, ey) (agree_less 4 8 (skip k p) (skip k q) (omega arith) (agree_skip k 7 p q a)) in

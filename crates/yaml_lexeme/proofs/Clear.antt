@@ -1,4 +1,4 @@
--- Reading ahead to places that part no CR LF.
+-- Reading ahead to places that are not between CR and LF.
 use Rattle.std.proofs.Common.{◌≡◌, ℕ, zero, suc, ◌+◌, ◌-◌, ◌≤◌, Bool, true, false, cond, ◌==◌, ◌&&◌, if◌then◌else◌, inl, inr, List, [], ◌∷◌, length, slice_index, refl, sym, ap, ◌∙◌, arith, get_or-drop}
 use Rattle.std.proofs.lemmas.Bool.{cases_Bool, cases_lt}
 use Rattle.std.proofs.lemmas.Bool.Decides.{nat_tests}
@@ -11,12 +11,12 @@ use Rattle.yaml_lexeme.proofs.Places.{skip_none, skip_skip, length_skip}
 use Rattle.yaml_lexeme.specs.Order.{IsAhead}
 use Rattle.yaml_lexeme.specs.Place.{Place, first, peek, skip, run_len, behind, break_len}
 
--- CR and LF of one break stand on the two sides of the place behind n of the characters
+-- CR and LF of one break are on the two sides of the place after n of the characters
 abbrev pub parts : List ℕ → ℕ → Bool
 parts cs zero = false
 parts cs (suc n) = is_crlf (slice_index cs n) (slice_index cs (suc n))
 
--- q is ahead of p, and if it is further on it parts no CR LF
+-- q is ahead of p, and if it is further on it is not between CR and LF
 pub record Clear (p q : Place) : Type 0 where
   pub count : ℕ
   pub within : count ≤ length p.rest
@@ -55,7 +55,7 @@ clear_ahead p q a = record { count = a.count; least = omega arith; within = a.wi
 not_crlf : (c d : ℕ) → d ≡ 0 → is_crlf c d ≡ false
 not_crlf c d e = grind (arith, nat_tests)
 
--- at the end nothing is parted
+-- the end is not between CR and LF
 pub end_whole : (n : ℕ) (cs : List ℕ) → length cs ≤ n → parts cs n ≡ false
 end_whole zero cs h = refl
 end_whole (suc n) cs h = not_crlf (slice_index cs n) (slice_index cs (suc n)) (get_or_past cs (suc n) 0 h)
@@ -71,7 +71,7 @@ clear_skip k p h =
 pub no_return : (c d : ℕ) → (c == 0x0D) ≡ false → is_crlf c d ≡ false
 no_return c d h = grind (arith, nat_tests)
 
--- behind a character that is not CR
+-- after a character that is not CR
 pub clear_behind : (k : ℕ) (p : Place) → (peek p k == 0x0D) ≡ false → Clear p (skip (suc k) p)
 clear_behind k p h = clear_skip (suc k) p (no_return (peek p k) (peek p (suc k)) h)
 
@@ -82,7 +82,7 @@ pub clear_if : (b : Bool) {p q r : Place} → (b ≡ true → Clear p q) → (b 
 clear_if true {p} {q} {r} a b = a refl
 clear_if false {p} {q} {r} a b = b refl
 
--- a run with this test ends within no CR LF
+-- a run with this test does not end between CR and LF
 abbrev pub IsSure : (ℕ → Bool) → Type 0
 IsSure test = (c d : ℕ) → test c ≡ true → test d ≡ false → is_crlf c d ≡ false
 
@@ -144,7 +144,7 @@ break_one : (b : Bool) (p : Place) → is_crlf (first p) (peek p 1) ≡ false �
 break_one true p h = clear_skip 1 p h
 break_one false p h = clear_skip 0 p refl
 
--- behind a break
+-- after a break
 pub clear_break : (p : Place) → Clear p (skip (break_len p) p)
 clear_break p =
     elim (cases_Bool (first p == 0x0D && peek p 1 == 0x0A)) [

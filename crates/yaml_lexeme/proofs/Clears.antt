@@ -1,4 +1,4 @@
--- Where reading ends, and where it is refused, no CR LF is parted: small readers.
+-- No place where reading ends or is refused is between CR and LF: small readers.
 use Rattle.std.proofs.Common.{◌≡◌, ℕ, zero, suc, ◌+◌, ◌-◌, Bool, true, false, not, ◌==◌, ◌&&◌, ◌||◌, nat_lt, if◌then◌else◌, List, length, codes, Option, Some, None, Result, Ok, Err, refl, sym, arith}
 use Rattle.std.proofs.lemmas.Bool.Decides.{nat_tests}
 use Rattle.std.specs.Str.{bytes_eq}

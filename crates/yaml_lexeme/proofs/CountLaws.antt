@@ -15,7 +15,7 @@ walk zero m cs = refl
 walk (suc n) m [] = refl
 walk (suc n) m (c ∷ cs) = walk n (mark_behind m c (slice_index cs 0)) cs
 
--- what is left behind n characters
+-- what is left after n characters
 pub rest_behind : (n : ℕ) (p : Place) → (skip n p).rest ≡ drop n p.rest
 unfolding skip
 rest_behind n p = ap (λ (q : Place). q.rest) (walk n p.mark p.rest)

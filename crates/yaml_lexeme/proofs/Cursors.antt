@@ -67,7 +67,7 @@ rest_skip n p = rest_from n p.mark p.rest
 take_parts : (n : ℕ) (cs : List ℕ) → utf8 cs ≡ utf8 (take n cs) ++ utf8 (drop n cs)
 take_parts n cs = ap utf8 (sym (take-append-drop n cs)) ∙ encodes-append (take n cs) (drop n cs)
 
--- the bytes that n characters leave behind them
+-- the bytes that are left after n characters
 pub skip_bytes : (k : ℕ) (p q : Place) (whole left : List ℕ) → q ≡ skip k p → whole ≡ utf8 p.rest → left ≡ utf8 q.rest → (length left ≤ length whole) × (take (length whole - length left) whole ≡ utf8 (take k p.rest))
 skip_bytes k p q whole left e w l =
     let r : left ≡ utf8 (drop k p.rest) = l ∙ ap (λ (x : Place). utf8 x.rest) e ∙ ap utf8 (rest_skip k p) in
@@ -181,11 +181,11 @@ pub at_front : (cs : List ℕ) → IsMarkOf cs (record { index = 0; line = 0; co
 unfolding skip
 at_front cs = record { within = omega arith; mark_is = refl }
 
--- the character k places on stands first at the place there
+-- the character k places on is the first at the place there
 pub peek_on : (k : ℕ) (p : Place) → peek (skip k p) 0 ≡ peek p k
 peek_on k p = ap (λ (x : List ℕ). get_or x 0 0) (rest_skip k p) ∙ get_or-drop k p.rest 0 0 ∙ ap (λ i. get_or p.rest i 0) (add-zero k)
 
--- the place behind some of the spaces in front
+-- the place after some of the first spaces
 pub record SpaceMove (m : yaml_mark_t) (bytes : List ℕ) (p : Place) (k : ℕ) : Type 0 where
   pub within : k ≤ length bytes
   pub text : IsText (drop k bytes)

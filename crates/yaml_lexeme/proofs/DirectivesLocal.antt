@@ -81,7 +81,7 @@ version_like n p q a =
     like_if (not (first x.end == 0x2E)) (not (first z == 0x2E)) (λ h. rw (b.same 0 (omega arith)) refl) refuse_here
     (like_map (λ (d : ℕ). VERSION_DIRECTIVE (pos x.value) (pos d)) (like_on number number_like m 1 x.end z (skip 1 x.end) (skip 1 z) b refl (λ h. refl))))
 
--- a handle, behind its name
+-- a handle, after its name
 abbrev handle_then : List ℕ → Place → Read (List ℕ)
 handle_then letters end = if first end == 0x21 then found (codes "!" ++ letters ++ codes "!") (skip 1 end) else if nat_lt 0 (length letters) then refuse OPEN_HANDLE end else found (codes "!") end
 
@@ -114,7 +114,7 @@ named_like letters n p q a =
     like_if (bytes_eq letters (codes "YAML")) (bytes_eq letters (codes "YAML")) (λ h. refl) (version_like n p q a)
     (like_if (bytes_eq letters (codes "TAG")) (bytes_eq letters (codes "TAG")) (λ h. refl) (tag_handle_like n p q a) refuse_here)
 
--- the rest of a line, behind a comment
+-- the rest of a line, after a comment
 abbrev pub line_then : {A : Type 0} → A → Place → Read A
 line_then v q = if is_break (first q) || is_z (first q) then found v (skip (break_len q) q) else refuse NO_COMMENT_OR_BREAK q
 

@@ -31,7 +31,7 @@ run_stops test p h =
 pub run_longest : RunIsLongest
 run_longest test p = (pass_run test p, run_stops test p)
 
--- characters that pass are the run, or one that passes stands behind them
+-- characters that pass are the run, or one that passes follows them
 passes_cases : (test : ℕ → Bool) (p q : Place) → Passes test p q → (q ≡ behind test p) ⊎ ((test (first q) ≡ true) × (length (behind test p).rest ≤ length q.rest))
 passes_cases test p q a =
     let k = run_len test p in
@@ -48,7 +48,7 @@ passes_cases test p q a =
     clash : (b : Bool) → b ≡ true → b ≡ false → ⊥
     clash b x y = cc
 
--- what stands at a place is no break
+-- a `#` is no break
 hash_no_break : (p : Place) → first p ≡ 0x23 → break_len p ≡ 0
 hash_no_break p e = rw e refl
 
@@ -75,7 +75,7 @@ comment_rest p = within_if (first p == 0x23) p (behind is_in_line p) p (omega (a
 is_hash : (c : ℕ) → (c == 0x23) ≡ true → c ≡ 0x23
 is_hash c h = grind (arith, nat_tests)
 
--- a comment, or none, is the one that is taken, or a `#` stands behind it
+-- a comment, or none, is the one that is taken, or a `#` follows it
 comment_cases : (p q : Place) → MayBeComment p q → (q ≡ after_comment p) ⊎ Short (after_comment p) q
 comment_cases p q (inl e) = elim (cases_Bool (first p == 0x23)) [
   | inl hash ↦ inr (rw e (hash_no_break p (is_hash (first p) hash)), rw e (comment_rest p))
@@ -98,7 +98,7 @@ hash_no_blank tabs c e h = absurd (none tabs (subst (λ (d : ℕ). is_gap_blank 
     none true h = cc
     none false h = cc
 
--- where a blank stands behind blanks, a gap line that ends there is short
+-- if a blank follows blanks, a gap line that ends there is short
 blank_ends : (tabs : Bool) (r to x : Place) → is_gap_blank tabs (first to) ≡ true → length (behind (is_gap_blank tabs) r).rest ≤ length to.rest → MayBeComment to x → Short (after_comment (behind (is_gap_blank tabs) r)) x
 blank_ends tabs r to x b l (inl e) =
     let c = comment_rest (behind (is_gap_blank tabs) r) in
@@ -106,7 +106,7 @@ blank_ends tabs r to x b l (inl e) =
     (rw e (blank_no_break tabs to b), rw e s)
 blank_ends tabs r to x b l (inr c) = absurd (hash_no_blank tabs (first to) c.0 b)
 
--- the blanks and comment behind a byte order mark, or where none stands
+-- the blanks and comment after a byte order mark, or after none
 line_from : (tabs : Bool) (r to x : Place) → Passes (is_gap_blank tabs) r to → MayBeComment to x → (x ≡ after_comment (behind (is_gap_blank tabs) r)) ⊎ Short (after_comment (behind (is_gap_blank tabs) r)) x
 line_from tabs r to x a c =
     elim (passes_cases (is_gap_blank tabs) r to a) [
@@ -124,7 +124,7 @@ mark_no_blank tabs c e h = absurd (none tabs (subst (λ (d : ℕ). is_gap_blank 
 mark_no_hash : (c : ℕ) → c ≡ byte_order_mark → c ≡ 0x23 → ⊥
 mark_no_hash c e h = let d : byte_order_mark ≡ 0x23 = sym e ∙ h in absurd (omega arith)
 
--- a byte order mark that is left where it stands ends the line
+-- a byte order mark that is not taken ends the line
 left_mark : (tabs : Bool) (p to x : Place) → first p ≡ byte_order_mark → Passes (is_gap_blank tabs) p to → MayBeComment to x → x ≡ p
 left_mark tabs p to x m a c = elim (cases_lt 0 a.count) [
   | inl some ↦ absurd (mark_no_blank tabs (first p) m (a.all 0 some))
@@ -145,7 +145,7 @@ both_true false b h = absurd cc
 is_mark : (c : ℕ) → (c == byte_order_mark) ≡ true → c ≡ byte_order_mark
 is_mark c h = grind (arith, nat_tests)
 
--- a gap line is the one that is taken, or is shorter and ends where no break stands
+-- a gap line is the one that is taken, or is shorter and ends before no break
 line_cases : (tabs : Bool) (p x : Place) → GapLine tabs p x → (x ≡ after_gap_line tabs p) ⊎ Short (after_gap_line tabs p) x
 unfolding after_gap_line
 line_cases tabs p x g = elim (from_is g.mark) [
@@ -203,14 +203,14 @@ no_line tabs p = record {
   comment = inl refl;
 }
 
--- from p up to q stands the longest text
+-- from p up to q is the longest text
 record Reaches (flow tabs : Bool) (p q : Place) : Type 0 where
   breaks : ℕ
   text : GapLines breaks flow tabs p q
   broken : nat_lt 0 (break_len (after_gap_line tabs p)) ≡ nat_lt 0 breaks
   longest : (n : ℕ) (x : Place) → GapLines n flow tabs p x → length q.rest ≤ length x.rest
 
--- where no break stands behind the line
+-- if no break follows the line
 ends_here : (flow tabs : Bool) (p : Place) → break_len (after_gap_line tabs p) ≡ 0 → Reaches flow tabs p (after_gap_line tabs p)
 ends_here flow tabs p h = record { breaks = 0; text = line_is tabs p; broken = rw h refl; longest = none }
   where
@@ -226,7 +226,7 @@ ends_here flow tabs p h = record { breaks = 0; text = line_is tabs p; broken = r
     none zero x g = short x (line_cases tabs p x g)
     none (suc n) x g = absurd (never g.0 g.2 (line_cases tabs p g.0 g.1))
 
--- where one stands, and the longest text behind it
+-- if a break follows, and then the longest text
 goes_on : (flow tabs : Bool) (p q : Place) → let g = after_gap_line tabs p in 0 < break_len g → Reaches flow flow (skip (break_len g) g) q → Reaches flow tabs p q
 goes_on flow tabs p q h r = record { breaks = suc r.breaks; text = (after_gap_line tabs p, line_is tabs p, h, r.text); broken = grind (arith, nat_tests); longest = all }
   where

@@ -124,7 +124,7 @@ gap_space p e h flow allowed =
     let run = (behind_more (is_gap_blank tabs) p blank refl).1 ∙ behind_none (is_gap_blank tabs) q s.blank in
     gap_in_line flow allowed p q (line_is tabs p q mark run s.comment) (no_break q s.break)
 
--- a run goes on behind a run of fewer characters
+-- a run goes on after a run of fewer characters
 run_on : (test more : ℕ → Bool) → ((c : ℕ) → test c ≡ true → more c ≡ true) → test 0 ≡ false → more 0 ≡ false → (fuel : ℕ) (p : Place) → length p.rest ≤ fuel → behind more p ≡ behind more (behind test p)
 run_on test more sub z y zero p l =
     elim (cases_Bool (test (first p))) [

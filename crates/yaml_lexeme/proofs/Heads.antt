@@ -1,4 +1,4 @@
--- What the bytes in front of a text say of its first character.
+-- What the first bytes of a text say of its first character.
 use Rattle.std.proofs.Common.{◌≡◌, ℕ, ◌+◌, ◌<◌, ◌≤◌, ◌⊎◌, inl, inr, List, [], ◌∷◌, ◌++◌, length, get_or, drop, min, refl, sym, ap, ◌∙◌, subst, arith}
 use Rattle.std.specs.Str.{chars}
 use Rattle.std.specs.Char.{len_utf8, InScalarRange}
@@ -67,11 +67,11 @@ no_bytes bytes (c ∷ cs) e t none = absurd (omega (arith, ap length (bytes_of b
 pub none_left : (bytes : List ℕ) → IsText bytes → length bytes ≤ 0 → chars bytes ≡ []
 none_left bytes t none = no_bytes bytes (chars bytes) refl t none
 
--- where characters are, bytes are
+-- if there are characters, there are bytes
 pub some_bytes : (bytes : List ℕ) → IsText bytes → 0 < length (chars bytes) → 0 < length bytes
 some_bytes bytes t h = elim (cases_lt 0 (length bytes)) [ inl some ↦ some | inr none ↦ absurd (omega (arith, h, ap length (none_left bytes t none))) ]
 
--- the bytes behind the first character
+-- the bytes after the first character
 pub record Past (bytes : List ℕ) (w : ℕ) : Type 0 where
   pub text : IsText (drop w bytes)
   pub rest : chars (drop w bytes) ≡ drop 1 (chars bytes)
@@ -104,14 +104,14 @@ shrinks_from : (bytes left cs : List ℕ) → chars bytes ≡ cs → IsText byte
 shrinks_from bytes left [] e t u d some = absurd (omega (arith, ap length (bytes_of bytes [] t e)))
 shrinks_from bytes left (c ∷ cs) e t u d some = omega (arith, ap length (bytes_of bytes (c ∷ cs) t e), ap length (bytes_of left cs u d), length-append (encode c) (utf8 cs), length-encode c)
 
--- how many bytes are left behind the first character
+-- how many bytes are left after the first character
 pub shrinks : (bytes left : List ℕ) → IsText bytes → IsText left → chars left ≡ drop 1 (chars bytes) → 0 < length bytes → length left + len_utf8 (get_or (chars bytes) 0 0) ≡ length bytes
 shrinks bytes left t u d some = shrinks_from bytes left (chars bytes) refl t u d some
 
 one_byte : (b : ℕ) → b < 128 → width_of b ≡ 1
 one_byte b h = grind (arith, nat_tests)
 
--- behind a byte of ASCII
+-- after an ASCII byte
 pub past_ascii : (bytes : List ℕ) → IsText bytes → 0 < length bytes → get_or bytes 0 0 < 128 → Past bytes 1
 past_ascii bytes t some low = past bytes 1 t (omega (arith, one_byte (get_or bytes 0 0) low))
 

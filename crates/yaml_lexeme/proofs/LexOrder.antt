@@ -89,7 +89,7 @@ chunk_from false c d h s = grind (arith, nat_tests)
 plain_starts : (flow : Bool) (p : Place) → kind_at flow p ≡ Some kind.PLAIN → is_chunk flow (first p) (peek p 1) ≡ true
 plain_starts flow p h = let r = plain_rows flow p h in chunk_from flow (first p) (peek p 1) r.0 r.1
 
--- a lexeme stands at p
+-- a lexeme is at p
 abbrev Stands : Place → Read yaml_lexeme_t → Type 0
 Stands p (Ok f) = (f.value.start_mark ≡ p.mark) × (f.value.reach ≡ f.end.mark) × Spans 1 p f.value.end_mark f.end
 Stands p (Err e) = Unit {0}
@@ -161,7 +161,7 @@ end_ends c p = let e = end_after p.mark in (refl, refl, e.0, e.1)
 pub stream_end_order : StreamEndOrder
 stream_end_order c p f e = subst (λ (r : Read yaml_lexeme_t). Ends p r) e (end_ends c p)
 
--- a lexeme behind a gap that ends at p
+-- a lexeme after a gap that ends at p
 follows_other : (k : yaml_lexeme_kind_t) (c : yaml_context_t) (so_far : yaml_mark_t) (p : Place) (f : Found yaml_lexeme_t) → (k ≡ kind.STREAM_END → ⊥) → is_stream_end k ≡ false → IsAfter 0 so_far p.mark → kind_at (in_flow c) p ≡ Some k → lex k c p ≡ Ok f → Follows k so_far f.value
 follows_other k c so_far p f other no_end a h e =
     let s = lexeme_spans k c p f h other e in

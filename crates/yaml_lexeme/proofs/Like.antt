@@ -10,7 +10,7 @@ use Rattle.yaml_lexeme.specs.Place.{Place, skip, run, run_len, behind}
 use Rattle.yaml_lexeme.specs.Reading.{Found, Read, found, refuse, ◌>>=◌, Part, part, over, many}
 use Rattle.yaml_lexeme.specs.declared.problem.problem_t.{problem_t}
 
--- What is read from p on, and the same from q on, where p and q have n characters in common.
+-- What is read from p on, and the same from q on, if p and q have n characters in common.
 pub record Like {A : Type 0} (n : ℕ) (p q : Place) (r s : Read A) : Type 0 where
   pub count : ℕ
   pub ends : EndsAt count p r
@@ -30,7 +30,7 @@ IsPartLike one = (n : ℕ) (p q : Place) → Agree n p q → PartLike n p q (one
 pub agree_self : (p : Place) → Agree 0 p p
 agree_self p = record { mark = refl; left = omega arith; right = omega arith; same = λ i h. refl }
 
--- behind k characters, 8 of which are common
+-- after k characters, 8 of which are common
 pub agree_behind : (n k : ℕ) (p q : Place) → k + 8 ≤ n → Agree n p q → Agree (n - k) (skip k p) (skip k q)
 agree_behind n k p q h a =
     let m = n - k - 1 in
@@ -98,7 +98,7 @@ pub like_bind : {A B : Type 0} {n : ℕ} {p q : Place} {r s : Read A} → (f g :
     → ((x : Found A) (z : Place) (m : ℕ) → Agree m x.end z → Like m x.end z (f x) (g (record { value = x.value; end = z }))) → Like n p q (r >>= f) (s >>= g)
 like_bind {A} {B} {n} {p} {q} {r} {s} f g a l more = bind_like n p q r s f g a l more
 
--- a run, and what is read behind it
+-- a run, and what is read after it
 pub like_run : {A : Type 0} (read : List ℕ → Place → Read A) → ((cs : List ℕ) → IsLike (read cs)) → (test : ℕ → Bool) (n : ℕ) (p q : Place) → Agree n p q
     → Like n p q (read (run test p) (behind test p)) (read (run test q) (behind test q))
 like_run read all test n p q a =
@@ -220,7 +220,7 @@ pub step_if : {n : ℕ} {p q x y u v : Place} → (b c : Bool) → (8 ≤ n → 
 step_if {n} {p} {q} {x} {y} {u} {v} true c e hx hy = record { count = hx.count; is = hx.is; same = λ h. ap (λ (d : Bool). if d then u else v) (e (omega arith)) ∙ hx.same h }
 step_if {n} {p} {q} {x} {y} {u} {v} false c e hx hy = record { count = hy.count; is = hy.is; same = λ h. ap (λ (d : Bool). if d then u else v) (e (omega arith)) ∙ hy.same h }
 
--- one step behind another
+-- one step after another
 pub step_then : (f : Place → Place) → IsStep f → (n : ℕ) (p q x y : Place) → Agree n p q → Step n p q x y → Step n p q (f x) (f y)
 step_then f all n p q x y a s =
     let k = s.count in
@@ -234,7 +234,7 @@ step_then f all n p q x y a s =
           record { count = k + t.count; is = t.is ∙ ap (skip t.count) s.is ∙ skip_skip k t.count p; same = λ h. t.same (omega arith) ∙ ap (skip t.count) (s.same enough) ∙ skip_skip k t.count q }
     ]
 
--- what is read behind a step
+-- what is read after a step
 pub like_step : {A : Type 0} (read : Place → Read A) → IsLike read → (n : ℕ) (p q x y : Place) → Agree n p q → Step n p q x y → Like n p q (read x) (read y)
 like_step read all n p q x y a s = like_on read all n s.count p q x y a s.is s.same
 

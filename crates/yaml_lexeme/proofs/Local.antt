@@ -31,7 +31,7 @@ agree_one n p q a =
       same = λ i l. peek_skip p i hp ∙ a.same (1 + i) (omega arith) ∙ sym (peek_skip q i hq);
     }
 
--- and so behind k characters
+-- and so after k characters
 pub agree_skip : (k n : ℕ) (p q : Place) → Agree (k + (1 + n)) p q → Agree (1 + n) (skip k p) (skip k q)
 agree_skip zero n p q a = rw (skip_none p, skip_none q) (agree_less (1 + n) _ p q (omega arith) a)
 agree_skip (suc k) n p q a =
@@ -51,7 +51,7 @@ take_same n p q a =
     let lq = length-take-le n q.rest a.right in
     ext_get_or 0 (take n q.rest) (take n p.rest) (omega arith) (λ i l. get_or-take n q.rest i 0 (omega arith) ∙ sym (a.same i (omega arith)) ∙ sym (get_or-take n p.rest i 0 (omega arith)))
 
--- what was read, with another place behind it
+-- what was read, with another place after it
 abbrev pub move_part : {A : Type 0} → Part A → Place → Part A
 move_part (Ok (Some f)) q = part f.value q
 move_part (Ok None) q = over
@@ -92,7 +92,7 @@ ends_behind : {A : Type 0} → (k n : ℕ) (p : Place) (r : Read A) → EndsAt n
 ends_behind k n p (Ok r) h = h ∙ skip_skip k n p
 ends_behind k n p (Err r) h = h ∙ skip_skip k n p
 
--- the turn of a list that is local behind its first part
+-- the turn of a list that is local after its first part
 local_turn : {A : Type 0} → (one : Place → Part A) → Shortens one → (p : Place) (k : ℕ) (r : Part A) → one p ≡ r → IsShorter p r → PartEndsAt k p r
     → ((q : Place) → Agree (k + 8) p q → one q ≡ move_part r (skip k q)) → ((x : Place) → length x.rest < length p.rest → Local (many one) x) → Local (many one) p
 local_turn one short p k (Err e) is shorter ends same rest =
@@ -134,7 +134,7 @@ local_within one short parts (suc n) p h =
 pub local_many : {A : Type 0} → (one : Place → Part A) → Shortens one → ((p : Place) → LocalPart one p) → (p : Place) → Local (many one) p
 local_many one short parts p = local_within one short parts (length p.rest + 1) p (omega arith)
 
--- what stands behind k characters
+-- what comes after k characters
 pub local_behind : {A : Type 0} → (read : Place → Read A) (k : ℕ) (p : Place) → Local read (skip k p) → Local (λ x. read (skip k x)) p
 local_behind read k p here =
     let n = here.count in

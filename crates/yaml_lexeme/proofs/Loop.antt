@@ -1,4 +1,4 @@
--- Lists of parts whose end looks ahead are local together with what is read behind them.
+-- Lists of parts whose end looks ahead are local together with what is read after them.
 use Rattle.std.proofs.Common.{◌≡◌, ℕ, zero, suc, ◌+◌, ◌<◌, List, [], ◌∷◌, length, Some, None, Ok, Err, refl, sym, ap, ◌∙◌, arith}
 use Rattle.yaml_lexeme.proofs.Like.{IsLike, found_here, refuse_here, like_bind, like_map}
 use Rattle.yaml_lexeme.proofs.Many.{IsShorter, Shortens, many_turn}
@@ -45,7 +45,7 @@ stopping r = r >>= λ b. found (stop b.value) b.end
 abbrev turning : {A B : Type 0} → (Place → Read (List A × B)) → Read (Next A B) → Read (List A × B)
 turning more r = r >>= λ x. after x.value more x.end
 
--- the parts, and what is read behind them
+-- the parts, and what is read after them
 abbrev pub finish : {A B : Type 0} → (Place → Read B) → Read (List A) → Read (List A × B)
 finish fin parts = parts >>= λ ls. with_parts ls.value (fin ls.end)
 

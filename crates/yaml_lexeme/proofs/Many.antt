@@ -46,7 +46,7 @@ many_turn one short p =
 abbrev pub joined : {A : Type 0} → (A → List ℕ) → Read (List A) → Read (List ℕ)
 joined bytes parts = parts >>= λ r. found (flat_map bytes r.value) r.end
 
--- Parts are being read: what was put out, what is still read, and what that makes.
+-- Parts are being read: the bytes so far, what is still to be read, and what that makes.
 abbrev pub Reading : {A : Type 0} → (A → List ℕ) → (Place → Part A) → Place → List ℕ → Read (List ℕ) → Type 0
 Reading bytes one p out whole = with_front out (joined bytes (many one p)) ≡ whole
 

@@ -17,7 +17,7 @@ use Rattle.yaml_text.specs.Classes.{is_alpha, is_hex}
 use Rattle.yaml_text.specs.Token.{TokenData as unnamed_yaml_token_t_data}
 use Rattle.yaml_text.specs.Token.TokenData.{TAG}
 
--- behind the letters
+-- after the letters
 abbrev name_then : List ℕ → Place → Read (List ℕ)
 name_then letters end = if nat_lt 0 (length letters) && is_behind_name (first end) then found letters end else refuse NO_NAME end
 

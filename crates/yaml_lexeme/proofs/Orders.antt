@@ -83,7 +83,7 @@ gap_order flow allowed p = let a = gap_ahead flow allowed p in (a, marks_after 0
 pub on : (k : ℕ) (p q : Place) → IsAhead 0 p q → IsAhead 0 p (skip k q)
 on k p q a = ahead_trans 0 0 p q (skip k q) a (ahead_any k q)
 
--- behind one character, or more
+-- after one character, or more
 pub next : (p q : Place) → 0 < length p.rest → IsAhead 0 (skip 1 p) q → IsAhead 1 p q
 next p q h a = ahead_trans 1 0 p (skip 1 p) q (ahead_skip 1 p (omega arith)) a
 

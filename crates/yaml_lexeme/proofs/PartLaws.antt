@@ -21,7 +21,7 @@ Reads {A} one p (Err e) = (ts : List (Piece A)) × (q : Place) × Pieces one p t
 abbrev piece_of : {A : Type 0} → ℕ → Place → A → Piece A
 piece_of n p value = record { text = take n p.rest; value = value }
 
--- a text, cut behind n characters
+-- a text, cut after n characters
 pub split : (n : ℕ) (p : Place) → p.rest ≡ take n p.rest ++ (skip n p).rest
 split n p = sym (ap (λ (cs : List ℕ). take n p.rest ++ cs) (rest_behind n p) ∙ take-append-drop n p.rest)
 
@@ -71,7 +71,7 @@ end_or p (Ok (Some f)) = f.end
 end_or p (Ok None) = p
 end_or p (Err e) = p
 
--- no part stands there
+-- no part is there
 abbrev IsNone : {A : Type 0} → Part A → Type 0
 IsNone (Ok (Some f)) = ⊥
 IsNone (Ok None) = Unit {0}
@@ -87,7 +87,7 @@ made {A} t u e v =
     let at : List ℕ → A → Piece A = λ x y. record { text = x; value = y } in
     ap (λ (x : List ℕ). at x t.value) e ∙ ap (λ (y : A). at u.text y) v
 
--- where what is read at p ends as far on, the same characters were read
+-- if what is read at p ends as far on, the same characters were read
 same_text : (a b r s : List ℕ) → a ++ r ≡ b ++ s → length r ≡ length s → a ≡ b
 same_text [] [] r s e l = refl
 same_text [] (y ∷ b) r s e l = let h = ap (λ (z : List ℕ). length z) e in absurd (omega (arith, length-append b s))
@@ -98,14 +98,14 @@ same_text (x ∷ a) (y ∷ b) r s e l =
     let g : x ≡ y = cc in
     ap (λ (z : ℕ). z ∷ a) g ∙ ap (λ (cs : List ℕ). y ∷ cs) h
 
--- at a place stands one piece
+-- there is one piece at a place
 same_piece : {A : Type 0} → (one : Place → Part A) (p : Place) (u t : Piece A) → IsPiece one p u → IsPiece one p t → u ≡ t
 same_piece one p u t g h =
     let e = sym g.read ∙ h.read in
     let ends : past u p ≡ past t p = ap (end_or p) e in
     made u t (same_text u.text t.text (past u p).rest (past t p).rest (sym g.text ∙ h.text) (ap (λ (y : Place). length y.rest) ends)) (ap (value_or u.value) e)
 
--- pieces from p on are the first of those that go on to where none stands
+-- pieces from p on are the first of those that go on to where there is none
 first_of : {A : Type 0} → (one : Place → Part A) (us ts : List (Piece A)) (p q x : Place) → Pieces one p ts q → IsNone (one q) → Pieces one p us x → (more : List (Piece A)) × (ts ≡ us ++ more)
 first_of one [] ts p q x h none g = (ts, refl)
 first_of one (u ∷ us) [] p q x h none g = absurd (subst IsNone (ap one h ∙ g.0.read) none)
@@ -131,7 +131,7 @@ fronts : {A : Type 0} → (v : A) (vs : List A) (r : Read (List A)) → with_fro
 fronts v vs (Ok r) = refl
 fronts v vs (Err e) = refl
 
--- the pieces, and what is read behind them
+-- the pieces, and what is read after them
 many_as : {A : Type 0} → (one : Place → Part A) → Advances one → (ts : List (Piece A)) (p q : Place) (r : Read (List A)) → Pieces one p ts q → many one q ≡ r → many one p ≡ with_front (values ts) r
 many_as one all [] p q r h e = ap (many one) (sym h) ∙ e ∙ begin r
 many_as one all (t ∷ ts) p q r h e =
@@ -150,7 +150,7 @@ of_found one p f h = record { pieces = h.0; values_are = h.2; is = longest one p
 pub many_longest : {A : Type 0} → (one : Place → Part A) → Advances one → (p : Place) (f : Found (List A)) → many one p ≡ Ok f → Longest one p f
 many_longest {A} one all p f e = of_found one p f (subst (λ (r : Read (List A)). Reads one p r) e (reads one all p))
 
--- and where it is refused
+-- and if it is refused
 pub many_refused : {A : Type 0} → (one : Place → Part A) → Advances one → (p : Place) (e : Offence) → many one p ≡ Err e → (ts : List (Piece A)) × (q : Place) × IsLongest one p ts q (Err e)
 many_refused {A} one all p e h =
     let r = subst (λ (r : Read (List A)). Reads one p r) h (reads one all p) in

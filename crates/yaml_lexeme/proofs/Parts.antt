@@ -24,7 +24,7 @@ use Rattle.yaml_text.specs.Chars.{utf8}
 use Rattle.yaml_text.specs.Classes.{is_break, is_z}
 use Rattle.yaml_lexeme.specs.declared.runs.class_t.{class_t}
 
--- The k characters in front stand within a line, and no run of blanks and breaks goes over their end.
+-- The first k characters are within a line, and no run of blanks and breaks goes over their end.
 pub record Whole (line : class_t) (k : ℕ) (cs : List ℕ) : Type 0 where
   pub within : k ≤ length cs
   pub each : (i : ℕ) → i < k → class_test line (get_or cs i 0) ≡ true
@@ -37,7 +37,7 @@ whole_behind line a b k cs e w = record {
   whole = λ i h. let f : drop (a + i) cs ≡ drop i (drop a cs) = sym (drop-drop i a cs) in omega (arith, w.whole (a + i) (omega arith), ap (prefix_len is_white) f);
 }
 
--- what stands unchanged between quotes is no break
+-- what quotes keep unchanged is no break
 pub in_quotes : (single : Bool) (c : ℕ) → class_test (line_of single) c ≡ true → is_break c ≡ false
 in_quotes true c h = grind (arith, nat_tests)
 in_quotes false c h = grind (arith, nat_tests)
@@ -96,7 +96,7 @@ pub space_first : (cs : List ℕ) → is_white (get_or cs 0 0) ≡ true → 0 < 
 space_first [] s h = absurd (omega arith)
 space_first (c ∷ cs) s h = let e : is_white c ≡ true = s in rw e (omega arith)
 
--- The bytes of a run may be put behind `out` as one piece.
+-- The bytes of a run may be appended to `out` as one piece.
 pub parts_over : (single : Bool) (fuel k : ℕ) (p : Place) (out : List ℕ) (whole : Read (List ℕ)) → k ≤ fuel → Whole (line_of single) k p.rest
     → Reading utf8 (body_part single) p out whole → Reading utf8 (body_part single) (skip k p) (out ++ utf8 (take k p.rest)) whole
 parts_over single fuel zero p out whole le w r =

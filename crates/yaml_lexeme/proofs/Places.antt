@@ -58,7 +58,7 @@ left_one : (m : yaml_mark_t) (cs : List ℕ) → length (skip_from 1 m cs).rest 
 left_one m [] = refl
 left_one m (c ∷ cs) = omega arith
 
--- what is left behind one character
+-- what is left after one character
 pub length_one : (p : Place) → length (skip 1 p).rest ≡ length p.rest - 1
 unfolding skip
 length_one p = left_one p.mark p.rest
@@ -104,7 +104,7 @@ left_by zero m cs = omega arith
 left_by (suc n) m [] = omega arith
 left_by (suc n) m (c ∷ cs) = omega (arith, left_by n (mark_behind m c (slice_index cs 0)) cs)
 
--- what is left behind n characters
+-- what is left after n characters
 pub length_skip : (n : ℕ) (p : Place) → length (skip n p).rest ≡ length p.rest - n
 unfolding skip
 length_skip n p = left_by n p.mark p.rest
@@ -120,7 +120,7 @@ is_there p k h = elim (cases_lt k (length p.rest)) [ inl within ↦ within | inr
 pub break_within : (p : Place) → 0 < break_len p → 0 < length p.rest
 break_within p h = is_there p 0 (grind (arith, nat_tests))
 
--- the place n characters behind one k characters on
+-- the place n characters after one k characters on
 pub skip_skip : (k n : ℕ) (p : Place) → skip n (skip k p) ≡ skip (k + n) p
 skip_skip zero n p = let e : 0 + n ≡ n = omega arith in rw e (ap (skip n) (skip_none p))
 skip_skip (suc k) n p = let e : suc k + n ≡ suc (k + n) = omega arith in ap (skip n) (skip_more k p) ∙ skip_skip k n (skip 1 p) ∙ sym (skip_more (k + n) p) ∙ ap (λ x. skip x p) (sym e)

@@ -22,15 +22,15 @@ use Rattle.yaml_text.specs.Chars.{utf8}
 use Rattle.yaml_text.specs.Classes.{is_break}
 use Rattle.yaml_text.specs.declared.types.yaml_mark_t.{yaml_mark_t}
 
--- where the last chunk ends, and whether a break stands behind it
+-- where the last chunk ends, and whether a break follows it
 abbrev Tail : Type 0
 Tail = yaml_mark_t × Bool
 
--- behind the last chunk
+-- after the last chunk
 abbrev trailing : Place → Read Tail
 trailing p = found (p.mark, list_any is_break (run is_white p)) (behind is_white p)
 
--- behind a separator
+-- after a separator
 abbrev turn_then : Bool → ℕ → yaml_mark_t → List ℕ → Place → Read (Next (List ℕ) Tail)
 turn_then flow least m cs e =
     if is_over flow least e then found (stop (m, list_any is_break cs)) e
@@ -112,7 +112,7 @@ by_tab : (o : Option Place) (flow : Bool) (least : ℕ) (m : yaml_mark_t) (cs : 
 by_tab None flow least m cs e = by_over (is_over flow least e) flow least m cs e refl
 by_tab (Some t) flow least m cs e = refl
 
--- a turn is a link, or what is read behind the last
+-- a turn is a link, or what is read after the last
 turn_is : (flow : Bool) (least : ℕ) (p : Place) → turn flow least p ≡ join (link flow least p) (trailing p)
 unfolding link separator sep_run
 turn_is flow least p =

@@ -1,4 +1,4 @@
--- What stands unchanged in a line of a plain scalar.
+-- What is kept unchanged in a line of a plain scalar.
 use Rattle.std.proofs.Common.{◌≡◌, ◌==◌, ◌&&◌, ◌||◌, not, ℕ, zero, suc, ◌+◌, ◌-◌, ◌<◌, ◌≤◌, inl, inr, Bool, true, false, List, [], ◌∷◌, ◌++◌, length, get_or, take, drop, None, Ok, Err, refl, sym, ap, ◌∙◌, subst, arith, add-zero, append_assoc, take-add, le-ltb, ne_eqb, if◌then◌else◌}
 use Rattle.std.specs.Prelude.{IsTrue, nat_le, nat_lt}
 use Rattle.std.specs.List.{prefix_len, flat_map, list_any}
@@ -80,7 +80,7 @@ open_link flow least c gap p (Ok f) =
     rw some (joined_one flow least (gap ++ cs) (many (link flow least) f.end) ∙ ap (λ (xs : List ℕ). with_front xs (links flow least f.end)) (encodes-append gap cs) ∙ sym (two_fronts (utf8 gap) (utf8 cs) (links flow least f.end)))
 open_link flow least c gap p (Err e) = refl
 
--- behind a separator the words go on
+-- after a separator the words go on
 pub links_open : (flow : Bool) (least : ℕ) (p q : Place) → Gap flow least p q → is_over flow least q ≡ false → is_chunk flow (first q) (peek q 1) ≡ true → links flow least p ≡ with_front (utf8 (fold (run is_white p))) (words flow least q)
 links_open flow least p q g o h =
     let gap = fold (run is_white p) in
@@ -113,7 +113,7 @@ separator_is : (least : ℕ) (p : Place) → separator least p ≡ untabbed (tab
 unfolding separator
 separator_is least p = refl
 
--- a line at p goes on at any column behind its first character
+-- a line at p goes on at any column after its first character
 abbrev pub GoesFar : Bool → ℕ → Place → Type 0
 GoesFar flow least p = IsTrue (flow || nat_le least (p.mark.column + 1))
 
@@ -134,7 +134,7 @@ pub white_chunk : (flow : Bool) (c next : ℕ) → is_white c ≡ true → (is_c
 white_chunk true c next w = (grind (arith, nat_tests), grind (arith, nat_tests))
 white_chunk false c next w = (grind (arith, nat_tests), refl)
 
--- blanks of a line, and the words behind them
+-- blanks of a line, and the words after them
 words_blanks : (flow : Bool) (least n : ℕ) (p : Place) → n ≡ prefix_len is_white p.rest → is_white (first p) ≡ true → 0 < n → ((i : ℕ) → i < n → is_break (get_or p.rest i 0) ≡ false) → GoesFar flow least p
     → class_test (plain_of flow) (first (skip n p)) ≡ true → is_white (first (skip n p)) ≡ false → words flow least p ≡ with_front (utf8 (take n p.rest)) (words flow least (skip n p))
 words_blanks flow least n p e w some clean far line solid =
@@ -156,7 +156,7 @@ words_blanks flow least n p e w some clean far line solid =
 
 -- ---- a run of words
 
--- The k characters in front stand within a line, and the last of them is not white.
+-- The first k characters are within a line, and the last of them is not white.
 pub record Solid (flow : Bool) (k : ℕ) (cs : List ℕ) : Type 0 where
   pub within : k ≤ length cs
   pub each : (i : ℕ) → i < k → class_test (plain_of flow) (get_or cs i 0) ≡ true
@@ -232,7 +232,7 @@ words_over flow least (suc fuel) (suc k) p le s far =
 solid : (c : ℕ) → is_blank c ≡ false → is_break c ≡ false → is_white c ≡ false
 solid c a b = rw (a, b) refl
 
--- What stands in front of a line, without the blanks at its end.
+-- The beginning of a line, without the blanks at its end.
 trimmed_solid : (flow : Bool) (cs : List ℕ) (m : ℕ) → m ≤ prefix_len (class_test (plain_of flow)) cs → let front = trim (take m cs) in Solid flow (length front) cs
 trimmed_solid flow cs m low =
     let test = class_test (plain_of flow) in
@@ -256,7 +256,7 @@ trimmed_solid flow cs m low =
 pub goes_none : (flow : Bool) (least : ℕ) (p : Place) → Goes flow least p p
 goes_none flow least p = (0, (sym (skip_none p), sym (no_front (words flow least p))))
 
--- what stands in a line is taken
+-- what is kept unchanged in a line is taken
 pub goes_solid : (flow : Bool) (least : ℕ) (p q : Place) → GoesFar flow least p → Stands (class_test (plain_of flow)) p q → Goes flow least p q
 goes_solid flow least p q far (m, (low, e)) =
     let k = length (trim (take m p.rest)) in
@@ -268,7 +268,7 @@ goes_char flow least p h =
     let one : utf8 (take 1 p.rest) ≡ encode_utf8 (first p) = ap utf8 (first_one p.rest (chunk_there flow p h)) ∙ append-nil (encode_utf8 (first p)) in
     (1, (refl, words_more flow least p h ∙ ap (λ (xs : List ℕ). with_front xs (words flow least (skip 1 p))) (sym one)))
 
--- one goes behind the other
+-- one goes after the other
 pub goes_on : (flow : Bool) (least : ℕ) (p q r : Place) → Goes flow least p q → Goes flow least q r → Goes flow least p r
 goes_on flow least p q r (a, (e, x)) (b, (f, y)) =
     let x' : words flow least p ≡ with_front (utf8 (take a p.rest)) (words flow least (skip a p)) = x ∙ ap (λ (t : Place). with_front (utf8 (take a p.rest)) (words flow least t)) e in
@@ -281,7 +281,7 @@ goes_on flow least p q r (a, (e, x)) (b, (f, y)) =
 pub goes_shorter : (flow : Bool) (least : ℕ) (p q : Place) → Goes flow least p q → length q.rest ≤ length p.rest
 goes_shorter flow least p q (n, (e, x)) = omega (arith, ap (λ (t : Place). length t.rest) e, length_skip n p)
 
--- the bytes that were taken are put out
+-- the bytes that were taken are appended
 pub goes_out : (flow : Bool) (least : ℕ) (p q : Place) (out piece new : List ℕ) → words flow least p ≡ with_front piece (words flow least q) → new ≡ out ++ piece → with_front out (words flow least p) ≡ with_front new (words flow least q)
 goes_out flow least p q out piece new e n = ap (with_front out) e ∙ two_fronts out piece (words flow least q) ∙ ap (λ (xs : List ℕ). with_front xs (words flow least q)) (sym n)
 
@@ -313,7 +313,7 @@ links_over flow least p q out h = reads_all utf8 (link flow least) (link_shorten
 pub links_none : (error : refusal_t) (flow : Bool) (least : ℕ) (p q : Place) (out : List ℕ) → Refuses error q (link flow least p) → Refuses error q (with_front out (links flow least p))
 links_none error flow least p q out h = reads_none utf8 (link flow least) (link_shortens flow least) error p q out (with_front out (links flow least p)) h refl
 
--- behind a separator that was put out
+-- after a separator that was appended
 pub links_go : (flow : Bool) (least : ℕ) (p q : Place) (out mid : List ℕ) → Gap flow least p q → is_over flow least q ≡ false → is_chunk flow (first q) (peek q 1) ≡ true → mid ≡ out ++ utf8 (fold (run is_white p))
     → with_front out (links flow least p) ≡ with_front mid (words flow least q)
 links_go flow least p q out mid g o h m =
@@ -334,7 +334,7 @@ white_shorter p q w e =
 pub links_end : (flow : Bool) (least : ℕ) (p : Place) (out : List ℕ) → link flow least p ≡ over → with_front out (links flow least p) ≡ found out p
 links_end flow least p out h = links_over flow least p p out (same_none (link flow least p) out p p h refl)
 
--- a line feed and spaces, in front of a line that is not indented enough
+-- a line feed and spaces, before a line that is not indented enough
 pub over_below : (flow : Bool) (least : ℕ) (p q : Place) → flow ≡ false → first p ≡ 10 → q ≡ behind (class_test SPACE) (skip 1 p) → is_white (first q) ≡ false → q.mark.column < least → (link flow least p ≡ over) × (q ≡ behind is_white p)
 over_below flow least p q block feed e stop low =
     let w : is_white (first p) ≡ true = rw feed refl in
@@ -345,13 +345,13 @@ over_below flow least p q block feed e stop low =
     let o : is_over flow least q ≡ true = grind (arith, nat_tests) in
     (at_gap flow least p q (record { space = w; read = t.0 ∙ ap (λ (r : Place). found (fold (run is_white p)) r) (sym t.1) }) ∙ rw o refl, t.1)
 
--- a break stands in it
+-- a break is in it
 pub passed_feed : (p : Place) → first p ≡ 10 → list_any is_break (run is_white p) ≡ true
 passed_feed p feed =
     let none : is_blank (first p) ≡ false = rw feed refl in
     passed p ∙ ap (λ (q : Place). is_break (first q)) (behind_none is_blank p none) ∙ rw feed refl
 
--- the words of the first line are put out
+-- the words of the first line are appended
 pub plain_out : (flow : Bool) (least : ℕ) (p q : Place) (out piece : List ℕ) → words flow least p ≡ with_front piece (words flow least q) → is_chunk flow (first q) (peek q 1) ≡ false → is_bad_colon flow (first q) (peek q 1) ≡ false → out ≡ piece
     → with_front [] (words flow least p) ≡ with_front out (links flow least q)
 plain_out flow least p q out piece e h b o = no_front (words flow least p) ∙ e ∙ ap (with_front piece) (words_links flow least q h b) ∙ ap (λ (xs : List ℕ). with_front xs (links flow least q)) (sym o)

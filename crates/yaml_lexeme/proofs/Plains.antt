@@ -24,7 +24,7 @@ use Rattle.std.specs.Prelude.{nat_lt}
 use Rattle.yaml_lexeme.specs.declared.runs.class_t.TheVariants.{SPACE}
 use Rattle.yaml_lexeme.specs.Runs.{class_test}
 
--- what a chunk gives where it ends
+-- the result of a chunk at its end
 abbrev stopped_at : Bool → List ℕ → Place → Read (List ℕ)
 stopped_at b value p = cond b (refuse COLON_IN_FLOW p) (found value p)
 
@@ -128,7 +128,7 @@ spaces_from least broken (suc fuel) p start l s =
       | inr f ↦ subst (λ (q : Place). Passes least broken q start) (sym (behind_none (class_test SPACE) p f)) s
     ]
 
--- spaces behind what was passed
+-- spaces after what was passed
 pub passes_spaces : (least : ℕ) (broken : Bool) (p start : Place) → Passes least broken p start → Passes least broken (behind (class_test SPACE) p) start
 passes_spaces least broken p start s = spaces_from least broken (length p.rest) p start (omega arith) s
 
@@ -144,12 +144,12 @@ passes_all least broken p start h s =
 pub takes_found : (read : Read (List ℕ)) (value : List ℕ) (p q : Place) → (read ≡ found value q) × (p ≡ q) → TakesRead (λ run. []) read [] [] p
 takes_found read value p q h = rw (h.0) (refl, h.1)
 
--- no separator stands here
+-- there is no separator here
 pub link_none : (flow : Bool) (least : ℕ) (p : Place) → is_white (first p) ≡ false → link flow least p ≡ over
 unfolding link
 link_none flow least p h = rw h refl
 
--- the part of a link behind its separator
+-- the part of a link after its separator
 abbrev behind_gap : Bool → ℕ → List ℕ → Place → Part (List ℕ)
 behind_gap flow least gap q =
     if is_over flow least q then over
@@ -312,7 +312,7 @@ break_any : (b : Bool) (q : Place) → is_break (first q) ≡ b → is_blank (fi
 break_any true q e h = ap (list_any is_break) (run_more is_white q (break_space (first q) e) refl) ∙ rw e refl
 break_any false q e h = ap (list_any is_break) (run_none is_white q (neither_space (first q) e h))
 
--- whether a break stands in a run
+-- whether a break is in a run
 pub passed : (p : Place) → list_any is_break (run is_white p) ≡ is_break (first (behind is_blank p))
 passed p = any_behind (length p.rest) p (omega arith) ∙ break_any (is_break (first (behind is_blank p))) (behind is_blank p) refl (run_stopped is_blank p refl)
 

@@ -1,4 +1,4 @@
--- A run of quiet bytes goes over whole characters of the class.
+-- A run of quiet bytes is whole characters of the class.
 use Rattle.std.proofs.Common.{◌≡◌, ℕ, zero, suc, ◌+◌, ◌/◌, ◌<◌, ◌≤◌, ◌⊎◌, Bool, true, false, cond, List, [], ◌∷◌, ◌++◌, length, get_or, take, drop, refl, sym, ap, ◌∙◌, subst, arith, inl, inr}
 use Rattle.std.specs.List.{prefix_len, count_by}
 use Rattle.std.proofs.lemmas.Bool.{cases_lt, cases_Bool}
@@ -16,7 +16,7 @@ use Rattle.yaml_lexeme.specs.declared.runs.class_t.{class_t}
 use Rattle.yaml_lexeme.specs.declared.runs.class_t.TheVariants.{BLANK, GAP_BLANK, SPACE, BLANK_OR_BREAK, ALPHA, DIGIT, IN_LINE, DOUBLE, SINGLE, PLAIN, FLOW}
 use Rattle.yaml_lexeme.specs.Runs.{is_quiet, class_test, begins, may_break, is_line}
 
--- What is asked of bytes that are quiet for a test of characters: either all of them are ASCII, or all that continue a
+-- What bytes that are quiet for a test of characters must be: either all of them are ASCII, or all that continue a
 -- character are.
 abbrev Low : (ℕ → Bool) → Type 0
 Low q = (b : ℕ) → q b ≡ true → b < 128
@@ -159,7 +159,7 @@ passes class c s h =
 abbrev pub along : yaml_mark_t → ℕ → ℕ → yaml_mark_t
 along m bytes chars = record { index = m.index + bytes; line = m.line; column = m.column + chars }
 
--- The n bytes in front are characters of the class.
+-- The first n bytes are characters of the class.
 pub record Over (class : class_t) (m : yaml_mark_t) (cs : List ℕ) (n : ℕ) : Type 0 where
   pub front : List ℕ
   pub left : List ℕ
@@ -307,7 +307,7 @@ quiet_counted class xs h = counted_all begins (is_quiet class) (λ b q. quiet_be
 high_space : (b : ℕ) → 192 ≤ b → is_quiet SPACE b ≡ false
 high_space b h = grind (arith, nat_tests)
 
--- the spaces in front are as many bytes as characters
+-- the first spaces are as many bytes as characters
 pub spaces_bytes : (cs : List ℕ) → AreChars cs → prefix_len (is_quiet SPACE) (utf8 cs) ≡ prefix_len (class_test SPACE) cs
 spaces_bytes [] h = refl
 spaces_bytes (c ∷ cs) h =
@@ -324,7 +324,7 @@ spaces_bytes (c ∷ cs) h =
           none_in_front (is_quiet SPACE) (utf8 (c ∷ cs)) some (ap (is_quiet SPACE) (lead_of c (utf8 cs)) ∙ high_space _ (lead_high c a)) ∙ sym (rw none refl)
     ]
 
--- The k spaces in front are k bytes and k columns.
+-- The first k spaces are k bytes and k columns.
 pub record OverSpaces (m : yaml_mark_t) (cs : List ℕ) (k : ℕ) : Type 0 where
   pub place : skip_from k m cs ≡ record { mark = along m k k; rest = drop k cs }
   pub bytes : drop k (utf8 cs) ≡ utf8 (drop k cs)

@@ -37,7 +37,7 @@ abbrev by : Option yaml_lexeme_kind_t → yaml_context_t → Place → Option (R
 by (Some k) context p = Some (lexeme_at k context p)
 by None context p = None
 
--- a text, the lexeme in front of it at a flow depth and a greatest open level, and what that must be
+-- a text, its first lexeme at a flow depth and a greatest open level, and what that must be
 abbrev Rows : Type 0
 Rows = List (Option (Result yaml_lexeme_t Fault) × Result yaml_lexeme_t Fault)
 

@@ -299,7 +299,7 @@ link_to flow least p f l =
 pub link_longest : LinkIsLongest
 link_longest flow least p f = (link_from flow least p f, link_to flow least p f)
 
--- where a link is over
+-- if a link is over
 over_or : (b : Bool) (y : Part (List ℕ)) → (if b then over else y) ≡ over → (b ≡ true) ⊎ (y ≡ over)
 over_or true y h = inl refl
 over_or false y h = inr h

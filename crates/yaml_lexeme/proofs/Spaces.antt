@@ -31,7 +31,7 @@ stops test (c ∷ cs) h = rw h refl
 pub run_none : (test : ℕ → Bool) (p : Place) → test (first p) ≡ false → run test p ≡ []
 run_none test p h = stops test p.rest h
 
--- the breaks of the run that stands at a place
+-- the breaks of the run at a place
 abbrev pub breaks_at : Place → List ℕ
 breaks_at p = breaks (run is_white p)
 
@@ -77,7 +77,7 @@ over_blanks (suc n) p h =
       | inr other ↦ rw (behind_none is_blank p other) (refl, refl)
     ]
 
--- the breaks of a run are those behind its first blanks
+-- the breaks of a run are those after its first blanks
 pub behind_blanks : (p : Place) → SameBreaks p (behind is_blank p)
 behind_blanks p = over_blanks (length p.rest) p (omega arith)
 

@@ -26,7 +26,7 @@ and_none : (b : Bool) → (b && false) ≡ false
 and_none true = refl
 and_none false = refl
 
--- a blank at the end falls away
+-- a blank at the end is dropped
 pub trim_blank : (xs : List ℕ) (b : ℕ) → is_blank b ≡ true → trim (xs ++ b ∷ []) ≡ trim xs
 trim_blank [] b h = rw h refl
 trim_blank (x ∷ xs) b h =
@@ -47,7 +47,7 @@ trim_step xs n h b = ap trim (take-suc xs n 0 h) ∙ trim_blank (take n xs) (get
 pub trim_stop : (xs : List ℕ) (n : ℕ) → n < length xs → is_blank (get_or xs n 0) ≡ false → trim (take (suc n) xs) ≡ take (suc n) xs
 trim_stop xs n h b = ap trim (take-suc xs n 0 h) ∙ trim_solid (take n xs) (get_or xs n 0) b ∙ sym (take-suc xs n 0 h)
 
--- ---- what stands in front, and the blanks
+-- ---- the first characters, and the blanks
 
 pub record Trimmed (cs : List ℕ) : Type 0 where
   pub blanks : List ℕ

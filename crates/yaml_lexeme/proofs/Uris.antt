@@ -45,7 +45,7 @@ abbrev end_of : Place → Read (List ℕ) → Place
 end_of q (Ok f) = f.end
 end_of q (Err e) = q
 
--- what was put behind `old` is what was read
+-- what was appended to `old` is what was read
 pub appended : (r : Read (List ℕ)) (old new : List ℕ) (q : Place) → with_front old r ≡ found new q → TakesRead (λ cs. cs) r old new q
 appended (Ok f) old new q h = (sym (ap value_of h), sym (ap (end_of q) h))
 appended (Err e) old new q h = absurd cc
@@ -77,7 +77,7 @@ push : (out : List ℕ) (c : ℕ) (r : Read (List ℕ)) → with_front out (with
 push out c (Ok r) = ap (λ (bs : List ℕ). found bs r.end) (sym (append_assoc out (c ∷ []) r.value))
 push out c (Err e) = refl
 
--- Octets are being read: what was put out, and what is left.
+-- Octets are being read: the bytes so far, and what is left.
 abbrev pub Octets : ℕ → Place → List ℕ → Read (List ℕ) → Type 0
 Octets n p out whole = with_front out (next_octets n p) ≡ whole
 
@@ -191,7 +191,7 @@ pub uri_is : (listed : Bool) (p : Place) → uri listed p ≡ joined (λ cs. cs)
 unfolding uri
 uri_is listed p = concat_joined (many (uri_part listed) p)
 
--- a uri is being put behind `old`
+-- a uri is being appended to `old`
 abbrev pub uri_behind : Bool → List ℕ → Place → Read (List ℕ)
 uri_behind listed old p = with_front old (joined (λ cs. cs) (many (uri_part listed) p))
 

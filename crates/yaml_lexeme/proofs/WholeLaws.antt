@@ -1,4 +1,4 @@
--- Laws: where reading ends, and where it is refused, no CR LF is parted, so that marks are the counted ones.
+-- Laws: no place where reading ends or is refused is between CR and LF, so that marks are the counted ones.
 use Rattle.std.proofs.Common.{◌≡◌, ℕ, zero, suc, ◌+◌, ◌-◌, ◌≤◌, Bool, true, false, not, ◌==◌, ◌&&◌, ◌||◌, if◌then◌else◌, inl, inr, List, length, take, drop, slice_index, Option, Some, None, Result, Ok, Err, refl, sym, ap, ◌∙◌, subst, arith, get_or-drop, get_or-take}
 use Rattle.std.proofs.lemmas.Bool.{cases_Bool}
 use Rattle.std.proofs.lemmas.Bool.Decides.{nat_tests}
@@ -37,7 +37,7 @@ use Rattle.yaml_text.specs.Chars.{utf8}
 use Rattle.yaml_text.specs.Classes.{is_z, is_crlf}
 use Rattle.yaml_text.specs.Mark.{cuts_break, IsPlaceAt, mark_at}
 
--- no lexeme stands at a CR
+-- no lexeme begins with a CR
 no_kind : (flow : Bool) (p : Place) → first p ≡ 0x0D → kind_at flow p ≡ None
 unfolding kind_at
 no_kind true p h = elim (cases_Bool (p.mark.column == 0)) [ inl c ↦ rw (h, c) refl | inr c ↦ rw (h, c) refl ]

@@ -1,4 +1,4 @@
--- Where reading ends, and where it is refused, no CR LF is parted: scalars.
+-- No place where reading ends or is refused is between CR and LF: scalars.
 use Rattle.std.proofs.Common.{◌≡◌, ℕ, zero, suc, ◌+◌, ◌<◌, ◌≤◌, Bool, true, false, not, ◌==◌, ◌&&◌, ◌||◌, nat_lt, if◌then◌else◌, inl, inr, List, [], ◌∷◌, length, take, slice_index, Option, Some, None, is_some, Ok, Err, refl, arith}
 use Rattle.std.proofs.lemmas.Bool.{cases_Bool}
 use Rattle.std.proofs.lemmas.Bool.Decides.{nat_tests}
@@ -80,7 +80,7 @@ slashed true b h = absurd cc
 slashed false true h = refl
 slashed false false h = absurd cc
 
--- a part, or a place where the body is over
+-- a part, or a place at which the body is over
 abbrev BodyEnd : Place → Option (Found (List ℕ)) → Type 0
 BodyEnd p None = (first p == 0x0D) ≡ false
 BodyEnd p (Some f) = Clear p f.end
@@ -155,7 +155,7 @@ chunk_clears flow p =
     let a : Clear p end = clear_skip (chunk_len flow p.rest) p (chunk_whole flow p.rest) in
     if_holds (is_bad_colon flow (first end) (peek end 1)) (λ e. refuse_holds a) (λ e. ok_holds a)
 
--- a tab stands at t, ahead
+-- a tab is at t, ahead
 record TabAt (p t : Place) : Type 0 where
   count : ℕ
   within : count ≤ length p.rest

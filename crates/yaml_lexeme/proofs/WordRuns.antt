@@ -1,4 +1,4 @@
--- What stands in a line unchanged.
+-- What is kept unchanged in a line.
 use Rattle.std.proofs.Common.{◌≡◌, ◌==◌, ◌&&◌, ℕ, zero, suc, ◌+◌, ◌-◌, ◌<◌, ◌≤◌, inl, inr, Bool, true, false, List, [], ◌∷◌, ◌++◌, length, get_or, take, drop, refl, sym, ap, ◌∙◌, subst, arith, add-zero}
 use Rattle.std.specs.List.{prefix_len, list_all}
 use Rattle.std.proofs.lemmas.Bool.{cases_Bool, cases_lt, and_parts}
@@ -44,7 +44,7 @@ no_white false c f b = grind (arith, nat_tests)
 solid : (c : ℕ) → is_blank c ≡ false → is_break c ≡ false → is_white c ≡ false
 solid c a b = rw (a, b) refl
 
--- The run of white behind any of the first k characters ends within them, since what stands there is not white.
+-- The run of white after any of the first k characters ends within them, since the last of them is not white.
 ends_within : (k i : ℕ) (cs : List ℕ) → i < k → is_white (get_or cs (k - 1) 0) ≡ false → i + prefix_len is_white (drop i cs) ≤ k
 ends_within k i cs lt h =
     let j = k - 1 - i in
@@ -52,7 +52,7 @@ ends_within k i cs lt h =
     let f : is_white (get_or (drop i cs) j 0) ≡ false = ap is_white (get_or-drop i cs j 0 ∙ ap (λ n. get_or cs n 0) at) ∙ h in
     omega (arith, stop_le is_white (drop i cs) j f)
 
--- or since what stands behind them is not
+-- or since what follows them is not
 ends_before : (k i : ℕ) (cs : List ℕ) → i < k → is_white (get_or cs k 0) ≡ false → i + prefix_len is_white (drop i cs) ≤ k
 ends_before k i cs lt h =
     let j = k - i in
@@ -60,7 +60,7 @@ ends_before k i cs lt h =
     let f : is_white (get_or (drop i cs) j 0) ≡ false = ap is_white (get_or-drop i cs j 0 ∙ ap (λ n. get_or cs n 0) at) ∙ h in
     omega (arith, stop_le is_white (drop i cs) j f)
 
--- Where no break stands behind it, the whole run is put out.
+-- If no break follows it, the whole run is appended.
 pub run_goes_on : (single : Bool) (p q : Place) (out new : List ℕ) → q ≡ behind (class_test (line_of single)) p → new ≡ out ++ utf8 (run (class_test (line_of single)) p) → is_break (first q) ≡ false → GoesOn single p out q new
 run_goes_on single p q out new e n h whole r =
     let test = class_test (line_of single) in
@@ -96,7 +96,7 @@ break_white c h = (grind (arith, nat_tests), grind (arith, nat_tests))
 some_break : (q : Place) → is_break (first q) ≡ true → 0 < break_len q
 some_break q h = elim (cases_Bool (first q == 13 && get_or q.rest 1 0 == 10)) [ inl t ↦ rw t (omega arith) | inr f ↦ rw (f, h) (omega arith) ]
 
--- a separator is worth the same from its break on
+-- a separator has the same value from its break on
 pub blanks_pass : (single : Bool) (p q : Place) → q ≡ behind is_blank p → is_white (first p) ≡ true → is_break (first q) ≡ true → many (body_part single) p ≡ many (body_part single) q
 blanks_pass single p q e wp bq =
     let t = break_white (first q) bq in

@@ -18,7 +18,7 @@ use Rattle.yaml_lexeme.specs.Reading.{Offence, Read, found, refuse, ◌>>=◌, P
 abbrev pub is_sign : ℕ → Bool
 is_sign c = c == 0x2B || c == 0x2D
 
--- what is kept behind the last text line
+-- what is kept after the last text line
 abbrev pub sign_of : ℕ → chomp_t
 sign_of c = if c == 0x2B then KEEP else STRIP
 
@@ -29,7 +29,7 @@ digit_at p =
     else if first p == 0x30 then refuse INDICATOR_ZERO p
     else found (Some (first p - 0x30)) (skip 1 p)
 
--- behind `|` or `>`: a sign and a digit in either order, each of which may be left out
+-- after `|` or `>`: a sign and a digit in either order, each optional
 unfoldable pub header_at : Place → Read header_t
 header_at p =
     if is_sign (first p) then (digit_at (skip 1 p) >>= λ d. found (record { chomp = sign_of (first p); digit = d.value }) d.end)
@@ -37,7 +37,7 @@ header_at p =
     if is_some d.value && is_sign (first d.end) then found (record { chomp = sign_of (first d.end); digit = d.value }) (skip 1 d.end)
     else found (record { chomp = CLIP; digit = d.value }) d.end
 
--- behind blanks, a comment and a break, or at the end of the text
+-- after blanks, a comment and a break, or at the end of the text
 unfoldable pub after_line : Place → Result Place Offence
 after_line p =
     let q = after_comment (behind is_blank p) in
@@ -48,7 +48,7 @@ abbrev pub is_below : Option ℕ → ℕ → Bool
 is_below None column = true
 is_below (Some n) column = nat_lt column n
 
--- c stands where a space may be indentation
+-- c is at a place where a space could be indentation
 abbrev pub is_indenting : ℕ → Option ℕ → Place → Bool
 is_indenting c limit p = first p == c && is_below limit p.mark.column
 
@@ -57,7 +57,7 @@ abbrev pub indent_len : Option ℕ → Place → ℕ
 indent_len None p = run_len (λ c. c == 0x20) p
 indent_len (Some n) p = min (run_len (λ c. c == 0x20) p) (n - p.mark.column)
 
--- behind the spaces that are indentation, where no tab may stand
+-- after the spaces that are indentation, with no tab among them
 unfoldable pub after_indent : Option ℕ → Place → Result Place Offence
 after_indent limit p =
     let q = skip (indent_len limit p) p in
@@ -72,7 +72,7 @@ unfoldable pub blank_line : Option ℕ → Place → Part Blank
 blank_line limit p = after_indent limit p >>= λ q.
     if nat_lt 0 (break_len q) then part (record { column = q.mark.column; break = written (first q) }) (skip (break_len q) q) else over
 
--- empty lines: the greatest column that spaces reach on them, their breaks, and the mark behind them
+-- empty lines: the greatest column that spaces reach on them, their breaks, and the mark after them
 pub record Blanks : Type 0 where
   pub column : ℕ
   pub breaks : List ℕ
@@ -84,14 +84,14 @@ greatest columns = fold_list max 0 columns
 abbrev pub blanks_of : List Blank → yaml_mark_t → Blanks
 blanks_of lines m = record { column = greatest (map (λ b. b.column) lines); breaks = map (λ b. b.break) lines; end = m }
 
--- as many empty lines as can be, and the indentation of the line that follows
+-- as many empty lines as possible, and the indentation of the line that follows
 unfoldable pub blank_lines : Option ℕ → Place → Read Blanks
 blank_lines limit p =
     many (blank_line limit) p >>= λ lines.
     after_indent limit lines.end >>= λ next.
     found (blanks_of lines.value lines.end.mark) next
 
--- a text line, its break if it has one, and the breaks of the empty lines behind it
+-- a text line, its break if it has one, and the breaks of the empty lines after it
 pub record Line : Type 0 where
   pub text : List ℕ
   pub break : Option ℕ
@@ -108,7 +108,7 @@ line_at indent p =
     blank_lines (Some indent) (skip (break_len q) q) >>= λ blanks.
     found (record { text = run is_in_line p; break = break_at q; empties = blanks.value.breaks; end = blanks.value.end }) blanks.end
 
--- a text line stands here, its indentation being read
+-- a text line is here, after its indentation
 abbrev pub is_text : ℕ → Place → Bool
 is_text indent p = p.mark.column == indent && not (is_z (first p))
 
@@ -132,19 +132,19 @@ abbrev pub or_space : List ℕ → List ℕ
 or_space [] = 0x20 ∷ []
 or_space (b ∷ bs) = b ∷ bs
 
--- what stands between two text lines
+-- what is between two text lines
 abbrev pub between : Bool → Line → Line → List ℕ
 between folded a b =
     if (folded && is_line_feed a.break) && not (is_more_indented a || is_more_indented b) then or_space a.empties
     else or_none a.break ++ a.empties
 
--- what stands behind the last text line
+-- what comes after the last text line
 abbrev pub chomped : chomp_t → Line → List ℕ
 chomped STRIP l = []
 chomped CLIP l = or_none l.break
 chomped KEEP l = or_none l.break ++ l.empties
 
--- what stands behind a text line, from those that follow
+-- what comes after a text line, given those that follow
 abbrev pub behind_line : Bool → chomp_t → Line → List Line → List ℕ
 behind_line folded chomp a [] = chomped chomp a
 behind_line folded chomp a (b ∷ ls) = between folded a b ++ b.text ++ behind_line folded chomp b ls
@@ -160,7 +160,7 @@ block_value folded chomp leading [] = only_breaks chomp leading
 block_value folded chomp leading (l ∷ ls) = leading ++ l.text ++ behind_line folded chomp l ls
 
 -- Without a digit the greatest of 1, `least` and the columns that spaces reach on the leading empty lines and the line
--- behind them. A digit counts from the greatest open level, which is `least` - 1, or from 0 where none is open.
+-- after them. A digit counts from the greatest open level, which is `least` - 1, or from 0 if none is open.
 abbrev pub block_indent : ℕ → Option ℕ → ℕ → ℕ → ℕ
 block_indent least (Some d) leading column = (least - 1) + d
 block_indent least None leading column = max (max 1 least) (max leading column)

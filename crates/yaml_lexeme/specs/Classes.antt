@@ -1,4 +1,4 @@
--- Sets of characters that lexemes ask for, beside those of a text. The end of a text counts as character 0.
+-- Sets of characters that lexemes need, besides those of a text. The end of a text counts as character 0.
 use Rattle.std.specs.Prelude.{ℕ, Bool, false, not, ◌||◌, ◌==◌, List, [], ◌∷◌}
 use Rattle.yaml_text.specs.Classes.{is_blank, is_break, is_z}
 
@@ -8,7 +8,7 @@ line_feed = 0x0A
 abbrev pub carriage_return : ℕ
 carriage_return = 0x0D
 
--- the two breaks that stand in a value as themselves: line and paragraph separator (YAML 1.1, 5.4 Line Break
+-- the two breaks that a value keeps as themselves: line and paragraph separator (YAML 1.1, 5.4 Line Break
 -- Characters)
 abbrev pub is_kept_break : ℕ → Bool
 is_kept_break c = c == 0x2028 || c == 0x2029

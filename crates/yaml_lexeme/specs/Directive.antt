@@ -20,7 +20,7 @@ number p =
     else if nat_lt 9 (run_len is_digit p) then refuse LONG_NUMBER (skip 9 p)
     else found (digits_value 10 (run is_digit p)) (behind is_digit p)
 
--- behind `YAML`
+-- after `YAML`
 unfoldable pub version_at : Place → Read unnamed_yaml_token_t_data
 version_at p =
     number (behind is_blank p) >>= λ major.
@@ -37,7 +37,7 @@ handle_at p =
     else if nat_lt 0 (length letters) then refuse OPEN_HANDLE end
     else found (codes "!") end
 
--- behind `TAG`
+-- after `TAG`
 unfoldable pub tag_directive_at : Place → Read unnamed_yaml_token_t_data
 tag_directive_at p =
     handle_at (behind is_blank p) >>= λ handle.
@@ -53,7 +53,7 @@ named letters p =
     else if bytes_eq letters (codes "TAG") then tag_directive_at p
     else refuse UNKNOWN_DIRECTIVE p
 
--- at `%`: what the directive says, and the mark behind that. The rest of its line is read with it.
+-- at `%`: what the directive says, and the mark after that. The rest of its line is read with it.
 unfoldable pub directive : Place → Read directive_t
 directive p =
     let letters = run is_alpha (skip 1 p) in

@@ -10,7 +10,7 @@ use Rattle.yaml_lexeme.specs.Reading.{Read, found, refuse}
 abbrev pub backslash : ℕ
 backslash = 0x5C
 
--- the character that one behind a backslash gives
+-- the character that an escape of one character gives, by the one after the backslash
 abbrev pub simple_escape : ℕ → Option ℕ
 simple_escape c =
     if c == 0x30 then Some 0x00
@@ -36,7 +36,7 @@ hex_len c = if c == 0x78 then 2 else if c == 0x75 then 4 else if c == 0x55 then 
 abbrev pub is_scalar : ℕ → Bool
 is_scalar c = nat_lt c 0xD800 || (nat_le 0xE000 c && nat_le c 0x10_FFFF)
 
--- n hex digits that write a character
+-- n hex digits that spell a character
 unfoldable pub hex_escape : ℕ → Place → Read ℕ
 hex_escape n p =
     let digits = take n p.rest in
@@ -48,7 +48,7 @@ abbrev pub simple_at : Option ℕ → Place → Read ℕ
 simple_at None p = refuse UNKNOWN_ESCAPE p
 simple_at (Some c) p = found c (skip 2 p)
 
--- the character that is written at a backslash
+-- the character of the escape at a backslash
 unfoldable pub escape : Place → Read ℕ
 escape p =
     if nat_lt 0 (hex_len (peek p 1)) then hex_escape (hex_len (peek p 1)) (skip 2 p)

@@ -1,4 +1,4 @@
--- What a run of blanks and breaks is worth in a value (YAML 1.1, 6.5 Line Folding).
+-- The value of a run of blanks and breaks (YAML 1.1, 6.5 Line Folding).
 use Rattle.std.specs.Prelude.{ℕ, ◌==◌, if◌then◌else◌, List, [], ◌∷◌, slice_index}
 use Rattle.yaml_lexeme.specs.Classes.{is_kept_break, line_feed}
 use Rattle.yaml_lexeme.specs.Place.{ends_line}
@@ -21,6 +21,6 @@ abbrev pub fold_as : List ℕ → List ℕ → List ℕ
 fold_as run [] = run
 fold_as run (b ∷ bs) = join_breaks b bs
 
--- a separator's value, from its breaks, or the run itself where it has none
+-- a separator's value, from its breaks, or the run itself if it has none
 unfoldable pub fold : List ℕ → List ℕ
 fold run = fold_as run (breaks run)

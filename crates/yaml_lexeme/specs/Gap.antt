@@ -1,4 +1,4 @@
--- What stands between lexemes (YAML 1.1, 6.2 Comments and 6.3 Separation Spaces).
+-- What is between lexemes (YAML 1.1, 6.2 Comments and 6.3 Separation Spaces).
 use Rattle.std.specs.Prelude.{ℕ, ◌≡◌, zero, suc, length, Bool, not, ◌&&◌, ◌||◌, ◌==◌, nat_lt, if◌then◌else◌}
 use Rattle.yaml_lexeme.specs.Classes.{is_in_line}
 use Rattle.yaml_lexeme.specs.Place.{Place, first, skip, behind, break_len}
@@ -6,7 +6,7 @@ use Rattle.yaml_lexeme.specs.Place.{Place, first, skip, behind, break_len}
 abbrev pub byte_order_mark : ℕ
 byte_order_mark = 0xFEFF
 
--- spaces, and tabs where these may stand too
+-- spaces, and tabs if these are allowed
 abbrev pub is_gap_blank : Bool → ℕ → Bool
 is_gap_blank tabs c = c == 0x20 || (c == 0x09 && tabs)
 
@@ -14,31 +14,31 @@ is_gap_blank tabs c = c == 0x20 || (c == 0x09 && tabs)
 abbrev pub is_solid : ℕ → Bool
 is_solid c = nat_lt 0x20 c && (nat_lt c 0x80 && not (c == 0x23))
 
--- a byte order mark may stand at the start of a line
+-- after a byte order mark, if there is one at the start of a line
 abbrev pub after_mark : Place → Place
 after_mark p = if p.mark.column == 0 && first p == byte_order_mark then skip 1 p else p
 
--- a comment goes on to the end of its line
+-- after a comment, which goes on to the end of its line
 abbrev pub after_comment : Place → Place
 after_comment p = if first p == 0x23 then behind is_in_line p else p
 
--- behind a gap line, without its break
+-- after a gap line, without its break
 unfoldable pub after_gap_line : Bool → Place → Place
 after_gap_line tabs p = after_comment (behind (is_gap_blank tabs) (after_mark p))
 
--- Behind at most n more gap lines, each behind a break. The place is behind a gap line.
+-- After at most n more gap lines, each after a break. The place is after a gap line.
 unfoldable pub after_gap_lines : ℕ → Bool → Place → Place
 after_gap_lines zero flow p = p
 after_gap_lines (suc n) flow p =
     if break_len p == 0 then p else after_gap_lines n flow (after_gap_line flow (skip (break_len p) p))
 
--- Gap lines joined by breaks, as long as can be: the place behind, and whether a break is in it. Tabs may stand in flow,
--- and on the first line where no key is allowed.
+-- Gap lines joined by breaks, as long as possible: the place after them, and whether a break is in them. Tabs are allowed in
+-- flow, and on the first line if no key is allowed.
 unfoldable pub gap : Bool → Bool → Place → Place × Bool
 gap flow allowed p =
     let line = after_gap_line (flow || not allowed) p in
     (after_gap_lines (length line.rest) flow line, nat_lt 0 (break_len line))
 
--- the gap at p ends at q, wherever tabs may stand
+-- the gap at p ends at q, whether tabs are allowed or not
 abbrev pub IsGap : Place → Place → Bool → Type 0
 IsGap p q broken = (flow allowed : Bool) → gap flow allowed p ≡ (q, broken)

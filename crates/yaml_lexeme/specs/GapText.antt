@@ -4,7 +4,7 @@ use Rattle.yaml_lexeme.specs.Classes.{is_in_line}
 use Rattle.yaml_lexeme.specs.Gap.{byte_order_mark, is_gap_blank, gap}
 use Rattle.yaml_lexeme.specs.Place.{Place, peek, first, skip, distance, behind, break_len}
 
--- characters that pass stand from p up to q
+-- all characters from p up to q pass
 pub record Passes (test : ℕ → Bool) (p q : Place) : Type 0 where
   pub count : ℕ
   pub within : count ≤ length p.rest
@@ -19,7 +19,7 @@ MayBeMark p q = (q ≡ p) ⊎ ((p.mark.column ≡ 0) × (first p ≡ byte_order_
 abbrev pub MayBeComment : Place → Place → Type 0
 MayBeComment p q = (q ≡ p) ⊎ ((first p ≡ 0x23) × Passes is_in_line p q × (is_in_line (first q) ≡ false))
 
--- a gap line: perhaps a byte order mark, blanks, and perhaps a comment
+-- a gap line: an optional byte order mark, blanks, and an optional comment
 pub record GapLine (tabs : Bool) (p q : Place) : Type 0 where
   pub from : Place
   pub to : Place
@@ -27,13 +27,13 @@ pub record GapLine (tabs : Bool) (p q : Place) : Type 0 where
   pub blanks : Passes (is_gap_blank tabs) from to
   pub comment : MayBeComment to q
 
--- Gap lines joined by n breaks. Tabs are blanks in flow, and in the first line where `tabs` says so.
+-- Gap lines joined by n breaks. Tabs are blanks in flow, and in the first line if `tabs` says so.
 abbrev pub GapLines : ℕ → Bool → Bool → Place → Place → Type 0
 GapLines zero flow tabs p q = GapLine tabs p q
 GapLines (suc n) flow tabs p q =
     (x : Place) × GapLine tabs p x × (0 < break_len x) × GapLines n flow flow (skip (break_len x) x) q
 
--- from p up to q stands the longest such text, with a break in it or none
+-- from p up to q is the longest such text, with a break in it or none
 pub record LongestGap (flow tabs : Bool) (p q : Place) (broken : Bool) : Type 0 where
   pub breaks : ℕ
   pub text : GapLines breaks flow tabs p q
@@ -44,7 +44,7 @@ abbrev pub GapIsLongest : Type 0
 GapIsLongest = (flow allowed : Bool) (p : Place) →
     LongestGap flow (flow || not allowed) p (gap flow allowed p).0 (gap flow allowed p).1
 
--- A run is as many characters that pass as can be.
+-- A run is as many characters that pass as possible.
 abbrev pub RunIsLongest : Type 0
 RunIsLongest = (test : ℕ → Bool) (p : Place) →
     Passes test p (behind test p) × (0 < length (behind test p).rest → test (first (behind test p)) ≡ false)

@@ -7,7 +7,7 @@ use Rattle.yaml_lexeme.specs.Uri.{octet}
 use Rattle.yaml_lexeme.specs.Reading.{Offence, Read, found, refuse, Part}
 
 -- What a function of the code returned, seen by view, is what reading gives, unless memory ran out. The cursor
--- then stands behind what was read, or at the offence.
+-- is then after what was read, or at the offence.
 abbrev pub Refuses : {A : Type 0} → refusal_t → Place → Result A Offence → Type 0
 Refuses errors.MEMORY p read = Unit {0}
 Refuses (errors.OFFENCE problem) p read = read ≡ refuse problem p
@@ -16,7 +16,7 @@ abbrev pub Gives : {A B : Type 0} → (A → B) → Result A refusal_t → Place
 Gives view (Ok a) p read = read ≡ found (view a) p
 Gives view (Err e) p read = Refuses e p read
 
--- A part was read from p on, and its bytes were put behind `old`, or the list is over.
+-- A part was read from p on, and its bytes were appended to `old`, or the list is over.
 abbrev pub TakesPart : {A : Type 0} → (A → List ℕ) → Part A → Bool → List ℕ → List ℕ → Place → Place → Type 0
 TakesPart bytes (Ok (Some f)) true old new p q = (new ≡ old ++ bytes f.value) × (q ≡ f.end)
 TakesPart bytes (Ok None) false old new p q = (new ≡ old) × (q ≡ p)
@@ -40,7 +40,7 @@ abbrev pub Moves : Result (Unit {0}) refusal_t → Place → Result Place Offenc
 Moves (Ok _) q read = read ≡ Ok q
 Moves (Err e) q read = Refuses e q read
 
--- the octet that an escape at a place writes
+-- the octet that an escape at a place spells
 abbrev pub OctetIs : Result ℕ refusal_t → Place → Type 0
 OctetIs (Ok c) p = octet p ≡ found c (skip 3 p)
 OctetIs (Err e) p = Refuses e p (octet p)

@@ -1,4 +1,4 @@
--- What kind of lexeme stands at a place.
+-- What kind of lexeme is at a place.
 use Rattle.std.specs.Prelude.{ℕ, Bool, not, ◌&&◌, ◌||◌, ◌==◌, if◌then◌else◌, Option, Some, None, codes}
 use Rattle.yaml_text.specs.Classes.{is_z}
 use Rattle.yaml_lexeme.specs.declared.kind.yaml_lexeme_kind_t.{yaml_lexeme_kind_t}
@@ -19,7 +19,7 @@ is_marker p = is_marker_of 0x2D p || is_marker_of 0x2E p
 abbrev pub is_indicator : ℕ → Bool
 is_indicator c = is_one_of (codes "-?:,[]{}#&*!|>'\"%@`") c
 
--- `-` begins one, and outside of flow `?` and `:` do, where something follows
+-- `-` begins one, and outside of flow `?` and `:` do, if they do not end
 abbrev pub starts_plain : Bool → Place → Bool
 starts_plain flow p =
     not (ends (first p) || is_indicator (first p))

@@ -29,7 +29,7 @@ abbrev pub above : Option ℕ → ℕ
 above None = 0
 above (Some level) = level + 1
 
--- the least column of a line that goes on: the greatest open level + 1, or 0 where none is open
+-- the least column of a line that goes on: the greatest open level + 1, or 0 if none is open
 abbrev pub least : yaml_context_t → ℕ
 least context = above context.level
 
@@ -37,11 +37,11 @@ least context = above context.level
 abbrev pub stream_end : yaml_mark_t → yaml_mark_t
 stream_end m = if m.column == 0 then m else record { index = m.index; line = m.line + 1; column = 0 }
 
--- what stands between two marks, of which the second is the reach too
+-- what is between two marks, of which the second is also the reach
 abbrev pub whole_of : unnamed_yaml_token_t_data → yaml_mark_t → yaml_mark_t → yaml_lexeme_t
 whole_of data_is start end = record { token_data = data_is; start_mark = start; end_mark = end; reach = end; passed_break = false }
 
--- what was read from p on, the token's end being the reach
+-- what was read from p on, with the token's end as the reach
 abbrev pub whole : {A : Type 0} → (A → unnamed_yaml_token_t_data) → Place → Read A → Read yaml_lexeme_t
 whole says p r = r >>= λ x. found (whole_of (says x.value) p.mark x.end.mark) x.end
 
@@ -59,7 +59,7 @@ quoted_as style value = token.SCALAR value style
 abbrev pub characters : unnamed_yaml_token_t_data → ℕ → Place → Read yaml_lexeme_t
 characters says n p = found (whole_of says p.mark (skip n p).mark) (skip n p)
 
--- what a lexeme that is one character says, or a document marker
+-- what a lexeme of one character, or a document marker, says
 abbrev pub says_of : yaml_lexeme_kind_t → unnamed_yaml_token_t_data
 says_of kind.DOCUMENT_START = token.DOCUMENT_START
 says_of kind.DOCUMENT_END = token.DOCUMENT_END
@@ -95,7 +95,7 @@ ended p r = r >>= λ x. found (directive_to p.mark x.value x.end.mark) x.end
 abbrev pub at_end : Place → Read yaml_lexeme_t
 at_end p = found (whole_of token.STREAM_END (stream_end p.mark) (stream_end p.mark)) p
 
--- the lexeme of the kind that stands at a place, or its first offence
+-- the lexeme of the kind that is at a place, or its first offence
 unfoldable pub lex : yaml_lexeme_kind_t → yaml_context_t → Place → Read yaml_lexeme_t
 lex kind.STREAM_END context p = at_end p
 lex kind.DIRECTIVE context p = ended p (directive p)
@@ -141,7 +141,7 @@ is_bare kind.SINGLE_QUOTED = false
 is_bare kind.DOUBLE_QUOTED = false
 is_bare kind.PLAIN = false
 
--- the lexeme, or the fault of its offence, whose context stands at the lexeme's start
+-- the lexeme, or the fault of its offence, whose context is at the lexeme's start
 abbrev pub answer : yaml_lexeme_kind_t → Place → Read yaml_lexeme_t → Result yaml_lexeme_t Fault
 answer k p (Ok f) = Ok f.value
 answer k p (Err e) = Err (scanner_fault (problem_text e.problem) e.at.mark (Some (context_text k e.problem)) p.mark)

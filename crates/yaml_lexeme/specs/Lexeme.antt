@@ -6,24 +6,24 @@ use Rattle.yaml_lexeme.specs.declared.lex.yaml_lexeme_t.{yaml_lexeme_t}
 use Rattle.yaml_lexeme.specs.declared.plain.scalar_t.{scalar_t}
 use Rattle.yaml_lexeme.specs.declared.directive.directive_t.{directive_t}
 
--- A lexeme: what its token says, the mark where it starts and the mark behind it.
+-- A lexeme: what its token says, the mark of its start and the mark after it.
 pub record Lexeme : Type 0 where
   pub token_data : TokenData
   pub start_mark : yaml_mark_t
   pub end_mark : yaml_mark_t
   -- the mark up to which was read for it
   pub reach : yaml_mark_t
-  -- of a plain scalar, whether a break stands in its trailing separator
+  -- of a plain scalar, whether a break is in its trailing separator
   pub passed_break : Bool
 
--- A scalar: the bytes of its value, and the mark behind its last character.
+-- A scalar: the bytes of its value, and the mark after its last character.
 pub record Scalar : Type 0 where
   pub value : List ℕ
   pub end : yaml_mark_t
-  -- whether a break stands in the separator behind it
+  -- whether a break is in the separator after it
   pub passed_break : Bool
 
--- A directive: what it says, and the mark behind that.
+-- A directive: what it says, and the mark after that.
 pub record Directive : Type 0 where
   pub says : TokenData
   pub end : yaml_mark_t

@@ -8,17 +8,17 @@ use Rattle.yaml_lexeme.specs.Kind.{kind_at}
 use Rattle.yaml_lexeme.specs.declared.lex.yaml_context_t.{yaml_context_t}
 use Rattle.yaml_lexeme.specs.Lex.{lex}
 
--- two places with the same mark and the same n characters next, the end counted as one
+-- two places with the same mark and the same n characters next, with the end counted as one
 pub record Agree (n : ℕ) (p q : Place) : Type 0 where
   pub mark : p.mark ≡ q.mark
   pub same : (i : ℕ) → i < n → slice_get p.rest i ≡ slice_get q.rest i
 
--- where reading ended, or was refused
+-- the place where reading ended, or was refused
 abbrev pub reach : {A : Type 0} → Read A → Place
 reach (Ok f) = f.end
 reach (Err e) = e.at
 
--- the same that was read, with another place behind it
+-- the same that was read, with another place after it
 abbrev pub move : {A : Type 0} → Read A → Place → Read A
 move (Ok f) q = found f.value q
 move (Err e) q = refuse e.problem q

@@ -6,11 +6,11 @@ use Rattle.yaml_lexeme.specs.Classes.{ends, is_one_of}
 use Rattle.yaml_lexeme.specs.Place.{Place, first, skip, run, behind}
 use Rattle.yaml_lexeme.specs.Reading.{Read, found, refuse}
 
--- what may stand behind a name
+-- what is allowed after a name
 abbrev pub is_behind_name : ℕ → Bool
 is_behind_name c = ends c || is_one_of (codes "?:,]}%@`") c
 
--- the name behind `&` or `*`
+-- the name after `&` or `*`
 unfoldable pub name : Place → Read (List ℕ)
 name p =
     let letters = run is_alpha (skip 1 p) in

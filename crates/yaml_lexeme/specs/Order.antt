@@ -11,14 +11,14 @@ use Rattle.yaml_lexeme.specs.Reading.{Offence, Found}
 use Rattle.yaml_lexeme.specs.Lex.{lex, in_flow}
 use Rattle.yaml_lexeme.specs.Lexeme.{Lexeme as yaml_lexeme_t}
 
--- q is n characters or more behind p, in the text
+-- q is n characters or more after p, in the text
 pub record IsAhead (n : ℕ) (p q : Place) : Type 0 where
   pub count : ℕ
   pub least : n ≤ count
   pub within : count ≤ length p.rest
   pub is : q ≡ skip count p
 
--- b stands n characters or more behind a
+-- b is n characters or more after a
 pub record IsAfter (n : ℕ) (a b : yaml_mark_t) : Type 0 where
   pub index : a.index + n ≤ b.index
   pub line : a.line ≤ b.line
@@ -31,13 +31,13 @@ pub record Spans (n : ℕ) (p : Place) (end : yaml_mark_t) (q : Place) : Type 0 
   pub taken : IsAhead n p behind
   pub read : IsAhead 0 behind q
 
--- A lexeme of a kind that stands at p, other than the stream end, starts at p, takes a character or more, and reaches
+-- A lexeme of a kind that is at p, other than the stream end, starts at p, takes a character or more, and reaches
 -- to its end or further: all of these are places of the text.
 abbrev pub LexemeSpans : Type 0
 LexemeSpans = (k : yaml_lexeme_kind_t) (c : yaml_context_t) (p : Place) (f : Found yaml_lexeme_t) → kind_at (in_flow c) p ≡ Some k → (k ≡ kind.STREAM_END → ⊥) → lex k c p ≡ Ok f
     → (f.value.start_mark ≡ p.mark) × (f.value.reach ≡ f.end.mark) × Spans 1 p f.value.end_mark f.end
 
--- So its marks are in order, and it takes a byte, and a column where it stays on its line.
+-- So its marks are in order, and it takes a byte, and a column if it stays on its line.
 abbrev pub LexemeOrder : Type 0
 LexemeOrder = (k : yaml_lexeme_kind_t) (c : yaml_context_t) (p : Place) (f : Found yaml_lexeme_t) → kind_at (in_flow c) p ≡ Some k → (k ≡ kind.STREAM_END → ⊥) → lex k c p ≡ Ok f
     → IsAfter 1 f.value.start_mark f.value.end_mark × IsAfter 0 f.value.end_mark f.value.reach × IsAfter 1 f.value.start_mark f.value.reach
@@ -47,7 +47,7 @@ abbrev pub StreamEndOrder : Type 0
 StreamEndOrder = (c : yaml_context_t) (p : Place) (f : Found yaml_lexeme_t) → lex kind.STREAM_END c p ≡ Ok f
     → (f.value.end_mark ≡ f.value.start_mark) × (f.value.reach ≡ f.value.start_mark) × IsAfter 0 p.mark f.value.start_mark × (f.value.start_mark.column ≡ 0)
 
--- A problem stands where its lexeme would start, or further on: a place of the text.
+-- A problem is where its lexeme would start, or further on: at a place of the text.
 abbrev pub OffenceIsAhead : Type 0
 OffenceIsAhead = (k : yaml_lexeme_kind_t) (c : yaml_context_t) (p : Place) (e : Offence) → lex k c p ≡ Err e → IsAhead 0 p e.at
 
@@ -67,6 +67,6 @@ pub record Follows (k : yaml_lexeme_kind_t) (so_far : yaml_mark_t) (l : yaml_lex
   pub takes : is_stream_end k ≡ false → IsAfter 1 l.start_mark l.end_mark
   pub last : is_stream_end k ≡ true → (l.end_mark ≡ l.start_mark) × (l.reach ≡ l.start_mark) × (l.start_mark.column ≡ 0)
 
--- the lexeme behind the gap that stands at q
+-- the lexeme after the gap that ends at q
 abbrev pub LexemeFollows : Type 0
 LexemeFollows = (k : yaml_lexeme_kind_t) (c : yaml_context_t) (allowed : Bool) (q : Place) (f : Found yaml_lexeme_t) → let p = (gap (in_flow c) allowed q).0 in kind_at (in_flow c) p ≡ Some k → lex k c p ≡ Ok f → Follows k q.mark f.value

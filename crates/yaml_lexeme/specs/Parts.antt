@@ -1,4 +1,4 @@
--- Lists of parts: one behind the other, and as many as can be.
+-- Lists of parts: one after the other, and as many as possible.
 use Rattle.std.specs.Prelude.{ℕ, ◌≡◌, ◌↔◌, ◌⊎◌, ◌+◌, ◌<◌, Bool, true, false, List, [], ◌∷◌, ◌++◌, length, map, Option, Ok, Err}
 use Rattle.std.specs.List.{concat, list_any, flat_map}
 use Rattle.yaml_text.specs.Chars.{utf8}
@@ -16,7 +16,7 @@ use Rattle.yaml_lexeme.specs.Plain.{is_bad_colon, is_chunk, chunk, separator, is
 use Rattle.yaml_lexeme.specs.Uri.{uri_part, uri}
 use Rattle.yaml_lexeme.specs.Block.{Blank, Blanks, Line, header_at, after_line, after_indent, blank_line, blank_lines, blanks_of, block_indent, block_value, end_of, leading_limit, text_line, block}
 
--- a part that was read: its characters, and what they are worth
+-- a part that was read: its characters, and its value
 pub record Piece (A : Type 0) : Type 0 where
   pub text : List ℕ
   pub value : A
@@ -24,13 +24,13 @@ pub record Piece (A : Type 0) : Type 0 where
 abbrev pub past : {A : Type 0} → Piece A → Place → Place
 past t p = skip (length t.text) p
 
--- the piece stands at p, and takes a character or more
+-- the piece is at p, and takes a character or more
 pub record IsPiece {A : Type 0} (one : Place → Part A) (p : Place) (t : Piece A) : Type 0 where
   pub some : 0 < length t.text
   pub text : p.rest ≡ t.text ++ (past t p).rest
   pub read : one p ≡ part t.value (past t p)
 
--- pieces stand one behind the other, from p up to q
+-- pieces follow one another, from p up to q
 abbrev pub Pieces : {A : Type 0} → (Place → Part A) → Place → List (Piece A) → Place → Type 0
 Pieces one p [] q = q ≡ p
 Pieces one p (t ∷ ts) q = IsPiece one p t × Pieces one (past t p) ts q
@@ -41,7 +41,7 @@ texts ts = flat_map (λ t. t.text) ts
 abbrev pub values : {A : Type 0} → List (Piece A) → List A
 values ts = map (λ t. t.value) ts
 
--- The pieces from p up to q make up the text between. At q stands no further one, but `next`: an end or an offence. All
+-- The pieces from p up to q make up the text between. At q is no further one, but `next`: an end or an offence. All
 -- other pieces from p are the first of these.
 pub record IsLongest {A : Type 0}
     (one : Place → Part A) (p : Place) (ts : List (Piece A)) (q : Place) (next : Part A) : Type 0 where
@@ -62,12 +62,12 @@ pub record QuotedParts (single : Bool) (p : Place) (f : Found (List ℕ)) : Type
 abbrev pub QuotedIsParts : Type 0
 QuotedIsParts = (single : Bool) (p : Place) (f : Found (List ℕ)) → (quoted single p ≡ Ok f) ↔ QuotedParts single p f
 
--- an offence stands behind as many parts as can be
+-- an offence comes after as many parts as possible
 abbrev pub QuotedIsRefused : Type 0
 QuotedIsRefused = (single : Bool) (p : Place) (e : Offence) → (quoted single p ≡ Err e) ↔
     ((parts : List (Piece (List ℕ))) × (q : Place) × IsLongest (body_part single) (skip 1 p) parts q (Err e))
 
--- what a plain scalar is worth whose last chunk ends at a place
+-- the value of a plain scalar whose last chunk ends at a place
 abbrev pub plain_scalar : List ℕ → List (List ℕ) → Place → scalar_t
 plain_scalar head links last = record {
   value = utf8 head ++ flat_map utf8 links;
@@ -90,7 +90,7 @@ abbrev pub PlainIsParts : Type 0
 PlainIsParts = (flow : Bool) (least : ℕ) (p : Place) (f : Found scalar_t) →
     (plain flow least p ≡ Ok f) ↔ PlainParts flow least p f
 
--- From p on stand as many characters of a chunk as can be, and after them, in flow, a `:` before `?` or a flow
+-- From p on come as many characters of a chunk as possible, and after them, in flow, a `:` before `?` or a flow
 -- indicator.
 pub record ChunkRefused (flow : Bool) (p : Place) (e : Offence) : Type 0 where
   pub text : List ℕ
@@ -100,7 +100,7 @@ pub record ChunkRefused (flow : Bool) (p : Place) (e : Offence) : Type 0 where
   pub colon : is_bad_colon flow (first e.at) (peek e.at 1) ≡ true
   pub problem : e.problem ≡ COLON_IN_FLOW
 
--- after a chunk as many links as can be, and an offence
+-- after a chunk as many links as possible, and an offence
 pub record LinksRefused (flow : Bool) (least : ℕ) (p : Place) (e : Offence) : Type 0 where
   pub head : Found (List ℕ)
   pub links : List (Piece (List ℕ))
@@ -112,14 +112,14 @@ abbrev pub PlainIsRefused : Type 0
 PlainIsRefused = (flow : Bool) (least : ℕ) (p : Place) (e : Offence) →
     (plain flow least p ≡ Err e) ↔ (ChunkRefused flow p e ⊎ LinksRefused flow least p e)
 
--- a chunk is as many characters as can be
+-- a chunk is as many characters as possible
 abbrev pub ChunkIsLongest : Type 0
 ChunkIsLongest = (flow : Bool) (p : Place) (f : Found (List ℕ)) → chunk flow p ≡ Ok f
     → (p.rest ≡ f.value ++ f.end.rest)
     × ((i : ℕ) → i < length f.value → is_chunk flow (peek p i) (peek p (i + 1)) ≡ true)
     × (is_chunk flow (first f.end) (peek f.end 1) ≡ false)
 
--- A link at p: as many blanks and breaks as can be, with no tab in indentation, after which the scalar goes on,
+-- A link at p: as many blanks and breaks as possible, with no tab in indentation, after which the scalar goes on,
 -- and a chunk of a character or more.
 pub record LinkParts (flow : Bool) (least : ℕ) (p : Place) (f : Found (List ℕ)) : Type 0 where
   pub text : List ℕ
@@ -135,18 +135,18 @@ abbrev pub LinkIsLongest : Type 0
 LinkIsLongest = (flow : Bool) (least : ℕ) (p : Place) (f : Found (List ℕ)) →
     (link flow least p ≡ part f.value f.end) ↔ LinkParts flow least p f
 
--- After a separator, with no tab in indentation, the scalar is over, or no character of a chunk stands there.
+-- After a separator, with no tab in indentation, the scalar is over, or no character of a chunk follows.
 pub record SeparatorEnds (flow : Bool) (least : ℕ) (p : Place) : Type 0 where
   pub separator : separator least p ≡ found (fold (run is_white p)) (behind is_white p)
   pub ends : (is_over flow least (behind is_white p) ≡ true)
       ⊎ (chunk flow (behind is_white p) ≡ found [] (behind is_white p))
 
--- no link stands where no blank or break does, or the scalar ends after them
+-- there is no link if there is no blank or break, or if the scalar ends after them
 abbrev pub LinkIsOver : Type 0
 LinkIsOver = (flow : Bool) (least : ℕ) (p : Place) →
     (link flow least p ≡ over) ↔ ((is_white (first p) ≡ false) ⊎ SeparatorEnds flow least p)
 
--- A uri at p: characters and escapes, as many as can be.
+-- A uri at p: characters and escapes, as many as possible.
 pub record UriParts (listed : Bool) (p : Place) (f : Found (List ℕ)) : Type 0 where
   pub parts : List (Piece (List ℕ))
   pub longest : IsLongest (uri_part listed) p parts f.end over
@@ -155,12 +155,12 @@ pub record UriParts (listed : Bool) (p : Place) (f : Found (List ℕ)) : Type 0 
 abbrev pub UriIsParts : Type 0
 UriIsParts = (listed : Bool) (p : Place) (f : Found (List ℕ)) → (uri listed p ≡ Ok f) ↔ UriParts listed p f
 
--- an offence stands after as many of them as can be
+-- an offence comes after as many of them as possible
 abbrev pub UriIsRefused : Type 0
 UriIsRefused = (listed : Bool) (p : Place) (e : Offence) → (uri listed p ≡ Err e) ↔
     ((parts : List (Piece (List ℕ))) × (q : Place) × IsLongest (uri_part listed) p parts q (Err e))
 
--- Empty lines at p, as many as can be, and the indentation after them.
+-- Empty lines at p, as many as possible, and the indentation after them.
 pub record BlankParts (limit : Option ℕ) (p : Place) (f : Found Blanks) : Type 0 where
   pub lines : List (Piece Blank)
   pub last : Place
@@ -176,7 +176,7 @@ BlanksAreLines = (limit : Option ℕ) (p : Place) (f : Found Blanks) →
 abbrev pub indent_of : ℕ → header_t → Found Blanks → ℕ
 indent_of least h leading = block_indent least h.digit leading.value.column leading.end.mark.column
 
--- what a literal or folded scalar is worth, and where it ends
+-- the value of a literal or folded scalar, and where it ends
 abbrev pub block_scalar : Bool → chomp_t → Blanks → List Line → scalar_t
 block_scalar folded chomp leading lines = record {
   value = utf8 (block_value folded chomp leading.breaks lines);
@@ -184,7 +184,7 @@ block_scalar folded chomp leading lines = record {
   passed_break = false;
 }
 
--- A literal or folded scalar at p: its header, leading empty lines, and text lines, as many as can be.
+-- A literal or folded scalar at p: its header, leading empty lines, and text lines, as many as possible.
 pub record BlockParts (folded : Bool) (least : ℕ) (p : Place) (f : Found scalar_t) : Type 0 where
   pub header : Found header_t
   pub start : Place

@@ -23,11 +23,11 @@ first p = peek p 0
 abbrev pub width : ℕ → ℕ
 width c = if nat_lt c 0x80 then 1 else if nat_lt c 0x800 then 2 else if nat_lt c 0x1_0000 then 3 else 4
 
--- a break ends behind c, which `next` follows: CR LF is one break
+-- a break ends after c, which `next` follows: CR LF is one break
 abbrev pub ends_line : ℕ → ℕ → Bool
 ends_line c next = is_break c && not (c == carriage_return && next == line_feed)
 
--- the mark behind c
+-- the mark after c
 abbrev pub mark_behind : yaml_mark_t → ℕ → ℕ → yaml_mark_t
 mark_behind m c next =
     if ends_line c next then record { index = m.index + width c; line = m.line + 1; column = 0 }
@@ -42,25 +42,25 @@ skip_from (suc n) m (c ∷ cs) = skip_from n (mark_behind m c (slice_index cs 0)
 unfoldable pub skip : ℕ → Place → Place
 skip n p = skip_from n p.mark p.rest
 
--- how many characters stand from p up to q, which is ahead of it
+-- how many characters are from p up to q, which is ahead of it
 abbrev pub distance : Place → Place → ℕ
 distance p q = length p.rest - length q.rest
 
--- the place behind the first n characters of a text
+-- the place after the first n characters of a text
 abbrev pub place_at : List ℕ → ℕ → Place
 place_at text n = skip n (start text)
 
--- the mark is that of the place behind the first n characters of the text
+-- the mark is that of the place after the first n characters of the text
 pub record IsMarkOf (text : List ℕ) (mark : yaml_mark_t) (n : ℕ) : Type 0 where
   pub within : n ≤ length text
   pub mark_is : mark ≡ (place_at text n).mark
 
--- how many characters a break takes, and nothing where none stands
+-- how many characters the break at a place takes, and 0 if there is none
 abbrev pub break_len : Place → ℕ
 break_len p =
     if first p == carriage_return && peek p 1 == line_feed then 2 else if is_break (first p) then 1 else 0
 
--- the longest run of characters that pass: how many, which, and the place behind
+-- the longest run of characters that pass: how many, which, and the place after them
 abbrev pub run_len : (ℕ → Bool) → Place → ℕ
 run_len test p = prefix_len test p.rest
 

@@ -17,7 +17,7 @@ use Rattle.yaml_lexeme.specs.Reading.{Read, found, refuse, ◌>>=◌, Part, part
 abbrev pub is_flow_indicator : ℕ → Bool
 is_flow_indicator c = is_one_of (codes ",[]{}") c
 
--- in flow, a `:` that may not stand in a chunk
+-- in flow, a `:` that is not allowed in a chunk
 abbrev pub is_bad_colon : Bool → ℕ → ℕ → Bool
 is_bad_colon flow c next = flow && (c == 0x3A && (next == 0x3F || is_flow_indicator next))
 
@@ -30,18 +30,18 @@ abbrev pub chunk_len : Bool → List ℕ → ℕ
 chunk_len flow [] = 0
 chunk_len flow (c ∷ cs) = if is_chunk flow c (slice_index cs 0) then 1 + chunk_len flow cs else 0
 
--- as many characters of a chunk as can be
+-- as many characters of a chunk as possible
 unfoldable pub chunk : Bool → Place → Read (List ℕ)
 chunk flow p =
     let end = skip (chunk_len flow p.rest) p in
     if is_bad_colon flow (first end) (peek end 1) then refuse COLON_IN_FLOW end
     else found (take (chunk_len flow p.rest) p.rest) end
 
--- a tab stands in indentation
+-- a tab in indentation
 abbrev pub is_tab : ℕ → Bool → Place → Bool
 is_tab least broken p = (first p == 0x09 && broken) && nat_lt p.mark.column least
 
--- the first tab of a separator that stands behind a break, at a column below `least`
+-- the first tab of a separator that comes after a break, at a column below `least`
 abbrev pub tab_from : ℕ → Bool → yaml_mark_t → List ℕ → Option Place
 tab_from least broken m [] = None
 tab_from least broken m (c ∷ cs) =
@@ -57,11 +57,11 @@ untabbed (Some tab) value p = refuse TAB_IN_PLAIN tab
 unfoldable pub separator : ℕ → Place → Read (List ℕ)
 separator least p = untabbed (tab_from least false p.mark p.rest) (fold (run is_white p)) (behind is_white p)
 
--- the scalar is over behind a separator
+-- the scalar is over after a separator
 abbrev pub is_over : Bool → ℕ → Place → Bool
 is_over flow least p = (not flow && nat_lt p.mark.column least) || (is_marker p || first p == 0x23)
 
--- a separator and the chunk behind it
+-- a separator and the chunk after it
 unfoldable pub link : Bool → ℕ → Place → Part (List ℕ)
 link flow least p =
     if not (is_white (first p)) then over
@@ -70,8 +70,8 @@ link flow least p =
     else chunk flow gap.end >>= λ c.
     if length c.value == 0 then over else part (gap.value ++ c.value) c.end
 
--- A chunk, then separators and chunks: the value, the mark behind the last chunk, and whether a break stands in the
--- separator behind it, which is read too.
+-- A chunk, then separators and chunks: the value, the mark after the last chunk, and whether a break is in the
+-- separator after it, which is read too.
 unfoldable pub plain : Bool → ℕ → Place → Read scalar_t
 plain flow least p = do
   head ← chunk flow p

@@ -14,12 +14,12 @@ use Rattle.yaml_lexeme.specs.Reading.{Read, found, refuse, ◌>>=◌, Part, part
 abbrev pub quote : Bool → ℕ
 quote single = if single then 0x27 else 0x22
 
--- no document marker may stand behind a part that holds a break
+-- no document marker may follow a part that holds a break
 abbrev pub unmarked : List ℕ → Place → Part (List ℕ)
 unmarked value p = if is_marker p then refuse DOCUMENT_MARKER p else part value p
 
 -- A part of the body, up to the closing quote: a separator, in single quotes a doubled quote, in double quotes a dropped
--- break with the run behind it or an escape, or a character that stands for itself.
+-- break with the run after it or an escape, or a character that stands for itself.
 unfoldable pub body_part : Bool → Place → Part (List ℕ)
 body_part single p =
     let c = first p in

@@ -1,14 +1,14 @@
--- Readers: what stands at a place, or the first offence.
+-- Readers: what is read at a place, or the first offence.
 use Rattle.std.specs.Prelude.{ℕ, zero, suc, ◌+◌, List, [], ◌∷◌, ◌++◌, length, Option, Some, None, Result, Ok, Err}
 use Rattle.yaml_lexeme.specs.declared.problem.problem_t.{problem_t}
 use Rattle.yaml_lexeme.specs.Place.{Place}
 
--- a problem, and the place where it stands
+-- a problem, and its place
 pub record Offence : Type 0 where
   pub problem : problem_t
   pub at : Place
 
--- what was read, and the place behind it
+-- what was read, and the place after it
 pub record Found (A : Type 0) : Type 0 where
   pub value : A
   pub end : Place
@@ -27,7 +27,7 @@ abbrev pub ◌>>=◌ : {A B : Type 0} → Result A Offence → (A → Result B O
 (Ok x) >>= f = f x
 (Err e) >>= f = Err e
 
--- One of the parts of a list: the part and the place behind it, or nothing where the list is over.
+-- One of the parts of a list: the part and the place after it, or nothing if the list is over.
 abbrev pub Part : Type 0 → Type 0
 Part A = Result (Option (Found A)) Offence
 

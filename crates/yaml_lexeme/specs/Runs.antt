@@ -22,7 +22,7 @@ is_mark ALPHA c = false
 is_mark DIGIT c = false
 is_mark IN_LINE c = false
 
--- a run of the class goes over the character
+-- a run of the class takes the character
 abbrev pub class_test : class_t → ℕ → Bool
 class_test BLANK c = is_blank c
 class_test (GAP_BLANK tabs) c = is_gap_blank tabs c
@@ -36,7 +36,7 @@ class_test SINGLE c = is_in_line c && not (is_mark SINGLE c)
 class_test PLAIN c = is_in_line c && not (is_mark PLAIN c)
 class_test FLOW c = is_in_line c && not (is_mark FLOW c)
 
--- the class is that of a line's characters, of which most are quiet
+-- the class takes most characters of a line
 abbrev pub is_line : class_t → Bool
 is_line IN_LINE = true
 is_line DOUBLE = true
@@ -54,7 +54,7 @@ is_line DIGIT = false
 abbrev pub may_break : ℕ → Bool
 may_break b = (b == 0x0A || b == 0x0D) || (b == 0xC2 || b == 0xE2)
 
--- bytes that need a closer look
+-- bytes at which a run may end
 abbrev pub is_stop : class_t → ℕ → Bool
 is_stop BLANK b = not (is_blank b)
 is_stop (GAP_BLANK tabs) b = not (is_gap_blank tabs b)
@@ -75,7 +75,7 @@ is_quiet class b = not (is_stop class b)
 abbrev pub begins : ℕ → Bool
 begins b = not (b / 64 == 2)
 
--- the class of what stands unchanged between quotes
+-- the class of what is kept unchanged between quotes
 abbrev pub line_of : Bool → class_t
 line_of true = SINGLE
 line_of false = DOUBLE
@@ -85,6 +85,6 @@ abbrev pub trim : List ℕ → List ℕ
 trim [] = []
 trim (c ∷ cs) = if list_all is_blank (c ∷ cs) then [] else c ∷ trim cs
 
--- q is the place behind some characters in front of p that pass, without the blanks at their end.
+-- q is the place after some of the characters from p on that pass, without the blanks at their end.
 abbrev pub Stands : (ℕ → Bool) → Place → Place → Type 0
 Stands test p q = (n : ℕ) × ((n ≤ run_len test p) × (q ≡ skip (length (trim (take n p.rest))) p))

@@ -9,18 +9,18 @@ use Rattle.yaml_lexeme.specs.Place.{Place, first, skip, run, behind}
 use Rattle.yaml_lexeme.specs.Uri.{uri, some_uri}
 use Rattle.yaml_lexeme.specs.Reading.{Read, found, refuse, ◌>>=◌}
 
--- the suffix behind a lone `!`, of which nothing may be there
+-- the tag of a `!` with a suffix; a lone `!` is itself the suffix
 abbrev pub lone : List ℕ → unnamed_yaml_token_t_data
 lone [] = TAG [] (codes "!")
 lone (c ∷ cs) = TAG (codes "!") (c ∷ cs)
 
--- behind `!`, at `<`
+-- after `!`, at `<`
 unfoldable pub angled : Place → Read unnamed_yaml_token_t_data
 angled p =
     some_uri true (skip 1 p) >>= λ r.
     if first r.end == 0x3E then found (TAG [] r.value) (skip 1 r.end) else refuse NO_CLOSING_ANGLE r.end
 
--- behind `!`
+-- after `!`
 unfoldable pub handled : Place → Read unnamed_yaml_token_t_data
 handled p =
     let letters = run is_alpha p in

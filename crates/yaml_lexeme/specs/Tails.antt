@@ -11,7 +11,7 @@ use Rattle.yaml_lexeme.specs.Reading.{Read}
 use Rattle.yaml_lexeme.specs.Gives.{Refuses}
 use Rattle.yaml_lexeme.specs.Block.{Blanks, Line, is_more_indented, or_none, or_space, is_line_feed}
 
--- empty lines were read, and their breaks put behind `old`
+-- empty lines were read, and their breaks appended to `old`
 abbrev pub TakesBlanks : Result blanks_t refusal_t → List ℕ → List ℕ → Place → Read Blanks → Type 0
 TakesBlanks (Ok b) old new q (Ok f) = (b.column ≡ f.value.column) × (new ≡ old ++ utf8 f.value.breaks) × (b.end ≡ f.value.end) × (q ≡ f.end)
 TakesBlanks (Ok b) old new q (Err e) = ⊥
@@ -24,19 +24,19 @@ pub record Keeps (tail : tail_t) (line : Line) : Type 0 where
   pub indented : tail.indented ≡ is_more_indented line
   pub end : tail.end ≡ line.end
 
--- a text line was read, and its text put behind `old`
+-- a text line was read, and its text appended to `old`
 abbrev pub TakesLine : Result tail_t refusal_t → List ℕ → List ℕ → Place → Read Line → Type 0
 TakesLine (Ok t) old new q (Ok f) = Keeps t f.value × (new ≡ old ++ utf8 f.value.text) × (q ≡ f.end)
 TakesLine (Ok t) old new q (Err e) = ⊥
 TakesLine (Err e) old new q read = Refuses e q read
 
--- what stands between a line and the next, in bytes
+-- what is between a line and the next, in bytes
 abbrev pub between_tail : Bool → tail_t → Bool → List ℕ
 between_tail folded t next =
     if (folded && is_line_feed t.lead) && not (t.indented || next) then or_space t.empties.items
     else utf8 (or_none t.lead) ++ t.empties.items
 
--- what stands behind the last line, in bytes
+-- what comes after the last line, in bytes
 abbrev pub chomped_tail : chomp_t → tail_t → List ℕ
 chomped_tail STRIP t = []
 chomped_tail CLIP t = utf8 (or_none t.lead)

@@ -8,7 +8,7 @@ use Rattle.yaml_lexeme.specs.Classes.{is_one_of}
 use Rattle.yaml_lexeme.specs.Place.{Place, peek, first, skip}
 use Rattle.yaml_lexeme.specs.Reading.{Read, found, refuse, ◌>>=◌, Part, part, over, many}
 
--- the characters of a uri; commas and brackets only where they are listed
+-- the characters of a uri; commas and brackets only if they are `listed`
 abbrev pub is_uri : Bool → ℕ → Bool
 is_uri listed c = is_alpha c || (is_one_of (codes ";/?:@&=+$.!~*'()") c || (listed && is_one_of (codes ",[]") c))
 
@@ -35,7 +35,7 @@ next_octets (suc n) p =
     if is_bad_next c.value then refuse BAD_NEXT_OCTET p
     else next_octets n c.end >>= λ more. found (c.value ∷ more.value) more.end
 
--- a lead octet and as many later ones as it asks for
+-- a lead octet and as many later ones as it needs
 unfoldable pub uri_escape : Place → Read (List ℕ)
 uri_escape p =
     octet p >>= λ lead.
@@ -48,7 +48,7 @@ uri_part listed p =
     else if is_uri listed (first p) then part (first p ∷ []) (skip 1 p)
     else over
 
--- as long as can be
+-- the longest list of its characters and escapes
 unfoldable pub uri : Bool → Place → Read (List ℕ)
 uri listed p = many (uri_part listed) p >>= λ parts. found (concat parts.value) parts.end
 

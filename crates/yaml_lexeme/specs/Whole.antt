@@ -1,4 +1,4 @@
--- Places where reading ends part no CR LF, so that their marks are the counted ones.
+-- Places where reading ends are not between CR and LF, so that their marks are the counted ones.
 use Rattle.std.specs.Prelude.{ℕ, ◌≡◌, ◌≤◌, Bool, List, Some, Ok, Err}
 use Rattle.yaml_text.specs.Mark.{IsPlaceAt, IsMarkAt}
 use Rattle.yaml_text.specs.declared.types.yaml_mark_t.{yaml_mark_t}
@@ -13,7 +13,7 @@ use Rattle.yaml_lexeme.specs.Locality.{reach}
 use Rattle.yaml_lexeme.specs.Place.{Place, place_at}
 use Rattle.yaml_lexeme.specs.Reading.{Offence, Found}
 
--- q stands behind n of the text's characters or more, and parts no CR LF
+-- q is after n of the text's characters or more, and not between CR and LF
 pub record IsWhole (text : List ℕ) (n : ℕ) (q : Place) : Type 0 where
   pub count : ℕ
   pub least : n ≤ count
@@ -21,15 +21,15 @@ pub record IsWhole (text : List ℕ) (n : ℕ) (q : Place) : Type 0 where
   pub place : IsPlaceAt text index count
   pub is : q ≡ place_at text count
 
--- the place behind a gap
+-- the place after a gap
 abbrev pub GapIsWhole : Type 0
 GapIsWhole = (flow allowed : Bool) (text : List ℕ) (index n : ℕ) → IsPlaceAt text index n → IsWhole text n (gap flow allowed (place_at text n)).0
 
--- the place that a lexeme of the kind that stands there reaches, or where its problem stands
+-- the place that a lexeme of the kind there reaches, or the place of its problem
 abbrev pub ReachIsWhole : Type 0
 ReachIsWhole = (k : yaml_lexeme_kind_t) (c : yaml_context_t) (text : List ℕ) (index n : ℕ) → IsPlaceAt text index n → kind_at (in_flow c) (place_at text n) ≡ Some k → IsWhole text n (reach (lex k c (place_at text n)))
 
--- the mark is that of a place which stands behind n characters or more, and parts no CR LF
+-- the mark is that of a place after n characters or more, which is not between CR and LF
 pub record EndsWhole (text : List ℕ) (n : ℕ) (mark : yaml_mark_t) : Type 0 where
   pub at : Place
   pub is : mark ≡ at.mark

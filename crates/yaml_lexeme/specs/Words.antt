@@ -10,12 +10,12 @@ use Rattle.yaml_lexeme.specs.Quoted.{body_part, spelled}
 use Rattle.yaml_lexeme.specs.Plain.{chunk, link}
 use Rattle.yaml_lexeme.specs.Gives.{Refuses}
 
--- What is still to be read makes the same whole: `old` is put out at p, and `new` at q.
+-- What is still to be read makes the same whole: after `old` from p on, and after `new` from q on.
 abbrev pub GoesOn : Bool → Place → List ℕ → Place → List ℕ → Type 0
 GoesOn single p old q new =
     (whole : Read (List ℕ)) → with_front old (spelled (many (body_part single) p)) ≡ whole → with_front new (spelled (many (body_part single) q)) ≡ whole
 
--- What is read of a plain scalar behind a chunk: separators and chunks, in bytes.
+-- What is read of a plain scalar after a chunk: separators and chunks, in bytes.
 abbrev pub links : Bool → ℕ → Place → Read (List ℕ)
 links flow least p = spelled (many (link flow least) p)
 
@@ -23,16 +23,16 @@ links flow least p = spelled (many (link flow least) p)
 abbrev pub words : Bool → ℕ → Place → Read (List ℕ)
 words flow least p = chunk flow p >>= λ c. with_front (utf8 c.value) (links flow least c.end)
 
--- the class of what stands unchanged in a plain scalar's line
+-- the class of what is kept unchanged in a plain scalar's line
 abbrev pub plain_of : Bool → class_t
 plain_of true = FLOW
 plain_of false = PLAIN
 
--- q is the place behind some of what stands unchanged in the line at p.
+-- q is the place after some of what is kept unchanged in the line at p.
 abbrev pub Goes : Bool → ℕ → Place → Place → Type 0
 Goes flow least p q = (n : ℕ) × ((q ≡ skip n p) × (words flow least p ≡ with_front (utf8 (take n p.rest)) (words flow least q)))
 
--- What is read from p on is what is put out, and then what is read from q on behind a chunk.
+-- What is read from p on is `out`, and then what is read from q on after a chunk.
 abbrev pub LeadsTo : Bool → ℕ → Place → List ℕ → Place → Type 0
 LeadsTo flow least p out q = with_front [] (words flow least p) ≡ with_front out (links flow least q)
 

@@ -16,10 +16,10 @@ use crate::runs::class_t;
 use std::alloc::{AllocError, Global};
 use yaml_text::yaml_mark_t;
 
-/// How many bytes a block scalar is given room for at first.
+/// How many bytes a block scalar first gets room for.
 const ROOM: usize = 256;
 
-/// What is kept behind the last text line.
+/// What is kept after the last text line.
 #[derive(Clone, Copy)]
 pub(crate) enum chomp_t {
     STRIP,
@@ -27,7 +27,7 @@ pub(crate) enum chomp_t {
     KEEP,
 }
 
-/// What stands behind `|` or `>`.
+/// What follows `|` or `>`.
 #[derive(Clone, Copy)]
 pub(crate) struct header_t {
     pub chomp: chomp_t,
@@ -39,7 +39,7 @@ pub(crate) struct header_t {
 pub(crate) struct blanks_t {
     /// The greatest column that spaces reach on them.
     pub column: u64,
-    /// The mark behind them.
+    /// The mark after them.
     pub end: yaml_mark_t,
 }
 
@@ -48,11 +48,11 @@ pub(crate) struct blanks_t {
 pub(crate) struct tail_t {
     /// Its break, as it is written.
     pub lead: Option<char>,
-    /// The breaks of the empty lines behind it.
+    /// The breaks of the empty lines after it.
     pub empties: Vec<u8>,
     /// Whether it begins with a blank.
     pub indented: bool,
-    /// The mark behind them.
+    /// The mark after them.
     pub end: yaml_mark_t,
 }
 
@@ -72,7 +72,7 @@ fn sign_of(c: char) -> chomp_t
     }
 }
 
-/// Takes the digit that stands here, if one does.
+/// Takes the digit that is here, if there is one.
 #[tactic(auto, unfolding(crate::specs::Block::digit_at))]
 fn take_digit(cursor: &mut cursor_t) -> Result<Option<u64>, refusal_t>
     ensures value { Gives (λ d. d) result cursor.new (spec.digit_at cursor.old) }
@@ -89,7 +89,7 @@ fn take_digit(cursor: &mut cursor_t) -> Result<Option<u64>, refusal_t>
     Ok(Some(u64::from(c as u32 - '0' as u32)))
 }
 
-/// Takes the header, behind its first character.
+/// Takes the header, after its first character.
 #[tactic(auto, unfolding(crate::specs::Block::header_at))]
 fn take_header(cursor: &mut cursor_t) -> Result<header_t, refusal_t>
     ensures value { Gives (λ h. h) result cursor.new (spec.header_at cursor.old) }
@@ -160,7 +160,7 @@ fn skip_indent(cursor: &mut cursor_t, limit: Option<u64>)
     }
 }
 
-/// Takes the spaces that are indentation, where no tab may stand.
+/// Takes the spaces that are indentation; a tab in their place is an offence.
 #[tactic(auto, unfolding(crate::specs::Block::after_indent))]
 fn take_indent(cursor: &mut cursor_t, limit: Option<u64>) -> Result<(), refusal_t>
     ensures { Moves result cursor.new (spec.after_indent limit cursor.old) }
@@ -172,7 +172,7 @@ fn take_indent(cursor: &mut cursor_t, limit: Option<u64>) -> Result<(), refusal_
     Ok(())
 }
 
-/// Takes empty lines and the indentation of the line that follows, and puts their breaks behind `breaks`.
+/// Takes empty lines and the indentation of the line that follows, and appends their breaks to `breaks`.
 fn take_blank_lines(
     cursor: &mut cursor_t,
     limit: Option<u64>,
@@ -193,7 +193,7 @@ fn take_blank_lines(
     Ok(blanks_t { column, end })
 }
 
-/// Takes the break that stands here, if one does, and gives it as it is written.
+/// Takes the break that is here, if there is one, and returns it as it is written.
 #[inline(always)]
 fn take_break(cursor: &mut cursor_t) -> Option<char>
     ensures value { result ≡ spec.break_at cursor.old }
@@ -209,7 +209,7 @@ fn take_break(cursor: &mut cursor_t) -> Option<char>
     if n == 0 { None } else { Some(written(c)) }
 }
 
-/// Takes a text line whose indentation is read, and puts its text behind `out`.
+/// Takes a text line after its indentation, and appends its text to `out`.
 fn take_line(
     alloc: Global,
     cursor: &mut cursor_t,
@@ -241,7 +241,7 @@ fn push_lead(out: &mut Vec<u8>, lead: Option<char>) -> Result<(), AllocError>
     Ok(())
 }
 
-/// Puts behind `out` what stands between a text line and the next, of which the flag says that it begins with a blank.
+/// Appends to `out` what comes between a text line and the next, which begins with a blank if the flag is set.
 fn push_between(
     out: &mut Vec<u8>,
     folded: bool,
@@ -263,7 +263,7 @@ fn push_between(
     Ok(())
 }
 
-/// Puts behind `out` what stands behind the last text line.
+/// Appends to `out` what comes after the last text line.
 fn push_chomped(out: &mut Vec<u8>, chomp: chomp_t, tail: &tail_t) -> Result<(), AllocError>
     ensures { OnOk result (out.new.items ≡ out.old.items ++ chomped_tail chomp tail.now) }
 {
@@ -300,14 +300,14 @@ fn block_indent(least: u64, digit: Option<u64>, leading: u64, column: u64) -> u6
     }
 }
 
-/// Whether a text line stands here, with its indentation read.
+/// Whether a text line is here, after its indentation.
 fn is_text(cursor: &cursor_t, indent: u64) -> bool
     ensures { result ≡ spec.is_text indent cursor.now }
 {
     cursor.mark().column == indent && !check_at!(cursor, '\0', 0)
 }
 
-/// Takes a literal or folded scalar, at its first character. `least` is the greatest open level + 1, or 0.
+/// Takes a literal or folded scalar, from its first character on. `least` is the greatest open level + 1, or 0.
 pub(crate) fn take_block(
     alloc: Global,
     cursor: &mut cursor_t,

@@ -13,14 +13,14 @@ use crate::runs::{class_t, quiet_len, spaces_len, trimmed};
 use std::marker::Model;
 use yaml_text::{WIDTH, yaml_mark_t, yaml_text_t};
 
-/// Whether a character stands so many places on: past the end a text reads as 0.
+/// Whether a character is so many places on: past the end a text reads as 0.
 macro_rules! check_at {
     ($cursor:expr, $c:expr, $k:expr) => {
         $cursor.peek($k) == $c
     };
 }
 
-/// Whether a character that passes a test stands so many places on.
+/// Whether the character so many places on passes a test.
 macro_rules! is_at {
     ($cursor:expr, $test:expr, $k:expr) => {
         $test($cursor.peek($k))
@@ -130,7 +130,7 @@ fn rest(bytes: &[u8], n: usize) -> &[u8]
     &bytes[n..]
 }
 
-/// The code point that a lead byte and those behind it spell.
+/// The code point that a lead byte and those after it spell.
 #[tactic(auto, unfolding(yaml_text::specs::Utf8::value_of))]
 fn code_of(bytes: &[u8], width: usize) -> u32
     requires some { 0 < width }
@@ -152,7 +152,7 @@ fn code_of(bytes: &[u8], width: usize) -> u32
     }
 }
 
-/// The character in front.
+/// The first character.
 #[inline(never)]
 fn wide_char(bytes: &[u8]) -> char
     requires text { IsText bytes.now }
@@ -162,7 +162,7 @@ fn wide_char(bytes: &[u8]) -> char
     char::from_u32(code_of(bytes, WIDTH(bytes, 0))).unwrap()
 }
 
-/// The character in front, or 0 at the end.
+/// The first character, or 0 at the end.
 #[inline(always)]
 fn first_char(bytes: &[u8]) -> char
     requires { IsText bytes.now }
@@ -188,7 +188,7 @@ fn past_wide(bytes: &[u8]) -> &[u8]
     rest(bytes, width)
 }
 
-/// The bytes behind the character in front.
+/// The bytes after the first character.
 #[inline(always)]
 fn past_char(bytes: &[u8]) -> &[u8]
     requires { IsText bytes.now }
@@ -300,7 +300,7 @@ impl<'a> cursor_t<'a> {
         self.advance_far();
     }
 
-    /// Takes a character that is no other of ASCII than a carriage return.
+    /// Takes a character that is not ASCII or is a carriage return.
     #[inline(never)]
     fn advance_far(&mut self)
         requires { 0 < length self.old.rest }
@@ -322,7 +322,7 @@ impl<'a> cursor_t<'a> {
         }
     }
 
-    /// How many characters the break takes that stands here, or 0.
+    /// How many characters the break that is here takes, or 0 if there is none.
     #[inline(always)]
     pub fn break_len(&self) -> usize
         ensures { result ≡ break_len self.now }
@@ -353,7 +353,7 @@ impl<'a> cursor_t<'a> {
         self.bytes
     }
 
-    /// Takes characters of a run, up to a byte that needs a closer look.
+    /// Takes characters of a run, up to a byte at which it may end.
     #[inline(always)]
     fn skip_quiet(&mut self, class: class_t)
         ensures goes { behind (class_test class) self.new ≡ behind (class_test class) self.old }
@@ -368,7 +368,7 @@ impl<'a> cursor_t<'a> {
         self.bytes = rest(self.bytes, n);
     }
 
-    /// Takes a run of characters of the class, as long as can be, and gives its bytes.
+    /// Takes the longest run of characters of the class, and returns its bytes.
     #[inline(always)]
     pub fn run(&mut self, class: class_t) -> &'a [u8]
         ensures value { result.now ≡ utf8 (run (class_test class) self.old) }
@@ -384,7 +384,7 @@ impl<'a> cursor_t<'a> {
         front(start, start.len() - left.len())
     }
 
-    /// Takes characters of a class of a line, up to a byte that needs a closer look, but for the blanks in front of it.
+    /// Takes characters of a class of a line, up to a byte at which their run may end, except the blanks before that byte.
     #[inline(always)]
     pub fn skip_solid(&mut self, class: class_t)
         requires { is_line class ≡ true }
@@ -400,7 +400,7 @@ impl<'a> cursor_t<'a> {
         self.bytes = rest(self.bytes, kept);
     }
 
-    /// Takes the spaces that stand here, but at most so many.
+    /// Takes the spaces that are here, but at most so many.
     #[inline(always)]
     pub fn skip_spaces(&mut self, most: u64)
         ensures { self.new ≡ skip (min (run_len (class_test SPACE) self.old) most) self.old }
@@ -414,7 +414,7 @@ impl<'a> cursor_t<'a> {
         self.bytes = rest(self.bytes, n as usize);
     }
 
-    /// Takes a run of characters of the class, as long as can be.
+    /// Takes the longest run of characters of the class.
     #[inline(always)]
     pub fn skip_run(&mut self, class: class_t)
         ensures { self.new ≡ behind (class_test class) self.old }

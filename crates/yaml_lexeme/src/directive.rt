@@ -19,7 +19,7 @@ use yaml_text::{unnamed_yaml_token_t_data, yaml_mark_t};
 #[derive(Drop)]
 pub(crate) struct directive_t {
     pub says: unnamed_yaml_token_t_data,
-    /// The mark behind what it says.
+    /// The mark after what it says.
     pub end: yaml_mark_t,
 }
 
@@ -53,7 +53,7 @@ fn take_number(cursor: &mut cursor_t) -> Result<u32, refusal_t>
     Ok(value)
 }
 
-/// Takes what stands behind `YAML`.
+/// Takes what follows `YAML`.
 #[tactic(auto, unfolding(crate::specs::Directive::version_at))]
 fn take_version(cursor: &mut cursor_t) -> Result<unnamed_yaml_token_t_data, refusal_t>
     ensures { Gives data_of result cursor.new (spec.version_at cursor.old) }
@@ -95,7 +95,7 @@ fn take_handle(alloc: Global, cursor: &mut cursor_t) -> Result<Vec<u8>, refusal_
     Ok(handle)
 }
 
-/// Takes what stands behind `TAG`.
+/// Takes what follows `TAG`.
 #[tactic(auto, unfolding(crate::specs::Directive::tag_directive_at))]
 fn take_tag_directive(
     alloc: Global,
@@ -116,7 +116,7 @@ fn take_tag_directive(
     Ok(unnamed_yaml_token_t_data::TAG_DIRECTIVE { handle, prefix })
 }
 
-/// Takes what stands behind a directive's name.
+/// Takes what follows a directive's name.
 #[tactic(auto, unfolding(crate::specs::Directive::named))]
 fn take_named(
     alloc: Global,

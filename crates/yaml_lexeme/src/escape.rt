@@ -6,7 +6,7 @@ ghost use Rattle.yaml_lexeme.specs.Gives.{Gives};
 use crate::cursor::cursor_t;
 use crate::problem::{problem_t, refusal_t};
 
-/// What a character behind a backslash stands for, or `None`.
+/// The character that one after a backslash stands for, or `None`.
 fn simple_escape(c: char) -> Option<char>
     ensures { result ≡ spec.simple_escape c }
 {
@@ -29,7 +29,7 @@ fn simple_escape(c: char) -> Option<char>
     })
 }
 
-/// How many hex digits follow a character behind a backslash.
+/// How many hex digits follow a character after a backslash.
 fn hex_len(c: char) -> usize
     ensures len { result ≡ spec.hex_len c }
     ensures most { result ≤ 8 }
@@ -42,7 +42,7 @@ fn hex_len(c: char) -> usize
     }
 }
 
-/// Takes `n` hex digits, and gives the character that they write.
+/// Takes `n` hex digits, and returns the character that they spell.
 fn take_hex_escape(cursor: &mut cursor_t, n: usize) -> Result<char, refusal_t>
     requires { n ≤ 8 }
     ensures { Gives (λ c. c) result cursor.new (spec.hex_escape n cursor.old) }
@@ -63,7 +63,7 @@ fn take_hex_escape(cursor: &mut cursor_t, n: usize) -> Result<char, refusal_t>
     Ok(c)
 }
 
-/// Takes an escape, at its backslash.
+/// Takes an escape, from its backslash on.
 #[tactic(auto, unfolding(crate::specs::Escape::escape))]
 pub(crate) fn take_escape(cursor: &mut cursor_t) -> Result<char, refusal_t>
     ensures { Gives (λ c. c) result cursor.new (spec.escape cursor.old) }

@@ -1,4 +1,4 @@
-//! What a run of blanks and breaks is worth in a value.
+//! The value of a run of blanks and breaks.
 ghost use Rattle.std.specs.Prelude.{◌≡◌, ◌++◌, OnOk, encode_utf8};
 ghost use Rattle.yaml_text.specs.Chars.{utf8};
 ghost use Rattle.yaml_lexeme.specs.Classes as sets;
@@ -9,7 +9,7 @@ use crate::cursor::cursor_t;
 use crate::runs::class_t;
 use std::alloc::AllocError;
 
-/// Puts a character behind `out`.
+/// Appends a character to `out`.
 pub(crate) fn push_char(out: &mut Vec<u8>, c: char) -> Result<(), AllocError>
     ensures { OnOk result (out.new.items ≡ out.old.items ++ encode_utf8 c) }
 {
@@ -32,7 +32,7 @@ pub(crate) fn written(c: char) -> char
     }
 }
 
-/// Takes a run of blanks and breaks, and puts its breaks behind `out`.
+/// Takes a run of blanks and breaks, and appends its breaks to `out`.
 pub(crate) fn push_breaks(cursor: &mut cursor_t, out: &mut Vec<u8>) -> Result<(), AllocError>
     ensures value { OnOk result (out.new.items ≡ out.old.items ++ utf8 (spec.breaks (place.run sets.is_white cursor.old))) }
     ensures end { OnOk result (cursor.new ≡ place.behind sets.is_white cursor.old) }
@@ -46,7 +46,7 @@ pub(crate) fn push_breaks(cursor: &mut cursor_t, out: &mut Vec<u8>) -> Result<()
     Ok(())
 }
 
-/// Takes a run of blanks and breaks, and puts what it is worth behind `out`.
+/// Takes a run of blanks and breaks, and appends its value to `out`.
 pub(crate) fn push_separator(cursor: &mut cursor_t, out: &mut Vec<u8>) -> Result<(), AllocError>
     ensures value { OnOk result (out.new.items ≡ out.old.items ++ utf8 (spec.fold (place.run sets.is_white cursor.old))) }
     ensures end { OnOk result (cursor.new ≡ place.behind sets.is_white cursor.old) }

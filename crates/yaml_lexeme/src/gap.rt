@@ -1,4 +1,4 @@
-//! What stands between lexemes.
+//! What is between lexemes.
 ghost use Rattle.std.specs.Prelude.{ℕ, ◌≡◌, true, false};
 ghost use Rattle.yaml_lexeme.specs.Place.{IsMarkOf, place_at, behind, peek};
 ghost use Rattle.yaml_lexeme.specs.Classes.{is_in_line};
@@ -16,7 +16,7 @@ fn skip_line(cursor: &mut cursor_t)
     cursor.skip_run(class_t::IN_LINE);
 }
 
-/// Takes a comment, if one stands here.
+/// Takes a comment, if there is one here.
 #[inline(always)]
 pub(crate) fn skip_comment(cursor: &mut cursor_t)
     ensures { cursor.new ≡ spec.after_comment cursor.old }
@@ -38,7 +38,7 @@ fn skip_gap_line(cursor: &mut cursor_t, tabs: bool)
     skip_comment(cursor);
 }
 
-/// Takes the gap that stands here, line by line, and tells whether a break is in it.
+/// Takes the gap that is here, line by line, and returns whether a break is in it.
 #[inline(never)]
 fn skip_gap_lines(cursor: &mut cursor_t, in_flow: bool, allowed: bool) -> bool
     ensures { (cursor.new, result) ≡ spec.gap in_flow allowed cursor.old }
@@ -52,7 +52,7 @@ fn skip_gap_lines(cursor: &mut cursor_t, in_flow: bool, allowed: bool) -> bool
     broken
 }
 
-/// Whether a character of ASCII stands here that belongs to no gap.
+/// Whether an ASCII character that belongs to no gap is here.
 #[inline(always)]
 fn is_solid(cursor: &cursor_t, k: usize) -> bool
     ensures { result ≡ spec.is_solid (peek cursor.now k) }
@@ -61,7 +61,7 @@ fn is_solid(cursor: &cursor_t, k: usize) -> bool
     c > ' ' && c < '\u{80}' && c != '#'
 }
 
-/// Takes a line feed and spaces, where these are the gap that stands here.
+/// Takes a line feed and spaces, if these are the gap that is here.
 #[inline(always)]
 fn skip_feed(cursor: &mut cursor_t) -> bool
     ensures some { result ≡ true → spec.IsGap cursor.old cursor.new true }
@@ -80,7 +80,7 @@ fn skip_feed(cursor: &mut cursor_t) -> bool
     found
 }
 
-/// Takes a gap that is not empty, and tells whether a break is in it.
+/// Takes a gap that is not empty, and returns whether a break is in it.
 #[inline(never)]
 fn skip_some_gap(cursor: &mut cursor_t, in_flow: bool, allowed: bool) -> bool
     ensures { (cursor.new, result) ≡ spec.gap in_flow allowed cursor.old }
@@ -92,7 +92,7 @@ fn skip_some_gap(cursor: &mut cursor_t, in_flow: bool, allowed: bool) -> bool
     skip_feed(cursor) || skip_gap_lines(cursor, in_flow, allowed)
 }
 
-/// Takes the gap that stands here, and tells whether a break is in it.
+/// Takes the gap that is here, and returns whether a break is in it.
 #[inline(always)]
 fn skip_gap(cursor: &mut cursor_t, in_flow: bool, allowed: bool) -> bool
     ensures { (cursor.new, result) ≡ spec.gap in_flow allowed cursor.old }
@@ -100,16 +100,16 @@ fn skip_gap(cursor: &mut cursor_t, in_flow: bool, allowed: bool) -> bool
     !is_solid(cursor, 0) && skip_some_gap(cursor, in_flow, allowed)
 }
 
-/// The gap from a place on: the mark of the place after it, and whether a break stands in it (YAML 1.1, 6.2 Comments
-/// and 6.3 Separation Spaces). Where none stands, that is the place itself.
+/// The gap from a place on: the mark of the place after it, and whether a break is in it (YAML 1.1, 6.2 Comments and 6.3
+/// Separation Spaces). If the gap is empty, the mark is that of the place itself.
 ///
-/// A gap is gap lines joined by breaks, as many as can be. A gap line is perhaps a byte order mark, where the line
-/// begins at column 0, then blanks, and then perhaps a comment up to a break or the end. Spaces are blanks, and tabs
-/// are so in flow, and on the first line where no key is allowed.
+/// A gap is gap lines joined by breaks, as many as possible. A gap line is an optional byte order mark, if the line begins at
+/// column 0, then blanks, and then an optional comment up to a break or the end. Spaces are blanks; tabs are blanks in flow,
+/// and on the first line if no key is allowed.
 ///
-/// `at` must be the mark of a place of this text: what `yaml_mark_at` answers of it, the mark after a gap of it, or
-/// the reach of a lexeme of it other than the stream end. `in_flow` says whether the flow depth is above 0, and
-/// `allowed` whether a key is allowed at the place. Every gap can be read: there is no fault, and no memory is taken.
+/// `at` must be the mark of a place of this text: what `yaml_mark_at` returns for it, the mark after a gap of it, or the reach
+/// of a lexeme of it other than the stream end. `in_flow` says whether the flow depth is above 0, and `allowed` whether a key
+/// is allowed at the place. Every gap can be read: there is no fault, and no memory is taken.
 #[inline(always)]
 pub fn yaml_gap(
     text: &yaml_text_t,

@@ -6,7 +6,7 @@ ghost use Rattle.yaml_lexeme.specs.Kind as spec;
 use crate::cursor::{check_at, cursor_t, ends, is_at};
 use yaml_text::{yaml_mark_t, yaml_text_t};
 
-/// What kind of lexeme stands at a place. "Ends" means that a blank, a break or the end of the text follows.
+/// What kind of lexeme is at a place. "Ends" means that a blank, a break or the end of the text follows.
 #[derive(Clone, Copy, PartialEq, Eq)]
 pub enum yaml_lexeme_kind_t {
     /// The end of the text.
@@ -29,9 +29,9 @@ pub enum yaml_lexeme_kind_t {
     FLOW_ENTRY,
     /// `-`, which ends.
     BLOCK_ENTRY,
-    /// `?`, in flow or where it ends.
+    /// `?`, in flow or if it ends.
     KEY,
-    /// `:`, in flow or where it ends.
+    /// `:`, in flow or if it ends.
     VALUE,
     /// `*` and a name.
     ALIAS,
@@ -47,11 +47,11 @@ pub enum yaml_lexeme_kind_t {
     SINGLE_QUOTED,
     /// A scalar between `"`.
     DOUBLE_QUOTED,
-    /// A scalar that starts with no indicator, or with a `-`, `?` or `:` that stands for no token of its own.
+    /// A scalar that starts with no indicator, or with a `-`, `?` or `:` that is no token of its own.
     PLAIN,
 }
 
-/// Whether `---` or `...`, of which `c` is the character, stands here at the start of a line, and ends.
+/// Whether `---` or `...`, of which `c` is the character, is here at the start of a line, and ends.
 #[inline(always)]
 pub(crate) fn is_marker_of(cursor: &cursor_t, c: char) -> bool
     ensures { result ≡ spec.is_marker_of c cursor.now }
@@ -63,7 +63,7 @@ pub(crate) fn is_marker_of(cursor: &cursor_t, c: char) -> bool
         && is_at!(cursor, ends, 3)
 }
 
-/// Whether a document marker stands here.
+/// Whether a document marker is here.
 #[inline(always)]
 pub(crate) fn is_marker(cursor: &cursor_t) -> bool
     ensures { result ≡ spec.is_marker cursor.now }
@@ -102,7 +102,7 @@ fn starts_plain(cursor: &cursor_t, in_flow: bool) -> bool
     !(ends(c) || is_indicator(c)) || c == '-' || (!in_flow && (c == '?' || c == ':'))
 }
 
-/// The kind of the lexeme that stands here.
+/// The kind of the lexeme that is here.
 #[tactic(auto, unfolding(crate::specs::Kind::kind_at))]
 #[inline(always)]
 fn kind_at(cursor: &cursor_t, in_flow: bool) -> Option<yaml_lexeme_kind_t>
@@ -145,12 +145,12 @@ fn kind_at(cursor: &cursor_t, in_flow: bool) -> Option<yaml_lexeme_kind_t>
     })
 }
 
-/// The kind of the lexeme that stands at a place, or `None` where no token can start (YAML 1.1, 5.3 Indicator
-/// Characters and 7.2 Document Boundary Markers).
+/// The kind of the lexeme at a place, or `None` if no token can start there (YAML 1.1, 5.3 Indicator Characters and 7.2
+/// Document Boundary Markers).
 ///
-/// `at` must be the mark of a place of this text: what `yaml_mark_at` answers of it, the mark after a gap of it, or
-/// the reach of a lexeme of it other than the stream end. At a place where a gap stands that is not empty, the answer
-/// is that for its first character. `in_flow` says whether the flow depth is above 0. No memory is taken.
+/// `at` must be the mark of a place of this text: what `yaml_mark_at` returns for it, the mark after a gap of it, or the reach
+/// of a lexeme of it other than the stream end. At a place with a gap that is not empty, the kind is that for the gap's first
+/// character. `in_flow` says whether the flow depth is above 0. No memory is taken.
 #[inline(always)]
 pub fn yaml_lexeme_kind(
     text: &yaml_text_t,

@@ -12,7 +12,7 @@ pub fn gap_order()
 {}
 
 /// A gap is the longest text that is gap lines joined by breaks, and says whether a break is in it. A run of a class is
-/// as many of its characters as can be.
+/// as many of its characters as possible.
 pub fn gap_is_longest()
     ensures gaps { GapIsLongest }
     ensures runs { RunIsLongest }
@@ -23,7 +23,7 @@ pub fn lexeme_spans()
     ensures { LexemeSpans }
 {}
 
-/// The marks of a lexeme are in order, and it takes a byte, and a column where it stays on its line.
+/// The marks of a lexeme are in order, and it takes a byte, and a column if it stays on its line.
 pub fn lexeme_order()
     ensures { LexemeOrder }
 {}
@@ -33,41 +33,41 @@ pub fn stream_end_order()
     ensures { StreamEndOrder }
 {}
 
-/// A problem stands at a place of the text, where its lexeme would start or further on.
+/// A problem is at a place of the text, where its lexeme would start or further on.
 pub fn offence_is_ahead()
     ensures { OffenceIsAhead }
 {}
 
-/// A lexeme behind a gap follows what was read up to the gap.
+/// A lexeme after a gap follows what was read up to the gap.
 pub fn lexeme_follows()
     ensures { LexemeFollows }
 {}
 
-/// A gap depends on no character eight or more past its end, the end of the text counted as a character.
+/// A gap depends on no character eight or more past its end, with the end of the text counted as a character.
 pub fn gap_is_local()
     ensures { GapIsLocal }
 {}
 
-/// A kind depends on no character eight or more past its place, the end of the text counted as a character.
+/// A kind depends on no character eight or more past its place, with the end of the text counted as a character.
 pub fn kind_is_local()
     ensures { KindIsLocal }
 {}
 
-/// A lexeme depends on no character eight or more past its reach, or past the place of its problem, the end of the text
+/// A lexeme depends on no character eight or more past its reach, or past the place of its problem, with the end of the text
 /// counted as a character.
 pub fn lex_is_local()
     ensures { LexIsLocal }
 {}
 
-/// A place that parts no CR LF has the mark that is counted from the front of the text, and what is left there is what
-/// stands after it: so a counted mark is one that gaps, kinds and lexemes can be asked at.
+/// A place that is not between CR and LF has the mark that is counted from the front of the text, and what is left there is
+/// what follows it: so gaps, kinds and lexemes can be read at a counted mark.
 pub fn marks_are_counted()
     ensures places { PlacesAreCounted }
     ensures marks { MarksAreCounted }
 {}
 
-/// From a place that parts no CR LF, the places where a gap ends, where a lexeme of the kind that stands there ends and
-/// which it reaches, and where its problem stands, part none.
+/// From a place that is not between CR and LF, the following places are not either: where a gap ends, where a lexeme of the
+/// kind there ends and which it reaches, and where its problem is.
 pub fn ends_are_whole()
     ensures gaps { GapIsWhole }
     ensures reaches { ReachIsWhole }
@@ -82,36 +82,36 @@ pub fn ends_are_counted()
     ensures problems { ProblemIsCounted }
 {}
 
-/// The text between the quotes of a scalar is its parts, one after the other and as many as can be, and its value is
-/// theirs. Where it is refused, the offence stands after as many parts as can be.
+/// The text between the quotes of a scalar is its parts, one after the other and as many as possible, and its value is
+/// theirs. If it is refused, the offence comes after as many parts as possible.
 pub fn quoted_is_its_parts()
     ensures parts { QuotedIsParts }
     ensures refused { QuotedIsRefused }
 {}
 
-/// The text of a plain scalar is a chunk and links, one after the other and as many as can be, and its value is
-/// theirs. Where it is refused, the offence is that of the chunk, or stands after as many links as can be.
+/// The text of a plain scalar is a chunk and links, one after the other and as many as possible, and its value is
+/// theirs. If it is refused, the offence is that of the chunk, or comes after as many links as possible.
 pub fn plain_is_its_parts()
     ensures parts { PlainIsParts }
     ensures refused { PlainIsRefused }
 {}
 
-/// A chunk of a plain scalar is as many characters as can be. A link is as many blanks and breaks as can be, and a
-/// chunk; none stands where no blank or break does, or the scalar ends after them.
+/// A chunk of a plain scalar is as many characters as possible. A link is as many blanks and breaks as possible, and a
+/// chunk; there is none if there is no blank or break, or if the scalar ends after them.
 pub fn links_are_longest()
     ensures chunk { ChunkIsLongest }
     ensures link { LinkIsLongest }
     ensures over { LinkIsOver }
 {}
 
-/// A uri is characters and escapes, one after the other and as many as can be, and its octets are theirs. Where it is
-/// refused, the offence stands after as many of them as can be.
+/// A uri is characters and escapes, one after the other and as many as possible, and its octets are theirs. If it is
+/// refused, the offence comes after as many of them as possible.
 pub fn uri_is_its_parts()
     ensures parts { UriIsParts }
     ensures refused { UriIsRefused }
 {}
 
-/// The empty lines of a literal or folded scalar, in front of its text lines and between them, are as many as can be;
+/// The empty lines of a literal or folded scalar, before its text lines and between them, are as many as possible;
 /// so are its text lines, and its value is that of these lines.
 pub fn block_is_its_lines()
     ensures empty { BlanksAreLines }

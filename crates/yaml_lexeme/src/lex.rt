@@ -36,12 +36,12 @@ use yaml_text::{
     unnamed_yaml_token_t_data, yaml_fault_t, yaml_mark_t, yaml_scalar_style_t, yaml_text_t,
 };
 
-/// Where a lexeme stands among the collections that are open.
+/// The flow depth and the greatest open level at a lexeme.
 #[derive(Clone, Copy, PartialEq, Eq)]
 pub struct yaml_context_t {
-    /// The flow depth: how many flow collections are open. Above 0 the lexeme stands in flow.
+    /// The flow depth: how many flow collections are open. Above 0 the lexeme is in flow.
     pub depth: u64,
-    /// The greatest open level: the column of the innermost open block collection, from 0. `None` where none is open.
+    /// The greatest open level: the column of the innermost open block collection, from 0. `None` if none is open.
     pub level: Option<u64>,
 }
 
@@ -50,18 +50,18 @@ pub struct yaml_context_t {
 pub struct yaml_lexeme_t {
     /// What its token says: the token's type and the parts that tokens of this type have.
     pub token_data: unnamed_yaml_token_t_data,
-    /// Where its token starts: the mark of its first character. A stream end has one mark three times, that of the
-    /// text's end, or where its column is not 0 that of the next line's start.
+    /// The mark of its token's first character. A stream end has one mark three times: that of the text's end, or that of the
+    /// next line's start if the column of the text's end is not 0.
     pub start_mark: yaml_mark_t,
-    /// Where its token ends: the mark after its last character. A plain scalar ends after its last chunk, a literal
+    /// The mark after its token's last character. A plain scalar ends after its last chunk, a literal
     /// or folded one after the last break that was read or at the end of the text, a directive before the blanks
     /// and the comment after it.
     pub end_mark: yaml_mark_t,
-    /// The mark up to which was read, where the next gap begins. It is `end_mark`, or after it: for a plain scalar
+    /// The mark up to which was read; the next gap begins here. It is `end_mark`, or after it: for a plain scalar
     /// after the separator that was read last, for a literal or folded one after the spaces, for a directive after
     /// its line's break.
     pub reach: yaml_mark_t,
-    /// For a plain scalar, whether a break stands between `end_mark` and `reach`; false for every other kind.
+    /// For a plain scalar, whether a break is between `end_mark` and `reach`; false for every other kind.
     pub passed_break: bool,
 }
 
@@ -81,7 +81,7 @@ fn stream_end(mark: yaml_mark_t) -> yaml_mark_t
     }
 }
 
-/// What stands between two marks.
+/// What is between two marks.
 fn whole(says: unnamed_yaml_token_t_data, start: yaml_mark_t, end: yaml_mark_t) -> yaml_lexeme_t
     ensures { lexeme_of result ≡ spec.whole_of (data_of says) start end }
 {
@@ -101,7 +101,7 @@ fn at_end(cursor: &cursor_t) -> yaml_lexeme_t
     whole(unnamed_yaml_token_t_data::STREAM_END, mark, mark)
 }
 
-/// What a lexeme that is one character says, or a document marker.
+/// What a lexeme of one character, or a document marker, says.
 fn says_of(kind: yaml_lexeme_kind_t) -> unnamed_yaml_token_t_data
     ensures { data_of result ≡ spec.says_of kind }
 {
@@ -177,7 +177,7 @@ fn directive(start: yaml_mark_t, directive: directive_t, reach: yaml_mark_t) -> 
     }
 }
 
-/// Takes a lexeme that is one character, or a document marker.
+/// Takes a lexeme of one character, or a document marker.
 #[inline(never)]
 fn take_characters(
     cursor: &mut cursor_t,
@@ -362,35 +362,35 @@ fn make_fault(
     )
 }
 
-/// The lexeme that stands at a place, or the fault of its first offence (YAML 1.1, 7.1 Directives, 7.2 Document
+/// The lexeme at a place, or the fault of its first offence (YAML 1.1, 7.1 Directives, 7.2 Document
 /// Boundary Markers, 8.1 Node Anchors, 8.2 Node Tags, 8.4 Alias Nodes and chapter 9, Scalar Styles).
 ///
-/// `at` must be the mark of a place of this text: what `yaml_mark_at` answers of it, the mark after a gap of it, or
-/// the reach of a lexeme of it other than the stream end. `kind` must be what `yaml_lexeme_kind` answers there with
+/// `at` must be the mark of a place of this text: what `yaml_mark_at` returns for it, the mark after a gap of it, or
+/// the reach of a lexeme of it other than the stream end. `kind` must be what `yaml_lexeme_kind` returns there with
 /// `in_flow` for a depth above 0. The level of the context must be at most the number of the text's bytes. The lexeme
-/// starts at `at`, but for a stream end, which may start with the next line.
+/// starts at `at`, except a stream end, which may start with the next line.
 ///
 /// # Errors
 ///
-/// A fault of kind scanner is the first offence of the lexeme. Its problem text says what is wrong, and its problem
-/// mark where: at the first character that does not fit, which may be the end. Its context text says what was being
+/// A fault of kind scanner is the first offence of the lexeme. Its problem text says what is wrong. Its problem mark is
+/// that of the first character that does not fit, which may be the end. Its context text says what was being
 /// read, and its context mark is `at`. These are the problems:
 ///
 /// - a directive: no name after `%`, a name that goes on with another character, an unknown name, what is not a
 ///   comment or a break after it; in `%YAML` no number, a number of more than nine digits (at the tenth), no `.`; in
 ///   `%TAG` a handle that does not start with `!` or does not end with one, no blank after the handle or the prefix;
-/// - an anchor or alias: no name, or a character after the name that may not stand there;
-/// - a tag: no `>` after a uri in `<`, or a character after the tag that may not stand there;
-/// - a uri in a tag or in `%TAG`: no character where one must stand, no `%` with two hexadecimal digits, a lead octet
+/// - an anchor or alias: no name, or a character after the name that is not allowed there;
+/// - a tag: no `>` after a uri in `<`, or a character after the tag that is not allowed there;
+/// - a uri in a tag or in `%TAG`: no character if one is needed, no `%` with two hexadecimal digits, a lead octet
 ///   or a later one that UTF-8 does not have there (each at its `%`);
 /// - a literal or folded scalar: the indentation indicator 0, what is not a comment or a break after the header, a tab
-///   where a space of indentation may stand;
+///   where a space of indentation could be;
 /// - a quoted scalar: the end of the text, a document marker at the start of a line; in double quotes an unknown escape
-///   (at the backslash), a digit that is not hexadecimal, and digits that write no character (both at the first digit);
+///   (at the backslash), a digit that is not hexadecimal, and digits that spell no character (both at the first digit);
 /// - a plain scalar: in flow a `:` before `?` or a flow indicator, and a tab in the indentation of a line that goes on.
 ///
-/// A fault of kind memory may be answered in place of the lexeme or its offence, for a growth that was refused. The
-/// contract does not say that one was. Stream ends, document markers and lexemes of one character are always answered.
+/// A fault of kind memory may come instead of the lexeme or its offence, for a growth that was refused. The contract does
+/// not say that one was. It never comes for stream ends, document markers and lexemes of one character.
 #[inline(always)]
 pub fn yaml_lexeme_at(
     alloc: Global,

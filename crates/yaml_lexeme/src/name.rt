@@ -10,7 +10,7 @@ use crate::problem::{problem_t, refusal_t};
 use crate::runs::class_t;
 use std::alloc::Global;
 
-/// Takes letters, digits, `_` and `-`, as many as can be.
+/// Takes as many letters, digits, `_` and `-` as possible.
 pub(crate) fn take_letters<'a>(cursor: &mut cursor_t<'a>) -> &'a [u8]
     ensures value { result.now ≡ place.run is_alpha cursor.old }
     ensures end { cursor.new ≡ place.behind is_alpha cursor.old }
@@ -32,7 +32,7 @@ fn is_behind_name(c: char) -> bool
         || c == '`'
 }
 
-/// Takes the name behind `&` or `*`.
+/// Takes the name after `&` or `*`.
 #[tactic(auto, unfolding(crate::specs::Name::name))]
 pub(crate) fn take_name(alloc: Global, cursor: &mut cursor_t) -> Result<Vec<u8>, refusal_t>
     ensures { Gives (λ v. v.items) result cursor.new (spec.name cursor.old) }

@@ -23,9 +23,9 @@ use yaml_text::yaml_mark_t;
 #[derive(Drop)]
 pub(crate) struct scalar_t {
     pub value: Vec<u8>,
-    /// The mark behind its last character.
+    /// The mark after its last character.
     pub end: yaml_mark_t,
-    /// A break stands in the separator behind it.
+    /// A break is in the separator after it.
     pub passed_break: bool,
 }
 
@@ -35,7 +35,7 @@ fn is_flow_indicator(c: char) -> bool
     c == ',' || c == '[' || c == ']' || c == '{' || c == '}'
 }
 
-/// Whether a `:` stands here that may not stand in a chunk.
+/// Whether a `:` that is not allowed in a chunk is here.
 #[inline(always)]
 fn is_bad_colon(cursor: &cursor_t, in_flow: bool) -> bool
     ensures { result ≡ spec.is_bad_colon in_flow (first cursor.now) (peek cursor.now 1) }
@@ -47,7 +47,7 @@ fn is_bad_colon(cursor: &cursor_t, in_flow: bool) -> bool
     next == '?' || is_flow_indicator(next)
 }
 
-/// Whether the character that stands here belongs to a chunk.
+/// Whether the character that is here belongs to a chunk.
 #[inline(always)]
 fn is_chunk(cursor: &cursor_t, in_flow: bool) -> bool
     ensures { result ≡ spec.is_chunk in_flow (first cursor.now) (peek cursor.now 1) }
@@ -59,14 +59,14 @@ fn is_chunk(cursor: &cursor_t, in_flow: bool) -> bool
     !(c == ':' && (is_at!(cursor, ends, 1) || is_bad_colon(cursor, in_flow)))
 }
 
-/// Whether a line may go on at any column behind the character that stands here.
+/// Whether a line may go on at any column after the character that is here.
 fn goes_far(cursor: &cursor_t, in_flow: bool, least: u64) -> bool
     ensures { result ≡ (in_flow || nat_le least (cursor.now.mark.column + 1)) }
 {
     in_flow || least.saturating_sub(1) <= cursor.mark().column
 }
 
-/// Takes what stands unchanged in this line, up to a byte that needs a closer look.
+/// Takes what is kept unchanged in this line, up to a byte at which that may end.
 #[inline(always)]
 fn skip_words(cursor: &mut cursor_t, in_flow: bool, least: u64)
     ensures { Goes in_flow least cursor.old cursor.new }
@@ -81,7 +81,7 @@ fn skip_words(cursor: &mut cursor_t, in_flow: bool, least: u64)
     }
 }
 
-/// Takes a chunk, and the separators and chunks behind it in the same line, and gives their bytes.
+/// Takes a chunk, and the separators and chunks after it in the same line, and returns their bytes.
 #[inline(always)]
 fn line_words<'a>(cursor: &mut cursor_t<'a>, in_flow: bool, least: u64) -> &'a [u8]
     ensures goes { words in_flow least cursor.old ≡ with_front result.now (words in_flow least cursor.new) }
@@ -97,7 +97,7 @@ fn line_words<'a>(cursor: &mut cursor_t<'a>, in_flow: bool, least: u64) -> &'a [
     cursor.since(&start)
 }
 
-/// Takes a chunk, and the separators and chunks behind it in the same line, and puts them behind `out`.
+/// Takes a chunk, and the separators and chunks after it in the same line, and appends them to `out`.
 fn take_words(
     cursor: &mut cursor_t,
     in_flow: bool,
@@ -121,7 +121,7 @@ fn is_bad_tab(cursor: &cursor_t, broken: bool, least: u64) -> bool
     check_at!(cursor, '\t', 0) && broken && cursor.mark().column < least
 }
 
-/// Takes a separator, where no tab may stand in indentation.
+/// Takes a separator; a tab in indentation is an offence.
 fn skip_separator(cursor: &mut cursor_t, least: u64) -> Result<(), refusal_t>
     ensures { Appends (λ run. []) result [] [] cursor.new (spec.separator least cursor.old) }
 {
@@ -143,7 +143,7 @@ fn is_over(cursor: &cursor_t, in_flow: bool, least: u64) -> bool
     !in_flow && cursor.mark().column < least || is_marker(cursor) || check_at!(cursor, '#', 0)
 }
 
-/// Takes a separator and the words behind it, and puts them behind `out`. The flag is false where the scalar is over.
+/// Takes a separator and the words after it, and appends them to `out`. The flag is false if the scalar is over.
 fn take_link(
     cursor: &mut cursor_t,
     in_flow: bool,
@@ -174,8 +174,8 @@ fn take_link(
     Ok(true)
 }
 
-/// Takes the separator that stands here, where a quick look shows that the scalar is over in front of it. Then it is empty,
-/// or is a line feed and spaces in front of a line that is not indented enough. Tells whether a break stands in it.
+/// Takes the separator that is here, if a quick look shows that the scalar is over before it. Then it is empty, or is a line
+/// feed and spaces before a line that is not indented enough. Returns whether a break is in it.
 #[inline(always)]
 fn ends_at_once(cursor: &mut cursor_t, in_flow: bool, least: u64) -> Option<bool>
     ensures over { IfSome result (λ b. spec.link in_flow least cursor.old ≡ over) }
@@ -200,7 +200,7 @@ fn ends_at_once(cursor: &mut cursor_t, in_flow: bool, least: u64) -> Option<bool
     Some(true)
 }
 
-/// Takes the separators and words behind those of the first line, which are in `out`.
+/// Takes the separators and words after those of the first line, which are in `out`.
 #[inline(never)]
 fn take_links(
     cursor: &mut cursor_t,

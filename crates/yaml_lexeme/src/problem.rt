@@ -35,12 +35,12 @@ pub(crate) enum problem_t {
     TAB_IN_PLAIN,
 }
 
-/// Why a reader gave nothing.
+/// Why a reader failed.
 #[derive(Drop)]
 pub(crate) enum refusal_t {
     /// A growth was refused.
     MEMORY,
-    /// An offence, at whose place the cursor stands.
+    /// An offence, at the place of the cursor.
     OFFENCE(problem_t),
 }
 

@@ -17,7 +17,7 @@ use crate::problem::{problem_t, refusal_t};
 use crate::runs::{class_t, trimmed};
 use std::alloc::{AllocError, Global};
 
-/// No document marker may stand here.
+/// A document marker here is an offence.
 fn unmarked(cursor: &cursor_t) -> Result<bool, refusal_t>
     ensures { result ≡ (if kind.is_marker cursor.now then Err (OFFENCE DOCUMENT_MARKER) else Ok true) }
 {
@@ -34,7 +34,7 @@ fn quote(single: bool) -> char
     if single { '\'' } else { '"' }
 }
 
-/// Takes a part of the body, and puts its bytes behind `out`. The flag is false at the closing quote.
+/// Takes a part of the body, and appends its bytes to `out`. The flag is false at the closing quote.
 #[tactic(auto, unfolding(crate::specs::Quoted::body_part))]
 fn take_part(cursor: &mut cursor_t, single: bool, out: &mut Vec<u8>) -> Result<bool, refusal_t>
     ensures { Takes utf8 result out.old.items out.new.items cursor.old cursor.new (spec.body_part single cursor.old) }
@@ -81,7 +81,7 @@ fn line_class(single: bool) -> class_t
     }
 }
 
-/// Takes what stands in this line unchanged, and gives its bytes, without the blanks before a break.
+/// Takes what is kept unchanged in this line, and returns its bytes, without the blanks before a break.
 #[inline(always)]
 fn line_piece<'a>(cursor: &mut cursor_t<'a>, single: bool) -> &'a [u8]
     ensures goes { (out : List ℕ) → GoesOn single cursor.old out cursor.new (out ++ result.now) }
@@ -94,7 +94,7 @@ fn line_piece<'a>(cursor: &mut cursor_t<'a>, single: bool) -> &'a [u8]
     piece
 }
 
-/// Takes what stands in this line unchanged, and puts it behind `out` as one piece, without the blanks before a break.
+/// Takes what is kept unchanged in this line, and appends it to `out` as one piece, without the blanks before a break.
 #[inline(always)]
 fn push_line(cursor: &mut cursor_t, single: bool, out: &mut Vec<u8>) -> Result<(), AllocError>
     ensures goes { OnOk result (GoesOn single cursor.old out.old.items cursor.new out.new.items) }
@@ -107,7 +107,7 @@ fn push_line(cursor: &mut cursor_t, single: bool, out: &mut Vec<u8>) -> Result<(
     Ok(())
 }
 
-/// How many bytes a scalar is given room for behind what was taken of it: none where its quote stands here.
+/// How many bytes a scalar gets room for after what was taken of it: none if its quote is here.
 #[inline(always)]
 fn room_behind(cursor: &cursor_t, single: bool) -> usize
     ensures { result ≤ 64 }
@@ -119,7 +119,7 @@ fn room_behind(cursor: &cursor_t, single: bool) -> usize
     }
 }
 
-/// Takes a quoted scalar, at its opening quote.
+/// Takes a quoted scalar, from its opening quote on.
 pub(crate) fn take_quoted(
     alloc: Global,
     cursor: &mut cursor_t,

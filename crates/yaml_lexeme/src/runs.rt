@@ -1,4 +1,4 @@
-//! Runs of bytes that need no closer look.
+//! Runs of bytes of a class, up to a byte that needs a closer look.
 ghost use Rattle.std.specs.Prelude.{◌≡◌, ◌+◌, ◌-◌, ◌≤◌, true, length, take, drop, map};
 ghost use Rattle.std.specs.List.{prefix_len, count_by};
 ghost use Rattle.std.specs.Simd.Lanes.{mask_l};
@@ -12,7 +12,7 @@ use std::simd::prelude::*;
 pub(crate) enum class_t {
     /// Spaces and tabs.
     BLANK,
-    /// Spaces, and tabs where the flag is set.
+    /// Spaces, and tabs if the flag is set.
     GAP_BLANK(bool),
     SPACE,
     BLANK_OR_BREAK,
@@ -21,7 +21,7 @@ pub(crate) enum class_t {
     DIGIT,
     /// All but breaks.
     IN_LINE,
-    /// Of a line, what stands unchanged in double quotes.
+    /// Of a line, what double quotes keep unchanged.
     DOUBLE,
     /// The same in single quotes.
     SINGLE,
@@ -223,7 +223,7 @@ fn starts_before(v: u8x16, n: usize) -> usize
     (starts(v) & low).count_ones() as usize
 }
 
-/// How many bytes in front of a line need no closer look, and how many of them begin a character.
+/// How many of a line's first bytes need no closer look, and how many of them begin a character.
 #[inline(always)]
 fn quiet_line(class: class_t, text: &[u8]) -> (usize, usize)
     requires { spec.is_line class ≡ true }
@@ -254,7 +254,7 @@ fn stops_space(v: u8x16) -> u64
     v.simd_ne(u8x16::splat(b' ')).to_bitmask()
 }
 
-/// How many spaces stand in front.
+/// How many spaces the text begins with.
 #[inline(always)]
 pub(crate) fn spaces_len(text: &[u8]) -> usize
     ensures { result ≡ prefix_len (spec.is_quiet SPACE) text.now }
@@ -268,7 +268,7 @@ pub(crate) fn spaces_len(text: &[u8]) -> usize
     slow_end(class_t::SPACE, text, 0)
 }
 
-/// How many bytes in front need no closer look, where the class is not that of a line.
+/// How many of the first bytes need no closer look, if the class is not that of a line.
 #[inline(always)]
 fn narrow_len(class: class_t, text: &[u8]) -> usize
     ensures { result ≡ prefix_len (spec.is_quiet class) text.now }
@@ -279,7 +279,7 @@ fn narrow_len(class: class_t, text: &[u8]) -> usize
     }
 }
 
-/// How many bytes in front need no closer look, and how many of them begin a character.
+/// How many of the first bytes need no closer look, and how many of them begin a character.
 #[inline(always)]
 pub(crate) fn quiet_len(class: class_t, text: &[u8]) -> (usize, usize)
     ensures bytes { result.0 ≡ prefix_len (spec.is_quiet class) text.now }

@@ -18,7 +18,7 @@ fn make_tag(handle: Vec<u8>, suffix: Vec<u8>) -> unnamed_yaml_token_t_data
     unnamed_yaml_token_t_data::TAG { handle, suffix }
 }
 
-/// Takes `<`, a uri and `>`, behind a tag's `!`.
+/// Takes `<`, a uri and `>`, after a tag's `!`.
 #[tactic(auto, unfolding(crate::specs::Tag::angled))]
 fn take_angled(alloc: Global, cursor: &mut cursor_t) -> Result<unnamed_yaml_token_t_data, refusal_t>
     ensures { Gives data_of result cursor.new (spec.angled cursor.old) }
@@ -32,7 +32,7 @@ fn take_angled(alloc: Global, cursor: &mut cursor_t) -> Result<unnamed_yaml_toke
     Ok(make_tag(Vec::new(alloc), suffix))
 }
 
-/// Takes letters, and a `!` and a uri, or a uri alone, behind a tag's `!`.
+/// Takes letters, and a `!` and a uri, or a uri alone, after a tag's `!`.
 #[tactic(auto, unfolding(crate::specs::Tag::handled))]
 fn take_handled(
     alloc: Global,

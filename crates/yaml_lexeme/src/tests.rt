@@ -109,7 +109,7 @@ fn show_fault(alloc: Global, fault: &yaml_fault_t) -> Result<String, Fail> {
     Ok(format!(in alloc; "{context} {at}; {problem} {there}")?)
 }
 
-/// The gap in front of a text, and whether a break is in it.
+/// The gap at the front of a text, and whether a break is in it.
 fn show_gap(alloc: Global, bytes: &[u8], in_flow: bool, allowed: bool) -> Result<String, Fail> {
     let text = yaml_decode(alloc, bytes, ANY).map_err(|_| "refused")?;
     let (mark, broken) = yaml_gap(&text, FRONT, in_flow, allowed);
@@ -117,7 +117,7 @@ fn show_gap(alloc: Global, bytes: &[u8], in_flow: bool, allowed: bool) -> Result
     Ok(format!(in alloc; "{mark} {broken}")?)
 }
 
-/// The kind behind so many bytes of a text.
+/// The kind after so many bytes of a text.
 fn kind_behind(
     alloc: Global,
     bytes: &[u8],
@@ -137,7 +137,7 @@ fn kind_of(alloc: Global, bytes: &[u8], in_flow: bool) -> Result<Option<yaml_lex
     Ok(yaml_lexeme_kind(&text, FRONT, in_flow))
 }
 
-/// The lexeme in front of a text.
+/// The lexeme at the front of a text.
 fn lexed(alloc: Global, bytes: &[u8], depth: u64, level: Option<u64>) -> Result<String, Fail> {
     let text = yaml_decode(alloc, bytes, ANY).map_err(|_| "refused")?;
     let Some(kind) = yaml_lexeme_kind(&text, FRONT, depth > 0) else {

@@ -64,7 +64,7 @@ fn in_directive(
     if is_directive(kind) { inside } else { outside }
 }
 
-/// What was being read where the problem came.
+/// What was being read when the problem came.
 #[tactic(auto, unfolding(crate::specs::Texts::context_text))]
 pub(crate) fn context_text(kind: yaml_lexeme_kind_t, problem: problem_t) -> &'static str
     ensures { result.now ≡ spec.context_text kind problem }

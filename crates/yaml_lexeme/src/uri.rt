@@ -38,7 +38,7 @@ pub(crate) fn push_byte(out: &mut Vec<u8>, byte: u8) -> Result<(), AllocError>
     Ok(())
 }
 
-/// The octet that `%` and two hex digits write here.
+/// The octet that `%` and two hex digits spell here.
 #[tactic(auto, unfolding(crate::specs::Uri::octet))]
 fn octet_at(cursor: &cursor_t) -> Result<u8, refusal_t>
     ensures { OctetIs result cursor.now }
@@ -74,7 +74,7 @@ fn is_bad_next(c: u8) -> bool
     !(0x80..0xC0).contains(&c)
 }
 
-/// Takes `n` later octets, and puts them behind `out`.
+/// Takes `n` later octets, and appends them to `out`.
 fn take_next_octets(cursor: &mut cursor_t, n: usize, out: &mut Vec<u8>) -> Result<(), refusal_t>
     ensures { Appends (λ cs. cs) result out.old.items out.new.items cursor.new (spec.next_octets n cursor.old) }
 {
@@ -89,7 +89,7 @@ fn take_next_octets(cursor: &mut cursor_t, n: usize, out: &mut Vec<u8>) -> Resul
     Ok(())
 }
 
-/// Takes the octets that write a character, and puts them behind `out`.
+/// Takes the octets that spell a character, and appends them to `out`.
 fn take_escape(cursor: &mut cursor_t, out: &mut Vec<u8>) -> Result<(), refusal_t>
     ensures { Appends (λ cs. cs) result out.old.items out.new.items cursor.new (spec.uri_escape cursor.old) }
 {
@@ -103,7 +103,7 @@ fn take_escape(cursor: &mut cursor_t, out: &mut Vec<u8>) -> Result<(), refusal_t
     take_next_octets(cursor, width - 1, out)
 }
 
-/// Takes a character of a uri, or an escape, and puts it behind `out`. The flag is false where the uri is over.
+/// Takes a character of a uri, or an escape, and appends it to `out`. The flag is false if the uri is over.
 #[tactic(auto, unfolding(crate::specs::Uri::uri_part))]
 fn take_uri_part(cursor: &mut cursor_t, listed: bool, out: &mut Vec<u8>) -> Result<bool, refusal_t>
     ensures { Takes (λ cs. cs) result out.old.items out.new.items cursor.old cursor.new (spec.uri_part listed cursor.old) }
@@ -121,7 +121,7 @@ fn take_uri_part(cursor: &mut cursor_t, listed: bool, out: &mut Vec<u8>) -> Resu
     Ok(true)
 }
 
-/// Takes a uri, and puts it behind `out`.
+/// Takes a uri, and appends it to `out`.
 pub(crate) fn take_uri(
     cursor: &mut cursor_t,
     listed: bool,

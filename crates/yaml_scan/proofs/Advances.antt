@@ -44,9 +44,9 @@ use Rattle.yaml_scan.proofs.TextOrder.{text_order, text_problem, text_sums, text
 held_eq : (h : Held) (n : ℕ) (st : yaml_mark_t) (q : Bool) → h.at ≡ n → h.start ≡ st → h.required ≡ q → h ≡ record { at = n; start = st; required = q }
 held_eq h n st q e f g = rw (← e, ← f, ← g) refl
 
--- the stale test behind one lexeme more
+-- the stale test after one lexeme more
 module _ (limit : ℕ) (H : List Laid) (x : Lexeme) (h : IsHistory limit (laid limit H x ∷ H)) (fresh : stale limit H (reach H) ≡ None) where
-  -- what is found lost is what the step asks for
+  -- what is found lost is what the step tests for
   pub record Agrees (p : Option Held) (o : Option Laid) : Type 0 where
     pub lost : (m : yaml_mark_t) (n : ℕ) (f : Fault) (r : Outcome) → IsLost p m f → Loses m n (unless o m n r) f
     pub none : p ≡ None → o ≡ None
@@ -58,7 +58,7 @@ module _ (limit : ℕ) (H : List Laid) (x : Lexeme) (h : IsHistory limit (laid l
     none = λ n. let q : Some (f c) ≡ None = sym e ∙ n in absurd (cc);
   }
 
-  -- where the candidate of depth 0 is as before
+  -- if the candidate of depth 0 is as before
   same_root : candidate (laid limit H x ∷ H) 0 ≡ candidate H 0 → lost_held limit x.reach (held limit H 0) ≡ option_map (held_of H) (stale limit (laid limit H x ∷ H) x.reach)
   unfolding stale required laid
   same_root e = lost_later limit H h.2 x.reach onward fresh ∙ (rw e refl)
@@ -139,7 +139,7 @@ start_less k g n l = go (is_stream_end k) (nat_eq g.column 0)
     go true false = omega arith
     go false b = omega arith
 
--- a completed candidate starts in front of the lexeme, on its line
+-- a completed candidate starts before the lexeme, on its line
 completed_column : (limit : ℕ) (H : List Laid) (x : Lexeme) (c : Laid) → IsHistory limit (laid limit H x ∷ H) → Follows (reach H) x → completed_by limit H x.kind x.start ≡ Some c → c.lexeme.start.column ≤ x.start.column
 completed_column limit H x c h f e =
     let s = completion_is limit H x c e in

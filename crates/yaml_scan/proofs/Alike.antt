@@ -1,4 +1,4 @@
--- What is answered to a refused input is answered to every accepted one that agrees with it up to the refused character.
+-- The answers to a refused input are those to every accepted one that agrees with it up to the refused character.
 use Rattle.std.proofs.Common.{◌≡◌, ℕ, zero, suc, ◌+◌, ◌<◌, Bool, true, false, List, [], ◌∷◌, ◌++◌, map, take, drop, length, slice_get, Option, Some, None, refl, ap, sym, ◌∙◌, subst, arith, inl, inr, append_assoc}
 use Rattle.std.specs.Prelude.{◌⊎◌, if◌then◌else◌}
 use Rattle.std.proofs.lemmas.Bool.{false≢true}
@@ -66,11 +66,11 @@ module _ (limit : ℕ) (s : yaml_encoding_t) (a : List ℕ) (t : yaml_encoding_t
   ends_with : (f : Fault) × (C.fault ≡ Some f)
   ends_with = some_fault limit I refused C (refused_has_fault limit I refused (inputs_keep_order s a) (refusal_is s a t b refused g))
 
-  -- where a has a next token b has it too
+  -- if a has a next token, b has it too
   next_same : (n : ℕ) (x : Token) → slice_get (tokens_of limit C) n ≡ Some x → slice_get (tokens_of limit D) n ≡ Some x
   next_same n x e = get_front (tokens_of limit C) (tokens_of limit D) n x (tokens_before_refusal limit I J refused (inputs_keep_order s a) (inputs_keep_order t b) (agree s a t b refused g)) e
 
-  -- where it has none, the reader's fault is answered, or both end alike
+  -- if it has none, the answer is the reader's fault, or both end alike
   ends_same : (n : ℕ) → slice_get (tokens_of limit C) n ≡ None → (C.fault ≡ Some refused) ⊎ ((slice_get (tokens_of limit D) n ≡ None) × (D.fault ≡ C.fault))
   ends_same n e = go (fault_before_refusal limit I J refused ends_with.0 (inputs_keep_order s a) (inputs_keep_order t b) (agree s a t b refused g) ends_with.1)
     where
@@ -78,7 +78,7 @@ module _ (limit : ℕ) (s : yaml_encoding_t) (a : List ℕ) (t : yaml_encoding_t
       go (inl q) = inl (ends_with.1 ∙ ap (λ (f : Fault). Some f) q)
       go (inr q) = inr (ap (λ (z : List Token). slice_get z n) q.2 ∙ e, q.0 ∙ sym ends_with.1)
 
-  -- sessions that stand at the same token
+  -- sessions that are at the same token
   record IsLike (u v : Session) : Type 0 where
     pub taken : v.taken ≡ u.taken
     pub peeked : v.peeked ≡ u.peeked

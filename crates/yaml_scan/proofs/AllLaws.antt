@@ -1,4 +1,4 @@
--- The laws of tokens, for what one call answers.
+-- The laws of tokens, for what one call returns.
 use Rattle.std.proofs.Common.{◌≡◌, ℕ, zero, suc, ◌≤◌, List, [], ◌∷◌, ◌++◌, take, Option, Some, None, refl, ap, sym, ◌∙◌, subst, inl, inr}
 use Rattle.std.proofs.lemmas.Bool.{false≢true}
 use Rattle.yaml_text.specs.declared.types.yaml_encoding_t.{yaml_encoding_t}
@@ -50,7 +50,7 @@ module _ (limit : ℕ) (setting : yaml_encoding_t) (input : List ℕ) (tokens : 
   reads_keys (inl r) = subst (λ (z : List yaml_token_t). AreFollowed limit z) (sym r.0) (all_follow_keys limit setting input)
   reads_keys (inr r) = let s = r.0 in subst (λ (z : List yaml_token_t). AreFollowed limit z) (sym s.tokens_are) (settled_followed limit (decoded_input setting input) (inputs_keep_order setting input) (decoded_input setting input).encoding s.steps s.within)
 
-  -- no memory is wanted where the input is refused so early
+  -- no memory is refused if the input is refused so early
   pub reads_early : ReadsAll limit setting input tokens fault → IsRefusedEarly (decoded_input setting input) → AllOf (answers_to limit setting input) tokens fault
   reads_early (inl r) e = r
   reads_early (inr r) e = let s = r.0 in absurd (false≢true (sym (not_begun limit (decoded_input setting input) e.1) ∙ s.in_utf8 e.0))

@@ -27,7 +27,7 @@ use Rattle.yaml_scan.proofs.LastTokens.{stream_end_is_last}
 use Rattle.yaml_scan.proofs.Scans.{get_fits, last_told}
 use Rattle.yaml_scan.proofs.Shortage.{asked_settled, asked_within, all_taken}
 
--- calls one behind the other
+-- calls one after the other
 after_more : (limit : ℕ) (c : Course) (calls : List Call) (call : Call) (s : Session) → after_all limit c (calls ++ call ∷ []) s ≡ after limit c call (after_all limit c calls s)
 unfolding after_all
 after_more limit c [] call s = refl
@@ -91,7 +91,7 @@ module _ (limit : ℕ) (setting : yaml_encoding_t) (input : List ℕ) where
   abbrev L : List Token
   L = tokens_of limit C
 
-  -- a parser that answered these tokens, and nothing else
+  -- a parser that returned these tokens, and nothing else
   pub record HasScanned (q : Parser) (tokens : List yaml_token_t) (last : Bool) : Type 0 where
     pub input_is : q.input ≡ input
     pub setting_is : q.setting ≡ setting

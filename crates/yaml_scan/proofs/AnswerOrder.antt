@@ -1,4 +1,4 @@
--- The laws of tokens, said of the tokens that are answered.
+-- The laws of tokens, for the tokens that are returned.
 use Rattle.std.proofs.Common.{◌≡◌, ℕ, zero, suc, ◌≤◌, ◌<◌, min, Bool, true, false, List, [], ◌∷◌, ◌++◌, map, take, length, filter, refl, ap, sym, ◌∙◌, subst, arith, inl, inr, eqb, eqb-true}
 use Rattle.std.specs.Prelude.{if◌then◌else◌, ◌&&◌}
 use Rattle.std.specs.List.{list_any}

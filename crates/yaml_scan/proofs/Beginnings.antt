@@ -59,7 +59,7 @@ is_near_start cs near N (Some g) f e = elim (cases_lt 0 near) [
   | inl l ↦ (let h : None ≡ Some f = rw (lt-leb near 0 l) at e in absurd (cc))
 ]
 
--- WHAT THE INPUT COMES TO
+-- THE COURSE OF THE INPUT
 module _ (limit : ℕ) (setting : yaml_encoding_t) (input : List ℕ) (text : Text) (T : text ≡ front setting input) (r : Option Fault) (R : r ≡ refusal setting input) (near : ℕ) (N : IsNearFrom text.chars near) where
   starts_is : (b : Bool) → starts_near (source_of text.chars).size r ≡ b → starts_near (source_of (front setting input).chars).size (refusal setting input) ≡ b
   starts_is b e = rw (← T, ← R) e
@@ -76,7 +76,7 @@ pub encoding_in : (setting : yaml_encoding_t) (input : List ℕ) → (decoded_in
 unfolding decoded_input front
 encoding_in setting input = refl
 
--- the first step is one, where no reader's fault has replaced it
+-- the first step is one, if no reader's fault has replaced it
 pub begun_in : (limit : ℕ) (setting : yaml_encoding_t) (input : List ℕ) (text : Text) → text ≡ front setting input → (r : Option Fault) → r ≡ refusal setting input → (near : ℕ) → IsNearFrom text.chars near → near_fault near 0 r ≡ None → (course_in limit setting input).begun ≡ true
 begun_in limit setting input text T r R near N e = begun_course limit setting input text T r R near N e
 

@@ -17,7 +17,7 @@ one_at_most false = omega arith
 pub length-begins : (xs ys : List Token) → Begins xs ys → length xs ≤ length ys
 length-begins xs ys b = let e = ap (λ (l : List Token). length l) b.is in let l = length-append xs b.rest in omega arith
 
--- none where the groups end at t or before it
+-- none if the groups end at t or before it
 pub queued_none : (W : List Laid) (t : ℕ) (B : List Laid) → length (groups W B) ≤ t → queued W t B ≡ 0
 unfolding queued
 queued_none W t [] l = rw (le-ltb _ _ l) refl
@@ -42,7 +42,7 @@ bytes_taken limit (n ∷ N) w O h e =
     let b = byte_taken h.1 e in
     omega arith
 
--- fewer than limit lexemes stand behind the earliest live candidate
+-- fewer than limit lexemes come after the earliest live candidate
 held_few : (limit : ℕ) (H : List Laid) (w : Laid) → IsHistory limit H → ended H ≡ false → (r : IsEarliest (is_live_candidate limit H) H w) → length r.newer < limit
 held_few limit H w h e r =
     let p : live limit w (reach H) ≡ true = (and_parts (is_current H w) (live limit w (reach H)) r.passes).1 in
@@ -51,7 +51,7 @@ held_few limit H w h e r =
     let b = subst (λ (X : List Laid). IsHistory limit X → ended X ≡ false → w.lexeme.start.index + length r.newer < (reach X).index) (sym r.is) (bytes_taken limit r.newer w r.older) h e in
     omega (arith, l, b)
 
--- with the step that was made for token t, at most limit + 1 steps have a token at t or behind it
+-- with the step that was made for token t, at most limit + 1 steps have a token at t or after it
 pub queued_few : (limit : ℕ) (i : Laid) (H : List Laid) (t : ℕ) → IsHistory limit (i ∷ H) → length (before limit H) ≤ t → queued (i ∷ H) t (i ∷ H) ≤ limit + 1
 queued_few limit i H t h l = go (waiting limit H) refl
   where
@@ -73,7 +73,7 @@ queued_few limit i H t h l = go (waiting limit H) refl
         let f = held_few limit H w h.2 h.3 r in
         subst (λ (X : List Laid). queued (i ∷ H) t (i ∷ X) ≤ limit + 1) (sym r.is) (omega arith)
 
--- without a further step, as where the next one is a fault, at most limit
+-- without a further step, as when the next one is a fault, at most limit
 pub queued_fewer : (limit : ℕ) (H : List Laid) (t : ℕ) → IsHistory limit H → ended H ≡ false → length (before limit H) ≤ t → queued H t H ≤ limit
 queued_fewer limit H t h e l = go (waiting limit H) refl
   where

@@ -1,4 +1,4 @@
--- Calls one behind the other.
+-- Calls one after the other.
 use Rattle.std.proofs.Common.{◌≡◌, ℕ, zero, suc, ◌+◌, ◌<◌, ◌≤◌, true, false, List, [], ◌∷◌, ◌++◌, map, take, drop, length, slice_get, get_or, Some, ◌≢◌, refl, ap, sym, ◌∙◌, subst, arith, inl, inr, append_assoc, length-append}
 use Rattle.std.proofs.lemmas.Bool.{false≢true}
 use Rattle.yaml_text.specs.declared.types.yaml_encoding_t.{yaml_encoding_t}
@@ -67,7 +67,7 @@ behind_more : (p : Parser) (calls : List Call) (call : Call) → behind (behind_
 unfolding course_read
 behind_more p calls call = ap (λ (z : Session). record { input = p.input; setting = p.setting; limit = p.limit; session = z }) (sym (after_more p.limit (course_read p) calls call p.session))
 
--- where the session is over a call answers nothing, and changes nothing
+-- if the session is over, the answer to a call is idle, and the call changes nothing
 idle_answer : (q : Parser) (call : Call) → q.session.over ≡ true → q.session.peeked ≡ false → seen (answered q call) ≡ idle call
 idle_answer q SCAN o p = rw o refl
 idle_answer q PEEK o p = rw o refl
@@ -97,7 +97,7 @@ module _ (p : Parser) (calls : List Call) (call : Call) (answers : List Seen) (q
         ∙ ap (λ (z : List Call). map seen (answered_all p calls) ++ (FAULT memory_fault ∷ map idle z)) (drop_whole calls call));
   }
 
-  -- behind a refused growth
+  -- after a refused growth
   stays_out : RunsOut p calls answers q → Sees call q a r → RunsOut p (calls ++ call ∷ []) (answers ++ a ∷ []) r
   stays_out g (inr w) = absurd (false≢true (sym w.1.was_open ∙ g.wants.over))
   stays_out g (inl s) =
@@ -141,7 +141,7 @@ one_put p calls call old out q answer r g s = record {
   runs = subst (λ (z : List Seen). Runs p (calls ++ call ∷ []) z r) (sym (map_more seen_of g.more answer)) (one_more p calls call (map seen_of g.more) q (seen_of answer) r g.runs s);
 }
 
--- a reader's fault in the place of the first step, in UTF-8, takes no memory
+-- a reader's fault instead of the first step, in UTF-8, takes no memory
 pub puts_session : (p : Parser) (calls : List Call) (old out : List yaml_answer_t) (q : Parser) → PutsAnswers p calls old out q → IsRefusedEarly (input_read p) → PutsSession p calls old out q
 puts_session p calls old out q g e = go g.runs
   where

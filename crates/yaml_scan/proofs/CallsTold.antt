@@ -1,4 +1,4 @@
--- What a list of calls is answered with can be put in words.
+-- The answers to a list of calls can be put in words.
 use Rattle.std.proofs.Common.{◌≡◌, ◌+◌, List, [], ◌∷◌, ◌++◌, map, take, drop, sym, subst, inl, inr}
 use Rattle.yaml_scan.specs.Fault.{Fault, memory_fault}
 use Rattle.yaml_scan.specs.Session.{Call, Answer, session}
@@ -40,13 +40,13 @@ answered_told : (p : Parser) (calls : List Call) → SeenHaveLines (map seen (an
 unfolding course_read
 answered_told p calls = all_seen_told (answered_all p calls) (sessions_have_lines p.limit p.setting p.input calls p.session)
 
--- whatever calls of a parser are answered with
+-- the answers to any calls of a parser
 pub run_has_lines : (p : Parser) (calls : List Call) (answers : List Seen) (q : Parser) → Runs p calls answers q → SeenHaveLines answers
 run_has_lines p calls answers q (inl r) = subst (λ (z : List Seen). SeenHaveLines z) (sym r.0) (answered_told p calls)
 run_has_lines p calls answers q (inr r) = subst (λ (z : List Seen). SeenHaveLines z) (sym r.answers)
     (joined_told (map seen (answered_all p (take r.n calls))) (FAULT memory_fault ∷ map idle (drop (r.n + 1) calls)) (answered_told p (take r.n calls)) (tt, all_idle_told (drop (r.n + 1) calls)))
 
--- a token that a scan answers
+-- a token that a scan returns
 no_fault : (t : yaml_token_t) (f : Fault) → says.TOKEN t ≡ says.FAULT f → ⊥
 no_fault t f e = cc
 

@@ -5,7 +5,7 @@ use Rattle.std.proofs.lemmas.Bool.{cases_Bool, eqb-false}
 use Rattle.yaml_scan.specs.Kind.{is_flow_start}
 use Rattle.yaml_scan.specs.Laid.{Laid, candidate, enters, settles, is_candidate}
 
--- the candidate of depth k behind i
+-- the candidate of depth k after i
 -- a flow start read at k - 1 gives depth k no candidate
 pub candidate-entered : (i : Laid) (H : List Laid) (k : ℕ) → enters k i ≡ true → candidate (i ∷ H) k ≡ None
 unfolding candidate
@@ -64,7 +64,7 @@ none_is_not o c n s = cc
 pub some_is : (i c : Laid) → Some i ≡ Some c → c ≡ i
 some_is i c e = cc
 
--- where the candidate of depth k behind i comes from
+-- where the candidate of depth k after i comes from
 pub candidate-is : (i : Laid) (H : List Laid) (k : ℕ) (c : Laid) → candidate (i ∷ H) k ≡ Some c
     → ((c ≡ i) × IsSaved k i) ⊎ ((candidate H k ≡ Some c) × IsKept k i)
 candidate-is i H k c s = elim (cases_Bool (eqb i.depth k)) [
@@ -82,7 +82,7 @@ candidate-is i H k c s = elim (cases_Bool (eqb i.depth k)) [
   ]
 ]
 
--- the candidate of depth k, with what is behind it and before it
+-- the candidate of depth k, with what is after it and before it
 pub record IsCandidateOf (H : List Laid) (k : ℕ) (c : Laid) : Type 0 where
   pub newer : List Laid
   pub older : List Laid

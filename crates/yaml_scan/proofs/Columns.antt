@@ -49,7 +49,7 @@ step_columns t true false j X Y e = elim (cases_Bool (t (column j))) [
 ]
 step_columns t false s j X Y e = e
 
--- where i completes none of them, the columns that it keeps
+-- if i completes none of them, the columns that it keeps
 pub columns-more : (i : Laid) (H B : List Laid) → AllOther i B → AllBelow i.number B → columns (i ∷ H) B ≡ filter (λ c. keeps i.depth i.lexeme.kind i.lexeme.start c) (columns H B)
 unfolding columns
 columns-more i H [] a b = refl
@@ -145,7 +145,7 @@ kept_open_nothing limit W M [] R e h k = refl
 kept_open_nothing limit W M (n ∷ N) R e h k =
     rw (opens_kept limit W M n (N ++ R) e h k.0) (kept_open_nothing limit W (M ++ n ∷ []) N R (e ∙ sym (append_assoc M (n ∷ []) (N ++ R))) h k.1)
 
--- what follows on the line of a lexeme stands to its right
+-- what follows on the line of a lexeme is to its right
 abbrev pub AllRight : ℕ → List Laid → Type 0
 AllRight c [] = Unit {0}
 AllRight c (j ∷ N) = (c ≤ column j) × AllRight c N

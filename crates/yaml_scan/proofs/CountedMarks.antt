@@ -25,7 +25,7 @@ use Rattle.yaml_scan.proofs.SourceOrder.{count_at, over, end_is}
 
 -- THE PLACES OF A TEXT
 module _ (cs : List ℕ) where
-  -- the place parts no CR LF
+  -- the place is not between CR and LF
   abbrev pub Whole : ℕ → Type 0
   Whole p = (index : ℕ) × IsPlaceAt cs index p
 
@@ -34,7 +34,7 @@ module _ (cs : List ℕ) where
     pub other : is_stream_end k ≡ false → IsCounted cs r.end × IsCounted cs r.reach × Whole r.place
     pub last : is_stream_end k ≡ true → IsStreamEnd cs r.end × IsStreamEnd cs r.reach
 
-  -- what is asked of reading a text
+  -- what reading a text must keep to
   pub record SourceMarked (S : Source) : Type 0 where
     pub zero : Whole 0
     pub mark : (p : ℕ) → Whole p → IsCounted cs (S.mark p)

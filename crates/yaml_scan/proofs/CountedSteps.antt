@@ -1,4 +1,4 @@
--- The marks of the lexemes and the fault that an input comes to are counted, or are those of the end of a stream.
+-- The marks of an input's lexemes and of its fault are counted, or are those of the end of a stream.
 use Rattle.std.proofs.Common.{◌≡◌, ℕ, zero, suc, ◌+◌, Bool, true, false, List, [], ◌∷◌, ◌++◌, Option, Some, None, Ok, Err, refl, sym, subst, arith, inl, inr}
 use Rattle.std.specs.Prelude.{◌⊎◌, ◌&&◌, Result, nat_lt, nat_eq, option_map, IfSome, if◌then◌else◌}
 use Rattle.std.proofs.lemmas.Bool.{cases_Bool}
@@ -166,7 +166,7 @@ module _ (cs : List ℕ) where
         let k = S.kind (nat_lt 0 (depth H)) p in
         unless_marked (stale limit H (S.mark p)) (S.mark p) p (kind_step S limit H p k) (stale_counts limit H (S.mark p) a) (inl (s.mark p w)) (kind_marked p k w refl)
 
-  -- near the end the reader's fault stands in for it
+  -- near the end the reader's fault comes instead
   near_marked : (size : ℕ) (r : Option Fault) (o : Outcome) → IfSome r (FaultIsCounted cs) → OutcomeMarked o → OutcomeMarked (unless_near size r o)
   near_marked size None o t u = u
   near_marked size (Some f) o t u = cases (is_near size (place_of o))

@@ -1,4 +1,4 @@
--- The marks of the tokens that are answered are counted, or are those of the end of a stream.
+-- The marks of the tokens that are returned are counted, or are those of the end of a stream.
 use Rattle.std.proofs.Common.{◌≡◌, ℕ, zero, suc, ◌-◌, Bool, true, false, List, [], ◌∷◌, ◌++◌, map, drop, length, slice_get, Option, Some, None, refl, sym, ◌∙◌, subst, arith, inl, inr}
 use Rattle.std.specs.Prelude.{◌&&◌, nat_lt, nat_eq, IfSome, if◌then◌else◌}
 use Rattle.std.proofs.lemmas.Bool.{cases_Bool, false≢true}
@@ -91,7 +91,7 @@ module _ (cs : List ℕ) where
   groups_marked limit W [] h e m = (tt, tt)
   groups_marked limit W (i ∷ B) h e m = marked_append (groups W B) (group W i) (groups_marked limit W B h.2 h.3 m.1) (group_marked W i m.0 (inserted_marked W i ((m.0.other e).0)))
 
-  -- nothing is put in before the stream end
+  -- nothing is inserted before the stream end
   opens_no_level : (k : Kind) → is_stream_end k ≡ true → (is_block_entry k ≡ false) × (is_key k ≡ false) × (is_value k ≡ false)
   opens_no_level k e = (grind arith, grind arith, grind arith)
 

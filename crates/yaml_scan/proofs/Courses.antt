@@ -1,4 +1,4 @@
--- What an input comes to.
+-- The course of an input.
 use Rattle.std.proofs.Common.{◌≡◌, ℕ, zero, suc, ◌+◌, ◌≤◌, ◌<◌, Bool, true, false, List, [], ◌∷◌, ◌++◌, length, length-append, slice_get, Option, Some, None, refl, ap, sym, ◌∙◌, subst, arith, inl, inr, lt-ltb, ltb-true, ltb-false, append_assoc}
 use Rattle.std.specs.Prelude.{option_map}
 use Rattle.std.proofs.lemmas.Bool.{cases_Bool, cases_lt, cond_both, false≢true}
@@ -201,7 +201,7 @@ module _ (step : List Laid → Outcome) (limit : ℕ) where
       let y : i ≡ j = r.0 ∙ ap (λ (X : List Laid). laid limit X i.lexeme) q ∙ ap (λ (z : Lexeme). laid limit B z) x ∙ sym s.0 in
       ap (λ (z : Laid). z ∷ A) y ∙ ap (λ (X : List Laid). j ∷ X) q
 
-  -- behind the longest one no lexeme follows
+  -- after the longest one no lexeme follows
   pub not_longer : (Y P : List Laid) (o : Option Offence) → IsRun step limit (Y ++ P) → EndsWith step P o → 0 < length Y → ⊥
   not_longer [] P o r w l = omega arith
   not_longer (y ∷ []) P None r w l = false≢true (sym r.3 ∙ w)

@@ -23,7 +23,7 @@ refuse_reads : (o : Option (List ℕ)) (m : yaml_mark_t) (p : ℕ) (y : Outcome)
 refuse_reads None m p y x e = e
 refuse_reads (Some i) m p y x e = cc
 
--- the lexeme of a step is what is read behind the gap
+-- the lexeme of a step is what is read after the gap
 pub record IsStepOf (S : Source) (H : List Laid) (x : Lexeme) : Type 0 where
   pub kind : Kind
   pub reading : Reading
@@ -66,7 +66,7 @@ pub record IsNext (so_far : yaml_mark_t) (place size : ℕ) (x : Lexeme) : Type 
   pub takes_a_character : is_stream_end x.kind ≡ false → place < x.place
   pub ends : is_stream_end x.kind ≡ true → x.place ≡ size
 
--- the steps of a text stand in order
+-- the steps of a text are in order
 abbrev pub IsOrderly : (List Laid → Outcome) → ℕ → ℕ → Type 0
 IsOrderly step limit size = (H : List Laid) (x : Lexeme) → IsRun step limit H → ended H ≡ false → step H ≡ Reads x → IsNext (reach H) (place_behind H) size x
 

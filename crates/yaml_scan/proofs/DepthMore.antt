@@ -25,7 +25,7 @@ greatest_same : (i : Laid) → is_flow_start i.lexeme.kind ≡ false → is_flow
 greatest_same i s c [] = refl
 greatest_same i s c (e ∷ es) = rw (s, c) (ap (λ n. max (unclosed e) n) (greatest_same i s c es))
 
--- the depth behind i
+-- the depth after i
 pub depth-start : (i : Laid) (H : List Laid) → is_flow_start i.lexeme.kind ≡ true → is_flow_end i.lexeme.kind ≡ false → depth (i ∷ H) ≡ depth H + 1
 unfolding depth
 depth-start i [] s c = rw (s, c) refl

@@ -106,7 +106,7 @@ module _ (limit : ℕ) (m : yaml_mark_t) where
   set_swept (x ∷ hs) zero o e f = let q : x ≡ o = cc in ap (λ (y : Option Held). y ∷ map (still_held limit m) hs) (sym f ∙ ap (still_held limit m) (sym q))
   set_swept (x ∷ hs) (suc n) o e f = ap (λ (ys : List (Option Held)). still_held limit m x ∷ ys) (set_swept hs n o e f)
 
-  -- where all are live none is given up
+  -- if all are live, none is dropped
   pub swept_live : (hs : List (Option Held)) → ((k : ℕ) (h : Held) → slice_get hs k ≡ Some (Some h) → is_live limit m h ≡ true) → map (still_held limit m) hs ≡ hs
   swept_live [] f = refl
   swept_live (None ∷ hs) f = ap (λ (ys : List (Option Held)). None ∷ ys) (swept_live hs (λ k h e. f (suc k) h e))
@@ -121,7 +121,7 @@ module _ (limit : ℕ) (m : yaml_mark_t) where
       let u : m.index ≤ g.start.index + limit = omega arith in
       and_from _ _ (eq-eqb _ _ s) (le-leb _ _ u)
 
-  -- behind the first live one all are live
+  -- after the first live one all are live
   pub swept_front : (os hs : List (Option Held)) (n : ℕ) (h : Held) → AreNested os → ((k : ℕ) (g : Held) → slice_get hs k ≡ Some (Some g) → slice_get os k ≡ Some (Some g))
       → AreEmptyBelow n hs → slice_get hs n ≡ Some (Some h) → is_live limit m h ≡ true → map (still_held limit m) hs ≡ hs
   swept_front os hs n h N F b e t = swept_live hs (λ k g f. elim (cases_lt k n) [

@@ -10,7 +10,7 @@ use Rattle.yaml_scan.proofs.Histories.{to_start, to_reach, IsHistory-older, numb
 use Rattle.yaml_scan.specs.Begins.{Begins}
 use Rattle.yaml_scan.proofs.Stable.{Begins-refl, Begins-more, Begins-trans, Begins-eq, groups-append, groups-ends, AllOther, groups-other, other_below, is_live_candidate, number_in, start_in, completed_waits, IsEarliest, last_of_none, earliest, passes_in, tails, earliest_first, up_to-split}
 
--- the earliest live candidate of H, with where it stands
+-- the earliest live candidate of H, and the lexemes before and after it
 pub waiting_is : (limit : ℕ) (H : List Laid) (w : Laid) → waiting limit H ≡ Some w → IsEarliest (is_live_candidate limit H) H w
 unfolding waiting
 waiting_is limit H w e = earliest (is_live_candidate limit H) H w e
@@ -25,7 +25,7 @@ none_in limit H A c B q e t =
     let f : filter p (A ++ c ∷ B) ≡ [] = sym (ap (λ (X : List Laid). filter p X) e) ∙ waiting_none limit H q in
     passes_in p A c B f t
 
--- a step completes nothing that stands before the earliest live candidate
+-- a step completes nothing that is before the earliest live candidate
 pub other_none : (limit : ℕ) (i : Laid) (H : List Laid) → IsHistory limit (i ∷ H) → waiting limit H ≡ None → AllOther i H
 other_none limit i H h q = other_below limit i H h.2 (λ n e. let r = completed_waits limit H i n h e in absurd (none_in limit H r.1 r.0 r.2 q r.3 r.5))
 

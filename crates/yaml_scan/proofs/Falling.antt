@@ -1,4 +1,4 @@
--- The stack: open columns fall, so closing pops; and the level at a candidate is the level where it is completed.
+-- The stack: open columns fall, so closing pops; and the level at a candidate is the level at which it is completed.
 use Rattle.std.proofs.Common.{◌≡◌, ℕ, ◌≤◌, ◌<◌, max, not, ◌&&◌, Bool, true, false, List, [], ◌∷◌, ◌++◌, filter, Option, Some, None, refl, ap, sym, ◌∙◌, subst, le_trans, arith, leb, ne_eqb, eqb-true, ltb-true, inl, inr}
 use Rattle.std.specs.Prelude.{if◌then◌else◌, nat_eq}
 use Rattle.std.proofs.lemmas.Bool.{cases_Bool, and_parts, false≢true, leb-true, le-leb, lt-ltb, or_right}
@@ -91,7 +91,7 @@ open_columns-behind limit (n ∷ N) c O h s k r = go (open_columns-behind limit 
         deep : is_value n.lexeme.kind ≡ true → n.depth ≡ 0 → ⊥
         deep v q = false≢true (sym (value_not_candidate n.lexeme.kind v) ∙ k.0.candidate q)
 
--- what is open where the candidate is completed is what was open at the candidate
+-- what is open when the candidate is completed is what was open at the candidate
 open_behind : (limit : ℕ) (i : Laid) (N : List Laid) (c : Laid) (O : List Laid) → IsHistory limit (i ∷ (N ++ c ∷ O)) → IsCompletion limit (N ++ c ∷ O) i.lexeme c → IsSaved 0 c → AllKept 0 N
     → kept_columns (N ++ c ∷ O) i.lexeme.kind i.lexeme.start ≡ kept_columns O c.lexeme.kind c.lexeme.start
 open_behind limit i N c O h r s k =

@@ -1,4 +1,4 @@
--- A fault is answered once.
+-- A fault is returned once.
 use Rattle.std.proofs.Common.{◌≡◌, ℕ, suc, ◌+◌, ◌≤◌, Bool, true, false, List, [], ◌∷◌, ◌++◌, map, take, drop, length, Option, Some, None, refl, ap, sym, ◌∙◌, subst, arith, inl, inr}
 use Rattle.std.specs.Prelude.{filter, ◌⊎◌, if◌then◌else◌}
 use Rattle.std.proofs.lemmas.Bool.{cases_Bool, false≢true}
@@ -35,7 +35,7 @@ idle_faults (SCAN ∷ calls) = idle_faults calls
 idle_faults (PEEK ∷ calls) = idle_faults calls
 idle_faults (SKIP ∷ calls) = idle_faults calls
 
--- what a call answers, and whether the session goes on
+-- the answer to a call, and whether the session goes on
 module _ (e : yaml_encoding_t) (limit : ℕ) (c : Course) where
   abbrev IsQuiet : Session → Type 0
   IsQuiet s = (s.over ≡ true) × (s.peeked ≡ false)
@@ -101,7 +101,7 @@ module _ (e : yaml_encoding_t) (limit : ℕ) (c : Course) where
       go ih (inl f) = let k = no_fault (seen (answer e limit c call s)) (map seen (session e limit c calls (after limit c call s))) f in omega arith
       go ih (inr f) = is_one (seen (answer e limit c call s)) (map seen (session e limit c calls (after limit c call s))) f.0 (quiet calls (after limit c call s) f.1).0
 
-  -- no fault where the session is open still
+  -- no fault if the session is still open
   pub open_none : (calls : List Call) (s : Session) → (after_all limit c calls s).over ≡ false → faults_in (map seen (session e limit c calls s)) ≡ 0
   unfolding session after_all
   open_none [] s o = refl

@@ -14,7 +14,7 @@ use Rattle.yaml_scan.proofs.Whole.{candidate_order}
 use Rattle.yaml_scan.proofs.Queued.{up_to-more}
 use Rattle.yaml_scan.proofs.Falling.{candidate_completes_nothing}
 
--- what is completed does not stand before the candidate of a depth entered
+-- what is completed is not before the candidate of a depth entered
 pub completed_from : (limit : ℕ) (i : Laid) (H : List Laid) (k : ℕ) (c : Laid) → IsHistory limit (i ∷ H) → candidate H k ≡ Some c → k ≤ depth H → (n : ℕ) → i.completed ≡ Some n → c.number ≤ n
 completed_from limit i H k c h s l n e =
     let r = completed_is limit H i n h.0 e in
@@ -29,7 +29,7 @@ completed_from limit i H k c h s l n e =
 held_same : (limit : ℕ) (i : Laid) (H : List Laid) (c : Laid) → up_to (i ∷ H) (Some c) ≡ up_to H (Some c) → held_of (i ∷ H) c ≡ held_of H c
 held_same limit i H c e = rw e refl
 
--- a candidate that is left alone is only tested
+-- a candidate that is left as it is is only tested
 pub held-left : (limit : ℕ) (i : Laid) (H : List Laid) (k : ℕ) → IsHistory limit (i ∷ H) → k ≤ depth H → candidate (i ∷ H) k ≡ candidate H k → held limit (i ∷ H) k ≡ still_held limit i.lexeme.reach (held limit H k)
 held-left limit i H k h l e = rw e (go (candidate H k) refl)
   where
@@ -61,7 +61,7 @@ pub held-kept : (limit : ℕ) (i : Laid) (H : List Laid) (k : ℕ) → IsHistory
     → held limit (i ∷ H) k ≡ still_held limit i.lexeme.reach (held limit H k)
 held-kept limit i H k h l e d c a = held-left limit i H k h l (candidate-kept i H k e d c a)
 
--- the token of a candidate that is saved goes behind all, and behind the block ends of its step
+-- the token of a candidate that is saved comes after all, and after the block ends of its step
 pub held-saved : (limit : ℕ) (i : Laid) (H : List Laid) (k : ℕ) → IsHistory limit (i ∷ H) → enters k i ≡ false → eqb i.depth k ≡ true → is_candidate i ≡ true → i.key_allowed ≡ true
     → held limit (i ∷ H) k ≡ still_held limit i.lexeme.reach (Some record { at = length (offline H) + length (block_ends i); start = i.lexeme.start; required = is_required i })
 unfolding offline

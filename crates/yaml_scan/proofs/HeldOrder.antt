@@ -1,4 +1,4 @@
--- The candidates that are held: those of greater depths start later, and their tokens stand further on.
+-- The candidates that are held: those of greater depths start later, and their tokens are further on.
 use Rattle.std.proofs.Common.{◌≡◌, ℕ, zero, suc, ◌≤◌, ◌<◌, true, List, [], ◌∷◌, ◌++◌, length, Option, Some, None, refl, ap, sym, ◌∙◌, subst, arith, inl, inr, eqb-true}
 use Rattle.std.specs.Prelude.{◌⊎◌, slice_get, option_map}
 use Rattle.std.proofs.lemmas.Bool.{cases_Bool, cases_eq, and_parts}
@@ -18,7 +18,7 @@ use Rattle.yaml_scan.proofs.Queued.{up_to-mono}
 use Rattle.yaml_scan.proofs.Look.{outer_length}
 use Rattle.yaml_scan.proofs.EmptySlots.{get-append, lowest-first, lowest-next}
 
--- the candidate that stands in a slot
+-- the candidate in a slot
 pub record IsHeld (limit : ℕ) (H : List Laid) (k : ℕ) (h : Held) : Type 0 where
   pub laid : Laid
   pub is : candidate H k ≡ Some laid
@@ -41,7 +41,7 @@ held_is limit H k h e = go (candidate H k) refl e
       | inr v ↦ none_held (rw v at f)
     ]
 
--- a lexeme that stands before another one starts no later
+-- a lexeme that is before another one starts no later
 start_order : (limit : ℕ) (H : List Laid) (k n : ℕ) (c d : Laid) → IsHistory limit H → candidate H k ≡ Some c → candidate H n ≡ Some d → c.number < d.number → IsNotBefore c.lexeme.start d.lexeme.start
 start_order limit H k n c d h s t l =
     let a = candidate_split H k c s in

@@ -38,7 +38,7 @@ pub laid_closed : (limit : ℕ) (H : List Laid) (x : Lexeme) → (laid limit H x
 unfolding laid
 laid_closed limit H x = refl
 
--- each lexeme is numbered by what stands before it
+-- each lexeme is numbered by what is before it
 pub number_at : (limit : ℕ) (A : List Laid) (c : Laid) (B : List Laid) → IsHistory limit (A ++ c ∷ B) → c.number ≡ length B
 number_at limit A c B h = let r : IsHistory limit (c ∷ B) = IsHistory-older limit A (c ∷ B) h in
     ap (λ (i : Laid). i.number) r.0 ∙ laid_number limit B c.lexeme
@@ -82,7 +82,7 @@ start_to_reach limit [] c B h = (to_reach h.1)
 start_to_reach limit (i ∷ A) c B h =
     IsNotBefore-trans _ _ _ (start_to_reach limit A c B h.2) (IsNotBefore-trans _ _ _ (to_start h.1) (to_reach h.1))
 
--- what is live at a mark was live at an earlier one behind its start
+-- what is live at a mark was live at an earlier one after its start
 pub live_earlier : (limit : ℕ) (c : Laid) (m n : yaml_mark_t) → IsNotBefore c.lexeme.start m → IsNotBefore m n → live limit c n ≡ true → live limit c m ≡ true
 live_earlier limit c m n h k l =
     let p = and_parts _ _ l in

@@ -14,7 +14,7 @@ use Rattle.yaml_scan.proofs.Histories.{IsHistory-older, number_at, depth_at, com
 use Rattle.yaml_scan.proofs.Extend.{same_laid}
 use Rattle.yaml_scan.proofs.Stable.{AllOther, groups-other, group-other, other_below, number_in, completed_waits, up_to-split}
 
--- what a lexeme completes stands before it
+-- what a lexeme completes is before it
 pub completed_below : (limit : ℕ) (i : Laid) (H : List Laid) (n : ℕ) → IsHistory limit (i ∷ H) → i.completed ≡ Some n → n < length H
 completed_below limit i H n h e =
     let r = completed_waits limit H i n h e in
@@ -77,7 +77,7 @@ unfolding groups_from
 groups_from-other i W [] h = refl
 groups_from-other i W (c ∷ N) h = rw (groups_from-other i W N h.1, group-other i W c h.0) refl
 
--- what i completes is not among the lexemes behind it
+-- what i completes is not among the lexemes after it
 pub other_above : (limit : ℕ) (i : Laid) (N : List Laid) (c : Laid) (O : List Laid) → IsHistory limit (N ++ c ∷ O) → i.completed ≡ Some c.number → AllOther i N
 other_above limit i [] c O h e = tt
 other_above limit i (n ∷ N) c O h e =
@@ -102,7 +102,7 @@ pub and_true : (a : Bool) → (a && true) ≡ a
 and_true true = refl
 and_true false = refl
 
--- before it is completed a candidate has its token alone
+-- before it is completed, a candidate has only its token
 pub group_plain : (W : List Laid) (c : Laid) → is_candidate c ≡ true → is_completed W c ≡ false → group W c ≡ block_ends c ++ (OfLexeme c.lexeme ∷ [])
 unfolding group inserted opens
 group_plain W c k e = rw (candidate_not_opener c k, e) (rw (and_false (nat_eq c.depth 0) (is_above (column c) c.level)) refl)
@@ -138,7 +138,7 @@ offline-more_none limit i H h e = ap (λ (l : List Token). l ++ group (i ∷ H) 
     none_some : (n : ℕ) → None ≡ Some n → ⊥
     none_some n f = cc
 
--- the candidate c is completed: its key goes in front of its token
+-- the candidate c is completed: its key is inserted before its token
 pub record IsInsertion (i : Laid) (H : List Laid) (c : Laid) : Type 0 where
   pub front : List Token
   pub rest : List Token

@@ -1,4 +1,4 @@
--- Behind every key that is put in stands its `:`.
+-- Every key that is inserted is followed by its `:`.
 use Rattle.std.proofs.Common.{◌≡◌, ℕ, ◌≤◌, ◌&&◌, Bool, true, false, List, [], ◌∷◌, ◌++◌, map, length-append, Option, Some, None, refl, ap, sym, ◌∙◌, subst, arith, inl, inr, append_assoc}
 use Rattle.std.specs.Prelude.{◌⊎◌, if◌then◌else◌, nat_eq}
 use Rattle.std.specs.List.{list_any}
@@ -34,7 +34,7 @@ any_right : (p : Token → Bool) (a b : List Token) → list_any p b ≡ true �
 any_right p [] b e = e
 any_right p (t ∷ a) b e = or_right _ _ (any_right p a b e)
 
--- what is put in between leaves what is there
+-- what is inserted in between leaves what is there
 any_between : (p : Token → Bool) (a r k : List Token) → list_any p (a ++ r) ≡ true → list_any p r ≡ true ⊎ (list_any p a ≡ true)
 any_between p [] r k e = inl e
 any_between p (t ∷ a) r k e = elim (cases_Bool (p t)) [
@@ -82,7 +82,7 @@ module _ (limit : ℕ) where
   unfolding block_ends
   keys-block_ends w = keys-ends w.lexeme w.closed
 
-  -- a lexeme whose key is not put in
+  -- a lexeme whose key is not inserted
   keys-group : (W : List Laid) (i : Laid) → is_completed W i ≡ false → KeysHaveValues limit (group W i)
   unfolding group block_ends inserted
   keys-group W i e = keys-append (block_ends i) (inserted W i ++ (OfLexeme i.lexeme ∷ [])) (keys-ends i.lexeme i.closed)
@@ -128,7 +128,7 @@ module _ (limit : ℕ) where
           let eq : offline (i ∷ H) ≡ r.front ++ (key_tokens c ++ (R ++ G)) = r.now ∙ append_assoc r.front (key_tokens c ++ R) G ∙ ap (λ (l : List Token). r.front ++ l) (append_assoc (key_tokens c) R G) in
           subst (λ (l : List Token). KeysHaveValues limit l) (sym eq) all
 
-  -- while w is the candidate of its depth, nothing that stands before it is completed
+  -- while w is the candidate of its depth, nothing that is before it is completed
   groups_before : (N : List Laid) (w : Laid) (B : List Laid) (k : ℕ) → IsHistory limit (N ++ w ∷ B) → candidate (N ++ w ∷ B) k ≡ Some w → groups (N ++ w ∷ B) B ≡ groups B B
   groups_before [] w B k h s =
       let a = candidate_split (w ∷ B) k w s in

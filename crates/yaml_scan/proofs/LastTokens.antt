@@ -1,4 +1,4 @@
--- The token of the stream end is the last one, and behind it there is no fault.
+-- The token of the stream end is the last one, and after it there is no fault.
 use Rattle.std.proofs.Common.{◌≡◌, ℕ, zero, suc, ◌+◌, Bool, true, false, List, [], ◌∷◌, ◌++◌, map, length, slice_get, Option, Some, None, refl, ap, sym, ◌∙◌, subst, arith, inl, inr, append_assoc}
 use Rattle.std.specs.Prelude.{option_map, if◌then◌else◌}
 use Rattle.std.proofs.lemmas.Bool.{cases_Bool, false≢true}
@@ -51,7 +51,7 @@ on_inserted W i = cases (opens W i) (is_completed W i) (is_block_entry i.lexeme.
     cases false true b = (refl, tt)
     cases false false b = tt
 
--- what stands in front of the token of i
+-- what comes before the token of i
 abbrev lead : List Laid → Laid → List Token
 lead W i = block_ends i ++ inserted W i
 
@@ -69,7 +69,7 @@ on_groups limit W [] h e = (refl, tt)
 on_groups limit W (i ∷ B) h e = on_append (groups W B) (group W i) (on_groups limit W B h.2 h.3)
     (subst (λ (l : List Token). AllOn l) (sym (group_is W i)) (on_append (lead W i) (OfLexeme i.lexeme ∷ []) (on_lead W i) (e, tt)))
 
--- behind others that are not, the one at the end
+-- after others that are not, the one at the end
 at_end : (xs : List Token) (y : Token) (n : ℕ) (x : Token) → AllOn xs → slice_get (xs ++ y ∷ []) n ≡ Some x → is_last x ≡ true → n + 1 ≡ length (xs ++ y ∷ [])
 at_end [] y zero x a e l = refl
 at_end [] y (suc n) x a e l = absurd (cc)
@@ -96,7 +96,7 @@ end_of_history limit H h n x e l = elim (cases_Bool (ended H)) [
         subst (λ (z : List Token). slice_get z n ≡ Some x → n + 1 ≡ length z) (sym a)
         (λ r. at_end (groups (i ∷ B) B ++ lead (i ∷ B) i) (OfLexeme i.lexeme) n x (on_append (groups (i ∷ B) B) (lead (i ∷ B) i) (on_groups limit (i ∷ B) B g.2 g.3) (on_lead (i ∷ B) i)) r l) q
 
--- behind the stream end there is no fault
+-- after the stream end there is no fault
 ends_well : (limit : ℕ) (input : Input) → KeepsOrder input.source → (course limit input).begun ≡ true → ended (course limit input).read ≡ true → (course limit input).fault ≡ None
 unfolding course
 ends_well limit input k b e = go (starts_near input.source.size input.refusal) b e

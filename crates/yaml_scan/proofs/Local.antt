@@ -50,7 +50,7 @@ module _ (S : Source) (limit : ℕ) (H : List Laid) (k : KeepsOrder S) (w : plac
   p_within : front_of S H ≤ S.size
   p_within = (k.gap_within (nat_lt 0 (depth H)) (allowed_behind H) (place_behind H) w).1
 
-  -- nothing is found in front of the gap's end
+  -- nothing is found before the gap's end
   read_from : (j : Kind) → S.kind (nat_lt 0 (depth H)) (front_of S H) ≡ Some j → (x : Result Reading Offence)
       → S.read j (depth H) (level H j (start_at j (S.mark (front_of S H)))) (front_of S H) ≡ x → front_of S H ≤ place_read x
   read_from j q (Err o) e = (k.offends j (depth H) (level H j (start_at j (S.mark (front_of S H)))) (front_of S H) o p_within q e).0
@@ -114,7 +114,7 @@ step_is_local S T limit H r k w e l = step_same S limit H k w T r e l
 not_near : (size p : ℕ) → is_near size p ≡ false → p + 8 ≤ size
 not_near size p e = ltb-false size (p + 8) e
 
--- a step in front of the reader's fault is a step of the text, and not near
+-- a step before the reader's fault is a step of the text, and not near
 record IsInTime (size : ℕ) (o y : Outcome) : Type 0 where
   same : o ≡ y
   far : place_of o + 8 ≤ size
@@ -172,7 +172,7 @@ module _ (limit : ℕ) (a b : Input) (refusal : Fault) (j : KeepsOrder a.source)
           let h = IsHistory-from_run (step b.source limit) limit b.source.size (orderly b.source k limit) (cut b.source limit).read (cut_is_longest b.source limit k).0 in
           subst (λ (X : List Laid). Begins (before limit (steps_of limit a j).read) (before limit X)) (sym y.1) (before-before limit y.0 (steps_of limit a j).read (subst (λ (X : List Laid). IsHistory limit X) y.1 h))
 
-  -- behind the same lexemes the same fault
+  -- after the same lexemes the same fault
   one_end : (H : List Laid) (o : Offence) → IsRun (step b.source limit) limit H → EndsWith (step b.source limit) H (Some o)
       → ((cut b.source limit).read ≡ H) × ((cut b.source limit).fault ≡ Some o)
   one_end H o r w =

@@ -19,7 +19,7 @@ oldest_tail i H k l = let z : suc (length H) - k ≡ suc (length H - k) = omega 
 reads_same : (x y : Lexeme) → Reads x ≡ Reads y → y ≡ x
 reads_same x y e = cc
 
--- the step behind the first k lexemes gives the next one
+-- the step after the first k lexemes gives the next one
 pub oldest-next : (step : List Laid → Outcome) (limit : ℕ) (H : List Laid) (k : ℕ) (x : Lexeme) → IsRun step limit H → k < length H → step (oldest k H) ≡ Reads x
     → oldest (k + 1) H ≡ laid limit (oldest k H) x ∷ oldest k H
 oldest-next step limit [] k x r l s = absurd (omega arith)
@@ -34,7 +34,7 @@ oldest-next step limit (i ∷ H) k x r l s = elim (cases_eq k (length H)) [
       rw (b, a) (oldest-next step limit H k x r.2 (omega arith) t))
 ]
 
--- and where it gives a fault, all of the cut is read, and the fault is the cut's
+-- and if it gives a fault, all of the cut is read, and the fault is the cut's
 pub oldest-fault : (step : List Laid → Outcome) (limit : ℕ) (H : List Laid) (k : ℕ) (f : Offence) (o : Option Offence) → IsRun step limit H → EndsWith step H o → k ≤ length H
     → ended (oldest k H) ≡ false → step (oldest k H) ≡ Faults f → (k ≡ length H) × (o ≡ Some f)
 oldest-fault step limit H k f o r w l n s = elim (cases_eq k (length H)) [

@@ -1,4 +1,4 @@
--- The bytes of a text: how many characters are left behind an index.
+-- The bytes of a text: how many characters are left after an index.
 use Rattle.std.proofs.Common.{◌≡◌, ℕ, zero, suc, ◌+◌, ◌-◌, ◌/◌, ◌≤◌, ◌<◌, not, Bool, true, false, List, [], ◌∷◌, ◌++◌, length, length-append, length-drop, take, drop, take-append-drop, filter, refl, ap, sym, ◌∙◌, subst, arith, inl, inr, lt-ltb, le-ltb, get_or}
 use Rattle.std.specs.Char.{len_utf8}
 use Rattle.std.specs.Prelude.{slice_index, ◌⊎◌, if◌then◌else◌}
@@ -100,7 +100,7 @@ drop_utf8 cs p =
 drop_chars : (cs : List ℕ) (p : ℕ) → AreChars cs → AreChars (drop p cs)
 drop_chars cs p a = (AreChars-parts (take p cs) (drop p cs) (subst AreChars (sym (take-append-drop p cs)) a)).1
 
--- the characters behind a place begin in the bytes behind its index
+-- the characters after a place begin in the bytes after its index
 pub left_is : (cs : List ℕ) (p : ℕ) → AreChars cs → starts (drop ((source_of cs).mark p).index (utf8 cs)) ≡ length cs - p
 left_is cs p a =
     ap (λ (i : ℕ). starts (drop i (utf8 cs))) (index_is cs p) ∙ ap starts (drop_utf8 cs p) ∙ starts_utf8 (drop p cs) (drop_chars cs p a) ∙ length-drop p cs

@@ -1,4 +1,4 @@
--- What a scanner holds behind one lexeme more.
+-- What a scanner holds after one lexeme more.
 use Rattle.std.proofs.Common.{◌≡◌, ℕ, zero, suc, ◌+◌, ◌-◌, ◌≤◌, not, ◌&&◌, Bool, true, false, List, [], ◌∷◌, ◌++◌, map, filter, drop, take, slice_get, length, Option, Some, None, refl, ap, sym, ◌∙◌, subst, arith, inl, inr, eqb, append_assoc, append-nil, ne_eqb, lt-ltb, eq-eqb}
 use Rattle.std.specs.Prelude.{if◌then◌else◌, option_map, nat_eq, nat_lt}
 use Rattle.std.proofs.lemmas.Bool.{cases_Bool, cases_eq}

@@ -1,4 +1,4 @@
--- How many steps a token asks for.
+-- How many steps a token needs.
 use Rattle.std.proofs.Common.{◌≡◌, ℕ, ◌+◌, ◌-◌, ◌≤◌, ◌<◌, max, true, List, [], ◌∷◌, ◌++◌, length, length-append, length-drop, drop-drop, drop, refl, ap, sym, ◌∙◌, subst, arith, inl, inr, ltb, ltb-true, ltb-false, lt-ltb}
 use Rattle.std.specs.Prelude.{nat_lt}
 use Rattle.std.proofs.lemmas.Bool.{cases_Bool, cases_eq, cases_lt, and_from, and_parts}

@@ -1,4 +1,4 @@
--- The places of a text by how many characters stand before them.
+-- The places of a text by how many characters are before them.
 use Rattle.std.proofs.Common.{◌≡◌, ℕ, ◌+◌, ◌-◌, ◌≤◌, Bool, List, length, Option, Some, None, Result, Ok, Err, refl, ap, sym, ◌∙◌, arith, inl, inr}
 use Rattle.std.specs.Prelude.{◌⊎◌, MatchResult}
 use Rattle.yaml_text.specs.declared.types.yaml_mark_t.{yaml_mark_t}
@@ -21,7 +21,7 @@ use Rattle.yaml_scan.specs.Kind.{Kind}
 use Rattle.yaml_scan.specs.SourceOf.{source_of, count_to, reading, reading_of}
 use Rattle.yaml_scan.specs.TextReads.{IsRead, IsOffence}
 
--- a place further on is the place behind so many characters
+-- a place further on is the place after so many characters
 pub record IsPlaceOf (cs : List ℕ) (p : ℕ) (q : Place) : Type 0 where
   pub is : q ≡ place_at cs (count_to (length cs) q)
   pub behind : p ≤ count_to (length cs) q
@@ -61,7 +61,7 @@ same_lexeme a b q = cc
 same_fault : (a b : Fault) → err a ≡ err b → a ≡ b
 same_fault a b q = cc
 
--- what a lexeme's call answers
+-- what a lexeme's call returns
 pub read_is : (cs : List ℕ) (k : Kind) (d : ℕ) (l : Option ℕ) (p : ℕ) (r : Result code_lexeme_t yaml_fault_t) → Answers lexeme_of r (lexeme_at k (record { depth = d; level = l }) (place_at cs p))
     → MatchResult r (λ x. IsRead cs k d l p (lexeme_of x)) (λ f. (fault_of f ≡ memory_fault) ⊎ IsOffence cs k d l p (fault_of f))
 unfolding source_of

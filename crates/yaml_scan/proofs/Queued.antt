@@ -51,7 +51,7 @@ up_to-more limit i H k c h s o =
     ∙ ap (λ (x : List Token). x ++ block_ends c) (groups-other i H a.older b)
     ∙ sym (up_to-split limit H a.newer c a.older a.is h.2)
 
--- the head is settled exactly where it is not the token of a live candidate
+-- the head is settled exactly if it is not the token of a live candidate
 pub up_to-mono : (limit : ℕ) (H A : List Laid) (c : Laid) (B V : List Laid) (v : Laid) (U : List Laid) → IsHistory limit H → H ≡ A ++ c ∷ B → H ≡ V ++ v ∷ U → c.number ≤ v.number
     → length (up_to H (Some c)) ≤ length (up_to H (Some v))
 up_to-mono limit H A c B V v U h e f l =

@@ -30,7 +30,7 @@ put_nothing e n m old q i = subst (λ (x : List Token). IsQueue e n m old x) (sy
 same_step : (x : Token) (n : ℕ) → is_of_lexeme x ≡ false → step_behind x n ≡ n
 same_step x n l = rw l refl
 
--- a token that is put in front of another one belongs to its step
+-- a token that is inserted before another one belongs to its step
 pub put_before : (e : yaml_encoding_t) (n m : ℕ) (old : List queued_t) (q : List Token) (at : ℕ) (y : queued_t) (x : Token) → IsQueue e n m old q → at ≤ length old → token_of y.token ≡ handed_out e x → y.step ≡ step_at at m old → is_of_lexeme x ≡ false
     → IsQueue e n m (take at old ++ (y ∷ drop at old)) (take at q ++ (x ∷ drop at q))
 put_before e n m [] [] zero y x i a t s l = (t, s ∙ sym i, same_step x n l ∙ i)
@@ -51,7 +51,7 @@ put_twice q zero x y a = refl
 put_twice [] (suc at) x y a = absurd (omega arith)
 put_twice (z ∷ q) (suc at) x y a = ap (λ (l : List Token). z ∷ l) (put_twice q at x y (omega arith))
 
--- a key, and a block start in front of it
+-- a key, and a block start before it
 pub put_key : (e : yaml_encoding_t) (n m : ℕ) (old : List queued_t) (q : List Token) (at : ℕ) (y : queued_t) (mark : yaml_mark_t) → IsQueue e n m old q → at ≤ length old → token_of y.token ≡ handed_out e (InsertedKey mark) → y.step ≡ step_at at m old
     → IsQueue e n m (take at old ++ (y ∷ drop at old)) (put_in at (key_at false mark) q)
 put_key e n m old q at y mark i a t s = put_before e n m old q at y (InsertedKey mark) i a t s refl
@@ -66,7 +66,7 @@ put_key_and_start e n m old mid q at y z mark i a t s u v M b =
     let l = same_length e n m old q i in
     subst (λ (r : List Token). IsQueue e n m (take at mid ++ (z ∷ drop at mid)) r) (put_twice q at (InsertedKey mark) (BlockMappingStart mark) (omega arith)) k
 
--- the step at a place, by what stands there
+-- the step at a place, by what is there
 pub step_some : (m : ℕ) (old : List queued_t) (at : ℕ) (y : queued_t) → at < length old → y ≡ get_or old at y → y.step ≡ step_at at m old
 step_some m [] at y l e = absurd (omega arith)
 step_some m (z ∷ old) zero y l e = ap (λ (x : queued_t). x.step) e

@@ -1,4 +1,4 @@
--- More scans than there are tokens left answer all that is left.
+-- More scans than there are tokens left return all that is left.
 use Rattle.std.proofs.Common.{◌≡◌, ℕ, zero, suc, ◌+◌, ◌-◌, ◌<◌, ◌≤◌, Bool, true, false, List, [], ◌∷◌, ◌++◌, map, take, drop, replicate, length, slice_get, Option, Some, None, ◌≢◌, refl, ap, sym, ◌∙◌, subst, arith, inl, inr}
 use Rattle.std.specs.Prelude.{◌⊎◌, Result, if◌then◌else◌}
 use Rattle.std.proofs.lemmas.Bool.{false≢true}
@@ -150,7 +150,7 @@ reads_on p calls old new q g n e l = record { more = g.more; is = g.is; told = g
     go (inl r) = inl (r.0 ∙ ap (λ (z : List Answer). map seen z) (rest_of p n l))
     go (inr o) = inr o
 
--- SCANS ONE BEHIND THE OTHER
+-- SCANS ONE AFTER THE OTHER
 idle_scans : (n : ℕ) → map seen (replicate n (TOKEN empty)) ≡ map idle (scans n)
 idle_scans zero = refl
 idle_scans (suc n) = ap (λ (z : List Seen). sight.TOKEN empty ∷ z) (idle_scans n)
@@ -161,7 +161,7 @@ over_answer p o = if_true p.session.over (TOKEN empty) (scan_answer (input_read 
 over_left : (p : Parser) → p.session.over ≡ true → behind p SCAN ≡ p
 over_left p o = ap (λ (z : Session). record { input = p.input; setting = p.setting; limit = p.limit; session = z }) (if_true p.session.over p.session (after_scan p.limit (course_read p) p.session (next_token p.limit (course_read p) p.session)) o)
 
--- where the session is over
+-- if the session is over
 idle_chain : (results : List (Result code_token_t yaml_fault_t)) (p q : Parser) → p.session.over ≡ true → ScansInTurn p results q → (map told results ≡ replicate (length results) (TOKEN empty)) × (q ≡ p)
 idle_chain [] p q o e = (refl, e)
 idle_chain (a ∷ more) p q o (r, s, w) = go (λ e. idle_chain more r q e w) s

@@ -1,4 +1,4 @@
--- The rows of a step in front of its lexeme, by what a scanner computes.
+-- The rows of a step before its lexeme, by what a scanner computes.
 use Rattle.std.proofs.Common.{◌≡◌, ℕ, ◌+◌, ◌≤◌, not, ◌&&◌, ◌||◌, Bool, true, false, List, length, Option, Some, None, refl, ap, sym, ◌∙◌, subst, arith, inl, inr, ltb, eqb, vec_len, eqb-true, ne_eqb, lt-ltb}
 use Rattle.std.specs.Bool.{◌==◌}
 use Rattle.std.specs.Option.{is_some}

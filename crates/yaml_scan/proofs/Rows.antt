@@ -1,4 +1,4 @@
--- Worked rows, by computation: what the definitions answer for lexemes that are written as data.
+-- Worked rows, by computation: what the definitions give for lexemes that are written as data.
 use Rattle.std.specs.Prelude.{◌≡◌, ℕ, ◌+◌, ◌-◌, pos, Bool, true, false, List, [], ◌∷◌, Option, Some, None, Result, Ok, Err, codes, nat_eq, nat_le, if◌then◌else◌}
 use Rattle.std.proofs.Common.{refl}
 use Rattle.yaml_text.specs.declared.types.yaml_mark_t.{yaml_mark_t}
@@ -23,12 +23,13 @@ use Rattle.yaml_scan.specs.Session.Answer.{TOKEN, PEEKED, SKIPPED, NOTHING, FAUL
 abbrev m : ℕ → ℕ → ℕ → yaml_mark_t
 m i l c = record { index = i; line = l; column = c }
 
--- the mark of a place of a text of one-byte characters, by where the lines behind the first one start
+-- the mark of a place of a text of one-byte characters, by where the lines after the first one start
 abbrev mark_from : ℕ → ℕ → List ℕ → ℕ → yaml_mark_t
 mark_from line start [] p = m p line (p - start)
 mark_from line start (s ∷ starts) p = if nat_le s p then mark_from (line + 1) s starts p else m p line (p - start)
 
--- what stands behind a place, from which the gap ends at another: a lexeme with its end, its reach and whether it passed a break; the stream end; a lexeme with a problem and a context; or nothing that is a lexeme
+-- what follows a place, from which the gap ends at another: a lexeme with its end, its reach and whether it passed a break; the
+-- stream end; a lexeme with a problem and a context; or nothing that is a lexeme
 data Entry : Type 0 where
   Lexed : ℕ → ℕ → Kind → unnamed_yaml_token_t_data → ℕ → ℕ → Bool → Entry
   Ends : ℕ → ℕ → Entry
@@ -706,7 +707,7 @@ seen limit size starts es calls =
     let s = after_all limit c calls new_session in
     (session_queued c s, session_reach c s)
 
--- `a: b: c`, and behind the fault a peek, a skip and a scan
+-- `a: b: c`, and after the fault a peek, a skip and a scan
 a_fault_is_answered_once : called 1024 7 []
     (Lexed 0 0 PLAIN (token.SCALAR (97 ∷ []) YAML_PLAIN_SCALAR_STYLE) 1 1 false
     ∷ Lexed 1 1 VALUE token.VALUE 2 2 false

@@ -1,4 +1,4 @@
--- What a peek, a scan and a skip answer.
+-- The answers to a peek, a scan and a skip.
 use Rattle.std.proofs.Common.{◌≡◌, ℕ, zero, suc, ◌+◌, ◌-◌, ◌≤◌, ◌<◌, Bool, true, false, List, [], ◌∷◌, ◌++◌, length, length-append, slice_get, get_or, Option, Some, None, Ok, Err, refl, ap, sym, ◌∙◌, subst, arith, inl, inr, append_assoc}
 use Rattle.std.specs.Prelude.{◌⊎◌, if◌then◌else◌}
 use Rattle.std.proofs.lemmas.Bool.{cases_lt, false≢true}
@@ -322,7 +322,7 @@ module _ (p q : Parser) (o : p.session.over ≡ false) where
       ))
   scan_shown x r (inr a) e f = absurd (let n = a.0 in cc)
 
-  -- and where there is no next token, as the peek
+  -- and if there is no next token, as the peek
   same_answer : next ≡ None → answered p PEEK ≡ answered p SCAN
   same_answer n = open_peek ∙ ap (λ (z : Option Token). peek_answer (input_read p).encoding (course_read p) z) n
       ∙ sym (open_scan ∙ ap (λ (z : Option Token). scan_answer (input_read p).encoding (course_read p) z) n)
@@ -382,13 +382,13 @@ open_session p o = λ k. record { input = p.input; setting = p.setting; limit = 
 pub shown_session : (p : Parser) → p.session.over ≡ false → p.session.peeked ≡ true → p ≡ record { input = p.input; setting = p.setting; limit = p.limit; session = record { taken = p.session.taken; steps = p.session.steps; peeked = true; over = false; fault = p.session.fault } }
 shown_session p o k = λ i. record { input = p.input; setting = p.setting; limit = p.limit; session = record { taken = p.session.taken; steps = p.session.steps; peeked = k i; over = o i; fault = p.session.fault } }
 
--- no memory is asked for what is there
+-- no memory is taken for what is there
 pub bare : (call : Call) (p : Parser) (a : Answer) (q : Parser) → Calls call p a q → IsThere p → (a ≡ answered p call) × (q ≡ behind p call)
 bare call p a q (inl r) t = r
 bare call p a q (inr r) (inl t) = absurd (let w = r.1 in false≢true (sym w.was_not_peeked ∙ t))
 bare call p a q (inr r) (inr t) = absurd (let w = r.1 in false≢true (sym w.was_open ∙ t))
 
--- nor for a reader's fault in the place of the first step, in UTF-8
+-- nor for a reader's fault instead of the first step, in UTF-8
 pub not_begun : (limit : ℕ) (input : Input) → starts_near input.source.size input.refusal ≡ true → (course limit input).begun ≡ false
 unfolding course
 not_begun limit input e = rw e refl

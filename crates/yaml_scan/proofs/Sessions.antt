@@ -62,7 +62,7 @@ module _ (limit : ℕ) (c : Course) where
   taken_is_next PEEK s x e = cc
   taken_is_next SKIP s x e = then_next s.peeked (next_token limit c s) x e
 
-  -- what is left of the list behind n tokens begins with some, k of them
+  -- what is left of the list after n tokens begins with some, k of them
   pub record Goes (n : ℕ) (xs : List Token) (k : ℕ) : Type 0 where
     pub rest : List Token
     pub is : drop n (tokens_of limit c) ≡ xs ++ rest

@@ -1,4 +1,4 @@
--- The head is the next token exactly where no candidate that is held is the head.
+-- The head is the next token exactly if no candidate that is held is the head.
 use Rattle.std.proofs.Common.{◌≡◌, ℕ, ◌-◌, ◌≤◌, ◌<◌, not, ◌&&◌, Bool, true, false, List, drop, length, length-drop, Option, Some, None, refl, ap, sym, ◌∙◌, arith, inl, inr, ltb, eqb, eqb-true, lt-ltb, le-ltb}
 use Rattle.std.specs.Prelude.{◌⊎◌, option_map}
 use Rattle.std.proofs.lemmas.Bool.{cases_Bool, cases_eq, cases_lt, false≢true, eqb-false}
@@ -24,7 +24,7 @@ module _ (limit : ℕ) (H : List Laid) (h : IsHistory limit H) (t : ℕ) (l : t 
         | inr v ↦ (let g : false ≡ true = rw v at f in absurd (false≢true g))
       ]
 
-  -- the lowest candidate waits, where one of the outer ones does
+  -- the lowest candidate waits, if one of the outer ones does
   some_below : waits t (lowest (outer_to limit H (depth H))) ≡ true → (k : ℕ) × (waits t (held limit H k) ≡ true)
   some_below e = elim (lowest_is limit H (depth H)) [
     | inl r ↦ (r.at, ap (waits t) r.is ∙ sym (ap (waits t) r.told) ∙ e)

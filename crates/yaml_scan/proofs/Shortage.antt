@@ -1,4 +1,4 @@
--- What is taken where a growth is refused: the tokens that the steps which were made settle.
+-- What is taken if a growth is refused: the tokens that the steps which were made settle.
 use Rattle.std.proofs.Common.{◌≡◌, ℕ, zero, suc, ◌+◌, ◌-◌, ◌≤◌, ◌<◌, Bool, true, false, List, [], ◌∷◌, ◌++◌, map, take, length, slice_get, Some, None, refl, ap, sym, ◌∙◌, subst, arith, inl, inr, ltb, ltb-true}
 use Rattle.std.specs.Prelude.{nat_lt, if◌then◌else◌}
 use Rattle.std.proofs.lemmas.Bool.{cases_Bool, cases_lt, and_parts, false≢true}
@@ -75,7 +75,7 @@ module _ (limit : ℕ) (input : Input) (k : KeepsOrder input.source) where
           subst (λ (z : List Token). Begins (before limit (first_steps s C.read)) z) (sym (tokens_begun limit C (begun_of C s p w)))
           (subst (λ (X : List Laid). Begins (before limit (first_steps s C.read)) (before limit X)) (sym r.1) b)
 
-  -- behind each key among them stands its `:`
+  -- each key among them is followed by its `:`
   settled_keys : (s : ℕ) → s ≤ all_steps C → KeysHaveValues limit (settled_tokens limit C s)
   settled_keys s w = go (ltb 0 s) refl
     where
@@ -96,7 +96,7 @@ module _ (limit : ℕ) (input : Input) (k : KeepsOrder input.source) where
       let l = ltb-true t (length (before limit (first_steps s C.read))) p.1 in
       rw p.0 l
 
-  -- a token that is asked for is settled, by steps that there are
+  -- a token that is requested is settled, by steps that there are
   pub asked_settled : (t s : ℕ) (x : Token) → slice_get (tokens_of limit C) t ≡ Some x → t < length (settled_tokens limit C (pace limit C.read t s))
   asked_settled t s x e =
       let g = get_within (tokens_of limit C) t x e in
@@ -107,7 +107,7 @@ module _ (limit : ℕ) (input : Input) (k : KeepsOrder input.source) where
   unfolding pace
   asked_within t s x e w = let a = steps_begun C (begun_some limit C t x e) in let m = at_most limit C.read t in omega arith
 
-  -- where the next token is not settled all that are were taken
+  -- if the next token is not settled, all that are were taken
   pub all_taken : (t s r : ℕ) → s ≤ all_steps C → s ≤ r → t ≤ length (settled_tokens limit C s) → settled limit C.read t r ≡ false → take t (tokens_of limit C) ≡ settled_tokens limit C s
   all_taken t s r w m a u =
       let n = no_more (ltb 0 s) refl in

@@ -1,4 +1,4 @@
--- What is read of the characters of a text keeps to its order.
+-- What is read of the characters of a text is in its order.
 use Rattle.std.proofs.Common.{◌≡◌, ℕ, zero, suc, ◌+◌, ◌-◌, ◌≤◌, ◌<◌, Bool, true, false, List, [], ◌∷◌, length, Option, Some, None, not, ◌==◌, ◌&&◌, ◌||◌, eqb-true, refl, ap, sym, ◌∙◌, subst, arith, inl, inr}
 use Rattle.std.specs.Prelude.{if◌then◌else◌, nat_lt, nat_eq, slice_index, Result, Ok, Err}
 use Rattle.std.proofs.lemmas.Bool.{cases_Bool, cases_lt, false≢true}
@@ -68,7 +68,7 @@ if_end : (b : Bool) {o : Option Kind} (k : Kind) → NotEnd o → (if b then Som
 if_end true k n e t = refl
 if_end false k n e t = absurd (false≢true (sym (n.is k e) ∙ t))
 
--- it stands at the end alone
+-- it is only at the end
 ends_at : (flow : Bool) (p : Place) (k : Kind) → kind_at flow p ≡ Some k → is_stream_end k ≡ true → is_z (first p) ≡ true
 unfolding kind_at
 ends_at flow p k e t = if_end (is_z (first p)) k (other flow p) e t
@@ -160,7 +160,7 @@ module _ (cs : List ℕ) where
   pub count_at : (p : ℕ) → p ≤ length cs → count_to (length cs) (place_at cs p) ≡ p
   count_at p l = let r = rest_length p in omega arith
 
-  -- the place to which one goes
+  -- the place that is reached
   record IsThere (p n : ℕ) (q : Place) : Type 0 where
     count : ℕ
     is : q ≡ place_at cs count
@@ -184,7 +184,7 @@ module _ (cs : List ℕ) where
       let s = length_skip k (place_at cs p) in
       (omega arith, omega arith)
 
-  -- what one comes to is the place that is counted
+  -- the place that is reached is the one that is counted
   at_count : (p k : ℕ) (q : Place) → p ≤ length cs → q ≡ skip k (place_at cs p) → q ≡ place_at cs (count_to (length cs) q)
   at_count p k q l e =
       let r = rest_length p in
@@ -294,7 +294,7 @@ module _ (cs : List ℕ) where
         let u : o.place ≡ count_to (length cs) y.at = ap (λ (v : Offence). v.place) (sym (err_same (offence k here y (count_to (length cs) y.at)) o (reading_of (length cs) k here (Err y)) refl z)) in
         (omega (arith, t.0), omega (arith, t.1))
 
--- the problem of an offence stands at its place
+-- the problem of an offence is at its place
 pub problem_at : (cs : List ℕ) (k : Kind) (d : ℕ) (l : Option ℕ) (p : ℕ) (o : Offence) → p ≤ length cs → (source_of cs).read k d l p ≡ Err o
     → (o.fault.error ≡ YAML_SCANNER_ERROR) × (o.fault.problem_mark ≡ (source_of cs).mark o.place)
 unfolding source_of

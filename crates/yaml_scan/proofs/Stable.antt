@@ -81,7 +81,7 @@ number_in limit H A c B e h = number_at limit A c B (subst (λ (X : List Laid). 
 pub start_in : (limit : ℕ) (H A : List Laid) (c : Laid) (B : List Laid) → H ≡ A ++ c ∷ B → IsHistory limit H → IsNotBefore c.lexeme.start (reach H)
 start_in limit H A c B e h = subst (λ (X : List Laid). IsHistory limit X → IsNotBefore c.lexeme.start (reach X)) (sym e) (start_to_reach limit A c B) h
 
--- the candidate that i completes is current, and live where H was read to
+-- the candidate that i completes is current, and live at the reach of H
 pub completed_waits : (limit : ℕ) (H : List Laid) (i : Laid) (n : ℕ) → IsHistory limit (i ∷ H) → i.completed ≡ Some n
     → (c : Laid) × (A : List Laid) × (B : List Laid) × (H ≡ A ++ c ∷ B) × (c.number ≡ n) × (is_live_candidate limit H c ≡ true)
 unfolding is_current
@@ -133,7 +133,7 @@ passes_in p (i ∷ A) c B e t = elim (cases_Bool (p i)) [
 pub tails : (i j : Laid) (H G : List Laid) → i ∷ H ≡ j ∷ G → H ≡ G
 tails i j H G e = cc
 
--- none that passes stands before the earliest
+-- none that passes is before the earliest
 pub earliest_first : (p : Laid → Bool) (N : List Laid) (w : Laid) (O A : List Laid) (c : Laid) (B : List Laid)
     → N ++ w ∷ O ≡ A ++ c ∷ B → filter p O ≡ [] → p c ≡ true → length O ≤ length B
 earliest_first p [] w O [] c B e n t = let f : O ≡ B = tails _ _ _ _ e in let g = ap (λ (X : List Laid). length X) f in omega arith

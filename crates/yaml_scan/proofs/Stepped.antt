@@ -125,7 +125,7 @@ module _ (s : scanner_t) (r : Runs s) where
         let n : s.made ≡ (s.made - 1) + 1 = omega arith in
         ap (λ (k : ℕ). oldest k (course_of s).read) n ∙ oldest-next (next (input_of s) s.limit) s.limit (course_of s).read (s.made - 1) x is_run l q
 
-    -- the fault behind the course
+    -- the fault after the course
     last_is : (o : Offence) → next (input_of s) s.limit (history s) ≡ Faults o → IsLast s o.fault
     unfolding history
     last_is o q =

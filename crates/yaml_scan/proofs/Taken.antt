@@ -1,4 +1,4 @@
--- What the answers to calls tell of the tokens that were taken.
+-- What the answers to calls say of the tokens that were taken.
 use Rattle.std.proofs.Common.{◌≡◌, ℕ, zero, suc, ◌+◌, Bool, true, false, List, [], ◌∷◌, ◌++◌, map, take, drop, replicate, slice_get, Option, Some, None, refl, ap, sym, ◌∙◌, subst, arith, inl, inr}
 use Rattle.std.specs.Prelude.{if◌then◌else◌}
 use Rattle.std.proofs.lemmas.Bool.{cases_Bool, cond_both, false≢true}
@@ -18,7 +18,7 @@ use Rattle.yaml_scan.specs.Calls.Seen.{TOKEN, PEEKED, SKIPPED, NOTHING, FAULT}
 use Rattle.yaml_scan.specs.Puts.{Puts, taken_told, AreTold, TakesOn, TakesNext, HasNext}
 use Rattle.yaml_scan.proofs.ReadsOn.{drop_next}
 
--- WHERE A SESSION IS OVER
+-- IF A SESSION IS OVER
 abbrev pub IsQuiet : Session → Type 0
 IsQuiet s = (s.over ≡ true) × (s.peeked ≡ false)
 
@@ -58,9 +58,9 @@ told_both (SKIPPED ∷ a) b = ap (λ (z : List (Option yaml_token_t)). None ∷ 
 told_both (NOTHING ∷ a) b = told_both a b
 told_both (FAULT f ∷ a) b = told_both a b
 
--- WHERE IT GOES ON
+-- IF IT GOES ON
 module _ (limit : ℕ) (c : Course) where
-  -- where a token was peeked there is a next one
+  -- if a token was peeked, there is a next one
   abbrev pub IsShowing : Session → Type 0
   IsShowing s = s.peeked ≡ true → (s.over ≡ false) × ((x : Token) × (next_token limit c s ≡ Some x))
 
@@ -95,7 +95,7 @@ module _ (e : yaml_encoding_t) (limit : ℕ) (c : Course) where
   takes_nothing : (n m : ℕ) (answers : List Seen) (k : ℕ) → m ≡ n → taken_told answers ≡ replicate k (Some empty) → TakesOn T n answers m
   takes_nothing n m answers k f g = record { took = []; are_next = record { rest = drop n T; is = refl }; count = omega arith; says = []; are_told = tt; idle = k; answers_are = g }
 
-  -- one token, told or skipped
+  -- one token, returned or skipped
   takes_one : (n m : ℕ) (x : Token) (o : Option yaml_token_t) (a : Seen) (answers : List Seen) → slice_get (tokens_of limit c) n ≡ Some x → AreTold (o ∷ []) (handed_out e x ∷ [])
       → taken_told (a ∷ answers) ≡ o ∷ taken_told answers → TakesOn T (n + 1) answers m → TakesOn T n (a ∷ answers) m
   takes_one n m x o a answers q t f g = record {
@@ -185,7 +185,7 @@ assoc : (a b d : List (Option yaml_token_t)) → (a ++ b) ++ d ≡ a ++ (b ++ d)
 assoc [] b d = refl
 assoc (x ∷ a) b d = ap (λ (z : List (Option yaml_token_t)). x ∷ z) (assoc a b d)
 
--- behind others, answers that take nothing
+-- after others, answers that take nothing
 takes_no_more : (tokens : List yaml_token_t) (n m : ℕ) (a b : List Seen) (k : ℕ) → TakesOn tokens n a m → taken_told b ≡ replicate k (Some empty) → TakesOn tokens n (a ++ b) m
 takes_no_more tokens n m a b k g f = record {
   took = g.took;
@@ -211,6 +211,6 @@ takes_next p calls answers q h (inr o) =
     subst (λ (z : List Seen). TakesNext p z q) (sym o.answers)
     (subst (λ (z : ℕ). TakesOn (answers_to p.limit p.setting p.input).tokens p.session.taken (map seen (answered_all p (take o.n calls)) ++ (FAULT memory_fault ∷ map idle (drop (o.n + 1) calls))) z) (sym o.wants.taken) g)
 
--- what holds of all answers of a run holds of those that were put
+-- what holds of all answers of a run holds of those that were appended
 pub puts : (Holds : List Seen → Type 0) (p : Parser) (calls : List Call) (old new : List yaml_answer_t) (q : Parser) → PutsAnswers p calls old new q → ((answers : List Seen) → Runs p calls answers q → Holds answers) → Puts Holds old new
 puts Holds p calls old new q g h = record { more = g.more; is = g.is; holds = h (map seen_of g.more) g.runs }

@@ -1,4 +1,4 @@
--- Every token and every fault that is answered can be put in words.
+-- Every token and every fault that is returned can be put in words.
 use Rattle.std.proofs.Common.{◌≡◌, ◌≢◌, ℕ, zero, suc, ◌+◌, Bool, true, false, ◌||◌, if◌then◌else◌, List, [], ◌∷◌, ◌++◌, map, filter, drop, length, Option, Some, None, Ok, Err, slice_get, refl}
 use Rattle.std.specs.Prelude.{Result, IfSome, nat_lt, option_map}
 use Rattle.std.proofs.lemmas.Bool.{or_left, or_right}
@@ -122,7 +122,7 @@ abbrev ReadingTold : Result Reading Offence → Type 0
 ReadingTold (Ok r) = HasWords r.token_data
 ReadingTold (Err o) = HasLine o.fault
 
--- all that a text gives to read
+-- all that is read of a text
 abbrev SourceTold : Source → Type 0
 SourceTold S = (k : Kind) (d : ℕ) (l : Option ℕ) (p : ℕ) → ReadingTold (S.read k d l p)
 
@@ -167,7 +167,7 @@ module _ (S : Source) (s : SourceTold S) (limit : ℕ) (H : List Laid) where
       let k = S.kind (nat_lt 0 (depth H)) p in
       unless_told (stale limit H (S.mark p)) (S.mark p) p (kind_step S limit H p k) (kind_told p k)
 
--- near the end the reader's fault stands in for it
+-- near the end the reader's fault comes instead
 near_told : (size : ℕ) (r : Option Fault) (o : Outcome) → IfSome r HasLine → OutcomeTold o → OutcomeTold (unless_near size r o)
 near_told size None o t u = u
 near_told size (Some f) o t u = cases (is_near size (place_of o))
@@ -207,7 +207,7 @@ from_told : (b : Bool) (r : Option Fault) (c : Cut) → IfSome r HasLine → Cut
 from_told true r c t u = (tt, t)
 from_told false r c t u = (u.0, fault_told c.fault u.1)
 
--- an input of which all can be told
+-- an input of which all can be put in words
 record InputTold (input : Input) : Type 0 where
   encoding : input.encoding ≢ YAML_ANY_ENCODING
   source : SourceTold input.source

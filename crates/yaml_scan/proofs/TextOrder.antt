@@ -22,7 +22,7 @@ size_is : (cs : List ℕ) → (source_of cs).size ≡ length cs
 unfolding source_of
 size_is cs = refl
 
--- a problem stands at its place
+-- a problem is at its place
 pub text_problem : (cs : List ℕ) → AreChars cs → (k : Kind) (d : ℕ) (l : Option ℕ) (p : ℕ) (o : Offence) → p ≤ length cs → (source_of cs).kind (nat_lt 0 d) p ≡ Some k → (source_of cs).read k d l p ≡ Err o → IsProblem (source_of cs) o
 text_problem cs c k d l p o w h e =
     let z = size_is cs in
@@ -47,7 +47,7 @@ pub text_sums : (cs : List ℕ) (p : ℕ) → p ≤ length cs → ((source_of cs
 unfolding source_of skip
 text_sums cs p w = let a = sums_from p (record { index = 0; line = 0; column = 0 }) cs in omega arith
 
--- the reach stands at its place, as far as the index goes
+-- the reach is at its place, as far as the index goes
 end_index : (m : yaml_mark_t) → (stream_end m).index ≡ m.index
 end_index m = go (m.column == 0)
   where

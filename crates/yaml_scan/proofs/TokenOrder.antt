@@ -1,4 +1,4 @@
--- Tokens stand in order.
+-- Tokens are in order.
 use Rattle.std.proofs.Common.{◌≡◌, ℕ, ◌≤◌, Bool, true, false, List, [], ◌∷◌, ◌++◌, map, refl, sym, subst, arith, ltb}
 use Rattle.std.specs.Prelude.{if◌then◌else◌, ◌&&◌}
 use Rattle.yaml_text.specs.declared.types.yaml_mark_t.{yaml_mark_t}
@@ -20,7 +20,7 @@ in_order_length : (n m : ℕ) (ts : List Token) → AreInOrder n ts m → n ≤ 
 in_order_length n m [] o = o
 in_order_length n m (t ∷ ts) o = let r = in_order_length (end_of t).index m ts o.2 in omega (arith, o.0, o.1)
 
--- one list behind another
+-- one list after another
 in_order_append : (n m l : ℕ) (a b : List Token) → AreInOrder n a m → AreInOrder m b l → AreInOrder n (a ++ b) l
 in_order_append n m l [] b o p = in_order_from n m l b o p
 in_order_append n m l (t ∷ a) b o p = (o.0, o.1, in_order_append (end_of t).index m l a b o.2 p)

@@ -102,7 +102,7 @@ queued_fewer H [] t = let r = if_less t (length (groups H [])) 0 0 (omega arith)
 queued_fewer H (i ∷ B) t = if_less t (length (groups H (i ∷ B))) _ _ (queued_fewer H B t)
 
 -- OF A SESSION
--- of the first n steps of H, those that have a token behind the first t
+-- of the first n steps of H, those that have a token after the first t
 abbrev pub waiting_at : List Laid → ℕ → ℕ → ℕ
 waiting_at H n t = if nat_eq n 0 then 0 else queued (first_steps n H) t (first_steps n H)
 
@@ -151,7 +151,7 @@ module _ (limit : ℕ) (H : List Laid) (h : IsHistory limit H) where
         | inr e ↦ (let r = go H (omega arith) in (r.0, oldest_tail i H (k + 1) (omega arith) ∙ r.1 ∙ ap (λ (X : List Laid). r.0 ∷ X) (sym (oldest_tail i H k (omega arith)))))
       ]
 
-  -- as many steps as a look asks for, or fewer: few wait
+  -- as many steps as a look needs, or fewer: few wait
   few_made_for : (t m : ℕ) → 0 < m → m ≤ steps_for limit H t → waiting_at H m t ≤ limit + 1
   few_made_for t m z l = elim (cases_eq m 1) [
     | inl e ↦ (let f = few_one t in let o : first_steps m H ≡ [] = drop_all (length H - (m - 1)) H (omega arith) in rw (some_made H m t z, o) f)

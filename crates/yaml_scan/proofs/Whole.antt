@@ -1,4 +1,4 @@
--- Behind the stream end nothing waits, so all of the offline list is handed out. And where the candidates stand.
+-- After the stream end nothing waits, so all of the offline list is handed out. And the order of the candidates.
 use Rattle.std.proofs.Common.{◌≡◌, ℕ, ◌+◌, ◌≤◌, ◌<◌, Bool, true, false, List, [], ◌∷◌, ◌++◌, length, length-append, filter, Some, None, refl, ap, sym, ◌∙◌, subst, arith, eqb, eq-eqb, eqb-true, inl, inr}
 use Rattle.std.specs.Prelude.{◌⊎◌}
 use Rattle.std.proofs.lemmas.Bool.{cases_Bool, cases_eq, cases_order, and_parts, and_from, eqb-false, false≢true}
@@ -25,7 +25,7 @@ not_ended : (limit : ℕ) (N : List Laid) (c : Laid) (O : List Laid) → IsHisto
 not_ended limit [] c O h e = e
 not_ended limit (n ∷ N) c O h e = not_ended limit N c O h.2 h.3
 
--- a lexeme that is no stream end ends to the right of where it starts
+-- a lexeme that is no stream end ends to the right of its start
 reach_right : (limit : ℕ) (N : List Laid) (c : Laid) (O : List Laid) (m : yaml_mark_t) → IsHistory limit (N ++ c ∷ O) → ended (N ++ c ∷ O) ≡ false → IsNotBefore (reach (N ++ c ∷ O)) m
     → c.lexeme.start.line ≡ m.line → c.lexeme.start.column < m.column
 reach_right limit [] c O m h e b l =
@@ -43,7 +43,7 @@ reach_right limit (n ∷ N) c O m h e b l =
     let u = y.column (sym s ∙ l) in
     omega arith
 
--- behind the stream end nothing is live
+-- after the stream end nothing is live
 pub waiting-ended : (limit : ℕ) (i : Laid) (H : List Laid) → IsHistory limit (i ∷ H) → is_stream_end i.lexeme.kind ≡ true → waiting limit (i ∷ H) ≡ None
 unfolding waiting is_current
 waiting-ended limit i H h e = ap last_of (none_passes (is_live_candidate limit (i ∷ H)) (i ∷ H) not_it)
@@ -90,7 +90,7 @@ pub before-ended : (limit : ℕ) (i : Laid) (H : List Laid) → IsHistory limit 
 unfolding offline
 before-ended limit i H h e = before_all limit (i ∷ H) (waiting-ended limit i H h e)
 
--- WHERE CANDIDATES STAND
+-- THE ORDER OF CANDIDATES
 -- the depth falls and rises by one at most
 depth_rises : (i : Laid) (H : List Laid) → depth (i ∷ H) ≤ depth H ⊎ ((depth (i ∷ H) ≡ depth H + 1) × (is_flow_start i.lexeme.kind ≡ true))
 depth_rises i H = elim (cases_Bool (is_flow_start i.lexeme.kind)) [
@@ -133,7 +133,7 @@ shallow limit k (j ∷ M) d U (n ∷ N) c O q h a l b =
     let g : j.depth ≡ depth (M ++ d ∷ U) = depth_at limit [] j (M ++ d ∷ U) h in
     not_reached j (M ++ d ∷ U) k g a.0.not_entered (shallow limit k M d U N c O f h.2 a.1 l b)
 
--- candidates of greater depths stand further on
+-- candidates of greater depths are further on
 pub candidate_order : (limit : ℕ) (H : List Laid) (k n : ℕ) (c d : Laid) → IsHistory limit H → candidate H k ≡ Some c → candidate H n ≡ Some d → k < n → n ≤ depth H → c.number < d.number
 candidate_order limit H k n c d h s t l m =
     let a = candidate_split H k c s in

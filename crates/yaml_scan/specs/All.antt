@@ -27,11 +27,11 @@ pub record AreSettled (limit : ℕ) (setting : yaml_encoding_t) (input : List �
   pub tokens_are : tokens ≡ map (handed_out (decoded_input setting input).encoding) (settled_tokens limit (course_to limit setting input) steps)
   -- so they are a beginning of all tokens
   pub beginning : Begins tokens (answers_to limit setting input).tokens
-  -- memory is refused to the decoding of UTF-16, or behind the first step or in it
+  -- memory is refused to the decoding of UTF-16, or in the first step or after it
   pub in_utf8 : (decoded_input setting input).encoding ≡ YAML_UTF8_ENCODING → (course_to limit setting input).begun ≡ true
   pub no_end : list_any (λ t. is_last_type (type_of t.token_data)) tokens ≡ false
 
--- What reading an input to its end answers: all of it, or a growth was refused behind some of the steps.
+-- What reading an input to its end returns: all of it, or a growth was refused after some of the steps.
 abbrev pub ReadsAll : ℕ → yaml_encoding_t → List ℕ → List yaml_token_t → Option Fault → Type 0
 ReadsAll limit setting input tokens fault = AllOf (answers_to limit setting input) tokens fault ⊎ (AreSettled limit setting input tokens × (fault ≡ Some memory_fault))
 
@@ -43,6 +43,6 @@ EndNoMore tokens = (n : ℕ) → ends_among (take n tokens) ≤ starts_among (ta
 abbrev pub depth_of : ℕ → yaml_encoding_t → List ℕ → ℕ
 depth_of limit setting input = depth (course_to limit setting input).read
 
--- where the stream ended outside flow collections there are as many block ends as block starts
+-- if the stream ended outside flow collections there are as many block ends as block starts
 abbrev pub EndAll : ℕ → List yaml_token_t → Option Fault → Type 0
 EndAll depth tokens fault = fault ≡ None → depth ≡ 0 → ends_among tokens ≡ starts_among tokens

@@ -1,4 +1,4 @@
--- What holds of the tokens that are answered.
+-- What holds of the tokens that are returned.
 use Rattle.std.specs.Prelude.{◌≡◌, ℕ, ◌+◌, ◌≤◌, Bool, true, ◌&&◌, List, [], ◌∷◌, take, filter, length, nat_eq, nat_le, None}
 use Rattle.std.specs.List.{list_any}
 use Rattle.yaml_text.specs.declared.types.yaml_mark_t.{yaml_mark_t}
@@ -7,7 +7,7 @@ use Rattle.yaml_scan.specs.Laid.{depth}
 use Rattle.yaml_scan.specs.Cut.{KeepsOrder}
 use Rattle.yaml_scan.specs.Answers.{Input, course, answers}
 
--- from index n on none starts behind its end, or ends behind the start of the next
+-- from index n on none starts after its end, or ends after the start of the next
 abbrev pub StandInOrder : ℕ → List yaml_token_t → Type 0
 StandInOrder n [] = Unit {0}
 StandInOrder n (t ∷ ts) = (n ≤ t.start_mark.index) × (t.start_mark.index ≤ t.end_mark.index) × StandInOrder t.end_mark.index ts
@@ -25,7 +25,7 @@ starts_among ts = length (filter (λ t. is_start_type (type_of t.token_data)) ts
 abbrev pub AnswersEndFewer : Type 0
 AnswersEndFewer = (limit : ℕ) (input : Input) (n : ℕ) → KeepsOrder input.source → ends_among (take n (answers limit input).tokens) ≤ starts_among (take n (answers limit input).tokens)
 
--- where the stream ends at depth 0
+-- if the stream ends at depth 0
 abbrev pub AnswersEndAll : Type 0
 AnswersEndAll = (limit : ℕ) (input : Input) → KeepsOrder input.source → (answers limit input).fault ≡ None → depth (course limit input).read ≡ 0
     → ends_among (answers limit input).tokens ≡ starts_among (answers limit input).tokens
@@ -33,7 +33,7 @@ AnswersEndAll = (limit : ℕ) (input : Input) → KeepsOrder input.source → (a
 abbrev pub same_mark : yaml_mark_t → yaml_mark_t → Bool
 same_mark a b = nat_eq a.index b.index && (nat_eq a.line b.line && nat_eq a.column b.column)
 
--- a key with equal marks is one that the layout put in
+-- a key with equal marks is one that the layout inserted
 abbrev pub is_put_in : yaml_token_t → Bool
 is_put_in t = is_key_type (type_of t.token_data) && same_mark t.start_mark t.end_mark
 

@@ -1,4 +1,4 @@
--- What a decoded input is answered with: a list of tokens, and perhaps a fault.
+-- The answers to a decoded input: a list of tokens, and perhaps a fault.
 use Rattle.std.specs.Prelude.{ℕ, ◌+◌, Bool, true, false, List, [], map, nat_lt, Option, Some, None, option_map, if◌then◌else◌}
 use Rattle.yaml_text.specs.declared.types.yaml_encoding_t.{yaml_encoding_t}
 use Rattle.yaml_scan.specs.Token.{yaml_token_t}
@@ -10,13 +10,13 @@ use Rattle.yaml_scan.specs.Step.{Outcome, step}
 use Rattle.yaml_scan.specs.Step.Outcome.{Reads, Faults}
 use Rattle.yaml_scan.specs.Cut.{Cut, cut_from}
 
--- the text that the input spells, or its longest front that is text, and then the reader's fault behind it
+-- the text that the input spells, or its longest front that is text, and then the reader's fault after it
 pub record Input : Type 0 where
   pub encoding : yaml_encoding_t
   pub source : Source
   pub refusal : Option Fault
 
--- eight characters on from a place the text is over
+-- fewer than eight characters follow a place
 abbrev pub is_near : ℕ → ℕ → Bool
 is_near size p = nat_lt size (p + 8)
 
@@ -25,7 +25,7 @@ abbrev pub place_of : Outcome → ℕ
 place_of (Reads x) = x.place
 place_of (Faults o) = o.place
 
--- near the end of a refused text the reader's fault comes in the place of a step
+-- near the end of a refused text the reader's fault comes instead of a step
 abbrev pub unless_near : ℕ → Option Fault → Outcome → Outcome
 unless_near size None o = o
 unless_near size (Some f) o = if is_near size (place_of o) then Faults (record { fault = f; place = size }) else o
@@ -38,7 +38,7 @@ abbrev pub starts_near : ℕ → Option Fault → Bool
 starts_near size None = false
 starts_near size (Some f) = is_near size 0
 
--- the steps in front of the fault: STREAM-START, if that is one, and lexemes; and the fault
+-- the steps before the fault: STREAM-START, if that is one, and lexemes; and the fault
 pub record Course : Type 0 where
   pub begun : Bool
   pub read : List Laid
@@ -51,7 +51,7 @@ course_from false refusal c = record { begun = true; read = c.read; fault = opti
 unfoldable pub course : ℕ → Input → Course
 course limit input = course_from (starts_near input.source.size input.refusal) input.refusal (cut_from (next input limit) (input.source.size + 1) limit [])
 
--- the tokens of these steps that no further step revises; behind the stream end these are all
+-- the tokens of these steps that no further step revises; after the stream end these are all
 abbrev pub tokens_of : ℕ → Course → List Token
 tokens_of limit c = if c.begun then before limit c.read else []
 

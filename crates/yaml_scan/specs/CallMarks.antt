@@ -14,7 +14,7 @@ use Rattle.yaml_scan.specs.Token.{yaml_token_t}
 abbrev pub text_read : Parser → List ℕ
 text_read p = text_of_input p.setting p.input
 
--- what a call answers
+-- the answer to a call
 abbrev pub IsCountedIn : Parser → Answer → Type 0
 IsCountedIn p a = AnswerIsCounted (text_read p) a
 

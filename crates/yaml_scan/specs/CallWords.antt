@@ -1,4 +1,4 @@
--- What a list of calls is answered with can be put in words.
+-- The answers to a list of calls can be put in words.
 use Rattle.std.specs.Prelude.{List, [], ◌∷◌}
 use Rattle.yaml_scan.specs.Words.{HasWords, HasLine}
 use Rattle.yaml_scan.specs.Calls.{Seen}

@@ -49,7 +49,7 @@ call_of code.SKIP = SKIP
 abbrev pub Sees : Call → Parser → Seen → Parser → Type 0
 Sees call p a q = ((a ≡ seen (answered p call)) × (q ≡ behind p call)) ⊎ ((a ≡ FAULT memory_fault) × WantsMemory p q × (call ≢ SKIP))
 
--- the parser behind a list of calls
+-- the parser after a list of calls
 abbrev pub behind_all : Parser → List Call → Parser
 behind_all p calls = record { input = p.input; setting = p.setting; limit = p.limit; session = after_all p.limit (course_read p) calls p.session }
 
@@ -57,32 +57,33 @@ behind_all p calls = record { input = p.input; setting = p.setting; limit = p.li
 abbrev pub answered_all : Parser → List Call → List Answer
 answered_all p calls = session (input_read p).encoding p.limit (course_read p) calls p.session
 
--- what a call answers where the session is over
+-- the answer to a call if the session is over
 abbrev pub idle : Call → Seen
 idle SCAN = TOKEN empty
 idle PEEK = PEEKED (type_of empty.token_data) empty.start_mark empty.end_mark
 idle SKIP = NOTHING
 
--- a growth was refused in the call behind the first n: these are answered as the session says, that call with the one fault, and the others as where it is over
+-- a growth was refused in the call after the first n: the answers to these are the session's, that to this call is the one
+-- fault, and the others are as if the session is over
 pub record RunsOut (p : Parser) (calls : List Call) (all : List Seen) (q : Parser) : Type 0 where
   pub n : ℕ
   pub within : n < length calls
-  -- a skip asks for no memory
+  -- a skip needs no memory
   pub asks : slice_get calls n ≢ Some SKIP
   pub wants : WantsMemory (behind_all p (take n calls)) q
   pub answers : all ≡ map seen (answered_all p (take n calls)) ++ (FAULT memory_fault ∷ map idle (drop (n + 1) calls))
 
--- calls are answered as the session says, or a growth was refused in one of them
+-- the answers to calls are the session's, or a growth was refused in one of them
 abbrev pub Runs : Parser → List Call → List Seen → Parser → Type 0
 Runs p calls answers q = ((answers ≡ map seen (answered_all p calls)) × (q ≡ behind_all p calls)) ⊎ RunsOut p calls answers q
 
--- their answers are put behind others
+-- their answers are appended to others
 pub record PutsAnswers (p : Parser) (calls : List Call) (old new : List yaml_answer_t) (q : Parser) : Type 0 where
   pub more : List yaml_answer_t
   pub is : new ≡ old ++ more
   pub runs : Runs p calls (map seen_of more) q
 
--- their answers are what the session says, put behind others
+-- their answers are the session's, appended to others
 pub record PutsSession (p : Parser) (calls : List Call) (old new : List yaml_answer_t) (q : Parser) : Type 0 where
   pub more : List yaml_answer_t
   pub is : new ≡ old ++ more

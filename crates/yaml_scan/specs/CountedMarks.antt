@@ -1,5 +1,5 @@
 -- Marks are counted from the front of the text (YAML 1.1, section 5.4): each mark that is handed out is that of a place of
--- the text, so none stands between CR and LF. The one exception is the mark of the end of a stream.
+-- the text, so none is between CR and LF. The one exception is the mark of the end of a stream.
 use Rattle.std.specs.Prelude.{◌≡◌, ◌⊎◌, ℕ, List, [], ◌∷◌, length, Some, IfSome}
 use Rattle.yaml_text.specs.Decode.{front}
 use Rattle.yaml_text.specs.Mark.{IsMarkAt, mark_at}
@@ -23,7 +23,7 @@ IsCounted text mark = (p : ℕ) × IsMarkAt text mark p
 abbrev pub IsStreamEnd : List ℕ → yaml_mark_t → Type 0
 IsStreamEnd text mark = mark ≡ end_of (mark_at text (length text))
 
--- a mark of a token of this type: only a stream end has the mark of the end of a stream, and block ends that stand there
+-- a mark of a token of this type: only a stream end has the mark of the end of a stream, and block ends that are there
 abbrev pub HasMark : List ℕ → yaml_token_type_t → yaml_mark_t → Type 0
 HasMark text YAML_STREAM_END_TOKEN mark = IsStreamEnd text mark
 HasMark text YAML_BLOCK_END_TOKEN mark = IsCounted text mark ⊎ IsStreamEnd text mark
@@ -37,7 +37,7 @@ abbrev pub TokensAreCounted : List ℕ → List yaml_token_t → Type 0
 TokensAreCounted text [] = Unit {0}
 TokensAreCounted text (t ∷ ts) = TokenIsCounted text t × TokensAreCounted text ts
 
--- a problem stands at the end of a stream if a `:` was still to come there
+-- a problem is at the end of a stream if a `:` was still missing there
 abbrev pub IsLostAtEnd : List ℕ → Fault → Type 0
 IsLostAtEnd text f = (f.problem ≡ Some no_colon) × IsStreamEnd text f.problem_mark
 
@@ -67,7 +67,7 @@ abbrev pub AllAreCounted : List ℕ → List Answer → Type 0
 AllAreCounted text [] = Unit {0}
 AllAreCounted text (a ∷ more) = AnswerIsCounted text a × AllAreCounted text more
 
--- whatever the calls, and wherever the session stands
+-- whatever the calls, and in every state of the session
 abbrev pub SessionsAreCounted : Type 0
 SessionsAreCounted = (limit : ℕ) (setting : yaml_encoding_t) (input : List ℕ) (calls : List Call) (s : Session)
     → AllAreCounted (text_of_input setting input) (session (decoded_input setting input).encoding limit (course limit (decoded_input setting input)) calls s)

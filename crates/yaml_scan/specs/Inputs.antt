@@ -10,11 +10,11 @@ use Rattle.yaml_scan.specs.Cut.{KeepsOrder}
 use Rattle.yaml_scan.specs.Answers.{Input, Answers, course, answers}
 use Rattle.yaml_scan.specs.AnswerLaws.{StandInOrder, ends_among, starts_among, AreFollowed}
 
--- the front of an input, decoded, and what stands behind it
+-- the front of an input, decoded, and the fault of what follows it
 unfoldable pub decoded_input : yaml_encoding_t → List ℕ → Input
 decoded_input setting input = record { encoding = (front setting input).encoding; source = source_of (front setting input).chars; refusal = refusal setting input }
 
--- what is answered to an input
+-- the answers to an input
 unfoldable pub answers_to : ℕ → yaml_encoding_t → List ℕ → Answers
 answers_to limit setting input = answers limit (decoded_input setting input)
 
@@ -43,7 +43,8 @@ pub record GoesOn (s : yaml_encoding_t) (a : List ℕ) (t : yaml_encoding_t) (b 
   pub encoding : (front t b).encoding ≡ (front s a).encoding
   pub agrees : Begins (front s a).chars (front t b).chars
 
--- what is handed out of a is handed out of each such b, and a fault that is not the reader's is its fault, behind the same tokens
+-- what is handed out of a is handed out of each such b, and a fault that is not the reader's is its fault, after the same
+-- tokens
 abbrev pub IsLocal : ℕ → yaml_encoding_t → List ℕ → Type 0
 IsLocal limit s a = (t : yaml_encoding_t) (b : List ℕ) (fault : Fault) → GoesOn s a t b fault
     → Begins (answers_to limit s a).tokens (answers_to limit t b).tokens

@@ -1,4 +1,4 @@
--- The kinds of lexemes, and what the layout asks of them.
+-- The kinds of lexemes, and what the layout needs to know of them.
 use Rattle.std.specs.Prelude.{Bool, true, false}
 pub use Rattle.yaml_lexeme.specs.declared.kind.yaml_lexeme_kind_t.{yaml_lexeme_kind_t as Kind}
 use Rattle.yaml_lexeme.specs.declared.kind.yaml_lexeme_kind_t.TheVariants.{STREAM_END, DIRECTIVE, DOCUMENT_START, DOCUMENT_END, FLOW_SEQUENCE_START, FLOW_MAPPING_START, FLOW_SEQUENCE_END, FLOW_MAPPING_END, FLOW_ENTRY, BLOCK_ENTRY, KEY, VALUE, ALIAS, ANCHOR, TAG, LITERAL, FOLDED, SINGLE_QUOTED, DOUBLE_QUOTED, PLAIN}
@@ -38,7 +38,7 @@ abbrev pub is_plain : Kind → Bool
 is_plain PLAIN = true
 is_plain _ = false
 
--- what may stand in front of a `:` as a key: flow starts, anchors, aliases, tags, quoted and plain scalars
+-- what may come before a `:` as a key: flow starts, anchors, aliases, tags, quoted and plain scalars
 abbrev pub is_candidate_kind : Kind → Bool
 is_candidate_kind FLOW_SEQUENCE_START = true
 is_candidate_kind FLOW_MAPPING_START = true
@@ -50,7 +50,7 @@ is_candidate_kind DOUBLE_QUOTED = true
 is_candidate_kind PLAIN = true
 is_candidate_kind _ = false
 
--- a key is allowed behind it at any depth: flow starts, `,`, `-`, block scalars
+-- a key is allowed after it at any depth: flow starts, `,`, `-`, block scalars
 abbrev pub invites_key : Kind → Bool
 invites_key FLOW_SEQUENCE_START = true
 invites_key FLOW_MAPPING_START = true

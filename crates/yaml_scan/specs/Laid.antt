@@ -1,4 +1,5 @@
--- A lexeme in its setting: what the lexemes before it make of it. Lists of lexemes are newest first, so the lexemes before one are its tail.
+-- A lexeme in its setting: what the lexemes before it make of it. Lists of lexemes are newest first, so the lexemes before
+-- one are its tail.
 use Rattle.std.specs.Prelude.{ℕ, ◌+◌, ◌-◌, Bool, true, false, not, ◌&&◌, ◌||◌, List, [], ◌∷◌, map, filter, length, nat_eq, nat_lt, nat_le, Option, Some, None, find, max, if◌then◌else◌}
 use Rattle.yaml_text.specs.declared.types.yaml_mark_t.{yaml_mark_t}
 use Rattle.yaml_scan.specs.Kind.{Kind, is_flow_start, is_flow_end, is_key, is_value, is_plain, is_candidate_kind, invites_key}
@@ -7,7 +8,7 @@ use Rattle.yaml_scan.specs.Lexeme.{Lexeme}
 
 pub record Laid : Type 0 where
   pub lexeme : Lexeme
-  -- how many lexemes stand before it
+  -- how many lexemes are before it
   pub number : ℕ
   -- the depth at which it is read
   pub depth : ℕ
@@ -50,8 +51,8 @@ greatest (n ∷ ns) = max n (greatest ns)
 unfoldable pub depth : List Laid → ℕ
 depth H = greatest (map unclosed (ends H))
 
--- WHERE A KEY IS ALLOWED
--- behind a lexeme of kind k, read at depth d; none: it completed nothing
+-- WHETHER A KEY IS ALLOWED
+-- after a lexeme of kind k, read at depth d; none: it completed nothing
 abbrev pub allows : Kind → ℕ → Bool → Bool → Bool
 allows k d none passed_break = invites_key k || ((nat_eq d 0 && (is_key k || (is_value k && none))) || (is_plain k && passed_break))
 
@@ -81,7 +82,7 @@ enters k i = is_flow_start i.lexeme.kind && nat_eq (i.depth + 1) k
 abbrev pub settles : Laid → Bool
 settles i = not (is_candidate i && not i.key_allowed)
 
--- the lexemes behind the last flow start that opened depth k, and all of them at depth 0
+-- the lexemes after the last flow start that opened depth k, and all of them at depth 0
 abbrev pub since : ℕ → List Laid → List Laid
 since k [] = []
 since k (i ∷ H) = if enters k i then [] else (i ∷ since k H)
@@ -90,7 +91,8 @@ abbrev pub only_candidate : Option Laid → Option Laid
 only_candidate None = None
 only_candidate (Some i) = if is_candidate i then Some i else None
 
--- the candidate of depth k: of the lexemes read at it since it was opened, the last one but for those that leave the old candidate, if it is of a candidate kind
+-- the candidate of depth k: of the lexemes read at it since it was opened, the last one that does not leave the old
+-- candidate, if it is of a candidate kind
 unfoldable pub candidate : List Laid → ℕ → Option Laid
 candidate H k = only_candidate (find (λ i. nat_eq i.depth k && settles i) (since k H))
 
@@ -102,6 +104,6 @@ abbrev pub only_live : ℕ → yaml_mark_t → Option Laid → Option Laid
 only_live limit m None = None
 only_live limit m (Some i) = if live limit i m then Some i else None
 
--- the candidate that a lexeme of kind k completes, which starts at m behind H: a `:` that of its depth, while it is live
+-- the candidate that a lexeme of kind k completes, which starts at m after H: a `:` that of its depth, while it is live
 unfoldable pub completed_by : ℕ → List Laid → Kind → yaml_mark_t → Option Laid
 completed_by limit H k m = if is_value k then only_live limit m (candidate H (depth H)) else None

@@ -14,21 +14,21 @@ use Rattle.yaml_scan.specs.Step.{step}
 use Rattle.yaml_scan.specs.Cut.{cut, IsRun, EndsWith, KeepsOrder}
 
 -- ONE LEXEME MORE
--- the depth behind a lexeme of kind k
+-- the depth after a lexeme of kind k
 abbrev pub nested : Kind → ℕ → ℕ
 nested k d = if is_flow_start k then d + 1 else if is_flow_end k then d - 1 else d
 
 abbrev pub DepthGoesOn : Type 0
 DepthGoesOn = (i : Laid) (H : List Laid) → depth (i ∷ H) ≡ nested i.lexeme.kind (depth H)
 
--- the candidate of depth k behind i, from the one before it
+-- the candidate of depth k after i, from the one before it
 abbrev pub candidate_behind : Laid → ℕ → Option Laid → Option Laid
 candidate_behind i k old = if enters k i then None else if not (nat_eq i.depth k) then old else if not (is_candidate i) then None else if i.key_allowed then Some i else old
 
 abbrev pub CandidatesGoOn : Type 0
 CandidatesGoOn = (i : Laid) (H : List Laid) (k : ℕ) → candidate (i ∷ H) k ≡ candidate_behind i k (candidate H k)
 
--- no depth above the present one has a candidate, and a deeper one stands further on
+-- no depth above the present one has a candidate, and a deeper one is further on
 abbrev pub CandidatesAreNested : Type 0
 CandidatesAreNested = (limit : ℕ) (H : List Laid) → IsHistory limit H
     → ((k : ℕ) → depth H + 1 ≤ k → candidate H k ≡ None)
@@ -43,7 +43,7 @@ abbrev pub new_column : Laid → Option Laid → List ℕ
 new_column i None = if nat_eq i.depth 0 && (is_above (column i) i.level && is_opener i) then column i ∷ [] else []
 new_column i (Some c) = if nat_eq c.depth 0 && is_above (column c) c.level then column c ∷ [] else []
 
--- columns are pushed and popped: in front of those that i keeps stands the one that it opens
+-- columns are pushed and popped: before those that i keeps is the one that it opens
 abbrev pub ColumnsGoOn : Type 0
 ColumnsGoOn = (limit : ℕ) (i : Laid) (H : List Laid) → IsHistory limit (i ∷ H)
     → open_columns (i ∷ H) ≡ new_column i (completed_by limit H i.lexeme.kind i.lexeme.start) ++ kept_columns H i.lexeme.kind i.lexeme.start
@@ -59,13 +59,13 @@ first_of (c ∷ cs) = Some c
 abbrev pub LevelIsFirst : Type 0
 LevelIsFirst = (limit : ℕ) (H : List Laid) (k : Kind) (m : yaml_mark_t) → IsHistory limit H → level H k m ≡ first_of (kept_columns H k m)
 
--- the level at a candidate of depth 0 is the level where it is completed
+-- the level at a candidate of depth 0 is the level at which it is completed
 abbrev pub LevelStays : Type 0
 LevelStays = (limit : ℕ) (i : Laid) (H : List Laid) (c : Laid) → IsHistory limit (i ∷ H) → completed_by limit H i.lexeme.kind i.lexeme.start ≡ Some c → c.depth ≡ 0
     → c.level ≡ level H i.lexeme.kind i.lexeme.start
 
 -- THE OFFLINE LIST
--- the tokens that go in front of a completed candidate's
+-- the tokens that are inserted before a completed candidate's
 abbrev pub key_tokens : Laid → List Token
 key_tokens c = (if nat_eq c.depth 0 && is_above (column c) c.level then BlockMappingStart c.lexeme.start ∷ [] else []) ++ (InsertedKey c.lexeme.start ∷ [])
 
@@ -74,7 +74,7 @@ abbrev pub with_key : List Laid → Option Laid → List Token
 with_key H None = offline H
 with_key H (Some c) = put_in (length (up_to H (Some c))) (key_tokens c) (offline H)
 
--- one insertion at most, in front of the candidate's token, and then the lexeme's group
+-- one insertion at most, before the candidate's token, and then the lexeme's group
 abbrev pub OfflineGoesOn : Type 0
 OfflineGoesOn = (limit : ℕ) (i : Laid) (H : List Laid) → IsHistory limit (i ∷ H)
     → offline (i ∷ H) ≡ with_key H (completed_by limit H i.lexeme.kind i.lexeme.start) ++ group (i ∷ H) i
@@ -86,14 +86,15 @@ CandidateStandsThere = (limit : ℕ) (H : List Laid) (k : ℕ) (c : Laid) → Is
 abbrev pub NeverRevised : Type 0
 NeverRevised = (limit : ℕ) (later H : List Laid) → IsHistory limit (later ++ H) → Begins (before limit H) (before limit (later ++ H)) × Begins (before limit H) (offline (later ++ H))
 
--- behind the first unsettled token stand tokens of limit lexemes at most, and of one more right after the step that was made for it
+-- from the first unsettled token on, the tokens are of at most limit lexemes, and of one more right after the step that was
+-- made for it
 abbrev pub FewWait : Type 0
 FewWait = (limit : ℕ) (H : List Laid) (t : ℕ) → IsHistory limit H → length (before limit H) ≤ t → queued H t H ≤ limit
 
 abbrev pub FewWaitOneStepOn : Type 0
 FewWaitOneStepOn = (limit : ℕ) (i : Laid) (H : List Laid) (t : ℕ) → IsHistory limit (i ∷ H) → length (before limit H) ≤ t → queued (i ∷ H) t (i ∷ H) ≤ limit + 1
 
--- behind the stream end no candidate is live, so all is handed out
+-- after the stream end no candidate is live, so all is handed out
 abbrev pub AllIsHandedOut : Type 0
 AllIsHandedOut = (limit : ℕ) (H : List Laid) → IsHistory limit H → ended H ≡ true → (waiting limit H ≡ None) × (before limit H ≡ offline H)
 
@@ -103,7 +104,7 @@ is_of_lexeme StreamStart = true
 is_of_lexeme (OfLexeme x) = true
 is_of_lexeme _ = false
 
--- without what the layout puts in, the tokens are the start of the stream and those of the lexemes, oldest first
+-- without what the layout inserts, the tokens are the start of the stream and those of the lexemes, oldest first
 abbrev pub LexemesComeInOrder : Type 0
 LexemesComeInOrder = (H : List Laid) → filter is_of_lexeme (offline H) ≡ StreamStart ∷ map (λ i. OfLexeme i.lexeme) (reverse H)
 
@@ -130,7 +131,7 @@ abbrev pub AsManyEnds : Type 0
 AsManyEnds = (limit : ℕ) (H : List Laid) → IsHistory limit H → ended H ≡ true → depth H ≡ 0 → ends_in (offline H) ≡ starts_in (offline H)
 
 -- THE STEPS OF A TEXT
--- each lexeme is the outcome of the step behind those before it, and none can be added
+-- each lexeme is the outcome of the step after those before it, and none can be added
 abbrev pub CutIsLongest : Type 0
 CutIsLongest = (S : Source) (limit : ℕ) → KeepsOrder S → IsRun (step S limit) limit (cut S limit).read × EndsWith (step S limit) (cut S limit).read (cut S limit).fault
 
@@ -139,7 +140,7 @@ abbrev pub StepsBeginCut : Type 0
 StepsBeginCut = (S : Source) (limit : ℕ) (H : List Laid)
     → KeepsOrder S → IsRun (step S limit) limit H → (later : List Laid) × ((cut S limit).read ≡ later ++ H)
 
--- and it is the only one to which none can be added, with the only offence behind it
+-- and it is the only one to which none can be added, with the only offence after it
 abbrev pub CutIsOnly : Type 0
 CutIsOnly = (S : Source) (limit : ℕ) (H : List Laid) (o : Option Offence)
     → KeepsOrder S → IsRun (step S limit) limit H → EndsWith (step S limit) H o

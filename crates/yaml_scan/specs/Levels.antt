@@ -33,7 +33,7 @@ is_completed H i = list_any (λ j. names i.number j.completed) H
 unfoldable pub opens : List Laid → Laid → Bool
 opens H i = nat_eq i.depth 0 && (is_above (column i) i.level && (is_opener i || is_completed H i))
 
--- every lexeme of H behind i keeps its column
+-- every lexeme of H after i keeps its column
 unfoldable pub still_open : List Laid → Laid → Bool
 still_open H i = list_all (λ j. nat_le j.number i.number || keeps j.depth j.lexeme.kind j.lexeme.start (column i)) H
 
@@ -41,7 +41,7 @@ still_open H i = list_all (λ j. nat_le j.number i.number || keeps j.depth j.lex
 unfoldable pub open_columns : List Laid → List ℕ
 open_columns H = map column (filter (λ i. opens H i && still_open H i) H)
 
--- those of them that a lexeme of kind k keeps, which starts at m behind H
+-- those of them that a lexeme of kind k keeps, which starts at m after H
 unfoldable pub kept_columns : List Laid → Kind → yaml_mark_t → List ℕ
 kept_columns H k m = filter (keeps (depth H) k m) (open_columns H)
 
@@ -57,12 +57,12 @@ abbrev pub AllLess : ℕ → List ℕ → Type 0
 AllLess c [] = Unit {0}
 AllLess c (l ∷ ls) = (l < c) × AllLess c ls
 
--- each column is greater than those behind it
+-- each column is greater than those that follow
 abbrev pub IsFalling : List ℕ → Type 0
 IsFalling [] = Unit {0}
 IsFalling (l ∷ ls) = AllLess l ls × IsFalling ls
 
--- the greatest level at a lexeme of kind k that starts at m behind H, or none
+-- the greatest level at a lexeme of kind k that starts at m after H, or none
 unfoldable pub level : List Laid → Kind → yaml_mark_t → Option ℕ
 level H k m = greatest_level (kept_columns H k m)
 
@@ -70,7 +70,7 @@ level H k m = greatest_level (kept_columns H k m)
 abbrev pub is_required : Laid → Bool
 is_required i = nat_eq i.depth 0 && names (column i) i.level
 
--- the lexeme x in its setting behind H
+-- the lexeme x in its setting after H
 unfoldable pub laid : ℕ → List Laid → Lexeme → Laid
 laid limit H x = record {
   lexeme = x;

@@ -7,13 +7,13 @@ use Rattle.yaml_scan.specs.Token.{unnamed_yaml_token_t_data}
 pub record Lexeme : Type 0 where
   pub kind : Kind
   pub token_data : unnamed_yaml_token_t_data
-  -- the mark of the end of the gap in front of it
+  -- the mark of the end of the gap before it
   pub front : yaml_mark_t
   pub start : yaml_mark_t
   pub end : yaml_mark_t
   -- how far was read for it
   pub reach : yaml_mark_t
-  -- and how many characters stand before there
+  -- and how many characters are before there
   pub place : ℕ
-  -- of a plain scalar, whether a break stands in its trailing separator
+  -- of a plain scalar, whether a break is in its trailing separator
   pub passed_break : Bool

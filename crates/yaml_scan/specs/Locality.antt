@@ -11,12 +11,12 @@ use Rattle.yaml_scan.specs.Step.{step, place_behind}
 use Rattle.yaml_scan.specs.Cut.{KeepsOrder}
 use Rattle.yaml_scan.specs.Answers.{Input, place_of, course, tokens_of}
 
--- where reading ended, or was refused
+-- the place where reading ended, or was refused
 abbrev pub place_read : Result Reading Offence → ℕ
 place_read (Ok r) = r.place
 place_read (Err o) = o.place
 
--- what is read up to place r is the same in both texts, as where they agree on all characters below r + 8, the end counted as one
+-- what is read up to place r is the same in both texts, as if they agree on all characters below r + 8, the end counted as one
 pub record ReadsSame (r : ℕ) (S T : Source) : Type 0 where
   pub marks : (p : ℕ) → p ≤ r → T.mark p ≡ S.mark p
   pub gaps : (flow allowed : Bool) (p : ℕ) → S.gap flow allowed p ≤ r → T.gap flow allowed p ≡ S.gap flow allowed p
@@ -39,12 +39,12 @@ abbrev pub TokensBeforeRefusal : Type 0
 TokensBeforeRefusal = (limit : ℕ) (a b : Input) (refusal : Fault) → KeepsOrder a.source → KeepsOrder b.source → AgreesWith a b refusal
     → Begins (tokens_of limit (course limit a)) (tokens_of limit (course limit b))
 
--- and a fault in its place is the fault of each, behind the same lexemes
+-- and a fault instead of it is the fault of each, after the same lexemes
 abbrev pub FaultBeforeRefusal : Type 0
 FaultBeforeRefusal = (limit : ℕ) (a b : Input) (refusal f : Fault) → KeepsOrder a.source → KeepsOrder b.source → AgreesWith a b refusal → (course limit a).fault ≡ Some f
     → (f ≡ refusal) ⊎ (((course limit b).fault ≡ Some f) × ((course limit b).read ≡ (course limit a).read) × (tokens_of limit (course limit b) ≡ tokens_of limit (course limit a)))
 
--- the characters below place m are the same, the end counted as one
+-- the characters below place m are the same, with the end counted as one
 abbrev pub SameBelow : ℕ → List ℕ → List ℕ → Type 0
 SameBelow m a b = (i : ℕ) → i < m → slice_get a i ≡ slice_get b i
 
@@ -52,6 +52,6 @@ SameBelow m a b = (i : ℕ) → i < m → slice_get a i ≡ slice_get b i
 abbrev pub TextsAreLocal : Type 0
 TextsAreLocal = (r : ℕ) (a b : List ℕ) → SameBelow (r + 8) a b → ReadsSame r (source_of a) (source_of b)
 
--- Reading a decoded text keeps to its order.
+-- What is read of a decoded text is in its order.
 abbrev pub TextsKeepOrder : Type 0
 TextsKeepOrder = (cs : List ℕ) → AreChars cs → KeepsOrder (source_of cs)

@@ -1,11 +1,11 @@
--- The reader's fault in the place of a step.
+-- The reader's fault instead of a step.
 use Rattle.std.specs.Prelude.{ℕ, nat_le, not, List, length, filter, Option, None, Some, if◌then◌else◌}
 use Rattle.yaml_text.specs.declared.types.yaml_error_type_t.{yaml_error_type_t}
 use Rattle.yaml_text.specs.declared.types.yaml_error_type_t.TheVariants.{YAML_SCANNER_ERROR}
 use Rattle.yaml_text.specs.Fault.{Fault}
 use Rattle.yaml_text.specs.Utf8.{continues}
 
--- where steps are near from an index on
+-- the reader's fault, if steps are near from index near on
 abbrev pub near_fault : ℕ → ℕ → Option Fault → Option Fault
 near_fault near index None = None
 near_fault near index (Some f) = if nat_le near index then Some f else None

@@ -11,18 +11,18 @@ use Rattle.yaml_scan.specs.Levels.{stays}
 use Rattle.yaml_scan.specs.Offline.{Token, handed_out}
 use Rattle.yaml_scan.specs.Laws.{is_of_lexeme}
 
--- a step is over behind the token of its lexeme
+-- the step after a token: the next one, if the token is its lexeme's
 abbrev pub step_behind : Token → ℕ → ℕ
 step_behind x n = if is_of_lexeme x then n + 1 else n
 
--- these tokens are queued: the first belongs to step n, and what is put behind them to step m
+-- these tokens are queued: the first belongs to step n, and what is appended to them to step m
 abbrev pub IsQueue : yaml_encoding_t → ℕ → ℕ → List queued_t → List Token → Type 0
 IsQueue e n m [] [] = n ≡ m
 IsQueue e n m (y ∷ ys) (x ∷ xs) = (token_of y.token ≡ handed_out e x) × (y.step ≡ n) × IsQueue e (step_behind x n) m ys xs
 IsQueue e n m [] (x ∷ xs) = ⊥
 IsQueue e n m (y ∷ ys) [] = ⊥
 
--- more tokens of step m, behind which step k is next, are put behind
+-- more tokens of step m are appended, and step k is next
 abbrev pub Appends : ℕ → ℕ → List queued_t → List queued_t → List Token → Type 0
 Appends m k old new more = (e : yaml_encoding_t) (n : ℕ) (q : List Token) → IsQueue e n m old q → IsQueue e n k new (q ++ more)
 

@@ -1,4 +1,5 @@
--- The offline list: the tokens of a finished list of lexemes, with the keys and the starts and ends of blocks that the layout puts in.
+-- The offline list: the tokens of a finished list of lexemes, with the keys and the starts and ends of blocks that the layout
+-- inserts.
 use Rattle.std.specs.Prelude.{ℕ, ◌+◌, Bool, ◌&&◌, length, List, [], ◌∷◌, ◌++◌, map, filter, nat_lt, Option, Some, None, option_map, if◌then◌else◌}
 use Rattle.yaml_text.specs.declared.types.yaml_mark_t.{yaml_mark_t}
 use Rattle.yaml_text.specs.declared.types.yaml_encoding_t.{yaml_encoding_t}
@@ -27,7 +28,7 @@ handed_out e (BlockMappingStart m) = at_mark told.BLOCK_MAPPING_START m
 handed_out e (InsertedKey m) = at_mark told.KEY m
 handed_out e (OfLexeme x) = record { token_data = x.token_data; start_mark = x.start; end_mark = x.end }
 
--- the mark of a block end: the lexeme's start, but where the stream ends the end of the gap for columns above it
+-- the mark of a block end: the lexeme's start; but if the stream ends, for columns above the end of the gap, that end
 abbrev pub end_at : Kind → yaml_mark_t → yaml_mark_t → ℕ → yaml_mark_t
 end_at k front start c = if is_stream_end k && nat_lt front.column c then front else start
 
@@ -44,7 +45,7 @@ start_token k m = if is_block_entry k then BlockSequenceStart m else BlockMappin
 abbrev pub block_start : Laid → Token
 block_start i = start_token i.lexeme.kind i.lexeme.start
 
--- what is put in front of the token of i: a block start where it opens its column, and a key where a `:` of H completes it
+-- what is inserted before the token of i: a block start if it opens its column, and a key if a `:` of H completes it
 unfoldable pub inserted : List Laid → Laid → List Token
 inserted H i = (if opens H i then block_start i ∷ [] else []) ++ (if is_completed H i then InsertedKey i.lexeme.start ∷ [] else [])
 
@@ -52,7 +53,7 @@ inserted H i = (if opens H i then block_start i ∷ [] else []) ++ (if is_comple
 unfoldable pub group : List Laid → Laid → List Token
 group H i = block_ends i ++ (inserted H i ++ (OfLexeme i.lexeme ∷ []))
 
--- the groups of some of H, the earliest ones, behind the start of the stream
+-- the groups of some of H, the earliest ones, after the start of the stream
 unfoldable pub groups : List Laid → List Laid → List Token
 groups H [] = StreamStart ∷ []
 groups H (i ∷ early) = groups H early ++ group H i
@@ -73,7 +74,7 @@ abbrev pub last_of : List Laid → Option Laid
 last_of [] = None
 last_of (i ∷ H) = Some (or_else (last_of H) i)
 
--- the earliest candidate of H, of any depth, that is live where H was read to
+-- the earliest candidate of H, of any depth, that is live at the mark up to which H was read
 unfoldable pub waiting : ℕ → List Laid → Option Laid
 waiting limit H = last_of (filter (λ i. is_current H i && live limit i (reach H)) H)
 
@@ -86,7 +87,8 @@ up_to H (Some i) = groups H (filter (λ j. nat_lt j.number i.number) H) ++ block
 unfoldable pub before : ℕ → List Laid → List Token
 before limit H = up_to H (waiting limit H)
 
--- how many of the earliest steps, STREAM-START and some lexemes of H, have a token of their group at place t of the offline list or behind it
+-- how many of the earliest steps, STREAM-START and some lexemes of H, have a token of their group at place t of the offline
+-- list or after it
 unfoldable pub queued : List Laid → ℕ → List Laid → ℕ
 queued H t [] = if nat_lt t (length (groups H [])) then 1 else 0
 queued H t (i ∷ early) = (if nat_lt t (length (groups H (i ∷ early))) then 1 else 0) + queued H t early

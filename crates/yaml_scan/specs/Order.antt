@@ -6,13 +6,13 @@ use Rattle.yaml_scan.specs.Lexeme.{Lexeme}
 use Rattle.yaml_scan.specs.Laid.{Laid, reach}
 use Rattle.yaml_scan.specs.Levels.{laid}
 
--- b does not stand before a
+-- b is not before a
 pub record IsNotBefore (a b : yaml_mark_t) : Type 0 where
   pub index : a.index ≤ b.index
   pub line : a.line ≤ b.line
   pub column : a.line ≡ b.line → a.column ≤ b.column
 
--- x follows what was read so far: its marks are in order, and it takes a byte, and a column where it stays on its line
+-- x follows what was read so far: its marks are in order, and it takes a byte, and a column if it stays on its line
 pub record Follows (so_far : yaml_mark_t) (x : Lexeme) : Type 0 where
   pub front : IsNotBefore so_far x.front
   pub start : IsNotBefore x.front x.start
@@ -28,7 +28,7 @@ abbrev pub ended : List Laid → Bool
 ended [] = false
 ended (i ∷ H) = is_stream_end i.lexeme.kind
 
--- each lexeme is laid by those before it, they follow one another, and none stands behind a stream end
+-- each lexeme is laid by those before it, they follow one another, and none comes after a stream end
 abbrev pub IsHistory : ℕ → List Laid → Type 0
 IsHistory limit [] = Unit {0}
 IsHistory limit (i ∷ H) = (i ≡ laid limit H i.lexeme) × Follows (reach H) i.lexeme × IsHistory limit H × (ended H ≡ false)

@@ -24,22 +24,23 @@ pub record Parser : Type 0 where
   pub limit : ℕ
   pub session : Session
 
--- the input of a parser, and what it comes to
+-- the input of a parser, and its course
 abbrev pub input_read : Parser → Input
 input_read p = decoded_input p.setting p.input
 
 unfoldable pub course_read : Parser → Course
 course_read p = course p.limit (input_read p)
 
--- the parser behind a call
+-- the parser after a call
 abbrev pub behind : Parser → Call → Parser
 behind p call = record { input = p.input; setting = p.setting; limit = p.limit; session = after p.limit (course_read p) call p.session }
 
--- what a call answers
+-- the answer to a call
 abbrev pub answered : Parser → Call → Answer
 answered p call = answer (input_read p).encoding p.limit (course_read p) call p.session
 
--- a call wanted memory: the session is over, the tokens that were taken stand, and no more steps were made than the next token asks for; it asked for another one
+-- memory was refused in a call: the session is over, the tokens taken stay taken, no more steps were made than the next token
+-- needs, and it needs one more
 pub record WantsMemory (p q : Parser) : Type 0 where
   pub input : q.input ≡ p.input
   pub setting : q.setting ≡ p.setting
@@ -51,9 +52,10 @@ pub record WantsMemory (p q : Parser) : Type 0 where
   pub peeked : q.session.peeked ≡ false
   pub over : q.session.over ≡ true
   pub fault : q.session.fault ≡ Some memory_fault
-  -- it was asked for decoding UTF-16, or for the first step or one behind it: not where the reader's fault comes in the place of the first
+  -- memory was needed for decoding UTF-16, or in the first step or after it: not if the reader's fault comes instead of the
+  -- first
   pub in_utf8 : (input_read p).encoding ≡ YAML_UTF8_ENCODING → (course_read p).begun ≡ true
-  -- it was asked for nothing that was there already
+  -- none was needed if the answer was there already
   pub was_open : p.session.over ≡ false
   pub was_not_peeked : p.session.peeked ≡ false
 
@@ -62,7 +64,7 @@ abbrev pub told : Result code_token_t yaml_fault_t → Answer
 told (Ok token) = TOKEN (token_of token)
 told (Err fault) = FAULT (fault_of fault)
 
--- A call answers what the session says and leaves what it leaves, or it is a fault of kind memory.
+-- The answer to a call is the session's and it leaves what the session leaves, or it is a fault of kind memory.
 abbrev pub Calls : Call → Parser → Answer → Parser → Type 0
 Calls call p a q = ((a ≡ answered p call) × (q ≡ behind p call)) ⊎ ((a ≡ FAULT memory_fault) × WantsMemory p q)
 
@@ -70,7 +72,7 @@ Calls call p a q = ((a ≡ answered p call) × (q ≡ behind p call)) ⊎ ((a �
 abbrev pub IsThere : Parser → Type 0
 IsThere p = (p.session.peeked ≡ true) ⊎ (p.session.over ≡ true)
 
--- the input is in UTF-8 and refused so early that its reader's fault comes in the place of the first step
+-- the input is in UTF-8 and refused so early that its reader's fault comes instead of the first step
 abbrev pub IsRefusedEarly : Input → Type 0
 IsRefusedEarly input = (input.encoding ≡ YAML_UTF8_ENCODING) × (starts_near input.source.size input.refusal ≡ true)
 
@@ -85,7 +87,7 @@ shown (Err fault) = FAULT (fault_of fault)
 abbrev pub Peeks : Parser → Result code_token_t yaml_fault_t → Parser → Type 0
 Peeks p result q = Calls PEEK p (shown result) q
 
--- what a peek answers, also while the token that is shown is held
+-- the answer to a peek, also while the shown token is held
 abbrev pub AnswersPeek : Parser → Answer → Type 0
 AnswersPeek p a = (a ≡ answered p PEEK) ⊎ (a ≡ FAULT memory_fault)
 
@@ -99,11 +101,11 @@ abbrev pub token_or_empty : yaml_encoding_t → Option Token → yaml_token_t
 token_or_empty e None = empty
 token_or_empty e (Some x) = handed_out e x
 
--- its next token where that was peeked, and else the empty one
+-- its next token if that was peeked, and else the empty one
 abbrev pub token_shown : Parser → yaml_token_t
 token_shown p = if p.session.peeked then token_or_empty (input_read p).encoding (next_token p.limit (course_read p) p.session) else empty
 
--- a peek, by what the parser shows behind it
+-- a peek, by what the parser shows after it
 abbrev pub Shows : Parser → Result (Unit {0}) yaml_fault_t → Parser → Type 0
 Shows p (Ok _) q = Calls PEEK p (PEEKED (token_shown q)) q
 Shows p (Err fault) q = Calls PEEK p (FAULT (fault_of fault)) q

@@ -1,4 +1,4 @@
--- What the answers say that a list of calls puts behind others, and what is answered to other inputs as well.
+-- What the answers that a list of calls appends say, and which of them other inputs get as well.
 use Rattle.std.specs.Prelude.{◌≡◌, ◌⊎◌, ℕ, ◌+◌, ◌<◌, true, false, Option, None, Some, IfSome}
 use Rattle.std.specs.Prelude.{List, [], ◌∷◌, ◌++◌, map, take, drop, replicate, length}
 use Rattle.yaml_text.specs.declared.types.yaml_encoding_t.{yaml_encoding_t}
@@ -15,14 +15,14 @@ use Rattle.yaml_scan.specs.Calls.{Seen, seen, seen_of, answered_all, idle}
 use Rattle.yaml_scan.specs.Calls.Seen.{TOKEN, PEEKED, SKIPPED, NOTHING}
 use Rattle.yaml_scan.specs.Calls.{Seen as sight}
 
--- of the answers that were put behind the old ones this holds
+-- this holds of the answers that were appended to the old ones
 pub record Puts (Holds : List Seen → Type 0) (old new : List yaml_answer_t) : Type 0 where
   pub more : List yaml_answer_t
   pub is : new ≡ old ++ more
   pub holds : Holds (map seen_of more)
 
 -- THE TOKENS THAT WERE TAKEN
--- what answers tell of them, in order: a scan the token, a skip that there was one
+-- the tokens that answers say were taken, in order: a scan its token, a skip that there was one
 abbrev pub taken_told : List Seen → List (Option yaml_token_t)
 taken_told [] = []
 taken_told (TOKEN t ∷ more) = Some t ∷ taken_told more
@@ -31,7 +31,7 @@ taken_told (SKIPPED ∷ more) = None ∷ taken_told more
 taken_told (NOTHING ∷ more) = taken_told more
 taken_told (sight.FAULT f ∷ more) = taken_told more
 
--- that is told of these
+-- these are the tokens that they say
 abbrev pub AreTold : List (Option yaml_token_t) → List yaml_token_t → Type 0
 AreTold [] [] = Unit {0}
 AreTold [] (t ∷ ts) = ⊥
@@ -49,13 +49,13 @@ pub record TakesOn (tokens : List yaml_token_t) (n : ℕ) (answers : List Seen) 
   pub idle : ℕ
   pub answers_are : taken_told answers ≡ says ++ replicate idle (Some empty)
 
--- the answers tell of the next tokens of the list that is answered to the input, of as many as the parser's session
--- counts further
+-- the answers say that the next tokens of the input's list were taken, as many as the count of the parser's session
+-- grows by
 abbrev pub TakesNext : Parser → List Seen → Parser → Type 0
 TakesNext p answers q =
     TakesOn (answers_to p.limit p.setting p.input).tokens p.session.taken answers q.session.taken
 
--- where a token was peeked the session is not over, and there is a next token
+-- if a token was peeked, the session is not over, and there is a next token
 abbrev pub HasNext : Parser → Type 0
 HasNext p = p.session.peeked ≡ true
     → (p.session.over ≡ false) × ((token : Token) × (next_token p.limit (course_read p) p.session ≡ Some token))
@@ -66,22 +66,22 @@ abbrev pub of_input : Parser → yaml_encoding_t → List ℕ → Parser
 of_input p setting input =
     record { input = input; setting = setting; limit = p.limit; session = p.session }
 
--- a call is answered as for each accepted input that agrees up to the refused character, but for the reader's fault and
--- a refused growth
+-- a call's answer is as for each accepted input that agrees up to the refused character, except for the reader's fault
+-- and a refused growth
 abbrev pub IsAnsweredAlike : Parser → Call → Answer → Type 0
 IsAnsweredAlike p call a = (t : yaml_encoding_t) (b : List ℕ) (fault : Fault)
     → GoesOn p.setting p.input t b fault
     → (a ≡ answered (of_input p t b) call) ⊎ ((a ≡ FAULT fault) ⊎ (a ≡ FAULT memory_fault))
 
--- calls are answered as a parser answers them, up to this fault, and after it as where the session is over
+-- the answers to calls are a parser's, up to this fault, and after it as if the session is over
 pub record StopsWith (fault : Fault) (p : Parser) (calls : List Call) (answers : List Seen) : Type 0 where
   pub n : ℕ
   pub within : n < length calls
   pub answers_are : answers
       ≡ map seen (answered_all p (take n calls)) ++ (sight.FAULT fault ∷ map idle (drop (n + 1) calls))
 
--- calls are answered as for each accepted input that agrees up to the refused character: all of them, or those before
--- the reader's fault or before a refused growth
+-- the answers to calls are as for each accepted input that agrees up to the refused character: all of them, or those
+-- before the reader's fault or before a refused growth
 abbrev pub AreAnsweredAlike : Parser → List Call → List Seen → Type 0
 AreAnsweredAlike p calls answers = (t : yaml_encoding_t) (b : List ℕ) (fault : Fault)
     → GoesOn p.setting p.input t b fault

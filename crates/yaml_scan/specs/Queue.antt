@@ -7,7 +7,7 @@ use Rattle.yaml_scan.specs.Offline.Token.{BlockMappingStart, InsertedKey}
 use Rattle.yaml_scan.specs.Levels.{is_above, greatest_level, opens_level}
 use Rattle.yaml_scan.specs.Slots.{Held}
 
--- tokens put in at place n of a list
+-- tokens inserted at place n of a list
 abbrev pub put_in : ℕ → List Token → List Token → List Token
 put_in n ts q = take n q ++ (ts ++ drop n q)
 
@@ -19,7 +19,7 @@ is_new margin c cs = margin && is_above c (greatest_level cs)
 abbrev pub key_at : Bool → yaml_mark_t → List Token
 key_at new m = (if new then BlockMappingStart m ∷ [] else []) ++ (InsertedKey m ∷ [])
 
--- the levels behind a lexeme of kind k at m, which completes the candidate that is held
+-- the levels after a lexeme of kind k at m, which completes the candidate that is held
 abbrev pub opened : Bool → Option Held → Kind → yaml_mark_t → List ℕ → List ℕ
 opened margin None k m cs = (if is_new margin m.column cs && opens_level k true then m.column ∷ [] else []) ++ cs
 opened margin (Some h) k m cs = (if is_new margin h.start.column cs then h.start.column ∷ [] else []) ++ cs

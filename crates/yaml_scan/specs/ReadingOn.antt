@@ -20,52 +20,52 @@ use Rattle.yaml_scan.specs.Calls.{Seen as sight}
 abbrev pub scans : ℕ → List Call
 scans n = replicate n SCAN
 
--- the fault, where there is one
+-- the fault, if there is one
 abbrev pub fault_told : Option Fault → List Answer
 fault_told None = []
 fault_told (Some f) = FAULT f ∷ []
 
--- what n scans answer, where n is more than the tokens: all of these in order, then the fault once, if there is one,
+-- the answers to n scans, if n is more than the tokens: all of these in order, then the fault once, if there is one,
 -- and then empty tokens
 abbrev pub all_told : Answers → ℕ → List Answer
 all_told a n =
     map TOKEN a.tokens
     ++ (fault_told a.fault ++ replicate (n - (length a.tokens) - (length (fault_told a.fault))) (TOKEN empty))
 
--- what a session has left of the answers to its input: the tokens that were not taken, and the fault; nothing where it
+-- what a session has left of the answers to its input: the tokens that were not taken, and the fault; nothing if it
 -- is over
 abbrev pub left_of : Answers → Session → Answers
 left_of a s =
     if s.over then record { tokens = []; fault = None } else record { tokens = drop s.taken a.tokens; fault = a.fault }
 
--- what a session of an input answers to calls
+-- the answers of a session of an input to calls
 abbrev pub told_to : ℕ → yaml_encoding_t → List ℕ → List Call → Session → List Answer
 told_to limit setting input calls s =
     session (decoded_input setting input).encoding limit (course limit (decoded_input setting input)) calls s
 
--- more scans than an input has tokens answer all of these in order, its fault once, and then empty tokens
+-- more scans than an input has tokens return all of these in order, its fault once, and then empty tokens
 abbrev pub AllIsTold : Type 0
 AllIsTold = (limit : ℕ) (setting : yaml_encoding_t) (input : List ℕ) (n : ℕ)
     → length (answers_to limit setting input).tokens < n
     → told_to limit setting input (scans n) new_session ≡ all_told (answers_to limit setting input) n
 
--- and wherever a session stands, all that is left
+-- and in every state of a session, all that is left
 abbrev pub RestIsTold : Type 0
 RestIsTold = (limit : ℕ) (setting : yaml_encoding_t) (input : List ℕ) (s : Session) (n : ℕ)
     → length (left_of (answers_to limit setting input) s).tokens < n
     → told_to limit setting input (scans n) s ≡ all_told (left_of (answers_to limit setting input) s) n
 
--- what is left for a parser to answer
+-- what is left for a parser to return
 abbrev pub left_to : Parser → Answers
 left_to p = left_of (answers_to p.limit p.setting p.input) p.session
 
--- what n scans put behind other answers is all that is left, or a growth was refused in one of them
+-- what n scans append to other answers is all that is left, or a growth was refused in one of them
 pub record PutsRest (p : Parser) (n : ℕ) (old new : List yaml_answer_t) (q : Parser) : Type 0 where
   pub more : List yaml_answer_t
   pub is : new ≡ old ++ more
   pub told : (map seen_of more ≡ map seen (all_told (left_to p) n)) ⊎ RunsOut p (scans n) (map seen_of more) q
 
--- where all calls are scans, and more than the tokens that are left
+-- if all calls are scans, and more than the tokens that are left
 abbrev pub ReadsOn : Parser → List Call → List yaml_answer_t → List yaml_answer_t → Parser → Type 0
 ReadsOn p calls old new q = (n : ℕ) → calls ≡ scans n → length (left_to p).tokens < n → PutsRest p n old new q
 
@@ -74,7 +74,7 @@ abbrev pub ScansInTurn : Parser → List (Result code_token_t yaml_fault_t) → 
 ScansInTurn p [] q = q ≡ p
 ScansInTurn p (result ∷ more) q = (r : Parser) × Scans p result r × ScansInTurn r more q
 
--- more of them than there are tokens left answer all that is left, or a growth was refused in one of them
+-- more of them than there are tokens left return all that is left, or a growth was refused in one of them
 abbrev pub ScansReadOn : Type 0
 ScansReadOn = (p : Parser) (results : List (Result code_token_t yaml_fault_t)) (q : Parser)
     → ScansInTurn p results q → length (left_to p).tokens < length results
@@ -90,12 +90,12 @@ is_fault _ = false
 abbrev pub HaveOneFault : List Seen → Type 0
 HaveOneFault answers = length (filter is_fault answers) ≤ 1
 
--- whatever the calls, and wherever the session stands
+-- whatever the calls, and in every state of the session
 abbrev pub FaultIsToldOnce : Type 0
 FaultIsToldOnce = (limit : ℕ) (setting : yaml_encoding_t) (input : List ℕ) (calls : List Call) (s : Session)
     → HaveOneFault (map seen (told_to limit setting input calls s))
 
--- also where a growth was refused
+-- also if a growth was refused
 abbrev pub RunsFaultOnce : Type 0
 RunsFaultOnce = (p : Parser) (calls : List Call) (answers : List Seen) (q : Parser)
     → Runs p calls answers q → HaveOneFault answers

@@ -1,4 +1,4 @@
--- A scanner that is new, or stands in an input.
+-- A scanner that is new, or in an input.
 use Rattle.std.specs.Prelude.{◌≡◌, ◌⊎◌, ℕ, ◌+◌, ◌≤◌, ◌<◌, max, true, false, List, [], length, slice_get, None, Some, option_map}
 use Rattle.yaml_text.specs.declared.types.yaml_encoding_t.{yaml_encoding_t}
 use Rattle.yaml_text.specs.declared.types.yaml_encoding_t.TheVariants.{YAML_UTF8_ENCODING}
@@ -28,12 +28,12 @@ pub record IsNew (s : scanner_t) : Type 0 where
   pub taken : s.taken ≡ 0
   pub made : s.made ≡ 0
 
--- it stands in the input
+-- it is in the input
 pub record IsIn (setting : yaml_encoding_t) (input : List ℕ) (s : scanner_t) : Type 0 where
   pub runs : Runs s
   pub reads : input_of s ≡ decoded_input setting input
 
--- it can be asked for the next token
+-- the next token can be requested
 abbrev pub IsReady : yaml_encoding_t → List ℕ → scanner_t → Type 0
 IsReady setting input s = IsNew s ⊎ (IsIn setting input s × IsOpen s)
 
@@ -55,7 +55,7 @@ pub record IsSettled (setting : yaml_encoding_t) (input : List ℕ) (s t : scann
   pub limit : t.limit ≡ s.limit
   pub taken : t.taken ≡ s.taken
 
--- a scanner that has stopped: no more steps were made than the next token asks for, and another one was asked for
+-- a scanner that has stopped: no more steps were made than the next token needs, and it needs one more
 pub record IsStopped (setting : yaml_encoding_t) (input : List ℕ) (s t : scanner_t) : Type 0 where
   pub limit : t.limit ≡ s.limit
   pub taken : t.taken ≡ s.taken
@@ -64,7 +64,7 @@ pub record IsStopped (setting : yaml_encoding_t) (input : List ℕ) (s t : scann
   pub unsettled : settled s.limit (course_in s.limit setting input).read s.taken t.made ≡ false
   pub reach : t.reach ≡ reach (first_steps t.made (course_in s.limit setting input).read)
 
--- a growth was refused: in UTF-8, whose text takes none, behind the first step or in it, which no reader's fault has replaced
+-- a growth was refused: in UTF-8, whose text takes none, in the first step, if no reader's fault replaces it, or after it
 pub record IsShort (setting : yaml_encoding_t) (input : List ℕ) (s : scanner_t) (f : Fault) : Type 0 where
   pub fault : f ≡ memory_fault
   pub in_utf8 : (decoded_input setting input).encoding ≡ YAML_UTF8_ENCODING → (course_in s.limit setting input).begun ≡ true

@@ -1,4 +1,4 @@
--- What a running scanner holds behind the lexemes H.
+-- What a running scanner holds after the lexemes H.
 use Rattle.std.specs.Prelude.{◌≡◌, ℕ, ◌+◌, ◌-◌, ◌≤◌, ◌<◌, ◌^◌, true, false, List, ◌∷◌, reverse, drop, length, None, Some, nat_lt}
 use Rattle.yaml_text.specs.Fault.{Fault}
 use Rattle.yaml_text.specs.Chars.{AreChars}
@@ -29,7 +29,7 @@ text_of s = source_of s.text.chars
 abbrev pub input_of : scanner_t → Input
 input_of s = record { encoding = s.text.encoding; source = source_of s.text.chars; refusal = refusal_seen s.refusal }
 
--- where steps are near
+-- from which index on steps are near
 abbrev pub IsNearFrom : List ℕ → ℕ → Type 0
 IsNearFrom cs near = (p : ℕ) → p ≤ length cs → (near ≤ ((source_of cs).mark p).index → is_near (length cs) p ≡ true) × (((source_of cs).mark p).index < near → is_near (length cs) p ≡ false)
 
@@ -50,14 +50,14 @@ pub record Holds (H : List Laid) (n : ℕ) (s : scanner_t) : Type 0 where
   pub taken : s.taken ≤ length (before s.limit H)
   pub place : ended H ≡ false → IsMarkOf s.text.chars s.reach (place_behind H)
 
--- the kind of lexeme that was met behind the gap
+-- the kind of lexeme that was found after the gap
 pub record IsMet (H : List Laid) (s : scanner_t) (m : met_t) : Type 0 where
   pub front : IsMarkOf s.text.chars m.front (front_of (text_of s) H)
   pub allowed : m.allowed ≡ allowed H m.front
   pub kind : (text_of s).kind (nat_lt 0 (depth H)) (front_of (text_of s) H) ≡ Some m.kind
   pub step : step (text_of s) s.limit H ≡ read_step (text_of s) s.limit H m.kind (front_of (text_of s) H)
 
--- what is not changed by a step
+-- what a step does not change
 pub record Same (s t : scanner_t) : Type 0 where
   pub text : t.text ≡ s.text
   pub refusal : t.refusal ≡ s.refusal
@@ -82,11 +82,11 @@ pub record Offends (H : List Laid) (s : scanner_t) (f : Fault) : Type 0 where
   pub fault : offence.fault ≡ f
   pub problem : IsProblem (text_of s) offence
 
--- the steps that an input comes to
+-- the course of an input
 unfoldable pub course_of : scanner_t → Course
 course_of s = course s.limit (input_of s)
 
--- the lexemes behind which a scanner stands
+-- the lexemes that a scanner has read
 unfoldable pub history : scanner_t → List Laid
 history s = oldest (s.made - 1) (course_of s).read
 
@@ -105,7 +105,7 @@ pub record Steps (s t : scanner_t) : Type 0 where
   pub made : t.made ≡ s.made + 1
   pub same : Same s t
 
--- the step behind the last one is faulty
+-- the step after the last one is faulty
 pub record IsLast (s : scanner_t) (f : Fault) : Type 0 where
   pub made : s.made ≡ length (course_of s).read + 1
   pub fault : (course_of s).fault ≡ Some f
@@ -133,11 +133,11 @@ pub record Fails (s t : scanner_t) (f : Fault) : Type 0 where
   pub none : length (before s.limit (course_of s).read) ≤ s.taken
   pub fault : (course_of s).fault ≡ Some f
 
--- what is left of a scanner that has stopped: how far the last step was read stays to be seen
+-- what is left of a scanner that has stopped: how far the last step was read can still be seen
 pub record Stops (s t : scanner_t) : Type 0 where
   pub same : Same s t
   pub least : s.made ≤ t.made
   pub most : t.made ≤ pace s.limit (course_of s).read s.taken s.made
-  -- the head of the queue was not the next token, so a step was asked for
+  -- the head of the queue was not the next token, so a step was needed
   pub unsettled : length (before t.limit (history t)) ≤ t.taken
   pub reach : t.reach ≡ reach (history t)

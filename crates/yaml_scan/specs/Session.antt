@@ -1,4 +1,4 @@
--- A session: scan, peek and skip, one after the other, on what an input comes to.
+-- A session: scan, peek and skip, one after the other, on the course of an input.
 use Rattle.std.specs.Prelude.{ℕ, ◌+◌, ◌-◌, Bool, true, false, ◌&&◌, List, [], ◌∷◌, length, max, nat_eq, nat_lt, slice_get, Option, Some, None, if◌then◌else◌}
 use Rattle.yaml_text.specs.declared.types.yaml_mark_t.{yaml_mark_t}
 use Rattle.yaml_text.specs.declared.types.yaml_encoding_t.{yaml_encoding_t}
@@ -54,7 +54,7 @@ unfoldable pub steps_for : ℕ → List Laid → ℕ → ℕ
 steps_for limit [] t = 1
 steps_for limit (i ∷ H) t = if nat_lt t (length (before limit H)) then steps_for limit H t else length H + 2
 
--- how many steps are made once token t is asked for, where s were made
+-- how many steps are made once token t is requested, if s were made
 unfoldable pub pace : ℕ → List Laid → ℕ → ℕ → ℕ
 pace limit H t s = max s (steps_for limit H t)
 
@@ -74,7 +74,7 @@ is_last (BlockSequenceStart m) = false
 is_last (BlockMappingStart m) = false
 is_last (InsertedKey m) = false
 
--- the next token was asked for
+-- the next token was requested
 abbrev pub paced : ℕ → Course → Session → Session
 paced limit c s = record { taken = s.taken; steps = pace limit c.read s.taken s.steps; peeked = s.peeked; over = s.over; fault = s.fault }
 
@@ -120,7 +120,7 @@ abbrev pub peek_answer : yaml_encoding_t → Course → Option Token → Answer
 peek_answer e c None = why c.fault
 peek_answer e c (Some x) = PEEKED (handed_out e x)
 
--- and what it answers
+-- and its answer
 abbrev pub answer : yaml_encoding_t → ℕ → Course → Call → Session → Answer
 answer e limit c SCAN s = if s.over then TOKEN empty else scan_answer e c (next_token limit c s)
 answer e limit c PEEK s = if s.over then PEEKED empty else peek_answer e c (next_token limit c s)

@@ -24,8 +24,8 @@ EndsOrFaults = (limit : ℕ) (input : Input) → KeepsOrder input.source → (co
     → ((course limit input).begun ≡ true) × (ended (course limit input).read ≡ true) × (tokens_of limit (course limit input) ≡ offline (course limit input).read)
 
 -- NEAR STEPS
--- the step of a refused front that ends or faults fewer than eight characters before the front's end is answered by the
--- reader's fault, also where it has a fault of its own
+-- the step of a refused front that ends or faults fewer than eight characters before the front's end gives the
+-- reader's fault, also if it has a fault of its own
 abbrev pub NearStepIsRefused : Type 0
 NearStepIsRefused = (limit : ℕ) (input : Input) (f : Fault) (H : List Laid)
     → input.refusal ≡ Some f → input.source.size < place_of (step input.source limit H) + 8
@@ -36,7 +36,7 @@ abbrev pub FarStepIsItself : Type 0
 FarStepIsItself = (limit : ℕ) (input : Input) (H : List Laid)
     → place_of (step input.source limit H) + 8 ≤ input.source.size → next input limit H ≡ step input.source limit H
 
--- each lexeme of a course is such a step behind those before it
+-- each lexeme of a course is such a step after those before it
 abbrev pub CourseIsRun : Type 0
 CourseIsRun = (limit : ℕ) (input : Input)
     → KeepsOrder input.source → IsRun (next input limit) limit (course limit input).read
@@ -45,14 +45,14 @@ CourseIsRun = (limit : ℕ) (input : Input)
 pub data FaultOfRefused (limit : ℕ) (input : Input) (f : Fault) (c : Course) : Type 0 where
   -- its front is so short that STREAM-START is near the end: the reader's fault comes at once
   at_once : c.begun ≡ false → input.source.size < 8 → c.fault ≡ Some f → FaultOfRefused limit input f c
-  -- the step behind the lexemes is near the end, with a fault or not: the reader's fault
+  -- the step after the lexemes is near the end, with a fault or not: the reader's fault
   near : c.begun ≡ true → input.source.size < place_of (step input.source limit c.read) + 8 → c.fault ≡ Some f
       → FaultOfRefused limit input f c
-  -- that step faults further in front: its own fault
+  -- that step faults further from the end: its own fault
   far : (o : Offence) → c.begun ≡ true → step input.source limit c.read ≡ Faults o → o.place + 8 ≤ input.source.size
       → c.fault ≡ Some o.fault → FaultOfRefused limit input f c
 
--- the fault of a refused input is the reader's, or that of a step in front of what is near
+-- the fault of a refused input is the reader's, or that of a step before what is near
 abbrev pub RefusedHasFault : Type 0
 RefusedHasFault = (limit : ℕ) (input : Input) (f : Fault)
     → KeepsOrder input.source → input.refusal ≡ Some f → FaultOfRefused limit input f (course limit input)
@@ -98,7 +98,7 @@ without_peeks (SCAN ∷ calls) = SCAN ∷ without_peeks calls
 without_peeks (PEEK ∷ calls) = without_peeks calls
 without_peeks (SKIP ∷ calls) = SCAN ∷ without_peeks calls
 
--- skips are made where a token was peeked
+-- skips are made only if a token was peeked
 unfoldable pub skips_peeked : ℕ → Course → List Call → Session → Bool
 skips_peeked limit c [] s = true
 skips_peeked limit c (SCAN ∷ calls) s = skips_peeked limit c calls (after limit c SCAN s)
@@ -109,7 +109,7 @@ abbrev pub PeeksChangeNothing : Type 0
 PeeksChangeNothing = (limit : ℕ) (c : Course) (calls : List Call) → skips_peeked limit c calls new_session ≡ true
     → taken_by limit c calls new_session ≡ taken_by limit c (without_peeks calls) new_session
 
--- where a session of an input is not over and has no next token, there is a fault to answer
+-- if a session of an input is not over and has no next token, there is a fault to return
 abbrev pub NoneIsStuck : Type 0
 NoneIsStuck = (limit : ℕ) (input : Input) (calls : List Call) → KeepsOrder input.source → (after_all limit (course limit input) calls new_session).over ≡ false
     → next_token limit (course limit input) (after_all limit (course limit input) calls new_session) ≡ None → (f : Fault) × ((course limit input).fault ≡ Some f)

@@ -18,7 +18,7 @@ held limit H k = option_map (held_of H) (only_live limit (reach H) (candidate H 
 abbrev pub is_live : ℕ → yaml_mark_t → Held → Bool
 is_live limit m h = nat_eq m.line h.start.line && nat_le m.index (h.start.index + limit)
 
--- a stale one is given up
+-- a stale one is dropped
 abbrev pub still_held : ℕ → yaml_mark_t → Option Held → Option Held
 still_held limit m None = None
 still_held limit m (Some h) = if is_live limit m h then Some h else None
@@ -38,7 +38,7 @@ abbrev pub outer_to : ℕ → List Laid → ℕ → List (Option Held)
 outer_to limit H zero = []
 outer_to limit H (suc m) = outer_to limit H m ++ held limit H m ∷ []
 
--- what stands in a slot behind a lexeme of kind k read at its depth
+-- what is in a slot after a lexeme of kind k read at its depth
 abbrev pub slot_behind : Kind → Bool → Held → Option Held → Option Held
 slot_behind k allowed new old = if is_candidate_kind k then (if allowed then Some new else old) else None
 
@@ -63,7 +63,7 @@ lowest (Some h ∷ hs) = Some h
 abbrev pub AreEmptyBelow : ℕ → List (Option Held) → Type 0
 AreEmptyBelow n hs = (k : ℕ) (h : Held) → k < n → slice_get hs k ≢ Some (Some h)
 
--- candidates stand on one line, those of greater depths start no earlier
+-- candidates are on one line, those of greater depths start no earlier
 abbrev pub AreNested : List (Option Held) → Type 0
 AreNested hs = (k n : ℕ) (h g : Held) → k < n → slice_get hs k ≡ Some (Some h) → slice_get hs n ≡ Some (Some g) → (g.start.line ≡ h.start.line) × (h.start.index ≤ g.start.index)
 
@@ -81,7 +81,7 @@ abbrev pub is_margin_level : Bool → Option ℕ → ℕ → Bool
 is_margin_level margin l c = margin && names c l
 
 -- THE NEXT DEPTH
--- the outer slots behind a lexeme of kind k
+-- the outer slots after a lexeme of kind k
 abbrev pub nested_outer : Kind → List (Option Held) → Option Held → List (Option Held)
 nested_outer k outer top = if is_flow_start k then outer ++ top ∷ [] else (if is_flow_end k then take (length outer - 1) outer else outer)
 

@@ -1,4 +1,4 @@
--- What is read of a text, place by place. A place is the number of characters in front of it.
+-- What is read of a text, place by place. A place is the number of characters before it.
 use Rattle.std.specs.Prelude.{ℕ, Bool, Option, Result}
 use Rattle.yaml_text.specs.declared.types.yaml_mark_t.{yaml_mark_t}
 use Rattle.yaml_scan.specs.Kind.{Kind}
@@ -24,7 +24,7 @@ pub record Source : Type 0 where
   pub size : ℕ
   -- the mark of a place
   pub mark : ℕ → yaml_mark_t
-  -- where a gap ends: in flow or not, a key allowed in front of it or not, from a place on
+  -- where a gap ends: in flow or not, a key allowed before it or not, from a place on
   pub gap : Bool → Bool → ℕ → ℕ
   -- the kind of lexeme, in flow or not, that starts at a place
   pub kind : Bool → ℕ → Option Kind

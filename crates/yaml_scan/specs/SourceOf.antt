@@ -1,4 +1,4 @@
--- What the characters of a text give to read.
+-- What is read of the characters of a text.
 use Rattle.std.specs.Prelude.{ℕ, ◌-◌, List, length, Some, Result, Ok, Err}
 use Rattle.yaml_text.specs.Fault.{scanner_fault}
 use Rattle.yaml_lexeme.specs.Lexeme.{Lexeme as yaml_lexeme_t}
@@ -11,7 +11,7 @@ use Rattle.yaml_lexeme.specs.Texts.{problem_text, context_text}
 use Rattle.yaml_scan.specs.Kind.{Kind}
 use Rattle.yaml_scan.specs.Source.{Source, Reading, Offence}
 
--- how many of n characters stand before a place
+-- how many of n characters are before a place
 abbrev pub count_to : ℕ → Place → ℕ
 count_to n p = n - length p.rest
 

@@ -1,4 +1,4 @@
--- The step behind a list of lexemes: the next lexeme, or the fault.
+-- The step after a list of lexemes: the next lexeme, or the fault.
 use Rattle.std.specs.Prelude.{ℕ, ◌+◌, Bool, not, ◌&&◌, ◌||◌, List, [], ◌∷◌, nat_eq, nat_lt, Option, Some, None, Result, Ok, Err, if◌then◌else◌}
 use Rattle.yaml_text.specs.declared.types.yaml_mark_t.{yaml_mark_t}
 use Rattle.yaml_scan.specs.Kind.{Kind, is_stream_end, is_block_entry, is_key, is_value, is_candidate_kind}
@@ -30,7 +30,7 @@ abbrev pub only_stale : ℕ → yaml_mark_t → Option Laid → Option Laid
 only_stale limit m None = None
 only_stale limit m (Some i) = if live limit i m then None else Some i
 
--- the required candidate, where it is not live at m
+-- the required candidate, if it is not live at m
 unfoldable pub stale : ℕ → List Laid → yaml_mark_t → Option Laid
 stale limit H m = only_stale limit m (required H)
 
@@ -48,7 +48,7 @@ unless (Some i) m p o = Faults (lost i.lexeme.start m p)
 abbrev pub problem_of : Kind → Bool → Option (List ℕ)
 problem_of k none = if is_block_entry k then Some entry_not_allowed else if is_key k then Some key_not_allowed else if is_value k && none then Some value_not_allowed else None
 
--- at depth 0, where no key is allowed
+-- at depth 0, if no key is allowed
 unfoldable pub refused : ℕ → List Laid → Kind → yaml_mark_t → Option (List ℕ)
 refused limit H k g = if nat_eq (depth H) 0 && not (allowed H g) then problem_of k (is_none (completed_by limit H k g)) else None
 
@@ -63,15 +63,15 @@ refuse (Some problem) m p o = Faults (not_allowed problem m p)
 abbrev pub replaces : Kind → Bool → Bool
 replaces k allowed = not (is_value k) && (not (is_candidate_kind k) || allowed)
 
--- the live required candidate that a lexeme of kind k would clear or replace, behind the gap that ends at g
+-- the live required candidate that a lexeme of kind k would clear or replace, after the gap that ends at g
 unfoldable pub clears : ℕ → List Laid → Kind → yaml_mark_t → Option Laid
 clears limit H k g = if replaces k (allowed H g) && nat_eq (depth H) 0 then only_live limit g (required H) else None
 
--- the mark of a stream end: the text's end, or the start of the line behind it
+-- the mark of a stream end: the text's end, or the start of the line after it
 abbrev pub end_of : yaml_mark_t → yaml_mark_t
 end_of g = if nat_eq g.column 0 then g else record { index = g.index; line = g.line + 1; column = 0 }
 
--- where a lexeme of kind k starts behind the gap that ends at g
+-- the mark at which a lexeme of kind k starts after the gap that ends at g
 abbrev pub start_at : Kind → yaml_mark_t → yaml_mark_t
 start_at k g = if is_stream_end k then end_of g else g
 
@@ -96,10 +96,11 @@ kind_step S limit H p (Some k) = refuse (refused limit H k (S.mark p)) (S.mark p
 abbrev pub gap_step : Source → ℕ → List Laid → ℕ → Outcome
 gap_step S limit H p = unless (stale limit H (S.mark p)) (S.mark p) p (kind_step S limit H p (S.kind (nat_lt 0 (depth H)) p))
 
--- where the gap behind H ends
+-- the place where the gap after H ends
 abbrev pub front_of : Source → List Laid → ℕ
 front_of S H = S.gap (nat_lt 0 (depth H)) (allowed_behind H) (place_behind H)
 
--- The first that fits: a stale required candidate, no kind, a kind that is not allowed, a required candidate that would be cleared, an offence, a required candidate that is stale at the reach; else the lexeme.
+-- The first that fits: a stale required candidate, no kind, a kind that is not allowed, a required candidate that would be
+-- cleared, an offence, a required candidate that is stale at the reach; else the lexeme.
 unfoldable pub step : Source → ℕ → List Laid → Outcome
 step S limit H = gap_step S limit H (front_of S H)

@@ -1,4 +1,4 @@
--- What the calls on a text answer, by what the text gives to read.
+-- What the calls on a text return, by what is read of the text.
 use Rattle.std.specs.Prelude.{◌≡◌, ℕ, ◌≤◌, List, Option, Ok, Err}
 use Rattle.yaml_text.specs.declared.types.yaml_error_type_t.TheVariants.{YAML_SCANNER_ERROR}
 use Rattle.yaml_text.specs.Fault.{Fault}
@@ -15,7 +15,7 @@ IsRead cs k d l p x = (n : ℕ) × ((source_of cs).read k d l p ≡ Ok (reading 
 abbrev pub IsOffence : List ℕ → Kind → ℕ → Option ℕ → ℕ → Fault → Type 0
 IsOffence cs k d l p f = (o : Offence) × ((source_of cs).read k d l p ≡ Err o) × (o.fault ≡ f)
 
--- the problem of an offence stands at its place
+-- the problem of an offence is at its place
 pub record IsProblem (S : Source) (o : Offence) : Type 0 where
   pub kind : o.fault.error ≡ YAML_SCANNER_ERROR
   pub within : o.place ≤ S.size

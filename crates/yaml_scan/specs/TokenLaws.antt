@@ -25,7 +25,7 @@ end_of (BlockMappingStart m) = m
 end_of (InsertedKey m) = m
 end_of (OfLexeme x) = x.end
 
--- from index n to index m: none starts behind its end, or ends behind the start of the next
+-- from index n to index m: none starts after its end, or ends after the start of the next
 abbrev pub AreInOrder : ℕ → List Token → ℕ → Type 0
 AreInOrder n [] m = n ≤ m
 AreInOrder n (t ∷ ts) m = (n ≤ (start_of t).index) × ((start_of t).index ≤ (end_of t).index) × AreInOrder (end_of t).index ts m
@@ -42,7 +42,7 @@ is_value_near limit m (BlockSequenceStart n) = false
 is_value_near limit m (BlockMappingStart n) = false
 is_value_near limit m (InsertedKey n) = false
 
--- one stands behind an inserted key
+-- one follows an inserted key
 abbrev pub HasValue : ℕ → Token → List Token → Type 0
 HasValue limit (InsertedKey m) ts = list_any (is_value_near limit m) ts ≡ true
 HasValue limit StreamStart ts = Unit {0}
@@ -55,7 +55,7 @@ abbrev pub KeysHaveValues : ℕ → List Token → Type 0
 KeysHaveValues limit [] = Unit {0}
 KeysHaveValues limit (t ∷ ts) = HasValue limit t ts × KeysHaveValues limit ts
 
--- behind every key that is put in stands its `:`, near, and also among what was handed out
+-- every inserted key is followed by its `:`, near, and also among what was handed out
 abbrev pub KeysAreFollowed : Type 0
 KeysAreFollowed = (limit : ℕ) (H : List Laid) → IsHistory limit H → KeysHaveValues limit (offline H) × KeysHaveValues limit (before limit H)
 

@@ -1,4 +1,4 @@
--- What is answered can be put in words.
+-- What is returned can be put in words.
 use Rattle.std.specs.Prelude.{ℕ, ◌≢◌, List, [], ◌∷◌, Option, IsSome, IfSome}
 use Rattle.yaml_text.specs.declared.types.yaml_encoding_t.{yaml_encoding_t}
 use Rattle.yaml_text.specs.declared.types.yaml_encoding_t.TheVariants.{YAML_ANY_ENCODING}
@@ -13,7 +13,7 @@ use Rattle.yaml_scan.specs.Inputs.{decoded_input, answers_to}
 use Rattle.yaml_scan.specs.Session.{Session, Call, Answer, session}
 use Rattle.yaml_scan.specs.Session.Answer.{TOKEN, PEEKED, SKIPPED, NOTHING, FAULT}
 
--- the encoding of a stream and the style of a scalar are told
+-- the encoding of a stream and the style of a scalar are set
 abbrev pub HasWords : unnamed_yaml_token_t_data → Type 0
 HasWords (STREAM_START encoding) = encoding ≢ YAML_ANY_ENCODING
 HasWords (SCALAR value style) = style ≢ YAML_ANY_SCALAR_STYLE
@@ -38,7 +38,7 @@ HaveWords (t ∷ ts) = HasWords t.token_data × HaveWords ts
 abbrev pub HaveLines : List yaml_token_t → Option Fault → Type 0
 HaveLines tokens fault = HaveWords tokens × IfSome fault HasLine
 
--- what any input is answered with
+-- the answers to any input
 abbrev pub AllHaveLines : Type 0
 AllHaveLines = (limit : ℕ) (setting : yaml_encoding_t) (input : List ℕ) → HaveLines (answers_to limit setting input).tokens (answers_to limit setting input).fault
 
@@ -54,7 +54,7 @@ abbrev pub AnswersHaveLines : List Answer → Type 0
 AnswersHaveLines [] = Unit {0}
 AnswersHaveLines (a ∷ more) = AnswerHasLine a × AnswersHaveLines more
 
--- whatever the calls, and wherever the session stands
+-- whatever the calls, and in every state of the session
 abbrev pub SessionsHaveLines : Type 0
 SessionsHaveLines = (limit : ℕ) (setting : yaml_encoding_t) (input : List ℕ) (calls : List Call) (s : Session)
     → AnswersHaveLines (session (decoded_input setting input).encoding limit (course limit (decoded_input setting input)) calls s)

@@ -1,4 +1,4 @@
--- The functions of decoding give the front, what is wrong behind it, and what an input decodes to.
+-- The functions of decoding give the front, what is wrong after it, and what an input decodes to.
 use Rattle.std.proofs.Common.{◌≡◌, ℕ, zero, suc, ◌+◌, ◌<◌, ◌≤◌, ◌⊎◌, Bool, true, false, cond, List, [], ◌∷◌, ◌++◌, length, take, drop, Option, Some, None, Ok, Err, refl, sym, ap, ◌∙◌, subst, append_assoc, inl, inr, arith}
 use Rattle.std.specs.Prelude.{option_map, ◌&&◌, IsNone, IfSome}
 use Rattle.std.specs.Str.{chars, bytes_eq}
@@ -17,7 +17,7 @@ use Rattle.yaml_text.specs.Text.{Text}
 use Rattle.yaml_text.specs.Decode.{order, spelling, spelled, Begins, BeginsWithNone, IsFront, value_in_front, first, and_then_list, front_of, encoding_of, dropped, behind_mark, offence, front, front_len, refusal, refusal_of, refusal_seen, unless_refused, decoded, Fronts, IsFrontOf, Spells, IsRefused}
 use Rattle.yaml_text.proofs.Readings.{longest, value_is, some_spelling, spelled-cons, spelled-nil, none_at_end, one_front}
 
--- what stands in front, if anything
+-- the first character, if there is one
 abbrev FirstIs : yaml_encoding_t → List ℕ → Option ℕ → Type 0
 FirstIs e bytes None = BeginsWithNone e bytes
 FirstIs e bytes (Some c) = IsChar c × Begins e c bytes
@@ -120,7 +120,7 @@ front_longest setting input text is = subst (λ (x : Text). IsFrontOf setting in
       longest = λ cs more each begin. longest e bytes t.chars (drop (front_len setting input) input) cs more f each (subst (λ (x : yaml_encoding_t). bytes ≡ spelled x cs ++ more) same begin);
     })
 
--- ---- what a front and an offence behind it make
+-- ---- what a front and an offence after it make
 
 refusal_none : (e : yaml_encoding_t) (before : ℕ) (rest : List ℕ) → length rest ≡ 0 → None ≡ refusal_of e before rest
 refusal_none e before [] z = refl
@@ -130,7 +130,7 @@ refusal_some : (e : yaml_encoding_t) (before : ℕ) (rest : List ℕ) (o : offen
 refusal_some e before [] o some o-is = absurd (omega arith)
 refusal_some e before (b ∷ rest) o some o-is = ap (λ (x : offence_t). Some (reader_fault before x)) o-is
 
--- what is told of the offence behind the first len bytes
+-- what is said of the offence after the first len bytes
 abbrev OffenceIs : yaml_encoding_t → ℕ → List ℕ → Option offence_t → Type 0
 OffenceIs e len bytes None = len ≡ length bytes
 OffenceIs e len bytes (Some o) = (len < length bytes) × (o ≡ offence e (drop len bytes))
@@ -280,7 +280,7 @@ is_refused setting input fault d =
 pub own_text : (setting : yaml_encoding_t) (input : List ℕ) (text : Text) → Spells setting input text → text.encoding ≡ YAML_UTF8_ENCODING → utf8 text.chars ≡ behind_mark setting input
 own_text setting input text s e = ap (λ x. spelled x text.chars) (sym e) ∙ sym s.bytes
 
--- ---- what a call answered
+-- ---- what a call returned
 
 pub front_none : (setting : yaml_encoding_t) (input : List ℕ) (text : Text) (fault : Option yaml_fault_t) → fault ≡ None → text ≡ front setting input → refusal_seen fault ≡ refusal setting input → decoded setting input ≡ Ok text
 front_none setting input text fault none text-is refusal-is =

@@ -40,7 +40,7 @@ IsText-push bytes c t ok =
     let e : utf8 (chars bytes ++ c ∷ []) ≡ bytes ++ encode c = encodes-append (chars bytes) (c ∷ []) ∙ ap (λ (x : List ℕ). encodes (chars bytes) ++ x) (append-nil (encode c)) ∙ ap (λ (x : List ℕ). x ++ encode c) t.spelled in
     subst IsText e (IsText-utf8 (chars bytes ++ c ∷ []) (AreChars-append (chars bytes) (c ∷ []) t.each (ok, tt)))
 
--- the front with one more character behind the place at
+-- the front with one more character after the place at
 pub front_grows : (bytes : List ℕ) (at w c : ℕ) → at ≤ length bytes → IsText (take at bytes) → IsChar c → Begins YAML_UTF8_ENCODING c (drop at bytes) → w ≡ len_utf8 c → (at + w ≤ length bytes) × IsText (take (at + w) bytes)
 front_grows bytes at w c le t ok b w-is =
     let front = take at bytes ++ encode c in

@@ -64,7 +64,7 @@ pub AreChars-parts : (xs ys : List ℕ) → AreChars (xs ++ ys) → AreChars xs 
 AreChars-parts [] ys h = (tt, h)
 AreChars-parts (x ∷ xs) ys h = let p = AreChars-parts xs ys h.1 in ((h.0, p.0), p.1)
 
--- the bytes on both sides of a place, n bytes further, where the characters cs have n bytes
+-- the bytes on both sides of a place, n bytes further, if the characters cs have n bytes
 pub record Goes (bytes : List ℕ) (i j : ℕ) (cs rest : List ℕ) : Type 0 where
   pub within : j ≤ length bytes
   pub front : IsText (take j bytes)
@@ -104,7 +104,7 @@ stands_there bytes mark h = record {
   each = h.rest.each;
 }
 
--- What a move to a new mark gives: it stands in the text, n characters further.
+-- What a move to a new mark gives: it is in the text, n characters further.
 pub record Moves (bytes : List ℕ) (old new : yaml_mark_t) (n : ℕ) : Type 0 where
   pub is_at : IsAt bytes new
   pub goes : at_of bytes new ≡ past n (at_of bytes old)
@@ -112,7 +112,7 @@ pub record Moves (bytes : List ℕ) (old new : yaml_mark_t) (n : ℕ) : Type 0 w
 abbrev moved : yaml_mark_t → ℕ → ℕ → ℕ → yaml_mark_t
 moved mark w line column = record { index = mark.index + w; line = line; column = column }
 
--- over the characters cs, with the count of breaks and the column behind them
+-- over the characters cs, with the count of breaks and the column after them
 moves : (bytes : List ℕ) (mark : yaml_mark_t) (cs rest : List ℕ) (w n line col : ℕ) → IsAt bytes mark → chars (drop mark.index bytes) ≡ cs ++ rest → w ≡ length (utf8 cs) → n ≡ length cs
     → line ≡ breaks (chars (take mark.index bytes) ++ cs) → col ≡ column (chars (take mark.index bytes) ++ cs) → cuts_break (chars (take mark.index bytes) ++ cs) rest ≡ false
     → Moves bytes mark (moved mark w line col) n
@@ -132,7 +132,7 @@ moves bytes mark cs rest w n line col h e w-is n-is line-is col-is whole =
       goes = same_at _ _ _ _ (g.before ∙ ap (λ (x : List ℕ). chars (take mark.index bytes) ++ x) (sym t)) (g.left ∙ sym d);
     }
 
--- the width of the character in front
+-- the width of the first character
 front_width : (bytes : List ℕ) (i c : ℕ) (cs : List ℕ) → IsText (drop i bytes) → chars (drop i bytes) ≡ c ∷ cs → width_of (get_or bytes i 0) ≡ len_utf8 c
 front_width bytes i c cs t e =
     let each : AreChars (c ∷ cs) = subst AreChars e t.each in
@@ -236,7 +236,7 @@ mark_is bytes mark h =
 
 -- ---- the same for a place that is seen as a value
 
--- The new mark stands in the text, at this place.
+-- The new mark is in the text, at this place.
 pub record Lands (bytes : List ℕ) (mark : yaml_mark_t) (there : At) : Type 0 where
   pub is_at : IsAt bytes mark
   pub place : at_of bytes mark ≡ there

@@ -17,7 +17,7 @@ value8_is bytes c ok b =
     let s : Stands bytes c = subst (λ (x : List ℕ). Stands x c) (sym b.1) (stands c b.0 (omega (arith, r.1))) in
     ap (λ (w : ℕ). value_of w bytes) s.width ∙ s.value
 
--- the value in front is the character that stands there
+-- the value of the first octets or units is the character that they spell
 pub value_is : (e : yaml_encoding_t) (bytes : List ℕ) (c : ℕ) → IsChar c → Begins e c bytes → value_in_front e bytes ≡ c
 value_is YAML_ANY_ENCODING bytes c ok b = value8_is bytes c ok b
 value_is YAML_UTF8_ENCODING bytes c ok b = value8_is bytes c ok b

@@ -1,4 +1,4 @@
--- A mark that is kept as one goes is the one that is counted.
+-- A mark that is moved character by character is the one that is counted.
 use Rattle.std.proofs.Common.{◌≡◌, ℕ, zero, suc, ◌+◌, ◌≤◌, Bool, true, false, cond, List, [], ◌∷◌, ◌++◌, length, get_or, take, drop, refl, sym, ap, ◌∙◌, subst, append_assoc, inl, inr, arith}
 use Rattle.std.specs.Char.{len_utf8}
 use Rattle.std.specs.Str.{chars}
@@ -44,7 +44,7 @@ one_step before cs c whole single =
 cuts-push : (before cs : List ℕ) (c : ℕ) → cuts_break (before ++ c ∷ []) cs ≡ is_crlf c (get_or cs 0 0)
 cuts-push before cs c = ap (λ x. is_crlf x (get_or cs 0 0)) (last_push before c)
 
--- behind a break of two characters
+-- after a break of two characters
 pub two_steps : (before cs : List ℕ) → cuts_break before (13 ∷ []) ≡ false → mark_on 2 (mark_of before) (13 ∷ 10 ∷ cs) ≡ mark_of (before ++ 13 ∷ 10 ∷ [])
 two_steps before cs whole =
     let index : length (utf8 before) + 1 + 1 ≡ length (utf8 (before ++ 13 ∷ 10 ∷ [])) = omega (arith, ap length (encodes-append before (13 ∷ 10 ∷ [])), length-append (utf8 before) (utf8 (13 ∷ 10 ∷ [])), two_bytes) in

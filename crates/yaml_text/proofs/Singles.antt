@@ -1,4 +1,4 @@
--- Characters of one byte in front of a text's bytes.
+-- Characters of one byte at the beginning of a text's bytes.
 use Rattle.std.proofs.Common.{◌≡◌, ℕ, suc, ◌+◌, ◌<◌, ◌≤◌, true, List, [], ◌∷◌, ◌++◌, length, take, drop, refl, sym, ap, ◌∙◌, subst, append_assoc, arith, inl, inr}
 use Rattle.std.specs.List.{prefix_len}
 use Rattle.std.specs.Str.{chars}
@@ -40,7 +40,7 @@ IsText-append a b t o =
     let e : utf8 (chars a ++ b) ≡ a ++ b = encodes-append (chars a) b ∙ ap (λ (x : List ℕ). x ++ utf8 b) t.spelled ∙ ap (λ (x : List ℕ). a ++ x) o.spelled in
     subst IsText e (IsText-utf8 (chars a ++ b) (AreChars-append (chars a) b t.each o.each))
 
--- the front with the characters of one byte behind the place at
+-- the front with the characters of one byte after the place at
 pub singles_grow : (bytes : List ℕ) (at n : ℕ) → at ≤ length bytes → IsText (take at bytes) → n ≡ prefix_len is_single (drop at bytes) → (at + n ≤ length bytes) × IsText (take (at + n) bytes)
 singles_grow bytes at n le t e =
     let d = drop at bytes in

@@ -1,4 +1,4 @@
--- What stands in front of bytes: from a character to its octets, and back.
+-- The character that bytes begin with: from a character to its octets, and back.
 use Rattle.std.proofs.Common.{◌≡◌, ℕ, ◌+◌, ◌*◌, ◌/◌, ◌%◌, ◌<◌, ◌≤◌, ◌⊎◌, true, List, [], ◌∷◌, ◌++◌, length, get_or, refl, sym, ap, ◌∙◌, subst, inl, inr, arith, lt-ltb, le-ltb}
 use Rattle.std.specs.Char.{len_utf8}
 use Rattle.std.proofs.lemmas.Bool.{cases_lt, and_parts, leb-true}
@@ -30,7 +30,7 @@ pub char_range : (c : ℕ) → is_char c ≡ true → (0 < c) × ((c < 0xD800) �
 unfolding is_char
 char_range c e = grind (arith, nat_tests)
 
--- A character stands in front of the bytes.
+-- The bytes begin with a character.
 pub record Stands (bytes : List ℕ) (c : ℕ) : Type 0 where
   pub width : width_of (get_or bytes 0 0) ≡ len_utf8 c
   pub whole : len_utf8 c ≤ length bytes
@@ -188,7 +188,7 @@ reads bytes some =
       ]
     ]
 
--- Where a character stands in front, each test of the width w and the value v goes well.
+-- If the bytes begin with a character, each test of the width w and the value v succeeds.
 pub record Passes (bytes : List ℕ) (w v : ℕ) : Type 0 where
   pub some : 0 < w
   pub whole : w ≤ length bytes

@@ -1,4 +1,4 @@
--- Where a text may be parted, told by its bytes.
+-- Where a text may be split, by its bytes.
 use Rattle.std.proofs.Common.{◌≡◌, ◌==◌, ℕ, zero, suc, ◌+◌, ◌-◌, ◌<◌, ◌≤◌, Bool, true, false, ◌&&◌, List, [], ◌∷◌, ◌++◌, length, get_or, take, drop, add-zero, refl, sym, ap, ◌∙◌, subst, arith, inl, inr}
 use Rattle.std.specs.Prelude.{IsTrue, ◌↔◌, nat_lt}
 use Rattle.std.specs.Str.{chars, IsUtf8, IsCharBoundary}
@@ -84,7 +84,7 @@ starts_high b h high = grind (arith, nat_tests)
 pub boundary_from_test : (bytes : List ℕ) (index : ℕ) → index ≤ length bytes → continues (get_or bytes index 0) ≡ false → IsCharBoundary bytes index
 boundary_from_test bytes index within h = (within, λ lt high. starts_high (get_or bytes index 0) h high)
 
--- the last byte is CR where the last character is
+-- the last byte is CR if the last character is
 last_code : (c : ℕ) → c < 0x110000 → (get_or (encode c) (length (encode c) - 1) 0 == 13) ≡ (c == 13)
 last_code c h =
     elim (cases_lt c 128) [

@@ -1,4 +1,4 @@
--- What stands in front of bytes in UTF-16: from a character to its units, and back.
+-- The character that bytes begin with in UTF-16: from a character to its units, and back.
 use Rattle.std.proofs.Common.{◌≡◌, ℕ, ◌+◌, ◌-◌, ◌*◌, ◌/◌, ◌%◌, ◌<◌, ◌≤◌, ◌⊎◌, Bool, true, false, List, [], ◌∷◌, ◌++◌, length, get_or, take, drop, refl, sym, ap, ◌∙◌, subst, append_assoc, inl, inr, arith, lt-ltb, le-ltb}
 use Rattle.std.proofs.lemmas.Bool.{cases_lt, cases_Bool, true≢false}
 use Rattle.std.proofs.lemmas.Bool.Decides.{nat_tests}
@@ -32,7 +32,7 @@ first_back : (big : Bool) (u v : ℕ) (more : List ℕ) → unit_at big ((unit b
 first_back true u v more = omega arith
 first_back false u v more = omega arith
 
--- Where a character stands in front, each test of its units goes well.
+-- If the bytes begin with a character, each test of its units succeeds.
 pub record Units (big : Bool) (bytes : List ℕ) (c : ℕ) : Type 0 where
   pub whole : 2 ≤ length bytes
   pub not_low : is_low (unit_at big bytes 0) ≡ false
@@ -101,7 +101,7 @@ unit_below false a b x y = omega arith
 abbrev AreBytes : List ℕ → Type 0
 AreBytes bytes = (i : ℕ) → get_or bytes i 0 < 256
 
--- the character c stands in front, and has n bytes
+-- the bytes begin with the character c, which has n bytes
 pub record Found (big : Bool) (bytes : List ℕ) (c n : ℕ) : Type 0 where
   pub begins : Begins16 big c bytes
   pub size : n ≡ length (spelling16 big c)
@@ -163,7 +163,7 @@ reads_more big bytes text at w c r ok b w-is =
 pub none16_at_end : (big : Bool) (bytes : List ℕ) → length bytes ≤ 0 → BeginsWithNone16 big bytes
 none16_at_end big bytes h c ok b = let s = units big bytes c ok b in omega arith
 
--- the value in front is the character that stands there
+-- the value of the first units is the character that they spell
 pub value16_is : (big : Bool) (bytes : List ℕ) (c : ℕ) → IsChar c → Begins16 big c bytes → value16 big bytes ≡ c
 unfolding value16
 value16_is big bytes c ok b =

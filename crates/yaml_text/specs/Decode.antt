@@ -1,4 +1,4 @@
--- Decoding: the characters that an input spells, or what is wrong behind them (YAML 1.1, sections 5.1 and 5.2).
+-- Decoding: the characters that an input spells, or what is wrong after them (YAML 1.1, sections 5.1 and 5.2).
 use Rattle.std.specs.Prelude.{ℕ, zero, suc, ◌≡◌, ◌+◌, ◌<◌, ◌≤◌, ◌⊎◌, Bool, ◌&&◌, ◌==◌, slice_index, if◌then◌else◌, List, [], ◌∷◌, ◌++◌, length, take, drop, encode_utf8, Option, Some, None, Result, Ok, Err, option_map, false, true}
 use Rattle.std.specs.Str.{bytes_eq}
 use Rattle.yaml_text.specs.declared.types.yaml_encoding_t.{yaml_encoding_t}
@@ -30,11 +30,11 @@ spelled YAML_UTF8_ENCODING cs = utf8 cs
 spelled YAML_UTF16LE_ENCODING cs = utf16 false cs
 spelled YAML_UTF16BE_ENCODING cs = utf16 true cs
 
--- The spelling of c stands in front of the bytes.
+-- The bytes begin with the spelling of c.
 abbrev pub Begins : yaml_encoding_t → ℕ → List ℕ → Type 0
 Begins e c bytes = (more : List ℕ) × (bytes ≡ spelling e c ++ more)
 
--- No character's does.
+-- They begin with the spelling of no character.
 abbrev pub BeginsWithNone : yaml_encoding_t → List ℕ → Type 0
 BeginsWithNone e bytes = (c : ℕ) → IsChar c → Begins e c bytes → ⊥
 
@@ -44,7 +44,7 @@ pub record IsFront (e : yaml_encoding_t) (bytes chars rest : List ℕ) : Type 0 
   pub each : AreChars chars
   pub longest : BeginsWithNone e rest
 
--- The value that the octets or units in front have, whether a character has it or not.
+-- The value that the first octets or units have, whether it is a character's or not.
 abbrev pub value_in_front : yaml_encoding_t → List ℕ → ℕ
 value_in_front YAML_ANY_ENCODING bytes = value8 bytes
 value_in_front YAML_UTF8_ENCODING bytes = value8 bytes
@@ -68,18 +68,18 @@ unfoldable pub front_of : yaml_encoding_t → ℕ → List ℕ → List ℕ
 front_of e zero bytes = []
 front_of e (suc n) bytes = and_then_list (first e bytes) (λ c. front_of e n (drop (length (spelling e c)) bytes))
 
--- The two bytes stand in front. A place past the end reads as 0.
+-- The bytes begin with these two. A place past the end reads as 0.
 abbrev pub begins_with : ℕ → ℕ → List ℕ → Bool
 begins_with a b bytes = slice_index bytes 0 == a && slice_index bytes 1 == b
 
--- The encoding that is set or, where none is, told by a byte order mark in front; without one it is UTF-8.
+-- The encoding that is set; if none is, the one of the byte order mark at the beginning; without one it is UTF-8.
 abbrev pub encoding_of : yaml_encoding_t → List ℕ → yaml_encoding_t
 encoding_of YAML_ANY_ENCODING input = if begins_with 0xFF 0xFE input then YAML_UTF16LE_ENCODING else if begins_with 0xFE 0xFF input then YAML_UTF16BE_ENCODING else YAML_UTF8_ENCODING
 encoding_of YAML_UTF8_ENCODING input = YAML_UTF8_ENCODING
 encoding_of YAML_UTF16LE_ENCODING input = YAML_UTF16LE_ENCODING
 encoding_of YAML_UTF16BE_ENCODING input = YAML_UTF16BE_ENCODING
 
--- How many bytes of a mark are dropped: none where an encoding is set.
+-- How many bytes of a byte order mark are dropped: none if an encoding is set.
 abbrev pub dropped : yaml_encoding_t → List ℕ → ℕ
 dropped YAML_ANY_ENCODING input = if begins_with 0xFF 0xFE input then 2 else if begins_with 0xFE 0xFF input then 2 else if begins_with 0xEF 0xBB input && slice_index input 2 == 0xBF then 3 else 0
 dropped YAML_UTF8_ENCODING input = 0
@@ -89,7 +89,7 @@ dropped YAML_UTF16BE_ENCODING input = 0
 abbrev pub behind_mark : yaml_encoding_t → List ℕ → List ℕ
 behind_mark setting input = drop (dropped setting input) input
 
--- What is wrong with bytes in front of which no character stands.
+-- What is wrong with bytes that begin with no character.
 abbrev pub offence : yaml_encoding_t → List ℕ → offence_t
 offence YAML_ANY_ENCODING bytes = offence8 bytes
 offence YAML_UTF8_ENCODING bytes = offence8 bytes
@@ -100,7 +100,7 @@ offence YAML_UTF16BE_ENCODING bytes = offence16 true bytes
 unfoldable pub front : yaml_encoding_t → List ℕ → Text
 front setting input = record { encoding = encoding_of setting input; chars = front_of (encoding_of setting input) (length (behind_mark setting input)) (behind_mark setting input) }
 
--- How many bytes of the input the mark and the front take.
+-- How many bytes of the input the byte order mark and the front take.
 abbrev pub front_len : yaml_encoding_t → List ℕ → ℕ
 front_len setting input = dropped setting input + length (spelled (encoding_of setting input) (front setting input).chars)
 
@@ -108,7 +108,7 @@ abbrev pub refusal_of : yaml_encoding_t → ℕ → List ℕ → Option Fault
 refusal_of e before [] = None
 refusal_of e before (b ∷ bytes) = Some (reader_fault before (offence e (b ∷ bytes)))
 
--- The fault of what stands behind the front, if anything does.
+-- The fault of what follows the front, if anything does.
 unfoldable pub refusal : yaml_encoding_t → List ℕ → Option Fault
 refusal setting input = refusal_of (encoding_of setting input) (front_len setting input) (drop (front_len setting input) input)
 
@@ -120,16 +120,16 @@ unless_refused (Some fault) text = Err fault
 abbrev pub decoded : yaml_encoding_t → List ℕ → Result Text Fault
 decoded setting input = unless_refused (refusal setting input) (front setting input)
 
--- A text of these bytes and a fault behind it, where so many bytes of the input were dropped in front: their front, and
--- what is wrong with the rest.
+-- A text and a fault: the front of these bytes, and what is wrong with the rest, if so many bytes of the input were
+-- dropped before them.
 pub record Fronts (e : yaml_encoding_t) (before : ℕ) (bytes : List ℕ) (text : Text) (fault : Option Fault) : Type 0 where
   pub rest : List ℕ
   pub encoding : text.encoding ≡ e
   pub front : IsFront e bytes text.chars rest
   pub refusal : fault ≡ refusal_of e (before + length (spelled e text.chars)) rest
 
--- The text is the front of the input: the longest list of characters whose spellings, joined, begin what stands behind
--- its byte order mark.
+-- The text is the front of the input: the longest list of characters whose spellings, joined, begin what follows its
+-- byte order mark.
 pub record IsFrontOf (setting : yaml_encoding_t) (input : List ℕ) (text : Text) : Type 0 where
   pub encoding : text.encoding ≡ encoding_of setting input
   pub each : AreChars text.chars
@@ -143,7 +143,7 @@ pub record Spells (setting : yaml_encoding_t) (input : List ℕ) (text : Text) :
   pub each : AreChars text.chars
   pub bytes : behind_mark setting input ≡ spelled text.encoding text.chars
 
--- The input spells no text: the fault is what is wrong behind its front.
+-- The input spells no text: the fault is what is wrong after its front.
 pub record IsRefused (setting : yaml_encoding_t) (input : List ℕ) (fault : Fault) : Type 0 where
   pub chars : List ℕ
   pub rest : List ℕ
@@ -155,12 +155,12 @@ pub record IsRefused (setting : yaml_encoding_t) (input : List ℕ) (fault : Fau
 abbrev pub refusal_seen : Option yaml_fault_t → Option Fault
 refusal_seen fault = option_map fault_of fault
 
--- A call answered what was asked for, or memory was refused.
+-- A call returned what it should, or memory was refused.
 abbrev pub Decodes : Result Text yaml_fault_t → Result Text Fault → Type 0
 Decodes (Ok text) decoded = decoded ≡ Ok text
 Decodes (Err fault) decoded = (fault_of fault ≡ memory_fault) ⊎ (decoded ≡ Err (fault_of fault))
 
--- What a call answered, with the fault's texts in place of where they lie.
+-- What a call returned, with the fault's texts instead of references to them.
 abbrev pub outcome : Result Text yaml_fault_t → Result Text Fault
 outcome (Ok text) = Ok text
 outcome (Err fault) = Err (fault_of fault)

@@ -1,4 +1,4 @@
--- Faults, with their texts in place of where they lie.
+-- Faults, with their texts instead of references to them.
 use Rattle.std.specs.Prelude.{ℕ, ◌+◌, ℤ, pos, List, Option, Some, None}
 use Rattle.std.specs.Option.{option_copied}
 use Rattle.yaml_text.specs.declared.types.yaml_error_type_t.{yaml_error_type_t}
@@ -24,11 +24,11 @@ fault_of e = record { error = e.error; problem = option_copied e.problem; offset
 abbrev pub zero_mark : yaml_mark_t
 zero_mark = record { index = 0; line = 0; column = 0 }
 
--- Memory was wanted.
+-- Memory was refused.
 abbrev pub memory_fault : Fault
 memory_fault = record { error = YAML_MEMORY_ERROR; problem = None; offset = 0; value = pos 0; problem_mark = zero_mark; context = None; context_mark = zero_mark }
 
--- An offence that stands behind so many bytes of the input.
+-- The fault of an offence after so many bytes of the input.
 abbrev pub reader_fault : ℕ → offence_t → Fault
 reader_fault before o = record { error = YAML_READER_ERROR; problem = Some (problem_text o.problem); offset = before + o.offset; value = o.value; problem_mark = zero_mark; context = None; context_mark = zero_mark }
 

@@ -20,29 +20,29 @@ abbrev pub breaks : List ℕ → ℕ
 breaks [] = 0
 breaks (c ∷ after) = one_more_if (ends_break c after) (breaks after)
 
--- how many characters stand behind the last break
+-- how many characters come after the last break
 unfoldable pub column : List ℕ → ℕ
 column cs = prefix_len (λ c. not (is_break c)) (reverse cs)
 
--- the mark behind these characters
+-- the mark after these characters
 abbrev pub mark_of : List ℕ → yaml_mark_t
 mark_of before = record { index = length (utf8 before); line = breaks before; column = column before }
 
--- The mark behind one character more, before others.
+-- The mark after one character c more, which the characters `after` follow.
 abbrev pub mark_behind : yaml_mark_t → ℕ → List ℕ → yaml_mark_t
 mark_behind m c after = if ends_break c after then record { index = m.index + len_utf8 c; line = m.line + 1; column = 0 } else record { index = m.index + len_utf8 c; line = m.line; column = m.column + 1 }
 
--- The mark behind n characters more, kept as one goes.
+-- The mark after n characters more, moved character by character.
 abbrev pub mark_on : ℕ → yaml_mark_t → List ℕ → yaml_mark_t
 mark_on zero m cs = m
 mark_on (suc n) m [] = m
 mark_on (suc n) m (c ∷ cs) = mark_on n (mark_behind m c cs) cs
 
--- CR and LF of one break stand on the two sides
+-- CR and LF of one break are on the two sides
 abbrev pub cuts_break : List ℕ → List ℕ → Bool
 cuts_break before left = is_crlf (slice_index before (length before - 1)) (slice_index left 0)
 
--- A place in a text: what stands before it, and what is left.
+-- A place in a text: what is before it, and what is left.
 pub record At : Type 0 where
   pub before : List ℕ
   pub left : List ℕ
@@ -51,11 +51,11 @@ pub record At : Type 0 where
 abbrev pub past : ℕ → At → At
 past n at = record { before = at.before ++ take n at.left; left = drop n at.left }
 
--- how many characters the break in front has
+-- how many characters the break at the beginning has
 abbrev pub break_len : List ℕ → ℕ
 break_len left = if is_crlf (slice_index left 0) (slice_index left 1) then 2 else 1
 
--- The mark stands in the bytes of a text.
+-- The mark is in the bytes of a text.
 pub record IsAt (bytes : List ℕ) (mark : yaml_mark_t) : Type 0 where
   pub within : mark.index ≤ length bytes
   pub front : IsText (take mark.index bytes)
@@ -67,11 +67,11 @@ pub record IsAt (bytes : List ℕ) (mark : yaml_mark_t) : Type 0 where
 abbrev pub at_of : List ℕ → yaml_mark_t → At
 at_of bytes mark = record { before = chars (take mark.index bytes); left = chars (drop mark.index bytes) }
 
--- how many characters stand between a place and the next one
+-- how many characters are between a place and the next one
 abbrev pub step_len : List ℕ → ℕ
 step_len left = if is_break (slice_index left 0) then break_len left else 1
 
--- The place p of a text is at this index of its UTF-8, and does not part CR and LF.
+-- The place p of a text is at this index of its UTF-8, and not between CR and LF.
 pub record IsPlaceAt (text : List ℕ) (index p : ℕ) : Type 0 where
   pub within : p ≤ length text
   pub index_is : index ≡ length (utf8 (take p text))
@@ -84,11 +84,11 @@ IsPlace text index = (p : ℕ) × IsPlaceAt text index p
 abbrev pub mark_at : List ℕ → ℕ → yaml_mark_t
 mark_at text p = mark_of (take p text)
 
--- the same told by the bytes: no character and no CR LF goes over the index
+-- the same by the bytes: the index is not within a character or a CR LF
 abbrev pub is_place_by : List ℕ → ℕ → Bool
 is_place_by bytes index = (nat_le index (length bytes) && not (continues (slice_index bytes index))) && not (nat_lt 0 index && is_crlf_at bytes (index - 1))
 
--- The characters cs stand between the mark and the place.
+-- The characters cs are between the mark and the place.
 pub record IsSince (mark : yaml_mark_t) (at : At) (cs : List ℕ) : Type 0 where
   pub before : List ℕ
   pub parts : at.before ≡ before ++ cs

@@ -8,7 +8,7 @@ use Rattle.yaml_text.specs.declared.offence.offence_t.{offence_t}
 abbrev pub offence_at : problem_t → ℕ → ℤ → offence_t
 offence_at problem offset value = record { problem = problem; offset = offset; value = value }
 
--- How a fault says it.
+-- The words of a problem in a fault.
 unfoldable pub problem_text : problem_t → List ℕ
 problem_text LEAD = codes "invalid leading UTF-8 octet"
 problem_text SHORT = codes "incomplete UTF-8 octet sequence"

@@ -1,4 +1,4 @@
--- Tokens: what they say, and where they stand.
+-- Tokens: what they say, and where they are.
 use Rattle.std.specs.Prelude.{ℕ, ℤ, List, length}
 use Rattle.yaml_text.specs.declared.types.yaml_mark_t.{yaml_mark_t}
 use Rattle.yaml_text.specs.declared.types.yaml_encoding_t.{yaml_encoding_t}
@@ -34,13 +34,13 @@ pub data TokenData : Type 0 where
   TAG : (handle : List ℕ) (suffix : List ℕ) → TokenData
   SCALAR : (value : List ℕ) (style : yaml_scalar_style_t) → TokenData
 
--- A token: what it says, the mark where it starts, and the mark behind it.
+-- A token: what it says, the mark of its start, and the mark after it.
 pub record Token : Type 0 where
   pub token_data : TokenData
   pub start_mark : yaml_mark_t
   pub end_mark : yaml_mark_t
 
--- What a token of the code says, as the definitions see it: of a text its bytes, whatever room it has.
+-- What a token of the code says, as the definitions see it: of a text its bytes, whatever its capacity.
 abbrev pub data_of : unnamed_yaml_token_t_data → TokenData
 data_of code.NO_TOKEN = NO_TOKEN
 data_of (code.STREAM_START encoding) = STREAM_START encoding

@@ -7,7 +7,7 @@ use Rattle.yaml_text.specs.Offence.{offence_at}
 use Rattle.yaml_text.specs.declared.offence.problem_t.TheVariants.{HALF_UNIT, LOW_UNIT, HALF_PAIR, NO_LOW_UNIT, CONTROL}
 use Rattle.yaml_text.specs.declared.offence.offence_t.{offence_t}
 
--- The two bytes of a unit, the great one first or last.
+-- The two bytes of a unit, the high one first or last.
 abbrev pub unit : Bool → ℕ → List ℕ
 unit big u = if big then (u / 256) ∷ (u % 256) ∷ [] else (u % 256) ∷ (u / 256) ∷ []
 
@@ -38,11 +38,11 @@ is_high u = is_within 0xD800 0xDBFF u
 abbrev pub pair_of : ℕ → ℕ → ℕ
 pair_of u v = 0x10000 + (u - 0xD800) * 1024 + (v - 0xDC00)
 
--- The value that the unit or the pair in front has.
+-- The value that the first unit or pair has.
 unfoldable pub value16 : Bool → List ℕ → ℕ
 value16 big bytes = if is_high (unit_at big bytes 0) then pair_of (unit_at big bytes 0) (unit_at big bytes 2) else unit_at big bytes 0
 
--- What is wrong with bytes in front of which no character stands: the first row that fits.
+-- What is wrong with bytes that begin with no character: the first row that fits.
 unfoldable pub offence16 : Bool → List ℕ → offence_t
 offence16 big bytes =
     let u = unit_at big bytes 0 in
@@ -54,11 +54,11 @@ offence16 big bytes =
     else if is_high u then offence_at CONTROL 0 (pos (pair_of u v))
     else offence_at CONTROL 0 (pos u)
 
--- The spelling of c stands in front of the bytes.
+-- The bytes begin with the spelling of c.
 abbrev pub Begins16 : Bool → ℕ → List ℕ → Type 0
 Begins16 big c bytes = (more : List ℕ) × (bytes ≡ spelling16 big c ++ more)
 
--- No character's does.
+-- They begin with the spelling of no character.
 abbrev pub BeginsWithNone16 : Bool → List ℕ → Type 0
 BeginsWithNone16 big bytes = (c : ℕ) → IsChar c → Begins16 big c bytes → ⊥
 

@@ -1,19 +1,19 @@
--- UTF-8: octets of which the first tells how many follow. How a character is spelled is std's `encode_utf8`.
+-- UTF-8: octets of which the first says how many follow. How a character is spelled is std's `encode_utf8`.
 use Rattle.std.specs.Prelude.{ℕ, ◌+◌, ◌*◌, ◌%◌, pos, negsuc, Bool, ◌&&◌, ◌||◌, nat_lt, ◌==◌, not, if◌then◌else◌, List, length, slice_index}
 use Rattle.yaml_text.specs.Chars.{is_within}
 use Rattle.yaml_text.specs.Offence.{offence_at}
 use Rattle.yaml_text.specs.declared.offence.problem_t.TheVariants.{LEAD, SHORT, TRAIL, LENGTH, VALUE, CONTROL}
 use Rattle.yaml_text.specs.declared.offence.offence_t.{offence_t}
 
--- How many octets a character takes that begins with this one, and 0 where none does.
+-- How many octets a character that begins with this one takes, and 0 if none begins with it.
 abbrev pub width_of : ℕ → ℕ
 width_of b = if nat_lt b 0x80 then 1 else if nat_lt b 0xC0 then 0 else if nat_lt b 0xE0 then 2 else if nat_lt b 0xF0 then 3 else if nat_lt b 0xF8 then 4 else 0
 
--- An octet behind a first one.
+-- An octet after a first one.
 abbrev pub continues : ℕ → Bool
 continues b = is_within 0x80 0xBF b
 
--- The place of the first octet behind the lead that continues nothing, and 0 where each of them does.
+-- The place of the first octet after the lead that is no continuation, and 0 if each of them is one.
 unfoldable pub stray_at : ℕ → List ℕ → ℕ
 stray_at width bytes =
     if nat_lt 1 width && not (continues (slice_index bytes 1)) then 1
@@ -30,7 +30,7 @@ value_of width bytes =
     let e = slice_index bytes 3 % 64 in
     if width == 1 then b else if width == 2 then b % 32 * 64 + c else if width == 3 then b % 16 * 4096 + c * 64 + d else b % 8 * 262144 + c * 4096 + d * 64 + e
 
--- The value that the octets in front have.
+-- The value that the first octets have.
 abbrev pub value8 : List ℕ → ℕ
 value8 bytes = value_of (width_of (slice_index bytes 0)) bytes
 
@@ -42,7 +42,7 @@ least_of width = if width == 2 then 0x80 else if width == 3 then 0x800 else if w
 abbrev pub is_scalar : ℕ → Bool
 is_scalar c = nat_lt c 0xD800 || is_within 0xE000 0x10FFFF c
 
--- What is wrong with bytes in front of which no character stands: the first row that fits.
+-- What is wrong with bytes that begin with no character: the first row that fits.
 unfoldable pub offence8 : List ℕ → offence_t
 offence8 bytes =
     let b = slice_index bytes 0 in

@@ -48,7 +48,7 @@ fn rest(bytes: &[u8], n: usize) -> &[u8]
     &bytes[n..]
 }
 
-/// How many times 64 bytes in front are characters by themselves, in bytes.
+/// How many of the first bytes, in steps of 64, are characters by themselves.
 #[inline(always)]
 fn far_len(bytes: &[u8]) -> usize
     ensures value { prefix_len is_single bytes.now ≡ result + prefix_len is_single (drop result bytes.now) }
@@ -72,7 +72,7 @@ fn slow_len(bytes: &[u8], from: usize) -> usize
     i
 }
 
-/// How many bytes in front are characters by themselves.
+/// How many of the first bytes are characters by themselves.
 #[inline(always)]
 pub(crate) fn single_len(bytes: &[u8]) -> usize
     ensures value { result ≡ prefix_len is_single bytes.now }

@@ -29,7 +29,7 @@ fn of_two<F: Fn(&[u8], usize) -> bool>(class: &F) -> (u64, u64)
     (count, sum)
 }
 
-/// The same of three bytes, of which the first is one with which more than one byte counts.
+/// The same of three bytes, for first bytes with which more than one byte counts.
 fn of_three<F: Fn(&[u8], usize) -> bool>(class: &F) -> (u64, u64)
     requires { F.IsAlwaysCallable class.now }
 {

@@ -1,7 +1,8 @@
-//! The classes of characters, told by the bytes at a place. A place at or past the end reads as a byte 0.
+//! The classes of characters, as tests of the bytes of `s` at the index `at`, in bytes from 0. At or past the end a byte reads
+//! as 0.
 //!
-//! Each class says two things: which bytes it holds for, on any bytes and at any place; and, at the start of a character of
-//! valid UTF-8 or at the end of it, for which characters, where the end counts as character 0.
+//! Each class has two clauses: which bytes it holds for, on any bytes and at any index; and which characters it holds for, at
+//! the start of a character of valid UTF-8 or at the end, where the end counts as character 0.
 ghost use Rattle.std.specs.Prelude.{ℕ, ◌≡◌, ◌+◌, ◌-◌, ◌<◌, ◌≤◌, ◌||◌, true, pos, List, slice_index};
 ghost use Rattle.std.specs.Char.{len_utf8};
 ghost use Rattle.yaml_text.specs.Utf8.{width_of};
@@ -104,7 +105,7 @@ fn is_blank_byte(b: u8) -> bool
     matches!(b, b' ' | b'\t')
 }
 
-/// Whether a letter, a digit, `_` or `-` stands there.
+/// Whether a letter, a digit, `_` or `-` is there.
 #[inline(always)]
 #[tactic(auto, using(crate::proofs::ClassLaws::alpha_law))]
 pub fn IS_ALPHA(s: &[u8], at: usize) -> bool
@@ -114,7 +115,7 @@ pub fn IS_ALPHA(s: &[u8], at: usize) -> bool
     is_alpha_byte(byte_at(s, at))
 }
 
-/// Whether a decimal digit stands there.
+/// Whether a decimal digit is there.
 #[inline(always)]
 #[tactic(auto, using(crate::proofs::ClassLaws::digit_law))]
 pub fn IS_DIGIT(s: &[u8], at: usize) -> bool
@@ -124,7 +125,7 @@ pub fn IS_DIGIT(s: &[u8], at: usize) -> bool
     is_digit_byte(byte_at(s, at))
 }
 
-/// The value of the decimal digit there, from 0 to 9.
+/// The value of the decimal digit there, from 0 to 9. A digit must be there.
 pub fn AS_DIGIT(s: &[u8], at: usize) -> i32
     requires { is_digit (slice_index s.now at) ≡ true }
     ensures bytes { result ≡ pos (slice_index s.now at - 0x30) }
@@ -133,7 +134,7 @@ pub fn AS_DIGIT(s: &[u8], at: usize) -> i32
     i32::from(byte_at(s, at) - b'0')
 }
 
-/// Whether a hexadecimal digit stands there.
+/// Whether a hexadecimal digit is there.
 #[inline(always)]
 #[tactic(auto, using(crate::proofs::ClassLaws::hex_law))]
 pub fn IS_HEX(s: &[u8], at: usize) -> bool
@@ -143,7 +144,7 @@ pub fn IS_HEX(s: &[u8], at: usize) -> bool
     is_hex_byte(byte_at(s, at))
 }
 
-/// The value of the hexadecimal digit there, from 0 to 15.
+/// The value of the hexadecimal digit there, from 0 to 15. A digit must be there.
 pub fn AS_HEX(s: &[u8], at: usize) -> i32
     requires { is_hex (slice_index s.now at) ≡ true }
     ensures bytes { result ≡ pos (hex_value (slice_index s.now at)) }
@@ -153,7 +154,7 @@ pub fn AS_HEX(s: &[u8], at: usize) -> i32
     i32::from(b - hex_excess(b))
 }
 
-/// Whether a character of ASCII stands there, or the end.
+/// Whether an ASCII character is there, or the end.
 #[inline(always)]
 #[tactic(auto, using(crate::proofs::ClassLaws::ascii_law))]
 pub fn IS_ASCII(s: &[u8], at: usize) -> bool
@@ -163,7 +164,7 @@ pub fn IS_ASCII(s: &[u8], at: usize) -> bool
     byte_at(s, at) <= 0x7F
 }
 
-/// Whether a character stands there that can be shown.
+/// Whether a printable character is there.
 #[inline(always)]
 #[tactic(auto, using(crate::proofs::ClassLaws::printable_law))]
 pub fn IS_PRINTABLE(s: &[u8], at: usize) -> bool
@@ -183,7 +184,7 @@ pub fn IS_Z(s: &[u8], at: usize) -> bool
     byte_at(s, at) == b'\0'
 }
 
-/// Whether a byte order mark stands there.
+/// Whether a byte order mark is there.
 #[inline(always)]
 #[tactic(auto, using(crate::proofs::ClassLaws::bom_law))]
 pub fn IS_BOM(s: &[u8], at: usize) -> bool
@@ -193,7 +194,7 @@ pub fn IS_BOM(s: &[u8], at: usize) -> bool
     bom_at(s, at)
 }
 
-/// Whether a space stands there.
+/// Whether a space is there.
 #[inline(always)]
 #[tactic(auto, using(crate::proofs::ClassLaws::space_law))]
 pub fn IS_SPACE(s: &[u8], at: usize) -> bool
@@ -203,7 +204,7 @@ pub fn IS_SPACE(s: &[u8], at: usize) -> bool
     byte_at(s, at) == b' '
 }
 
-/// Whether a tab stands there.
+/// Whether a tab is there.
 #[inline(always)]
 #[tactic(auto, using(crate::proofs::ClassLaws::tab_law))]
 pub fn IS_TAB(s: &[u8], at: usize) -> bool
@@ -213,7 +214,7 @@ pub fn IS_TAB(s: &[u8], at: usize) -> bool
     byte_at(s, at) == b'\t'
 }
 
-/// Whether a space or a tab stands there.
+/// Whether a space or a tab is there.
 #[inline(always)]
 #[tactic(auto, using(crate::proofs::ClassLaws::blank_law))]
 pub fn IS_BLANK(s: &[u8], at: usize) -> bool
@@ -223,7 +224,7 @@ pub fn IS_BLANK(s: &[u8], at: usize) -> bool
     is_blank_byte(byte_at(s, at))
 }
 
-/// Whether a break stands there: a carriage return, a line feed, U+0085, U+2028 or U+2029.
+/// Whether a break is there: a carriage return, a line feed, U+0085, U+2028 or U+2029.
 #[inline(always)]
 #[tactic(auto, using(crate::proofs::ClassLaws::break_law))]
 pub fn IS_BREAK(s: &[u8], at: usize) -> bool
@@ -233,7 +234,7 @@ pub fn IS_BREAK(s: &[u8], at: usize) -> bool
     breaks_at(s, at)
 }
 
-/// Whether a carriage return and a line feed stand there.
+/// Whether a carriage return and then a line feed are there.
 #[inline(always)]
 #[tactic(auto, using(crate::proofs::ClassLaws::crlf_law))]
 pub fn IS_CRLF(s: &[u8], at: usize) -> bool
@@ -243,7 +244,7 @@ pub fn IS_CRLF(s: &[u8], at: usize) -> bool
     crlf_at(s, at)
 }
 
-/// Whether a break stands there, or the end.
+/// Whether a break is there, or the end.
 #[inline(always)]
 #[tactic(auto, using(crate::proofs::ClassLaws::breakz_law))]
 pub fn IS_BREAKZ(s: &[u8], at: usize) -> bool
@@ -253,7 +254,7 @@ pub fn IS_BREAKZ(s: &[u8], at: usize) -> bool
     IS_BREAK(s, at) || IS_Z(s, at)
 }
 
-/// Whether a space, a tab or a break stands there, or the end.
+/// Whether a space, a tab or a break is there, or the end.
 #[inline(always)]
 #[tactic(auto, using(crate::proofs::ClassLaws::blankz_law))]
 pub fn IS_BLANKZ(s: &[u8], at: usize) -> bool
@@ -263,7 +264,7 @@ pub fn IS_BLANKZ(s: &[u8], at: usize) -> bool
     IS_BLANK(s, at) || IS_BREAKZ(s, at)
 }
 
-/// How many bytes the character has that begins with the byte there, and 0 where none does.
+/// How many bytes the character that begins with the byte there has, or 0 if none begins with it.
 #[inline(always)]
 #[tactic(auto, using(crate::proofs::ClassLaws::width_law))]
 pub fn WIDTH(s: &[u8], at: usize) -> usize

@@ -1,4 +1,4 @@
-//! Decoding: the text that an input spells, or its longest front and what is wrong behind it.
+//! Decoding: the text that an input spells, or its longest front and what is wrong after it.
 ghost use Rattle.std.specs.Prelude.{ℕ, ◌≡◌, ◌+◌, ◌<◌, ◌≤◌, ◌^◌, ◌⊎◌, option_map, length, take, drop, true, false, if◌then◌else◌, IfOk, IfErr, IsOk, IsNone, OnSome, IfSome};
 ghost use Rattle.yaml_text.specs.Chars.{IsText, utf8};
 ghost use Rattle.yaml_text.specs.Utf8.{offence8};
@@ -31,7 +31,7 @@ fn up_to(bytes: &[u8], at: usize) -> &[u8]
     &bytes[..at]
 }
 
-/// How many bytes the front of a text has, and what is wrong behind it.
+/// How many bytes the front of a text has, and what is wrong after it.
 fn front8(bytes: &[u8]) -> (usize, Option<offence_t>)
     ensures within { result.0 ≤ length bytes.now }
     ensures text { IsText (take result.0 bytes.now) }
@@ -51,7 +51,7 @@ fn front8(bytes: &[u8]) -> (usize, Option<offence_t>)
     (at, None)
 }
 
-/// The encoding that is set or told by a byte order mark, and how many bytes of such a mark are dropped.
+/// The encoding that is set, or else that of the byte order mark, or else UTF-8; and how many bytes of such a mark are dropped.
 fn told(setting: yaml_encoding_t, input: &[u8]) -> (yaml_encoding_t, usize)
     ensures encoding { result.0 ≡ encoding_of setting input.now }
     ensures dropped { result.1 ≡ dropped setting input.now }
@@ -68,7 +68,7 @@ fn told(setting: yaml_encoding_t, input: &[u8]) -> (yaml_encoding_t, usize)
     }
 }
 
-/// The fault of an offence that stands behind so many bytes.
+/// The fault of an offence after so many bytes.
 fn refusal(before: usize, offence: Option<offence_t>) -> Option<yaml_fault_t>
     requires { IfSome offence (λ o. before + o.offset < 2 ^ 64) }
     ensures { refusal_seen result ≡ option_map (reader_fault before) offence }
@@ -79,7 +79,7 @@ fn refusal(before: usize, offence: Option<offence_t>) -> Option<yaml_fault_t>
     }
 }
 
-/// The front in UTF-8, which is borrowed, behind so many bytes of the input.
+/// The front in UTF-8, which is borrowed, after so many bytes of the input.
 fn front_in_utf8<'a>(bytes: &'a [u8], before: usize) -> (yaml_text_t<'a>, Option<yaml_fault_t>)
     requires { before + length bytes.now < 2 ^ 64 }
     ensures { Fronts YAML_UTF8_ENCODING before bytes.now result.0 (refusal_seen result.1) }
@@ -99,7 +99,7 @@ fn order(big: bool) -> yaml_encoding_t
     }
 }
 
-/// The front in UTF-16, which is copied into UTF-8, behind so many bytes of the input.
+/// The front in UTF-16, which is copied into UTF-8, after so many bytes of the input.
 fn front_in_utf16<'a>(
     alloc: Global,
     bytes: &[u8],
@@ -117,12 +117,15 @@ fn front_in_utf16<'a>(
     Ok((text, refusal(before + len, offence)))
 }
 
-/// The front of an input, and the fault of what stands behind it.
+/// The front of an input, and the fault of what follows it, if anything does.
 ///
-/// The front is the longest list of characters whose spellings, joined, begin the input behind its byte order mark, which is
-/// dropped where no encoding is set. Where anything is left behind it the fault says what is wrong there: its kind is reader,
-/// its offset counts the bytes of the whole input. `Err` is a want of memory, which comes for UTF-16 alone: in UTF-8 the text
-/// borrows the input (YAML 1.1, sections 5.1 and 5.2).
+/// The front is the longest list of characters whose spellings, joined, begin the input after its byte order mark, which is
+/// dropped if no encoding is set (YAML 1.1, sections 5.1 and 5.2). In UTF-8 the text borrows the input. The fault says what is
+/// wrong with what follows the front: its kind is reader, and its offset counts the bytes of the whole input, from 0.
+///
+/// # Errors
+///
+/// A fault of kind memory, for UTF-16 only.
 pub fn yaml_decode_front<'a>(
     alloc: Global,
     input: &'a [u8],
@@ -145,9 +148,13 @@ pub fn yaml_decode_front<'a>(
 
 /// The text that the input spells, or why it spells none.
 ///
-/// `Err` is a fault of kind reader, with the offset in bytes of the whole input, the octet, unit or code point that is wrong
-/// there (-1 where there is none) and the problem; or a want of memory, which comes for UTF-16 alone. In UTF-8 the text
-/// borrows the input, without the byte order mark that is dropped where no encoding is set (YAML 1.1, sections 5.1 and 5.2).
+/// In UTF-8 the text borrows the input, without the byte order mark, which is dropped if no encoding is set (YAML 1.1,
+/// sections 5.1 and 5.2).
+///
+/// # Errors
+///
+/// A fault of kind reader if the input is no text: the problem, its offset in bytes of the whole input, from 0, and the
+/// octet, unit or code point that is wrong there (-1 if there is none). A fault of kind memory, for UTF-16 only.
 pub fn yaml_decode<'a>(
     alloc: Global,
     input: &'a [u8],

@@ -11,7 +11,7 @@ fn hash_of<T: Hash>(value: &T) -> u64 {
     hasher.finish()
 }
 
-/// Asserts that the value of that number stands where it is among all of them, is equal to itself alone, and has its
+/// Asserts that the value of that number is at that place among all of them, is equal only to itself, and has its
 /// own hash.
 fn expect_place<T: Copy + Ord + Hash>(rt: &impl Abort, i: usize, a: &T, values: &[T]) {
     for (j, b) in values.iter().enumerate() {
@@ -23,7 +23,7 @@ fn expect_place<T: Copy + Ord + Hash>(rt: &impl Abort, i: usize, a: &T, values: 
     }
 }
 
-/// Asserts that the values stand in their order, and that equal values, and they alone, have the same hash.
+/// Asserts that the values are in their order, and that only equal values have the same hash.
 fn expect_order<T: Copy + Ord + Hash>(rt: &impl Abort, values: &[T]) {
     for (i, a) in values.iter().enumerate() {
         expect_place(rt, i, a, values);

@@ -6,7 +6,7 @@ use crate::offence::{offence_t, problem_text};
 use crate::types::{yaml_error_type_t, yaml_mark_t};
 use thiserror::Error;
 
-/// Why an input was refused.
+/// Why an input was refused, and where.
 ///
 /// A fault of kind memory has no problem, no context and only zeros. A fault of kind reader has a problem, its offset and
 /// a value. A fault of kind scanner has a problem and its mark, and mostly a context and its mark.
@@ -16,9 +16,9 @@ pub struct yaml_fault_t {
     pub error: yaml_error_type_t,
     /// What is wrong.
     pub problem: Option<&'static str>,
-    /// Bytes of the input that stand before what is wrong, for a reader fault.
+    /// For a reader fault: how many bytes of the input come before what is wrong.
     pub problem_offset: u64,
-    /// The octet, unit or code point that is wrong, or -1 where there is none, for a reader fault.
+    /// For a reader fault: the octet, unit or code point that is wrong, or -1 if there is none.
     pub problem_value: i32,
     pub problem_mark: yaml_mark_t,
     /// What was being read.
@@ -32,7 +32,7 @@ const ZERO: yaml_mark_t = yaml_mark_t {
     column: 0,
 };
 
-/// A want of memory.
+/// The fault of refused memory.
 pub(crate) fn make_memory_fault() -> yaml_fault_t
     ensures { fault_of result ≡ memory_fault }
 {
@@ -47,7 +47,7 @@ pub(crate) fn make_memory_fault() -> yaml_fault_t
     }
 }
 
-/// An offence behind so many bytes of the input.
+/// The fault of an offence after so many bytes of the input.
 pub(crate) fn make_reader_fault(before: u64, offence: offence_t) -> yaml_fault_t
     requires { before + offence.offset < 2 ^ 64 }
     ensures { fault_of result ≡ reader_fault before offence }

@@ -57,7 +57,7 @@ impl<'a> cursor_t<'a> {
         self.mark
     }
 
-    /// Whether a break stands here.
+    /// Whether a break is here.
     fn is_break(&self) -> bool
         ensures { result ≡ is_break (slice_index self.now.left 0) }
     {
@@ -101,7 +101,7 @@ impl<'a> cursor_t<'a> {
     }
 }
 
-/// Whether both sides of the index are text.
+/// Whether the index is the start of a character or the end.
 fn is_start(bytes: &[u8], index: usize) -> bool
     ensures { result ≡ (nat_le index (length bytes.now) && not (continues (slice_index bytes.now index))) }
 {
@@ -111,7 +111,7 @@ fn is_start(bytes: &[u8], index: usize) -> bool
     }
 }
 
-/// Whether CR stands before the index, and LF there.
+/// Whether CR is before the index, and LF at it.
 fn parts_crlf(bytes: &[u8], index: usize) -> bool
     ensures { result ≡ (nat_lt 0 index && is_crlf_at bytes.now (index - 1)) }
 {
@@ -124,7 +124,7 @@ fn is_place_by(bytes: &[u8], index: usize) -> bool
     is_start(bytes, index) && !parts_crlf(bytes, index)
 }
 
-/// Whether the index, in bytes of the text in UTF-8, is the start of a character or the end, and not between the two
+/// Whether the index, in bytes of the text in UTF-8 from 0, is the start of a character or the end, and not between the two
 /// characters of a CR LF.
 pub fn yaml_is_place(text: &yaml_text_t, index: usize) -> bool
     ensures { IsTrue result ↔ IsPlace text.now.chars index }
@@ -132,8 +132,9 @@ pub fn yaml_is_place(text: &yaml_text_t, index: usize) -> bool
     is_place_by(text.bytes(), index)
 }
 
-/// The mark of the place at an index in bytes of the text in UTF-8: that index, the breaks that end before it, and the
-/// characters since the last of them. CR LF is one break (YAML 1.1, section 5.4). It is counted from the front.
+/// The mark of the place at an index, in bytes of the text in UTF-8 from 0: that index, how many breaks end before it, and how
+/// many characters come after the last of them. CR LF is one break (YAML 1.1, section 5.4). The mark is counted from the
+/// front. The index must be a place (`yaml_is_place`).
 pub fn yaml_mark_at(text: &yaml_text_t, index: usize) -> yaml_mark_t
     requires { IsPlace text.now.chars index }
     ensures { (p : ℕ) → IsPlaceAt text.now.chars index p → result ≡ mark_at text.now.chars p }

@@ -2,7 +2,7 @@
 ghost use Rattle.std.specs.Prelude.{◌≡◌};
 ghost use Rattle.yaml_text.specs.Offence as spec;
 
-/// Why no character stands in front of bytes.
+/// Why bytes begin with no character.
 #[derive(Clone, Copy, PartialEq, Eq)]
 pub(crate) enum problem_t {
     LEAD,
@@ -17,7 +17,7 @@ pub(crate) enum problem_t {
     NO_LOW_UNIT,
 }
 
-/// A problem, how many bytes on it stands, and a value to show.
+/// A problem, how many bytes on it is, and a value to show.
 #[derive(Clone, Copy)]
 pub(crate) struct offence_t {
     pub problem: problem_t,

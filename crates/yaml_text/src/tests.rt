@@ -57,7 +57,7 @@ fn refusals(rt: HostRuntime) -> Result<(), Fail> {
     Ok(())
 }
 
-/// The bytes of a text, and all that is said of a refused one. That no memory is taken for them is seen by `tests/sessions.py`.
+/// The bytes of a text, and all that a fault says. `tests/sessions.py` checks that no memory is taken for them.
 #[test]
 fn text_or_fault(rt: HostRuntime) -> Result<(), Fail> {
     let text = yaml_decode(rt.alloc(), b"a: 1", ANY).map_err(|_| "a text")?;

@@ -8,7 +8,7 @@ use crate::types::yaml_encoding_t;
 use std::borrow::CowSlice;
 use std::marker::Model;
 
-/// A decoded text: how the input spelled it, and its characters. In UTF-8 it borrows the input.
+/// A decoded text: its encoding in the input, and its characters. In UTF-8 it borrows the input.
 #[derive(Drop)]
 pub struct yaml_text_t<'a> {
     encoding: yaml_encoding_t,
@@ -31,7 +31,7 @@ impl<'a> Model for yaml_text_t<'a> {
 }
 
 impl<'a> yaml_text_t<'a> {
-    /// How the input spelled the text: never `YAML_ANY_ENCODING`.
+    /// The encoding of the input: never `YAML_ANY_ENCODING`.
     pub fn encoding(&self) -> yaml_encoding_t
         ensures is { result ≡ self.now.encoding }
         ensures told { result ≢ YAML_ANY_ENCODING }
@@ -48,7 +48,7 @@ impl<'a> yaml_text_t<'a> {
     }
 }
 
-/// A text in UTF-8, where it stands.
+/// A text in UTF-8 that borrows its bytes.
 pub(crate) fn borrowed_text<'a>(bytes: &'a [u8]) -> yaml_text_t<'a>
     requires { IsText bytes.now }
     ensures { result ≡ record { encoding = YAML_UTF8_ENCODING; chars = chars bytes.now } }

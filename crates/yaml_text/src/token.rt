@@ -1,10 +1,10 @@
-//! Tokens: what a scanner answers.
+//! Tokens: what a scanner returns.
 ghost use Rattle.std.specs.Prelude.{◌≡◌};
 ghost use Rattle.yaml_text.specs.Fault.{zero_mark};
 
 use crate::types::{yaml_encoding_t, yaml_mark_t, yaml_scalar_style_t, yaml_token_type_t};
 
-/// What a token says: one variant a type. Texts are bytes: UTF-8, but for what a tag or a `%TAG` directive writes by `%`.
+/// What a token says: one variant for each type. Texts are bytes: UTF-8, except what a tag or a `%TAG` directive writes by `%`.
 #[derive(Drop, PartialEq, Eq)]
 pub enum unnamed_yaml_token_t_data {
     NO_TOKEN,
@@ -52,7 +52,7 @@ pub enum unnamed_yaml_token_t_data {
 impl unnamed_yaml_token_t_data {
     ghost use Rattle.yaml_text.specs.Token.{data_of, type_of, length_of};
 
-    /// The length of a scalar's value, in bytes; 0 for what is no scalar.
+    /// The length of a scalar's value, in bytes; 0 for every other token.
     pub fn length(&self) -> u64
         ensures { result ≡ length_of (data_of self.now) }
     {
@@ -118,7 +118,7 @@ impl unnamed_yaml_token_t_data {
     }
 }
 
-/// A token: what it says, and the marks where it starts and behind which it ends.
+/// A token: what it says, the mark of its start, and the mark after its last character.
 #[derive(Drop, PartialEq, Eq)]
 pub struct yaml_token_t {
     pub token_data: unnamed_yaml_token_t_data,
@@ -137,7 +137,7 @@ impl yaml_token_t {
         self.token_data.type_()
     }
 
-    /// The token that stands for none: of type `YAML_NO_TOKEN`, with zero marks.
+    /// The empty token: of type `YAML_NO_TOKEN`, with zero marks.
     pub fn empty() -> yaml_token_t
         ensures { token_of result ≡ record { token_data = NO_TOKEN; start_mark = zero_mark; end_mark = zero_mark } }
     {

@@ -4,18 +4,18 @@ use thiserror::Error;
 /// A place in a text.
 #[derive(Clone, Copy, Debug, PartialEq, Eq)]
 pub struct yaml_mark_t {
-    /// Bytes of the text in UTF-8 that stand before it, from 0.
+    /// How many bytes of the text in UTF-8 come before it.
     pub index: u64,
-    /// Line breaks that end before it, from 0.
+    /// How many line breaks end before it.
     pub line: u64,
-    /// Characters since the last break, from 0.
+    /// How many characters come between the last of these breaks and it.
     pub column: u64,
 }
 
 /// How bytes spell a text (YAML 1.1, section 5.2).
 #[derive(Clone, Copy, Debug, PartialEq, Eq, PartialOrd, Ord, Hash)]
 pub enum yaml_encoding_t {
-    /// As a byte order mark in front tells, or UTF-8.
+    /// As the byte order mark says, or UTF-8 without one.
     YAML_ANY_ENCODING,
     YAML_UTF8_ENCODING,
     /// The low byte of a unit first.
@@ -24,7 +24,7 @@ pub enum yaml_encoding_t {
     YAML_UTF16BE_ENCODING,
 }
 
-/// What kind of fault it is. The scanner makes those of memory, reader and scanner.
+/// The kind of a fault. The scanner makes those of memory, reader and scanner.
 #[derive(Clone, Copy, Debug, PartialEq, Eq, PartialOrd, Ord, Hash, Error)]
 pub enum yaml_error_type_t {
     #[error("none")]
@@ -81,7 +81,7 @@ pub enum yaml_mapping_style_t {
     YAML_FLOW_MAPPING_STYLE,
 }
 
-/// What kind of token it is.
+/// The type of a token.
 #[derive(Clone, Copy, Debug, PartialEq, Eq, PartialOrd, Ord, Hash)]
 pub enum yaml_token_type_t {
     YAML_NO_TOKEN,

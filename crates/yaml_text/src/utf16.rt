@@ -33,7 +33,7 @@ fn is_high(u: u32) -> bool
     matches!(u, 0xD800..=0xDBFF)
 }
 
-/// The character in front and how many bytes it has, or what is wrong where none stands.
+/// The first character and how many bytes it has, or what is wrong if the bytes begin with none.
 #[tactic(auto, unfolding(crate::specs::Utf16::offence16))]
 pub(crate) fn first_char16(bytes: &[u8], big: bool) -> Result<(u32, usize), offence_t>
     requires { 0 < length bytes.now }
@@ -71,7 +71,7 @@ pub(crate) fn first_char16(bytes: &[u8], big: bool) -> Result<(u32, usize), offe
     Ok((value, 4))
 }
 
-/// The front of a text in UTF-8, how many bytes spell it, and what is wrong behind them.
+/// The front of a text in UTF-8, how many bytes spell it, and what is wrong after them.
 pub(crate) fn front16(
     alloc: Global,
     bytes: &[u8],

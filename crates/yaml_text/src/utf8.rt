@@ -9,7 +9,7 @@ ghost use Rattle.yaml_text.specs.declared.types.yaml_encoding_t.TheVariants.{YAM
 use crate::offence::{offence_t, problem_t, refused};
 use std::alloc::AllocError;
 
-/// How many bytes a character has that begins with this one, and 0 where none does.
+/// How many bytes a character that begins with this one has, or 0 if none does.
 pub(crate) fn width_of(b: u8) -> usize
     ensures { result ≡ width_of b }
 {
@@ -92,7 +92,7 @@ fn is_scalar(c: u32) -> bool
     matches!(c, 0..=0xD7FF | 0xE000..=0x10FFFF)
 }
 
-/// The width of the character in front, or what is wrong where none stands.
+/// The width of the first character, or what is wrong if the bytes begin with none.
 #[tactic(auto, unfolding(crate::specs::Utf8::offence8))]
 pub(crate) fn first_char(bytes: &[u8]) -> Result<usize, offence_t>
     requires { 0 < length bytes.now }
@@ -125,7 +125,7 @@ pub(crate) fn first_char(bytes: &[u8]) -> Result<usize, offence_t>
     Ok(width)
 }
 
-/// Puts a character behind bytes, in UTF-8.
+/// Appends a character to bytes, in UTF-8.
 pub(crate) fn push_char(out: &mut Vec<u8>, c: u32) -> Result<(), AllocError>
     requires { IsScalar c }
     ensures ok { OnOk result (out.new.items ≡ out.old.items ++ encode_utf8 c) }

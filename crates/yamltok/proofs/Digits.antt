@@ -1,4 +1,4 @@
--- Digits that are written in front of a place.
+-- Digits that are written before a place.
 use Rattle.std.proofs.Common.{◌≡◌, ℕ, ◌+◌, ◌-◌, ◌/◌, ◌%◌, ◌^◌, ◌<◌, ◌≤◌, List, [], ◌∷◌, ◌++◌, length, drop, set}
 use Rattle.std.proofs.Common.{sym, ap, ◌∙◌, append_assoc, arith, length-append, length-drop}
 use Rattle.std.specs.Fmt.{decimal}
@@ -14,7 +14,7 @@ digits_room left number at end b before fits whole within room same written =
     simp (length-append, length-drop) at (ap length written) in
     omega (arith, decimal_nonempty left fits, length-decimal-le 20 number (omega arith) (omega arith) whole, lengths)
 
--- a byte that is written in front of a place
+-- a byte that is written before a place
 pub drop_written : (at y : ℕ) (b : List ℕ) → 1 ≤ at → at ≤ length b
     → drop (at - 1) (set b (at - 1) y) ≡ y ∷ drop at b
 drop_written at y b low high =

@@ -12,6 +12,6 @@ IsPlaceAt-end cs =
     let none : drop (length cs) cs ≡ [] = drop-length cs in
     record { within = omega arith; index_is = ap (λ l. length (utf8 l)) (sym (take-length cs)); whole = rw none (and-false _) }
 
--- so the mark there is that behind all characters
+-- so the mark there is that after all characters
 pub mark_at-end : (cs bytes : List ℕ) (m : yaml_mark_t) → bytes ≡ utf8 cs → ((p : ℕ) → IsPlaceAt cs (length bytes) p → m ≡ mark_at cs p) → m ≡ mark_of cs
 mark_at-end cs bytes m e h = h (length cs) (subst (λ (b : List ℕ). IsPlaceAt cs (length b) (length cs)) (sym e) (IsPlaceAt-end cs)) ∙ ap mark_of (take-length cs)

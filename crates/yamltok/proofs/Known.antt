@@ -11,7 +11,7 @@ Appends-trans (Some x) None c bs cs p q = absurd p
 Appends-trans (Some x) (Some y) None bs cs p q = absurd q
 Appends-trans (Some x) (Some y) (Some z) bs cs p q = q ∙ ap (λ l. l ++ cs) p ∙ append_assoc x bs cs
 
--- the front of a list, and then the front of what is behind it
+-- the front of a list, and then the front of what follows it
 pub take-then : {X : Type 0} (xs : List X) (at n : ℕ) → take at xs ++ take n (take (length xs - at) (drop at xs)) ≡ take (at + n) xs
 take-then xs at n =
     let rest : length (drop at xs) ≤ length xs - at = omega (arith, length-drop at xs) in

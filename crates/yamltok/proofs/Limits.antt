@@ -15,7 +15,7 @@ own = numerals_by_value (AllDigits 10) tells_digits
 limit_small : (n : ℕ) → is_limit n ≡ true → (1 ≤ n) × (n ≤ 65536)
 limit_small n l = let p = and_parts (nat_le 1 n) (nat_le n 65536) l in (leb-true 1 n p.0, leb-true n 65536 p.1)
 
--- a digit other than 0 stands in front
+-- a digit other than 0 comes first
 pub limit_led : (bs : List ℕ) (n : ℕ) → is_limit n ≡ true → bs ≡ decimal n → IsInRange 49 57 (get_or bs 0 0)
 limit_led bs n l e =
     let s = limit_small n l in

@@ -1,4 +1,4 @@
--- Texts that are put behind bytes.
+-- Texts that are appended to bytes.
 use Rattle.std.proofs.Common.{◌≡◌, ◌++◌, ℕ, List, [], Result, Ok, Err, sym, ap, ◌∙◌, append-nil}
 use Rattle.std.specs.Prelude.{is_ok, if◌then◌else◌}
 use Rattle.yamltok.specs.Put.{Puts}

@@ -12,7 +12,7 @@ module _ {X A : Type 0} (f : X → List A) (xs : List X) (at n : ℕ) where
       let count : at + n - at ≡ n = omega arith in
       ap (λ (k : ℕ). take at xs ++ take k (drop at xs)) count ∙ sym (take-add at n xs)
 
-  -- what the next run is mapped to stands behind what those before it are
+  -- what the next run is mapped to follows what those before it are
   pub next_run : (a b c : List A) → b ≡ a ++ flat_map f (take at xs) → c ≡ b ++ flat_map f run
       → c ≡ a ++ flat_map f (take (at + n) xs)
   next_run a b c e g =

@@ -1,4 +1,4 @@
--- What was told of a scan is its listing.
+-- What was written of a scan is its listing.
 use Rattle.std.proofs.Common.{◌≡◌, ◌++◌, [], ℕ, List, Option, ap, ◌∙◌, refl}
 use Rattle.std.specs.Prelude.{IfSome, is_some}
 use Rattle.yaml_text.specs.declared.types.yaml_encoding_t.{yaml_encoding_t}
@@ -10,7 +10,7 @@ use Rattle.yaml_scan.proofs.AllTold.{reads_have_lines}
 use Rattle.yamltok.specs.Listing.{token_lines, fault_lines}
 use Rattle.yamltok.specs.Run.{ListsScan}
 
--- the lines of what a sink was given stand behind those before
+-- the lines of what a sink was given follow those before
 abbrev pub Tells : ℕ → yaml_encoding_t → (input before told : List ℕ) → Option Fault → Type 0
 Tells limit setting input before told fault =
     IsGivenAll (λ tokens. told ≡ before ++ token_lines tokens) limit setting input fault

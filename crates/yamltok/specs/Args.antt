@@ -32,7 +32,7 @@ is_letter c = c == 0x73 || (c == 0x70 || c == 0x6B)
 abbrev pub are_letters : List ℕ → Bool
 are_letters word = list_all is_letter word
 
--- the words inside a command are such as it takes
+-- the command's own words are such as it takes
 abbrev pub is_right : yaml_command_t → Bool
 is_right (Decode setting) = true
 is_right (Scan setting) = true

@@ -1,4 +1,4 @@
--- Lines that are put behind others.
+-- Lines that are appended to others.
 use Rattle.std.specs.Prelude.{◌≡◌, ◌++◌, [], ◌∷◌, ℕ, List}
 use Rattle.std.proofs.Common.{refl, sym, ap, ◌∙◌, append-nil, append_assoc}
 use Rattle.yaml_text.specs.Token.{Token as yaml_token_t}

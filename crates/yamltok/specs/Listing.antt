@@ -54,7 +54,7 @@ text_or other (Some text) = text
 abbrev pub reader_line : ℕ → ℤ → List ℕ → List ℕ
 reader_line offset value problem = line (codes "FAULT" ∷ codes "reader" ∷ decimal offset ∷ signed_decimal value ∷ problem ∷ [])
 
--- where the lexeme of a scanner fault begins, where the problem stands, and both texts
+-- the mark of a scanner fault's context, the mark of its problem, and both texts
 abbrev pub scanner_line : yaml_mark_t → List ℕ → yaml_mark_t → List ℕ → List ℕ
 scanner_line context_mark context problem_mark problem = line (codes "FAULT" ∷ codes "scanner" ∷ mark_text context_mark ∷ mark_text problem_mark ∷ (context ++ codes ";") ∷ problem ∷ [])
 
@@ -73,7 +73,7 @@ fault_line f = fault_line_as f.error f
 abbrev pub text_line : Text → List ℕ
 text_line t = line (codes "TEXT" ∷ encoding_word t.encoding ∷ decimal (length (utf8 t.chars)) ∷ mark_text (mark_of t.chars) ∷ [])
 
--- the line that answers what an input decodes to
+-- the line of what an input decodes to
 abbrev pub decode_line : Result Text Fault → List ℕ
 decode_line (Ok text) = text_line text
 decode_line (Err fault) = fault_line fault
@@ -83,7 +83,7 @@ decode_line (Err fault) = fault_line fault
 abbrev pub byte_text : ℕ → List ℕ
 byte_text b = digit_char (b / 16) ∷ digit_char (b % 16) ∷ []
 
--- the bytes of a token's text, or `-` where there are none
+-- the bytes of a token's text, or `-` if there are none
 abbrev pub bytes_text : List ℕ → List ℕ
 bytes_text [] = codes "-"
 bytes_text (b ∷ bs) = flat_map byte_text (b ∷ bs)
@@ -131,7 +131,7 @@ mark_parts _ start end = mark_text start ∷ mark_text end ∷ []
 abbrev pub head_parts : yaml_token_type_t → yaml_mark_t → yaml_mark_t → List (List ℕ)
 head_parts kind start end = type_name kind ∷ mark_parts kind start end
 
--- what a token says, beside its type
+-- what a token says, without its type
 abbrev pub data_parts : unnamed_yaml_token_t_data → List (List ℕ)
 data_parts (STREAM_START encoding) = encoding_word encoding ∷ []
 data_parts (VERSION_DIRECTIVE major minor) = signed_decimal major ∷ signed_decimal minor ∷ []
@@ -155,7 +155,7 @@ peek_line kind start end = line (codes "PEEK" ∷ head_parts kind start end)
 abbrev pub token_lines : List yaml_token_t → List ℕ
 token_lines tokens = flat_map token_line tokens
 
--- and of the fault behind them, if there is one
+-- and of the fault after them, if there is one
 abbrev pub fault_lines : Option Fault → List ℕ
 fault_lines None = []
 fault_lines (Some fault) = fault_line fault

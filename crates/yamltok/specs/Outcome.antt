@@ -3,7 +3,7 @@ use Rattle.std.specs.Prelude.{ℕ, Bool, true, false, Result, Ok, Err}
 use Rattle.yamltok.specs.declared.outcome.tool_fault_t.{tool_fault_t}
 use Rattle.yamltok.specs.declared.outcome.tool_fault_t.TheVariants.{Args, Read, Write, Memory}
 
--- the exit status: 0 where no fault line was written, 1 where one was, 2 for wrong arguments, 3 where
+-- the exit status: 0 if no fault line was written, 1 if one was, 2 for wrong arguments, 3 if
 -- a device failed or memory was refused
 abbrev pub status_of : Result Bool tool_fault_t → ℕ
 status_of (Ok false) = 0

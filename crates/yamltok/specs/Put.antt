@@ -1,4 +1,4 @@
--- What stands behind bytes that grow.
+-- What is appended to bytes that grow.
 use Rattle.std.specs.Prelude.{◌≡◌, ◌++◌, ℕ, List, flat_map, Result, Ok, Err, codes}
 
 -- the old bytes are a beginning of the new ones
@@ -6,11 +6,11 @@ pub record Grows (old new : List ℕ) : Type 0 where
   pub more : List ℕ
   pub is : new ≡ old ++ more
 
--- a text was put behind the old bytes, or memory was refused and they are still a beginning
+-- a text was appended to the old bytes, or memory was refused and they are still a beginning
 abbrev pub Puts : {E : Type 0} → Result (Unit {0}) E → List ℕ → List ℕ → List ℕ → Type 0
 Puts (Ok _) old text new = new ≡ old ++ text
 Puts (Err _) old text new = Grows old new
 
--- parts with a space in front of each
+-- parts with a space before each
 abbrev pub spaced : List (List ℕ) → List ℕ
 spaced parts = flat_map (λ part. codes " " ++ part) parts

@@ -20,7 +20,7 @@ use Rattle.yaml_scan.specs.Calls.{Seen, Runs, call_of}
 use Rattle.yamltok.specs.Args.{is_right}
 use Rattle.yamltok.specs.Listing.{decode_line, token_lines, fault_lines, answer_lines, is_fault}
 
--- The words inside a command are none that it takes.
+-- The command's own words are none that it takes.
 abbrev pub IsWrong : yaml_command_t → Type 0
 IsWrong command = is_right command ≡ false
 
@@ -41,7 +41,7 @@ pub record ListsScan (limit : ℕ) (setting : yaml_encoding_t) (input lines : Li
   pub tokens : List yaml_token_t
   pub fault : Option Fault
   pub answers : ReadsAll limit setting input tokens fault
-  -- where the input is refused early, they are those of its answers, whatever memory there is
+  -- if the input is refused early, they are those of its answers, whatever memory there is
   pub early : IsRefusedEarly (decoded_input setting input) → AllOf (answers_to limit setting input) tokens fault
   pub lines_are : lines ≡ token_lines tokens ++ fault_lines fault
   pub fault_is : has_fault ≡ is_some fault
@@ -70,7 +70,7 @@ pub record ListsCalls (setting : yaml_encoding_t) (word input lines : List ℕ) 
   pub lines_are : lines ≡ answer_lines answers
   pub fault_is : has_fault ≡ list_any is_fault answers
 
--- The lines list what the command answers to the input, and a fault's line is among them or not.
+-- The lines list the command's answer to the input, and a fault's line is among them or not.
 abbrev pub Lists : yaml_command_t → List ℕ → List ℕ → Bool → Type 0
 Lists (Decode setting) input lines has_fault = ListsDecode setting input lines has_fault
 Lists (Scan setting) input lines has_fault = ListsScan 1024 setting input lines has_fault
@@ -90,7 +90,7 @@ pub record Writes (command : yaml_command_t) (source source_after sink sink_afte
   pub answers : Answers command source source_after lines has_fault
   pub written : Appends sink sink_after lines
 
--- A part of them was written, from their beginning on, and nothing else.
+-- A beginning of them was written, and nothing else.
 pub record WritesBeginning (command : yaml_command_t) (source source_after sink sink_after : Option (List ℕ)) : Type 0 where
   pub lines : List ℕ
   pub has_fault : Bool

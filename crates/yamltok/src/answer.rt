@@ -1,4 +1,4 @@
-//! The listing of what a command answers to an input.
+//! The listing of a command's answer to an input.
 ghost use Rattle.std.specs.Prelude.{◌≡◌, ◌++◌, true, map, is_some, IfOk, option_map};
 ghost use Rattle.yaml_text.specs.Fault.{fault_of};
 ghost use Rattle.yaml_text.specs.Token.{token_of};
@@ -18,7 +18,7 @@ use yaml_scan::{
 };
 use yaml_text::{yaml_decode, yaml_encoding_t, yaml_token_t};
 
-/// The line of what the input decodes to, and whether it is that of a fault.
+/// The line of what the input decodes to, and whether it is a fault's.
 fn list_decoded(
     alloc: Global,
     input: &[u8],
@@ -115,7 +115,7 @@ fn has_fault(answers: &[yaml_answer_t]) -> bool
     answers.iter().any(is_fault)
 }
 
-/// What a new parser answers to these calls.
+/// The answers of a new parser to these calls.
 fn called(
     alloc: Global,
     input: &[u8],
@@ -148,7 +148,7 @@ fn list_called(
     Ok((lines, has_fault))
 }
 
-/// The listing of what the command answers to the input, and whether a fault's line is in it.
+/// The listing of the command's answer to the input, and whether a fault's line is in it.
 pub fn answer_to(
     alloc: Global,
     input: &[u8],

@@ -8,7 +8,7 @@ ghost use Rattle.yaml_text.specs.declared.types.yaml_encoding_t.{yaml_encoding_t
 
 use yaml_text::yaml_encoding_t;
 
-/// What the program is asked to do with the input, in this encoding or in the one that it tells.
+/// What the program does with the input, in this encoding or in that of its byte order mark.
 #[derive(Clone, Copy, PartialEq, Eq)]
 pub enum yaml_command_t<'a> {
     /// Decode it, and say what text it is.
@@ -39,7 +39,7 @@ fn are_letters(word: &str) -> bool
     word.bytes().all(is_letter)
 }
 
-/// Whether the key limit is one and the word is over `s`, `p` and `k`, where the command has them.
+/// Whether the key limit is right and the word is over `s`, `p` and `k`, if the command has them.
 pub fn is_right(command: &yaml_command_t) -> bool
     ensures { result ≡ is_right command.now }
 {
@@ -63,7 +63,7 @@ fn parse_setting(word: &str) -> Option<yaml_encoding_t>
     }
 }
 
-/// Whether a digit other than 0 stands in front.
+/// Whether the word begins with a digit other than 0.
 fn is_led(word: &str) -> bool
     ensures { IsTrue result ↔ IsInRange 49 57 (slice_index word.now 0) }
 {
@@ -112,7 +112,7 @@ fn parse_three<'a>(command: &str, setting: &str, word: &'a str) -> Option<yaml_c
 }
 
 /// The command that these words spell, without the program's name: `decode` or `scan`, and then `any`,
-/// `utf8`, `utf16le` or `utf16be`; behind `scan` and these perhaps a key limit, from 1 to 65536, with no
+/// `utf8`, `utf16le` or `utf16be`; after `scan` and these optionally a key limit, from 1 to 65536, with no
 /// sign and no leading zero; or `calls`, one of these, and a word over `s`, `p` and `k`, which may be
 /// empty. All other words spell none.
 pub fn parse_args(words: &[String]) -> Option<yaml_command_t>

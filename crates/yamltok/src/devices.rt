@@ -12,14 +12,14 @@ pub struct yaml_broken_t;
 
 /// Something to read from, until it fails.
 pub trait yaml_source_t {
-    // The bytes that are left, where they are known.
+    // The bytes that are left, if they are known.
     ghost remaining: { Self → Option (List ℕ) } = { λ _. None };
 
     // Whether a call has failed.
     ghost failed: { Self → Bool };
 
-    /// Reads into the front of the slice, and answers how many bytes; 0 is the end. An `Err`, which
-    /// comes where the device fails in this call, has read nothing.
+    /// Reads into the front of the slice, and returns how many bytes; 0 is the end. An `Err` comes if the
+    /// device fails in this call; then nothing was read.
     fn pull(&mut self, buf: &mut [u8]) -> Result<usize, yaml_broken_t>
         requires working { failed self.old ≡ false }
         requires room { 0 < length buf.old }
@@ -34,14 +34,14 @@ pub trait yaml_source_t {
 
 /// Something to write to, until it fails.
 pub trait yaml_sink_t {
-    // The bytes that were written, where they are known.
+    // The bytes that were written, if they are known.
     ghost contents: { Self → Option (List ℕ) } = { λ _. None };
 
     // Whether a call has failed.
     ghost failed: { Self → Bool };
 
-    /// Writes the front of the bytes, at least one, and answers how many. An `Err`, which comes where
-    /// the device fails in this call, has written nothing.
+    /// Writes the front of the bytes, at least one, and returns how many. An `Err` comes if the device fails
+    /// in this call; then nothing was written.
     fn put(&mut self, bytes: &[u8]) -> Result<usize, yaml_broken_t>
         requires working { failed self.old ≡ false }
         requires some { 0 < length bytes.now }
@@ -55,7 +55,7 @@ pub trait yaml_sink_t {
         ensures { result ≡ failed self.now };
 }
 
-/// A reader as a source. It fails where a read of the reader does.
+/// A reader as a source. It fails if a read of the reader does.
 #[derive(Drop)]
 pub struct yaml_source_of_t<R> {
     pub inner: R,
@@ -95,7 +95,7 @@ impl<R: Read + Drop> yaml_source_t for yaml_source_of_t<R> {
     }
 }
 
-/// A writer as a sink. It fails where a write of the writer does, or takes no byte.
+/// A writer as a sink. It fails if a write of the writer does, or takes no byte.
 #[derive(Drop)]
 pub struct yaml_sink_of_t<W> {
     pub inner: W,

@@ -1,5 +1,5 @@
-//! The lines that the program writes: numbers are decimal, parts are parted by one space, and a line
-//! ends with a line feed. A line is put straight behind the bytes, which grow by their own allocator;
+//! The lines that the program writes: numbers are decimal, one space separates parts, and a line
+//! ends with a line feed. A line is appended straight to the bytes, which grow by their own allocator;
 //! nothing else is allocated.
 ghost use Rattle.std.specs.Prelude.{◌≡◌, ◌≢◌, ◌++◌, ◌∷◌, [], codes, map, OnOk, OnErr};
 ghost use Rattle.std.specs.Fmt.{signed_decimal};
@@ -51,7 +51,7 @@ fn put_reader_fault(
     put_text(out, "\n")
 }
 
-/// Puts a context, with `;` behind it, and a problem behind `out`.
+/// Appends a context, then `;`, and a problem to `out`.
 fn put_texts(out: &mut Vec<u8>, context: &str, problem: &str) -> Result<(), AllocError>
     ensures { Puts result out.old.items (spaced ((context.now ++ codes ";") ∷ problem.now ∷ [])) out.new.items }
 {
@@ -99,9 +99,9 @@ fn put_fault(out: &mut Vec<u8>, fault: &yaml_fault_t) -> Result<(), AllocError>
     }
 }
 
-/// Puts the line of a fault behind `out`: `FAULT reader`, offset, value and problem text; `FAULT
-/// scanner`, the marks of context and problem, the context text or `-` with `;` behind it, and the
-/// problem text; or `FAULT memory`. Where memory is refused, `out` is as before.
+/// Appends the line of a fault to `out`: `FAULT reader`, offset, value and problem text; `FAULT
+/// scanner`, the marks of context and problem, the context text or `-`, then `;`, and the
+/// problem text; or `FAULT memory`. If memory is refused, `out` is as before.
 pub fn list_fault(_alloc: Global, fault: &yaml_fault_t, out: &mut Vec<u8>) -> Result<(), AllocError>
     requires { HasLine (fault_of fault.now) }
     ensures ok { OnOk result (out.new.items ≡ out.old.items ++ fault_line (fault_of fault.now)) }
@@ -112,7 +112,7 @@ pub fn list_fault(_alloc: Global, fault: &yaml_fault_t, out: &mut Vec<u8>) -> Re
     cut_back(out, len, outcome)
 }
 
-/// The mark behind all characters of a text.
+/// The mark after all characters of a text.
 fn end_mark(text: &yaml_text_t) -> yaml_mark_t
     ensures { result ≡ mark_of text.now.chars }
 {
@@ -129,8 +129,8 @@ fn put_decoded(out: &mut Vec<u8>, text: &yaml_text_t) -> Result<(), AllocError>
     put_text(out, "\n")
 }
 
-/// Puts the line of a decoded text behind `out`: `TEXT`, the encoding, the number of bytes in UTF-8
-/// and the mark of the end. Where memory is refused, `out` is as before.
+/// Appends the line of a decoded text to `out`: `TEXT`, the encoding, the number of bytes in UTF-8
+/// and the mark of the end. If memory is refused, `out` is as before.
 pub fn list_text(text: &yaml_text_t, out: &mut Vec<u8>) -> Result<(), AllocError>
     ensures ok { OnOk result (out.new.items ≡ out.old.items ++ text_line text.now) }
     ensures err { OnErr result (out.new.items ≡ out.old.items) }
@@ -183,7 +183,7 @@ fn style_word(style: yaml_scalar_style_t) -> &'static str
     }
 }
 
-/// Puts the type and the marks of a token behind `out`; the empty token has none.
+/// Appends the type and the marks of a token to `out`; the empty token has no marks.
 fn put_head(
     out: &mut Vec<u8>,
     kind: yaml_token_type_t,
@@ -224,7 +224,7 @@ fn put_scalar(out: &mut Vec<u8>, value: &[u8], style: yaml_scalar_style_t) -> Re
     put_bytes(out, value)
 }
 
-/// Puts what a token says, beside its type, behind `out`, with a space in front of each part.
+/// Appends what a token says, without its type, to `out`, with a space before each part.
 fn put_data(out: &mut Vec<u8>, said: &unnamed_yaml_token_t_data) -> Result<(), AllocError>
     requires { HasWords (data_of said.now) }
     ensures { Puts result out.old.items (spaced (data_parts (data_of said.now))) out.new.items }
@@ -260,10 +260,10 @@ fn put_token(out: &mut Vec<u8>, token: &yaml_token_t) -> Result<(), AllocError>
     put_text(out, "\n")
 }
 
-/// Puts the line of a token behind `out`: the name of its type, the marks of its start and end, and
+/// Appends the line of a token to `out`: the name of its type, the marks of its start and end, and
 /// what it says: the encoding of a stream; the two numbers of a `%YAML` directive; the texts of other
-/// tokens, two hexadecimal digits a byte or `-` for none, with the style in front of a scalar's. The
-/// empty token is `NO-TOKEN`. Where memory is refused, `out` is as before.
+/// tokens, two hexadecimal digits a byte or `-` for none, with the style before a scalar's. The
+/// empty token is `NO-TOKEN`. If memory is refused, `out` is as before.
 pub fn list_token(_alloc: Global, token: &yaml_token_t, out: &mut Vec<u8>) -> Result<(), AllocError>
     requires { HasWords (data_of token.now.token_data) }
     ensures ok { OnOk result (out.new.items ≡ out.old.items ++ token_line (token_of token.now)) }
@@ -287,8 +287,8 @@ fn put_peek(
     put_text(out, "\n")
 }
 
-/// Puts the line of a token that is shown and stays behind `out`: `PEEK`, the name of its type and its
-/// marks, or `PEEK NO-TOKEN` for the empty token. Where memory is refused, `out` is as before.
+/// Appends the line of a token that is shown and stays to `out`: `PEEK`, the name of its type and its
+/// marks, or `PEEK NO-TOKEN` for the empty token. If memory is refused, `out` is as before.
 pub fn list_peek(
     _alloc: Global,
     kind: yaml_token_type_t,
@@ -304,8 +304,8 @@ pub fn list_peek(
     cut_back(out, len, outcome)
 }
 
-/// Puts the line of an answer to a call behind `out`: that of a token, of a peek, or of a fault, or `SKIP`,
-/// or `SKIP NOTHING` where nothing was skipped. Where memory is refused, `out` is as before.
+/// Appends the line of an answer to a call to `out`: that of a token, of a peek, or of a fault, or `SKIP`,
+/// or `SKIP NOTHING` if nothing was skipped. If memory is refused, `out` is as before.
 pub fn list_answer(
     alloc: Global,
     answer: &yaml_answer_t,
@@ -324,7 +324,7 @@ pub fn list_answer(
     }
 }
 
-/// Puts the lines of these answers behind `out`.
+/// Appends the lines of these answers to `out`.
 pub fn list_answers(
     alloc: Global,
     answers: &[yaml_answer_t],

@@ -4,8 +4,8 @@
 //! the fault, if it has one; `yamltok scan ENC LIMIT` does so with a key limit of 1 to 65536 bytes.
 //! `yamltok calls ENC WORD` writes a line for each answer to the calls of WORD, `s` for a scan, `p`
 //! for a peek, `k` for a skip. `yamltok decode ENC` writes one line of the text. ENC is `any`,
-//! `utf8`, `utf16le` or `utf16be`. The exit status is 0 where no line is that of a fault, 1 where
-//! one is, 2 for wrong arguments, and 3 where a read or a write failed or memory was refused.
+//! `utf8`, `utf16le` or `utf16be`. The exit status is 0 if no line is that of a fault, 1 if
+//! one is, 2 for wrong arguments, and 3 if a read or a write failed or memory was refused.
 #![tactic(auto)]
 
 mod answer;

@@ -6,7 +6,7 @@ ghost use Rattle.yamltok.specs.declared.outcome.tool_fault_t.TheVariants.{Memory
 use std::alloc::AllocError;
 use thiserror::Error;
 
-/// Why the program did not do what it was asked to.
+/// Why the program did not do its work.
 #[derive(Clone, Copy, Debug, PartialEq, Eq, Error)]
 pub enum tool_fault_t {
     /// The words of the command line spell no command.
@@ -31,8 +31,8 @@ impl From<AllocError> for tool_fault_t {
     }
 }
 
-/// The exit status: 0 where no fault line was written, 1 where one was, 2 for wrong arguments, and 3
-/// where a read or a write failed or memory was refused.
+/// The exit status: 0 if no fault line was written, 1 if one was, 2 for wrong arguments, and 3 if
+/// a read or a write failed or memory was refused.
 pub fn yaml_status(outcome: &Result<bool, tool_fault_t>) -> u8
     ensures { result ≡ status_of outcome.now }
 {

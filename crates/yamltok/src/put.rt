@@ -1,4 +1,4 @@
-//! Puts texts, numbers, marks and bytes behind bytes. Where memory is refused, the old bytes stay in front.
+//! Appends texts, numbers, marks and bytes to bytes. If memory is refused, the old bytes stay at the beginning.
 ghost use Rattle.std.specs.Prelude.{◌≡◌, ◌++◌, ◌∷◌, ◌+◌, ◌*◌, ◌<◌, ◌≤◌, OnOk, OnErr};
 ghost use Rattle.std.specs.Prelude.{codes, drop, take, flat_map, length};
 ghost use Rattle.std.specs.Char.{digit_char};
@@ -12,20 +12,20 @@ use yaml_text::yaml_mark_t;
 /// A number of 64 bits has at most 20 digits.
 const DIGITS: usize = 20;
 
-/// Three numbers, and a byte in front of each.
+/// Three numbers, and a byte before each.
 const MARK: usize = 63;
 
 /// So many bytes are put at a time.
 const RUN: usize = 32;
 
-/// Puts a text behind `out`.
+/// Appends a text to `out`.
 pub fn put_text(out: &mut Vec<u8>, text: &str) -> Result<(), AllocError>
     ensures { Puts result out.old.items text.now out.new.items }
 {
     out.extend_from_slice(text.as_bytes())
 }
 
-/// Puts a text behind `out`, with a space in front.
+/// Appends a space and a text to `out`.
 pub fn put_part(out: &mut Vec<u8>, text: &str) -> Result<(), AllocError>
     ensures { Puts result out.old.items (codes " " ++ text.now) out.new.items }
 {
@@ -33,7 +33,7 @@ pub fn put_part(out: &mut Vec<u8>, text: &str) -> Result<(), AllocError>
     put_text(out, text)
 }
 
-/// Writes the digits of a number in front of a place, and answers where they begin.
+/// Writes the digits of a number before a place, and returns where they begin.
 fn set_digits(buffer: &mut [u8], end: usize, number: u64) -> usize
     requires room { 20 ≤ end }
     requires within { end ≤ length buffer.old }
@@ -53,7 +53,7 @@ fn set_digits(buffer: &mut [u8], end: usize, number: u64) -> usize
     at
 }
 
-/// Writes a byte and the digits of a number in front of a place, and answers where the byte stands.
+/// Writes a byte and the digits of a number before a place, and returns where the byte is.
 fn set_number(buffer: &mut [u8], end: usize, lead: u8, number: u64) -> usize
     requires room { 21 ≤ end }
     requires within { end ≤ length buffer.old }
@@ -66,7 +66,7 @@ fn set_number(buffer: &mut [u8], end: usize, lead: u8, number: u64) -> usize
     at
 }
 
-/// Puts a byte and the digits of a number behind `out`.
+/// Appends a byte and the digits of a number to `out`.
 fn put_number(out: &mut Vec<u8>, lead: u8, number: u64) -> Result<(), AllocError>
     ensures { Puts result out.old.items (lead ∷ decimal number) out.new.items }
 {
@@ -75,14 +75,14 @@ fn put_number(out: &mut Vec<u8>, lead: u8, number: u64) -> Result<(), AllocError
     out.extend_from_slice(&buffer[at..])
 }
 
-/// Puts a number behind `out`, with a space in front.
+/// Appends a space and a number to `out`.
 pub fn put_decimal(out: &mut Vec<u8>, number: u64) -> Result<(), AllocError>
     ensures { Puts result out.old.items (codes " " ++ decimal number) out.new.items }
 {
     put_number(out, b' ', number)
 }
 
-/// Puts a signed number behind `out`, with a space in front.
+/// Appends a space and a signed number to `out`.
 pub fn put_signed(out: &mut Vec<u8>, number: i32) -> Result<(), AllocError>
     ensures { Puts result out.old.items (codes " " ++ signed_decimal number) out.new.items }
 {
@@ -95,7 +95,7 @@ pub fn put_signed(out: &mut Vec<u8>, number: i32) -> Result<(), AllocError>
     }
 }
 
-/// Writes a mark at the end of a buffer, with a space in front, and answers where that stands.
+/// Writes a space and a mark at the end of a buffer, and returns where the space is.
 fn set_mark(buffer: &mut [u8], mark: yaml_mark_t) -> usize
     requires { length buffer.old ≡ 63 }
     ensures text { drop result buffer.new ≡ codes " " ++ mark_text mark }
@@ -106,7 +106,7 @@ fn set_mark(buffer: &mut [u8], mark: yaml_mark_t) -> usize
     set_number(buffer, line, b' ', mark.index)
 }
 
-/// Puts a mark behind `out`, with a space in front.
+/// Appends a space and a mark to `out`.
 pub fn put_mark(out: &mut Vec<u8>, mark: yaml_mark_t) -> Result<(), AllocError>
     ensures { Puts result out.old.items (codes " " ++ mark_text mark) out.new.items }
 {
@@ -147,7 +147,7 @@ fn put_run(out: &mut Vec<u8>, bytes: &[u8]) -> Result<(), AllocError>
     out.extend_from_slice(place)
 }
 
-/// Puts two hexadecimal digits a byte behind `out`, or `-` where there is none, with a space in front.
+/// Appends a space and two hexadecimal digits a byte to `out`, or `-` if there is no byte.
 pub fn put_bytes(out: &mut Vec<u8>, bytes: &[u8]) -> Result<(), AllocError>
     ensures { Puts result out.old.items (codes " " ++ bytes_text bytes.now) out.new.items }
 {
@@ -164,7 +164,7 @@ pub fn put_bytes(out: &mut Vec<u8>, bytes: &[u8]) -> Result<(), AllocError>
     Ok(())
 }
 
-/// Cuts `out` back to its first bytes where memory was refused.
+/// Cuts `out` back to its first bytes if memory was refused.
 pub fn cut_back(
     out: &mut Vec<u8>,
     len: usize,

@@ -834,7 +834,7 @@ fn scanner_faults(rt: HostRuntime) -> Result<(), Fail> {
     expect_rows(&rt, &SCANNER_FAULTS)
 }
 
-/// Faults of kind reader, and the tokens before the step that comes near them.
+/// Faults of kind reader, and the tokens before the step that is near them.
 const READER_FAULTS: [row_t; 18] = [
     (
         "scan any",
@@ -1083,8 +1083,8 @@ fn repeated(
     Ok(text)
 }
 
-/// A command, how often a part of the input is repeated, the input before, in and behind that part, the exit status,
-/// and the lines before, in and behind what is repeated in them.
+/// A command, how often a part of the input is repeated, the input before, in and after that part, the exit status,
+/// and the lines before, in and after what is repeated in them.
 type long_row_t = (
     &'static str,
     usize,
@@ -1271,7 +1271,7 @@ fn long_keys(rt: HostRuntime) -> Result<(), Fail> {
     Ok(())
 }
 
-/// An empty word of calls is answered by nothing, whatever the input is.
+/// The answer to an empty word of calls is nothing, whatever the input is.
 #[test]
 fn no_calls(rt: HostRuntime) -> Result<(), Fail> {
     let rows: [&[u8]; 7] = [

@@ -12,7 +12,7 @@ use std::alloc::Global;
 
 const CHUNK: usize = 65536;
 
-/// Reads once, at most as much as the buffer holds, and answers whether there was anything left to read.
+/// Reads once, at most as much as the buffer holds, and returns whether there was anything left to read.
 fn read_chunk<R: yaml_source_t>(
     reader: &mut R,
     buffer: &mut [u8],
@@ -47,7 +47,7 @@ fn read_all<R: yaml_source_t>(alloc: Global, reader: &mut R) -> Result<Vec<u8>, 
     Ok(input)
 }
 
-/// Writes all the bytes, in as many calls as it takes. After an `Err` a part of them, which is not
+/// Writes all the bytes, in as many calls as it takes. After an `Err` only a beginning of them, which is not
 /// all, was written.
 fn write_all<W: yaml_sink_t>(writer: &mut W, bytes: &[u8]) -> Result<(), tool_fault_t>
     requires { W.failed writer.old ≡ false }
@@ -66,12 +66,15 @@ fn write_all<W: yaml_sink_t>(writer: &mut W, bytes: &[u8]) -> Result<(), tool_fa
     Ok(())
 }
 
-/// Does what the command asks for: reads all there is, and writes the listing of the answer to it.
+/// Runs the command: reads all there is, and writes the listing of the answer to it.
 ///
-/// Answers whether the line of a fault was written. `Args` comes where the key limit is not from 1 to
-/// 65,536, or the word of calls has another letter than `s`, `p` and `k`; then nothing was read. `Read` comes where the reader failed and `Memory`
-/// where there was none for the input or for the listing; then nothing was written. `Write` comes
-/// where the writer failed; then a beginning of the listing was written. Nothing is tried again.
+/// Returns whether the line of a fault was written. Nothing is tried again.
+///
+/// # Errors
+///
+/// `Args` if the key limit is not from 1 to 65,536, or the word of calls has another letter than `s`, `p` and `k`; then nothing
+/// was read. `Read` if the reader failed, and `Memory` if there was none for the input or for the listing; then nothing was
+/// written. `Write` if the writer failed; then a beginning of the listing was written.
 pub fn run<R: yaml_source_t, W: yaml_sink_t>(
     alloc: Global,
     command: &yaml_command_t,

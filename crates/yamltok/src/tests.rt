@@ -20,7 +20,7 @@ use yaml_text::{
     yaml_scalar_style_t, yaml_token_t, yaml_token_type_t,
 };
 
-/// Gives one byte a call, and fails behind so many calls.
+/// Gives one byte a call, and fails after so many calls.
 #[derive(Drop)]
 pub(crate) struct slow_reader_t<'a> {
     pub(crate) bytes: &'a [u8],
@@ -45,7 +45,7 @@ impl Read for slow_reader_t<'_> {
     }
 }
 
-/// Takes one byte a call, and behind so many calls fails or takes none.
+/// Takes one byte a call, and after so many calls fails or takes none.
 #[derive(Drop)]
 struct slow_writer_t {
     taken: Vec<u8>,
@@ -307,7 +307,7 @@ KEY 0:0:0 0:0:0
     ),
 ];
 
-/// A read that fails before the end is met, at any call, and one byte a call.
+/// A read that fails before the end, at any call, and one byte a call.
 fn expect_read(
     rt: &(impl Abort + AllocGlobal),
     command: &str,

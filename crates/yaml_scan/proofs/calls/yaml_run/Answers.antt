@@ -18,7 +18,7 @@ pub returns-clause-early : goal.returns-clause-early
 returns-clause-early c = λ e. puts_session c.args.parser.now (map call_of c.args.calls.now) c.args.out.now.items c.answer_all.new.out.items c.answer_all.new.parser
     (subst (λ (z : List yaml_answer_t). PutsAnswers c.args.parser.now (map call_of c.args.calls.now) z c.answer_all.new.out.items c.answer_all.new.parser) c.in_ok-reserve.ensures.items c.answer_all.ensures) e
 
--- the answers, put behind what was there when the call began
+-- the answers, appended to what was there when the call began
 pub returns-clause-answers : goal.returns-clause-answers
 returns-clause-answers c =
     subst (λ (z : List yaml_answer_t). PutsAnswers c.args.parser.now (map call_of c.args.calls.now) z c.answer_all.new.out.items c.answer_all.new.parser) c.in_ok-reserve.ensures.items c.answer_all.ensures

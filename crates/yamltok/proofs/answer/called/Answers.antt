@@ -1,4 +1,4 @@
--- The answers are put behind none.
+-- The answers are appended to none.
 use Rattle.std.proofs.Common.{◌≡◌, ◌++◌, List, map, sym, ap, ◌∙◌, subst}
 use Rattle.yaml_scan.specs.declared.calls.yaml_answer_t.{yaml_answer_t}
 use Rattle.yaml_scan.specs.Parser.{Parser}

@@ -1,4 +1,4 @@
--- The lines of the tokens stand behind none, and that of the fault behind them.
+-- The lines of the tokens are appended to none, and that of the fault to them.
 use Rattle.std.proofs.Common.{Some}
 use Rattle.yaml_text.specs.Fault.{fault_of}
 use Rattle.yamltok.proofs.Scanned.{fault_has_line, lists_scan}

@@ -1,4 +1,4 @@
--- A word that spells a limit has a digit other than 0 in front, and is read as that limit.
+-- A word that spells a limit begins with a digit other than 0, and is read as that limit.
 use Rattle.std.proofs.Common.{◌≡◌, ℕ, true, false, Ok, sym, ◌∙◌, subst}
 use Rattle.std.specs.Prelude.{IsTrue}
 use Rattle.std.proofs.lemmas.Bool.{false≢true}

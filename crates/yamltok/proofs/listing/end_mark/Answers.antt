@@ -1,4 +1,4 @@
--- The mark at the text's end is that behind all its characters.
+-- The mark at the text's end is that after all its characters.
 use Rattle.yamltok.proofs.Ends.{mark_at-end}
 use Rattle.yamltok.proofs.listing.end_mark.Goals as goal
 

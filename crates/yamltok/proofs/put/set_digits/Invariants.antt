@@ -2,7 +2,7 @@ use Rattle.std.proofs.Common.{◌≡◌, ◌++◌, ◌+◌, ◌≤◌, ◌^◌, 
 use Rattle.std.specs.Fmt.{decimal}
 use Rattle.yamltok.proofs.put.set_digits.Given as goal
 
--- the digits so far stand behind those of the number that is left, for which there is room
+-- the digits so far follow those of the number that is left, for which there is room
 abbrev pub invariant-digits : goal.invariant-digits
 invariant-digits l = record {
   within : l.at ≤ l.end;
