@@ -14,7 +14,7 @@ const ZERO: yaml_mark_t = yaml_mark_t {
     column: 0,
 };
 
-/// A want of memory.
+/// The fault of a refused request for memory.
 pub(crate) fn make_memory_fault() -> yaml_fault_t
     ensures { fault_of result ≡ memory_fault }
 {

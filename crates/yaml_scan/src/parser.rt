@@ -34,7 +34,7 @@ use yaml_text::{
 #[cfg(test)]
 mod tests;
 
-/// A parser of an input: its tokens are asked for one after the other.
+/// A parser of an input. Its tokens are taken one after the other.
 #[derive(Drop)]
 pub struct yaml_parser_t<'a> {
     alloc: Global,
@@ -95,7 +95,7 @@ fn new_scanner<'a>(alloc: Global, limit: u64) -> scanner_t<'a>
     }
 }
 
-/// The reader's fault, where the first step is near.
+/// The reader's fault, if the first step is near it.
 fn near_start(refusal: Option<yaml_fault_t>, near: u64) -> Option<yaml_fault_t>
     ensures { refusal_seen result ≡ near_fault near 0 (refusal_seen refusal) }
 {
@@ -151,7 +151,7 @@ fn start<'a>(
     begin(alloc, scanner, input, setting, kept)
 }
 
-/// Makes the steps that the next token asks for.
+/// Makes the steps that the next token needs.
 fn settle<'a>(
     alloc: Global,
     scanner: &mut scanner_t<'a>,
@@ -166,7 +166,7 @@ fn settle<'a>(
     settle_head(alloc, scanner, kept)
 }
 
-/// Makes the steps that the next token asks for, unless it was peeked.
+/// Makes the steps that the next token needs, unless it was peeked.
 fn look<'a>(
     alloc: Global,
     scanner: &mut scanner_t<'a>,
@@ -310,11 +310,12 @@ fn take_shown(parser: &mut yaml_parser_t) -> yaml_token_t
     token
 }
 
-/// Takes the next token. Behind the stream end, and behind a fault, it is the empty one.
+/// Takes the next token. After the stream end, and after a fault, it is the empty one.
 ///
-/// The fault that ends the session is answered once, by the scan or peek that meets it. A refused growth of memory is a fault
-/// of kind memory; none is asked for where the token was peeked or the session is over, nor where the input is in UTF-8 and its
-/// reader's fault comes in the place of the first step.
+/// # Errors
+/// The fault that ends the session, once, from the scan or peek that finds it: of kind reader if the input is no text there,
+/// of kind scanner if no token can be read, of kind memory if a request for memory was refused. No memory is needed if the
+/// token was peeked or the session is over, nor if the input is in UTF-8 and its reader's fault comes before the first step.
 pub fn yaml_parser_scan(parser: &mut yaml_parser_t) -> Result<yaml_token_t, yaml_fault_t>
     ensures answers { Scans parser.old result parser.new }
     ensures bare { IsThere parser.old → (told result ≡ answered parser.old SCAN) × (parser.new ≡ behind parser.old SCAN) }
@@ -332,7 +333,7 @@ pub fn yaml_parser_scan(parser: &mut yaml_parser_t) -> Result<yaml_token_t, yaml
     }
 }
 
-/// Takes the token that was peeked, and drops it. No memory is asked for.
+/// Takes the token that was peeked, and drops it. It needs no memory.
 pub fn yaml_parser_skip(parser: &mut yaml_parser_t)
     requires { parser.old.session.peeked ≡ true }
     ensures { parser.new ≡ behind parser.old SKIP }
@@ -340,9 +341,10 @@ pub fn yaml_parser_skip(parser: &mut yaml_parser_t)
     let _ = take_shown(parser);
 }
 
-/// Shows the next token, which the next scan or skip takes. Behind the stream end, and behind a fault, it is the empty one.
+/// Shows the next token, which the next scan or skip takes. After the stream end, and after a fault, it is the empty one.
 ///
-/// Faults are answered as [`yaml_parser_scan`] answers them.
+/// # Errors
+/// The same as of [`yaml_parser_scan`].
 pub fn yaml_parser_peek<'s>(
     parser: &'s mut yaml_parser_t<'_>,
 ) -> Result<&'s yaml_token_t, yaml_fault_t>
@@ -360,8 +362,8 @@ pub fn yaml_parser_peek<'s>(
     }
 }
 
-/// Whether a peek showed a token, other than the empty one, that was not taken since. Where one was shown, there is a
-/// next token, and the session is not over.
+/// Whether a peek showed a token, other than the empty one, that was not taken since. If one was shown, there is a next
+/// token, and the session is not over.
 pub fn yaml_parser_has_token(parser: &yaml_parser_t) -> bool
     ensures peeked { result ≡ parser.now.session.peeked }
     ensures next { HasNext parser.now }

@@ -1,4 +1,4 @@
-//! The running scanner: steps are made as far as the next token asks for.
+//! The running scanner: as many steps are made as the next token needs.
 ghost use Rattle.std.specs.Prelude.{◌≡◌, ◌⊎◌, ℕ, ◌+◌, ◌-◌, ◌<◌, ◌≤◌, ◌^◌, ◌&&◌, not, nat_lt, length, true, false, MatchResult};
 ghost use Rattle.yaml_text.specs.Decode.{refusal_seen};
 ghost use Rattle.yaml_text.specs.Fault.{fault_of, memory_fault};
@@ -31,7 +31,7 @@ fn is_settled(scanner: &scanner_t) -> bool
     is_none_of(empty, outer, top)
 }
 
-/// The reader's fault, where a step that was made is near.
+/// The reader's fault, if a step that read up to an index is near it.
 fn near_reading(refusal: &Option<yaml_fault_t>, near: u64, index: u64) -> Option<yaml_fault_t>
     ensures { refusal_seen result ≡ near_fault near index (refusal_seen refusal.now) }
 {
@@ -41,13 +41,8 @@ fn near_reading(refusal: &Option<yaml_fault_t>, near: u64, index: u64) -> Option
     }
 }
 
-
-/// The reader's fault in the place of a scanner's that is near.
-fn near_problem(
-    refusal: &Option<yaml_fault_t>,
-    near: u64,
-    fault: yaml_fault_t,
-) -> yaml_fault_t
+/// The reader's fault instead of a scanner's that is near it.
+fn near_problem(refusal: &Option<yaml_fault_t>, near: u64, fault: yaml_fault_t) -> yaml_fault_t
     ensures { fault_of result ≡ instead near (refusal_seen refusal.now) (fault_of fault) }
 {
     match fault.error {
@@ -63,12 +58,8 @@ fn near_problem(
     }
 }
 
-/// The next lexeme, unless its step is faulty.
-fn step(
-    alloc: Global,
-    scanner: &mut scanner_t,
-    kept: &mut yaml_fault_t,
-) -> Result<(), stop_t>
+/// Reads the next lexeme, and lays it.
+fn step(alloc: Global, scanner: &mut scanner_t, kept: &mut yaml_fault_t) -> Result<(), stop_t>
     requires runs { Runs scanner.old }
     requires running { ended (history scanner.old) ≡ false }
     ensures { MatchResult result (λ _. Advances (history scanner.old) scanner.old scanner.new) (λ s. ((fault_at s kept.new ≡ memory_fault) ⊎ Offends (history scanner.old) scanner.old (fault_at s kept.new)) × Stays scanner.old scanner.new) }
@@ -77,12 +68,8 @@ fn step(
     lay(alloc, scanner, met, kept)
 }
 
-/// Makes a step.
-fn advance(
-    alloc: Global,
-    scanner: &mut scanner_t,
-    kept: &mut yaml_fault_t,
-) -> Result<(), stop_t>
+/// Makes a step, unless the reader's fault is near.
+fn advance(alloc: Global, scanner: &mut scanner_t, kept: &mut yaml_fault_t) -> Result<(), stop_t>
     requires runs { Runs scanner.old }
     requires running { ended (history scanner.old) ≡ false }
     ensures { MatchResult result (λ _. Steps scanner.old scanner.new) (λ s. ((fault_at s kept.new ≡ memory_fault) ⊎ IsLast scanner.old (fault_at s kept.new)) × Stays scanner.old scanner.new) }

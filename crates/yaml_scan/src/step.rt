@@ -27,7 +27,7 @@ use yaml_text::{yaml_fault_t, yaml_mark_t, yaml_text_t, yaml_token_t};
 #[derive(Drop)]
 pub(crate) struct scanner_t<'a> {
     pub text: yaml_text_t<'a>,
-    /// The reader's fault behind the text, where it is the front of a refused input.
+    /// The reader's fault after the text, if that is the front of a refused input.
     pub refusal: Option<yaml_fault_t>,
     /// The index from which on a step is near the end of the text.
     pub near: u64,
@@ -40,7 +40,7 @@ pub(crate) struct scanner_t<'a> {
     pub not_simple_keys: usize,
     /// The candidate of the present depth.
     pub top: Option<held_t>,
-    /// Whether a key is allowed behind the last lexeme.
+    /// Whether a key is allowed after the last lexeme.
     pub allowed: bool,
     pub queue: VecDeque<queued_t>,
     /// How far the last good step was read.
@@ -51,7 +51,7 @@ pub(crate) struct scanner_t<'a> {
     pub made: u128,
 }
 
-/// A kind of lexeme behind a gap.
+/// A kind of lexeme after a gap.
 #[derive(Clone, Copy)]
 pub(crate) struct met_t {
     pub kind: yaml_lexeme_kind_t,
@@ -59,7 +59,7 @@ pub(crate) struct met_t {
     pub allowed: bool,
 }
 
-/// The fault of a lost candidate, if there is one.
+/// Stops if a candidate is lost.
 fn refuse_lost(
     kept: &mut yaml_fault_t,
     held: Option<held_t>,
@@ -79,7 +79,7 @@ fn refuse_lost(
     }
 }
 
-/// The kind, or the fault that there is none.
+/// The kind. Stops if there is none.
 fn expect_kind(
     kept: &mut yaml_fault_t,
     kind: Option<yaml_lexeme_kind_t>,
@@ -99,7 +99,7 @@ fn expect_kind(
     }
 }
 
-/// What is wrong with a kind where no key is allowed at depth 0; `none` tells whether it completes nothing.
+/// What is wrong with a kind if no key is allowed at depth 0. `none`: it completes nothing.
 fn problem(kind: yaml_lexeme_kind_t, none: bool) -> Option<&'static str>
     ensures { option_copied result ≡ problem_of kind none }
 {
@@ -115,7 +115,7 @@ fn problem(kind: yaml_lexeme_kind_t, none: bool) -> Option<&'static str>
     }
 }
 
-/// The fault of a kind that needs an allowed key.
+/// Stops if the kind needs an allowed key and none is allowed.
 fn refuse_kind(
     kept: &mut yaml_fault_t,
     kind: yaml_lexeme_kind_t,
@@ -129,8 +129,7 @@ fn refuse_kind(
     if margin && !allowed {
         match problem(kind, none) {
             None => Ok(()),
-            Some(problem) => Err(keep_fault(
-            kept, problem, front, None, front)),
+            Some(problem) => Err(keep_fault(kept, problem, front, None, front)),
         }
     } else {
         Ok(())
@@ -161,7 +160,7 @@ fn is_key_allowed(allowed: bool, margin: bool, mark: yaml_mark_t, front: yaml_ma
     allowed || (margin && mark.line < front.line)
 }
 
-/// The gap, the kind, and what refuses it.
+/// Passes the gap, and finds the kind of the next lexeme. Stops if the kind is refused.
 pub(crate) fn meet(scanner: &scanner_t, kept: &mut yaml_fault_t) -> Result<met_t, stop_t>
     ghost before: { List Laid }
     requires holds { Holds before (scanner.now.made + 1) scanner.now }
@@ -190,7 +189,7 @@ pub(crate) fn meet(scanner: &scanner_t, kept: &mut yaml_fault_t) -> Result<met_t
     })
 }
 
-/// The candidates behind a lexeme that was read to a mark, unless one is lost there.
+/// Changes the candidates after a lexeme that was read to a mark. Stops if one is lost there.
 fn keep_candidates(
     kept: &mut yaml_fault_t,
     outer: &mut Vec<Option<held_t>>,
@@ -226,7 +225,7 @@ fn token_of(start: yaml_mark_t, x: yaml_lexeme_t) -> yaml_token_t
     }
 }
 
-/// The lexeme that was met, laid behind those before it.
+/// Reads the lexeme that was met, and changes levels, queue and candidates.
 pub(crate) fn lay(
     alloc: Global,
     scanner: &mut scanner_t,

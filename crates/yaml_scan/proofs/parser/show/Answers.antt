@@ -42,4 +42,4 @@ pub returns-in-Err : goal.returns-in-Err
 returns-in-Err c = let i = c.parser.inside in let f = c.in-Err.ensures in
     let e : c.args.parser.now ≡ parser_of i = sym c.parser.view_is in
     show_fault_of i.setting i.input.now i.scanner c.look.new.scanner i.peeked (option_map fault_of i.fault) c.fault_at.result f.1 c.args.parser.now (e ∙ open_session (parser_of i) c.if-parser.false)
-      (subst (λ (x : Fault). IsShort i.setting i.input.now i.scanner x ⊎ IsEnded i.setting i.input.now i.scanner c.look.new.scanner x) (sym c.fault_at.ensures) f.0) f.2
+    (subst (λ (x : Fault). IsShort i.setting i.input.now i.scanner x ⊎ IsEnded i.setting i.input.now i.scanner c.look.new.scanner x) (sym c.fault_at.ensures) f.0) f.2
