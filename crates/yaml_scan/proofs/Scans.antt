@@ -226,9 +226,9 @@ module _ (setting : yaml_encoding_t) (input : List ℕ) (s t : scanner_t) (k : I
         ∙ ap (λ (n : ℕ). token_or_empty (decoded_input setting input).encoding (slice_get (tokens_of s.limit D) n)) k.taken
         ∙ ap (λ (z : Option Token). token_or_empty (decoded_input setting input).encoding z) token_some.1
 
-    pub show_token : (q : Parser) → q ≡ O → (over : Bool) → over ≡ false → Shows q (Ok tt) (record { input = input; setting = setting; limit = t.limit; session = record { taken = t.taken; steps = t.made; peeked = true; over = over; fault = fault } })
-    show_token q r over e = subst (λ (b : Bool). Shows q (Ok tt) (record { input = input; setting = setting; limit = t.limit; session = record { taken = t.taken; steps = t.made; peeked = true; over = b; fault = fault } })) (sym e)
-        (subst (λ (z : Parser). Shows z (Ok tt) now_shown) (sym r) (inl (ap PEEKED shown_is ∙ sym answer_is, show_left)))
+    pub show_token : (q : Parser) → q ≡ O → (over : Bool) → over ≡ false → Shows q true (record { input = input; setting = setting; limit = t.limit; session = record { taken = t.taken; steps = t.made; peeked = true; over = over; fault = fault } })
+    show_token q r over e = subst (λ (b : Bool). Shows q true (record { input = input; setting = setting; limit = t.limit; session = record { taken = t.taken; steps = t.made; peeked = true; over = b; fault = fault } })) (sym e)
+        (subst (λ (z : Parser). Shows z true now_shown) (sym r) (inl (ap PEEKED shown_is ∙ sym answer_is, show_left)))
 
 head_at : (l : List queued_t) (y : queued_t) → 0 < length l → y ≡ get_or l 0 y → (ys : List queued_t) × (l ≡ y ∷ ys)
 head_at [] y m e = absurd (omega arith)
@@ -257,7 +257,7 @@ module _ (setting : yaml_encoding_t) (input : List ℕ) (s : scanner_t) (k : IsS
       ∙ ap token_shown (sym r)
 
 -- PEEKS AND SCANS
-pub show_over : (p : Parser) → p.session.over ≡ true → p.session.peeked ≡ false → Shows p (Ok tt) p
+pub show_over : (p : Parser) → p.session.over ≡ true → p.session.peeked ≡ false → Shows p true p
 show_over p o k = inl (rw (k, o) refl, rw o refl)
 
 pub scan_over : (p : Parser) → p.session.over ≡ true → Calls SCAN p (TOKEN empty) p
@@ -305,7 +305,7 @@ module _ (p q : Parser) (o : p.session.over ≡ false) where
   shown_token : (x : yaml_token_t) → PEEKED x ≡ answered p PEEK → (y : Token) × (next ≡ Some y) × (x ≡ handed_out (input_read p).encoding y)
   shown_token x a = peeked_token (input_read p).encoding (course_read p) next x (a ∙ open_peek)
 
-  pub is_peeked : Shows p (Ok tt) q → q.session.peeked ≡ true
+  pub is_peeked : Shows p true q → q.session.peeked ≡ true
   is_peeked (inl a) = let y = shown_token (token_shown q) a.0 in
       ap (λ (z : Parser). z.session.peeked) a.1 ∙ ap (λ (z : Session). z.peeked) (left_peek ∙ ap (λ (n : Option Token). after_peek p.limit (course_read p) p.session n) y.1)
   is_peeked (inr a) = absurd (let n = a.0 in cc)
@@ -314,7 +314,7 @@ module _ (p q : Parser) (o : p.session.over ≡ false) where
   unfolding course_read
   taken_behind y n = ap (λ (z : Session). record { input = p.input; setting = p.setting; limit = p.limit; session = z }) (take_after_peek p.limit (course_read p) p.session y o n)
 
-  pub scan_shown : (x : yaml_token_t) (r : Parser) → Shows p (Ok tt) q → x ≡ token_shown q → r ≡ behind q SKIP → Calls SCAN p (TOKEN x) r
+  pub scan_shown : (x : yaml_token_t) (r : Parser) → Shows p true q → x ≡ token_shown q → r ≡ behind q SKIP → Calls SCAN p (TOKEN x) r
   scan_shown x r (inl a) e f = (let y = shown_token (token_shown q) a.0 in
       inl (
         ap TOKEN (e ∙ y.2) ∙ sym (open_scan ∙ ap (λ (n : Option Token). scan_answer (input_read p).encoding (course_read p) n) y.1),
@@ -332,9 +332,16 @@ module _ (p q : Parser) (o : p.session.over ≡ false) where
       (left_peek ∙ ap (λ (z : Option Token). after_peek p.limit (course_read p) p.session z) n
       ∙ sym (left_scan ∙ ap (λ (z : Option Token). after_scan p.limit (course_read p) p.session z) n))
 
-  pub scan_not_shown : (f : yaml_fault_t) → Shows p (Err f) q → Scans p (Err f) q
+  pub scan_not_shown : (f : yaml_fault_t) → Calls PEEK p (FAULT (fault_of f)) q → Scans p (Err f) q
   scan_not_shown f (inr a) = inr a
   scan_not_shown f (inl a) = (let n = no_token (input_read p).encoding (course_read p) next (fault_of f) (a.0 ∙ open_peek) in inl (a.0 ∙ same_answer n, a.1 ∙ same_left n))
+
+some_fault : (a b : Fault) → Some a ≡ Some b → a ≡ b
+some_fault a b e = cc
+
+-- the fault that ended the session is the answer to the peek
+pub fault_shown : (p q : Parser) (f : Fault) → Shows p false q → q.session.fault ≡ Some f → Calls PEEK p (FAULT f) q
+fault_shown p q f w e = subst (λ (x : Fault). Calls PEEK p (FAULT x) q) (some_fault w.0 f (sym w.1 ∙ e)) w.2
 
 get_none : (xs : List Token) (n : ℕ) → length xs ≤ n → slice_get xs n ≡ None
 get_none [] n l = refl
@@ -369,12 +376,12 @@ module _ (setting : yaml_encoding_t) (input : List ℕ) (s t : scanner_t) (peeke
   unfolding course_read
   wants m n = record { input = refl; setting = refl; limit = z.limit; taken = z.taken; least = z.least; most = z.most; unsettled = z.unsettled; peeked = refl; over = refl; fault = ap Some m.fault; in_utf8 = m.in_utf8; was_open = refl; was_not_peeked = n }
 
-  pub show_fault : IsShort setting input s (fault_of f) ⊎ IsEnded setting input s t (fault_of f) → peeked ≡ false → Shows open_parser (Err f) stopped
+  pub show_fault : IsShort setting input s (fault_of f) ⊎ IsEnded setting input s t (fault_of f) → peeked ≡ false → Calls PEEK open_parser (FAULT (fault_of f)) stopped
   show_fault (inl m) n = inr (ap FAULT m.fault, wants m n)
   show_fault (inr e) n = inl (fault_told e, fault_left e)
 
-  pub show_fault_of : (q : Parser) → q ≡ open_parser → IsShort setting input s (fault_of f) ⊎ IsEnded setting input s t (fault_of f) → peeked ≡ false → Shows q (Err f) stopped
-  show_fault_of q r e n = subst (λ (x : Parser). Shows x (Err f) stopped) (sym r) (show_fault e n)
+  pub show_fault_of : (q : Parser) → q ≡ open_parser → IsShort setting input s (fault_of f) ⊎ IsEnded setting input s t (fault_of f) → peeked ≡ false → Shows q false stopped
+  show_fault_of q r e n = (fault_of f, refl, subst (λ (x : Parser). Calls PEEK x (FAULT (fault_of f)) stopped) (sym r) (show_fault e n))
 
 pub open_session : (p : Parser) → p.session.over ≡ false → p ≡ record { input = p.input; setting = p.setting; limit = p.limit; session = record { taken = p.session.taken; steps = p.session.steps; peeked = p.session.peeked; over = false; fault = p.session.fault } }
 open_session p o = λ k. record { input = p.input; setting = p.setting; limit = p.limit; session = record { taken = p.session.taken; steps = p.session.steps; peeked = p.session.peeked; over = o k; fault = p.session.fault } }

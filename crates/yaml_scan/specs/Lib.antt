@@ -13,6 +13,7 @@ pub mod Source
 pub mod SourceOf
 pub mod TextReads
 pub mod Step
+pub mod Stop
 pub mod Cut
 pub mod Answers
 pub mod Session

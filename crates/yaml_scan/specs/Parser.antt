@@ -1,11 +1,11 @@
 -- A parser, as its calls see it.
-use Rattle.std.specs.Prelude.{◌≡◌, ◌⊎◌, ℕ, ◌≤◌, false, true, List, Option, None, Some, Result, Ok, Err, if◌then◌else◌}
+use Rattle.std.specs.Prelude.{◌≡◌, ◌⊎◌, ℕ, ◌≤◌, Bool, false, true, List, Option, None, Some, Result, Ok, Err, if◌then◌else◌}
 use denote.Ref.{Bor}
 use Rattle.yaml_text.specs.declared.types.yaml_encoding_t.{yaml_encoding_t}
 use Rattle.yaml_text.specs.declared.types.yaml_encoding_t.TheVariants.{YAML_UTF8_ENCODING}
 use Rattle.yaml_text.specs.declared.fault.yaml_fault_t.{yaml_fault_t}
 use Rattle.yaml_text.specs.declared.token.yaml_token_t.{yaml_token_t as code_token_t}
-use Rattle.yaml_text.specs.Fault.{fault_of, memory_fault}
+use Rattle.yaml_text.specs.Fault.{Fault, fault_of, memory_fault}
 use Rattle.yaml_text.specs.Token.{token_of}
 use Rattle.yaml_scan.specs.Token.{yaml_token_t, empty}
 use Rattle.yaml_scan.specs.Offline.{Token, handed_out}
@@ -105,7 +105,7 @@ token_or_empty e (Some x) = handed_out e x
 abbrev pub token_shown : Parser → yaml_token_t
 token_shown p = if p.session.peeked then token_or_empty (input_read p).encoding (next_token p.limit (course_read p) p.session) else empty
 
--- a peek, by what the parser shows after it
-abbrev pub Shows : Parser → Result (Unit {0}) yaml_fault_t → Parser → Type 0
-Shows p (Ok _) q = Calls PEEK p (PEEKED (token_shown q)) q
-Shows p (Err fault) q = Calls PEEK p (FAULT (fault_of fault)) q
+-- a peek, by what the parser has after it: a token that is shown, or the fault that ended the session
+abbrev pub Shows : Parser → Bool → Parser → Type 0
+Shows p true q = Calls PEEK p (PEEKED (token_shown q)) q
+Shows p false q = (f : Fault) × (q.session.fault ≡ Some f) × Calls PEEK p (FAULT f) q

@@ -41,8 +41,11 @@ impl yaml_token_sink_t for token_list_t {
 
 /// All tokens of an input, to STREAM-END, or those before its fault, and the fault. The key limit is 1,024 bytes.
 ///
-/// Where memory is refused, the fault is of kind memory, and the tokens are those that some of the steps settle, STREAM-END not
-/// among them; `AllocError` comes only where the list of the tokens itself found no memory.
+/// If the scanner is refused memory, the fault is of kind memory, and the tokens are those that some of the steps settle,
+/// STREAM-END not among them.
+///
+/// # Errors
+/// `AllocError` if there is no memory for the list of tokens.
 pub fn yaml_scan_all(
     alloc: Global,
     input: &[u8],
@@ -61,7 +64,10 @@ pub fn yaml_scan_all(
     yaml_scan_all_limit(alloc, input, setting, 1024)
 }
 
-/// All tokens of an input, as [`yaml_scan_all`] answers them, with a key limit in bytes, from 1 to 65,536.
+/// All tokens of an input, as [`yaml_scan_all`] returns them, with a key limit in bytes, from 1 to 65,536.
+///
+/// # Errors
+/// `AllocError` if there is no memory for the list of tokens.
 pub fn yaml_scan_all_limit(
     alloc: Global,
     input: &[u8],

@@ -1,4 +1,4 @@
-//! Lists of calls, each with its answer.
+//! Lists of calls, and the answer to each.
 ghost use Rattle.std.specs.Prelude.{◌≡◌, ◌+◌, ◌≤◌, length, map, OnOk, OnErr, vec_len};
 ghost use Rattle.std.specs.Vec.{vec_capacity};
 ghost use Rattle.yaml_text.specs.Fault.{fault_of};
@@ -10,6 +10,8 @@ ghost use Rattle.yaml_scan.specs.CallWords.{SeenHaveLines};
 ghost use Rattle.yaml_scan.specs.ReadingOn.{ReadsOn, HaveOneFault};
 ghost use Rattle.yaml_scan.specs.Puts.{Puts, TakesNext, HasNext, AreAnsweredAlike};
 ghost use Rattle.yaml_scan.specs.CallMarks.{text_read, SeenAreCounted};
+ghost use Rattle.yaml_scan.specs.Calls.{Sees, seen_of, call_of, PutsAnswers, PutsSession, seen};
+ghost use Rattle.yaml_scan.specs.Session.Answer.{PEEKED};
 
 use crate::parser::{
     yaml_parser_has_token, yaml_parser_peek, yaml_parser_queued, yaml_parser_scan,
@@ -26,8 +28,8 @@ pub enum yaml_call_t {
     SKIP,
 }
 
-/// What a call answered: the token that it took, what it showed of the next one, that one was skipped, that none was shown
-/// to be skipped, or the fault.
+/// The answer to a call: the token that a scan took; the type, start and end of the token that a peek showed; that a token
+/// was skipped; that there was none to skip; or the fault.
 #[derive(Drop, PartialEq, Eq)]
 pub enum yaml_answer_t {
     TOKEN(yaml_token_t),
@@ -36,8 +38,6 @@ pub enum yaml_answer_t {
     NOTHING,
     FAULT(yaml_fault_t),
 }
-
-ghost use Rattle.yaml_scan.specs.Calls.{Sees, seen_of, call_of, PutsAnswers, PutsSession};
 
 fn answer_scan(parser: &mut yaml_parser_t) -> yaml_answer_t
     ensures { Sees SCAN parser.old (seen_of result) parser.new }
@@ -48,15 +48,12 @@ fn answer_scan(parser: &mut yaml_parser_t) -> yaml_answer_t
     }
 }
 
-/// What is told of a token that was peeked.
+/// The answer to a peek that shows this token.
 fn peeked(token: &yaml_token_t) -> yaml_answer_t
     ensures { seen_of result ≡ seen (PEEKED (token_of token.now)) }
 {
     yaml_answer_t::PEEKED(token.type_(), token.start_mark, token.end_mark)
 }
-
-ghost use Rattle.yaml_scan.specs.Session.Answer.{PEEKED};
-ghost use Rattle.yaml_scan.specs.Calls.{seen};
 
 fn answer_peek(parser: &mut yaml_parser_t) -> yaml_answer_t
     ensures { Sees PEEK parser.old (seen_of result) parser.new }
@@ -87,7 +84,7 @@ fn answer_call(parser: &mut yaml_parser_t, call: yaml_call_t) -> yaml_answer_t
     }
 }
 
-/// Makes the calls, where there is room for their answers.
+/// Makes the calls. There is room for their answers.
 fn answer_all(parser: &mut yaml_parser_t, calls: &[yaml_call_t], out: &mut Vec<yaml_answer_t>)
     requires { vec_len out.old + length calls.now ≤ vec_capacity out.old }
     ensures { PutsAnswers parser.old (map call_of calls.now) out.old.items out.new.items parser.new }
@@ -101,7 +98,7 @@ fn answer_all(parser: &mut yaml_parser_t, calls: &[yaml_call_t], out: &mut Vec<y
     }
 }
 
-/// Few steps wait in a parser, whatever was called, and where a token was peeked there is one.
+/// Few steps are queued in a parser after any calls, and if a token was peeked there is one.
 fn few_wait(parser: &yaml_parser_t)
     ensures few { session_queued (course_read parser.now) parser.now.session ≤ parser.now.limit + 1 }
     ensures next { HasNext parser.now }
@@ -110,14 +107,15 @@ fn few_wait(parser: &yaml_parser_t)
     let _ = yaml_parser_has_token(parser);
 }
 
-/// Makes the calls in order, and puts one answer each behind `out`: a peeked token as its type, start and end, and
-/// `NOTHING` for a skip where no token was shown.
+/// Makes the calls in order, and appends the answer to each to `out`. A skip when no token was peeked is answered by
+/// `NOTHING`.
 ///
-/// Room for all answers is reserved first; where it is refused, `AllocError`, nothing has changed. Where memory is
-/// refused later, that call is answered with the fault, and those after it as where the session is over.
+/// More scans than there are tokens left take all of these in order, then return the fault once, if there is one, and then
+/// empty tokens. If memory is refused in a call, its answer is the fault of kind memory, and the session is over.
 ///
-/// More scans than there are tokens left answer all of these in order, the fault once, if there is one, and then empty
-/// tokens.
+/// # Errors
+/// `AllocError` if there is no memory for the list of answers. It is reserved before the first call, so nothing has changed
+/// then.
 pub fn yaml_run(
     parser: &mut yaml_parser_t,
     calls: &[yaml_call_t],

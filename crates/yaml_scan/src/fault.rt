@@ -2,6 +2,8 @@
 ghost use Rattle.std.specs.Prelude.{◌≡◌};
 ghost use Rattle.std.specs.Option.{option_copied};
 ghost use Rattle.yaml_text.specs.Fault.{fault_of, memory_fault, scanner_fault};
+ghost use Rattle.yaml_scan.specs.declared.fault.stop_t.TheVariants.{MEMORY};
+ghost use Rattle.yaml_scan.specs.Stop.{fault_at};
 
 use std::alloc::AllocError;
 use yaml_text::{yaml_error_type_t, yaml_fault_t, yaml_mark_t};
@@ -12,8 +14,8 @@ const ZERO: yaml_mark_t = yaml_mark_t {
     column: 0,
 };
 
-/// A want of memory.
-fn make_memory_fault() -> yaml_fault_t
+/// The fault of a refused request for memory.
+pub(crate) fn make_memory_fault() -> yaml_fault_t
     ensures { fault_of result ≡ memory_fault }
 {
     yaml_fault_t {
@@ -28,7 +30,7 @@ fn make_memory_fault() -> yaml_fault_t
 }
 
 /// A problem at a mark, with a context at another.
-pub(crate) fn make_scanner_fault(
+fn make_scanner_fault(
     problem: &'static str,
     problem_mark: yaml_mark_t,
     context: Option<&'static str>,
@@ -47,26 +49,42 @@ pub(crate) fn make_scanner_fault(
     }
 }
 
-/// Why a step failed. A growth that was refused is a fault of kind memory.
-#[derive(Drop)]
-pub(crate) struct failure_t {
-    pub fault: yaml_fault_t,
+/// Why a step stopped: memory was refused, or there is a fault, which was kept.
+#[derive(Clone, Copy)]
+pub(crate) enum stop_t {
+    MEMORY,
+    FAULT,
 }
 
-impl From<AllocError> for failure_t {
-    ghost from_gives = { λ _ e. fault_of e.fault ≡ memory_fault };
+impl From<AllocError> for stop_t {
+    ghost from_gives = { λ _ stop. stop ≡ MEMORY };
 
-    fn from(_e: AllocError) -> failure_t {
-        failure_t {
-            fault: make_memory_fault(),
-        }
+    fn from(_e: AllocError) -> stop_t {
+        stop_t::MEMORY
     }
 }
 
-impl From<yaml_fault_t> for failure_t {
-    ghost from_gives = { λ fault e. e.fault ≡ fault };
+/// Keeps a problem at a mark, with a context at another.
+#[inline(never)]
+pub(crate) fn keep_fault(
+    kept: &mut yaml_fault_t,
+    problem: &'static str,
+    problem_mark: yaml_mark_t,
+    context: Option<&'static str>,
+    context_mark: yaml_mark_t,
+) -> stop_t
+    ensures { fault_at result kept.new ≡ scanner_fault problem.now problem_mark (option_copied context.entry) context_mark }
+{
+    *kept = make_scanner_fault(problem, problem_mark, context, context_mark);
+    stop_t::FAULT
+}
 
-    fn from(fault: yaml_fault_t) -> failure_t {
-        failure_t { fault }
+/// The fault of a stop.
+pub(crate) fn fault_at(stop: stop_t, kept: &yaml_fault_t) -> yaml_fault_t
+    ensures { fault_of result ≡ fault_at stop kept.now }
+{
+    match stop {
+        stop_t::MEMORY => make_memory_fault(),
+        stop_t::FAULT => *kept,
     }
 }

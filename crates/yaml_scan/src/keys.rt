@@ -1,14 +1,13 @@
 //! Simple keys: the candidate of each flow depth, which a `:` may yet make a key (YAML 1.1, 10.2 Mappings, simple keys).
 ghost use Rattle.std.specs.Prelude.{◌≡◌, ◌+◌, ◌-◌, ◌&&◌, not, List, Option, None, map, IfOk, OnOk, if◌then◌else◌};
-ghost use Rattle.yaml_scan.specs.Slots.{is_live, still_held, lost_held, needed, slot_behind, root_of, waits};
-ghost use Rattle.yaml_scan.specs.Slots.{completed_held, nested_outer, nested_top, empty_slots, lowest, AreEmptyBelow, AreNested};
+ghost use Rattle.yaml_scan.specs.Slots.{is_live, still_held, lost_held, needed, slot_behind, root_of, waits, completed_held, nested_outer, nested_top, empty_slots, lowest, AreEmptyBelow, AreNested};
 
 use crate::kind::{is_candidate, is_colon, is_flow_end, is_flow_start};
 use std::alloc::AllocError;
 use yaml_lexeme::yaml_lexeme_kind_t;
 use yaml_text::yaml_mark_t;
 
-/// What is kept of a candidate: how many tokens stand before its own, where it starts, and whether a `:` has to come.
+/// What is kept of a candidate: how many tokens come before its own, where it starts, and whether a `:` has to come.
 #[derive(Clone, Copy)]
 pub(crate) struct held_t {
     pub at: u128,
@@ -67,7 +66,7 @@ pub(crate) fn needed_at(slot: Option<held_t>, limit: u64, mark: yaml_mark_t) -> 
 
 /// Gives up the candidates that are stale at a mark, and counts the lowest slots that are then empty.
 ///
-/// An inner candidate starts no earlier, so behind the first live one all are live.
+/// An inner candidate starts no earlier, so after the first live one all are live.
 fn give_up_stale(
     slots: &mut Vec<Option<held_t>>,
     empty: usize,
@@ -90,7 +89,7 @@ fn give_up_stale(
     slots.len()
 }
 
-/// How many of the lowest slots are empty, where so many are known to be.
+/// How many of the lowest slots are empty, of which the first `empty` are known to be.
 fn count_empty(slots: &[Option<held_t>], empty: usize) -> usize
     requires { AreEmptyBelow empty slots.now }
     ensures { result ≡ empty_slots slots.now }
@@ -115,7 +114,7 @@ pub(crate) fn root(outer: &[Option<held_t>], top: Option<held_t>) -> Option<held
     }
 }
 
-/// Makes a slot that of a depth behind a lexeme that was read at it.
+/// Changes the slot of a depth after a lexeme was read at it.
 pub(crate) fn settle(
     slot: &mut Option<held_t>,
     kind: yaml_lexeme_kind_t,
@@ -179,7 +178,7 @@ fn nest(
     Ok(())
 }
 
-/// Gives up what is stale at a mark, and changes the depth behind a lexeme.
+/// Gives up what is stale at a mark, and changes the depth after a lexeme.
 pub(crate) fn move_slots(
     outer: &mut Vec<Option<held_t>>,
     empty: &mut usize,
@@ -210,14 +209,14 @@ fn waits_for(slot: Option<held_t>, taken: u128) -> bool
     }
 }
 
-/// Whether the token with so many before it is that of a candidate.
+/// Whether the token that comes after `taken` others is that of the candidate.
 pub(crate) fn is_awaited(top: Option<held_t>, taken: u128) -> bool
     ensures { result ≡ waits taken top }
 {
     waits_for(top, taken)
 }
 
-/// The same of the lowest of the outer candidates.
+/// Whether the token that comes after `taken` others is that of the lowest outer candidate.
 pub(crate) fn is_lowest_awaited(slots: &[Option<held_t>], empty: usize, taken: u128) -> bool
     requires { empty ≡ empty_slots slots.now }
     ensures { result ≡ waits taken (lowest slots.now) }

@@ -1,11 +1,10 @@
 //! What the layout asks of a kind of lexeme.
-ghost use Rattle.std.specs.Prelude.{◌≡◌, ℕ, nat_eq, true};
+ghost use Rattle.std.specs.Prelude.{◌≡◌, ℕ, nat_eq, true, ◌+◌, ◌<◌, ◌^◌};
 ghost use Rattle.yaml_scan.specs.Kind.{is_candidate_kind, is_value, is_stream_end, closes_all};
-ghost use Rattle.yaml_scan.specs.Kind as kinds;
 ghost use Rattle.yaml_scan.specs.Laid.{allows};
 ghost use Rattle.yaml_scan.specs.Levels.{opens_level, stays};
 ghost use Rattle.yaml_scan.specs.Step.{end_of, start_at};
-ghost use Rattle.std.specs.Prelude.{◌+◌, ◌<◌, ◌^◌};
+ghost use Rattle.yaml_scan.specs.Kind as kinds;
 
 use yaml_lexeme::yaml_lexeme_kind_t;
 use yaml_text::yaml_mark_t;
@@ -68,7 +67,7 @@ fn is_closer(kind: yaml_lexeme_kind_t) -> bool
     )
 }
 
-/// Whether it opens a block collection, where it completes no key.
+/// Whether it opens a block collection if it completes no key.
 pub(crate) fn is_opener(kind: yaml_lexeme_kind_t) -> bool
     ensures { result ≡ opens_level kind true }
 {
@@ -78,8 +77,8 @@ pub(crate) fn is_opener(kind: yaml_lexeme_kind_t) -> bool
     )
 }
 
-/// Whether a key is allowed behind it. `margin` tells whether it was read at depth 0, `none` whether it completed nothing,
-/// and `passed_break`, for a plain scalar, whether a break stands in the separator behind it.
+/// Whether a key is allowed after it. `margin`: it was read at depth 0. `none`: it completed nothing. `passed_break`: it is
+/// a plain scalar, and a break is in the separator after it.
 pub(crate) fn is_allowed_after(
     kind: yaml_lexeme_kind_t,
     margin: bool,
@@ -129,7 +128,7 @@ fn end_mark(front: yaml_mark_t) -> yaml_mark_t
     }
 }
 
-/// Where a lexeme starts behind a gap.
+/// Where a lexeme starts after a gap.
 pub(crate) fn start_behind(kind: yaml_lexeme_kind_t, front: yaml_mark_t) -> yaml_mark_t
     requires { front.line + 1 < 2 ^ 64 }
     ensures { result ≡ start_at kind front }

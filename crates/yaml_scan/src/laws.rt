@@ -1,11 +1,13 @@
 //! What holds of the layout: each law is the contract of a function that does nothing.
-ghost use Rattle.yaml_scan.specs.Laws.{DepthGoesOn, CandidatesGoOn, CandidatesAreNested, AllowedGoesOn, ColumnsGoOn, ColumnsFall, LevelIsFirst, LevelStays, OfflineGoesOn, CandidateStandsThere, NeverRevised, FewWait, FewWaitOneStepOn, AllIsHandedOut, LexemesComeInOrder, EndsNeverOutnumber, AsManyEnds, CutIsLongest, CutIsHistory, CutIsShort};
-ghost use Rattle.yaml_scan.specs.Laws.{StepsBeginCut, CutIsOnly};
+ghost use Rattle.yaml_scan.specs.Laws.{DepthGoesOn, CandidatesGoOn, CandidatesAreNested, AllowedGoesOn, ColumnsGoOn, ColumnsFall, LevelIsFirst, LevelStays, OfflineGoesOn, CandidateStandsThere, NeverRevised, FewWait, FewWaitOneStepOn, AllIsHandedOut, LexemesComeInOrder, EndsNeverOutnumber, AsManyEnds, CutIsLongest, CutIsHistory, CutIsShort, StepsBeginCut, CutIsOnly};
 ghost use Rattle.yaml_scan.specs.TokenLaws.{TokensStandInOrder, KeysAreFollowed, FourTokensAStep};
-ghost use Rattle.yaml_scan.specs.SessionLaws.{CourseIsHistory, EndsOrFaults, RefusedHasFault, AcceptedIsCut, FrontIsCut, TakenAreBeginning, PeeksChangeNothing, NoneIsStuck, PaceSettles, PaceIsLeast, FewStepsQueued};
-ghost use Rattle.yaml_scan.specs.SessionLaws.{NearStepIsRefused, FarStepIsItself, CourseIsRun};
+ghost use Rattle.yaml_scan.specs.SessionLaws.{CourseIsHistory, EndsOrFaults, RefusedHasFault, AcceptedIsCut, FrontIsCut, TakenAreBeginning, PeeksChangeNothing, NoneIsStuck, PaceSettles, PaceIsLeast, FewStepsQueued, NearStepIsRefused, FarStepIsItself, CourseIsRun};
 ghost use Rattle.yaml_scan.specs.AnswerLaws.{AnswersStandInOrder, AnswersEndFewer, AnswersEndAll, AnswersFollowKeys};
 ghost use Rattle.yaml_scan.specs.Locality.{StepIsLocal, TokensBeforeRefusal, FaultBeforeRefusal, TextsAreLocal, TextsKeepOrder};
+ghost use Rattle.yaml_scan.specs.Inputs.{InputsKeepOrder, AllStandInOrder, AllEndFewer, AllEndAll, AllFollowKeys, LateFaults};
+ghost use Rattle.yaml_scan.specs.Words.{AllHaveLines, SessionsHaveLines};
+ghost use Rattle.yaml_scan.specs.CountedMarks.{AnswersAreCounted, SessionsAreCounted, ReachIsCounted};
+ghost use Rattle.yaml_scan.specs.ReadingOn.{AllIsTold, RestIsTold, ScansReadOn, FaultIsToldOnce, RunsFaultOnce};
 
 /// What one lexeme more makes of the depth, the candidates, the open columns and the level: a machine that keeps a slot
 /// for each depth and a stack of columns keeps them.
@@ -19,8 +21,6 @@ pub fn one_lexeme_more()
     ensures level { LevelIsFirst }
     ensures required { LevelStays }
 {}
-
-ghost use Rattle.yaml_scan.specs.Inputs.{InputsKeepOrder, AllStandInOrder, AllEndFewer, AllEndAll, AllFollowKeys, LateFaults};
 
 /// One lexeme more puts at most one key, with its block start, into the offline list, in front of its candidate's
 /// token, and then its own group.
@@ -68,13 +68,13 @@ pub fn block_ends_are_matched()
     ensures answered_whole { AnswersEndAll }
 {}
 
-/// Tokens stand in order: none starts behind its end, or ends behind the start of the next.
+/// Tokens are in order: none starts after its end, or ends after the start of the next.
 pub fn tokens_stand_in_order()
     ensures list { TokensStandInOrder }
     ensures answered { AnswersStandInOrder }
 {}
 
-/// Behind every key that the layout puts in stands its `:`, on its line and within the key limit.
+/// Every key that the layout inserts is followed by its `:`, on its line and within the key limit.
 pub fn keys_are_followed()
     ensures list { KeysAreFollowed }
     ensures answered { AnswersFollowKeys }
@@ -85,11 +85,11 @@ pub fn tokens_are_few()
     ensures { FourTokensAStep }
 {}
 
-/// What an input comes to: its steps are a history, and end with the stream end or with a fault; an accepted input has
-/// the cut of its text, and a refused one a beginning of what its front alone would have.
+/// The steps of an input are a history, and end with the stream end or with a fault. An accepted input has the cut of its
+/// text, and a refused one a beginning of what its front alone would have.
 ///
-/// A step near the end of a refused front is answered by the reader's fault, so that the fault of a refused input is the
-/// reader's, or that of a step further in front.
+/// A step near the end of a refused front ends with the reader's fault, so the fault of a refused input is the reader's, or
+/// that of an earlier step.
 pub fn course_of_an_input()
     ensures history { CourseIsHistory }
     ensures ends { EndsOrFaults }
@@ -101,8 +101,7 @@ pub fn course_of_an_input()
     ensures front { FrontIsCut }
 {}
 
-/// Whatever the calls, the tokens taken are in order a beginning of the list, and where none is next there is a fault to
-/// answer.
+/// After any calls the tokens taken are, in order, a beginning of the list, and if none is left there is a fault.
 pub fn taken_tokens_begin_the_list()
     ensures beginning { TakenAreBeginning }
     ensures goes_on { NoneIsStuck }
@@ -113,19 +112,19 @@ pub fn peeks_change_nothing()
     ensures { PeeksChangeNothing }
 {}
 
-/// No more steps are made than the next token asks for.
+/// No more steps are made than the next token needs.
 pub fn pace_is_least()
     ensures settles { PaceSettles }
     ensures least { PaceIsLeast }
 {}
 
-/// After any calls at most as many steps are queued as the key limit has bytes, and one.
+/// After any calls at most as many steps are queued as the key limit has bytes, plus one.
 pub fn few_steps_are_queued()
     ensures { FewStepsQueued }
 {}
 
 /// A step depends on no character eight or more past its reach, or past its problem. So what is handed out of a refused
-/// input before the reader's fault, and a fault in its place, are those of every accepted input that agrees with it.
+/// input before the reader's fault, and an earlier fault, are those of every accepted input that agrees with it.
 pub fn step_is_local()
     ensures step { StepIsLocal }
     ensures tokens { TokensBeforeRefusal }
@@ -133,13 +132,13 @@ pub fn step_is_local()
     ensures texts { TextsAreLocal }
 {}
 
-/// What is read of a decoded text stands in its order: so the laws that ask for it hold of every decoded text.
+/// What is read of a decoded text is in order, so the laws that require it hold of every decoded text.
 pub fn texts_keep_order()
     ensures { TextsKeepOrder }
 {}
 
 /// The laws of tokens, for any bytes and setting: order, block ends, keys; and what is handed out before a late reader
-/// fault, and a fault in its place, are those of every accepted input that agrees up to the refused character.
+/// fault, and an earlier fault, are those of every accepted input that agrees up to the refused character.
 pub fn laws_of_any_input()
     ensures order { InputsKeepOrder }
     ensures tokens { AllStandInOrder }
@@ -149,29 +148,23 @@ pub fn laws_of_any_input()
     ensures late { LateFaults }
 {}
 
-ghost use Rattle.yaml_scan.specs.Words.{AllHaveLines, SessionsHaveLines};
-
-/// Every token and every fault that is answered can be put in words: the encoding of a stream and the style of a scalar
-/// are told, and a fault is of kind memory, or of kind reader or scanner with a problem text.
+/// Every token and every fault that is returned can be put in words: the encoding of a stream and the style of a scalar are
+/// known, and a fault is of kind memory, or of kind reader or scanner with a problem text.
 pub fn answers_have_lines()
     ensures inputs { AllHaveLines }
     ensures sessions { SessionsHaveLines }
 {}
 
-ghost use Rattle.yaml_scan.specs.CountedMarks.{AnswersAreCounted, SessionsAreCounted, ReachIsCounted};
-
-/// Every mark that is handed out is counted from the front of the text, so that none stands between CR and LF. The one
-/// exception is the mark of the end of a stream, which is moved to the start of the next line if its column is not 0: a stream
-/// end has it, and so have the block ends and the missing `:` that stand there.
+/// Every mark that is handed out is counted from the front of the text, so none is between CR and LF. The one exception is
+/// the mark of the end of a stream, which is moved to the start of the next line if its column is not 0: a stream end has it,
+/// and so have the block ends and the missing `:` found there.
 pub fn marks_are_counted()
     ensures inputs { AnswersAreCounted }
     ensures sessions { SessionsAreCounted }
     ensures reach { ReachIsCounted }
 {}
 
-ghost use Rattle.yaml_scan.specs.ReadingOn.{AllIsTold, RestIsTold, ScansReadOn, FaultIsToldOnce, RunsFaultOnce};
-
-/// More scans than there are tokens left answer all of these in order, then the fault once, if there is one, and then
+/// More scans than there are tokens left take all of these in order, then return the fault once, if there is one, and then
 /// empty tokens.
 pub fn reading_on()
     ensures all { AllIsTold }
@@ -179,7 +172,7 @@ pub fn reading_on()
     ensures in_turn { ScansReadOn }
 {}
 
-/// Whatever the calls, a fault is answered at most once.
+/// After any calls a fault was returned at most once.
 pub fn fault_is_told_once()
     ensures sessions { FaultIsToldOnce }
     ensures runs { RunsFaultOnce }

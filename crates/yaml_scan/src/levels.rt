@@ -1,5 +1,5 @@
 //! Indentation levels: the columns of the block collections that are open (YAML 1.1, 6.1 Indentation Spaces).
-ghost use Rattle.std.specs.Prelude.{◌≡◌, ◌+◌, ◌-◌, ◌≤◌, ◌&&◌, ◌++◌, ◌∷◌, [], true, not, reverse, map, filter, length, OnOk, if◌then◌else◌};
+ghost use Rattle.std.specs.Prelude.{◌≡◌, ◌+◌, ◌-◌, ◌≤◌, ◌&&◌, ◌++◌, ◌∷◌, [], true, not, reverse, map, filter, length, OnOk, if◌then◌else◌, None, Some};
 ghost use Rattle.yaml_text.specs.Token.{token_of};
 ghost use Rattle.yaml_scan.specs.Levels.{stays, is_above, greatest_level, opens_level, IsFalling};
 ghost use Rattle.yaml_scan.specs.Lexeme.{Lexeme};
@@ -17,7 +17,8 @@ use std::collections::VecDeque;
 use yaml_lexeme::yaml_lexeme_kind_t;
 use yaml_text::{yaml_mark_t, yaml_token_t};
 
-/// The mark of the end of a block collection: where the stream ends, the end of the gap for columns above it.
+/// The mark of the end of a block collection: the start of the lexeme that closes it, or at the end of the stream the end
+/// of the gap for columns above that.
 fn mark_of_end(
     kind: yaml_lexeme_kind_t,
     front: yaml_mark_t,
@@ -116,7 +117,7 @@ fn opens_at(levels: &[u64], margin: bool, kind: yaml_lexeme_kind_t, column: u64)
     is_new_level(levels, margin, column) && is_opener(kind)
 }
 
-/// Opens a level, or none.
+/// Opens a level at a column if `opens`.
 fn open_level(levels: &mut Vec<u64>, opens: bool, column: u64) -> Result<(), AllocError>
     ensures { OnOk result (reverse levels.new.items ≡ (if opens then column ∷ [] else []) ++ reverse levels.old.items) }
 {
@@ -126,7 +127,7 @@ fn open_level(levels: &mut Vec<u64>, opens: bool, column: u64) -> Result<(), All
     Ok(())
 }
 
-/// Completes a candidate.
+/// Inserts the key of a candidate, and opens a level at it if that is new.
 fn complete(
     levels: &mut Vec<u64>,
     queue: &mut VecDeque<queued_t>,
@@ -166,9 +167,7 @@ fn begin(
     Ok(())
 }
 
-ghost use Rattle.std.specs.Prelude.{None, Some};
-
-/// Completes a candidate, or opens a level at a lexeme.
+/// Inserts the key of the completed candidate, or opens a level at the lexeme if there is none.
 fn put_key(
     levels: &mut Vec<u64>,
     queue: &mut VecDeque<queued_t>,
@@ -190,7 +189,7 @@ fn put_key(
     }
 }
 
-/// Puts the token of a lexeme behind the queue, with what the lexeme opens or completes.
+/// Appends the token of a lexeme to the queue, with what the lexeme opens or completes.
 pub(crate) fn queue_lexeme(
     levels: &mut Vec<u64>,
     queue: &mut VecDeque<queued_t>,

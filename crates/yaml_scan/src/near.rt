@@ -1,18 +1,17 @@
-//! Where the steps of a refused input are near the place at which its text breaks off.
-ghost use Rattle.std.specs.Prelude.{◌≡◌, ◌+◌, ◌<◌, ◌≤◌, ◌^◌, length};
+//! Which steps of a refused input are near the place at which its text breaks off.
+ghost use Rattle.std.specs.Prelude.{◌≡◌, ◌+◌, ◌<◌, ◌≤◌, ◌^◌, length, List, ℕ};
 ghost use Rattle.yaml_text.specs.Chars.{AreChars, utf8};
+ghost use Rattle.yaml_text.specs.Utf8.{continues};
 ghost use Rattle.yaml_scan.specs.Scanning.{IsNearFrom};
 
-/// Whether a byte of UTF-8 begins no character.
+/// Whether a byte of UTF-8 continues a character.
 fn continues(byte: u8) -> bool
     ensures { result ≡ continues byte }
 {
     0x80 <= byte && byte < 0xC0
 }
 
-ghost use Rattle.yaml_text.specs.Utf8.{continues};
-
-/// The least index whose place has fewer than eight characters behind it.
+/// The least index of a place that fewer than eight characters follow.
 pub(crate) fn near_from(bytes: &[u8]) -> u64
     ensures small { length bytes.now + 1 < 2 ^ 64 }
     ensures near { (cs : List ℕ) → AreChars cs → bytes.now ≡ utf8 cs → IsNearFrom cs result }
@@ -27,5 +26,3 @@ pub(crate) fn near_from(bytes: &[u8]) -> u64
     }
     if left < 8 { 0 } else { at as u64 + 1 }
 }
-
-ghost use Rattle.std.specs.Prelude.{List, ℕ};

@@ -1,17 +1,24 @@
 //! The parser: scan, peek and skip, one call after the other.
-ghost use Rattle.std.specs.Prelude.{◌≡◌, ◌⊎◌, ℕ, ◌+◌, ◌≤◌, ◌<◌, [], length, MatchResult, Some, true, false};
-ghost use Rattle.yaml_text.specs.Fault.{fault_of, zero_mark};
+ghost use Rattle.std.specs.Prelude.{◌≡◌, ◌⊎◌, ℕ, ◌+◌, ◌≤◌, ◌<◌, [], length, MatchResult, Some, true, false, option_map};
+ghost use Rattle.std.specs.Borrow.{sem};
+ghost use Rattle.yaml_text.specs.Fault.{Fault, fault_of, zero_mark};
 ghost use Rattle.yaml_text.specs.Token.{data_of, token_of};
 ghost use Rattle.yaml_text.specs.declared.types.yaml_encoding_t.TheVariants.{YAML_UTF8_ENCODING};
-ghost use Rattle.yaml_scan.specs.Offline.{before};
-ghost use Rattle.yaml_scan.specs.Session.{new_session};
+ghost use Rattle.yaml_text.specs.Decode.{refusal_seen};
+ghost use Rattle.yaml_scan.specs.Offline.{before, queued};
+ghost use Rattle.yaml_scan.specs.Session.{new_session, session_queued, session_reach};
 ghost use Rattle.yaml_scan.specs.Scanning.{Runs, IsOpen, history};
-ghost use Rattle.yaml_scan.specs.Ready.{IsNew, IsReady, IsSettled, IsStopped, IsShort, IsEnded, Pops};
-ghost use Rattle.yaml_scan.specs.Parser.{Scans};
+ghost use Rattle.yaml_scan.specs.Ready.{IsNew, IsReady, IsSettled, IsStopped, IsShort, IsEnded, Pops, Begins, IsStarted, IsShown};
+ghost use Rattle.yaml_scan.specs.Parser.{Scans, token_shown, Shows, behind, IsThere, IsRefusedEarly, input_read, told, answered, Peeks, AnswersPeek, told_copied, shown, course_read};
 ghost use Rattle.yaml_scan.specs.CallMarks.{IsCountedIn, ReachesTo};
 ghost use Rattle.yaml_scan.specs.Token.{is_last_type, type_of};
+ghost use Rattle.yaml_scan.specs.Near.{near_fault};
+ghost use Rattle.yaml_scan.specs.Session.Call.{SKIP, SCAN, PEEK};
+ghost use Rattle.yaml_scan.specs.Peek.{OnceLetGo};
+ghost use Rattle.yaml_scan.specs.Puts.{HasNext, IsAnsweredAlike};
+ghost use Rattle.yaml_scan.specs.Stop.{fault_at};
 
-use crate::fault::failure_t;
+use crate::fault::{fault_at, make_memory_fault, stop_t};
 use crate::near::near_from;
 use crate::queue::{put_stream_start, queued_t};
 use crate::run::settle_head;
@@ -27,7 +34,7 @@ use yaml_text::{
 #[cfg(test)]
 mod tests;
 
-/// A parser of an input: its tokens are asked for one after the other.
+/// A parser of an input. Its tokens are taken one after the other.
 #[derive(Drop)]
 pub struct yaml_parser_t<'a> {
     alloc: Global,
@@ -38,6 +45,8 @@ pub struct yaml_parser_t<'a> {
     done: u128,
     peeked: bool,
     over: bool,
+    /// The fault of a step that stopped.
+    kept: yaml_fault_t,
     fault: Option<yaml_fault_t>,
     empty: yaml_token_t,
 }
@@ -86,15 +95,12 @@ fn new_scanner<'a>(alloc: Global, limit: u64) -> scanner_t<'a>
     }
 }
 
-/// The reader's fault, where the first step is near.
+/// The reader's fault, if the first step is near it.
 fn near_start(refusal: Option<yaml_fault_t>, near: u64) -> Option<yaml_fault_t>
     ensures { refusal_seen result ≡ near_fault near 0 (refusal_seen refusal) }
 {
     if near == 0 { refusal } else { None }
 }
-
-ghost use Rattle.yaml_text.specs.Decode.{refusal_seen};
-ghost use Rattle.yaml_scan.specs.Near.{near_fault};
 
 /// Decodes the input, and makes the first step.
 fn begin<'a>(
@@ -102,15 +108,23 @@ fn begin<'a>(
     scanner: &mut scanner_t<'a>,
     input: &'a [u8],
     setting: yaml_encoding_t,
-) -> Result<(), failure_t>
+    kept: &mut yaml_fault_t,
+) -> Result<(), stop_t>
     requires { IsNew scanner.old }
-    ensures { MatchResult result (λ _. Begins setting input.now scanner.old scanner.new) (λ e. (IsShort setting input.now scanner.old (fault_of e.fault) ⊎ IsEnded setting input.now scanner.old scanner.new (fault_of e.fault)) × IsStopped setting input.now scanner.old scanner.new) }
+    ensures { MatchResult result (λ _. Begins setting input.now scanner.old scanner.new) (λ s. (IsShort setting input.now scanner.old (fault_at s kept.new) ⊎ IsEnded setting input.now scanner.old scanner.new (fault_at s kept.new)) × IsStopped setting input.now scanner.old scanner.new) }
 {
-    let (text, refusal) = yaml_decode_front(alloc, input, setting)?;
+    let (text, refusal) = match yaml_decode_front(alloc, input, setting) {
+        Ok(front) => front,
+        Err(fault) => {
+            *kept = fault;
+            return Err(stop_t::FAULT);
+        }
+    };
     let near = near_from(text.bytes());
     let encoding = text.encoding();
     if let Some(fault) = near_start(refusal, near) {
-        return Err(failure_t { fault });
+        *kept = fault;
+        return Err(stop_t::FAULT);
     }
     put_stream_start(&mut scanner.queue, encoding)?;
     scanner.text = text;
@@ -120,70 +134,56 @@ fn begin<'a>(
     Ok(())
 }
 
-ghost use Rattle.yaml_scan.specs.Ready.{Begins};
-
 /// Makes the first step, if it was not made.
 fn start<'a>(
     alloc: Global,
     scanner: &mut scanner_t<'a>,
     input: &'a [u8],
     setting: yaml_encoding_t,
-) -> Result<(), yaml_fault_t>
+    kept: &mut yaml_fault_t,
+) -> Result<(), stop_t>
     requires { IsReady setting input.now scanner.old }
-    ensures { MatchResult result (λ _. IsStarted setting input.now scanner.old scanner.new) (λ f. (IsShort setting input.now scanner.old (fault_of f) ⊎ IsEnded setting input.now scanner.old scanner.new (fault_of f)) × IsStopped setting input.now scanner.old scanner.new) }
+    ensures { MatchResult result (λ _. IsStarted setting input.now scanner.old scanner.new) (λ s. (IsShort setting input.now scanner.old (fault_at s kept.new) ⊎ IsEnded setting input.now scanner.old scanner.new (fault_at s kept.new)) × IsStopped setting input.now scanner.old scanner.new) }
 {
     if scanner.made > 0 {
         return Ok(());
     }
-    match begin(alloc, scanner, input, setting) {
-        Ok(_) => Ok(()),
-        Err(failure) => Err(failure.fault),
-    }
+    begin(alloc, scanner, input, setting, kept)
 }
 
-ghost use Rattle.yaml_scan.specs.Ready.{IsStarted};
-
-/// Makes the steps that the next token asks for.
+/// Makes the steps that the next token needs.
 fn settle<'a>(
     alloc: Global,
     scanner: &mut scanner_t<'a>,
     input: &'a [u8],
     setting: yaml_encoding_t,
-) -> Result<(), yaml_fault_t>
+    kept: &mut yaml_fault_t,
+) -> Result<(), stop_t>
     requires { IsReady setting input.now scanner.old }
-    ensures { MatchResult result (λ _. IsSettled setting input.now scanner.old scanner.new) (λ f. (IsShort setting input.now scanner.old (fault_of f) ⊎ IsEnded setting input.now scanner.old scanner.new (fault_of f)) × IsStopped setting input.now scanner.old scanner.new) }
+    ensures { MatchResult result (λ _. IsSettled setting input.now scanner.old scanner.new) (λ s. (IsShort setting input.now scanner.old (fault_at s kept.new) ⊎ IsEnded setting input.now scanner.old scanner.new (fault_at s kept.new)) × IsStopped setting input.now scanner.old scanner.new) }
 {
-    match start(alloc, scanner, input, setting) {
-        Ok(_) => match settle_head(alloc, scanner) {
-            Ok(_) => Ok(()),
-            Err(fault) => Err(fault),
-        },
-        Err(fault) => Err(fault),
-    }
+    start(alloc, scanner, input, setting, kept)?;
+    settle_head(alloc, scanner, kept)
 }
 
-/// Makes the steps that the next token asks for, unless it was peeked.
+/// Makes the steps that the next token needs, unless it was peeked.
 fn look<'a>(
     alloc: Global,
     scanner: &mut scanner_t<'a>,
     input: &'a [u8],
     setting: yaml_encoding_t,
     peeked: bool,
-) -> Result<(), yaml_fault_t>
+    kept: &mut yaml_fault_t,
+) -> Result<(), stop_t>
     requires ready { IsReady setting input.now scanner.old }
     requires shown { peeked ≡ true → IsShown setting input.now scanner.old }
-    ensures { MatchResult result (λ _. IsSettled setting input.now scanner.old scanner.new) (λ f. (IsShort setting input.now scanner.old (fault_of f) ⊎ IsEnded setting input.now scanner.old scanner.new (fault_of f)) × IsStopped setting input.now scanner.old scanner.new × (peeked ≡ false)) }
+    ensures { MatchResult result (λ _. IsSettled setting input.now scanner.old scanner.new) (λ s. (IsShort setting input.now scanner.old (fault_at s kept.new) ⊎ IsEnded setting input.now scanner.old scanner.new (fault_at s kept.new)) × IsStopped setting input.now scanner.old scanner.new × (peeked ≡ false)) }
 {
     if peeked {
         return Ok(());
     }
-    match settle(alloc, scanner, input, setting) {
-        Ok(_) => Ok(()),
-        Err(fault) => Err(fault),
-    }
+    settle(alloc, scanner, input, setting, kept)
 }
-
-ghost use Rattle.yaml_scan.specs.Ready.{IsShown};
 
 /// Takes the head of the queue.
 fn take_head(scanner: &mut scanner_t) -> yaml_token_t
@@ -229,6 +229,7 @@ impl<'a> yaml_parser_t<'a> {
             done: 0,
             peeked: false,
             over: false,
+            kept: make_memory_fault(),
             fault: None,
             empty: yaml_token_t::empty(),
         }
@@ -246,14 +247,12 @@ fn shown<'s>(parser: &'s yaml_parser_t<'_>) -> &'s yaml_token_t
     }
 }
 
-ghost use Rattle.yaml_scan.specs.Parser.{token_shown};
-
-/// Makes the steps that the next token asks for, and has it shown.
-pub(crate) fn show(parser: &mut yaml_parser_t) -> Result<(), yaml_fault_t>
+/// Makes the steps that the next token needs, and has it shown. `false` if the session ended with a fault instead.
+pub(crate) fn show(parser: &mut yaml_parser_t) -> bool
     ensures { Shows parser.old result parser.new }
 {
     if parser.over {
-        return Ok(());
+        return true;
     }
     match look(
         parser.alloc,
@@ -261,21 +260,31 @@ pub(crate) fn show(parser: &mut yaml_parser_t) -> Result<(), yaml_fault_t>
         parser.input,
         parser.setting,
         parser.peeked,
+        &mut parser.kept,
     ) {
         Ok(_) => {
             parser.peeked = true;
-            Ok(())
+            true
         }
-        Err(fault) => {
+        Err(stop) => {
             parser.peeked = false;
             parser.over = true;
-            parser.fault = Some(fault);
-            Err(fault)
+            parser.fault = Some(fault_at(stop, &parser.kept));
+            false
         }
     }
 }
 
-ghost use Rattle.yaml_scan.specs.Parser.{Shows};
+/// The fault that has ended the session.
+fn last_fault(parser: &yaml_parser_t) -> yaml_fault_t
+    requires { (f : Fault) × (parser.now.session.fault ≡ Some f) }
+    ensures { parser.now.session.fault ≡ Some (fault_of result) }
+{
+    match parser.fault {
+        Some(fault) => fault,
+        None => unreachable!(),
+    }
+}
 
 /// How many steps have no token left to take.
 fn steps_done(scanner: &scanner_t) -> u128
@@ -287,8 +296,6 @@ fn steps_done(scanner: &scanner_t) -> u128
         None => scanner.made,
     }
 }
-
-ghost use Rattle.yaml_scan.specs.Offline.{queued};
 
 /// Takes the token that was shown.
 fn take_shown(parser: &mut yaml_parser_t) -> yaml_token_t
@@ -303,14 +310,12 @@ fn take_shown(parser: &mut yaml_parser_t) -> yaml_token_t
     token
 }
 
-ghost use Rattle.yaml_scan.specs.Parser.{behind};
-ghost use Rattle.yaml_scan.specs.Session.Call.{SKIP};
-
-/// Takes the next token. Behind the stream end, and behind a fault, it is the empty one.
+/// Takes the next token. After the stream end, and after a fault, it is the empty one.
 ///
-/// The fault that ends the session is answered once, by the scan or peek that meets it. A refused growth of memory is a fault
-/// of kind memory; none is asked for where the token was peeked or the session is over, nor where the input is in UTF-8 and its
-/// reader's fault comes in the place of the first step.
+/// # Errors
+/// The fault that ends the session, once, from the scan or peek that finds it: of kind reader if the input is no text there,
+/// of kind scanner if no token can be read, of kind memory if a request for memory was refused. No memory is needed if the
+/// token was peeked or the session is over, nor if the input is in UTF-8 and its reader's fault comes before the first step.
 pub fn yaml_parser_scan(parser: &mut yaml_parser_t) -> Result<yaml_token_t, yaml_fault_t>
     ensures answers { Scans parser.old result parser.new }
     ensures bare { IsThere parser.old → (told result ≡ answered parser.old SCAN) × (parser.new ≡ behind parser.old SCAN) }
@@ -321,16 +326,14 @@ pub fn yaml_parser_scan(parser: &mut yaml_parser_t) -> Result<yaml_token_t, yaml
     if parser.over {
         return Ok(yaml_token_t::empty());
     }
-    match show(parser) {
-        Ok(_) => Ok(take_shown(parser)),
-        Err(fault) => Err(fault),
+    if show(parser) {
+        Ok(take_shown(parser))
+    } else {
+        Err(last_fault(parser))
     }
 }
 
-ghost use Rattle.yaml_scan.specs.Parser.{IsThere, IsRefusedEarly, input_read, told, answered};
-ghost use Rattle.yaml_scan.specs.Session.Call.{SCAN};
-
-/// Takes the token that was peeked, and drops it. No memory is asked for.
+/// Takes the token that was peeked, and drops it. It needs no memory.
 pub fn yaml_parser_skip(parser: &mut yaml_parser_t)
     requires { parser.old.session.peeked ≡ true }
     ensures { parser.new ≡ behind parser.old SKIP }
@@ -338,9 +341,10 @@ pub fn yaml_parser_skip(parser: &mut yaml_parser_t)
     let _ = take_shown(parser);
 }
 
-/// Shows the next token, which the next scan or skip takes. Behind the stream end, and behind a fault, it is the empty one.
+/// Shows the next token, which the next scan or skip takes. After the stream end, and after a fault, it is the empty one.
 ///
-/// Faults are answered as [`yaml_parser_scan`] answers them.
+/// # Errors
+/// The same as of [`yaml_parser_scan`].
 pub fn yaml_parser_peek<'s>(
     parser: &'s mut yaml_parser_t<'_>,
 ) -> Result<&'s yaml_token_t, yaml_fault_t>
@@ -351,20 +355,15 @@ pub fn yaml_parser_peek<'s>(
     ensures local { IsAnsweredAlike parser.old PEEK (shown (told_copied result)) }
     ensures marks { IsCountedIn parser.old (shown (told_copied result)) }
 {
-    match show(parser) {
-        Ok(_) => Ok(shown(parser)),
-        Err(fault) => Err(fault),
+    if show(parser) {
+        Ok(shown(parser))
+    } else {
+        Err(last_fault(parser))
     }
 }
 
-ghost use Rattle.std.specs.Borrow.{sem};
-ghost use Rattle.yaml_scan.specs.Peek.{OnceLetGo};
-ghost use Rattle.yaml_scan.specs.Puts.{HasNext, IsAnsweredAlike};
-ghost use Rattle.yaml_scan.specs.Parser.{Peeks, AnswersPeek, told_copied, shown};
-ghost use Rattle.yaml_scan.specs.Session.Call.{PEEK};
-
-/// Whether a peek showed a token, other than the empty one, that was not taken since. Where one was shown, there is a
-/// next token, and the session is not over.
+/// Whether a peek showed a token, other than the empty one, that was not taken since. If one was shown, there is a next
+/// token, and the session is not over.
 pub fn yaml_parser_has_token(parser: &yaml_parser_t) -> bool
     ensures peeked { result ≡ parser.now.session.peeked }
     ensures next { HasNext parser.now }
@@ -379,8 +378,6 @@ pub fn yaml_parser_fault<'s>(parser: &'s yaml_parser_t<'_>) -> Option<&'s yaml_f
     parser.fault.as_ref()
 }
 
-ghost use Rattle.std.specs.Prelude.{option_map};
-
 /// How many steps have a token that was made and not taken: at most one more than the key limit. STREAM-START is a step, and
 /// each lexeme is one, with the keys and the starts and ends of blocks that were put in for it.
 pub fn yaml_parser_queued(parser: &yaml_parser_t) -> u64
@@ -389,9 +386,6 @@ pub fn yaml_parser_queued(parser: &yaml_parser_t) -> u64
 {
     (parser.scanner.made - parser.done) as u64
 }
-
-ghost use Rattle.yaml_scan.specs.Session.{session_queued, session_reach};
-ghost use Rattle.yaml_scan.specs.Parser.{course_read};
 
 /// How far the last step without a fault was read: bytes of the text in UTF-8, lines and characters, all from 0. It is zero
 /// before any step.

@@ -1,10 +1,12 @@
 //! The queue: tokens that were made and not taken, each with the number of its step.
-ghost use Rattle.std.specs.Prelude.{◌≡◌, ◌≤◌, ◌++◌, ◌∷◌, [], length, OnOk, if◌then◌else◌};
+ghost use Rattle.std.specs.Prelude.{◌≡◌, ◌≤◌, ◌++◌, ◌∷◌, [], length, OnOk, if◌then◌else◌, ◌+◌, slice_index, Some, None, take, drop};
 ghost use Rattle.yaml_text.specs.Token.{data_of, token_of};
+ghost use Rattle.yaml_text.specs.declared.types.yaml_encoding_t.{yaml_encoding_t};
+ghost use Rattle.yaml_text.specs.declared.types.yaml_mark_t.{yaml_mark_t};
 ghost use Rattle.yaml_scan.specs.Token.{at_mark};
-ghost use Rattle.yaml_scan.specs.Numbered.{Appends, Changes, IsTokenOf};
-ghost use Rattle.yaml_scan.specs.Offline.{start_token};
-ghost use Rattle.yaml_scan.specs.Offline.Token.{BlockEnd, OfLexeme};
+ghost use Rattle.yaml_scan.specs.Numbered.{Appends, Changes, IsTokenOf, step_at, IsQueue};
+ghost use Rattle.yaml_scan.specs.Offline.{start_token, handed_out};
+ghost use Rattle.yaml_scan.specs.Offline.Token.{BlockEnd, OfLexeme, StreamStart};
 ghost use Rattle.yaml_scan.specs.Lexeme.{Lexeme};
 ghost use Rattle.yaml_scan.specs.Queue.{put_in, key_at};
 ghost use Rattle.yaml_scan.specs.Kind.{is_block_entry};
@@ -12,7 +14,7 @@ ghost use Rattle.yaml_scan.specs.Kind.{is_block_entry};
 use std::alloc::AllocError;
 use std::collections::VecDeque;
 use yaml_lexeme::yaml_lexeme_kind_t;
-use yaml_text::{unnamed_yaml_token_t_data, yaml_mark_t, yaml_token_t};
+use yaml_text::{unnamed_yaml_token_t_data, yaml_encoding_t, yaml_mark_t, yaml_token_t};
 
 /// A token, and the number of its step: 1 for STREAM-START, 2 for the first lexeme.
 #[derive(Drop)]
@@ -32,7 +34,7 @@ fn token_at(says: unnamed_yaml_token_t_data, mark: yaml_mark_t) -> yaml_token_t
     }
 }
 
-/// Puts the end of a block collection behind the queue.
+/// Appends the end of a block collection to the queue.
 pub(crate) fn put_block_end(
     queue: &mut VecDeque<queued_t>,
     mark: yaml_mark_t,
@@ -54,11 +56,7 @@ fn block_start(kind: yaml_lexeme_kind_t) -> unnamed_yaml_token_t_data
     }
 }
 
-ghost use Rattle.yaml_text.specs.declared.types.yaml_encoding_t.{yaml_encoding_t};
-ghost use Rattle.yaml_text.specs.declared.types.yaml_mark_t.{yaml_mark_t};
-ghost use Rattle.yaml_scan.specs.Offline.{handed_out};
-
-/// Puts the start of a block collection behind the queue, or none.
+/// Appends the start of a block collection to the queue if `opens`.
 pub(crate) fn put_block_start(
     queue: &mut VecDeque<queued_t>,
     opens: bool,
@@ -75,7 +73,7 @@ pub(crate) fn put_block_start(
     Ok(())
 }
 
-/// Puts the token of a lexeme behind the queue.
+/// Appends the token of a lexeme to the queue.
 pub(crate) fn put_lexeme(
     queue: &mut VecDeque<queued_t>,
     token: yaml_token_t,
@@ -87,10 +85,7 @@ pub(crate) fn put_lexeme(
     Ok(())
 }
 
-ghost use Rattle.std.specs.Prelude.{◌+◌};
-ghost use Rattle.std.specs.Prelude.{slice_index, Some, None, take, drop};
-
-/// The step of the token that stands there, or another.
+/// The step of the token at a place of the queue, or `step` at its end.
 fn step_at(queue: &VecDeque<queued_t>, at: usize, step: u128) -> u128
     ensures { result ≡ step_at at step queue.now.items }
 {
@@ -100,9 +95,7 @@ fn step_at(queue: &VecDeque<queued_t>, at: usize, step: u128) -> u128
     }
 }
 
-ghost use Rattle.yaml_scan.specs.Numbered.{step_at};
-
-/// Puts a token in front of the one that stands there. Most stand at the head.
+/// Inserts a token at a place of the queue. Most are inserted at the head.
 #[inline(always)]
 fn put_before(queue: &mut VecDeque<queued_t>, at: usize, queued: queued_t) -> Result<(), AllocError>
     requires { at ≤ length queue.old.items }
@@ -117,8 +110,8 @@ fn put_before(queue: &mut VecDeque<queued_t>, at: usize, queued: queued_t) -> Re
     Ok(())
 }
 
-/// Puts the key of a candidate in front of its token, and the start of a block mapping in front of the key, or none. All of
-/// them are tokens of the candidate's step.
+/// Inserts the key of a candidate before its token, and before the key the start of a block mapping if `opens`. They are
+/// tokens of the candidate's step.
 pub(crate) fn insert_key(
     queue: &mut VecDeque<queued_t>,
     at: usize,
@@ -139,7 +132,7 @@ pub(crate) fn insert_key(
     Ok(())
 }
 
-/// Puts the first token behind the queue.
+/// Appends the first token to the queue.
 pub(crate) fn put_stream_start(
     queue: &mut VecDeque<queued_t>,
     encoding: yaml_encoding_t,
@@ -155,8 +148,3 @@ pub(crate) fn put_stream_start(
     queue.push_back(queued_t { token, step: 1 })?;
     Ok(())
 }
-
-ghost use Rattle.yaml_scan.specs.Offline.Token.{StreamStart};
-ghost use Rattle.yaml_scan.specs.Numbered.{IsQueue};
-
-use yaml_text::yaml_encoding_t;

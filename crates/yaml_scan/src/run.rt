@@ -1,10 +1,14 @@
-//! The running scanner: steps are made as far as the next token asks for.
+//! The running scanner: as many steps are made as the next token needs.
 ghost use Rattle.std.specs.Prelude.{◌≡◌, ◌⊎◌, ℕ, ◌+◌, ◌-◌, ◌<◌, ◌≤◌, ◌^◌, ◌&&◌, not, nat_lt, length, true, false, MatchResult};
+ghost use Rattle.yaml_text.specs.Decode.{refusal_seen};
 ghost use Rattle.yaml_text.specs.Fault.{fault_of, memory_fault};
+ghost use Rattle.yaml_scan.specs.Near.{near_fault, instead};
 ghost use Rattle.yaml_scan.specs.Offline.{before};
 ghost use Rattle.yaml_scan.specs.Order.{ended};
-ghost use Rattle.yaml_scan.specs.Scanning.{Runs, Steps, IsLast, Stays, IsOpen, Settles, Fails, Stops, history};
+ghost use Rattle.yaml_scan.specs.Stop.{fault_at};
+ghost use Rattle.yaml_scan.specs.Scanning.{Runs, Advances, Offends, Steps, IsLast, Stays, IsOpen, Settles, Fails, Stops, history};
 
+use crate::fault::{fault_at, stop_t};
 use crate::keys::{is_awaited, is_lowest_awaited};
 use crate::step::{lay, meet, scanner_t};
 use std::alloc::Global;
@@ -27,22 +31,19 @@ fn is_settled(scanner: &scanner_t) -> bool
     is_none_of(empty, outer, top)
 }
 
-/// The reader's fault, where a step that was made is near.
-fn near_reading(refusal: Option<yaml_fault_t>, near: u64, index: u64) -> Option<yaml_fault_t>
-    ensures { refusal_seen result ≡ near_fault near index (refusal_seen refusal) }
+/// The reader's fault, if a step that read up to an index is near it.
+fn near_reading(refusal: &Option<yaml_fault_t>, near: u64, index: u64) -> Option<yaml_fault_t>
+    ensures { refusal_seen result ≡ near_fault near index (refusal_seen refusal.now) }
 {
     match refusal {
-        Some(fault) => if near <= index { Some(fault) } else { None },
+        Some(fault) => if near <= index { Some(*fault) } else { None },
         None => None,
     }
 }
 
-ghost use Rattle.yaml_text.specs.Decode.{refusal_seen};
-ghost use Rattle.yaml_scan.specs.Near.{near_fault, instead};
-
-/// The reader's fault in the place of a scanner's that is near.
-fn near_problem(refusal: Option<yaml_fault_t>, near: u64, fault: yaml_fault_t) -> yaml_fault_t
-    ensures { fault_of result ≡ instead near (refusal_seen refusal) (fault_of fault) }
+/// The reader's fault instead of a scanner's that is near it.
+fn near_problem(refusal: &Option<yaml_fault_t>, near: u64, fault: yaml_fault_t) -> yaml_fault_t
+    ensures { fault_of result ≡ instead near (refusal_seen refusal.now) (fault_of fault) }
 {
     match fault.error {
         yaml_error_type_t::YAML_SCANNER_ERROR => match near_reading(
@@ -57,51 +58,55 @@ fn near_problem(refusal: Option<yaml_fault_t>, near: u64, fault: yaml_fault_t) -
     }
 }
 
-/// The next lexeme, unless its step is faulty.
-fn step(alloc: Global, scanner: &mut scanner_t) -> Result<(), yaml_fault_t>
+/// Reads the next lexeme, and lays it.
+fn step(alloc: Global, scanner: &mut scanner_t, kept: &mut yaml_fault_t) -> Result<(), stop_t>
     requires runs { Runs scanner.old }
     requires running { ended (history scanner.old) ≡ false }
-    ensures { MatchResult result (λ _. Advances (history scanner.old) scanner.old scanner.new) (λ f. ((fault_of f ≡ memory_fault) ⊎ Offends (history scanner.old) scanner.old (fault_of f)) × Stays scanner.old scanner.new) }
+    ensures { MatchResult result (λ _. Advances (history scanner.old) scanner.old scanner.new) (λ s. ((fault_at s kept.new ≡ memory_fault) ⊎ Offends (history scanner.old) scanner.old (fault_at s kept.new)) × Stays scanner.old scanner.new) }
 {
-    let met = meet(scanner)?;
-    match lay(alloc, scanner, met) {
-        Ok(_) => Ok(()),
-        Err(failure) => Err(failure.fault),
-    }
+    let met = meet(scanner, kept)?;
+    lay(alloc, scanner, met, kept)
 }
 
-ghost use Rattle.yaml_scan.specs.Scanning.{Advances, Offends};
-
-/// Makes a step.
-fn advance(alloc: Global, scanner: &mut scanner_t) -> Result<(), yaml_fault_t>
+/// Makes a step, unless the reader's fault is near.
+fn advance(alloc: Global, scanner: &mut scanner_t, kept: &mut yaml_fault_t) -> Result<(), stop_t>
     requires runs { Runs scanner.old }
     requires running { ended (history scanner.old) ≡ false }
-    ensures { MatchResult result (λ _. Steps scanner.old scanner.new) (λ f. ((fault_of f ≡ memory_fault) ⊎ IsLast scanner.old (fault_of f)) × Stays scanner.old scanner.new) }
+    ensures { MatchResult result (λ _. Steps scanner.old scanner.new) (λ s. ((fault_at s kept.new ≡ memory_fault) ⊎ IsLast scanner.old (fault_at s kept.new)) × Stays scanner.old scanner.new) }
 {
     let reach = scanner.reach;
-    match step(alloc, scanner) {
-        Ok(_) => match near_reading(scanner.refusal, scanner.near, scanner.reach.index) {
+    match step(alloc, scanner, kept) {
+        Ok(_) => match near_reading(&scanner.refusal, scanner.near, scanner.reach.index) {
             Some(fault) => {
                 scanner.reach = reach;
-                Err(fault)
+                *kept = fault;
+                Err(stop_t::FAULT)
             }
             None => {
                 scanner.made += 1;
                 Ok(())
             }
         },
-        Err(fault) => Err(near_problem(scanner.refusal, scanner.near, fault)),
+        Err(stop) => {
+            let fault = fault_at(stop, kept);
+            *kept = near_problem(&scanner.refusal, scanner.near, fault);
+            Err(stop_t::FAULT)
+        }
     }
 }
 
 /// Makes steps until the head of the queue is the next token.
-pub(crate) fn settle_head(alloc: Global, scanner: &mut scanner_t) -> Result<(), yaml_fault_t>
+pub(crate) fn settle_head(
+    alloc: Global,
+    scanner: &mut scanner_t,
+    kept: &mut yaml_fault_t,
+) -> Result<(), stop_t>
     requires runs { Runs scanner.old }
     requires not_ended { IsOpen scanner.old }
-    ensures { MatchResult result (λ _. Settles scanner.old scanner.new) (λ f. ((fault_of f ≡ memory_fault) ⊎ Fails scanner.old scanner.new (fault_of f)) × Stops scanner.old scanner.new) }
+    ensures { MatchResult result (λ _. Settles scanner.old scanner.new) (λ s. ((fault_at s kept.new ≡ memory_fault) ⊎ Fails scanner.old scanner.new (fault_at s kept.new)) × Stops scanner.old scanner.new) }
 {
     'steps: while !is_settled(scanner) {
-        advance(alloc, scanner)?;
+        advance(alloc, scanner, kept)?;
     }
     Ok(())
 }

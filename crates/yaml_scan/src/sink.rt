@@ -15,7 +15,7 @@ pub trait yaml_token_sink_t {
     // Between two states these tokens were taken, in this order, and nothing else.
     ghost took: { Self → List Token → Self → Type 0 };
 
-    // What is known where it found no memory for a token: nothing, or that this does not happen.
+    // What is known if it found no memory for a token: nothing, or that this does not happen.
     ghost may_refuse: { Type 0 };
 
     /// Takes a token. `AllocError` if it found no memory.
@@ -29,7 +29,7 @@ pub trait yaml_token_sink_t {
     ghost took_more: { (a b c : Self) (xs ys : List Token) → took a xs b → took b ys c → took a (xs ++ ys) c };
 }
 
-/// Gives all tokens of a new parser to a sink, and answers the fault behind them.
+/// Gives all tokens of a new parser to a sink, and returns the fault after them.
 fn scan_rest<S: yaml_token_sink_t>(
     parser: &mut yaml_parser_t,
     sink: &mut S,
@@ -54,8 +54,11 @@ fn scan_rest<S: yaml_token_sink_t>(
 /// Gives all tokens of an input to a sink, in order: to STREAM-END, or those before its fault, and returns the fault. The key
 /// limit is in bytes, from 1 to 65,536.
 ///
-/// If the scanner finds no memory, the fault is of kind memory, and the tokens are those that some of the steps settle,
-/// STREAM-END not among them. `AllocError` comes only if the sink found no memory.
+/// If the scanner is refused memory, the fault is of kind memory, and the tokens are those that some of the steps settle,
+/// STREAM-END not among them.
+///
+/// # Errors
+/// `AllocError` if the sink found no memory for a token.
 pub fn yaml_scan_to<S: yaml_token_sink_t>(
     alloc: Global,
     input: &[u8],

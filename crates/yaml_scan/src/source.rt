@@ -1,11 +1,13 @@
 //! What is read of a text, place by place.
 ghost use Rattle.std.specs.Prelude.{◌≡◌, ℕ, ◌≤◌, ◌⊎◌, Some, Ok, Err, length, nat_lt, IfSome, MatchResult};
-ghost use Rattle.yaml_text.specs.Fault.{fault_of, memory_fault};
+ghost use Rattle.yaml_text.specs.Fault.{memory_fault};
+ghost use Rattle.yaml_scan.specs.Stop.{fault_at};
 ghost use Rattle.yaml_lexeme.specs.Lexeme.{lexeme_of};
 ghost use Rattle.yaml_lexeme.specs.Place.{IsMarkOf};
 ghost use Rattle.yaml_scan.specs.SourceOf.{source_of};
 ghost use Rattle.yaml_scan.specs.TextReads.{IsRead, IsOffence};
 
+use crate::fault::stop_t;
 use std::alloc::Global;
 use yaml_lexeme::{
     yaml_context_t, yaml_gap, yaml_lexeme_at, yaml_lexeme_kind, yaml_lexeme_kind_t, yaml_lexeme_t,
@@ -41,19 +43,26 @@ pub(crate) fn kind_at(
 /// The lexeme of a kind at a mark, or the fault of its offence.
 pub(crate) fn read_lexeme(
     alloc: Global,
+    kept: &mut yaml_fault_t,
     text: &yaml_text_t,
     at: yaml_mark_t,
     kind: yaml_lexeme_kind_t,
     depth: usize,
     level: Option<u64>,
-) -> Result<yaml_lexeme_t, yaml_fault_t>
+) -> Result<yaml_lexeme_t, stop_t>
     requires place { (p : ℕ) × IsMarkOf text.now.chars at p × ((source_of text.now.chars).kind (nat_lt 0 depth) p ≡ Some kind) }
     requires level { IfSome level (λ l. l ≤ length text.now.chars) }
-    ensures { (p : ℕ) → IsMarkOf text.now.chars at p → MatchResult result (λ l. IsRead text.now.chars kind depth level p (lexeme_of l)) (λ f. (fault_of f ≡ memory_fault) ⊎ IsOffence text.now.chars kind depth level p (fault_of f)) }
+    ensures { (p : ℕ) → IsMarkOf text.now.chars at p → MatchResult result (λ l. IsRead text.now.chars kind depth level p (lexeme_of l)) (λ s. (fault_at s kept.new ≡ memory_fault) ⊎ IsOffence text.now.chars kind depth level p (fault_at s kept.new)) }
 {
     let context = yaml_context_t {
         depth: depth as u64,
         level,
     };
-    yaml_lexeme_at(alloc, text, at, kind, context)
+    match yaml_lexeme_at(alloc, text, at, kind, context) {
+        Ok(lexeme) => Ok(lexeme),
+        Err(fault) => {
+            *kept = fault;
+            Err(stop_t::FAULT)
+        }
+    }
 }

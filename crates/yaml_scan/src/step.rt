@@ -1,17 +1,18 @@
 //! The steps of a text: the next lexeme, and what the layout makes of it.
 ghost use Rattle.std.specs.Prelude.{◌≡◌, ◌⊎◌, ℕ, ◌+◌, ◌-◌, ◌<◌, ◌≤◌, ◌^◌, ◌&&◌, ◌||◌, not, nat_lt, nat_eq, length, List, [], ◌∷◌, reverse, map, true, false, Option, Some, None, option_map, IfOk, OnOk, OnErr, MatchResult, if◌then◌else◌};
-ghost use Rattle.yaml_text.specs.Fault.{fault_of, memory_fault, scanner_fault};
+ghost use Rattle.yaml_text.specs.Fault.{memory_fault, scanner_fault};
 ghost use Rattle.yaml_text.specs.Token.{data_of, token_of};
 ghost use Rattle.yaml_scan.specs.Fault.{no_token, in_next_token};
 ghost use Rattle.yaml_scan.specs.Laid.{Laid, allowed};
 ghost use Rattle.yaml_scan.specs.Order.{ended};
 ghost use Rattle.yaml_scan.specs.Slots.{needed, lost_held, still_held, root_of, slot_behind, nested_outer, nested_top, empty_slots, AreNested};
+ghost use Rattle.yaml_scan.specs.Stop.{fault_at};
 ghost use Rattle.yaml_scan.specs.Step.{problem_of, replaces, step};
 ghost use Rattle.yaml_scan.specs.Moves.{IsLost, IsRefused};
 ghost use Rattle.yaml_scan.specs.Scanning.{Holds, IsMet, Advances, Offends, Stays, text_of};
 ghost use Rattle.std.specs.Option.{option_copied};
 
-use crate::fault::{failure_t, make_scanner_fault};
+use crate::fault::{keep_fault, stop_t};
 use crate::keys::{completed_by, held_t, lost_at, move_slots, needed_at, root, settle};
 use crate::kind::{is_allowed_after, is_candidate, is_colon, start_behind};
 use crate::levels::{close_levels, is_level, queue_lexeme, top_level};
@@ -26,7 +27,7 @@ use yaml_text::{yaml_fault_t, yaml_mark_t, yaml_text_t, yaml_token_t};
 #[derive(Drop)]
 pub(crate) struct scanner_t<'a> {
     pub text: yaml_text_t<'a>,
-    /// The reader's fault behind the text, where it is the front of a refused input.
+    /// The reader's fault after the text, if that is the front of a refused input.
     pub refusal: Option<yaml_fault_t>,
     /// The index from which on a step is near the end of the text.
     pub near: u64,
@@ -39,7 +40,7 @@ pub(crate) struct scanner_t<'a> {
     pub not_simple_keys: usize,
     /// The candidate of the present depth.
     pub top: Option<held_t>,
-    /// Whether a key is allowed behind the last lexeme.
+    /// Whether a key is allowed after the last lexeme.
     pub allowed: bool,
     pub queue: VecDeque<queued_t>,
     /// How far the last good step was read.
@@ -50,7 +51,7 @@ pub(crate) struct scanner_t<'a> {
     pub made: u128,
 }
 
-/// A kind of lexeme behind a gap.
+/// A kind of lexeme after a gap.
 #[derive(Clone, Copy)]
 pub(crate) struct met_t {
     pub kind: yaml_lexeme_kind_t,
@@ -58,13 +59,18 @@ pub(crate) struct met_t {
     pub allowed: bool,
 }
 
-/// The fault of a lost candidate, if there is one.
-fn refuse_lost(held: Option<held_t>, mark: yaml_mark_t) -> Result<(), yaml_fault_t>
-    ensures { MatchResult result (λ _. held ≡ None) (λ f. IsLost held mark (fault_of f)) }
+/// Stops if a candidate is lost.
+fn refuse_lost(
+    kept: &mut yaml_fault_t,
+    held: Option<held_t>,
+    mark: yaml_mark_t,
+) -> Result<(), stop_t>
+    ensures { MatchResult result (λ _. held ≡ None) (λ s. IsLost held mark (fault_at s kept.new)) }
 {
     match held {
         None => Ok(()),
-        Some(held) => Err(make_scanner_fault(
+        Some(held) => Err(keep_fault(
+            kept,
             "could not find expected ':'",
             mark,
             Some("while scanning a simple key"),
@@ -73,16 +79,18 @@ fn refuse_lost(held: Option<held_t>, mark: yaml_mark_t) -> Result<(), yaml_fault
     }
 }
 
-/// The kind, or the fault that there is none.
+/// The kind. Stops if there is none.
 fn expect_kind(
+    kept: &mut yaml_fault_t,
     kind: Option<yaml_lexeme_kind_t>,
     front: yaml_mark_t,
-) -> Result<yaml_lexeme_kind_t, yaml_fault_t>
-    ensures { MatchResult result (λ k. kind ≡ Some k) (λ f. (kind ≡ None) × (fault_of f ≡ scanner_fault no_token front (Some in_next_token) front)) }
+) -> Result<yaml_lexeme_kind_t, stop_t>
+    ensures { MatchResult result (λ k. kind ≡ Some k) (λ s. (kind ≡ None) × (fault_at s kept.new ≡ scanner_fault no_token front (Some in_next_token) front)) }
 {
     match kind {
         Some(kind) => Ok(kind),
-        None => Err(make_scanner_fault(
+        None => Err(keep_fault(
+            kept,
             "found character that cannot start any token",
             front,
             Some("while scanning for the next token"),
@@ -91,7 +99,7 @@ fn expect_kind(
     }
 }
 
-/// What is wrong with a kind where no key is allowed at depth 0; `none` tells whether it completes nothing.
+/// What is wrong with a kind if no key is allowed at depth 0. `none`: it completes nothing.
 fn problem(kind: yaml_lexeme_kind_t, none: bool) -> Option<&'static str>
     ensures { option_copied result ≡ problem_of kind none }
 {
@@ -107,20 +115,21 @@ fn problem(kind: yaml_lexeme_kind_t, none: bool) -> Option<&'static str>
     }
 }
 
-/// The fault of a kind that needs an allowed key.
+/// Stops if the kind needs an allowed key and none is allowed.
 fn refuse_kind(
+    kept: &mut yaml_fault_t,
     kind: yaml_lexeme_kind_t,
     margin: bool,
     allowed: bool,
     none: bool,
     front: yaml_mark_t,
-) -> Result<(), yaml_fault_t>
-    ensures { MatchResult result (λ _. IsRefused (if margin && not allowed then problem_of kind none else None) front None) (λ f. IsRefused (if margin && not allowed then problem_of kind none else None) front (Some (fault_of f))) }
+) -> Result<(), stop_t>
+    ensures { MatchResult result (λ _. IsRefused (if margin && not allowed then problem_of kind none else None) front None) (λ s. IsRefused (if margin && not allowed then problem_of kind none else None) front (Some (fault_at s kept.new))) }
 {
     if margin && !allowed {
         match problem(kind, none) {
             None => Ok(()),
-            Some(problem) => Err(make_scanner_fault(problem, front, None, front)),
+            Some(problem) => Err(keep_fault(kept, problem, front, None, front)),
         }
     } else {
         Ok(())
@@ -151,24 +160,25 @@ fn is_key_allowed(allowed: bool, margin: bool, mark: yaml_mark_t, front: yaml_ma
     allowed || (margin && mark.line < front.line)
 }
 
-/// The gap, the kind, and what refuses it.
-pub(crate) fn meet(scanner: &scanner_t) -> Result<met_t, yaml_fault_t>
+/// Passes the gap, and finds the kind of the next lexeme. Stops if the kind is refused.
+pub(crate) fn meet(scanner: &scanner_t, kept: &mut yaml_fault_t) -> Result<met_t, stop_t>
     ghost before: { List Laid }
     requires holds { Holds before (scanner.now.made + 1) scanner.now }
     requires running { ended before ≡ false }
     requires small { length scanner.now.text.chars + 1 < 2 ^ 64 }
-    ensures { MatchResult result (λ m. IsMet before scanner.now m) (λ f. Offends before scanner.now (fault_of f)) }
+    ensures { MatchResult result (λ m. IsMet before scanner.now m) (λ s. Offends before scanner.now (fault_at s kept.new)) }
 {
     let margin = scanner.outer.is_empty();
     let front = gap_end(&scanner.text, scanner.reach, !margin, scanner.allowed);
     let root = root(&scanner.outer, scanner.top);
-    refuse_lost(lost_at(root, scanner.limit, front), front)?;
-    let kind = expect_kind(kind_at(&scanner.text, front, !margin), front)?;
+    refuse_lost(kept, lost_at(root, scanner.limit, front), front)?;
+    let kind = expect_kind(kept, kind_at(&scanner.text, front, !margin), front)?;
     let allowed = is_key_allowed(scanner.allowed, margin, scanner.reach, front);
     let completed = completed_by(kind, scanner.top, scanner.limit, front);
-    refuse_kind(kind, margin, allowed, completed.is_none(), front)?;
+    refuse_kind(kept, kind, margin, allowed, completed.is_none(), front)?;
     let start = start_behind(kind, front);
     refuse_lost(
+        kept,
         cleared(kind, allowed, margin, scanner.top, scanner.limit, front),
         start,
     )?;
@@ -179,8 +189,9 @@ pub(crate) fn meet(scanner: &scanner_t) -> Result<met_t, yaml_fault_t>
     })
 }
 
-/// The candidates behind a lexeme that was read to a mark, unless one is lost there.
+/// Changes the candidates after a lexeme that was read to a mark. Stops if one is lost there.
 fn keep_candidates(
+    kept: &mut yaml_fault_t,
     outer: &mut Vec<Option<held_t>>,
     empty: &mut usize,
     top: &mut Option<held_t>,
@@ -189,16 +200,16 @@ fn keep_candidates(
     new: held_t,
     limit: u64,
     mark: yaml_mark_t,
-) -> Result<(), failure_t>
+) -> Result<(), stop_t>
     requires empty { empty.old ≡ empty_slots outer.old.items }
     requires nested { AreNested outer.old.items }
-    ensures lost { MatchResult result (λ _. lost_held limit mark (root_of outer.old.items (slot_behind kind allowed new top.old)) ≡ None) (λ e. (fault_of e.fault ≡ memory_fault) ⊎ IsLost (lost_held limit mark (root_of outer.old.items (slot_behind kind allowed new top.old))) mark (fault_of e.fault)) }
+    ensures lost { MatchResult result (λ _. lost_held limit mark (root_of outer.old.items (slot_behind kind allowed new top.old)) ≡ None) (λ s. (fault_at s kept.new ≡ memory_fault) ⊎ IsLost (lost_held limit mark (root_of outer.old.items (slot_behind kind allowed new top.old))) mark (fault_at s kept.new)) }
     ensures outer { OnOk result (outer.new.items ≡ nested_outer kind (map (still_held limit mark) outer.old.items) (still_held limit mark (slot_behind kind allowed new top.old))) }
     ensures top { OnOk result (top.new ≡ nested_top kind (map (still_held limit mark) outer.old.items) (still_held limit mark (slot_behind kind allowed new top.old))) }
     ensures empty { OnOk result (empty.new ≡ empty_slots outer.new.items) }
 {
     settle(top, kind, allowed, new);
-    refuse_lost(lost_at(root(outer, *top), limit, mark), mark)?;
+    refuse_lost(kept, lost_at(root(outer, *top), limit, mark), mark)?;
     move_slots(outer, empty, top, kind, limit, mark)?;
     Ok(())
 }
@@ -214,8 +225,13 @@ fn token_of(start: yaml_mark_t, x: yaml_lexeme_t) -> yaml_token_t
     }
 }
 
-/// The lexeme that was met, laid behind those before it.
-pub(crate) fn lay(alloc: Global, scanner: &mut scanner_t, met: met_t) -> Result<(), failure_t>
+/// Reads the lexeme that was met, and changes levels, queue and candidates.
+pub(crate) fn lay(
+    alloc: Global,
+    scanner: &mut scanner_t,
+    met: met_t,
+    kept: &mut yaml_fault_t,
+) -> Result<(), stop_t>
     ghost before: { List Laid }
     requires holds { Holds before (scanner.old.made + 1) scanner.old }
     requires running { ended before ≡ false }
@@ -223,7 +239,7 @@ pub(crate) fn lay(alloc: Global, scanner: &mut scanner_t, met: met_t) -> Result<
     requires few { scanner.old.taken ≤ 2 ^ 100 }
     requires few_steps { scanner.old.made ≤ 2 ^ 100 }
     requires met { IsMet before scanner.old met }
-    ensures { MatchResult result (λ _. Advances before scanner.old scanner.new) (λ e. ((fault_of e.fault ≡ memory_fault) ⊎ Offends before scanner.old (fault_of e.fault)) × Stays scanner.old scanner.new) }
+    ensures { MatchResult result (λ _. Advances before scanner.old scanner.new) (λ s. ((fault_at s kept.new ≡ memory_fault) ⊎ Offends before scanner.old (fault_at s kept.new)) × Stays scanner.old scanner.new) }
 {
     let margin = scanner.outer.is_empty();
     let step = scanner.made + 1;
@@ -234,7 +250,7 @@ pub(crate) fn lay(alloc: Global, scanner: &mut scanner_t, met: met_t) -> Result<
     close_levels(levels, queue, !margin, kind, met.front, start, step)?;
     let level = top_level(levels);
     let depth = scanner.outer.len();
-    let x = read_lexeme(alloc, &scanner.text, met.front, kind, depth, level)?;
+    let x = read_lexeme(alloc, kept, &scanner.text, met.front, kind, depth, level)?;
     let new = held_t {
         at: scanner.taken + queue.len() as u128,
         start,
@@ -247,6 +263,7 @@ pub(crate) fn lay(alloc: Global, scanner: &mut scanner_t, met: met_t) -> Result<
     let taken = scanner.taken;
     queue_lexeme(levels, queue, margin, completed, kind, token, taken, step)?;
     keep_candidates(
+        kept,
         &mut scanner.outer,
         &mut scanner.not_simple_keys,
         &mut scanner.top,

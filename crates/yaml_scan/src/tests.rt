@@ -55,7 +55,7 @@ fn peeks_and_skips(rt: HostRuntime) -> Result<(), Fail> {
     Ok(())
 }
 
-/// How many steps are queued, and how far the text was read, behind each call.
+/// How many steps are queued, and how far the text was read, after each call.
 #[test]
 fn steps_are_made_as_they_are_asked_for(rt: HostRuntime) -> Result<(), Fail> {
     let any = yaml_encoding_t::YAML_ANY_ENCODING;

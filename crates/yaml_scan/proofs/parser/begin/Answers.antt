@@ -11,19 +11,18 @@ use Rattle.yaml_scan.proofs.Beginnings.{new_stopped, new_ended, begins, begun_in
 use Rattle.yaml_scan.proofs.parser.begin.Goals as goal
 
 pub returns-in-Some : goal.returns-in-Some
-returns-in-Some c = (inr (new_ended c.args.setting c.args.input.now c.args.scanner.now c.requires c.in_ok-text.text c.in_ok-text.ensures.front (refusal_seen c.in_ok-text.refusal) c.in_ok-text.ensures.refusal c.near_from-near.result (c.near_from-near.ensures.near c.in_ok-text.text.chars c.bytes.ensures.characters c.bytes.ensures.utf8) (fault_of c.in-Some.fault) (sym c.near_start.ensures ∙ ap refusal_seen c.in-Some.is)), new_stopped c.args.setting c.args.input.now c.args.scanner.now c.requires)
+returns-in-Some c = (inr (new_ended c.args.setting c.args.input.now c.args.scanner.now c.requires c.in-Ok.front.0 c.in-Ok.ensures.front (refusal_seen c.in-Ok.front.1) c.in-Ok.ensures.refusal c.near_from-near.result (c.near_from-near.ensures.near c.in-Ok.front.0.chars c.bytes.ensures.characters c.bytes.ensures.utf8) (fault_of c.in-Some.fault) (sym c.near_start.ensures ∙ ap refusal_seen c.in-Some.is)), new_stopped c.args.setting c.args.input.now c.args.scanner.now c.requires)
 
 -- the text of UTF-8 takes no memory
-pub returns-in_err-text : goal.returns-in_err-text
-returns-in_err-text c = let p = err_from_is_err_and c.from_residual.result c.from_residual.ensures.1 in rw (p.1, p.2)
-    (inl (record { fault = c.in_err-text.ensures.memory; in_utf8 = λ u. absurd (false≢true (c.in_err-text.ensures.borrowed (sym (encoding_in c.args.setting c.args.input.now) ∙ u))) }), new_stopped c.args.setting c.args.input.now c.args.scanner.now c.requires)
+pub returns-in-Err : goal.returns-in-Err
+returns-in-Err c = (inl (record { fault = c.in-Err.ensures.memory; in_utf8 = λ u. absurd (false≢true (c.in-Err.ensures.borrowed (sym (encoding_in c.args.setting c.args.input.now) ∙ u))) }), new_stopped c.args.setting c.args.input.now c.args.scanner.now c.requires)
 
 pub returns-in_err-put_stream_start : goal.returns-in_err-put_stream_start
-returns-in_err-put_stream_start c = let p = err_from_is_err_and c.from_residual-in_err-put_stream_start.result c.from_residual-in_err-put_stream_start.ensures.1 in let z = new_stopped c.args.setting c.args.input.now c.args.scanner.now c.requires in rw (p.1, p.2) (
-  inl (record { fault = refl; in_utf8 = λ u. begun_in c.args.scanner.now.limit c.args.setting c.args.input.now c.in_ok-text.text c.in_ok-text.ensures.front (refusal_seen c.in_ok-text.refusal) c.in_ok-text.ensures.refusal c.near_from-near.result (c.near_from-near.ensures.near c.in_ok-text.text.chars c.bytes.ensures.characters c.bytes.ensures.utf8) (sym c.near_start.ensures ∙ ap refusal_seen c.in_default.is) }),
+returns-in_err-put_stream_start c = let p = err_from_is_err_and c.from_residual.result c.from_residual.ensures.1 in let z = new_stopped c.args.setting c.args.input.now c.args.scanner.now c.requires in rw (p.1, p.2) (
+  inl (record { fault = refl; in_utf8 = λ u. begun_in c.args.scanner.now.limit c.args.setting c.args.input.now c.in-Ok.front.0 c.in-Ok.ensures.front (refusal_seen c.in-Ok.front.1) c.in-Ok.ensures.refusal c.near_from-near.result (c.near_from-near.ensures.near c.in-Ok.front.0.chars c.bytes.ensures.characters c.bytes.ensures.utf8) (sym c.near_start.ensures ∙ ap refusal_seen c.in_default.is) }),
   record { limit = z.limit; taken = z.taken; least = z.least; most = z.most; unsettled = z.unsettled; reach = z.reach },
 )
 
 pub returns : goal.returns
-returns c = begins c.args.setting c.args.input.now c.args.scanner.now _ c.requires c.in_ok-text.ensures.front c.bytes.ensures.characters (let s = short c.in_ok-text.text.chars in let m = c.near_from-near.ensures.small in let e = ap length c.bytes.ensures.utf8 in omega arith) c.in_ok-text.ensures.refusal (c.near_from-near.ensures.near c.in_ok-text.text.chars c.bytes.ensures.characters c.bytes.ensures.utf8)
+returns c = begins c.args.setting c.args.input.now c.args.scanner.now _ c.requires c.in-Ok.ensures.front c.bytes.ensures.characters (let s = short c.in-Ok.front.0.chars in let m = c.near_from-near.ensures.small in let e = ap length c.bytes.ensures.utf8 in omega arith) c.in-Ok.ensures.refusal (c.near_from-near.ensures.near c.in-Ok.front.0.chars c.bytes.ensures.characters c.bytes.ensures.utf8)
     refl refl refl refl refl refl (subst (λ (e : yaml_encoding_t). IsQueue e 1 2 c.put_stream_start.new.queue.items (StreamStart ∷ [])) c.encoding-encoding.ensures.is (c.in_ok-put_stream_start.ensures c.requires.queue)) refl refl refl (sym c.near_start.ensures ∙ ap refusal_seen c.in_default.is)

@@ -1,15 +1,23 @@
-use Rattle.std.proofs.Common.{inl, inr}
+use Rattle.std.proofs.Common.{Result, Ok, Err, inl, inr}
+use Rattle.std.proofs.lemmas.Result.{err_from_is_err_and}
+use Rattle.std.specs.Prelude.{MatchResult}
+use Rattle.yaml_scan.specs.declared.fault.stop_t.{stop_t}
 use Rattle.yaml_scan.proofs.Settlings.{settled_in, stopped_in, ended_in, begun_is}
 use Rattle.yaml_scan.proofs.parser.settle.Goals as goal
 
-pub returns-in-Ok-settle_head : goal.returns-in-Ok-settle_head
-returns-in-Ok-settle_head c = settled_in c.args.setting c.args.input.now c.args.scanner.now c.start.new.scanner c.settle_head.new.scanner c.in-Ok.ensures c.in-Ok-settle_head.ensures
+-- what follows in both cases
+either_way : (r : Result (Unit {0}) stop_t) (A B : Type 0) (P Q : stop_t → Type 0) → (A → B) → ((s : stop_t) → P s → Q s) → MatchResult r (λ _. A) P → MatchResult r (λ _. B) Q
+either_way (Ok _) A B P Q f g m = f m
+either_way (Err s) A B P Q f g m = g s m
 
-pub returns-in-Err-settle_head : goal.returns-in-Err-settle_head
-returns-in-Err-settle_head c = let e = c.in-Err-settle_head.ensures in (
+pub returns-in_err-start : goal.returns-in_err-start
+returns-in_err-start c = let p = err_from_is_err_and c.from_residual.result c.from_residual.ensures.1 in rw (p.1, p.2) c.in_err-start.ensures
+
+pub returns : goal.returns
+returns c = either_way c.settle_head.result _ _ _ _ (settled_in c.args.setting c.args.input.now c.args.scanner.now c.start.new.scanner c.settle_head.new.scanner c.in_ok-start.ensures) (λ s e. (
   elim e.0 [
-    | inl m ↦ inl (record { fault = m; in_utf8 = λ u. begun_is c.args.setting c.args.input.now c.args.scanner.now c.start.new.scanner c.settle_head.new.scanner c.in-Ok.ensures })
-    | inr f ↦ inr (ended_in c.args.setting c.args.input.now c.args.scanner.now c.start.new.scanner c.settle_head.new.scanner c.in-Ok.ensures _ f)
+    | inl m ↦ inl (record { fault = m; in_utf8 = λ u. begun_is c.args.setting c.args.input.now c.args.scanner.now c.start.new.scanner c.settle_head.new.scanner c.in_ok-start.ensures })
+    | inr f ↦ inr (ended_in c.args.setting c.args.input.now c.args.scanner.now c.start.new.scanner c.settle_head.new.scanner c.in_ok-start.ensures _ f)
   ],
-  stopped_in c.args.setting c.args.input.now c.args.scanner.now c.start.new.scanner c.settle_head.new.scanner c.in-Ok.ensures e.1,
-)
+  stopped_in c.args.setting c.args.input.now c.args.scanner.now c.start.new.scanner c.settle_head.new.scanner c.in_ok-start.ensures e.1,
+)) c.settle_head.ensures

@@ -1,8 +1,8 @@
-use Rattle.std.proofs.Common.{◌≡◌, sym, ◌∙◌, inr, arith}
-use Rattle.std.specs.Prelude.{option_map}
+use Rattle.std.proofs.Common.{◌≡◌, sym, subst, ◌∙◌, inr, arith}
+use Rattle.std.specs.Prelude.{◌⊎◌, option_map}
 use Rattle.std.proofs.lemmas.Bool.{false≢true}
-use Rattle.yaml_text.specs.Fault.{fault_of}
-use Rattle.yaml_scan.specs.Ready.{parser_of}
+use Rattle.yaml_text.specs.Fault.{Fault, fault_of}
+use Rattle.yaml_scan.specs.Ready.{parser_of, IsShort, IsEnded}
 use Rattle.yaml_scan.proofs.Scans.{show_token, show_fault_of, open_session}
 use Rattle.yaml_scan.proofs.Keeps.{stands_ready, keeps_settled, keeps_stopped, reach_in, reach_stopped}
 use Rattle.yaml_scan.proofs.parser.show.Goals as goal
@@ -41,4 +41,5 @@ returns-in-Ok c = let i = c.parser.inside in
 pub returns-in-Err : goal.returns-in-Err
 returns-in-Err c = let i = c.parser.inside in let f = c.in-Err.ensures in
     let e : c.args.parser.now ≡ parser_of i = sym c.parser.view_is in
-    show_fault_of i.setting i.input.now i.scanner c.look.new.scanner i.peeked (option_map fault_of i.fault) c.in-Err.fault f.1 c.args.parser.now (e ∙ open_session (parser_of i) c.if-parser.false) f.0 f.2
+    show_fault_of i.setting i.input.now i.scanner c.look.new.scanner i.peeked (option_map fault_of i.fault) c.fault_at.result f.1 c.args.parser.now (e ∙ open_session (parser_of i) c.if-parser.false)
+    (subst (λ (x : Fault). IsShort i.setting i.input.now i.scanner x ⊎ IsEnded i.setting i.input.now i.scanner c.look.new.scanner x) (sym c.fault_at.ensures) f.0) f.2

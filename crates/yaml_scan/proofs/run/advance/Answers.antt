@@ -1,5 +1,6 @@
-use Rattle.std.proofs.Common.{◌∙◌, refl, inl, inr, arith, None}
-use Rattle.yaml_text.specs.Fault.{fault_of}
+use Rattle.std.proofs.Common.{◌∙◌, refl, sym, subst, inl, inr, arith, None}
+use Rattle.yaml_text.specs.Fault.{Fault, fault_of}
+use Rattle.yaml_scan.specs.Scanning.{Offends, history}
 use Rattle.yaml_text.specs.Decode.{refusal_seen}
 use Rattle.yaml_scan.proofs.Stepped.{near_last, stepped, problem_last, memory_stays, few_made, near_moved, instead_moved}
 use Rattle.yaml_scan.proofs.run.advance.Goals as goal
@@ -17,8 +18,8 @@ returns-in-None c = let a = c.in-Ok.ensures in stepped c.args.scanner.now c.requ
 pub returns-in-Err : goal.returns-in-Err
 returns-in-Err c = let e = c.in-Err.ensures in let k = e.1.same in (
   elim e.0 [
-    | inl m ↦ inl (c.near_problem.ensures ∙ memory_stays c.step.new.scanner.near (refusal_seen c.step.new.scanner.refusal) (fault_of c.in-Err.fault) m)
-    | inr o ↦ inr (problem_last c.args.scanner.now c.requires.runs c.requires.running _ _ o (instead_moved c.args.scanner.now.near c.step.new.scanner.near c.args.scanner.now.refusal c.step.new.scanner.refusal (fault_of c.in-Err.fault) _ k.near k.refusal c.near_problem.ensures))
+    | inl m ↦ inl (c.near_problem.ensures ∙ memory_stays c.step.new.scanner.near (refusal_seen c.step.new.scanner.refusal) (fault_of c.fault_at-fault.result) (c.fault_at-fault.ensures ∙ m))
+    | inr o ↦ inr (problem_last c.args.scanner.now c.requires.runs c.requires.running (fault_of c.fault_at-fault.result) _ (subst (λ (f : Fault). Offends (history c.args.scanner.now) c.args.scanner.now f) (sym c.fault_at-fault.ensures) o) (instead_moved c.args.scanner.now.near c.step.new.scanner.near c.args.scanner.now.refusal c.step.new.scanner.refusal (fault_of c.fault_at-fault.result) _ k.near k.refusal c.near_problem.ensures))
   ],
   e.1,
 )

@@ -1,3 +1,4 @@
+use Rattle.std.proofs.Common.{Ok, Err}
 use Rattle.yaml_scan.specs.SourceOf.{source_of}
 use Rattle.yaml_scan.proofs.Places.{read_is, level_bytes}
 use Rattle.yaml_scan.proofs.source.read_lexeme.Goals as goal
@@ -6,8 +7,11 @@ pub yaml_lexeme_at-requires-clause-place : goal.yaml_lexeme_at-requires-clause-p
 unfolding source_of
 yaml_lexeme_at-requires-clause-place c = c.requires.place
 
-pub returns : goal.returns
-returns c = λ p i. read_is c.args.text.now.chars c.args.kind c.args.depth c.args.level p c.yaml_lexeme_at.result (c.yaml_lexeme_at.ensures.value p i)
+pub returns-in-Ok : goal.returns-in-Ok
+returns-in-Ok c = λ p i. read_is c.args.text.now.chars c.args.kind c.args.depth c.args.level p (Ok c.in-Ok.lexeme) (c.in-Ok.ensures.value p i)
+
+pub returns-in-Err : goal.returns-in-Err
+returns-in-Err c = λ p i. read_is c.args.text.now.chars c.args.kind c.args.depth c.args.level p (Err c.in-Err.fault) (c.in-Err.ensures.value p i)
 
 pub yaml_lexeme_at-requires-clause-level : goal.yaml_lexeme_at-requires-clause-level
 yaml_lexeme_at-requires-clause-level c = level_bytes c.args.text.now.chars c.args.level c.requires.level
