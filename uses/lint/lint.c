@@ -225,10 +225,9 @@ static void take_name(struct file *f, const struct yaml_c_token *t) {
     f->names[f->name_count++] = entry_of(f, f->document, t);
 }
 
-static void take_token(struct file *f, const struct yaml_c_token *t) {
-    bool is_key = f->key_next;
-    f->key_next = false;
-    switch (t->token_type) {
+/* What a token does to the collections that are open. */
+static void take_structure(struct file *f, uint32_t type) {
+    switch (type) {
     case YAML_C_DOCUMENT_START_TOKEN:
     case YAML_C_DOCUMENT_END_TOKEN:
         f->document++;
@@ -238,7 +237,7 @@ static void take_token(struct file *f, const struct yaml_c_token *t) {
     case YAML_C_BLOCK_MAPPING_START_TOKEN:
     case YAML_C_FLOW_SEQUENCE_START_TOKEN:
     case YAML_C_FLOW_MAPPING_START_TOKEN:
-        open_level(f, t->token_type);
+        open_level(f, type);
         break;
     case YAML_C_BLOCK_END_TOKEN:
         close_block(f);
@@ -247,6 +246,14 @@ static void take_token(struct file *f, const struct yaml_c_token *t) {
     case YAML_C_FLOW_MAPPING_END_TOKEN:
         close_flow(f);
         break;
+    }
+}
+
+static void take_token(struct file *f, const struct yaml_c_token *t) {
+    bool is_key = f->key_next;
+    f->key_next = false;
+    take_structure(f, t->token_type);
+    switch (t->token_type) {
     case YAML_C_KEY_TOKEN:
         add_key_line(f, t->start_mark.line);
         f->key_next = is_in(f, YAML_C_BLOCK_MAPPING_START_TOKEN) || is_in(f, YAML_C_FLOW_MAPPING_START_TOKEN);
@@ -255,9 +262,11 @@ static void take_token(struct file *f, const struct yaml_c_token *t) {
         f->key_next = is_in(f, YAML_C_FLOW_MAPPING_START_TOKEN);
         break;
     case YAML_C_ALIAS_TOKEN:
+        take_name(f, t);
+        break;
     case YAML_C_ANCHOR_TOKEN:
         take_name(f, t);
-        f->key_next = is_key && t->token_type == YAML_C_ANCHOR_TOKEN;
+        f->key_next = is_key;
         break;
     case YAML_C_TAG_TOKEN:
         f->key_next = is_key;
@@ -265,6 +274,7 @@ static void take_token(struct file *f, const struct yaml_c_token *t) {
     case YAML_C_SCALAR_TOKEN:
         if (is_key)
             take_key(f, t);
+        break;
     }
 }
 
