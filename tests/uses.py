@@ -1,0 +1,477 @@
+#!/usr/bin/env python3
+"""Builds the programs of uses/ over the library of ffi/, and runs them: uses.py [PROGRAM].
+
+lint: small inputs of each kind of message, whose whole output and exit status are compared; inputs of vectors/, which must end
+with status 0 or 1, thirty of them under valgrind; each request for memory is refused in turn. highlight: on inputs of vectors/
+the terminal's output without the escape sequences, and the page without tags and entities, are the input byte for byte; on the
+page each token that the vectors name has the colour of its kind and nothing else has one, but for comments; for some inputs the
+colours are written down here. Both: inputs of 100,000 openers, keys or anchors end in a few seconds. What needs a C compiler,
+rustc (1.82 or later) or valgrind is skipped where there is none.
+"""
+
+import html.parser
+import os
+import re
+import shutil
+import subprocess
+import sys
+import tempfile
+import time
+from concurrent.futures import ThreadPoolExecutor
+
+HERE = os.path.dirname(os.path.abspath(__file__))
+USES = os.path.join(os.path.dirname(HERE), "uses")
+sys.path[:0] = [HERE, os.path.join(HERE, "lib")]
+sys.dont_write_bytecode = True
+from ffi import FFI, build_rust, has_rust, vectors
+from worked import build_refuser, rows, run
+
+SECONDS = 5
+BATCH = 200
+SIZE = 100000
+BREAK = re.compile(rb"\r\n|[\r\n]|\xc2\x85|\xe2\x80[\xa8\xa9]")
+
+# Inputs of lint, and the messages without the file's name. The first word of some is an option.
+FULL = b"x" * 77
+LINTS = {
+    "nothing": (b"", []),
+    "clean": (b"a: 1\nb: {a: 2, c: [a, a]}\nd:\n- a: 3\n- a: 4\n", []),
+    "block": (b"a: 1\nb: 2\n'a': 3\n\"\\x61\": 4\n", ['3:1: duplicate key "a", first at line 1', '4:1: duplicate key "a", first at line 1']),
+    "flow": (b"{a: 1, b: {a: 2}, a: 3, b}\n", ['1:19: duplicate key "a", first at line 1', '1:25: duplicate key "b", first at line 1']),
+    "alone": (b"[{a, a}, [a, a], [a: 1, a: 2]]\n", ['1:6: duplicate key "a", first at line 1']),
+    "explicit": (b"? a\n: 1\n? !!str a\n: 2\n? [b]\n? [b]\n", ['3:9: duplicate key "a", first at line 1']),
+    "anchored": (b"&x a: 1\n&y a: *x\n*y : 2\n", ['2:4: duplicate key "a", first at line 1']),
+    "outer": (b"a:\n  b: 1\n  a: 2\nc: 3\na: 4\n", ['5:1: duplicate key "a", first at line 1']),
+    "documents": (b"a: 1\n---\na: 2\n---\na: 3\na: 4\n", ['6:1: duplicate key "a", first at line 5']),
+    "left open": (b"{a: 1\n--- \nb: 1\nb: 2\n", []),
+    "empty keys": (b"'': 1\n? ''\n", ['2:3: duplicate key "", first at line 1']),
+    "control": (b'"\\e\\x9b": 1\n"\\e\\x9b": 2\n', ['2:1: duplicate key "\\x1b\\xc2\\x9b", first at line 1']),
+    "long name": (b"%s: 1\n%s: 2\n" % (b"y" * 70, b"y" * 70), [f'2:1: duplicate key "{"y" * 60}...", first at line 1']),
+    "tabs": (b"a:\t1\t2\n- b\t\nc: 3\t \n", ["1:3: tab in a line with a key", "3:5: blanks at the end of a line with a key"]),
+    "no key": (b"- a\t# \t\n- b  \n", []),
+    "blanks": ("é: 1  \nb:\n\ne: {c,\n d \n } ".encode(), ["1:5: blanks at the end of a line with a key", "5:3: blanks at the end of a line with a key"]),
+    "width": ("a: {}\nb: {}xé\n".format("é" * 77, "é" * 77).encode(), ["2:81: line of 82 characters, more than 80"]),
+    "narrow": (b"a: 1\r\n# long\rb: 2\n", ["2:6: line of 6 characters, more than 5"], "5"),
+    "anchors": (b"- &a 1\n- &b 2\n- &a 3\n- *a\n- *a\n", ['1:3: no alias uses the anchor "a"', '2:3: no alias uses the anchor "b"']),
+    "aliases": (b"- *a\n- &a 1\n- *a\n- *b\n", ['1:3: no anchor before the alias "a"', '4:3: no anchor before the alias "b"']),
+    "each document": (b"&a 1\n---\n*a\n...\n--- &a 2\n", ['1:1: no alias uses the anchor "a"', '3:1: no anchor before the alias "a"', '5:5: no alias uses the anchor "a"']),
+    "scanner": (b"- &a b\n- c: d: e\n", ["2:7: mapping values are not allowed in this context"]),
+    "context": (b"a: 1\na: 2\n'b", ['2:1: duplicate key "a", first at line 1', "3:3: found unexpected end of stream, while scanning a quoted scalar that starts at 3:1"]),
+    "reader": (b"a: 1\n#\xc3\xa9 \xc3(\nb", ["2:4: invalid trailing UTF-8 octet (byte 11 of the file)"]),
+    "marked": (b"\xef\xbb\xbfa: 1\na: \xff", ["2:4: invalid leading UTF-8 octet (byte 12 of the file)"]),
+    "little": ("\ufeffé: 1\né: 𝄞 \n".encode("utf-16-le"), ['2:1: duplicate key "é", first at line 1', "2:5: blanks at the end of a line with a key"]),
+    "big": ("\ufeffa: 1\n\n".encode("utf-16-be") + b"\xd8\x00\x00a", ["3:1: expected low surrogate area (byte 17 of the file)"]),
+    "breaks": ("a: 1\x85b: 2\u2028c: 3\u2029a: 4".encode(), ['4:1: duplicate key "a", first at line 1']),
+}
+
+# The parameters of the terminal's colours, and the classes that they show.
+COLOURS = {
+    "90": "comment", "94": "directive", "1": "document", "91": "indicator", "31": "flow", "36": "key", "32": "quoted",
+    "33": "literal", "35": "anchor", "4;35": "alias", "95": "tag", "97;41": "fault",
+}
+SEQUENCE = re.compile(rb"\x1b\[(?:K|0m|(" + b"|".join(word.encode() for word in COLOURS) + rb")m)")
+
+# Inputs of highlight with their pieces: what each is, and its text. What stands between pieces has no colour.
+PIECES = [
+    (b"a: 1 # b\n", [("key", "a"), ("indicator", ":"), ("plain", "1"), ("comment", "# b")]),
+    (b"- 'a'\n- \"b\"\n", [("indicator", "-"), ("quoted", "'a'"), ("indicator", "-"), ("quoted", '"b"')]),
+    (b"&a !!b c: *d", [("anchor", "&a"), ("tag", "!!b"), ("key", "c"), ("indicator", ":"), ("alias", "*d")]),
+    (b"[a, {b: c, d}]", [("flow", "["), ("plain", "a"), ("flow", ",{"), ("key", "b"), ("indicator", ":"), ("plain", "c"), ("flow", ","), ("key", "d"), ("flow", "}]")]),
+    (b"? a b\n: - c", [("indicator", "?"), ("key", "a b"), ("indicator", ":-"), ("plain", "c")]),
+    (b"? - a\n: b", [("indicator", "?-"), ("plain", "a"), ("indicator", ":"), ("plain", "b")]),
+    (b"|1- # a\n b\n # c\n#d", [("literal", "|1- "), ("comment", "# a"), ("literal", "\n b\n # c\n"), ("comment", "#d")]),
+    (b"a: >\n b\nc: |\n", [("key", "a"), ("indicator", ":"), ("literal", ">\n b\n"), ("key", "c"), ("indicator", ":"), ("literal", "|\n")]),
+    (b"%YAML 1.1 #a\n--- #b\n...\n", [("directive", "%YAML 1.1"), ("comment", "#a"), ("document", "---"), ("comment", "#b"), ("document", "...")]),
+    (b"#a\nb: c: d #e", [("comment", "#a"), ("key", "b"), ("indicator", ":"), ("plain", "c"), ("fault", ":")]),
+    (b"- #a\n 'b", [("indicator", "-"), ("comment", "#a"), ("fault", "")]),
+    (b"- a\n#bcdefghij \xff#c", [("indicator", "-"), ("plain", "a"), ("comment", "#bcdefghij "), ("fault", "\xff")]),
+]
+
+
+def build(room):
+    """Builds the programs in a folder; None for what cannot be built here."""
+    subprocess.run([os.path.join(FFI, "build")], check=True, stdout=subprocess.DEVNULL)
+    lint = os.path.join(room, "lint")
+    words = ["-std=c11", "-Wall", "-Wextra", "-pedantic", "-Werror", "-O2", "-I", FFI, os.path.join(USES, "lint", "lint.c")]
+    subprocess.run(["cc", *words, os.path.join(FFI, "out", "libyaml_c.a"), "-o", lint], check=True)
+    if not has_rust():
+        return lint, None
+    highlight = os.path.join(room, "highlight")
+    build_rust(os.path.join(USES, "highlight", "highlight.rs"), highlight)
+    return lint, highlight
+
+
+def write_files(room, inputs):
+    """Writes each input into a file of the folder, and returns the names."""
+    names = [f"{number}.yaml" for number in range(len(inputs))]
+    for name, data in zip(names, inputs):
+        with open(os.path.join(room, name), "wb") as out:
+            out.write(data)
+    return names
+
+
+def call(room, words):
+    return subprocess.run(words, cwd=room, capture_output=True, timeout=300)
+
+
+def every(function, items):
+    with ThreadPoolExecutor(max_workers=os.cpu_count()) as pool:
+        return list(pool.map(function, items))
+
+
+def batches(items):
+    return [items[at : at + BATCH] for at in range(0, len(items), BATCH)]
+
+
+# lint
+
+
+def lint_wrong(lint, room, name):
+    """Whether a small input gives other messages or another status than it should."""
+    data, wanted, *width = LINTS[name]
+    with open(os.path.join(room, name), "wb") as out:
+        out.write(data)
+    done = call(room, [lint, *(["-w", *width] if width else []), name])
+    found = (done.stdout.decode(), done.returncode, done.stderr)
+    if found == ("".join(f"{name}:{line}\n" for line in wanted), 1 if wanted else 0, b""):
+        return False
+    print(f"uses: lint {name}: {found}")
+    return True
+
+
+def try_messages(lint):
+    with tempfile.TemporaryDirectory() as room:
+        wrong = sum(lint_wrong(lint, room, name) for name in LINTS)
+        os.mkdir(os.path.join(room, "folder"))
+        statuses = [
+            ([], 2, "", "usage: lint [-w WIDTH] FILE ..\n"),
+            (["-w", "0", "clean"], 2, "", "usage: lint [-w WIDTH] FILE ..\n"),
+            (["-w", "1x", "clean"], 2, "", "usage: lint [-w WIDTH] FILE ..\n"),
+            (["none"], 2, "", "lint: none: No such file or directory\n"),
+            (["folder"], 2, "", "lint: folder: Is a directory\n"),
+            (["none", "no key", "empty keys"], 2, 'empty keys:2:3: duplicate key "", first at line 1\n', "lint: none: No such file or directory\n"),
+        ]
+        for words, *wanted in statuses:
+            done = call(room, [lint, *words])
+            found = [done.returncode, done.stdout.decode(), done.stderr.decode()]
+            if found != wanted:
+                print(f"uses: lint {words}: {found}")
+                wrong += 1
+    count = len(LINTS) + len(statuses)
+    print(f"uses: lint: {count} outputs compared, {wrong} wrong")
+    return not wrong
+
+
+def lint_lines_wrong(done, names):
+    """Whether a call ended otherwise than with status 0 or 1, or printed anything that is no message about a file."""
+    line = re.compile(rb"(\d+\.yaml):[1-9]\d*:[1-9]\d*: [^\n]+")
+    lines = done.stdout.split(b"\n")[:-1]
+    told = [line.fullmatch(one) for one in lines]
+    known = all(one and one[1].decode() in names for one in told)
+    return not known or done.stderr != b"" or done.returncode != (1 if lines else 0)
+
+
+def try_lint_inputs(lint, inputs):
+    with tempfile.TemporaryDirectory() as room:
+        names = write_files(room, inputs)
+        parts = batches(names)
+        wrong = sum(every(lambda part: lint_lines_wrong(call(room, [lint, *part]), set(part)), parts))
+        print(f"uses: lint: {len(names)} inputs in {len(parts)} calls, {wrong} with another status than 0 or 1 or wrong lines")
+        if shutil.which("valgrind") is None:
+            print("uses: valgrind skipped: there is none")
+            return not wrong
+        checked = names[:: len(names) // 30][:30]
+        words = ["valgrind", "-q", "--error-exitcode=99", "--leak-check=full", "--show-leak-kinds=all", lint]
+        lost = sum(every(lambda name: call(room, [*words, name]).returncode not in (0, 1), checked))
+    print(f"uses: lint: {len(checked)} inputs under valgrind, {lost} with a leak or a wrong access")
+    return not wrong and not lost
+
+
+def try_lint_memory(lint):
+    """Refuses each request for memory in turn, until three runs in a row are whole."""
+    seen = {"whole": 0, "refused": 0, "wrong": 0}
+    with tempfile.TemporaryDirectory() as room:
+        refuser = build_refuser(room)
+        for name in ("flow", "anchors", "context", "big"):
+            path = os.path.join(room, "file")
+            with open(path, "wb") as out:
+                out.write(LINTS[name][0])
+            whole = run(lint, [path], b"", refuser, 0)
+            in_a_row, number = 0, 0
+            while in_a_row < 3 and number < 500:
+                number += 1
+                done = run(lint, [path], b"", refuser, number)
+                same = (done.stdout, done.returncode, done.stderr) == (whole.stdout, 1, b"")
+                told = done.returncode == 2 and not done.stdout and re.search(rb"out of memory|Cannot allocate memory", done.stderr)
+                kind = "whole" if same else "refused" if told else "wrong"
+                seen[kind] += 1
+                in_a_row = in_a_row + 1 if same else 0
+    print("uses: lint: memory refused: " + ", ".join(f"{count} {kind}" for kind, count in seen.items()))
+    return not seen["wrong"] and seen["refused"] > 20
+
+
+# highlight
+
+
+class Page(html.parser.HTMLParser):
+    """The texts of a page, each a list of pieces, and what is wrong with its elements."""
+
+    def __init__(self, page):
+        super().__init__(convert_charrefs=True)
+        self.open, self.texts, self.errors = [], [], []
+        self.feed(page.decode("utf-8"))
+        self.close()
+        self.errors += self.open
+
+    def handle_starttag(self, tag, attrs):
+        if tag == "meta":
+            return
+        self.open.append((tag, dict(attrs).get("class", "")))
+        if tag == "code":
+            self.texts.append([])
+        if tag == "mark":
+            self.texts[-1].append(("fault", b""))
+
+    def handle_endtag(self, tag):
+        if not self.open or self.open.pop()[0] != tag:
+            self.errors.append(tag)
+
+    def handle_data(self, data):
+        if ("code", "") in self.open:
+            names = [name for _, name in self.open]
+            shown = [name for name in names if name not in ("", "line", "bytes")]
+            text = bytes.fromhex(data) if names[-1] == "bytes" else data.encode()
+            self.texts[-1].append((shown[-1] if shown else "", text))
+
+
+def terminal_pieces(shown):
+    """The pieces of what the terminal shows."""
+    pieces, at, name = [], 0, ""
+    for found in SEQUENCE.finditer(shown):
+        pieces.append((name, shown[at : found.start()]))
+        if found[1]:
+            name = COLOURS[found[1].decode()]
+        elif found[0] == b"\x1b[0m":
+            name = ""
+        else:
+            pieces.append((name, b""))
+        at = found.end()
+    return pieces + [(name, shown[at:])]
+
+
+def joined(pieces):
+    return b"".join(text for _, text in pieces)
+
+
+def coloured(pieces, dropped=()):
+    """The pieces that have a colour, without line breaks, each joined with those of its class that come next."""
+    made = []
+    for name, text in pieces:
+        text = text.replace(b"\n", b"")
+        if made and made[-1][0] == name:
+            made[-1] = (name, made[-1][1] + text)
+        elif name not in ("", *dropped) and (text or name == "fault"):
+            made.append((name, text))
+    return made
+
+
+def utf16_character(part, order):
+    """The character that the bytes are, or None when they are not just one."""
+    try:
+        text = part.decode(order)
+    except UnicodeDecodeError:
+        return None
+    return text if len(text) == 1 else None
+
+
+def utf16_text(data, order):
+    """What is shown of UTF-16: a pair or a unit at a time, and U+FFFD for what is no character."""
+    made, at = [], 0
+    while at < len(data):
+        two, four = (utf16_character(data[at : at + size], order) for size in (2, 4))
+        made.append(two or four or "\ufffd")
+        at += 4 if four and not two else 2
+    return "".join(made).encode()
+
+
+def shown_text(data):
+    if data[:2] in (b"\xff\xfe", b"\xfe\xff"):
+        return utf16_text(data[2:], "utf-16-le" if data[0] == 0xFF else "utf-16-be")
+    return data
+
+
+def pieces_wrong(highlight, room, row):
+    data, wanted = row
+    wanted = [(name, text.encode("latin-1")) for name, text in wanted]
+    status = 1 if wanted[-1:] and "fault" in dict(wanted) else 0
+    name = f"{hash(data)}.yaml"
+    with open(os.path.join(room, name), "wb") as out:
+        out.write(data)
+    page, terminal = call(room, [highlight, "--html", name]), call(room, [highlight, name])
+    on_page, shown = coloured(Page(page.stdout).texts[0]), coloured(terminal_pieces(terminal.stdout), ["plain"])
+    good = on_page == coloured(wanted) and shown == coloured(wanted, ["plain"])
+    if good and (page.returncode, terminal.returncode) == (status, status):
+        return False
+    print(f"uses: highlight {data}: {on_page} {shown} {page.returncode} {terminal.returncode}")
+    return True
+
+
+def try_pieces(highlight):
+    with tempfile.TemporaryDirectory() as room:
+        wrong = sum(pieces_wrong(highlight, room, row) for row in PIECES)
+        write_files(room, [b"<&>\"'\r\n"])
+        page = call(room, [highlight, "--html", "0.yaml"]).stdout
+        wrong += b"&lt;&amp;&gt;&quot;'</span>\r\n</span>" not in page or not page.startswith(b"<!DOCTYPE html>\n")
+        done = call(room, [highlight, "none", "0.yaml"])
+        wrong += (done.returncode, done.stderr[:17]) != (2, b"highlight: none: ") or done.stdout != b"<&>\"'\r\n"
+    print(f"uses: highlight: {len(PIECES) + 2} inputs with their colours compared, {wrong} wrong")
+    return not wrong
+
+
+def token_classes(lines):
+    """Where each token with a length starts and ends, and the classes that it may have."""
+    names = {"VERSION-DIRECTIVE": "directive", "TAG-DIRECTIVE": "directive", "DOCUMENT-START": "document", "DOCUMENT-END": "document"}
+    names |= {"BLOCK-ENTRY": "indicator", "KEY": "indicator", "VALUE": "indicator", "ALIAS": "alias", "ANCHOR": "anchor", "TAG": "tag"}
+    styles = {"plain": ["plain"], "single": ["quoted"], "double": ["quoted"], "literal": ["literal", "comment"], "folded": ["literal", "comment"]}
+    before = ""
+    for line in lines:
+        kind, *words = line.split(" ")
+        start, end = (int(word.split(":")[0]) for word in words[:2])
+        allowed = [names.get(kind, "flow")]
+        if kind == "SCALAR":
+            comment = styles[words[2]][1:]
+            allowed = ["key", *comment] if before == "KEY" else styles[words[2]] + ["key"] * (before not in ("VALUE", "BLOCK-ENTRY"))
+        if kind not in ("ANCHOR", "TAG"):
+            before = kind
+        if start < end:
+            yield start, end, allowed
+
+
+def fault_place(line, data):
+    """The index in the text at which a fault is, or None when the line has only an offset in UTF-16."""
+    words = line.split(" ")
+    if words[1] == "scanner":
+        return int(words[3].split(":")[0])
+    if data[:2] in (b"\xff\xfe", b"\xfe\xff"):
+        return None
+    return int(words[2]) - 3 * data.startswith(b"\xef\xbb\xbf")
+
+
+def classes_wrong(pieces, data, lines):
+    """What is wrong with the classes of a text's bytes on the page, by the tokens that the vectors name."""
+    text, mark = joined(pieces), 3 * data.startswith(b"\xef\xbb\xbf")
+    classes = [name for name, part in pieces for _ in part][mark:]
+    text, at, marked = text[mark:], 0, None
+    for name, part in pieces:
+        if name == "fault" and marked is None:
+            marked = at - mark
+        at += len(part)
+    fault = lines.pop() if lines[-1].startswith("FAULT") else None
+    if (fault is None) != (marked is None):
+        return "a fault is not marked, or a mark has no fault"
+    if fault and fault_place(fault, data) not in (None, marked):
+        return f"the fault is marked at {marked}"
+    covered = [None] * len(text)
+    for start, end, allowed in token_classes(lines):
+        covered[start:end] = [allowed] * (end - start)
+    for found in BREAK.finditer(text):
+        covered[found.start() : found.end()] = [[""]] * len(found[0])
+    last = len(text) if marked is None else marked
+    for at, (name, allowed) in enumerate(zip(classes, covered)):
+        free = ["comment"] if at < last and (text[at : at + 1] not in b" \t\xef\xbb\xbf") else ["", "comment"]
+        if at < last and fault is None and name not in (allowed or free) or at > last and name not in ("", "fault"):
+            return f"byte {at} is {name or 'plain'}, not {allowed or free}"
+        if at < last and fault and allowed and name not in allowed:
+            return f"byte {at} is {name or 'plain'}, not {allowed}"
+    return None
+
+
+def batch_wrong(highlight, room, batch):
+    """What is wrong with the page and the terminal's output for a batch of inputs, each with its name and its lines."""
+    names = [name for name, _, _ in batch]
+    terminal, page = call(room, [highlight, *names]), call(room, [highlight, "--html", *names])
+    faulty = any(lines[-1].startswith("FAULT") for _, _, lines in batch)
+    bad = []
+    if joined(terminal_pieces(terminal.stdout)) != b"".join(shown_text(data) for _, data, _ in batch):
+        bad.append(f"the terminal's output is another text: {names}")
+    if (terminal.returncode, page.returncode) != (faulty, faulty):
+        bad.append(f"status {terminal.returncode} and {page.returncode}: {names}")
+    read = Page(page.stdout)
+    if read.errors or len(read.texts) != len(batch):
+        return bad + [f"elements are not closed: {read.errors[:5]}"]
+    for pieces, (_, data, lines) in zip(read.texts, batch):
+        text = "the page has another text" if joined(pieces) != shown_text(data) else classes_wrong(pieces, data, list(lines))
+        if text:
+            bad.append(f"{data}: {text}")
+    return bad
+
+
+def try_texts(highlight, scans):
+    with tempfile.TemporaryDirectory() as room:
+        names = write_files(room, [data for data, _ in scans])
+        batch = [(name, *scan) for name, scan in zip(names, scans)]
+        bad = [text for part in every(lambda part: batch_wrong(highlight, room, part), batches(batch)) for text in part]
+    for text in bad[:5]:
+        print(f"uses: highlight: {text[:600]}")
+    print(f"uses: highlight: {len(scans)} texts in the terminal and on pages, {len(bad)} wrong")
+    return not bad
+
+
+# Both
+
+
+def hostile():
+    number = [b"%d" % one for one in range(SIZE)]
+    yield "openers", b"[" * SIZE
+    yield "mappings", b"{a: " * SIZE
+    yield "keys", b"".join(b"key%s: 1\n" % one for one in number)
+    yield "flow keys", b"{" + b",".join(number) + b"}"
+    yield "same keys", b"a: 1\n" * SIZE
+    yield "long keys", b"".join(b"%s%s: 1\n" % (b"k" * 60, one) for one in number)
+    yield "anchors", b"".join(b"- &a%s b\n" % one for one in number)
+    yield "same anchors", b"- &a b\n" * SIZE
+    yield "aliases", b"- &a b\n" + b"- *a\n" * SIZE
+    yield "blanks", b" " * SIZE * 10
+    yield "no text", b"a: 1\n#" + b"\xff" * SIZE * 10
+
+
+def try_hostile(programs):
+    wrong, count = 0, 0
+    with tempfile.TemporaryDirectory() as room:
+        for name, data in hostile():
+            with open(os.path.join(room, name), "wb") as out:
+                out.write(data)
+            for words in programs:
+                began = time.monotonic()
+                done = call(room, [*words, name])
+                taken = time.monotonic() - began
+                count += 1
+                if done.returncode not in (0, 1) or taken > SECONDS:
+                    print(f"uses: {os.path.basename(words[0])} {words[1:]} {name}: status {done.returncode}, {taken:.1f} s")
+                    wrong += 1
+    print(f"uses: {count} calls on long and deep inputs, {wrong} failed or took more than {SECONDS} s")
+    return not wrong
+
+
+def main():
+    if shutil.which("cc") is None:
+        print("uses: skipped: no C compiler")
+        return 0
+    scans = [(data, wanted) for words, data, wanted in vectors() if words == ["any"]]
+    with tempfile.TemporaryDirectory() as room:
+        lint, highlight = build(room)
+        good = [
+            try_messages(lint),
+            try_lint_inputs(lint, [data for _, data, _ in rows()] + [data for data, _ in scans]),
+            try_lint_memory(lint),
+        ]
+        if highlight is None:
+            print("uses: highlight skipped: no rustc of 1.82 or later")
+        else:
+            good += [try_pieces(highlight), try_texts(highlight, scans[::3])]
+        good.append(try_hostile([[lint]] + ([[highlight], [highlight, "--html"]] if highlight else [])))
+    return 0 if all(good) and len(scans) > 5000 else 1
+
+
+if __name__ == "__main__":
+    sys.exit(main())
