@@ -85,6 +85,8 @@ PIECES = [
     (b"#a\nb: c: d #e", [("comment", "#a"), ("key", "b"), ("indicator", ":"), ("plain", "c"), ("fault", ":")]),
     (b"- #a\n 'b", [("indicator", "-"), ("comment", "#a"), ("fault", "")]),
     (b"- a\n#bcdefghij \xff#c", [("indicator", "-"), ("plain", "a"), ("comment", "#bcdefghij "), ("fault", "\xff")]),
+    (b"- a\n#bcdefghij \xc3#c", [("indicator", "-"), ("plain", "a"), ("comment", "#bcdefghij "), ("fault", "\xc3")]),
+    (b"\xff\xfe-\0 \0\xe9\0\n\0", [("indicator", "-"), ("plain", "\xc3\xa9")]),
 ]
 
 
@@ -162,21 +164,46 @@ def try_messages(lint):
     return not wrong
 
 
-def lint_lines_wrong(done, names):
-    """Whether a call ended otherwise than with status 0 or 1, or printed anything that is no message about a file."""
-    line = re.compile(rb"(\d+\.yaml):[1-9]\d*:[1-9]\d*: [^\n]+")
-    lines = done.stdout.split(b"\n")[:-1]
-    told = [line.fullmatch(one) for one in lines]
-    known = all(one and one[1].decode() in names for one in told)
-    return not known or done.stderr != b"" or done.returncode != (1 if lines else 0)
+def place(mark):
+    """A mark of the vectors, as a line and a column from 1."""
+    _, line, column = mark.split(":")
+    return f"{int(line) + 1}:{int(column) + 1}"
 
 
-def try_lint_inputs(lint, inputs):
+def fault_message(line):
+    """What lint prints of a fault of the vectors; without the place when that is an offset."""
+    words = line.split(" ", 4)
+    if words[1] == "reader":
+        return f": {words[4]} (byte {int(words[2]) + 1} of the file)"
+    context, problem = words[4].split("; ", 1)
+    start = "" if context == "-" else f", {context} that starts at {place(words[2])}"
+    return f"{place(words[3])}: {problem}{start}"
+
+
+def lint_batch_wrong(lint, room, batch):
+    """Whether a call ended or printed otherwise than it should: with status 0 or 1, messages, and the wanted faults."""
+    done = call(room, [lint, *(name for name, _, _ in batch)])
+    lines = done.stdout.decode().split("\n")[:-1]
+    found = {name: [] for name, _, _ in batch}
+    for line in lines:
+        name, _, message = line.partition(":")
+        if name not in found or not re.match(r"[1-9]\d*:[1-9]\d*: .", message):
+            return f"no message: {line}"
+        found[name].append(message)
+    for name, data, wanted in batch:
+        if wanted[-1].startswith("FAULT") and not any(line.endswith(fault_message(wanted[-1])) for line in found[name]):
+            return f"{data}: {wanted[-1]} is not told"
+    if done.stderr != b"" or done.returncode != (1 if lines else 0):
+        return f"status {done.returncode}, {done.stderr[:80]}"
+    return None
+
+
+def try_lint_inputs(lint, scans):
     with tempfile.TemporaryDirectory() as room:
-        names = write_files(room, inputs)
-        parts = batches(names)
-        wrong = sum(every(lambda part: lint_lines_wrong(call(room, [lint, *part]), set(part)), parts))
-        print(f"uses: lint: {len(names)} inputs in {len(parts)} calls, {wrong} with another status than 0 or 1 or wrong lines")
+        names = write_files(room, [data for data, _ in scans])
+        parts = batches([(name, *scan) for name, scan in zip(names, scans)])
+        wrong = [text for text in every(lambda part: lint_batch_wrong(lint, room, part), parts) if text]
+        print(f"uses: lint: {len(names)} inputs in {len(parts)} calls, {len(wrong)} wrong {wrong[:3] or ''}")
         if shutil.which("valgrind") is None:
             print("uses: valgrind skipped: there is none")
             return not wrong
@@ -354,7 +381,8 @@ def fault_place(line, data):
         return int(words[3].split(":")[0])
     if data[:2] in (b"\xff\xfe", b"\xfe\xff"):
         return None
-    return int(words[2]) - 3 * data.startswith(b"\xef\xbb\xbf")
+    front = data[: int(words[2])].removeprefix(b"\xef\xbb\xbf")
+    return len(front.decode("utf-8", "ignore").encode())
 
 
 def classes_wrong(pieces, data, lines):
@@ -386,6 +414,12 @@ def classes_wrong(pieces, data, lines):
     return None
 
 
+def same_fault(told, wanted):
+    """Whether highlight tells of a fault what lint should, without where the context starts and without the byte."""
+    wanted_text = re.sub(r" (that starts at \d+:\d+|\(byte \d+ of the file\))$", "", wanted[1])
+    return told[0] == wanted[0] and told[1].endswith(wanted_text)
+
+
 def batch_wrong(highlight, room, batch):
     """What is wrong with the page and the terminal's output for a batch of inputs, each with its name and its lines."""
     names = [name for name, _, _ in batch]
@@ -394,6 +428,10 @@ def batch_wrong(highlight, room, batch):
     bad = []
     if joined(terminal_pieces(terminal.stdout)) != b"".join(shown_text(data) for _, data, _ in batch):
         bad.append(f"the terminal's output is another text: {names}")
+    told = [line.split(":", 1) for line in terminal.stderr.decode().split("\n")[:-1]]
+    wanted = [[name, fault_message(lines[-1])] for name, _, lines in batch if lines[-1].startswith("FAULT")]
+    if len(told) != len(wanted) or any(not same_fault(*pair) for pair in zip(told, wanted)):
+        bad.append(f"other faults are told: {names}")
     if (terminal.returncode, page.returncode) != (faulty, faulty):
         bad.append(f"status {terminal.returncode} and {page.returncode}: {names}")
     read = Page(page.stdout)
@@ -457,18 +495,19 @@ def main():
     if shutil.which("cc") is None:
         print("uses: skipped: no C compiler")
         return 0
+    worked = [(data, wanted) for words, data, wanted in rows() if words == ["scan", "any"]]
     scans = [(data, wanted) for words, data, wanted in vectors() if words == ["any"]]
     with tempfile.TemporaryDirectory() as room:
         lint, highlight = build(room)
         good = [
             try_messages(lint),
-            try_lint_inputs(lint, [data for _, data, _ in rows()] + [data for data, _ in scans]),
+            try_lint_inputs(lint, worked + scans),
             try_lint_memory(lint),
         ]
         if highlight is None:
             print("uses: highlight skipped: no rustc of 1.82 or later")
         else:
-            good += [try_pieces(highlight), try_texts(highlight, scans[::3])]
+            good += [try_pieces(highlight), try_texts(highlight, worked + scans[::3])]
         good.append(try_hostile([[lint]] + ([[highlight], [highlight, "--html"]] if highlight else [])))
     return 0 if all(good) and len(scans) > 5000 else 1
 

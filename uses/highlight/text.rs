@@ -29,18 +29,31 @@ impl Text<'_> {
             _ => input.len(),
         };
         let (mark, bytes, front) = if input.starts_with(b"\xFE\xFF") || input.starts_with(b"\xFF\xFE") {
-            let is_big = input[0] == 0xFE;
-            let mut bytes = utf16(&input[2..offset], is_big);
-            let front = bytes.len();
-            bytes.extend(utf16(&input[offset..], is_big));
+            let (bytes, front) = utf16_and_front(input, offset);
             (&input[..0], Cow::Owned(bytes), front)
         } else {
             let (mark, bytes) = input.split_at(if input.starts_with(UTF8_MARK) { 3 } else { 0 });
-            (mark, Cow::Borrowed(bytes), offset - mark.len())
+            (mark, Cow::Borrowed(bytes), utf8_len(&bytes[..offset - mark.len()]))
         };
         let problem = fault.map(|fault| problem_of(fault, &bytes[..front]));
         Text { mark, bytes, problem }
     }
+}
+
+/// How many bytes of UTF-8 a text begins with.
+fn utf8_len(text: &[u8]) -> usize {
+    std::str::from_utf8(text).map_or_else(|error| error.valid_up_to(), str::len)
+}
+
+/// The text of an input in UTF-16 in UTF-8, and how many bytes of it stand before the character that an offset is in.
+fn utf16_and_front(input: &[u8], offset: usize) -> (Vec<u8>, usize) {
+    let is_big = input[0] == 0xFE;
+    let is_half = matches!(input[if is_big { offset - 2 } else { offset - 1 }], 0xD8..=0xDB);
+    let start = if is_half && offset < input.len() { offset - 2 } else { offset };
+    let mut bytes = utf16(&input[2..start], is_big);
+    let front = bytes.len();
+    bytes.extend(utf16(&input[start..], is_big));
+    (bytes, front)
 }
 
 /// Decodes UTF-16 without its byte order mark.
