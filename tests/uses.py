@@ -29,6 +29,7 @@ from worked import build_refuser, rows, run
 SECONDS = 5
 BATCH = 200
 SIZE = 100000
+NO_HTML = re.compile("[\0-\x08\x0b\x0c\x0e-\x1f\x7f-\x9f\ufdd0-\ufdef\ufffe\uffff" + "".join(chr(0x10000 * n - k) for n in range(2, 18) for k in (1, 2)) + "]")
 BREAK = re.compile(rb"\r\n|[\r\n]|\xc2\x85|\xe2\x80[\xa8\xa9]")
 
 # Inputs of lint, and the messages without the file's name. The first word of some is an option.
@@ -43,7 +44,8 @@ LINTS = {
     "anchored": (b"&x a: 1\n&y a: *x\n*y : 2\n", ['2:4: duplicate key "a", first at line 1']),
     "outer": (b"a:\n  b: 1\n  a: 2\nc: 3\na: 4\n", ['5:1: duplicate key "a", first at line 1']),
     "documents": (b"a: 1\n---\na: 2\n---\na: 3\na: 4\n", ['6:1: duplicate key "a", first at line 5']),
-    "left open": (b"{a: 1\n--- \nb: 1\nb: 2\n", []),
+    "left open": (b"{a: 1\n--- \n, a}\n", []),
+    "not open": (b"a: 1\n]\na: 2\n", ['3:1: duplicate key "a", first at line 1']),
     "empty keys": (b"'': 1\n? ''\n", ['2:3: duplicate key "", first at line 1']),
     "control": (b'"\\e\\x9b": 1\n"\\e\\x9b": 2\n', ['2:1: duplicate key "\\x1b\\xc2\\x9b", first at line 1']),
     "long name": (b"%s: 1\n%s: 2\n" % (b"y" * 70, b"y" * 70), [f'2:1: duplicate key "{"y" * 60}...", first at line 1']),
@@ -55,9 +57,10 @@ LINTS = {
     "anchors": (b"- &a 1\n- &b 2\n- &a 3\n- *a\n- *a\n", ['1:3: no alias uses the anchor "a"', '2:3: no alias uses the anchor "b"']),
     "aliases": (b"- *a\n- &a 1\n- *a\n- *b\n", ['1:3: no anchor before the alias "a"', '4:3: no anchor before the alias "b"']),
     "each document": (b"&a 1\n---\n*a\n...\n--- &a 2\n", ['1:1: no alias uses the anchor "a"', '3:1: no anchor before the alias "a"', '5:5: no alias uses the anchor "a"']),
-    "scanner": (b"- &a b\n- c: d: e\n", ["2:7: mapping values are not allowed in this context"]),
+    "scanner": (b"- &a b\n---\n- &b c\n- d: e: f\n", ['1:3: no alias uses the anchor "a"', "4:7: mapping values are not allowed in this context"]),
     "context": (b"a: 1\na: 2\n'b", ['2:1: duplicate key "a", first at line 1', "3:3: found unexpected end of stream, while scanning a quoted scalar that starts at 3:1"]),
     "reader": (b"a: 1\n#\xc3\xa9 \xc3(\nb", ["2:4: invalid trailing UTF-8 octet (byte 11 of the file)"]),
+    "blank before": (b"a: 'bcdefghijkl' \xff", ["1:18: invalid leading UTF-8 octet (byte 18 of the file)"]),
     "marked": (b"\xef\xbb\xbfa: 1\na: \xff", ["2:4: invalid leading UTF-8 octet (byte 12 of the file)"]),
     "little": ("\ufeffé: 1\né: 𝄞 \n".encode("utf-16-le"), ['2:1: duplicate key "é", first at line 1', "2:5: blanks at the end of a line with a key"]),
     "big": ("\ufeffa: 1\n\n".encode("utf-16-be") + b"\xd8\x00\x00a", ["3:1: expected low surrogate area (byte 17 of the file)"]),
@@ -87,6 +90,10 @@ PIECES = [
     (b"- a\n#bcdefghij \xff#c", [("indicator", "-"), ("plain", "a"), ("comment", "#bcdefghij "), ("fault", "\xff")]),
     (b"- a\n#bcdefghij \xc3#c", [("indicator", "-"), ("plain", "a"), ("comment", "#bcdefghij "), ("fault", "\xc3")]),
     (b"\xff\xfe-\0 \0\xe9\0\n\0", [("indicator", "-"), ("plain", "\xc3\xa9")]),
+    (b"\xff\xfe#\0\x00\xd8a\0", [("comment", "#"), ("fault", "\xef\xbf\xbd")]),
+    (b"- |\r\n a\r\n", [("indicator", "-"), ("literal", "| a")]),
+    (b"%YAML\n", [("fault", "")]),
+    (b"{a: 1\n---\n,b", [("flow", "{"), ("key", "a"), ("indicator", ":"), ("plain", "1"), ("document", "---"), ("flow", ","), ("plain", "b")]),
 ]
 
 
@@ -241,14 +248,14 @@ def try_lint_memory(lint):
 
 
 class Page(html.parser.HTMLParser):
-    """The texts of a page, each a list of pieces, and what is wrong with its elements."""
+    """The texts of a page, each a list of pieces, and what is wrong with its elements and its characters."""
 
     def __init__(self, page):
         super().__init__(convert_charrefs=True)
         self.open, self.texts, self.errors = [], [], []
         self.feed(page.decode("utf-8"))
         self.close()
-        self.errors += self.open
+        self.errors += self.open + NO_HTML.findall(page.decode("utf-8"))
 
     def handle_starttag(self, tag, attrs):
         if tag == "meta":
@@ -294,7 +301,7 @@ def coloured(pieces, dropped=()):
     """The pieces that have a colour, without line breaks, each joined with those of its class that come next."""
     made = []
     for name, text in pieces:
-        text = text.replace(b"\n", b"")
+        text = text.removesuffix(b"\r\n").replace(b"\n", b"")
         if made and made[-1][0] == name:
             made[-1] = (name, made[-1][1] + text)
         elif name not in ("", *dropped) and (text or name == "fault"):
@@ -331,9 +338,7 @@ def pieces_wrong(highlight, room, row):
     data, wanted = row
     wanted = [(name, text.encode("latin-1")) for name, text in wanted]
     status = 1 if wanted[-1:] and "fault" in dict(wanted) else 0
-    name = f"{hash(data)}.yaml"
-    with open(os.path.join(room, name), "wb") as out:
-        out.write(data)
+    name = write_files(room, [data])[0]
     page, terminal = call(room, [highlight, "--html", name]), call(room, [highlight, name])
     on_page, shown = coloured(Page(page.stdout).texts[0]), coloured(terminal_pieces(terminal.stdout), ["plain"])
     good = on_page == coloured(wanted) and shown == coloured(wanted, ["plain"])
@@ -436,7 +441,7 @@ def batch_wrong(highlight, room, batch):
         bad.append(f"status {terminal.returncode} and {page.returncode}: {names}")
     read = Page(page.stdout)
     if read.errors or len(read.texts) != len(batch):
-        return bad + [f"elements are not closed: {read.errors[:5]}"]
+        return bad + [f"elements are not closed, or characters may not stand on a page: {read.errors[:5]}"]
     for pieces, (_, data, lines) in zip(read.texts, batch):
         text = "the page has another text" if joined(pieces) != shown_text(data) else classes_wrong(pieces, data, list(lines))
         if text:

@@ -203,16 +203,10 @@ static void open_level(struct file *f, uint32_t start) {
     f->key_next = start == YAML_C_FLOW_MAPPING_START_TOKEN;
 }
 
-/* Closes the innermost block collection. Flow collections in it were left open, at a document marker or at the end. */
-static void close_block(struct file *f) {
-    while (f->depth && is_flow(f->levels[f->depth - 1].start))
-        f->depth--;
-    if (f->depth)
-        f->depth--;
-}
-
-static void close_flow(struct file *f) {
-    if (f->depth && is_flow(f->levels[f->depth - 1].start))
+/* Closes the innermost collection, unless it is of the other style: what is closed was never opened, or a flow collection was
+ * left open. */
+static void close_level(struct file *f, bool flow) {
+    if (f->depth && is_flow(f->levels[f->depth - 1].start) == flow)
         f->depth--;
 }
 
@@ -240,11 +234,11 @@ static void take_structure(struct file *f, uint32_t type) {
         open_level(f, type);
         break;
     case YAML_C_BLOCK_END_TOKEN:
-        close_block(f);
+        close_level(f, false);
         break;
     case YAML_C_FLOW_SEQUENCE_END_TOKEN:
     case YAML_C_FLOW_MAPPING_END_TOKEN:
-        close_flow(f);
+        close_level(f, true);
         break;
     }
 }
