@@ -29,42 +29,47 @@ from worked import build_refuser, rows, run
 SECONDS = 5
 BATCH = 200
 SIZE = 100000
-NO_HTML = re.compile("[\0-\x08\x0b\x0c\x0e-\x1f\x7f-\x9f\ufdd0-\ufdef\ufffe\uffff" + "".join(chr(0x10000 * n - k) for n in range(2, 18) for k in (1, 2)) + "]")
+LAST = "".join(chr(plane + last) for plane in range(0, 0x110000, 0x10000) for last in (0xFFFE, 0xFFFF))
+NO_HTML = re.compile(f"[\0-\x08\x0b\x0c\x0e-\x1f\x7f-\x9f\ufdd0-\ufdef{LAST}]")
 BREAK = re.compile(rb"\r\n|[\r\n]|\xc2\x85|\xe2\x80[\xa8\xa9]")
 
-# Inputs of lint, and the messages without the file's name. The first word of some is an option.
-FULL = b"x" * 77
+SAME_A = 'duplicate key "a", first at line 1'
+UNUSED_A, MISSING_A = 'no alias uses the anchor "a"', 'no anchor before the alias "a"'
+BLANKS = "blanks at the end of a line with a key"
+QUOTED = "while scanning a quoted scalar that starts at 3:1"
+
+# Inputs of lint, and the messages without the file's name. What is third is a width.
 LINTS = {
     "nothing": (b"", []),
     "clean": (b"a: 1\nb: {a: 2, c: [a, a]}\nd:\n- a: 3\n- a: 4\n", []),
-    "block": (b"a: 1\nb: 2\n'a': 3\n\"\\x61\": 4\n", ['3:1: duplicate key "a", first at line 1', '4:1: duplicate key "a", first at line 1']),
-    "flow": (b"{a: 1, b: {a: 2}, a: 3, b}\n", ['1:19: duplicate key "a", first at line 1', '1:25: duplicate key "b", first at line 1']),
-    "alone": (b"[{a, a}, [a, a], [a: 1, a: 2]]\n", ['1:6: duplicate key "a", first at line 1']),
-    "explicit": (b"? a\n: 1\n? !!str a\n: 2\n? [b]\n? [b]\n", ['3:9: duplicate key "a", first at line 1']),
-    "anchored": (b"&x a: 1\n&y a: *x\n*y : 2\n", ['2:4: duplicate key "a", first at line 1']),
-    "outer": (b"a:\n  b: 1\n  a: 2\nc: 3\na: 4\n", ['5:1: duplicate key "a", first at line 1']),
+    "block": (b"a: 1\nb: 2\n'a': 3\n\"\\x61\": 4\n", [f"3:1: {SAME_A}", f"4:1: {SAME_A}"]),
+    "flow": (b"{a: 1, b: {a: 2}, a: 3, b}\n", [f"1:19: {SAME_A}", '1:25: duplicate key "b", first at line 1']),
+    "alone": (b"[{a, a}, [a, a], [a: 1, a: 2]]\n", [f"1:6: {SAME_A}"]),
+    "explicit": (b"? a\n: 1\n? !!str a\n: 2\n? [b]\n? [b]\n", [f"3:9: {SAME_A}"]),
+    "anchored": (b"&x a: 1\n&y a: *x\n*y : 2\n", [f"2:4: {SAME_A}"]),
+    "outer": (b"a:\n  b: 1\n  a: 2\nc: 3\na: 4\n", [f"5:1: {SAME_A}"]),
     "documents": (b"a: 1\n---\na: 2\n---\na: 3\na: 4\n", ['6:1: duplicate key "a", first at line 5']),
     "left open": (b"{a: 1\n--- \n, a}\n", []),
-    "not open": (b"a: 1\n]\na: 2\n", ['3:1: duplicate key "a", first at line 1']),
+    "not open": (b"a: 1\n]\na: 2\n", [f"3:1: {SAME_A}"]),
     "empty keys": (b"'': 1\n? ''\n", ['2:3: duplicate key "", first at line 1']),
     "control": (b'"\\e\\x9b": 1\n"\\e\\x9b": 2\n', ['2:1: duplicate key "\\x1b\\xc2\\x9b", first at line 1']),
     "long name": (b"%s: 1\n%s: 2\n" % (b"y" * 70, b"y" * 70), [f'2:1: duplicate key "{"y" * 60}...", first at line 1']),
-    "tabs": (b"a:\t1\t2\n- b\t\nc: 3\t \n", ["1:3: tab in a line with a key", "3:5: blanks at the end of a line with a key"]),
+    "tabs": (b"a:\t1\t2\n- b\t\nc: 3\t \n", ["1:3: tab in a line with a key", f"3:5: {BLANKS}"]),
     "no key": (b"- a\t# \t\n- b  \n", []),
-    "blanks": ("é: 1  \nb:\n\ne: {c,\n d \n } ".encode(), ["1:5: blanks at the end of a line with a key", "5:3: blanks at the end of a line with a key"]),
+    "blanks": ("é: 1  \nb:\n\ne: {c,\n d \n } ".encode(), [f"1:5: {BLANKS}", f"5:3: {BLANKS}"]),
     "width": ("a: {}\nb: {}xé\n".format("é" * 77, "é" * 77).encode(), ["2:81: line of 82 characters, more than 80"]),
     "narrow": (b"a: 1\r\n# long\rb: 2\n", ["2:6: line of 6 characters, more than 5"], "5"),
-    "anchors": (b"- &a 1\n- &b 2\n- &a 3\n- *a\n- *a\n", ['1:3: no alias uses the anchor "a"', '2:3: no alias uses the anchor "b"']),
-    "aliases": (b"- *a\n- &a 1\n- *a\n- *b\n", ['1:3: no anchor before the alias "a"', '4:3: no anchor before the alias "b"']),
-    "each document": (b"&a 1\n---\n*a\n...\n--- &a 2\n", ['1:1: no alias uses the anchor "a"', '3:1: no anchor before the alias "a"', '5:5: no alias uses the anchor "a"']),
-    "scanner": (b"- &a b\n---\n- &b c\n- d: e: f\n", ['1:3: no alias uses the anchor "a"', "4:7: mapping values are not allowed in this context"]),
-    "context": (b"a: 1\na: 2\n'b", ['2:1: duplicate key "a", first at line 1', "3:3: found unexpected end of stream, while scanning a quoted scalar that starts at 3:1"]),
+    "anchors": (b"- &a 1\n- &b 2\n- &a 3\n- *a\n- *a\n", [f"1:3: {UNUSED_A}", '2:3: no alias uses the anchor "b"']),
+    "aliases": (b"- *a\n- &a 1\n- *a\n- *b\n", [f"1:3: {MISSING_A}", '4:3: no anchor before the alias "b"']),
+    "each document": (b"&a 1\n---\n*a\n...\n--- &a 2\n", [f"1:1: {UNUSED_A}", f"3:1: {MISSING_A}", f"5:5: {UNUSED_A}"]),
+    "scanner": (b"- &a b\n---\n- &b c\n- d: e: f\n", [f"1:3: {UNUSED_A}", "4:7: mapping values are not allowed in this context"]),
+    "context": (b"a: 1\na: 2\n'b", [f"2:1: {SAME_A}", "3:3: found unexpected end of stream, " + QUOTED]),
     "reader": (b"a: 1\n#\xc3\xa9 \xc3(\nb", ["2:4: invalid trailing UTF-8 octet (byte 11 of the file)"]),
     "blank before": (b"a: 'bcdefghijkl' \xff", ["1:18: invalid leading UTF-8 octet (byte 18 of the file)"]),
     "marked": (b"\xef\xbb\xbfa: 1\na: \xff", ["2:4: invalid leading UTF-8 octet (byte 12 of the file)"]),
-    "little": ("\ufeffé: 1\né: 𝄞 \n".encode("utf-16-le"), ['2:1: duplicate key "é", first at line 1', "2:5: blanks at the end of a line with a key"]),
+    "little": ("\ufeffé: 1\né: 𝄞 \n".encode("utf-16-le"), ['2:1: duplicate key "é", first at line 1', f"2:5: {BLANKS}"]),
     "big": ("\ufeffa: 1\n\n".encode("utf-16-be") + b"\xd8\x00\x00a", ["3:1: expected low surrogate area (byte 17 of the file)"]),
-    "breaks": ("a: 1\x85b: 2\u2028c: 3\u2029a: 4".encode(), ['4:1: duplicate key "a", first at line 1']),
+    "breaks": ("a: 1\x85b: 2\u2028c: 3\u2029a: 4".encode(), [f"4:1: {SAME_A}"]),
 }
 
 # The parameters of the terminal's colours, and the classes that they show.
@@ -74,26 +79,36 @@ COLOURS = {
 }
 SEQUENCE = re.compile(rb"\x1b\[(?:K|0m|(" + b"|".join(word.encode() for word in COLOURS) + rb")m)")
 
-# Inputs of highlight with their pieces: what each is, and its text. What stands between pieces has no colour.
+# The classes of the vectors' tokens; all others that have a length are of the class flow.
+TOKENS = {
+    "VERSION-DIRECTIVE": "directive", "TAG-DIRECTIVE": "directive", "DOCUMENT-START": "document", "DOCUMENT-END": "document",
+    "BLOCK-ENTRY": "indicator", "KEY": "indicator", "VALUE": "indicator", "ALIAS": "alias", "ANCHOR": "anchor", "TAG": "tag",
+}
+SCALARS = {
+    "plain": ["plain"], "single": ["quoted"], "double": ["quoted"],
+    "literal": ["literal", "comment"], "folded": ["literal", "comment"],
+}
+
+# Inputs of highlight with their pieces: what each is, and its text after a space. What stands between pieces has no colour.
 PIECES = [
-    (b"a: 1 # b\n", [("key", "a"), ("indicator", ":"), ("plain", "1"), ("comment", "# b")]),
-    (b"- 'a'\n- \"b\"\n", [("indicator", "-"), ("quoted", "'a'"), ("indicator", "-"), ("quoted", '"b"')]),
-    (b"&a !!b c: *d", [("anchor", "&a"), ("tag", "!!b"), ("key", "c"), ("indicator", ":"), ("alias", "*d")]),
-    (b"[a, {b: c, d}]", [("flow", "["), ("plain", "a"), ("flow", ",{"), ("key", "b"), ("indicator", ":"), ("plain", "c"), ("flow", ","), ("key", "d"), ("flow", "}]")]),
-    (b"? a b\n: - c", [("indicator", "?"), ("key", "a b"), ("indicator", ":-"), ("plain", "c")]),
-    (b"? - a\n: b", [("indicator", "?-"), ("plain", "a"), ("indicator", ":"), ("plain", "b")]),
-    (b"|1- # a\n b\n # c\n#d", [("literal", "|1- "), ("comment", "# a"), ("literal", "\n b\n # c\n"), ("comment", "#d")]),
-    (b"a: >\n b\nc: |\n", [("key", "a"), ("indicator", ":"), ("literal", ">\n b\n"), ("key", "c"), ("indicator", ":"), ("literal", "|\n")]),
-    (b"%YAML 1.1 #a\n--- #b\n...\n", [("directive", "%YAML 1.1"), ("comment", "#a"), ("document", "---"), ("comment", "#b"), ("document", "...")]),
-    (b"#a\nb: c: d #e", [("comment", "#a"), ("key", "b"), ("indicator", ":"), ("plain", "c"), ("fault", ":")]),
-    (b"- #a\n 'b", [("indicator", "-"), ("comment", "#a"), ("fault", "")]),
-    (b"- a\n#bcdefghij \xff#c", [("indicator", "-"), ("plain", "a"), ("comment", "#bcdefghij "), ("fault", "\xff")]),
-    (b"- a\n#bcdefghij \xc3#c", [("indicator", "-"), ("plain", "a"), ("comment", "#bcdefghij "), ("fault", "\xc3")]),
-    (b"\xff\xfe-\0 \0\xe9\0\n\0", [("indicator", "-"), ("plain", "\xc3\xa9")]),
-    (b"\xff\xfe#\0\x00\xd8a\0", [("comment", "#"), ("fault", "\xef\xbf\xbd")]),
-    (b"- |\r\n a\r\n", [("indicator", "-"), ("literal", "| a")]),
-    (b"%YAML\n", [("fault", "")]),
-    (b"{a: 1\n---\n,b", [("flow", "{"), ("key", "a"), ("indicator", ":"), ("plain", "1"), ("document", "---"), ("flow", ","), ("plain", "b")]),
+    (b"a: 1 # b\n", ["key a", "indicator :", "plain 1", "comment # b"]),
+    (b'- \'a\'\n- "b"\n', ["indicator -", "quoted 'a'", "indicator -", 'quoted "b"']),
+    (b"&a !!b c: *d", ["anchor &a", "tag !!b", "key c", "indicator :", "alias *d"]),
+    (b"[a, {b: c, d}]", ["flow [", "plain a", "flow ,{", "key b", "indicator :", "plain c", "flow ,", "key d", "flow }]"]),
+    (b"? a b\n: - c", ["indicator ?", "key a b", "indicator :-", "plain c"]),
+    (b"? - a\n: b", ["indicator ?-", "plain a", "indicator :", "plain b"]),
+    (b"|1- # a\n b\n # c\n#d", ["literal |1- ", "comment # a", "literal \n b\n # c\n", "comment #d"]),
+    (b"a: >\n b\nc: |\n", ["key a", "indicator :", "literal >\n b\n", "key c", "indicator :", "literal |\n"]),
+    (b"%YAML 1.1 #a\n--- #b\n...\n", ["directive %YAML 1.1", "comment #a", "document ---", "comment #b", "document ..."]),
+    (b"#a\nb: c: d #e", ["comment #a", "key b", "indicator :", "plain c", "fault :"]),
+    (b"- #a\n 'b", ["indicator -", "comment #a", "fault "]),
+    (b"- a\n#bcdefghij \xff#c", ["indicator -", "plain a", "comment #bcdefghij ", "fault \xff"]),
+    (b"- a\n#bcdefghij \xc3#c", ["indicator -", "plain a", "comment #bcdefghij ", "fault \xc3"]),
+    (b"\xff\xfe-\0 \0\xe9\0\n\0", ["indicator -", "plain \xc3\xa9"]),
+    (b"\xff\xfe#\0\0\xd8a\0", ["comment #", "fault \xef\xbf\xbd"]),
+    (b"- |\r\n a\r\n", ["indicator -", "literal | a"]),
+    (b"%YAML\n", ["fault "]),
+    (b"{a: 1\n---\n,b", ["flow {", "key a", "indicator :", "plain 1", "document ---", "flow ,", "plain b"]),
 ]
 
 
@@ -158,7 +173,7 @@ def try_messages(lint):
             (["-w", "1x", "clean"], 2, "", "usage: lint [-w WIDTH] FILE ..\n"),
             (["none"], 2, "", "lint: none: No such file or directory\n"),
             (["folder"], 2, "", "lint: folder: Is a directory\n"),
-            (["none", "no key", "empty keys"], 2, 'empty keys:2:3: duplicate key "", first at line 1\n', "lint: none: No such file or directory\n"),
+            (["none", "no key", "not open"], 2, f"not open:3:1: {SAME_A}\n", "lint: none: No such file or directory\n"),
         ]
         for words, *wanted in statuses:
             done = call(room, [lint, *words])
@@ -166,7 +181,13 @@ def try_messages(lint):
             if found != wanted:
                 print(f"uses: lint {words}: {found}")
                 wrong += 1
-    count = len(LINTS) + len(statuses)
+    with open(os.path.join(USES, "lint", "README.md"), encoding="utf-8") as text:
+        shown = "".join(line[4:] for line in text if line.startswith("    uses/lint/mistakes.yaml:"))
+    done = call(os.path.dirname(USES), [lint, "uses/lint/mistakes.yaml"])
+    if (done.stdout.decode(), done.returncode) != (shown, 1):
+        print(f"uses: lint: the README shows {shown}, printed is {done.stdout.decode()}")
+        wrong += 1
+    count = len(LINTS) + len(statuses) + 1
     print(f"uses: lint: {count} outputs compared, {wrong} wrong")
     return not wrong
 
@@ -178,7 +199,7 @@ def place(mark):
 
 
 def fault_message(line):
-    """What lint prints of a fault of the vectors; without the place when that is an offset."""
+    """What both programs print of a fault of the vectors; without the place when the vectors have only an offset."""
     words = line.split(" ", 4)
     if words[1] == "reader":
         return f": {words[4]} (byte {int(words[2]) + 1} of the file)"
@@ -336,8 +357,9 @@ def shown_text(data):
 
 def pieces_wrong(highlight, room, row):
     data, wanted = row
-    wanted = [(name, text.encode("latin-1")) for name, text in wanted]
-    status = 1 if wanted[-1:] and "fault" in dict(wanted) else 0
+    pairs = [piece.split(" ", 1) for piece in wanted]
+    wanted = [(name, text.encode("latin-1")) for name, text in pairs]
+    status = 1 if "fault" in dict(wanted) else 0
     name = write_files(room, [data])[0]
     page, terminal = call(room, [highlight, "--html", name]), call(room, [highlight, name])
     on_page, shown = coloured(Page(page.stdout).texts[0]), coloured(terminal_pieces(terminal.stdout), ["plain"])
@@ -348,35 +370,46 @@ def pieces_wrong(highlight, room, row):
     return True
 
 
+def file_wrong(highlight, name):
+    """Whether a file of uses/ is shown with other bytes."""
+    with open(os.path.join(USES, name), "rb") as text:
+        data = text.read()
+    page, terminal = call(USES, [highlight, "--html", name]), call(USES, [highlight, name])
+    return joined(Page(page.stdout).texts[0]) != data or joined(terminal_pieces(terminal.stdout)) != data
+
+
 def try_pieces(highlight):
+    files = ["highlight/page.yaml", "lint/mistakes.yaml"]
+    wrong = sum(file_wrong(highlight, name) for name in files)
     with tempfile.TemporaryDirectory() as room:
-        wrong = sum(pieces_wrong(highlight, room, row) for row in PIECES)
+        wrong += sum(pieces_wrong(highlight, room, row) for row in PIECES)
         write_files(room, [b"<&>\"'\r\n"])
         page = call(room, [highlight, "--html", "0.yaml"]).stdout
         wrong += b"&lt;&amp;&gt;&quot;'</span>\r\n</span>" not in page or not page.startswith(b"<!DOCTYPE html>\n")
         done = call(room, [highlight, "none", "0.yaml"])
         wrong += (done.returncode, done.stderr[:17]) != (2, b"highlight: none: ") or done.stdout != b"<&>\"'\r\n"
-    print(f"uses: highlight: {len(PIECES) + 2} inputs with their colours compared, {wrong} wrong")
+    print(f"uses: highlight: {len(PIECES) + len(files) + 2} outputs compared, {wrong} wrong")
     return not wrong
+
+
+def scalar_classes(style, before):
+    """The classes that a scalar may have after the token that stands before it and its anchor and tag."""
+    classes = SCALARS[style]
+    if before == "KEY":
+        return ["key", *classes[1:]]
+    return classes if before in ("VALUE", "BLOCK-ENTRY") else ["key", *classes]
 
 
 def token_classes(lines):
     """Where each token with a length starts and ends, and the classes that it may have."""
-    names = {"VERSION-DIRECTIVE": "directive", "TAG-DIRECTIVE": "directive", "DOCUMENT-START": "document", "DOCUMENT-END": "document"}
-    names |= {"BLOCK-ENTRY": "indicator", "KEY": "indicator", "VALUE": "indicator", "ALIAS": "alias", "ANCHOR": "anchor", "TAG": "tag"}
-    styles = {"plain": ["plain"], "single": ["quoted"], "double": ["quoted"], "literal": ["literal", "comment"], "folded": ["literal", "comment"]}
     before = ""
     for line in lines:
         kind, *words = line.split(" ")
         start, end = (int(word.split(":")[0]) for word in words[:2])
-        allowed = [names.get(kind, "flow")]
-        if kind == "SCALAR":
-            comment = styles[words[2]][1:]
-            allowed = ["key", *comment] if before == "KEY" else styles[words[2]] + ["key"] * (before not in ("VALUE", "BLOCK-ENTRY"))
+        if start < end:
+            yield start, end, scalar_classes(words[2], before) if kind == "SCALAR" else [TOKENS.get(kind, "flow")]
         if kind not in ("ANCHOR", "TAG"):
             before = kind
-        if start < end:
-            yield start, end, allowed
 
 
 def fault_place(line, data):
@@ -419,12 +452,6 @@ def classes_wrong(pieces, data, lines):
     return None
 
 
-def same_fault(told, wanted):
-    """Whether highlight tells of a fault what lint should, without where the context starts and without the byte."""
-    wanted_text = re.sub(r" (that starts at \d+:\d+|\(byte \d+ of the file\))$", "", wanted[1])
-    return told[0] == wanted[0] and told[1].endswith(wanted_text)
-
-
 def batch_wrong(highlight, room, batch):
     """What is wrong with the page and the terminal's output for a batch of inputs, each with its name and its lines."""
     names = [name for name, _, _ in batch]
@@ -434,8 +461,9 @@ def batch_wrong(highlight, room, batch):
     if joined(terminal_pieces(terminal.stdout)) != b"".join(shown_text(data) for _, data, _ in batch):
         bad.append(f"the terminal's output is another text: {names}")
     told = [line.split(":", 1) for line in terminal.stderr.decode().split("\n")[:-1]]
-    wanted = [[name, fault_message(lines[-1])] for name, _, lines in batch if lines[-1].startswith("FAULT")]
-    if len(told) != len(wanted) or any(not same_fault(*pair) for pair in zip(told, wanted)):
+    wanted = [(name, fault_message(lines[-1])) for name, _, lines in batch if lines[-1].startswith("FAULT")]
+    same = all(one[0] == name and one[1].endswith(text) for one, (name, text) in zip(told, wanted))
+    if len(told) != len(wanted) or not same:
         bad.append(f"other faults are told: {names}")
     if (terminal.returncode, page.returncode) != (faulty, faulty):
         bad.append(f"status {terminal.returncode} and {page.returncode}: {names}")

@@ -69,14 +69,16 @@ fn utf16(input: &[u8], is_big: bool) -> Vec<u8> {
 /// The problem of a fault. That of a reader fault stands at the end of the text before it.
 fn problem_of(fault: &Fault, front: &[u8]) -> Problem {
     match fault {
-        Fault::Scanner { problem, mark, context, .. } => {
-            let context = context.as_ref().map_or(String::new(), |context| format!(", {context}"));
+        Fault::Scanner { problem, mark, context, context_mark } => {
+            let start = format!("that starts at {}:{}", context_mark.line + 1, context_mark.column + 1);
+            let context = context.as_ref().map_or(String::new(), |context| format!(", {context} {start}"));
             let message = format!("{problem}{context}");
             Problem { at: mark.index as usize, line: mark.line + 1, column: mark.column + 1, message }
         }
-        Fault::Reader { problem, .. } => {
+        Fault::Reader { problem, offset, .. } => {
             let (line, column) = place(front);
-            Problem { at: front.len(), line, column, message: problem.clone() }
+            let message = format!("{problem} (byte {} of the file)", offset + 1);
+            Problem { at: front.len(), line, column, message }
         }
         Fault::Memory => Problem { at: 0, line: 1, column: 1, message: fault.to_string() },
     }
