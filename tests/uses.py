@@ -423,32 +423,47 @@ def fault_place(line, data):
     return len(front.decode("utf-8", "ignore").encode())
 
 
-def classes_wrong(pieces, data, lines):
-    """What is wrong with the classes of a text's bytes on the page, by the tokens that the vectors name."""
-    text, mark = joined(pieces), 3 * data.startswith(b"\xef\xbb\xbf")
-    classes = [name for name, part in pieces for _ in part][mark:]
-    text, at, marked = text[mark:], 0, None
+def allowed_classes(text, tokens):
+    """The classes that each byte may have: those of its token; in gaps that of a comment from a # on, and otherwise none."""
+    allowed, is_comment = [None] * len(text), False
+    for start, end, classes in tokens:
+        allowed[start:end] = [classes] * (end - start)
+    for found in BREAK.finditer(text):
+        allowed[found.start() : found.end()] = [[""]] * len(found[0])
+    for at, classes in enumerate(allowed):
+        is_comment = classes is None and (is_comment or text[at] == ord("#"))
+        if classes is None:
+            allowed[at] = ["comment" if is_comment else ""]
+    return allowed
+
+
+def fault_mark(pieces):
+    """The index at which a fault is marked, or None."""
+    at = 0
     for name, part in pieces:
-        if name == "fault" and marked is None:
-            marked = at - mark
+        if name == "fault":
+            return at
         at += len(part)
+    return None
+
+
+def classes_wrong(pieces, data, lines):
+    """What is wrong with the classes of a text's bytes on the page, by the tokens and the fault that the vectors name."""
+    dropped = 3 * data.startswith(b"\xef\xbb\xbf")
+    text, marked = joined(pieces)[dropped:], fault_mark(pieces)
+    classes = [name for name, part in pieces for _ in part][dropped:]
     fault = lines.pop() if lines[-1].startswith("FAULT") else None
     if (fault is None) != (marked is None):
         return "a fault is not marked, or a mark has no fault"
-    if fault and fault_place(fault, data) not in (None, marked):
+    if fault and fault_place(fault, data) not in (None, marked - dropped):
         return f"the fault is marked at {marked}"
-    covered = [None] * len(text)
-    for start, end, allowed in token_classes(lines):
-        covered[start:end] = [allowed] * (end - start)
-    for found in BREAK.finditer(text):
-        covered[found.start() : found.end()] = [[""]] * len(found[0])
-    last = len(text) if marked is None else marked
-    for at, (name, allowed) in enumerate(zip(classes, covered)):
-        free = ["comment"] if at < last and (text[at : at + 1] not in b" \t\xef\xbb\xbf") else ["", "comment"]
-        if at < last and fault is None and name not in (allowed or free) or at > last and name not in ("", "fault"):
-            return f"byte {at} is {name or 'plain'}, not {allowed or free}"
-        if at < last and fault and allowed and name not in allowed:
-            return f"byte {at} is {name or 'plain'}, not {allowed}"
+    tokens = list(token_classes(lines))
+    known = max([0, *(end for _, end, _ in tokens)]) if fault else len(text)
+    for at, allowed in enumerate(allowed_classes(text, tokens)[:known]):
+        if classes[at] not in allowed:
+            return f"byte {at} is {classes[at] or 'plain'}, not {allowed}"
+    if fault and set(classes[marked - dropped :]) - {"", "fault"}:
+        return "there are colours after the fault"
     return None
 
 

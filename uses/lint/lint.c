@@ -523,12 +523,13 @@ static int lint(const char *name, uint64_t width) {
         return fail(name, strerror(errno));
     errno = 0;
     bool has_room = read_all(&f, from);
-    int status, problem = ferror(from) ? errno : 0;
+    bool is_broken = ferror(from);
+    int status, reason = errno;
     fclose(from);
     if (!has_room)
         status = fail(name, "out of memory");
-    else if (problem)
-        status = fail(name, strerror(problem));
+    else if (is_broken)
+        status = fail(name, strerror(reason));
     else
         status = lint_read(&f, name, width);
     free_file(&f);
