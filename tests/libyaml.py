@@ -1,0 +1,336 @@
+#!/usr/bin/env python3
+"""Builds the libyaml of uses/libyaml, and compares it with libyaml's own library: libyaml.py [PROGRAM].
+
+Both have the same name and export the same functions. A small C program (uses/libyaml/list.c) lists tokens, events and the nodes
+of documents with marks, texts, styles and flags, and the error with its words and marks. It is run with either library on the
+worked rows, on all inputs of vectors/scan.txt.gz, on texts of bench/realistic.py and on the YAML files of the repository. The
+lists are the same, but for this:
+
+- The index of a mark counts bytes of UTF-8, and libyaml's counts characters. The line and the column are the same.
+- libyaml writes `hexdecimal` where this writes `hexadecimal`.
+- A fault of the reader comes late. libyaml decodes a block of the input at once and tells a fault in it before all tokens of that
+  block. Here the tokens in front of it come first. They are a beginning of what libyaml makes of the text in front of the fault;
+  then comes the same fault, or the error that libyaml finds in that text.
+- The input is read to its end before the first token. So it does not matter in what pieces it is read, and if a read fails, that
+  is the first thing told.
+
+PyYAML's C loader is run over either library: the objects are the same, and so are the words of the errors, but for the same
+differences. Each request for memory is refused in turn. Valgrind looks at a hundred inputs. What needs a C compiler, libyaml-dev,
+a PyYAML that stands on libyaml's shared library, or valgrind is skipped if there is none.
+"""
+
+import codecs
+import gzip
+import itertools
+import os
+import re
+import shutil
+import subprocess
+import sys
+import tempfile
+from concurrent.futures import ThreadPoolExecutor
+
+HERE = os.path.dirname(os.path.abspath(__file__))
+TOP = os.path.dirname(HERE)
+USE = os.path.join(TOP, "uses", "libyaml")
+OURS = os.path.join(USE, "out")
+sys.path.insert(0, os.path.join(HERE, "lib"))
+sys.path.insert(0, os.path.join(TOP, "bench"))
+sys.dont_write_bytecode = True
+from realistic import realistic
+from worked import rows
+
+STRICT = ["-std=c11", "-Wall", "-Wextra", "-pedantic", "-Werror", "-O2"]
+SETTINGS = ["any", "utf8", "utf16le", "utf16be"]
+CODECS = [None, "utf-8", "utf-16-le", "utf-16-be"]
+BYTE_ORDER_MARKS = [(b"\xff\xfe", "utf-16-le"), (b"\xfe\xff", "utf-16-be"), (b"\xef\xbb\xbf", "utf-8")]
+KINDS = ["tokens", "events", "nodes"]
+READER_FAULT = "ERROR 2 "
+SMALL = [
+    b"%YAML 1.1\n%TAG ! x:\n---\n- &a a: [\xc3\xa9, \"b\"]\n- !b {c: *a, d: !!str e}\n- |\n  x\n...\n--- f\n",
+    b'a: "\\xZ"\n',
+    b"a: [b, c\n",
+    b"- a\n- b\n- \xff\n",
+    b"? " * 40,
+]
+
+# Loads each question's bytes by PyYAML's C loader: a line with the objects, and one with the error.
+LOAD = """
+import io, sys, yaml, yaml._yaml
+if not any("libyaml-0.so.2" in line and (not sys.argv[1] or sys.argv[1] in line) for line in open("/proc/self/maps")):
+    sys.exit(3)
+def load(data, way):
+    objects, error = [], "-"
+    given = [data, io.BytesIO(data), data.decode("utf-8", "replace")][way]
+    try:
+        for one in yaml.load_all(given, Loader=yaml.CSafeLoader):
+            objects.append(repr(one))
+    except Exception as fault:
+        error = type(fault).__name__ + ": " + str(fault)
+    print(ascii(objects))
+    print(ascii(error))
+while line := sys.stdin.buffer.readline():
+    size, way = (int(word) for word in line.split())
+    load(sys.stdin.buffer.read(size), way)
+"""
+
+
+def output(words, **more):
+    return subprocess.run(words, check=True, capture_output=True, text=True, **more).stdout
+
+
+def has_libyaml():
+    """Whether libyaml's static library, its shared one and its header are there."""
+    paths = [output(["cc", "-print-file-name=" + name]).strip() for name in ("libyaml.a", "libyaml.so")]
+    told = subprocess.run(["cc", "-fsyntax-only", "-x", "c", "-"], input=b"#include <yaml.h>\n", capture_output=True)
+    return all(map(os.path.isfile, paths)) and told.returncode == 0
+
+
+def environment(library):
+    return {**os.environ, "LD_LIBRARY_PATH": library, "PYTHONHASHSEED": "0", "PYTHONIOENCODING": "utf-8"}
+
+
+def vectors():
+    """The setting and the input of each row of the vectors, and of each worked row."""
+    for words, data, _ in rows():
+        yield SETTINGS.index(words[1]), data
+    with gzip.open(os.path.join(HERE, "vectors", "scan.txt.gz"), "rt", encoding="ascii") as lines:
+        for line in lines:
+            words, data, _ = line.split("\t")
+            yield SETTINGS.index(words.split(" ")[1]), bytes.fromhex(data.strip("-"))
+
+
+def long_texts():
+    """Texts of more than one of libyaml's blocks, of which some have a fault that its reader or its scanner finds late."""
+    for seed in range(4):
+        text = realistic(60_000, seed).encode()
+        yield 0, text
+        yield 0, text.replace(b"alpha", b"\xce\xb1")
+        yield 0, b"\xff\xfe" + text.replace(b"beta", b"\xce\xb2").decode().encode("utf-16-le")
+        yield 3, text.decode().encode("utf-16-be")
+        yield 0, text + b"last: \x01\n"
+        yield 0, text + b"last: @\nvery: \xff\n"
+        yield 2, text.decode().encode("utf-16-le") + b"\x00\xdc"
+
+
+def yaml_files():
+    for folder, folders, names in os.walk(TOP):
+        folders[:] = [name for name in folders if name not in ("out", ".git")]
+        for name in names:
+            if name.endswith((".yaml", ".yml")):
+                with open(os.path.join(folder, name), "rb") as file:
+                    yield 0, file.read()
+
+
+def questions(kind, inputs, chunk=0, fail=0):
+    return b"".join(b"%s %d %d %d %d\n%s" % (kind.encode(), setting, chunk, fail, len(data), data) for setting, data in inputs)
+
+
+def listed(program, library, kind, inputs, chunk=0, fail=0):
+    """What the program lists for each input with the library of that folder, or with libyaml's own if it is empty."""
+    asked = questions(kind, inputs, chunk, fail)
+    told = subprocess.run([program], input=asked, capture_output=True, check=True, env=environment(library), timeout=600)
+    lists = told.stdout.decode("utf-8", "replace").split("\n\n")[:-1]
+    if len(lists) != len(inputs):
+        sys.exit(f"libyaml: {len(lists)} lists for {len(inputs)} inputs")
+    return [text.split("\n") for text in lists]
+
+
+def codec_of(setting, data):
+    """The codec of an input and how many bytes its byte order mark has, which belongs to no text."""
+    if setting:
+        return CODECS[setting], 0
+    return next(((codec, len(mark)) for mark, codec in BYTE_ORDER_MARKS if data.startswith(mark)), ("utf-8", 0))
+
+
+def front_of(setting, data, lines):
+    """The text of an input as far as a list of libyaml's says that it is one, and the bytes of that front."""
+    codec, skipped = codec_of(setting, data)
+    end = int(lines[-1].split(" ")[4]) if lines[-1].startswith(READER_FAULT) else len(data)
+    # a fault may stand inside of a character, of which a part is then left
+    text = codecs.getincrementaldecoder(codec)("ignore").decode(data[skipped:end], False)
+    return text, data[:skipped] + text.encode(codec)
+
+
+def by_characters(lines, text):
+    """The list, with indexes of marks that count characters of the text."""
+    if text.isascii():
+        return lines
+    starts = [byte & 0xC0 != 0x80 for byte in text.encode()]
+    before = list(itertools.accumulate(starts, initial=0))
+    return [re.sub(r"(?<= )(\d+)(?=:\d+:\d+)", lambda index: str(before[int(index[1])]), line) for line in lines]
+
+
+def as_spelled(lines):
+    """The list, with an error's words as libyaml spells them."""
+    return [*lines[:-1], re.sub(r"(?<=; did not find expected )hexadecimal(?= number$)", "hexdecimal", lines[-1])]
+
+
+def is_late_fault(ours, theirs, in_front):
+    """Whether a list is the right one for an input in which libyaml's reader finds a fault, by its list of the text in front."""
+    if ours[-1].startswith(READER_FAULT):
+        taken = ours[:-1]
+        return ours[-1] == theirs[-1] and taken == in_front[: len(taken)] and theirs[:-1] == taken[: len(theirs) - 1]
+    return ours == in_front
+
+
+class Comparison:
+    """The lists of both libraries for many inputs: how many there are of each kind of difference, and which are wrong."""
+
+    def __init__(self, program, kind, inputs):
+        theirs, ours = listed(program, "", kind, inputs), listed(program, OURS, kind, inputs)
+        fronts = [front_of(*one, lines) for one, lines in zip(inputs, theirs)]
+        late = [number for number, lines in enumerate(theirs) if lines[-1].startswith(READER_FAULT)]
+        in_front = dict(zip(late, listed(program, "", kind, [(inputs[n][0], fronts[n][1]) for n in late])))
+        self.kind, self.count, self.seen, self.wrong = kind, len(inputs), dict.fromkeys(["index", "spelling", "late"], 0), []
+        for number, lines in enumerate(ours):
+            counted = by_characters(lines, fronts[number][0])
+            spelled = as_spelled(counted)
+            if spelled == theirs[number]:
+                self.seen["index"] += counted != lines
+                self.seen["spelling"] += spelled != counted
+            elif number in in_front and is_late_fault(spelled, theirs[number], in_front[number]):
+                self.seen["late"] += 1
+            else:
+                self.wrong.append((inputs[number], spelled, theirs[number], in_front.get(number)))
+
+    def tell(self):
+        seen = ", ".join(f"{count} {name}" for name, count in self.seen.items())
+        print(f"libyaml: {self.kind} of {self.count} inputs compared; documented differences: {seen}; {len(self.wrong)} wrong")
+        for given, ours, theirs, in_front in self.wrong[:3]:
+            print(given[0], given[1][:100], *(f"\n  {text[-3:] if text else None}" for text in (ours, theirs, in_front)))
+        return not self.wrong and self.count > 5000 and all(self.seen.values())
+
+
+def exported(path):
+    return [line.split(" ")[2] for line in output(["nm", "-D", "--defined-only", path]).splitlines()]
+
+
+def own_name(path):
+    return re.search(r"SONAME.*\[(.*)\]", output(["readelf", "-d", path]))[1]
+
+
+def try_names(program):
+    stock, made = output(["cc", "-print-file-name=libyaml.so"]).strip(), os.path.join(OURS, "libyaml-0.so.2")
+    names = exported(made)
+    loads = re.search(r"libyaml-0\.so\.2 => (\S+)", output(["ldd", program], env=environment(OURS)))[1]
+    good = names == exported(stock) and own_name(made) == own_name(stock) and loads == made
+    print(f"libyaml: {len(names)} exported names, {'the same' if good else 'OTHERS'} as those of {own_name(stock)}")
+    return good and len(names) > 50
+
+
+def try_lists(program, every):
+    with ThreadPoolExecutor(max_workers=2) as pool:
+        made = list(pool.map(lambda kind: Comparison(program, kind, every if kind == "events" else every[::3]), KINDS))
+    return all([one.tell() for one in made])
+
+
+def try_pieces(program, inputs):
+    """Reads in small pieces make no difference, and a read that fails is told with how much was read before it."""
+    whole = listed(program, OURS, "events", inputs)
+    differ = sum(listed(program, OURS, "events", inputs, chunk) != whole for chunk in (1, 3, 4096))
+    wrong = 0
+    for chunk, fail in [(1, 1), (1, 2), (2, 3), (5, 2)]:
+        long_enough = [one for one in inputs if len(one[1]) > chunk * fail]
+        wanted = [f"ERROR 2 0:0:0 0:0:0 {chunk * (fail - 1)} -1 -; input error"]
+        wrong += sum(lines != wanted for lines in listed(program, OURS, "events", long_enough, chunk, fail))
+    print(f"libyaml: {len(inputs)} inputs read in three sizes of pieces, {differ} sizes differ; reads that fail: {wrong} wrong")
+    return not differ and not wrong and len(inputs) > 100
+
+
+def loading_python():
+    """A Python whose PyYAML stands on libyaml's shared library, or None."""
+    for python in (sys.executable, "/usr/bin/python3"):
+        if shutil.which(python) and subprocess.run([python, "-c", LOAD, ""], input=b"", capture_output=True).returncode == 0:
+            return python
+    return None
+
+
+def loaded(python, library, inputs, way):
+    """The objects and the error that PyYAML's C loader makes of each input."""
+    asked = b"".join(b"%d %d\n%s" % (len(data), way, data) for data in inputs)
+    words = [python, "-c", LOAD, library]
+    told = subprocess.run(words, input=asked, capture_output=True, check=True, env=environment(library), timeout=600)
+    lines = told.stdout.decode("ascii").split("\n")[:-1]
+    pairs = [(objects, error.replace("expected hexadecimal number", "expected hexdecimal number")) for objects, error in zip(lines[::2], lines[1::2])]
+    if len(pairs) != len(inputs):
+        sys.exit(f"libyaml: PyYAML loaded {len(pairs)} of {len(inputs)} inputs")
+    return pairs
+
+
+def is_late_load(ours, theirs, in_front):
+    """The same as is_late_fault, of what PyYAML loads: the objects in front of the fault come first."""
+    return ours == in_front or ours[1] == theirs[1] and in_front[0].startswith(ours[0].rstrip("]"))
+
+
+def try_python(program, every):
+    python = loading_python()
+    if python is None:
+        print("libyaml: PyYAML skipped: none stands on libyaml's shared library")
+        return True
+    inputs = [data for setting, data in every if setting == 0]
+    late = wrong = 0
+    for way, some in enumerate([inputs, inputs[::5], inputs[1::5]]):
+        theirs, ours = loaded(python, "", some, way), loaded(python, OURS, some, way)
+        read = [data.decode("utf-8", "replace").encode() if way == 2 else data for data in some]
+        fronts = [front_of(0, data, lines)[1] for data, lines in zip(read, listed(program, "", "tokens", [(0, data) for data in read]))]
+        for got, wanted, in_front in zip(ours, theirs, loaded(python, "", fronts, min(way, 1))):
+            late += got != wanted and is_late_load(got, wanted, in_front)
+            wrong += got != wanted and not is_late_load(got, wanted, in_front)
+    print(f"libyaml: {len(inputs)} inputs loaded by PyYAML over both; {late} with a late reader fault; {wrong} wrong")
+    return not wrong and len(inputs) > 1000
+
+
+def try_memory(program, refuse, every):
+    good, total = True, dict.fromkeys(KINDS, 0)
+    for data in SMALL:
+        told = [subprocess.run([refuse], input=data, capture_output=True, check=True, env=environment(folder)) for folder in ("", OURS)]
+        theirs, ours = ([line.split(" ") for line in one.stdout.decode().splitlines()] for one in told)
+        for (kind, *counts), (_, *stock) in zip(ours, theirs):
+            requests, wrong, keeping = (int(count) for count in counts)
+            total[kind] += requests
+            # libyaml's own parser and loader do not end each of these well
+            at_most = [0, 0] if kind == "tokens" else [int(count) for count in stock[1:]]
+            if wrong > at_most[0] or keeping > at_most[1] or not requests:
+                good = False
+                print(f"libyaml: {data[:40]}: {kind}: of {requests} refusals {wrong} end wrongly and {keeping} keep memory")
+    print("libyaml: requests for memory refused: " + ", ".join(f"{count} for {kind}" for kind, count in total.items()))
+    if shutil.which("valgrind") is None:
+        print("libyaml: leaks skipped: no valgrind")
+        return good
+    asked = b"".join(questions(kind, every[number::300][:100], chunk) for number, (kind, chunk) in enumerate([*zip(KINDS, (0, 0, 7))]))
+    words = ["valgrind", "-q", "--error-exitcode=99", "--leak-check=full", "--show-leak-kinds=all", "--errors-for-leak-kinds=all", program]
+    told = subprocess.run(words, input=asked, capture_output=True, env=environment(OURS), timeout=600)
+    print(f"libyaml: a hundred inputs of each kind under valgrind, {'no leak and no wrong access' if told.returncode == 0 else 'WRONG'}")
+    if told.returncode:
+        print(told.stderr.decode()[:2000])
+    return good and told.returncode == 0
+
+
+def build(room, name):
+    path = os.path.join(room, name)
+    subprocess.run(["cc", *STRICT, os.path.join(USE, name + ".c"), "-lyaml", "-o", path], check=True)
+    return path
+
+
+def main():
+    if shutil.which("cc") is None or not has_libyaml():
+        print("libyaml: skipped: no C compiler, or no libyaml-dev")
+        return 0
+    subprocess.run([os.path.join(TOP, "ffi", "build")], check=True)
+    subprocess.run([os.path.join(USE, "build")], check=True)
+    every = [*yaml_files(), *long_texts(), *vectors()]
+    with tempfile.TemporaryDirectory() as room:
+        program, refuse = build(room, "list"), build(room, "refuse")
+        good = [
+            try_names(program),
+            try_lists(program, every),
+            try_pieces(program, every[::20]),
+            try_python(program, every[::4]),
+            try_memory(program, refuse, every),
+        ]
+    return 0 if all(good) else 1
+
+
+if __name__ == "__main__":
+    sys.exit(main())
