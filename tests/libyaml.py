@@ -143,13 +143,21 @@ def codec_of(setting, data):
     return next(((codec, len(mark)) for mark, codec in BYTE_ORDER_MARKS if data.startswith(mark)), ("utf-8", 0))
 
 
-def front_of(setting, data, lines):
-    """The text of an input as far as a list of libyaml's says that it is one, and the bytes of that front."""
-    codec, skipped = codec_of(setting, data)
-    end = int(lines[-1].split(" ")[4]) if lines[-1].startswith(READER_FAULT) else len(data)
-    # a fault may stand inside of a character, of which a part is then left
-    text = codecs.getincrementaldecoder(codec)("ignore").decode(data[skipped:end], False)
-    return text, data[:skipped] + text.encode(codec)
+class Front:
+    """What stands in front of a reader's fault: its text, its bytes, and the input with as many bytes of a plain scalar there."""
+
+    def __init__(self, setting, data, offset):
+        codec, skipped = codec_of(setting, data)
+        # the fault may stand inside of a character, of which a part is then left
+        self.text = codecs.getincrementaldecoder(codec)("ignore").decode(data[skipped:offset], False)
+        self.data = data[:skipped] + self.text.encode(codec)
+        count = (len(self.data) - skipped) // len("x".encode(codec))
+        self.probe = data[:skipped] + ("x" * count).encode(codec) + data[len(self.data) :]
+
+
+def fault_offset(*lists):
+    """Where the reader's fault is of which one of the lists tells, or None."""
+    return next((int(lines[-1].split(" ")[4]) for lines in lists if lines[-1].startswith(READER_FAULT)), None)
 
 
 def by_characters(lines, text):
@@ -166,12 +174,10 @@ def as_spelled(lines):
     return [*lines[:-1], re.sub(r"(?<=; did not find expected )hexadecimal(?= number$)", "hexdecimal", lines[-1])]
 
 
-def is_late_fault(ours, theirs, in_front):
-    """Whether a list is the right one for an input in which libyaml's reader finds a fault, by its list of the text in front."""
-    if ours[-1].startswith(READER_FAULT):
-        taken = ours[:-1]
-        return ours[-1] == theirs[-1] and taken == in_front[: len(taken)] and theirs[:-1] == taken[: len(theirs) - 1]
-    return ours == in_front
+def is_late(lines, in_front, fault):
+    """Whether a list is right for an input with a reader's fault: that of the text in front, or a beginning of it and the fault."""
+    taken = lines[:-1]
+    return lines == in_front or lines[-1] == fault and taken == in_front[: len(taken)]
 
 
 class Comparison:
@@ -179,26 +185,26 @@ class Comparison:
 
     def __init__(self, program, kind, inputs):
         theirs, ours = listed(program, "", kind, inputs), listed(program, OURS, kind, inputs)
-        fronts = [front_of(*one, lines) for one, lines in zip(inputs, theirs)]
-        late = [number for number, lines in enumerate(theirs) if lines[-1].startswith(READER_FAULT)]
-        in_front = dict(zip(late, listed(program, "", kind, [(inputs[n][0], fronts[n][1]) for n in late])))
+        fronts = [Front(*one, fault_offset(*lists)) for one, *lists in zip(inputs, ours, theirs)]
+        in_front = listed(program, "", kind, [(setting, front.data) for (setting, _), front in zip(inputs, fronts)])
+        faults = listed(program, "", "tokens", [(setting, front.probe) for (setting, _), front in zip(inputs, fronts)])
         self.kind, self.count, self.seen, self.wrong = kind, len(inputs), dict.fromkeys(["index", "spelling", "late"], 0), []
-        for number, lines in enumerate(ours):
-            counted = by_characters(lines, fronts[number][0])
+        for given, own, their, front, prefix, fault in zip(inputs, ours, theirs, fronts, in_front, faults):
+            counted = by_characters(own, front.text)
             spelled = as_spelled(counted)
-            if spelled == theirs[number]:
-                self.seen["index"] += counted != lines
+            if spelled == their:
+                self.seen["index"] += counted != own
                 self.seen["spelling"] += spelled != counted
-            elif number in in_front and is_late_fault(spelled, theirs[number], in_front[number]):
+            elif fault_offset(own, their) is not None and all(is_late(one, prefix, fault[-1]) for one in (spelled, their)):
                 self.seen["late"] += 1
             else:
-                self.wrong.append((inputs[number], spelled, theirs[number], in_front.get(number)))
+                self.wrong.append((given, spelled, their, prefix, fault))
 
     def tell(self):
         seen = ", ".join(f"{count} {name}" for name, count in self.seen.items())
         print(f"libyaml: {self.kind} of {self.count} inputs compared; documented differences: {seen}; {len(self.wrong)} wrong")
-        for given, ours, theirs, in_front in self.wrong[:3]:
-            print(given[0], given[1][:100], *(f"\n  {text[-3:] if text else None}" for text in (ours, theirs, in_front)))
+        for (setting, data), *lists in self.wrong[:3]:
+            print(SETTINGS[setting], data[:100], *(f"\n  {str(lines[-3:])[:400]}" for lines in lists))
         return not self.wrong and self.count > 5000 and all(self.seen.values())
 
 
@@ -258,9 +264,27 @@ def loaded(python, library, inputs, way):
     return pairs
 
 
-def is_late_load(ours, theirs, in_front):
-    """The same as is_late_fault, of what PyYAML loads: the objects in front of the fault come first."""
-    return ours == in_front or ours[1] == theirs[1] and in_front[0].startswith(ours[0].rstrip("]"))
+def is_late_load(pair, in_front, fault):
+    """The same as is_late, of what PyYAML loads."""
+    return pair == in_front or pair[1] == fault and in_front[0].startswith(pair[0].rstrip("]"))
+
+
+def compare_loads(python, program, inputs, way):
+    """How many inputs are loaded differently over both because of a reader's fault, and how many for no good reason."""
+    theirs, ours = loaded(python, "", inputs, way), loaded(python, OURS, inputs, way)
+    read = [(0, data.decode("utf-8", "replace").encode() if way == 2 else data) for data in inputs]
+    offsets = [fault_offset(*lists) for lists in zip(*(listed(program, library, "tokens", read) for library in (OURS, "")))]
+    fronts = [Front(*one, offset) for one, offset in zip(read, offsets)]
+    # a text has been encoded anew, and its front and its probe are bytes
+    in_front = loaded(python, "", [front.data for front in fronts], min(way, 1))
+    faults = loaded(python, "", [front.probe for front in fronts], min(way, 1))
+    late, wrong = 0, []
+    for data, own, their, offset, prefix, fault in zip(inputs, ours, theirs, offsets, in_front, faults):
+        if own != their and offset is not None and all(is_late_load(one, prefix, fault[1]) for one in (own, their)):
+            late += 1
+        elif own != their:
+            wrong.append((data[:100], own, their))
+    return late, wrong
 
 
 def try_python(program, every):
@@ -269,16 +293,14 @@ def try_python(program, every):
         print("libyaml: PyYAML skipped: none stands on libyaml's shared library")
         return True
     inputs = [data for setting, data in every if setting == 0]
-    late = wrong = 0
+    late, wrong = 0, []
     for way, some in enumerate([inputs, inputs[::5], inputs[1::5]]):
-        theirs, ours = loaded(python, "", some, way), loaded(python, OURS, some, way)
-        read = [data.decode("utf-8", "replace").encode() if way == 2 else data for data in some]
-        fronts = [front_of(0, data, lines)[1] for data, lines in zip(read, listed(program, "", "tokens", [(0, data) for data in read]))]
-        for got, wanted, in_front in zip(ours, theirs, loaded(python, "", fronts, min(way, 1))):
-            late += got != wanted and is_late_load(got, wanted, in_front)
-            wrong += got != wanted and not is_late_load(got, wanted, in_front)
-    print(f"libyaml: {len(inputs)} inputs loaded by PyYAML over both; {late} with a late reader fault; {wrong} wrong")
-    return not wrong and len(inputs) > 1000
+        more = compare_loads(python, program, some, way)
+        late, wrong = late + more[0], wrong + more[1]
+    print(f"libyaml: {len(inputs)} inputs loaded by PyYAML over both; {late} with a late reader fault; {len(wrong)} wrong")
+    for one in wrong[:3]:
+        print(*one, sep="\n  ")
+    return not wrong and late > 0 and len(inputs) > 1000
 
 
 def try_memory(program, refuse, every):

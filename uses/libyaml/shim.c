@@ -181,6 +181,24 @@ static yaml_char_t *copy_of(const uint8_t *text, uint64_t len) {
     return copy;
 }
 
+/* Texts of C end at their first 0, so the suffix of `!%00` is empty for libyaml, and it makes the tag of a single `!` of it: an
+ * empty handle and the suffix `!`. */
+static int is_single_mark(const struct yaml_c_token *record, const uint8_t *suffix) {
+    return record->first_len == 1 && record->second_len > 0 && suffix[0] == 0;
+}
+
+static int fill_tag(yaml_token_t *token, const struct yaml_c_token *record, const uint8_t *handle) {
+    const uint8_t *suffix = handle + record->first_len;
+    if (is_single_mark(record, suffix)) {
+        token->data.tag.handle = copy_of(handle, 0);
+        token->data.tag.suffix = copy_of(handle, 1);
+    } else {
+        token->data.tag.handle = copy_of(handle, record->first_len);
+        token->data.tag.suffix = copy_of(suffix, record->second_len);
+    }
+    return token->data.tag.handle && token->data.tag.suffix;
+}
+
 /* Fills in the texts and numbers of a token, and returns whether there was memory for them. */
 static int fill_data(yaml_token_t *token, const struct yaml_c_token *record, const uint8_t *texts) {
     const uint8_t *first = texts + record->text_at, *second = first + record->first_len;
@@ -197,9 +215,7 @@ static int fill_data(yaml_token_t *token, const struct yaml_c_token *record, con
         token->data.tag_directive.prefix = copy_of(second, record->second_len);
         return token->data.tag_directive.handle && token->data.tag_directive.prefix;
     case YAML_TAG_TOKEN:
-        token->data.tag.handle = copy_of(first, record->first_len);
-        token->data.tag.suffix = copy_of(second, record->second_len);
-        return token->data.tag.handle && token->data.tag.suffix;
+        return fill_tag(token, record, first);
     case YAML_ALIAS_TOKEN:
         return (token->data.alias.value = copy_of(first, record->first_len)) != NULL;
     case YAML_ANCHOR_TOKEN:
