@@ -7,12 +7,13 @@ worked rows, on all inputs of vectors/scan.txt.gz, on texts of bench/realistic.p
 lists are the same, but for this:
 
 - The index of a mark counts bytes of UTF-8, and libyaml's counts characters. The line and the column are the same.
-- libyaml writes `hexdecimal` where this writes `hexadecimal`.
-- A fault of the reader comes late. libyaml decodes a block of the input at once and tells a fault in it before all tokens of that
-  block. Here the tokens in front of it come first. They are a beginning of what libyaml makes of the text in front of the fault;
-  then comes the same fault, or the error that libyaml finds in that text.
-- The input is read to its end before the first token. So it does not matter in what pieces it is read, and if a read fails, that
-  is the first thing told.
+- The limit of a simple key, 1,024, is of bytes too. A key that has more bytes, and no more characters, is refused.
+- The error for a wrong escape has `hexadecimal`, which libyaml spells `hexdecimal`.
+- A fault of the reader is told at another token. libyaml decodes a block of the input at once, and tells a fault in it before all
+  tokens of that block. Here most tokens in front of the fault come first. Either list is a beginning of what libyaml makes of the
+  text in front of the fault, and then the same fault; or it is all that libyaml makes of that text, if that ends with an error.
+- The input is read to its end before the first token. So it makes no difference in what pieces it is read, and a read that fails
+  is told before all tokens.
 
 PyYAML's C loader is run over either library: the objects are the same, and so are the words of the errors, but for the same
 differences. Each request for memory is refused in turn. Valgrind looks at a hundred inputs. What needs a C compiler, libyaml-dev,
@@ -28,7 +29,6 @@ import shutil
 import subprocess
 import sys
 import tempfile
-from concurrent.futures import ThreadPoolExecutor
 
 HERE = os.path.dirname(os.path.abspath(__file__))
 TOP = os.path.dirname(HERE)
@@ -45,7 +45,9 @@ SETTINGS = ["any", "utf8", "utf16le", "utf16be"]
 CODECS = [None, "utf-8", "utf-16-le", "utf-16-be"]
 BYTE_ORDER_MARKS = [(b"\xff\xfe", "utf-16-le"), (b"\xfe\xff", "utf-16-be"), (b"\xef\xbb\xbf", "utf-8")]
 KINDS = ["tokens", "events", "nodes"]
+DIFFERENCES = ["index", "limit", "spelling", "late"]
 READER_FAULT = "ERROR 2 "
+NO_ERROR = "'-'"
 SMALL = [
     b"%YAML 1.1\n%TAG ! x:\n---\n- &a a: [\xc3\xa9, \"b\"]\n- !b {c: *a, d: !!str e}\n- |\n  x\n...\n--- f\n",
     b'a: "\\xZ"\n',
@@ -175,9 +177,20 @@ def as_spelled(lines):
 
 
 def is_late(lines, in_front, fault):
-    """Whether a list is right for an input with a reader's fault: that of the text in front, or a beginning of it and the fault."""
-    taken = lines[:-1]
-    return lines == in_front or lines[-1] == fault and taken == in_front[: len(taken)]
+    """Whether a list is right for an input with a reader's fault, by the list of the text in front of it."""
+    if lines[-1] == fault:
+        return lines[:-1] == in_front[: len(lines) - 1]
+    return lines == in_front and lines[-1].startswith("ERROR ")
+
+
+def outline(lines):
+    """Of each line its first word and the indexes of its marks, and of an error its words as well."""
+    return [(line.split(" ")[0], re.findall(r"(\d+):\d+:\d+", line), line.partition("; ")[2]) for line in lines]
+
+
+def widened(text):
+    """The text, with as many letters in place of a character as it has bytes."""
+    return b"".join(b"x" * len(one.encode()) if ord(one) > 127 else one.encode() for one in text)
 
 
 class Comparison:
@@ -188,24 +201,34 @@ class Comparison:
         fronts = [Front(*one, fault_offset(*lists)) for one, *lists in zip(inputs, ours, theirs)]
         in_front = listed(program, "", kind, [(setting, front.data) for (setting, _), front in zip(inputs, fronts)])
         faults = listed(program, "", "tokens", [(setting, front.probe) for (setting, _), front in zip(inputs, fronts)])
-        self.kind, self.count, self.seen, self.wrong = kind, len(inputs), dict.fromkeys(["index", "spelling", "late"], 0), []
-        for given, own, their, front, prefix, fault in zip(inputs, ours, theirs, fronts, in_front, faults):
-            counted = by_characters(own, front.text)
-            spelled = as_spelled(counted)
-            if spelled == their:
-                self.seen["index"] += counted != own
-                self.seen["spelling"] += spelled != counted
-            elif fault_offset(own, their) is not None and all(is_late(one, prefix, fault[-1]) for one in (spelled, their)):
-                self.seen["late"] += 1
-            else:
-                self.wrong.append((given, spelled, their, prefix, fault))
+        wide = listed(program, "", kind, [(0, widened(front.text)) for front in fronts])
+        self.kind, self.seen, self.wrong, self.limited = kind, dict.fromkeys(DIFFERENCES, 0), [], []
+        for given, own, their, front, *more in zip(inputs, ours, theirs, fronts, in_front, faults, wide):
+            name = self.difference(own, their, front, *more)
+            if name == "wrong":
+                self.wrong.append((given, own, their, *more))
+            elif name == "limit":
+                self.limited.append(given)
+            for one in name.split():
+                self.seen[one] = self.seen.get(one, 0) + 1
+
+    @staticmethod
+    def difference(own, their, front, in_front, fault, wide):
+        """The names of the documented differences of two lists, or `same`, or `wrong`."""
+        counted = by_characters(own, front.text)
+        spelled = as_spelled(counted)
+        if spelled == their:
+            return " ".join(["index"] * (counted != own) + ["spelling"] * (spelled != counted)) or "same"
+        if fault_offset(own, their) is not None and all(is_late(one, in_front, fault[-1]) for one in (spelled, their)):
+            return "late"
+        return "limit" if not front.text.isascii() and outline(own) == outline(wide) else "wrong"
 
     def tell(self):
-        seen = ", ".join(f"{count} {name}" for name, count in self.seen.items())
-        print(f"libyaml: {self.kind} of {self.count} inputs compared; documented differences: {seen}; {len(self.wrong)} wrong")
+        seen = ", ".join(f"{self.seen[name]} {name}" for name in DIFFERENCES)
+        print(f"libyaml: {self.kind}: {self.seen['same']} lists are the same; documented differences: {seen}; {len(self.wrong)} wrong")
         for (setting, data), *lists in self.wrong[:3]:
             print(SETTINGS[setting], data[:100], *(f"\n  {str(lines[-3:])[:400]}" for lines in lists))
-        return not self.wrong and self.count > 5000 and all(self.seen.values())
+        return not self.wrong and self.seen["same"] > 10000 and all(self.seen.values())
 
 
 def exported(path):
@@ -226,9 +249,9 @@ def try_names(program):
 
 
 def try_lists(program, every):
-    with ThreadPoolExecutor(max_workers=2) as pool:
-        made = list(pool.map(lambda kind: Comparison(program, kind, every if kind == "events" else every[::3]), KINDS))
-    return all([one.tell() for one in made])
+    """Whether all lists are right, and the inputs in which a key is over the limit of bytes alone."""
+    made = [Comparison(program, kind, every) for kind in KINDS]
+    return all([one.tell() for one in made]), [given for one in made for given in one.limited]
 
 
 def try_pieces(program, inputs):
@@ -266,7 +289,9 @@ def loaded(python, library, inputs, way):
 
 def is_late_load(pair, in_front, fault):
     """The same as is_late, of what PyYAML loads."""
-    return pair == in_front or pair[1] == fault and in_front[0].startswith(pair[0].rstrip("]"))
+    if pair[1] == fault:
+        return in_front[0].startswith(pair[0].rstrip("]"))
+    return pair == in_front and pair[1] != NO_ERROR
 
 
 def compare_loads(python, program, inputs, way):
@@ -275,9 +300,8 @@ def compare_loads(python, program, inputs, way):
     read = [(0, data.decode("utf-8", "replace").encode() if way == 2 else data) for data in inputs]
     offsets = [fault_offset(*lists) for lists in zip(*(listed(program, library, "tokens", read) for library in (OURS, "")))]
     fronts = [Front(*one, offset) for one, offset in zip(read, offsets)]
-    # a text has been encoded anew, and its front and its probe are bytes
-    in_front = loaded(python, "", [front.data for front in fronts], min(way, 1))
-    faults = loaded(python, "", [front.probe for front in fronts], min(way, 1))
+    in_front = loaded(python, "", [front.data for front in fronts], way)
+    faults = loaded(python, "", [front.probe for front in fronts], way)
     late, wrong = 0, []
     for data, own, their, offset, prefix, fault in zip(inputs, ours, theirs, offsets, in_front, faults):
         if own != their and offset is not None and all(is_late_load(one, prefix, fault[1]) for one in (own, their)):
@@ -303,30 +327,31 @@ def try_python(program, every):
     return not wrong and late > 0 and len(inputs) > 1000
 
 
-def try_memory(program, refuse, every):
-    good, total = True, dict.fromkeys(KINDS, 0)
+def try_refusals(refuse):
+    """Whether each refused request for memory ends well."""
+    total, bad = 0, []
     for data in SMALL:
-        told = [subprocess.run([refuse], input=data, capture_output=True, check=True, env=environment(folder)) for folder in ("", OURS)]
-        theirs, ours = ([line.split(" ") for line in one.stdout.decode().splitlines()] for one in told)
-        for (kind, *counts), (_, *stock) in zip(ours, theirs):
-            requests, wrong, keeping = (int(count) for count in counts)
-            total[kind] += requests
-            # libyaml's own parser and loader do not end each of these well
-            at_most = [0, 0] if kind == "tokens" else [int(count) for count in stock[1:]]
-            if wrong > at_most[0] or keeping > at_most[1] or not requests:
-                good = False
-                print(f"libyaml: {data[:40]}: {kind}: of {requests} refusals {wrong} end wrongly and {keeping} keep memory")
-    print("libyaml: requests for memory refused: " + ", ".join(f"{count} for {kind}" for kind, count in total.items()))
+        told = subprocess.run([refuse], input=data, capture_output=True, check=True, env=environment(OURS))
+        for line in told.stdout.decode().splitlines():
+            kind, requests, wrong, keeping = line.split(" ")
+            total += int(requests)
+            if int(wrong) or int(keeping) or not int(requests):
+                bad.append((data[:40], line))
+    print(f"libyaml: {total} requests for memory refused, {len(bad)} inputs wrong {bad or ''}")
+    return not bad and total > 100
+
+
+def try_leaks(program, every):
     if shutil.which("valgrind") is None:
         print("libyaml: leaks skipped: no valgrind")
-        return good
-    asked = b"".join(questions(kind, every[number::300][:100], chunk) for number, (kind, chunk) in enumerate([*zip(KINDS, (0, 0, 7))]))
-    words = ["valgrind", "-q", "--error-exitcode=99", "--leak-check=full", "--show-leak-kinds=all", "--errors-for-leak-kinds=all", program]
-    told = subprocess.run(words, input=asked, capture_output=True, env=environment(OURS), timeout=600)
-    print(f"libyaml: a hundred inputs of each kind under valgrind, {'no leak and no wrong access' if told.returncode == 0 else 'WRONG'}")
-    if told.returncode:
-        print(told.stderr.decode()[:2000])
-    return good and told.returncode == 0
+        return True
+    some = [one for one in every if len(one[1]) < 2000][::180][:100]
+    asked = b"".join(questions(kind, some, chunk) for kind, chunk in zip(KINDS, (0, 0, 7)))
+    words = ["valgrind", "-q", "--error-exitcode=99", "--leak-check=full", "--show-leak-kinds=all", "--errors-for-leak-kinds=all"]
+    told = subprocess.run([*words, program], input=asked, capture_output=True, env=environment(OURS), timeout=600)
+    good = told.returncode == 0 and told.stdout.count(b"\n\n") == 300 == 3 * len(some)
+    print(f"libyaml: {len(some)} inputs under valgrind, {'no leak and no wrong access' if good else 'WRONG ' + told.stderr.decode()[:2000]}")
+    return good
 
 
 def build(room, name):
@@ -344,12 +369,14 @@ def main():
     every = [*yaml_files(), *long_texts(), *vectors()]
     with tempfile.TemporaryDirectory() as room:
         program, refuse = build(room, "list"), build(room, "refuse")
+        are_right, limited = try_lists(program, every)
         good = [
+            are_right,
             try_names(program),
-            try_lists(program, every),
             try_pieces(program, every[::20]),
-            try_python(program, every[::4]),
-            try_memory(program, refuse, every),
+            try_python(program, [one for one in every[::2] if one not in limited]),
+            try_refusals(refuse),
+            try_leaks(program, every),
         ]
     return 0 if all(good) else 1
 

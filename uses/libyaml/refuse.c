@@ -1,12 +1,12 @@
-/* refuse < FILE: takes the tokens, the events and the nodes of a file again and again, and each time refuses one more request for
- * memory than before: the first, then the second, and so on until none is left. For tests/libyaml.py.
+/* refuse < FILE: takes the tokens and the events of a file again and again, and each time refuses another request for memory: the
+ * first, then the second, and so on to the last. For tests/libyaml.py.
  *
- * Prints a line for each of the three: how many requests there are, how many refusals ended wrongly, and how many kept memory. One
- * ends wrongly unless what is taken is a beginning of what is taken with ample memory, and a call then returns 0 with a memory
- * error. It keeps memory if some of it is not freed when the parser was deleted. The exit status is 0, or 2 if the file is too
+ * Prints a line for tokens and one for events: how many requests there are, how many refusals ended wrongly, and how many kept
+ * memory. One ends wrongly unless what is taken is a beginning of what is taken with ample memory, and a call then returns 0 with a
+ * memory error. It keeps memory if some is not freed after the parser was deleted. The exit status is 0, or 2 if the file is too
  * large. */
-#include <stdio.h>
 #include <stdint.h>
+#include <stdio.h>
 #include <stdlib.h>
 #include <string.h>
 #include <yaml.h>
@@ -103,24 +103,6 @@ static int take_events(yaml_parser_t *parser, struct run *run) {
     return 1;
 }
 
-static int take_nodes(yaml_parser_t *parser, struct run *run) {
-    int is_last = 0;
-    while (!is_last) {
-        yaml_document_t document;
-        if (!yaml_parser_load(parser, &document))
-            return 0;
-        is_last = yaml_document_get_root_node(&document) == NULL;
-        for (int number = 1; yaml_document_get_node(&document, number); number++) {
-            yaml_node_t *node = yaml_document_get_node(&document, number);
-            add(run, node->type);
-            add_text(run, node->tag);
-        }
-        end_one(run, document.start_mark, document.end_mark);
-        yaml_document_delete(&document);
-    }
-    return 1;
-}
-
 /* How a run ended in which the request of that number is refused, or none for 0. */
 struct end {
     int is_wrong;
@@ -163,6 +145,5 @@ int main(void) {
         return 2;
     refuse_each("tokens", take_tokens);
     refuse_each("events", take_events);
-    refuse_each("nodes", take_nodes);
     return 0;
 }
