@@ -54,6 +54,7 @@ SMALL = [
     b"a: [b, c\n",
     b"- a\n- b\n- \xff\n",
     b"? " * 40,
+    b"...\n" * 80,
 ]
 
 # Loads each question's bytes by PyYAML's C loader: a line with the objects, and one with the error.
@@ -113,6 +114,9 @@ def long_texts():
         yield 0, text + b"last: \x01\n"
         yield 0, text + b"last: @\nvery: \xff\n"
         yield 2, text.decode().encode("utf-16-le") + b"\x00\xdc"
+    # more tokens, and longer texts, than the first guess has room for
+    yield 0, b"...\n" * 200 + b"last"
+    yield 2, ("- '" + "\u4e2d" * 700 + "' @").encode("utf-16-le")
 
 
 def yaml_files():
@@ -255,7 +259,7 @@ def try_lists(program, every):
 
 
 def try_pieces(program, inputs):
-    """Reads in small pieces make no difference, and a read that fails is told with how much was read before it."""
+    """Small pieces make no difference; a read that fails, and an encoding that there is not, are told."""
     whole = listed(program, OURS, "events", inputs)
     differ = sum(listed(program, OURS, "events", inputs, chunk) != whole for chunk in (1, 3, 4096))
     wrong = 0
@@ -263,7 +267,8 @@ def try_pieces(program, inputs):
         long_enough = [one for one in inputs if len(one[1]) > chunk * fail]
         wanted = [f"ERROR 2 0:0:0 0:0:0 {chunk * (fail - 1)} -1 -; input error"]
         wrong += sum(lines != wanted for lines in listed(program, OURS, "events", long_enough, chunk, fail))
-    print(f"libyaml: {len(inputs)} inputs read in three sizes of pieces, {differ} sizes differ; reads that fail: {wrong} wrong")
+    wrong += listed(program, OURS, "tokens", [(4, b"a")]) != [["ERROR 2 0:0:0 0:0:0 0 -1 -; unknown encoding"]]
+    print(f"libyaml: {len(inputs)} inputs read in three sizes of pieces, {differ} sizes differ; what can't be read: {wrong} wrong")
     return not differ and not wrong and len(inputs) > 100
 
 
