@@ -29,12 +29,15 @@ def machine():
     return f"{names[0] if names else platform.machine()}, {os.cpu_count()} processors, load {os.getloadavg()[0]:.1f}"
 
 
+def has_libfyaml():
+    words = ["cc", "-fsyntax-only", "-x", "c", "-"]
+    return subprocess.run(words, input=b"#include <libfyaml.h>\n", capture_output=True).returncode == 0
+
+
 def build(room):
     path = os.path.join(room, "c")
-    has_libfyaml = subprocess.run(["cc", "-fsyntax-only", "-x", "c", "-"], input=b"#include <libfyaml.h>\n", capture_output=True).returncode == 0
-    words = ["cc", "-std=c11", "-O2", "-I", FFI, *(["-DWITH_LIBFYAML"] if has_libfyaml else []), os.path.join(HERE, "c.c")]
-    words += [os.path.join(FFI, "out", "libyaml_c.a"), "-ldl", *(["-lfyaml"] if has_libfyaml else []), "-o", path]
-    subprocess.run(words, check=True)
+    words = ["cc", "-std=c11", "-O2", "-I", FFI, os.path.join(HERE, "c.c"), os.path.join(FFI, "out", "libyaml_c.a"), "-ldl", "-o", path]
+    subprocess.run([*words, *(["-DWITH_LIBFYAML", "-lfyaml"] if has_libfyaml() else [])], check=True)
     return path
 
 

@@ -16,7 +16,7 @@ lists are the same, but for this:
   is told before all tokens.
 
 PyYAML's C loader is run over either library: the objects are the same, and so are the words of the errors, but for the same
-differences. Each request for memory is refused in turn. Valgrind looks at a hundred inputs. What needs a C compiler, libyaml-dev,
+differences. Of a few small inputs each request for memory is refused in turn. Valgrind looks at a hundred inputs. What needs a C compiler, libyaml-dev,
 a PyYAML that stands on libyaml's shared library, or valgrind is skipped if there is none.
 """
 
@@ -286,7 +286,8 @@ def loaded(python, library, inputs, way):
     words = [python, "-c", LOAD, library]
     told = subprocess.run(words, input=asked, capture_output=True, check=True, env=environment(library), timeout=600)
     lines = told.stdout.decode("ascii").split("\n")[:-1]
-    pairs = [(objects, error.replace("expected hexadecimal number", "expected hexdecimal number")) for objects, error in zip(lines[::2], lines[1::2])]
+    spelled = [line.replace("expected hexadecimal number", "expected hexdecimal number") for line in lines[1::2]]
+    pairs = list(zip(lines[::2], spelled))
     if len(pairs) != len(inputs):
         sys.exit(f"libyaml: PyYAML loaded {len(pairs)} of {len(inputs)} inputs")
     return pairs
@@ -355,7 +356,8 @@ def try_leaks(program, every):
     words = ["valgrind", "-q", "--error-exitcode=99", "--leak-check=full", "--show-leak-kinds=all", "--errors-for-leak-kinds=all"]
     told = subprocess.run([*words, program], input=asked, capture_output=True, env=environment(OURS), timeout=600)
     good = told.returncode == 0 and told.stdout.count(b"\n\n") == 300 == 3 * len(some)
-    print(f"libyaml: {len(some)} inputs under valgrind, {'no leak and no wrong access' if good else 'WRONG ' + told.stderr.decode()[:2000]}")
+    found = "no leak and no wrong access" if good else "WRONG " + told.stderr.decode()[:2000]
+    print(f"libyaml: {len(some)} inputs under valgrind, {found}")
     return good
 
 
