@@ -16,8 +16,8 @@ lists are the same, but for this:
   is told before all tokens.
 
 PyYAML's C loader is run over either library: the objects are the same, and so are the words of the errors, but for the same
-differences. Of a few small inputs each request for memory is refused in turn. Valgrind looks at a hundred inputs. What needs a C compiler, libyaml-dev,
-a PyYAML that stands on libyaml's shared library, or valgrind is skipped if there is none.
+differences. Of a few small inputs each request for memory is refused in turn. Valgrind looks at a hundred inputs. What needs a C
+compiler, libyaml-dev, a PyYAML that stands on libyaml's shared library, or valgrind is skipped if there is none.
 """
 
 import codecs
