@@ -1,10 +1,10 @@
 /* refuse < FILE: takes the tokens and the events of a file again and again, and each time refuses another request for memory: the
  * first, then the second, and so on to the last. For tests/libyaml.py.
  *
- * Prints a line for tokens and one for events: how many requests there are, how many refusals ended wrongly, and how many kept
- * memory. One ends wrongly unless what is taken is a beginning of what is taken with ample memory, and a call then returns 0 with a
- * memory error. It keeps memory if some is not freed after the parser was deleted. The exit status is 0, or 2 if the file is too
- * large. */
+ * Prints a line for tokens and one for events: how many requests there are, how many refusals led to an error, how many ended
+ * wrongly, and how many kept memory. One leads to an error if a beginning of what is taken with ample memory is taken, and then a
+ * call returns 0 with a memory error. It ends wrongly if it does not and not everything is taken either. It keeps memory if some
+ * is not freed after the parser was deleted. The exit status is 0, or 2 if the file is too large. */
 #include <stdint.h>
 #include <stdio.h>
 #include <stdlib.h>
@@ -105,7 +105,8 @@ static int take_events(yaml_parser_t *parser, struct run *run) {
 
 /* How a run ended in which the request of that number is refused, or none for 0. */
 struct end {
-    int is_wrong;
+    int error, is_beginning;
+    size_t taken;
     long kept; /* blocks of memory */
 };
 
@@ -123,20 +124,22 @@ static struct end run_refusing(int (*take)(yaml_parser_t *, struct run *), size_
         yaml_parser_delete(&parser);
     }
     refused = 0;
-    int is_as_wanted = number ? error == YAML_MEMORY_ERROR : error != YAML_MEMORY_ERROR;
-    return (struct end){!run.is_beginning || !is_as_wanted || is_ended != (error == YAML_NO_ERROR), blocks - before};
+    return (struct end){error, run.is_beginning && is_ended == (error == YAML_NO_ERROR), run.taken, blocks - before};
 }
 
 static void refuse_each(const char *name, int (*take)(yaml_parser_t *, struct run *)) {
     trace_count = 0;
     struct end whole = run_refusing(take, 0);
-    size_t count = requests, wrong = whole.is_wrong, keeping = whole.kept != 0;
+    size_t count = requests, failed = 0;
+    size_t wrong = !whole.is_beginning || whole.error == YAML_MEMORY_ERROR, keeping = whole.kept != 0;
     for (size_t number = 1; number <= count; number++) {
         struct end end = run_refusing(take, number);
-        wrong += end.is_wrong;
+        int is_whole = end.taken == whole.taken && end.error == whole.error;
+        failed += end.error == YAML_MEMORY_ERROR;
+        wrong += !end.is_beginning || (end.error != YAML_MEMORY_ERROR && !is_whole);
         keeping += end.kept != 0;
     }
-    printf("%s %zu %zu %zu\n", name, count, wrong, keeping);
+    printf("%s %zu %zu %zu %zu\n", name, count, failed, wrong, keeping);
 }
 
 int main(void) {

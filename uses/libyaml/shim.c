@@ -109,13 +109,16 @@ static uint64_t guess_tokens(const struct input *input) {
     return count;
 }
 
-/* Scans the input into rooms of a size that is guessed. If the guess was too small, the scan has told the right size, and
- * is made again. */
+/* Scans the input into rooms of a size that is guessed. If there is no memory for so much, the rooms are empty. If they are too
+ * small, the scan has told the right size, and is made again. */
 static int scan_all(yaml_parser_t *parser, const struct input *input, struct rooms *rooms) {
     uint64_t token_room = guess_tokens(input), text_room = input->len + 256;
-    for (;;) {
+    if (!make_rooms(rooms, token_room, text_room)) {
+        token_room = text_room = 0;
         if (!make_rooms(rooms, token_room, text_room))
             return fail_by_memory(parser);
+    }
+    for (;;) {
         struct yaml_c_answer *answer = &rooms->scanned->answer;
         uint32_t status = yaml_c_scan_all(input->bytes, input->len, (uint32_t)parser->encoding, KEY_LIMIT,
                                           rooms->scanned->tokens, token_room, rooms->texts, text_room, answer);
@@ -127,6 +130,8 @@ static int scan_all(yaml_parser_t *parser, const struct input *input, struct roo
         free_rooms(rooms);
         if (status == 2)
             return fail_by_reading(parser, "unknown encoding", 0);
+        if (!make_rooms(rooms, token_room, text_room))
+            return fail_by_memory(parser);
     }
 }
 
