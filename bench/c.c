@@ -1,5 +1,5 @@
 /* Scans a file and takes its events, nine times in turn with each library, and says how long the best and the median took, in
- * nanoseconds: c FILE LIBYAML OURS, where the last two are shared libraries that have libyaml's functions. A line for each
+ * nanoseconds: c FILE LIBYAML OURS. The last two are shared libraries that have libyaml's functions. A line for each
  * measure: what, how many tokens or events, best, median. Compiled with WITH_LIBFYAML, and with libfyaml, it measures that too.
  * Memory is taken and given back within each time. The exit status is 1 if something fails. */
 #define _POSIX_C_SOURCE 200809L

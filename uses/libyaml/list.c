@@ -1,7 +1,7 @@
 /* list: lists what libyaml makes of inputs, for tests/libyaml.py, which runs it with libyaml's own library and with the one here.
  *
  * Standard input holds questions. Each is a line `KIND ENCODING CHUNK FAIL LEN` and LEN bytes of YAML. KIND is tokens, events or
- * nodes; ENCODING a number of yaml_encoding_t; CHUNK how many bytes the read handler gives at most in a call, or 0 where the
+ * nodes; ENCODING a number of yaml_encoding_t; CHUNK how many bytes the read handler gives at most in a call, or 0 if the
  * bytes are given by yaml_parser_set_input_string; FAIL the number of the call of the read handler that fails, or 0. What is
  * listed for a question ends with a line that is empty. The exit status is 2 for a wrong question. */
 #include <stdio.h>
