@@ -1,0 +1,392 @@
+#!/usr/bin/env python3
+"""Builds the libyaml of uses/libyaml, and compares it with libyaml's own library: libyaml.py [PROGRAM].
+
+Both have the same name and export the same functions. A small C program (uses/libyaml/list.c) lists tokens, events and the nodes
+of documents with marks, texts, styles and flags, and the error with its words and marks. It is run with either library on the
+worked rows, on all inputs of vectors/scan.txt.gz, on texts of bench/realistic.py and on the YAML files of the repository. The
+lists are the same, but for this:
+
+- The index of a mark counts bytes of UTF-8, and libyaml's counts characters. The line and the column are the same.
+- The limit of a simple key, 1,024, is of bytes too. A key that has more bytes, and no more characters, is refused.
+- The error for a wrong escape has `hexadecimal`, which libyaml spells `hexdecimal`.
+- A fault of the reader is told at another token. libyaml decodes a block of the input at once, and tells a fault in it before all
+  tokens of that block. Here most tokens in front of the fault come first. Either list is a beginning of what libyaml makes of the
+  text in front of the fault, and then the same fault; or it is all that libyaml makes of that text, if that ends with an error.
+- The input is read to its end before the first token. So it makes no difference in what pieces it is read, and a read that fails
+  is told before all tokens.
+
+PyYAML's C loader is run over either library: the objects are the same, and so are the words of the errors, but for the same
+differences. Of a few small inputs each request for memory is refused in turn. Valgrind looks at a hundred inputs. What needs a C
+compiler, libyaml-dev, a PyYAML that stands on libyaml's shared library, or valgrind is skipped if there is none.
+"""
+
+import codecs
+import gzip
+import itertools
+import os
+import re
+import shutil
+import subprocess
+import sys
+import tempfile
+
+HERE = os.path.dirname(os.path.abspath(__file__))
+TOP = os.path.dirname(HERE)
+USE = os.path.join(TOP, "uses", "libyaml")
+OURS = os.path.join(USE, "out")
+sys.path.insert(0, os.path.join(HERE, "lib"))
+sys.path.insert(0, os.path.join(TOP, "bench"))
+sys.dont_write_bytecode = True
+from realistic import realistic
+from worked import rows
+
+STRICT = ["-std=c11", "-Wall", "-Wextra", "-pedantic", "-Werror", "-O2"]
+SETTINGS = ["any", "utf8", "utf16le", "utf16be"]
+CODECS = [None, "utf-8", "utf-16-le", "utf-16-be"]
+BYTE_ORDER_MARKS = [(b"\xff\xfe", "utf-16-le"), (b"\xfe\xff", "utf-16-be"), (b"\xef\xbb\xbf", "utf-8")]
+KINDS = ["tokens", "events", "nodes"]
+DIFFERENCES = ["index", "limit", "spelling", "late"]
+READER_FAULT = "ERROR 2 "
+NO_ERROR = "'-'"
+SMALL = [
+    b"%YAML 1.1\n%TAG ! x:\n---\n- &a a: [\xc3\xa9, \"b\"]\n- !b {c: *a, d: !!str e}\n- |\n  x\n...\n--- f\n",
+    b'a: "\\xZ"\n',
+    b"a: [b, c\n",
+    b"- a\n- b\n- \xff\n",
+    b"? " * 40,
+    b"...\n" * 80,
+]
+
+# Loads each question's bytes by PyYAML's C loader: a line with the objects, and one with the error.
+LOAD = """
+import io, sys, yaml, yaml._yaml
+if not any("libyaml-0.so.2" in line and (not sys.argv[1] or sys.argv[1] in line) for line in open("/proc/self/maps")):
+    sys.exit(3)
+def load(data, way):
+    objects, error = [], "-"
+    given = [data, io.BytesIO(data), data.decode("utf-8", "replace")][way]
+    try:
+        for one in yaml.load_all(given, Loader=yaml.CSafeLoader):
+            objects.append(repr(one))
+    except Exception as fault:
+        error = type(fault).__name__ + ": " + str(fault)
+    print(ascii(objects))
+    print(ascii(error))
+while line := sys.stdin.buffer.readline():
+    size, way = (int(word) for word in line.split())
+    load(sys.stdin.buffer.read(size), way)
+"""
+
+
+def output(words, **more):
+    return subprocess.run(words, check=True, capture_output=True, text=True, **more).stdout
+
+
+def has_libyaml():
+    """Whether libyaml's static library, its shared one and its header are there."""
+    paths = [output(["cc", "-print-file-name=" + name]).strip() for name in ("libyaml.a", "libyaml.so")]
+    told = subprocess.run(["cc", "-fsyntax-only", "-x", "c", "-"], input=b"#include <yaml.h>\n", capture_output=True)
+    return all(map(os.path.isfile, paths)) and told.returncode == 0
+
+
+def environment(library):
+    return {**os.environ, "LD_LIBRARY_PATH": library, "PYTHONHASHSEED": "0", "PYTHONIOENCODING": "utf-8"}
+
+
+def vectors():
+    """The setting and the input of each row of the vectors, and of each worked row."""
+    for words, data, _ in rows():
+        yield SETTINGS.index(words[1]), data
+    with gzip.open(os.path.join(HERE, "vectors", "scan.txt.gz"), "rt", encoding="ascii") as lines:
+        for line in lines:
+            words, data, _ = line.split("\t")
+            yield SETTINGS.index(words.split(" ")[1]), bytes.fromhex(data.strip("-"))
+
+
+def long_texts():
+    """Texts of more than one of libyaml's blocks, of which some have a fault that its reader or its scanner finds late."""
+    for seed in range(4):
+        text = realistic(60_000, seed).encode()
+        yield 0, text
+        yield 0, text.replace(b"alpha", b"\xce\xb1")
+        yield 0, b"\xff\xfe" + text.replace(b"beta", b"\xce\xb2").decode().encode("utf-16-le")
+        yield 3, text.decode().encode("utf-16-be")
+        yield 0, text + b"last: \x01\n"
+        yield 0, text + b"last: @\nvery: \xff\n"
+        yield 2, text.decode().encode("utf-16-le") + b"\x00\xdc"
+    # more tokens, and longer texts, than the first guess has room for
+    yield 0, b"...\n" * 200 + b"last"
+    yield 2, ("- '" + "\u4e2d" * 700 + "' @").encode("utf-16-le")
+
+
+def yaml_files():
+    for folder, folders, names in os.walk(TOP):
+        folders[:] = [name for name in folders if name not in ("out", ".git")]
+        for name in names:
+            if name.endswith((".yaml", ".yml")):
+                with open(os.path.join(folder, name), "rb") as file:
+                    yield 0, file.read()
+
+
+def questions(kind, inputs, chunk=0, fail=0):
+    return b"".join(b"%s %d %d %d %d\n%s" % (kind.encode(), setting, chunk, fail, len(data), data) for setting, data in inputs)
+
+
+def listed(program, library, kind, inputs, chunk=0, fail=0):
+    """What the program lists for each input with the library of that folder, or with libyaml's own if it is empty."""
+    asked = questions(kind, inputs, chunk, fail)
+    told = subprocess.run([program], input=asked, capture_output=True, check=True, env=environment(library), timeout=600)
+    lists = told.stdout.decode("utf-8", "replace").split("\n\n")[:-1]
+    if len(lists) != len(inputs):
+        sys.exit(f"libyaml: {len(lists)} lists for {len(inputs)} inputs")
+    return [text.split("\n") for text in lists]
+
+
+def codec_of(setting, data):
+    """The codec of an input and how many bytes its byte order mark has, which belongs to no text."""
+    if setting:
+        return CODECS[setting], 0
+    return next(((codec, len(mark)) for mark, codec in BYTE_ORDER_MARKS if data.startswith(mark)), ("utf-8", 0))
+
+
+class Front:
+    """What stands in front of a reader's fault: its text, its bytes, and the input with as many bytes of a plain scalar there."""
+
+    def __init__(self, setting, data, offset):
+        codec, skipped = codec_of(setting, data)
+        # the fault may stand inside of a character, of which a part is then left
+        self.text = codecs.getincrementaldecoder(codec)("ignore").decode(data[skipped:offset], False)
+        self.data = data[:skipped] + self.text.encode(codec)
+        count = (len(self.data) - skipped) // len("x".encode(codec))
+        self.probe = data[:skipped] + ("x" * count).encode(codec) + data[len(self.data) :]
+
+
+def fault_offset(*lists):
+    """Where the reader's fault is of which one of the lists tells, or None."""
+    return next((int(lines[-1].split(" ")[4]) for lines in lists if lines[-1].startswith(READER_FAULT)), None)
+
+
+def by_characters(lines, text):
+    """The list, with indexes of marks that count characters of the text."""
+    if text.isascii():
+        return lines
+    starts = [byte & 0xC0 != 0x80 for byte in text.encode()]
+    before = list(itertools.accumulate(starts, initial=0))
+    return [re.sub(r"(?<= )(\d+)(?=:\d+:\d+)", lambda index: str(before[int(index[1])]), line) for line in lines]
+
+
+def as_spelled(lines):
+    """The list, with an error's words as libyaml spells them."""
+    return [*lines[:-1], re.sub(r"(?<=; did not find expected )hexadecimal(?= number$)", "hexdecimal", lines[-1])]
+
+
+def is_late(lines, in_front, fault):
+    """Whether a list is right for an input with a reader's fault, by the list of the text in front of it."""
+    if lines[-1] == fault:
+        return lines[:-1] == in_front[: len(lines) - 1]
+    return lines == in_front and lines[-1].startswith("ERROR ")
+
+
+def outline(lines):
+    """Of each line its first word and the indexes of its marks, and of an error its words as well."""
+    return [(line.split(" ")[0], re.findall(r"(\d+):\d+:\d+", line), line.partition("; ")[2]) for line in lines]
+
+
+def widened(text):
+    """The text, with as many letters in place of a character as it has bytes."""
+    return b"".join(b"x" * len(one.encode()) if ord(one) > 127 else one.encode() for one in text)
+
+
+class Comparison:
+    """The lists of both libraries for many inputs: how many there are of each kind of difference, and which are wrong."""
+
+    def __init__(self, program, kind, inputs):
+        theirs, ours = listed(program, "", kind, inputs), listed(program, OURS, kind, inputs)
+        fronts = [Front(*one, fault_offset(*lists)) for one, *lists in zip(inputs, ours, theirs)]
+        in_front = listed(program, "", kind, [(setting, front.data) for (setting, _), front in zip(inputs, fronts)])
+        faults = listed(program, "", "tokens", [(setting, front.probe) for (setting, _), front in zip(inputs, fronts)])
+        wide = listed(program, "", kind, [(0, widened(front.text)) for front in fronts])
+        self.kind, self.seen, self.wrong, self.limited = kind, dict.fromkeys(DIFFERENCES, 0), [], []
+        for given, own, their, front, *more in zip(inputs, ours, theirs, fronts, in_front, faults, wide):
+            name = self.difference(own, their, front, *more)
+            if name == "wrong":
+                self.wrong.append((given, own, their, *more))
+            elif name == "limit":
+                self.limited.append(given)
+            for one in name.split():
+                self.seen[one] = self.seen.get(one, 0) + 1
+
+    @staticmethod
+    def difference(own, their, front, in_front, fault, wide):
+        """The names of the documented differences of two lists, or `same`, or `wrong`."""
+        counted = by_characters(own, front.text)
+        spelled = as_spelled(counted)
+        if spelled == their:
+            return " ".join(["index"] * (counted != own) + ["spelling"] * (spelled != counted)) or "same"
+        if fault_offset(own, their) is not None and all(is_late(one, in_front, fault[-1]) for one in (spelled, their)):
+            return "late"
+        return "limit" if not front.text.isascii() and outline(own) == outline(wide) else "wrong"
+
+    def tell(self):
+        seen = ", ".join(f"{self.seen[name]} {name}" for name in DIFFERENCES)
+        print(f"libyaml: {self.kind}: {self.seen['same']} lists are the same; documented differences: {seen}; {len(self.wrong)} wrong")
+        for (setting, data), *lists in self.wrong[:3]:
+            print(SETTINGS[setting], data[:100], *(f"\n  {str(lines[-3:])[:400]}" for lines in lists))
+        return not self.wrong and self.seen["same"] > 10000 and all(self.seen.values())
+
+
+def exported(path):
+    return [line.split(" ")[2] for line in output(["nm", "-D", "--defined-only", path]).splitlines()]
+
+
+def own_name(path):
+    return re.search(r"SONAME.*\[(.*)\]", output(["readelf", "-d", path]))[1]
+
+
+def try_names(program):
+    stock, made = output(["cc", "-print-file-name=libyaml.so"]).strip(), os.path.join(OURS, "libyaml-0.so.2")
+    names = exported(made)
+    loads = re.search(r"libyaml-0\.so\.2 => (\S+)", output(["ldd", program], env=environment(OURS)))[1]
+    good = names == exported(stock) and own_name(made) == own_name(stock) and loads == made
+    print(f"libyaml: {len(names)} exported names, {'the same' if good else 'OTHERS'} as those of {own_name(stock)}")
+    return good and len(names) > 50
+
+
+def try_lists(program, every):
+    """Whether all lists are right, and the inputs in which a key is over the limit of bytes alone."""
+    made = [Comparison(program, kind, every) for kind in KINDS]
+    return all([one.tell() for one in made]), [given for one in made for given in one.limited]
+
+
+def try_pieces(program, inputs):
+    """Small pieces make no difference; a read that fails, and an encoding that there is not, are told."""
+    whole = listed(program, OURS, "events", inputs)
+    differ = sum(listed(program, OURS, "events", inputs, chunk) != whole for chunk in (1, 3, 4096))
+    wrong = 0
+    for chunk, fail in [(1, 1), (1, 2), (2, 3), (5, 2)]:
+        long_enough = [one for one in inputs if len(one[1]) > chunk * fail]
+        wanted = [f"ERROR 2 0:0:0 0:0:0 {chunk * (fail - 1)} -1 -; input error"]
+        wrong += sum(lines != wanted for lines in listed(program, OURS, "events", long_enough, chunk, fail))
+    wrong += listed(program, OURS, "tokens", [(4, b"a")]) != [["ERROR 2 0:0:0 0:0:0 0 -1 -; unknown encoding"]]
+    print(f"libyaml: {len(inputs)} inputs read in three sizes of pieces, {differ} sizes differ; what can't be read: {wrong} wrong")
+    return not differ and not wrong and len(inputs) > 100
+
+
+def loading_python():
+    """A Python whose PyYAML stands on libyaml's shared library, or None."""
+    for python in (sys.executable, "/usr/bin/python3"):
+        if shutil.which(python) and subprocess.run([python, "-c", LOAD, ""], input=b"", capture_output=True).returncode == 0:
+            return python
+    return None
+
+
+def loaded(python, library, inputs, way):
+    """The objects and the error that PyYAML's C loader makes of each input."""
+    asked = b"".join(b"%d %d\n%s" % (len(data), way, data) for data in inputs)
+    words = [python, "-c", LOAD, library]
+    told = subprocess.run(words, input=asked, capture_output=True, check=True, env=environment(library), timeout=600)
+    lines = told.stdout.decode("ascii").split("\n")[:-1]
+    spelled = [line.replace("expected hexadecimal number", "expected hexdecimal number") for line in lines[1::2]]
+    pairs = list(zip(lines[::2], spelled))
+    if len(pairs) != len(inputs):
+        sys.exit(f"libyaml: PyYAML loaded {len(pairs)} of {len(inputs)} inputs")
+    return pairs
+
+
+def is_late_load(pair, in_front, fault):
+    """The same as is_late, of what PyYAML loads."""
+    if pair[1] == fault:
+        return in_front[0].startswith(pair[0].rstrip("]"))
+    return pair == in_front and pair[1] != NO_ERROR
+
+
+def compare_loads(python, program, inputs, way):
+    """How many inputs are loaded differently over both because of a reader's fault, and how many for no good reason."""
+    theirs, ours = loaded(python, "", inputs, way), loaded(python, OURS, inputs, way)
+    read = [(0, data.decode("utf-8", "replace").encode() if way == 2 else data) for data in inputs]
+    offsets = [fault_offset(*lists) for lists in zip(*(listed(program, library, "tokens", read) for library in (OURS, "")))]
+    fronts = [Front(*one, offset) for one, offset in zip(read, offsets)]
+    in_front = loaded(python, "", [front.data for front in fronts], way)
+    faults = loaded(python, "", [front.probe for front in fronts], way)
+    late, wrong = 0, []
+    for data, own, their, offset, prefix, fault in zip(inputs, ours, theirs, offsets, in_front, faults):
+        if own != their and offset is not None and all(is_late_load(one, prefix, fault[1]) for one in (own, their)):
+            late += 1
+        elif own != their:
+            wrong.append((data[:100], own, their))
+    return late, wrong
+
+
+def try_python(program, every):
+    python = loading_python()
+    if python is None:
+        print("libyaml: PyYAML skipped: none stands on libyaml's shared library")
+        return True
+    inputs = [data for setting, data in every if setting == 0]
+    late, wrong = 0, []
+    for way, some in enumerate([inputs, inputs[::5], inputs[1::5]]):
+        more = compare_loads(python, program, some, way)
+        late, wrong = late + more[0], wrong + more[1]
+    print(f"libyaml: {len(inputs)} inputs loaded by PyYAML over both; {late} with a late reader fault; {len(wrong)} wrong")
+    for one in wrong[:3]:
+        print(*one, sep="\n  ")
+    return not wrong and late > 0 and len(inputs) > 1000
+
+
+def try_refusals(refuse):
+    """Whether each refused request for memory ends well: all but those for the two rooms that are guessed lead to an error."""
+    total, bad = 0, []
+    for data in SMALL:
+        told = subprocess.run([refuse], input=data, capture_output=True, check=True, env=environment(OURS))
+        for line in told.stdout.decode().splitlines():
+            requests, failed, wrong, keeping = (int(count) for count in line.split(" ")[1:])
+            total += requests
+            if wrong or keeping or failed != requests - 2:
+                bad.append((data[:40], line))
+    print(f"libyaml: {total} requests for memory refused, {len(bad)} inputs wrong {bad or ''}")
+    return not bad and total > 100
+
+
+def try_leaks(program, every):
+    if shutil.which("valgrind") is None:
+        print("libyaml: leaks skipped: no valgrind")
+        return True
+    some = [one for one in every if len(one[1]) < 2000][::180][:100]
+    asked = b"".join(questions(kind, some, chunk) for kind, chunk in zip(KINDS, (0, 0, 7)))
+    words = ["valgrind", "-q", "--error-exitcode=99", "--leak-check=full", "--show-leak-kinds=all", "--errors-for-leak-kinds=all"]
+    told = subprocess.run([*words, program], input=asked, capture_output=True, env=environment(OURS), timeout=600)
+    good = told.returncode == 0 and told.stdout.count(b"\n\n") == 300 == 3 * len(some)
+    found = "no leak and no wrong access" if good else "WRONG " + told.stderr.decode()[:2000]
+    print(f"libyaml: {len(some)} inputs under valgrind, {found}")
+    return good
+
+
+def build(room, name):
+    path = os.path.join(room, name)
+    subprocess.run(["cc", *STRICT, os.path.join(USE, name + ".c"), "-lyaml", "-o", path], check=True)
+    return path
+
+
+def main():
+    if shutil.which("cc") is None or not has_libyaml():
+        print("libyaml: skipped: no C compiler, or no libyaml-dev")
+        return 0
+    subprocess.run([os.path.join(TOP, "ffi", "build")], check=True)
+    subprocess.run([os.path.join(USE, "build")], check=True)
+    every = [*yaml_files(), *long_texts(), *vectors()]
+    with tempfile.TemporaryDirectory() as room:
+        program, refuse = build(room, "list"), build(room, "refuse")
+        are_right, limited = try_lists(program, every)
+        good = [
+            are_right,
+            try_names(program),
+            try_pieces(program, every[::20]),
+            try_python(program, [one for one in every[::2] if one not in limited]),
+            try_refusals(refuse),
+            try_leaks(program, every),
+        ]
+    return 0 if all(good) else 1
+
+
+if __name__ == "__main__":
+    sys.exit(main())
