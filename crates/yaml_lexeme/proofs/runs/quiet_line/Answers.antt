@@ -4,14 +4,15 @@ use lib.Count.{count_trailing_zeros}
 use lib.Lanes.{chunk}
 use Rattle.std.specs.List.{count_by}
 use Rattle.yaml_lexeme.specs.Runs.{is_stop, is_quiet, begins}
-use Rattle.yaml_lexeme.proofs.Vectors.{run_through, run_stops, stop_within}
+use Rattle.yaml_text.proofs.Vectors.{run_through, run_stops}
+use Rattle.yaml_lexeme.proofs.Vectors.{stop_within}
 use Rattle.yaml_lexeme.proofs.Counts.{count_stops, count_goes, count_small, count_part}
 use Rattle.yaml_lexeme.proofs.runs.quiet_line.Goals as goal
 
 pub starts_before-requires-clause-few : goal.starts_before-requires-clause-few
 starts_before-requires-clause-few c =
     let found = c.stops-found in
-    let w = stop_within (is_stop c.args.class) (is_quiet c.args.class) (λ x. refl) c.args.text.now c.wide.i 16 (omega arith) (omega arith) (omega (arith, found.ensures)) in
+    let w = stop_within (is_stop c.args.class) c.args.text.now c.wide.i 16 (omega arith) (omega arith) (omega (arith, found.ensures)) in
     let e = ap (count_trailing_zeros 64) found.ensures in
     omega (arith, w, e)
 
@@ -19,7 +20,7 @@ pub overflow_add-result-then-found-ne0 : goal.overflow_add-result-then-found-ne0
 overflow_add-result-then-found-ne0 c =
     let found = c.stops-found in
     let small = count_small begins (count_trailing_zeros 64 found.result) (chunk c.wide.i 16 c.args.text.now) in
-    let w = stop_within (is_stop c.args.class) (is_quiet c.args.class) (λ x. refl) c.args.text.now c.wide.i 16 (omega arith) (omega arith) (omega (arith, found.ensures)) in
+    let w = stop_within (is_stop c.args.class) c.args.text.now c.wide.i 16 (omega arith) (omega arith) (omega (arith, found.ensures)) in
     let e = ap (count_trailing_zeros 64) found.ensures in
     let room : length c.args.text.now < 2 ^ 63 = search rules in
     omega (arith, c.starts_before.ensures, small, w, e, c.wide.invariant.fewer, room)
@@ -33,7 +34,7 @@ returns-then-found-ne0-clause-bytes c =
 pub returns-then-found-ne0-clause-chars : goal.returns-then-found-ne0-clause-chars
 returns-then-found-ne0-clause-chars c =
     let found = c.stops-found in
-    let w = stop_within (is_stop c.args.class) (is_quiet c.args.class) (λ x. refl) c.args.text.now c.wide.i 16 (omega arith) (omega arith) (omega (arith, found.ensures)) in
+    let w = stop_within (is_stop c.args.class) c.args.text.now c.wide.i 16 (omega arith) (omega arith) (omega (arith, found.ensures)) in
     let e = ap (count_trailing_zeros 64) found.ensures in
     count_stops begins c.args.text.now c.wide.i (count_trailing_zeros 64 found.result) c.wide.n c.starts_before.result c.wide.invariant.chars (omega (arith, w, e)) c.starts_before.ensures
 
