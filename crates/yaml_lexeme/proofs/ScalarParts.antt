@@ -1,6 +1,6 @@
 -- Quoted and plain scalars are their parts.
 use Rattle.std.proofs.Common.{◌≡◌, ℕ, zero, suc, ◌+◌, ◌<◌, ◌≤◌, ◌⊎◌, Bool, true, false, not, ◌==◌, ◌&&◌, ◌||◌, if◌then◌else◌, inl, inr, List, [], ◌∷◌, ◌++◌, length, take, drop, slice_index, Option, Some, None, Ok, Err, refl, sym, ap, ◌∙◌, subst, arith, append_assoc, length-append, get_or-drop}
-use Rattle.std.proofs.lemmas.Bool.{cases_Bool}
+use Rattle.std.proofs.lemmas.Bool.{cases_Bool, and_parts, eqb-true, not-false}
 use Rattle.std.proofs.lemmas.Bool.Decides.{nat_tests}
 use Rattle.std.proofs.lemmas.List.{length-take-le}
 use Rattle.std.specs.List.{flat_map}
@@ -18,27 +18,13 @@ use Rattle.yaml_lexeme.specs.Place.{Place, first, peek, skip, run, behind}
 use Rattle.yaml_lexeme.specs.Plain.{is_bad_colon, is_chunk, chunk_len, chunk, tab_from, untabbed, separator, is_over, link, plain}
 use Rattle.yaml_lexeme.specs.Quoted.{quote, body_part, spelled, quoted}
 use Rattle.yaml_lexeme.specs.Reading.{Offence, Found, Read, found, refuse, ◌>>=◌, Part, part, over, many}
-use Rattle.yaml_lexeme.proofs.CountLaws.{rest_behind}
 use Rattle.yaml_lexeme.proofs.PartLaws.{Advances, split, many_longest, many_refused, found_of, refused_of}
-use Rattle.yaml_lexeme.proofs.Places.{skip_none}
+use Rattle.yaml_lexeme.proofs.Places.{skip_none, rest_skip, peek_on}
 use Rattle.yaml_lexeme.proofs.PlainLocal.{unless_bad, chunk_within}
 use Rattle.yaml_lexeme.proofs.Spaces.{stopped}
 use Rattle.yaml_lexeme.proofs.Spans.{body_goes, link_goes}
-
-abbrev value_or : {A : Type 0} → A → Read A → A
-value_or a (Ok f) = f.value
-value_or a (Err e) = a
-
-abbrev end_or : {A : Type 0} → Place → Read A → Place
-end_or p (Ok f) = f.end
-end_or p (Err e) = p
-
-abbrev offence_or : {A : Type 0} → Offence → Read A → Offence
-offence_or o (Ok f) = o
-offence_or o (Err e) = e
-
-both : {A : Type 0} (f : Found A) (v : A) (e : Place) → f.value ≡ v → f.end ≡ e → found v e ≡ Ok f
-both f v e hv he = ap (λ x. found x e) (sym hv) ∙ ap (λ (x : Place). found f.value x) (sym he)
+use Rattle.yaml_lexeme.proofs.Founds.{value_or, end_or, offence_or, both}
+use Rattle.yaml_lexeme.proofs.Body.{finish, quoted_is}
 
 -- quoted scalars
 body_advances : (single : Bool) → Advances (body_part single)
@@ -61,13 +47,6 @@ no_escape : (r : Read ℕ) → (r >>= λ x. part (x.value ∷ []) x.end) ≡ ove
 no_escape (Ok x) h = cc
 no_escape (Err e) h = cc
 
-left : (a b : Bool) → (a && b) ≡ true → a ≡ true
-left true b h = refl
-left false b h = h
-
-equal : (c d : ℕ) → (c == d) ≡ true → c ≡ d
-equal c d h = grind (arith, nat_tests)
-
 closes : (single : Bool) (p : Place) → body_part single p ≡ over → first p ≡ quote single
 unfolding body_part
 closes single p h =
@@ -79,14 +58,7 @@ closes single p h =
     let r2 = other (single || not (c == backslash)) _ _ (λ e. absurd cc) r1 in
     let r3 = other (is_break (peek p 1)) _ _ (λ e. no_unmarked _ _ _ e) r2 in
     no_escape (escape p) r3) h2 in
-    equal c (quote single) (left (c == quote single) (not (single && peek p 1 == c)) closed)
-
-abbrev finish : Read (List (List ℕ)) → Read (List ℕ)
-finish r = spelled r >>= λ b. found b.value (skip 1 b.end)
-
-quoted_is : (single : Bool) (p : Place) → quoted single p ≡ finish (many (body_part single) (skip 1 p))
-unfolding quoted
-quoted_is single p = refl
+    eqb-true c (quote single) (and_parts (c == quote single) (not (single && peek p 1 == c)) closed).0
 
 body_from : (single : Bool) (p : Place) (f : Found (List ℕ)) (r : Read (List (List ℕ))) → many (body_part single) (skip 1 p) ≡ r → finish r ≡ Ok f → QuotedParts single p f
 body_from single p f (Ok b) e h =
@@ -166,7 +138,7 @@ chunk_longest flow p f h =
     let k = chunk_len flow p.rest in
     let t = chunk_is flow p f h in
     let len = length-take-le k p.rest (chunk_within flow p.rest) in
-    let rest : f.end.rest ≡ drop k p.rest = ap (λ (q : Place). q.rest) t.1 ∙ rest_behind k p in (
+    let rest : f.end.rest ≡ drop k p.rest = ap (λ (q : Place). q.rest) t.1 ∙ rest_skip k p in (
       chunk_joined flow p f h,
       λ i l. chunk_all flow p.rest i (omega (arith, len, ap length t.0)),
       subst (λ (cs : List ℕ). is_chunk flow (slice_index cs 0) (slice_index cs 1) ≡ false) (sym rest) (chunk_over flow p.rest),
@@ -215,9 +187,6 @@ no_chunk true true h = refl
 no_chunk false b h = refl
 no_chunk true false h = absurd cc
 
-peek_on : (k i : ℕ) (p : Place) → peek (skip k p) i ≡ peek p (k + i)
-peek_on k i p = ap (λ (cs : List ℕ). slice_index cs i) (rest_behind k p) ∙ get_or-drop k p.rest i 0
-
 text_within : (text more rest : List ℕ) → rest ≡ text ++ more → length text ≤ length rest
 text_within text more rest e = omega (arith, length-append text more, ap length e)
 
@@ -264,10 +233,6 @@ by_chunk flow gap q f (Ok c) e h =
     (c.value, e ∙ ap (λ (x : Place). found c.value x) (ap (end_in q) t.1), some (length c.value) t.0, sym (ap value_in t.1))
 by_chunk flow gap q f (Err o) e h = absurd cc
 
-is_so : (b : Bool) → not b ≡ false → b ≡ true
-is_so true h = refl
-is_so false h = absurd cc
-
 link_from : (flow : Bool) (least : ℕ) (p : Place) (f : Found (List ℕ)) → link flow least p ≡ part f.value f.end → LinkParts flow least p f
 unfolding link separator
 link_from flow least p f h =
@@ -278,7 +243,7 @@ link_from flow least p f h =
     let t = by_chunk flow (fold (run is_white p)) end f (chunk flow end) refl h3.1 in
     record {
       text = t.0;
-      white = is_so (is_white (first p)) h1.0;
+      white = not-false (is_white (first p)) h1.0;
       stops = stopped is_white p refl;
       separator = h2.0;
       goes_on = h3.0;
@@ -312,9 +277,6 @@ empty : (cs : List ℕ) → length cs ≡ 0 → cs ≡ []
 empty [] h = refl
 empty (c ∷ cs) h = absurd (omega arith)
 
-zero_of : (k : ℕ) → (k == 0) ≡ true → k ≡ 0
-zero_of k h = grind (arith, nat_tests)
-
 no_more : (b : Bool) (v : List ℕ) (q : Place) → (if b then over else part v q) ≡ over → b ≡ true
 no_more true v q h = refl
 no_more false v q h = absurd cc
@@ -322,7 +284,7 @@ no_more false v q h = absurd cc
 chunk_none : (flow : Bool) (gap : List ℕ) (q : Place) (r : Read (List ℕ)) → chunk flow q ≡ r → (r >>= λ c. if length c.value == 0 then over else part (gap ++ c.value) c.end) ≡ over → chunk flow q ≡ found [] q
 chunk_none flow gap q (Ok c) e h =
     let k = chunk_len flow q.rest in
-    let z : length c.value ≡ 0 = zero_of (length c.value) (no_more (length c.value == 0) (gap ++ c.value) c.end h) in
+    let z : length c.value ≡ 0 = eqb-true (length c.value) 0 (no_more (length c.value == 0) (gap ++ c.value) c.end h) in
     let t = chunk_is flow q c e in
     let len : length (take k q.rest) ≡ k = length-take-le k q.rest (chunk_within flow q.rest) in
     let none : k ≡ 0 = omega (arith, z, len, ap length t.0) in

@@ -2,7 +2,7 @@
 use Rattle.std.proofs.Common.{◌≡◌, ◌&&◌, ℕ, suc, ◌+◌, ◌-◌, ◌/◌, ◌<◌, ◌≤◌, Bool, true, false, not, cond, List, [], ◌∷◌, ◌++◌, length, get_or, take, refl, sym, ap, ◌∙◌, arith, inl, inr}
 use Rattle.std.specs.List.{list_all}
 use Rattle.std.proofs.Math.Seq.{take-suc}
-use Rattle.std.proofs.lemmas.Bool.{cases_lt, cases_Bool, true≢false}
+use Rattle.std.proofs.lemmas.Bool.{cases_lt, cases_Bool, true≢false, and_right}
 use Rattle.std.proofs.lemmas.Bool.Decides.{nat_tests}
 use Rattle.std.proofs.lemmas.Str.{encode_ascii}
 use lib.Utf8.{encode, next}
@@ -10,6 +10,7 @@ use Rattle.yaml_text.specs.Chars.{utf8}
 use Rattle.yaml_text.specs.Classes.{is_blank}
 use Rattle.yaml_text.proofs.Spelling.{two, three, four}
 use Rattle.yaml_lexeme.specs.Runs.{trim}
+use Rattle.yaml_text.proofs.ClassLaws.{high_blank}
 
 abbrev all : List ℕ → Bool
 all xs = list_all is_blank xs
@@ -22,10 +23,6 @@ and_one : (b : Bool) → (b && true) ≡ b
 and_one true = refl
 and_one false = refl
 
-and_none : (b : Bool) → (b && false) ≡ false
-and_none true = refl
-and_none false = refl
-
 -- a blank at the end is dropped
 pub trim_blank : (xs : List ℕ) (b : ℕ) → is_blank b ≡ true → trim (xs ++ b ∷ []) ≡ trim xs
 trim_blank [] b h = rw h refl
@@ -37,7 +34,7 @@ trim_blank (x ∷ xs) b h =
 pub trim_solid : (xs : List ℕ) (b : ℕ) → is_blank b ≡ false → trim (xs ++ b ∷ []) ≡ xs ++ b ∷ []
 trim_solid [] b h = rw h refl
 trim_solid (x ∷ xs) b h =
-    let e : all ((x ∷ xs) ++ b ∷ []) ≡ false = all_push (x ∷ xs) b ∙ ap (λ t. all (x ∷ xs) && t) h ∙ and_none (all (x ∷ xs)) in
+    let e : all ((x ∷ xs) ++ b ∷ []) ≡ false = all_push (x ∷ xs) b ∙ ap (λ t. all (x ∷ xs) && t) h ∙ and_right (all (x ∷ xs)) false refl in
     ap (λ t. cond t [] (x ∷ trim (xs ++ b ∷ []))) e ∙ ap (λ ys. x ∷ ys) (trim_solid xs b h)
 
 -- one step of a loop from the end
@@ -99,16 +96,13 @@ solid_front (x ∷ xs) bs h =
 next_solid : (c : ℕ) → is_blank (next c) ≡ false
 next_solid c = let l : 128 ≤ next c = omega arith in grind (arith, nat_tests)
 
-high_solid : (b : ℕ) → 128 ≤ b → is_blank b ≡ false
-high_solid b l = grind (arith, nat_tests)
-
 encode_solid : (c : ℕ) → 128 ≤ c → none (encode c) ≡ true
 encode_solid c l =
     elim (cases_lt c 2048) [
-      | inl b ↦ rw (two c l b, high_solid (192 + c / 64) (omega arith), next_solid c) refl
+      | inl b ↦ rw (two c l b, high_blank (192 + c / 64) (omega arith), next_solid c) refl
       | inr b ↦ elim (cases_lt c 65536) [
-        | inl d ↦ rw (three c b d, high_solid (224 + c / 4096) (omega arith), next_solid (c / 64), next_solid c) refl
-        | inr d ↦ rw (four c d, high_solid (240 + c / 262144) (omega arith), next_solid (c / 4096), next_solid (c / 64), next_solid c) refl
+        | inl d ↦ rw (three c b d, high_blank (224 + c / 4096) (omega arith), next_solid (c / 64), next_solid c) refl
+        | inr d ↦ rw (four c d, high_blank (240 + c / 262144) (omega arith), next_solid (c / 4096), next_solid (c / 64), next_solid c) refl
       ]
     ]
 
@@ -128,7 +122,7 @@ all_bytes [] = refl
 all_bytes (c ∷ cs) =
     elim (cases_lt c 128) [
       | inl a ↦ rw (encode_ascii c a) (ap (λ t. is_blank c && t) (all_bytes cs))
-      | inr h ↦ all_front (encode c) (utf8 cs) (encode_solid c h) (encode_length c h) ∙ sym (rw (high_solid c h) refl)
+      | inr h ↦ all_front (encode c) (utf8 cs) (encode_solid c h) (encode_length c h) ∙ sym (rw (high_blank c h) refl)
     ]
 
 -- the bytes of what stays
@@ -142,6 +136,6 @@ trim_bytes (c ∷ cs) =
           ap (λ (x : List ℕ). trim (x ++ utf8 cs)) e ∙ ap (λ t. cond (is_blank c && t) [] (c ∷ trim (utf8 cs))) (all_bytes cs) ∙ ap (λ ys. cond (all (c ∷ cs)) [] (c ∷ ys)) (trim_bytes cs) in
           left ∙ elim (cases_Bool (all (c ∷ cs))) [ inl t ↦ rw t refl | inr f ↦ rw (f, e) refl ]
       | inr h ↦
-          let f : all (c ∷ cs) ≡ false = rw (high_solid c h) refl in
+          let f : all (c ∷ cs) ≡ false = rw (high_blank c h) refl in
           solid_front (encode c) (utf8 cs) (encode_solid c h) ∙ ap (λ (x : List ℕ). encode c ++ x) (trim_bytes cs) ∙ sym (rw f refl)
     ]

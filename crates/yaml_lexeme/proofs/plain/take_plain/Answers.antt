@@ -6,7 +6,8 @@ use Rattle.yaml_lexeme.specs.Plain.{is_bad_colon}
 use Rattle.yaml_lexeme.specs.Reading.{with_front}
 use Rattle.yaml_lexeme.specs.Words.{links, words}
 use Rattle.yaml_lexeme.proofs.Plains.{scalar_ends}
-use Rattle.yaml_lexeme.proofs.PlainRuns.{no_front, plain_none, plain_words, words_colon, plain_out, links_end}
+use Rattle.yaml_lexeme.proofs.PlainRuns.{plain_none, plain_words, words_colon, plain_out, links_end}
+use Rattle.yaml_lexeme.proofs.Many.{no_front}
 use Rattle.yaml_lexeme.proofs.plain.take_plain.Goals as goal
 
 pub returns-then-is_bad_colon : goal.returns-then-is_bad_colon

@@ -2,12 +2,8 @@ use Rattle.std.proofs.Common.{◌≡◌, Bool, not, true, false, refl, sym, ap, 
 use lib.Count.{count_trailing_zeros}
 use Rattle.std.proofs.lemmas.List.Sums.{prefix_len-le-length}
 use Rattle.yaml_text.specs.Utf8.{is_single, is_other}
-use Rattle.yaml_text.proofs.Vectors.{run_through, run_stops}
+use Rattle.yaml_text.proofs.Vectors.{run_through, run_stops, twice}
 use Rattle.yaml_text.proofs.ascii.single_len.Goals as goal
-
-twice : (b : Bool) → b ≡ not (not b)
-twice true = refl
-twice false = refl
 
 pub returns-then-found-ne0-clause-value : goal.returns-then-found-ne0-clause-value
 returns-then-found-ne0-clause-value c =
