@@ -8,7 +8,7 @@ use Rattle.yaml_lexeme.proofs.ChunkLocal.{chunk_like, sep_run, sep_like}
 use Rattle.yaml_lexeme.proofs.Like.{Like, IsLike, found_here, like_if, like_bind, like_map}
 use Rattle.yaml_lexeme.proofs.Loop.{Next, go, stop, join, finish, finish_like}
 use Rattle.yaml_lexeme.proofs.Places.{skip_none, behind_none}
-use Rattle.yaml_lexeme.proofs.Plains.{tab_at, link_shortens, behind_gap}
+use Rattle.yaml_lexeme.proofs.Plains.{tab_at, link_shortens, behind_gap, tail_of}
 use Rattle.yaml_lexeme.proofs.Spaces.{run_none}
 use Rattle.yaml_lexeme.specs.Classes.{is_white}
 use Rattle.yaml_lexeme.specs.Fold.{fold}
@@ -110,9 +110,6 @@ scalar_of v t = record { value = utf8 v ++ flat_map utf8 t.0; end = t.1.0; passe
 
 abbrev scalar_from : List ℕ → Read (List (List ℕ) × Tail) → Read scalar_t
 scalar_from v r = r >>= λ t. found (scalar_of v t.value) t.end
-
-abbrev tail_of : List ℕ → Read (List (List ℕ)) → Read scalar_t
-tail_of v r = r >>= λ links. found (record { value = utf8 v ++ flat_map utf8 links.value; end = links.end.mark; passed_break = list_any is_break (run is_white links.end) }) (behind is_white links.end)
 
 tail_is : (v : List ℕ) (r : Read (List (List ℕ))) → tail_of v r ≡ scalar_from v (finish trailing r)
 tail_is v (Ok links) = refl

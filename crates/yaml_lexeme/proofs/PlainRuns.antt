@@ -19,7 +19,7 @@ use Rattle.yaml_lexeme.proofs.Many.{joined, many_turn, reads_all, reads_none, no
 use Rattle.yaml_lexeme.proofs.Parts.{fold_none, no_breaks, column_behind, no_marker, space_first, stop_le, first_one}
 use Rattle.yaml_lexeme.proofs.Places.{skip_none, skip_skip, length_skip, behind_more, behind_none, rest_skip, solid}
 use Rattle.yaml_lexeme.proofs.Plains.{chunk_more, chunk_stop, chunk_there, Gap, at_gap, Passes, passes_more, passes_spaces, passes_all, passed, same_none, link_shortens, tail_all, tail_none, scalar_at, plain_is, after_head}
-use Rattle.yaml_lexeme.proofs.Trims.{trimmed, trim_last}
+use Rattle.yaml_lexeme.proofs.Trims.{trims_at}
 use Rattle.yaml_lexeme.specs.Classes.{is_white}
 use Rattle.yaml_lexeme.specs.Fold.{fold}
 use Rattle.yaml_lexeme.specs.Gives.{Refuses, TakesPart}
@@ -213,22 +213,17 @@ words_over flow least (suc fuel) (suc k) p le s far =
 
 -- The beginning of a line, without the blanks at its end.
 trimmed_solid : (flow : Bool) (cs : List ℕ) (m : ℕ) → m ≤ prefix_len (class_test (plain_of flow)) cs → let front = trim (take m cs) in Solid flow (length front) cs
-trimmed_solid flow cs m low =
+trimmed_solid flow cs m passing =
     let test = class_test (plain_of flow) in
-    let t = trimmed (take m cs) in
-    let kept = trim (take m cs) in
-    let k = length kept in
+    let k = length (trim (take m cs)) in
     let within : m ≤ length cs = omega (arith, prefix_len-le-length test cs) in
-    let len : length (take m cs) ≡ m = omega (arith, length-take m cs) in
-    let sum : k + length t.blanks ≡ m = omega (arith, len, ap length t.parts, length-append kept t.blanks) in
-    let front : take k cs ≡ kept = sym (take-take k m cs (omega arith)) ∙ ap (λ (x : List ℕ). take k x) t.parts ∙ take_at kept t.blanks k refl in
+    let cut = trims_at cs m within in
+    let low : k ≤ m = omega (arith, cut.sum) in
     let passes : (i : ℕ) → i < m → test (get_or cs i 0) ≡ true = λ i l. prefix_len_passes test cs i 0 (omega arith) in
     record {
       within = omega arith;
       each = λ i l. passes i (omega arith);
-      last = λ some.
-          let last : get_or cs (k - 1) 0 ≡ get_or kept (k - 1) 0 = sym (get_or-take k cs (k - 1) 0 (omega arith)) ∙ ap (λ (x : List ℕ). get_or x (k - 1) 0) front in
-          solid (get_or cs (k - 1) 0) (ap is_blank last ∙ trim_last (take m cs) some) (line_char flow (get_or cs (k - 1) 0) (passes (k - 1) (omega arith))).0;
+      last = λ some. solid (get_or cs (k - 1) 0) (cut.last some) (line_char flow (get_or cs (k - 1) 0) (passes (k - 1) (omega arith))).0;
     }
 
 -- nothing is taken

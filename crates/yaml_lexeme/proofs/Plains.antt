@@ -262,9 +262,13 @@ link_shortens flow least p =
 abbrev pub scalar_at : List ℕ → Place → Read scalar_t
 scalar_at bytes q = found (record { value = bytes; end = q.mark; passed_break = list_any is_break (run is_white q) }) (behind is_white q)
 
+-- what follows the bytes of the first chunk
+abbrev pub tail_of : List ℕ → Read (List (List ℕ)) → Read scalar_t
+tail_of v r = r >>= λ links. scalar_at (utf8 v ++ flat_map utf8 links.value) links.end
+
 -- what follows the first chunk
 abbrev pub after_head : Bool → ℕ → Read (List ℕ) → Read scalar_t
-after_head flow least r = r >>= λ head. many (link flow least) head.end >>= λ links. scalar_at (utf8 head.value ++ flat_map utf8 links.value) links.end
+after_head flow least r = r >>= λ head. tail_of head.value (many (link flow least) head.end)
 
 pub plain_is : (flow : Bool) (least : ℕ) (p : Place) → plain flow least p ≡ after_head flow least (chunk flow p)
 unfolding plain

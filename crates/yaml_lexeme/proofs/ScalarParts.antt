@@ -25,6 +25,7 @@ use Rattle.yaml_lexeme.proofs.Spaces.{stopped}
 use Rattle.yaml_lexeme.proofs.Spans.{body_goes, link_goes}
 use Rattle.yaml_lexeme.proofs.Founds.{value_or, end_or, offence_or, both}
 use Rattle.yaml_lexeme.proofs.Body.{finish, quoted_is}
+use Rattle.yaml_lexeme.proofs.Plains.{tail_of, after_head, plain_is}
 
 -- quoted scalars
 body_advances : (single : Bool) → Advances (body_part single)
@@ -338,16 +339,6 @@ link_over flow least p = (over_from flow least p, over_to flow least p)
 link_advances : (flow : Bool) (least : ℕ) → Advances (link flow least)
 link_advances flow least p = (link_goes flow least p).goes
 
-abbrev tail_of : List ℕ → Read (List (List ℕ)) → Read scalar_t
-tail_of v r = r >>= λ links. found (plain_scalar v links.value links.end) (behind is_white links.end)
-
-abbrev with_links : Bool → ℕ → Read (List ℕ) → Read scalar_t
-with_links flow least r = r >>= λ head. tail_of head.value (many (link flow least) head.end)
-
-plain_is : (flow : Bool) (least : ℕ) (p : Place) → plain flow least p ≡ with_links flow least (chunk flow p)
-unfolding plain
-plain_is flow least p = refl
-
 links_from : (flow : Bool) (least : ℕ) (p : Place) (f : Found scalar_t) (head : Found (List ℕ)) → chunk flow p ≡ Ok head → (r : Read (List (List ℕ))) → many (link flow least) head.end ≡ r → tail_of head.value r ≡ Ok f → PlainParts flow least p f
 links_from flow least p f head starts (Ok b) e h =
     let l = many_longest (link flow least) (link_advances flow least) head.end b e in
@@ -363,13 +354,13 @@ links_from flow least p f head starts (Ok b) e h =
     }
 links_from flow least p f head starts (Err o) e h = absurd cc
 
-head_from : (flow : Bool) (least : ℕ) (p : Place) (f : Found scalar_t) (r : Read (List ℕ)) → chunk flow p ≡ r → with_links flow least r ≡ Ok f → PlainParts flow least p f
+head_from : (flow : Bool) (least : ℕ) (p : Place) (f : Found scalar_t) (r : Read (List ℕ)) → chunk flow p ≡ r → after_head flow least r ≡ Ok f → PlainParts flow least p f
 head_from flow least p f (Ok head) e h = links_from flow least p f head e (many (link flow least) head.end) refl h
 head_from flow least p f (Err o) e h = absurd cc
 
 plain_to : (flow : Bool) (least : ℕ) (p : Place) (f : Found scalar_t) → PlainParts flow least p f → plain flow least p ≡ Ok f
 plain_to flow least p f q =
-    plain_is flow least p ∙ ap (with_links flow least) q.starts ∙ ap (tail_of q.head.value) (found_of (link flow least) (link_advances flow least) q.head.end q.links q.last q.longest)
+    plain_is flow least p ∙ ap (after_head flow least) q.starts ∙ ap (tail_of q.head.value) (found_of (link flow least) (link_advances flow least) q.head.end q.links q.last q.longest)
     ∙ both f (plain_scalar q.head.value (values q.links) q.last) (behind is_white q.last) q.value q.end
 
 pub plain_parts : PlainIsParts
@@ -381,14 +372,14 @@ links_refused flow least p e head starts (Err o) is h =
     let m = many_refused (link flow least) (link_advances flow least) head.end e (is ∙ ap (λ (x : Offence). Err x) (ap (offence_or o) h)) in
     record { head = head; links = m.0; last = m.1; starts = starts; longest = m.2 }
 
-head_refused : (flow : Bool) (least : ℕ) (p : Place) (e : Offence) (r : Read (List ℕ)) → chunk flow p ≡ r → with_links flow least r ≡ Err e → ChunkRefused flow p e ⊎ LinksRefused flow least p e
+head_refused : (flow : Bool) (least : ℕ) (p : Place) (e : Offence) (r : Read (List ℕ)) → chunk flow p ≡ r → after_head flow least r ≡ Err e → ChunkRefused flow p e ⊎ LinksRefused flow least p e
 head_refused flow least p e (Ok head) is h = inr (links_refused flow least p e head is (many (link flow least) head.end) refl h)
 head_refused flow least p e (Err o) is h = inl (chunk_refused_from flow p e (is ∙ ap (λ (x : Offence). Err x) (ap (offence_or o) h)))
 
 refused_to : (flow : Bool) (least : ℕ) (p : Place) (e : Offence) → ChunkRefused flow p e ⊎ LinksRefused flow least p e → plain flow least p ≡ Err e
-refused_to flow least p e (inl h) = plain_is flow least p ∙ ap (with_links flow least) (chunk_refused_to flow p e h)
+refused_to flow least p e (inl h) = plain_is flow least p ∙ ap (after_head flow least) (chunk_refused_to flow p e h)
 refused_to flow least p e (inr r) =
-    plain_is flow least p ∙ ap (with_links flow least) r.starts ∙ ap (tail_of r.head.value) (refused_of (link flow least) (link_advances flow least) r.head.end r.links r.last e r.longest)
+    plain_is flow least p ∙ ap (after_head flow least) r.starts ∙ ap (tail_of r.head.value) (refused_of (link flow least) (link_advances flow least) r.head.end r.links r.last e r.longest)
 
 pub plain_refused : PlainIsRefused
 plain_refused flow least p e = (λ h. head_refused flow least p e (chunk flow p) refl (sym (plain_is flow least p) ∙ h), refused_to flow least p e)

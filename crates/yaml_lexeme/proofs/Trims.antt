@@ -11,6 +11,7 @@ use Rattle.yaml_text.specs.Classes.{is_blank}
 use Rattle.yaml_text.proofs.Spelling.{two, three, four}
 use Rattle.yaml_lexeme.specs.Runs.{trim}
 use Rattle.yaml_text.proofs.ClassLaws.{high_blank}
+use Rattle.std.proofs.lemmas.List.{length-append, length-take, take-take, take_at, get_or-take}
 
 abbrev all : List ℕ → Bool
 all xs = list_all is_blank xs
@@ -79,6 +80,25 @@ trim_last (c ∷ cs) h =
       | inl t ↦ absurd (omega (arith, rw t at h))
       | inr f ↦ rw f (last_from c cs (trim cs) refl f (trim_last cs))
     ]
+
+-- The first m characters, without the blanks at their end.
+pub record TrimsAt (cs : List ℕ) (m : ℕ) (blanks : List ℕ) : Type 0 where
+  pub sum : length (trim (take m cs)) + length blanks ≡ m
+  pub front : take (length (trim (take m cs))) cs ≡ trim (take m cs)
+  pub last : 0 < length (trim (take m cs)) → is_blank (get_or cs (length (trim (take m cs)) - 1) 0) ≡ false
+
+pub trims_at : (cs : List ℕ) (m : ℕ) → m ≤ length cs → TrimsAt cs m (trimmed (take m cs)).blanks
+trims_at cs m within =
+    let t = trimmed (take m cs) in
+    let kept = trim (take m cs) in
+    let k = length kept in
+    let sum : k + length t.blanks ≡ m = omega (arith, length-take m cs, ap length t.parts, length-append kept t.blanks) in
+    let front : take k cs ≡ kept = sym (take-take k m cs (omega arith)) ∙ ap (λ (x : List ℕ). take k x) t.parts ∙ take_at kept t.blanks k refl in
+    record {
+      sum = sum;
+      front = front;
+      last = λ some. ap is_blank (sym (get_or-take k cs (k - 1) 0 (omega arith)) ∙ ap (λ (x : List ℕ). get_or x (k - 1) 0) front) ∙ trim_last (take m cs) some;
+    }
 
 -- ---- bytes
 

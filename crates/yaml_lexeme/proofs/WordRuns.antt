@@ -13,7 +13,7 @@ use Rattle.yaml_lexeme.proofs.Many.{Reading, joined, many_turn}
 use Rattle.yaml_lexeme.proofs.Parts.{Whole, parts_over, in_quotes, stop_le}
 use Rattle.yaml_lexeme.proofs.Places.{class_end, skip_skip, behind_none, rest_skip, is_break_len, solid, blank_white}
 use Rattle.yaml_lexeme.proofs.Spaces.{fold_breaks, breaks_at}
-use Rattle.yaml_lexeme.proofs.Trims.{trimmed, trim_last}
+use Rattle.yaml_lexeme.proofs.Trims.{trimmed, trims_at}
 use Rattle.yaml_lexeme.specs.Classes.{is_white}
 use Rattle.yaml_lexeme.specs.Fold.{fold, join_breaks, written}
 use Rattle.yaml_lexeme.specs.Kind.{is_marker}
@@ -114,19 +114,16 @@ trimmed_goes_on single p q out new e n h whole r =
     let kept = trim (take m cs) in
     let k = length kept in
     let within : m ≤ length cs = prefix_len-le-length test cs in
-    let len : length (take m cs) ≡ m = omega (arith, length-take m cs) in
-    let sum : k + length t.blanks ≡ m = omega (arith, len, ap length t.parts, length-append kept t.blanks) in
-    let front : take k cs ≡ kept = sym (take-take k m cs (omega arith)) ∙ ap (λ (x : List ℕ). take k x) t.parts ∙ take_at kept t.blanks k refl in
+    let cut = trims_at cs m within in
+    let sum : k + length t.blanks ≡ m = cut.sum in
     let passes : (i : ℕ) → i < m → test (get_or cs i 0) ≡ true = λ i l. prefix_len_passes test cs i 0 l in
     let w : Whole (line_of single) k cs = record {
       within = omega arith;
       each = λ i l. passes i (omega arith);
       whole = λ i l.
           let some : 0 < k = omega arith in
-          let last : get_or cs (k - 1) 0 ≡ get_or kept (k - 1) 0 = sym (get_or-take k cs (k - 1) 0 (omega arith)) ∙ ap (λ (x : List ℕ). get_or x (k - 1) 0) front in
-          let blank : is_blank (get_or cs (k - 1) 0) ≡ false = ap is_blank last ∙ trim_last (take m cs) some in
           let line : is_break (get_or cs (k - 1) 0) ≡ false = in_quotes single (get_or cs (k - 1) 0) (passes (k - 1) (omega arith)) in
-          ends_within k i cs l (solid (get_or cs (k - 1) 0) blank line);
+          ends_within k i cs l (solid (get_or cs (k - 1) 0) (cut.last some) line);
     } in
     let here = skip k p in
     let at_here : Reading utf8 (body_part single) here (out ++ utf8 (take k cs)) whole = parts_over single k k p out whole (omega arith) w r in
@@ -147,6 +144,6 @@ trimmed_goes_on single p q out new e n h whole r =
       | inr none ↦ let at : k ≡ m = omega arith in ap (λ i. is_white (get_or cs i 0)) at ∙ (break_white (get_or cs m 0) broken).0
     ] in
     let same : many (body_part single) here ≡ many (body_part single) q = blanks_pass single here q end white h in
-    let bytes : new ≡ out ++ utf8 (take k cs) = n ∙ ap (λ (x : List ℕ). out ++ utf8 x) (sym front) in
+    let bytes : new ≡ out ++ utf8 (take k cs) = n ∙ ap (λ (x : List ℕ). out ++ utf8 x) (sym cut.front) in
     subst (λ (x : List ℕ). Reading utf8 (body_part single) q x whole) (sym bytes)
     (ap (λ (x : Read (List (List ℕ))). with_front (out ++ utf8 (take k cs)) (joined utf8 x)) (sym same) ∙ at_here)
