@@ -1,21 +1,19 @@
 -- Literal and folded scalars are local.
 use Rattle.std.proofs.Common.{◌≡◌, ℕ, ◌+◌, ◌-◌, ◌≤◌, min, Bool, true, false, not, ◌==◌, ◌&&◌, nat_lt, if◌then◌else◌, inl, inr, List, Option, Some, None, is_some, Result, Ok, Err, refl, sym, ap, ◌∙◌, subst, arith}
 use Rattle.std.proofs.lemmas.Bool.{cases_Bool, cases_lt}
-use Rattle.yaml_lexeme.proofs.Ahead.{part_shorter}
 use Rattle.yaml_lexeme.proofs.DirectivesLocal.{line_like}
 use Rattle.yaml_lexeme.proofs.GapLocal.{break_same}
 use Rattle.yaml_lexeme.proofs.Like.{Like, IsLike, IsPartLike, like_found, found_here, refuse_here, like_if, part_like_if, like_on, like_bind, like_same, like_map, like_part, like_run, over_here, many_like, Step, like_step, agree_sym}
 use Rattle.yaml_lexeme.proofs.Local.{agree_less, run_same}
 use Rattle.yaml_lexeme.proofs.Loop.{Next, go, stop, join, finish, finish_like}
-use Rattle.yaml_lexeme.proofs.Many.{Shortens}
-use Rattle.yaml_lexeme.proofs.Spans.{blank_goes, line_goes_of, line_spans, blank_shortens, text_shortens}
+use Rattle.yaml_lexeme.proofs.Spans.{blank_shortens, text_shortens}
 use Rattle.yaml_lexeme.specs.Block.{is_sign, sign_of, digit_at, header_at, after_line, is_indenting, indent_len, after_indent, Blank, blank_line, Blanks, blanks_of, blank_lines, Line, break_at, line_at, is_text, text_line, block_value, end_of, block_indent, leading_limit, block}
 use Rattle.yaml_lexeme.specs.Classes.{is_in_line}
 use Rattle.yaml_lexeme.specs.Fold.{written}
 use Rattle.yaml_lexeme.proofs.Agreeing.{Agree}
 use Rattle.yaml_lexeme.proofs.Blocks.{blank_at, after_blanks}
 use Rattle.yaml_lexeme.specs.Place.{Place, first, skip, run_len, break_len}
-use Rattle.yaml_lexeme.specs.Reading.{Offence, Found, Read, found, refuse, ◌>>=◌, Part, part, over, many}
+use Rattle.yaml_lexeme.specs.Reading.{Offence, Found, Read, found, refuse, ◌>>=◌, part, over, many}
 use Rattle.yaml_lexeme.specs.declared.block.header_t.{header_t}
 use Rattle.yaml_lexeme.specs.Lexeme.{Scalar as scalar_t}
 use Rattle.yaml_lexeme.specs.declared.problem.problem_t.TheVariants.{TAB_IN_INDENTATION}

@@ -1,6 +1,5 @@
 -- Block scalars, a space, a line at a time.
-use Rattle.std.proofs.Common.{◌≡◌, ℕ, zero, suc, ◌+◌, ◌<◌, ◌≤◌, max, Bool, true, false, cond, not, ◌==◌, ◌&&◌, ◌||◌, nat_lt, if◌then◌else◌, inl, inr, List, [], ◌∷◌, ◌++◌, length, slice_index, map, Option, Some, None, Result, Ok, Err, refl, sym, ap, subst, ◌∙◌, arith, append_assoc, lt-ltb, le_refl, length-append}
-use Rattle.std.proofs.lemmas.Bool.{cases_Bool, cases_lt, and_parts, not-true}
+use Rattle.std.proofs.Common.{◌≡◌, ℕ, ◌<◌, ◌≤◌, max, Bool, true, false, cond, not, ◌&&◌, ◌||◌, nat_lt, if◌then◌else◌, List, [], ◌∷◌, ◌++◌, length, slice_index, map, Option, Some, None, Result, Ok, Err, refl, sym, ap, subst, ◌∙◌, arith, append_assoc, lt-ltb, length-append}
 use Rattle.std.proofs.lemmas.Str.{encode_ascii, encodes-append}
 use Rattle.std.proofs.lemmas.Bool.Decides.{nat_tests}
 use Rattle.std.proofs.lemmas.List.{append-nil}
@@ -11,8 +10,7 @@ use Rattle.yaml_lexeme.specs.declared.problem.refusal_t.{refusal_t}
 use Rattle.yaml_lexeme.specs.declared.problem.refusal_t.TheVariants as errors
 use Rattle.yaml_lexeme.specs.declared.problem.problem_t.TheVariants.{TAB_IN_INDENTATION}
 use Rattle.yaml_lexeme.proofs.Gather.{gather, gathers_more, gathers_all, gathers_none}
-use Rattle.yaml_lexeme.proofs.Many.{IsShorter, Shortens}
-use Rattle.yaml_lexeme.proofs.Places.{length_skip, is_there, behind_more, behind_none, break_within}
+use Rattle.yaml_lexeme.proofs.Places.{length_skip, break_within}
 use Rattle.yaml_lexeme.proofs.Spaces.{run_more, run_none, encode_some}
 use Rattle.yaml_lexeme.proofs.Spans.{blank_shortens, text_shortens}
 use Rattle.yaml_lexeme.proofs.Founds.{value_or, end_or}
@@ -20,11 +18,11 @@ use Rattle.yaml_lexeme.specs.Block.{is_indenting, indent_len, after_indent, Blan
 use Rattle.yaml_lexeme.specs.Classes.{is_in_line}
 use Rattle.yaml_lexeme.specs.Fold.{written}
 use Rattle.yaml_lexeme.specs.Gives.{Refuses}
-use Rattle.yaml_lexeme.specs.Place.{Place, first, peek, skip, run, run_len, behind, break_len}
-use Rattle.yaml_lexeme.specs.Reading.{Offence, Found, Read, found, Part, part, refuse, over, many, at_most, go_on, with_front, ◌>>=◌}
+use Rattle.yaml_lexeme.specs.Place.{Place, first, skip, run, behind, break_len}
+use Rattle.yaml_lexeme.specs.Reading.{Offence, Found, Read, found, Part, part, refuse, over, many, ◌>>=◌}
 use Rattle.yaml_lexeme.specs.Tails.{TakesBlanks, TakesLine, Keeps, between_tail, chomped_tail}
 use Rattle.yaml_text.specs.Chars.{utf8}
-use Rattle.yaml_text.specs.Classes.{is_break, is_blank, is_z}
+use Rattle.yaml_text.specs.Classes.{is_blank}
 use Rattle.yaml_lexeme.specs.declared.block.tail_t.{tail_t}
 use Rattle.yaml_lexeme.specs.declared.block.chomp_t.{chomp_t}
 use Rattle.yaml_lexeme.specs.declared.block.chomp_t.TheVariants.{STRIP, CLIP, KEEP}

@@ -15,7 +15,7 @@ use Rattle.yaml_lexeme.specs.Kind.{is_marker}
 use Rattle.yaml_lexeme.proofs.Agreeing.{Agree}
 use Rattle.yaml_lexeme.specs.Locality.{move}
 use Rattle.yaml_lexeme.specs.Place.{Place, first, peek, skip, run, run_len, behind, break_len}
-use Rattle.yaml_lexeme.specs.Quoted.{quote, unmarked, body_part, spelled, quoted}
+use Rattle.yaml_lexeme.specs.Quoted.{quote, unmarked, body_part, quoted}
 use Rattle.yaml_lexeme.specs.Reading.{Read, found, part, refuse, many, ◌>>=◌}
 use Rattle.yaml_lexeme.specs.declared.problem.problem_t.TheVariants.{DOCUMENT_MARKER, NO_HEX_DIGIT, NO_SCALAR_VALUE, UNKNOWN_ESCAPE}
 use Rattle.yaml_text.specs.Chars.{utf8}

@@ -1,12 +1,12 @@
 -- Reading ahead to places that are not between CR and LF.
-use Rattle.std.proofs.Common.{◌≡◌, ℕ, zero, suc, ◌+◌, ◌-◌, ◌≤◌, Bool, true, false, cond, ◌==◌, ◌&&◌, if◌then◌else◌, inl, inr, List, [], ◌∷◌, length, slice_index, refl, sym, ap, ◌∙◌, arith, get_or-drop}
+use Rattle.std.proofs.Common.{◌≡◌, ℕ, zero, suc, ◌+◌, ◌-◌, ◌≤◌, Bool, true, false, cond, ◌==◌, ◌&&◌, if◌then◌else◌, inl, inr, List, [], ◌∷◌, length, slice_index, refl, sym, ap, ◌∙◌, arith}
 use Rattle.std.proofs.lemmas.Bool.{cases_Bool, cases_lt, and_parts}
 use Rattle.std.proofs.lemmas.Bool.Decides.{nat_tests}
 use Rattle.std.proofs.lemmas.List.{get_or_past}
 use Rattle.std.specs.List.{prefix_len}
 use Rattle.yaml_text.specs.Classes.{is_crlf, is_break}
 use Rattle.yaml_lexeme.proofs.Ahead.{ahead_any}
-use Rattle.yaml_lexeme.proofs.Places.{skip_none, skip_skip, length_skip, rest_skip, peek_on}
+use Rattle.yaml_lexeme.proofs.Places.{skip_none, skip_skip, length_skip, peek_on}
 use Rattle.yaml_lexeme.specs.Order.{IsAhead}
 use Rattle.yaml_lexeme.specs.Place.{Place, first, peek, skip, run_len, behind, break_len}
 

@@ -1,11 +1,11 @@
 -- How a place on bytes moves.
-use Rattle.std.proofs.Common.{add-zero, false, ◌≡◌, ℕ, zero, suc, ◌+◌, ◌-◌, ◌<◌, ◌≤◌, Bool, List, [], ◌∷◌, ◌++◌, length, get_or, take, drop, min, refl, sym, ap, ◌∙◌, subst, arith, inl, inr}
+use Rattle.std.proofs.Common.{false, ◌≡◌, ℕ, zero, suc, ◌+◌, ◌-◌, ◌<◌, ◌≤◌, Bool, List, [], ◌∷◌, ◌++◌, length, get_or, take, drop, min, refl, sym, ap, ◌∙◌, subst, arith, inl, inr}
 use Rattle.std.specs.List.{prefix_len, count_by}
 use Rattle.std.specs.Str.{chars}
 use Rattle.std.proofs.lemmas.Bool.{cases_Bool}
 use Rattle.std.proofs.lemmas.List.Sums.{prefix_len-le-length}
 use Rattle.std.proofs.lemmas.Bool.Decides.{nat_tests}
-use Rattle.std.proofs.lemmas.List.{get_or-drop, take-append-drop, take_at, drop_at, length-append}
+use Rattle.std.proofs.lemmas.List.{take-append-drop, take_at, drop_at, length-append}
 use Rattle.std.proofs.lemmas.Str.{encodes-append, length-encode, len_utf8_bounds}
 use lib.Utf8.{encode}
 use Rattle.yaml_text.specs.declared.types.yaml_mark_t.{yaml_mark_t}
@@ -13,7 +13,7 @@ use Rattle.yaml_text.specs.Chars.{AreChars, IsText, utf8}
 use Rattle.yaml_text.specs.Classes.{is_break}
 use Rattle.yaml_text.proofs.Fronts.{chars-utf8, IsText-utf8}
 use Rattle.yaml_text.proofs.Places.{AreChars-parts}
-use Rattle.yaml_lexeme.specs.Place.{Place, peek, place_at, IsMarkOf, ends_line, skip_from, skip, behind, run, run_len, mark_behind, width}
+use Rattle.yaml_lexeme.specs.Place.{Place, place_at, IsMarkOf, ends_line, skip_from, skip, behind, run, run_len, mark_behind, width}
 use Rattle.yaml_lexeme.specs.declared.runs.class_t.{class_t}
 use Rattle.yaml_lexeme.specs.Runs.{is_quiet, class_test, begins}
 use Rattle.yaml_lexeme.proofs.Places.{skip_skip, moved, rest_skip}

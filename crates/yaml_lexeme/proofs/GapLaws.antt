@@ -1,16 +1,15 @@
 -- A gap is the longest text that is gap lines joined by breaks.
-use Rattle.std.proofs.Common.{◌≡◌, ℕ, zero, suc, ◌+◌, ◌<◌, ◌≤◌, ◌⊎◌, Bool, true, false, not, ◌==◌, ◌&&◌, ◌||◌, nat_lt, inl, inr, List, length, refl, sym, ap, ◌∙◌, subst, arith, get_or-drop}
+use Rattle.std.proofs.Common.{◌≡◌, ℕ, zero, suc, ◌<◌, ◌≤◌, ◌⊎◌, Bool, true, false, not, ◌==◌, ◌&&◌, ◌||◌, nat_lt, inl, inr, length, refl, sym, ap, ◌∙◌, subst, arith}
 use Rattle.std.proofs.lemmas.Bool.{cases_Bool, cases_lt, and_parts, eqb-true, true≢false}
 use Rattle.std.proofs.lemmas.Bool.Decides.{nat_tests}
 use Rattle.std.proofs.lemmas.List.Sums.{prefix_len-le-length, prefix_len_passes, prefix_len_stops}
-use Rattle.std.specs.Prelude.{slice_index}
 use Rattle.yaml_lexeme.proofs.Gaps.{within_line, lines_none}
-use Rattle.yaml_lexeme.proofs.Places.{skip_none, length_skip, within_if, break_within, rest_skip, first_on}
+use Rattle.yaml_lexeme.proofs.Places.{skip_none, length_skip, within_if, break_within, first_on}
 use Rattle.yaml_lexeme.proofs.Spaces.{stopped}
 use Rattle.yaml_lexeme.specs.Classes.{is_in_line}
 use Rattle.yaml_lexeme.specs.Gap.{byte_order_mark, is_gap_blank, after_mark, after_comment, after_gap_line, after_gap_lines, gap}
 use Rattle.yaml_lexeme.specs.GapText.{Passes, MayBeMark, MayBeComment, GapLine, GapLines, GapIsLongest, RunIsLongest}
-use Rattle.yaml_lexeme.specs.Place.{Place, peek, first, skip, run_len, behind, break_len}
+use Rattle.yaml_lexeme.specs.Place.{Place, first, skip, run_len, behind, break_len}
 
 -- runs
 pass_run : (test : ℕ → Bool) (p : Place) → Passes test p (behind test p)

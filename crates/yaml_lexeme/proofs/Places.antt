@@ -76,7 +76,6 @@ peek_on k i p = ap (λ (cs : List ℕ). slice_index cs i) (rest_skip k p) ∙ ge
 pub first_on : (k : ℕ) (p : Place) → first (skip k p) ≡ peek p k
 first_on k p = let e : k + 0 ≡ k = omega arith in peek_on k 0 p ∙ ap (peek p) e
 
-
 pub skip_step : (n i : ℕ) (p q : Place) → i < n → skip (n - i) p ≡ q → skip (n - (i + 1)) (skip 1 p) ≡ q
 skip_step n i p q h e = let k : n - i ≡ suc (n - (i + 1)) = omega arith in sym (skip_more (n - (i + 1)) p) ∙ rw (← k) e
 

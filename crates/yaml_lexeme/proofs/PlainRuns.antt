@@ -1,11 +1,11 @@
 -- What is kept unchanged in a line of a plain scalar.
 use Rattle.std.proofs.Common.{◌≡◌, ◌==◌, ◌&&◌, ◌||◌, not, ℕ, zero, suc, ◌+◌, ◌-◌, ◌<◌, ◌≤◌, inl, inr, Bool, true, false, List, [], ◌∷◌, ◌++◌, length, get_or, take, drop, None, Ok, Err, refl, sym, ap, ◌∙◌, subst, arith, add-zero, append_assoc, take-add, le-ltb, ne_eqb, if◌then◌else◌}
 use Rattle.std.specs.Prelude.{IsTrue, nat_le, nat_lt}
-use Rattle.std.specs.List.{prefix_len, flat_map, list_any}
+use Rattle.std.specs.List.{prefix_len, list_any}
 use Rattle.std.specs.Char.{encode_utf8}
 use Rattle.std.proofs.lemmas.Bool.{cases_Bool, cases_lt, leb-true, le-leb, and_right}
 use Rattle.std.proofs.lemmas.Bool.Decides.{nat_tests}
-use Rattle.std.proofs.lemmas.List.{append-nil, get_or-drop, length-append, length-take, length-drop, get_or-take, take-take, take_at}
+use Rattle.std.proofs.lemmas.List.{append-nil, get_or-drop, length-drop}
 use Rattle.std.proofs.lemmas.List.Sums.{prefix_len-le-length, prefix_len_passes, prefix_len_stops}
 use Rattle.std.proofs.lemmas.Str.{encodes-append}
 use Rattle.yaml_text.specs.declared.types.yaml_mark_t.{yaml_mark_t}
@@ -14,7 +14,6 @@ use Rattle.yaml_text.specs.Classes.{is_blank, is_break}
 use Rattle.yaml_lexeme.specs.declared.problem.problem_t.TheVariants.{COLON_IN_FLOW}
 use Rattle.yaml_lexeme.specs.declared.problem.refusal_t.{refusal_t}
 use Rattle.yaml_lexeme.specs.declared.problem.refusal_t.TheVariants as errors
-use Rattle.yaml_lexeme.specs.Lexeme.{Scalar as scalar_t}
 use Rattle.yaml_lexeme.proofs.Many.{joined, many_turn, reads_all, reads_none, no_front}
 use Rattle.yaml_lexeme.proofs.Parts.{fold_none, no_breaks, column_behind, no_marker, space_first, stop_le, first_one}
 use Rattle.yaml_lexeme.proofs.Places.{skip_none, skip_skip, length_skip, behind_more, behind_none, rest_skip, solid}

@@ -1,5 +1,5 @@
 -- Quoted and plain scalars are their parts.
-use Rattle.std.proofs.Common.{◌≡◌, ℕ, zero, suc, ◌+◌, ◌<◌, ◌≤◌, ◌⊎◌, Bool, true, false, not, ◌==◌, ◌&&◌, ◌||◌, if◌then◌else◌, inl, inr, List, [], ◌∷◌, ◌++◌, length, take, drop, slice_index, Option, Some, None, Ok, Err, refl, sym, ap, ◌∙◌, subst, arith, append_assoc, length-append, get_or-drop}
+use Rattle.std.proofs.Common.{◌≡◌, ℕ, zero, suc, ◌+◌, ◌<◌, ◌≤◌, ◌⊎◌, Bool, true, false, not, ◌==◌, ◌&&◌, ◌||◌, if◌then◌else◌, inl, inr, List, [], ◌∷◌, ◌++◌, length, take, drop, slice_index, Option, Some, None, Ok, Err, refl, sym, ap, ◌∙◌, subst, arith, append_assoc, length-append}
 use Rattle.std.proofs.lemmas.Bool.{cases_Bool, and_parts, eqb-true, not-false}
 use Rattle.std.proofs.lemmas.Bool.Decides.{nat_tests}
 use Rattle.std.proofs.lemmas.List.{length-take-le}
@@ -16,7 +16,7 @@ use Rattle.yaml_lexeme.specs.Kind.{is_marker}
 use Rattle.yaml_lexeme.specs.Parts.{Piece, texts, values, IsLongest, QuotedParts, QuotedIsParts, QuotedIsRefused, plain_scalar, PlainParts, PlainIsParts, ChunkRefused, LinksRefused, PlainIsRefused, ChunkIsLongest, LinkParts, LinkIsLongest, SeparatorEnds, LinkIsOver}
 use Rattle.yaml_lexeme.specs.Place.{Place, first, peek, skip, run, behind}
 use Rattle.yaml_lexeme.specs.Plain.{is_bad_colon, is_chunk, chunk_len, chunk, tab_from, untabbed, separator, is_over, link, plain}
-use Rattle.yaml_lexeme.specs.Quoted.{quote, body_part, spelled, quoted}
+use Rattle.yaml_lexeme.specs.Quoted.{quote, body_part, quoted}
 use Rattle.yaml_lexeme.specs.Reading.{Offence, Found, Read, found, refuse, ◌>>=◌, Part, part, over, many}
 use Rattle.yaml_lexeme.proofs.PartLaws.{Advances, split, many_longest, many_refused, found_of, refused_of}
 use Rattle.yaml_lexeme.proofs.Places.{skip_none, rest_skip, peek_on}
