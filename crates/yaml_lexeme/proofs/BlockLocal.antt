@@ -1,20 +1,19 @@
 -- Literal and folded scalars are local.
 use Rattle.std.proofs.Common.{◌≡◌, ℕ, ◌+◌, ◌-◌, ◌≤◌, min, Bool, true, false, not, ◌==◌, ◌&&◌, nat_lt, if◌then◌else◌, inl, inr, List, Option, Some, None, is_some, Result, Ok, Err, refl, sym, ap, ◌∙◌, subst, arith}
 use Rattle.std.proofs.lemmas.Bool.{cases_Bool, cases_lt}
-use Rattle.yaml_lexeme.proofs.Ahead.{part_shorter}
 use Rattle.yaml_lexeme.proofs.DirectivesLocal.{line_like}
 use Rattle.yaml_lexeme.proofs.GapLocal.{break_same}
 use Rattle.yaml_lexeme.proofs.Like.{Like, IsLike, IsPartLike, like_found, found_here, refuse_here, like_if, part_like_if, like_on, like_bind, like_same, like_map, like_part, like_run, over_here, many_like, Step, like_step, agree_sym}
 use Rattle.yaml_lexeme.proofs.Local.{agree_less, run_same}
 use Rattle.yaml_lexeme.proofs.Loop.{Next, go, stop, join, finish, finish_like}
-use Rattle.yaml_lexeme.proofs.Many.{Shortens}
-use Rattle.yaml_lexeme.proofs.Spans.{blank_goes, line_goes_of, line_spans}
+use Rattle.yaml_lexeme.proofs.Spans.{blank_shortens, text_shortens}
 use Rattle.yaml_lexeme.specs.Block.{is_sign, sign_of, digit_at, header_at, after_line, is_indenting, indent_len, after_indent, Blank, blank_line, Blanks, blanks_of, blank_lines, Line, break_at, line_at, is_text, text_line, block_value, end_of, block_indent, leading_limit, block}
 use Rattle.yaml_lexeme.specs.Classes.{is_in_line}
 use Rattle.yaml_lexeme.specs.Fold.{written}
 use Rattle.yaml_lexeme.proofs.Agreeing.{Agree}
+use Rattle.yaml_lexeme.proofs.Blocks.{blank_at, after_blanks}
 use Rattle.yaml_lexeme.specs.Place.{Place, first, skip, run_len, break_len}
-use Rattle.yaml_lexeme.specs.Reading.{Offence, Found, Read, found, refuse, ◌>>=◌, Part, part, over, many}
+use Rattle.yaml_lexeme.specs.Reading.{Offence, Found, Read, found, refuse, ◌>>=◌, part, over, many}
 use Rattle.yaml_lexeme.specs.declared.block.header_t.{header_t}
 use Rattle.yaml_lexeme.specs.Lexeme.{Scalar as scalar_t}
 use Rattle.yaml_lexeme.specs.declared.problem.problem_t.TheVariants.{TAB_IN_INDENTATION}
@@ -91,12 +90,9 @@ by_indent : (r : Read ℕ) (m : yaml_mark_t) → (r >>= λ x. turn_then m x.end)
 by_indent (Ok x) m = by_break (nat_lt 0 (break_len x.end)) m (record { column = x.end.mark.column; break = written (first x.end) }) x.end (skip (break_len x.end) x.end)
 by_indent (Err e) m = refl
 
-abbrev blank_then : Place → Part Blank
-blank_then q = if nat_lt 0 (break_len q) then part (record { column = q.mark.column; break = written (first q) }) (skip (break_len q) q) else over
-
-blank_is : (limit : Option ℕ) (p : Place) → blank_line limit p ≡ (indented limit p >>= λ x. blank_then x.end)
+blank_is : (limit : Option ℕ) (p : Place) → blank_line limit p ≡ (indented limit p >>= λ x. blank_at x.end)
 unfolding blank_line
-blank_is limit p = indent_is limit p blank_then
+blank_is limit p = indent_is limit p blank_at
 
 turn_is : (limit : Option ℕ) (p : Place) → turn limit p ≡ join (blank_line limit p) (last limit p)
 turn_is limit p = rw (blank_is limit p) (by_indent (indented limit p) p.mark)
@@ -104,23 +100,17 @@ turn_is limit p = rw (blank_is limit p) (by_indent (indented limit p) p.mark)
 abbrev blanks_from : Read (List Blank × yaml_mark_t) → Read Blanks
 blanks_from r = r >>= λ t. found (blanks_of t.value.0 t.value.1) t.end
 
-abbrev blanks_then : Option ℕ → Read (List Blank) → Read Blanks
-blanks_then limit r = r >>= λ lines. after_indent limit lines.end >>= λ next. found (blanks_of lines.value lines.end.mark) next
-
 last_is : (r : Read ℕ) (ls : List Blank) (m : yaml_mark_t) → (r >>= λ x. found (blanks_of ls m) x.end) ≡ blanks_from ((r >>= λ x. found m x.end) >>= λ b. found (ls, b.value) b.end)
 last_is (Ok x) ls m = refl
 last_is (Err e) ls m = refl
 
-blanks_is : (limit : Option ℕ) (r : Read (List Blank)) → blanks_then limit r ≡ blanks_from (finish (last limit) r)
+blanks_is : (limit : Option ℕ) (r : Read (List Blank)) → after_blanks limit r ≡ blanks_from (finish (last limit) r)
 blanks_is limit (Ok lines) = indent_is limit lines.end (λ next. found (blanks_of lines.value lines.end.mark) next) ∙ last_is (indented limit lines.end) lines.value lines.end.mark
 blanks_is limit (Err e) = refl
 
 lines_is : (limit : Option ℕ) (p : Place) → blank_lines limit p ≡ blanks_from (finish (last limit) (many (blank_line limit) p))
 unfolding blank_lines
 lines_is limit p = blanks_is limit (many (blank_line limit) p)
-
-blank_shortens : (limit : Option ℕ) → Shortens (blank_line limit)
-blank_shortens limit p = part_shorter p (blank_line limit p) (blank_goes limit p).goes
 
 lines_like : (limit : Option ℕ) → IsLike (blank_lines limit)
 lines_like limit n p q a =
@@ -149,9 +139,6 @@ text_like : (indent : ℕ) → IsPartLike (text_line indent)
 unfolding text_line
 text_like indent n p q a =
     part_like_if (is_text indent p) (is_text indent q) (λ h. rw (a.mark, a.same 0 (omega arith)) refl) (like_part (λ (l : Line). l) (line_like_at indent n p q a)) over_here
-
-text_shortens : (indent : ℕ) → Shortens (text_line indent)
-text_shortens indent p = part_shorter p (text_line indent p) (line_goes_of p (text_line indent p) (line_spans indent p)).goes
 
 digit_like : IsLike digit_at
 unfolding digit_at

@@ -1,6 +1,5 @@
 -- Block scalars, a space, a line at a time.
-use Rattle.std.proofs.Common.{◌≡◌, ℕ, zero, suc, ◌+◌, ◌<◌, ◌≤◌, max, Bool, true, false, cond, not, ◌==◌, ◌&&◌, ◌||◌, nat_lt, if◌then◌else◌, inl, inr, List, [], ◌∷◌, ◌++◌, length, slice_index, map, Option, Some, None, Result, Ok, Err, refl, sym, ap, subst, ◌∙◌, arith, append_assoc, lt-ltb, le_refl, length-append}
-use Rattle.std.proofs.lemmas.Bool.{cases_Bool, cases_lt, and_parts, not-true}
+use Rattle.std.proofs.Common.{◌≡◌, ℕ, ◌<◌, ◌≤◌, max, Bool, true, false, cond, not, ◌&&◌, ◌||◌, nat_lt, if◌then◌else◌, List, [], ◌∷◌, ◌++◌, length, slice_index, map, Option, Some, None, Result, Ok, Err, refl, sym, ap, subst, ◌∙◌, arith, append_assoc, lt-ltb, length-append}
 use Rattle.std.proofs.lemmas.Str.{encode_ascii, encodes-append}
 use Rattle.std.proofs.lemmas.Bool.Decides.{nat_tests}
 use Rattle.std.proofs.lemmas.List.{append-nil}
@@ -11,18 +10,19 @@ use Rattle.yaml_lexeme.specs.declared.problem.refusal_t.{refusal_t}
 use Rattle.yaml_lexeme.specs.declared.problem.refusal_t.TheVariants as errors
 use Rattle.yaml_lexeme.specs.declared.problem.problem_t.TheVariants.{TAB_IN_INDENTATION}
 use Rattle.yaml_lexeme.proofs.Gather.{gather, gathers_more, gathers_all, gathers_none}
-use Rattle.yaml_lexeme.proofs.Many.{IsShorter, Shortens}
-use Rattle.yaml_lexeme.proofs.Places.{length_skip, is_there, behind_more, behind_none, break_within}
+use Rattle.yaml_lexeme.proofs.Places.{length_skip, break_within}
 use Rattle.yaml_lexeme.proofs.Spaces.{run_more, run_none, encode_some}
+use Rattle.yaml_lexeme.proofs.Spans.{blank_shortens, text_shortens}
+use Rattle.yaml_lexeme.proofs.Founds.{value_or, end_or}
 use Rattle.yaml_lexeme.specs.Block.{is_indenting, indent_len, after_indent, Blank, blank_line, Blanks, blanks_of, blank_lines, Line, break_at, line_at, is_text, text_line, header_at, after_line, leading_limit, block_indent, between, chomped, behind_line, block_value, end_of as end_of_lines, block, or_none, or_space, is_line_feed, is_more_indented}
 use Rattle.yaml_lexeme.specs.Classes.{is_in_line}
 use Rattle.yaml_lexeme.specs.Fold.{written}
 use Rattle.yaml_lexeme.specs.Gives.{Refuses}
-use Rattle.yaml_lexeme.specs.Place.{Place, first, peek, skip, run, run_len, behind, break_len}
-use Rattle.yaml_lexeme.specs.Reading.{Offence, Found, Read, found, Part, part, refuse, over, many, at_most, go_on, with_front, ◌>>=◌}
+use Rattle.yaml_lexeme.specs.Place.{Place, first, skip, run, behind, break_len}
+use Rattle.yaml_lexeme.specs.Reading.{Offence, Found, Read, found, Part, part, refuse, over, many, ◌>>=◌}
 use Rattle.yaml_lexeme.specs.Tails.{TakesBlanks, TakesLine, Keeps, between_tail, chomped_tail}
 use Rattle.yaml_text.specs.Chars.{utf8}
-use Rattle.yaml_text.specs.Classes.{is_break, is_blank, is_z}
+use Rattle.yaml_text.specs.Classes.{is_blank}
 use Rattle.yaml_lexeme.specs.declared.block.tail_t.{tail_t}
 use Rattle.yaml_lexeme.specs.declared.block.chomp_t.{chomp_t}
 use Rattle.yaml_lexeme.specs.declared.block.chomp_t.TheVariants.{STRIP, CLIP, KEEP}
@@ -58,17 +58,6 @@ blank_none limit p q e h = blank_is limit p ∙ ap (λ (r : Result Place Offence
 
 pub blank_refused : (limit : Option ℕ) (p : Place) (o : Offence) → after_indent limit p ≡ Err o → blank_line limit p ≡ Err o
 blank_refused limit p o e = blank_is limit p ∙ ap (λ (r : Result Place Offence). r >>= blank_at) e
-
-short_blank : (limit : Option ℕ) (p : Place) (r : Result Place Offence) → after_indent limit p ≡ r → IsShorter p (r >>= blank_at)
-short_blank limit p (Ok q) e =
-    elim (cases_lt 0 (break_len q)) [
-      | inl some ↦ rw (lt-ltb 0 (break_len q) some) (omega (arith, length_skip (break_len q) q, break_within q some, indent_within limit p q e))
-      | inr none ↦ let zero : break_len q ≡ 0 = omega arith in rw zero tt
-    ]
-short_blank limit p (Err o) e = tt
-
-pub blank_shortens : (limit : Option ℕ) → Shortens (blank_line limit)
-blank_shortens limit p = rw (blank_is limit p) (short_blank limit p (after_indent limit p) refl)
 
 -- the breaks and the greatest column of the empty lines so far
 abbrev pub State : Type 0
@@ -110,7 +99,7 @@ from_gather (Err e) old o h = let same : e ≡ o = cc in ap (λ x. Err x) same
 abbrev pub after_blanks : Option ℕ → Read (List Blank) → Read Blanks
 after_blanks limit m = m >>= λ lines. after_indent limit lines.end >>= λ next. found (blanks_of lines.value lines.end.mark) next
 
-blanks_is : (limit : Option ℕ) (p : Place) → blank_lines limit p ≡ after_blanks limit (many (blank_line limit) p)
+pub blanks_is : (limit : Option ℕ) (p : Place) → blank_lines limit p ≡ after_blanks limit (many (blank_line limit) p)
 unfolding blank_lines
 blanks_is limit p = refl
 
@@ -121,20 +110,12 @@ blanks_refused limit start p old s o h e =
     let none = gathers_none add_blank (blank_line limit) (blank_shortens limit) p s (gather add_blank (old, 0) (many (blank_line limit) start)) o (blank_refused limit p o e) h in
     blanks_is limit start ∙ ap (after_blanks limit) (from_gather (many (blank_line limit) start) old o none)
 
-abbrev state_of : Read State → State
-state_of (Ok r) = r.value
-state_of (Err e) = ([], 0)
-
-abbrev end_of : Read State → Place
-end_of (Ok r) = r.end
-end_of (Err e) = e.at
-
 taken : (limit : Option ℕ) (m : Read (List Blank)) (old out : List ℕ) (column : ℕ) (p q : Place) (end : yaml_mark_t) → gather add_blank (old, 0) m ≡ found (out, column) p → after_indent limit p ≡ Ok q → end ≡ p.mark
     → TakesBlanks (Ok (record { column = column; end = end })) old out q (after_blanks limit m)
 taken limit (Err e) old out column p q end h i m = absurd cc
 taken limit (Ok r) old out column p q end h i m =
-    let state : fold_list add_blank (old, 0) r.value ≡ (out, column) = ap state_of h in
-    let place : r.end ≡ p = ap end_of h in
+    let state : fold_list add_blank (old, 0) r.value ≡ (out, column) = ap (value_or ([], 0)) h in
+    let place : r.end ≡ p = ap (end_or p) h in
     let both = sym state ∙ added r.value old 0 in
     let here : after_indent limit r.end ≡ Ok q = ap (after_indent limit) place ∙ i in
     rw here (ap (λ (s : State). s.1) both, ap (λ (s : State). s.0) both, m ∙ ap (λ (x : Place). x.mark) (sym place), refl)
@@ -264,62 +245,6 @@ chomped_bytes STRIP tail last k = refl
 chomped_bytes CLIP tail last k = rw (k.lead) refl
 chomped_bytes KEEP tail last k = rw (k.lead, k.empties) (sym (encodes-append (or_none last.break) last.empties))
 
--- ends no farther from the text's end, and nearer to it
-abbrev EndsWithin : {A : Type 0} → Place → Read A → Type 0
-EndsWithin p (Ok r) = length r.end.rest ≤ length p.rest
-EndsWithin p (Err e) = Unit {0}
-
-front_within : {A : Type 0} → (a : A) (p q : Place) (r : Read (List A)) → length q.rest < length p.rest → EndsWithin q r → EndsWithin p (with_front (a ∷ []) r)
-front_within a p q (Ok r) h w = omega (arith, w)
-front_within a p q (Err e) h w = tt
-
-turn_within : {A : Type 0} → (f : Place → Read (List A)) (p : Place) (r : Part A) → IsShorter p r → ((q : Place) → EndsWithin q (f q)) → EndsWithin p (r >>= λ a. go_on f p a)
-turn_within f p (Ok (Some a)) short w = front_within a.value p a.end (f a.end) short (w a.end)
-turn_within f p (Ok None) short w = le_refl _
-turn_within f p (Err e) short w = tt
-
-most_within : {A : Type 0} → (one : Place → Part A) → Shortens one → (n : ℕ) (p : Place) → EndsWithin p (at_most one n p)
-unfolding at_most
-most_within one short zero p = le_refl _
-most_within one short (suc n) p = turn_within (at_most one n) p (one p) (short p) (λ q. most_within one short n q)
-
-after_within : (limit : Option ℕ) (p x : Place) (r : Result Place Offence) (lines : List Blank) → after_indent limit x ≡ r → length x.rest ≤ length p.rest → EndsWithin p (r >>= λ next. found (blanks_of lines x.mark) next)
-after_within limit p x (Ok q) lines e h = omega (arith, indent_within limit x q e)
-after_within limit p x (Err o) lines e h = tt
-
-blanks_within' : (limit : Option ℕ) (p : Place) (m : Read (List Blank)) → EndsWithin p m → EndsWithin p (after_blanks limit m)
-blanks_within' limit p (Ok r) h = after_within limit p r.end (after_indent limit r.end) r.value refl h
-blanks_within' limit p (Err e) h = tt
-
-blanks_within : (limit : Option ℕ) (p : Place) → EndsWithin p (blank_lines limit p)
-blanks_within limit p = rw (blanks_is limit p) (blanks_within' limit p (many (blank_line limit) p) (most_within (blank_line limit) (blank_shortens limit) (length p.rest + 1) p))
-
-line_near' : (p x : Place) (r : Read Blanks) → length x.rest < length p.rest → EndsWithin x r → IsShorter p (after_text p r >>= λ l. part l.value l.end)
-line_near' p x (Ok r) h w = omega (arith, w)
-line_near' p x (Err e) h w = tt
-
-in_or_break : (c : ℕ) → is_z c ≡ false → is_in_line c ≡ false → is_break c ≡ true
-in_or_break c e h = grind (arith, nat_tests)
-
-some_char : (c : ℕ) → is_z c ≡ false → 0 < c
-some_char c e = grind (arith, nat_tests)
-
-break_some : (p : Place) → is_break (first p) ≡ true → 0 < break_len p
-break_some p h = elim (cases_Bool (first p == 13 && peek p 1 == 10)) [ inl two ↦ rw two (omega arith) | inr one ↦ rw (one, h) (omega arith) ]
-
-line_shorter : (p : Place) → is_z (first p) ≡ false → length (line_end p).rest < length p.rest
-line_shorter p e =
-    let q = behind is_in_line p in
-    elim (cases_Bool (is_in_line (first p))) [
-      | inl inside ↦
-          let t = behind_more is_in_line p inside refl in
-          let near : length q.rest < length p.rest = rw t.1 (omega (arith, t.0, length_skip (run_len is_in_line (skip 1 p)) (skip 1 p), length_skip 1 p)) in
-          omega (arith, length_skip (break_len q) q)
-      | inr other ↦
-          let same : q ≡ p = behind_none is_in_line p other in
-          rw same (omega (arith, length_skip (break_len p) p, break_some p (in_or_break (first p) e other), is_there p 0 (some_char (first p) e)))
-    ]
-
 text_is : (indent : ℕ) (p : Place) → is_text indent p ≡ true → text_line indent p ≡ line_at indent p >>= λ l. part l.value l.end
 unfolding text_line
 text_is indent p h = rw h refl
@@ -327,15 +252,6 @@ text_is indent p h = rw h refl
 pub text_none : (indent : ℕ) (p : Place) → is_text indent p ≡ false → text_line indent p ≡ over
 unfolding text_line
 text_none indent p h = rw h refl
-
-pub text_shortens : (indent : ℕ) → Shortens (text_line indent)
-text_shortens indent p =
-    elim (cases_Bool (is_text indent p)) [
-      | inl there ↦
-          let e : is_z (first p) ≡ false = not-true (is_z (first p)) (and_parts (p.mark.column == indent) (not (is_z (first p))) there).1 in
-          rw (text_is indent p there, line_is indent p) (line_near' p (line_end p) (blank_lines (Some indent) (line_end p)) (line_shorter p e) (blanks_within (Some indent) (line_end p)))
-      | inr other ↦ rw (text_none indent p other) tt
-    ]
 
 -- a line that was taken
 abbrev text_of : Read Line → List ℕ
@@ -380,7 +296,7 @@ blocks_all folded least start chomp indent p out new tail h b e =
     rw (value, b.keeps.end) (sym b.so_far ∙ ap (finish chomp) all)
 
 -- what a block scalar is after its header and leading empty lines
-abbrev tail_of : Bool → chomp_t → Blanks → Read (List Line) → Read scalar_t
+abbrev pub tail_of : Bool → chomp_t → Blanks → Read (List Line) → Read scalar_t
 tail_of folded chomp b m = m >>= λ lines. found (record { value = utf8 (block_value folded chomp b.breaks lines.value); end = end_of_lines b.end lines.value; passed_break = false }) lines.end
 
 tail_is : (folded : Bool) (chomp : chomp_t) (b : Blanks) (m : Read (List Line)) → finish chomp (gather (add_line folded) ([], before_lines b.breaks b.end) m) ≡ tail_of folded chomp b m
@@ -390,16 +306,16 @@ tail_is folded chomp b (Ok r) =
     let value = t.0 ∙ ap utf8 (first_of folded chomp b.breaks b.end r.value) in
     rw (value, t.1) refl
 
-abbrev after_leading : Bool → ℕ → header_t → Read Blanks → Read scalar_t
+abbrev pub after_leading : Bool → ℕ → header_t → Read Blanks → Read scalar_t
 after_leading folded least h r = r >>= λ leading. tail_of folded h.chomp leading.value (many (text_line (block_indent least h.digit leading.value.column leading.end.mark.column)) leading.end)
 
-abbrev after_start : Bool → ℕ → header_t → Result Place Offence → Read scalar_t
+abbrev pub after_start : Bool → ℕ → header_t → Result Place Offence → Read scalar_t
 after_start folded least h r = r >>= λ start. after_leading folded least h (blank_lines (leading_limit least h.digit) start)
 
-abbrev after_header : Bool → ℕ → Read header_t → Read scalar_t
+abbrev pub after_header : Bool → ℕ → Read header_t → Read scalar_t
 after_header folded least r = r >>= λ header. after_start folded least header.value (after_line header.end)
 
-block_is : (folded : Bool) (least : ℕ) (p : Place) → block folded least p ≡ after_header folded least (header_at (skip 1 p))
+pub block_is : (folded : Bool) (least : ℕ) (p : Place) → block folded least p ≡ after_header folded least (header_at (skip 1 p))
 unfolding block
 block_is folded least p = refl
 

@@ -1,14 +1,13 @@
 -- The parts of a quoted body.
 use Rattle.std.proofs.Common.{◌≡◌, ℕ, ◌<◌, Bool, true, false, cond, not, ◌==◌, ◌&&◌, ◌||◌, inl, inr, List, [], ◌∷◌, ◌++◌, length, Option, Some, None, Result, Ok, Err, take, nat_lt, if◌then◌else◌, refl, sym, ap, ◌∙◌, arith}
 use Rattle.std.proofs.lemmas.Bool.{cases_Bool}
-use Rattle.std.proofs.lemmas.Bool.Decides.{nat_tests}
 use Rattle.std.proofs.lemmas.List.{append-nil}
 use Rattle.std.specs.Char.{encode_utf8}
 use Rattle.yaml_lexeme.specs.declared.problem.refusal_t.{refusal_t}
 use Rattle.yaml_lexeme.specs.declared.problem.refusal_t.TheVariants as errors
 use Rattle.yaml_lexeme.specs.declared.problem.problem_t.TheVariants.{DOCUMENT_MARKER, END_OF_TEXT, NO_HEX_DIGIT, NO_SCALAR_VALUE}
 use Rattle.yaml_lexeme.proofs.Many.{IsShorter, Shortens}
-use Rattle.yaml_lexeme.proofs.Places.{length_skip, is_there, behind_more}
+use Rattle.yaml_lexeme.proofs.Places.{length_skip, is_there, behind_more, some_char}
 use Rattle.yaml_lexeme.proofs.Spaces.{breaks_at}
 use Rattle.yaml_lexeme.specs.Classes.{is_white}
 use Rattle.yaml_lexeme.specs.Escape.{escape, hex_escape, simple_at, hex_len, simple_escape, is_scalar}
@@ -108,9 +107,6 @@ short_bind : (p : Place) (r : Read ℕ) → EndsNearer p r → IsShorter p (r >>
 short_bind p (Ok r) h = h
 short_bind p (Err e) h = tt
 
-not_end : (c : ℕ) → is_z c ≡ false → 0 < c
-not_end c h = grind (arith, nat_tests)
-
 inside : (single : Bool) (p : Place) → is_z (first p) ≡ false → 0 < length p.rest → IsShorter p (body_part single p)
 inside single p e h =
     let c = first p in
@@ -142,8 +138,16 @@ pub body_shortens : (single : Bool) → Shortens (body_part single)
 body_shortens single p =
     elim (cases_Bool (is_z (first p))) [
       | inl e ↦ rw (at_end single p e) tt
-      | inr more ↦ inside single p more (is_there p 0 (not_end (first p) more))
+      | inr more ↦ inside single p more (is_there p 0 (some_char (first p) more))
     ]
+
+-- what the parts of the body make
+abbrev pub finish : Read (List (List ℕ)) → Read (List ℕ)
+finish r = spelled r >>= λ b. found b.value (skip 1 b.end)
+
+pub quoted_is : (single : Bool) (p : Place) → quoted single p ≡ finish (many (body_part single) (skip 1 p))
+unfolding quoted
+quoted_is single p = refl
 
 pub quoted_all : (single : Bool) (p start q : Place) (out : List ℕ) → start ≡ skip 1 p → spelled (many (body_part single) start) ≡ found out q → quoted single p ≡ found out (skip 1 q)
 unfolding quoted

@@ -4,7 +4,7 @@ use Rattle.std.proofs.lemmas.Bool.{cases_Bool}
 use Rattle.std.proofs.lemmas.Bool.Decides.{nat_tests}
 use Rattle.std.specs.List.{list_all, flat_map}
 use Rattle.std.specs.Str.Parse.{digits_value}
-use Rattle.yaml_lexeme.proofs.Body.{at_end, at_space, at_quotes, at_quote, at_char, at_break, at_escape, body_shortens}
+use Rattle.yaml_lexeme.proofs.Body.{at_end, at_space, at_quotes, at_quote, at_char, at_break, at_escape, body_shortens, finish, quoted_is}
 use Rattle.yaml_lexeme.proofs.Local.{agree_less, agree_skip, run_same, take_same, EndsAt, PartEndsAt, Local, LocalPart, move_part, local_many, local_behind}
 use Rattle.yaml_lexeme.proofs.Places.{skip_none, skip_skip}
 use Rattle.yaml_lexeme.proofs.Spaces.{breaks_at}
@@ -15,7 +15,7 @@ use Rattle.yaml_lexeme.specs.Kind.{is_marker}
 use Rattle.yaml_lexeme.proofs.Agreeing.{Agree}
 use Rattle.yaml_lexeme.specs.Locality.{move}
 use Rattle.yaml_lexeme.specs.Place.{Place, first, peek, skip, run, run_len, behind, break_len}
-use Rattle.yaml_lexeme.specs.Quoted.{quote, unmarked, body_part, spelled, quoted}
+use Rattle.yaml_lexeme.specs.Quoted.{quote, unmarked, body_part, quoted}
 use Rattle.yaml_lexeme.specs.Reading.{Read, found, part, refuse, many, ◌>>=◌}
 use Rattle.yaml_lexeme.specs.declared.problem.problem_t.TheVariants.{DOCUMENT_MARKER, NO_HEX_DIGIT, NO_SCALAR_VALUE, UNKNOWN_ESCAPE}
 use Rattle.yaml_text.specs.Chars.{utf8}
@@ -244,14 +244,6 @@ body_local single p =
                 ]
           ]
     ]
-
--- what the parts of the body make
-abbrev finish : Read (List (List ℕ)) → Read (List ℕ)
-finish r = spelled r >>= λ b. found b.value (skip 1 b.end)
-
-quoted_is : (single : Bool) (p : Place) → quoted single p ≡ finish (many (body_part single) (skip 1 p))
-unfolding quoted
-quoted_is single p = refl
 
 whole_local : (single : Bool) (p : Place) (k : ℕ) (r : Read (List (List ℕ))) → many (body_part single) (skip 1 p) ≡ r → EndsAt k p r
     → ((q : Place) → Agree (k + 8) p q → many (body_part single) (skip 1 q) ≡ move r (skip k q)) → Local (quoted single) p

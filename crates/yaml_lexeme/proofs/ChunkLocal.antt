@@ -8,6 +8,7 @@ use Rattle.yaml_lexeme.proofs.Places.{length_skip, length_one, behind_more, behi
 use Rattle.yaml_lexeme.proofs.Plains.{tab_at, tab_over, tab_here, tab_more}
 use Rattle.yaml_lexeme.specs.Classes.{is_white}
 use Rattle.yaml_lexeme.proofs.Agreeing.{Agree}
+use Rattle.yaml_lexeme.proofs.Founds.{end_or}
 use Rattle.yaml_lexeme.specs.Locality.{move}
 use Rattle.yaml_lexeme.specs.Place.{Place, first, peek, skip, run, run_len, behind}
 use Rattle.yaml_lexeme.specs.Plain.{is_tab, is_bad_colon, is_chunk, chunk_len, chunk, untabbed}
@@ -99,10 +100,6 @@ pass_is (suc f) least broken p h =
 revalue : (o : Option Place) (v : List ℕ) (e : Place) → (untabbed o [] e >>= λ x. found v x.end) ≡ untabbed o v e
 revalue None v e = refl
 revalue (Some t) v e = refl
-
-abbrev end_or : Place → Read (List ℕ) → Place
-end_or e (Ok f) = f.end
-end_or e (Err o) = e
 
 at_end : (o : Option Place) (e : Place) (f : Found (List ℕ)) → untabbed o [] e ≡ Ok f → f.end ≡ e
 at_end None e f h = ap (end_or e) (sym h)

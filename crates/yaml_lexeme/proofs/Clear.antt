@@ -1,13 +1,12 @@
 -- Reading ahead to places that are not between CR and LF.
-use Rattle.std.proofs.Common.{◌≡◌, ℕ, zero, suc, ◌+◌, ◌-◌, ◌≤◌, Bool, true, false, cond, ◌==◌, ◌&&◌, if◌then◌else◌, inl, inr, List, [], ◌∷◌, length, slice_index, refl, sym, ap, ◌∙◌, arith, get_or-drop}
-use Rattle.std.proofs.lemmas.Bool.{cases_Bool, cases_lt}
+use Rattle.std.proofs.Common.{◌≡◌, ℕ, zero, suc, ◌+◌, ◌-◌, ◌≤◌, Bool, true, false, cond, ◌==◌, ◌&&◌, if◌then◌else◌, inl, inr, List, [], ◌∷◌, length, slice_index, refl, sym, ap, ◌∙◌, arith}
+use Rattle.std.proofs.lemmas.Bool.{cases_Bool, cases_lt, and_parts}
 use Rattle.std.proofs.lemmas.Bool.Decides.{nat_tests}
 use Rattle.std.proofs.lemmas.List.{get_or_past}
 use Rattle.std.specs.List.{prefix_len}
 use Rattle.yaml_text.specs.Classes.{is_crlf, is_break}
 use Rattle.yaml_lexeme.proofs.Ahead.{ahead_any}
-use Rattle.yaml_lexeme.proofs.Cursors.{rest_skip}
-use Rattle.yaml_lexeme.proofs.Places.{skip_none, skip_skip, length_skip}
+use Rattle.yaml_lexeme.proofs.Places.{skip_none, skip_skip, length_skip, peek_on}
 use Rattle.yaml_lexeme.specs.Order.{IsAhead}
 use Rattle.yaml_lexeme.specs.Place.{Place, first, peek, skip, run_len, behind, break_len}
 
@@ -26,13 +25,10 @@ pub record Clear (p q : Place) : Type 0 where
 pub clear_here : (p : Place) → Clear p p
 clear_here p = record { count = 0; within = omega arith; is = sym (skip_none p); whole = refl }
 
-peek_far : (k i : ℕ) (p : Place) → slice_index (skip k p).rest i ≡ slice_index p.rest (k + i)
-peek_far k i p = ap (λ (cs : List ℕ). slice_index cs i) (rest_skip k p) ∙ get_or-drop k p.rest i 0
-
 same_parts : (k j : ℕ) (p : Place) → parts (skip k p).rest (suc j) ≡ parts p.rest (suc (k + j))
 same_parts k j p =
     let e : k + suc j ≡ suc (k + j) = omega arith in
-    ap (λ (c : ℕ). is_crlf c (slice_index (skip k p).rest (suc j))) (peek_far k j p) ∙ ap (λ (d : ℕ). is_crlf (slice_index p.rest (k + j)) d) (peek_far k (suc j) p ∙ ap (λ (i : ℕ). slice_index p.rest i) e)
+    ap (λ (c : ℕ). is_crlf c (slice_index (skip k p).rest (suc j))) (peek_on k j p) ∙ ap (λ (d : ℕ). is_crlf (slice_index p.rest (k + j)) d) (peek_on k (suc j) p ∙ ap (λ (i : ℕ). slice_index p.rest i) e)
 
 further : (k j : ℕ) (p q r : Place) → k ≤ length p.rest → q ≡ skip k p → parts p.rest k ≡ false → j ≤ length q.rest → r ≡ skip j q → parts q.rest j ≡ false → Clear p r
 further k zero p q r l e h m f g = record { count = k; within = l; is = f ∙ skip_none q ∙ e; whole = h }
@@ -136,10 +132,6 @@ clear_within test k p none h = clear_skip k p (some_whole test none k p.rest h)
 line_feed_is : (c : ℕ) → (c == 0x0A) ≡ true → (c == 0x0D) ≡ false
 line_feed_is c h = grind (arith, nat_tests)
 
-pub second : (a b : Bool) → (a && b) ≡ true → b ≡ true
-second true b h = h
-second false b h = absurd cc
-
 break_one : (b : Bool) (p : Place) → is_crlf (first p) (peek p 1) ≡ false → Clear p (skip (if b then 1 else 0) p)
 break_one true p h = clear_skip 1 p h
 break_one false p h = clear_skip 0 p refl
@@ -150,6 +142,6 @@ clear_break p =
     elim (cases_Bool (first p == 0x0D && peek p 1 == 0x0A)) [
       | inl t ↦
           let m : break_len p ≡ 2 = rw t refl in
-          rw m (clear_behind 1 p (line_feed_is (peek p 1) (second (first p == 0x0D) (peek p 1 == 0x0A) t)))
+          rw m (clear_behind 1 p (line_feed_is (peek p 1) (and_parts (first p == 0x0D) (peek p 1 == 0x0A) t).1))
       | inr f ↦ rw f (break_one (is_break (first p)) p f)
     ]

@@ -1,9 +1,10 @@
 -- No place where reading ends or is refused is between CR and LF: small readers.
-use Rattle.std.proofs.Common.{◌≡◌, ℕ, zero, suc, ◌+◌, ◌-◌, Bool, true, false, not, ◌==◌, ◌&&◌, ◌||◌, nat_lt, if◌then◌else◌, List, length, codes, Option, Some, None, Result, Ok, Err, refl, sym, arith}
+use Rattle.std.proofs.Common.{◌≡◌, ℕ, zero, suc, ◌+◌, ◌-◌, Bool, true, false, not, ◌==◌, ◌&&◌, ◌||◌, nat_lt, if◌then◌else◌, List, length, codes, Option, Some, None, Result, Ok, Err, refl, arith}
 use Rattle.std.proofs.lemmas.Bool.Decides.{nat_tests}
 use Rattle.std.specs.Str.{bytes_eq}
 use Rattle.yaml_lexeme.specs.declared.problem.problem_t.{problem_t}
-use Rattle.yaml_lexeme.proofs.Clear.{Clear, clear_here, clear_trans, clear_behind, clear_one, clear_if, IsSure, clear_run, clear_within, clear_break, second, other, no_return}
+use Rattle.yaml_lexeme.proofs.Clear.{Clear, clear_here, clear_trans, clear_behind, clear_one, clear_if, IsSure, clear_run, clear_within, clear_break, other, no_return}
+use Rattle.std.proofs.lemmas.Bool.{and_parts, not-false}
 use Rattle.yaml_lexeme.specs.Block.{after_line}
 use Rattle.yaml_lexeme.specs.Classes.{is_white, is_in_line, ends}
 use Rattle.yaml_lexeme.specs.Directive.{number, version_at, handle_at, tag_directive_at, named}
@@ -105,7 +106,7 @@ is_not c k n h = grind (arith, nat_tests)
 
 -- gaps
 mark_clear : (p : Place) → Clear p (after_mark p)
-mark_clear p = clear_if (p.mark.column == 0 && first p == byte_order_mark) (λ e. clear_one p (is_not (first p) byte_order_mark refl (second (p.mark.column == 0) (first p == byte_order_mark) e))) (λ e. clear_here p)
+mark_clear p = clear_if (p.mark.column == 0 && first p == byte_order_mark) (λ e. clear_one p (is_not (first p) byte_order_mark refl (and_parts (p.mark.column == 0) (first p == byte_order_mark) e).1)) (λ e. clear_here p)
 
 pub comment_clear : (p : Place) → Clear p (after_comment p)
 comment_clear p = clear_if (first p == 0x23) (λ e. clear_run is_in_line p sure_in_line) (λ e. clear_here p)
@@ -145,7 +146,7 @@ name_clears p h =
     if_holds (nat_lt 0 (length (run is_alpha (skip 1 p))) && is_behind_name (first (behind is_alpha (skip 1 p)))) (λ e. ok_holds a) (λ e. refuse_holds a)
 
 three : (a b c : Bool) → (a && (b && c)) ≡ true → c ≡ true
-three a b c h = second b c (second a (b && c) h)
+three a b c h = (and_parts b c (and_parts a (b && c) h).1).1
 
 octet_clears : (p : Place) → Clears p (octet p)
 unfolding octet
@@ -212,23 +213,19 @@ number_clears p =
     if_holds (nat_lt 9 (run_len is_digit p)) (λ l. refuse_holds (clear_within is_digit 9 p refl (grind (arith, nat_tests)))) (λ l.
     ok_holds (clear_run is_digit p sure_digit)))
 
-pub is_true : (b : Bool) → not b ≡ false → b ≡ true
-is_true true h = refl
-is_true false h = sym h
-
 version_clears : (p : Place) → Clears p (version_at p)
 unfolding version_at
 version_clears p =
     bind_holds (then_clears (blank_clear p) (number_clears (behind is_blank p))) (λ x a.
     if_holds (not (first x.end == 0x2E)) (λ e. refuse_holds a) (λ e.
-    bind_holds (then_clears (clear_trans a (clear_one x.end (is_not (first x.end) 0x2E refl (is_true (first x.end == 0x2E) e)))) (number_clears (skip 1 x.end))) (λ y b. ok_holds b)))
+    bind_holds (then_clears (clear_trans a (clear_one x.end (is_not (first x.end) 0x2E refl (not-false (first x.end == 0x2E) e)))) (number_clears (skip 1 x.end))) (λ y b. ok_holds b)))
 
 handle_clears : (p : Place) → Clears p (handle_at p)
 unfolding handle_at
 handle_clears p =
     let end = behind is_alpha (skip 1 p) in
     if_holds (not (first p == 0x21)) (λ e. refuse_holds (clear_here p)) (λ e.
-    let a : Clear p end = clear_trans (clear_one p (is_not (first p) 0x21 refl (is_true (first p == 0x21) e))) (alpha_clear (skip 1 p)) in
+    let a : Clear p end = clear_trans (clear_one p (is_not (first p) 0x21 refl (not-false (first p == 0x21) e))) (alpha_clear (skip 1 p)) in
     if_holds (first end == 0x21) (λ f. ok_holds (clear_trans a (clear_one end (is_not (first end) 0x21 refl f)))) (λ f.
     if_holds (nat_lt 0 (length (run is_alpha (skip 1 p)))) (λ g. refuse_holds a) (λ g. ok_holds a)))
 

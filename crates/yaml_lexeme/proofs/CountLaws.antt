@@ -15,11 +15,6 @@ walk zero m cs = refl
 walk (suc n) m [] = refl
 walk (suc n) m (c ∷ cs) = walk n (mark_behind m c (slice_index cs 0)) cs
 
--- what is left after n characters
-pub rest_behind : (n : ℕ) (p : Place) → (skip n p).rest ≡ drop n p.rest
-unfolding skip
-rest_behind n p = ap (λ (q : Place). q.rest) (walk n p.mark p.rest)
-
 place_is : (text : List ℕ) (n : ℕ) → n ≤ length text → cuts_break (take n text) (drop n text) ≡ false → place_at text n ≡ place_of (mark_at text n) (drop n text)
 unfolding skip column
 place_is text n within whole =

@@ -1,11 +1,11 @@
 -- How a place on bytes moves.
-use Rattle.std.proofs.Common.{add-zero, false, ◌≡◌, ℕ, zero, suc, ◌+◌, ◌-◌, ◌<◌, ◌≤◌, Bool, List, [], ◌∷◌, ◌++◌, length, get_or, take, drop, min, refl, sym, ap, ◌∙◌, subst, arith, inl, inr}
+use Rattle.std.proofs.Common.{false, ◌≡◌, ℕ, zero, suc, ◌+◌, ◌-◌, ◌<◌, ◌≤◌, Bool, List, [], ◌∷◌, ◌++◌, length, get_or, take, drop, min, refl, sym, ap, ◌∙◌, subst, arith, inl, inr}
 use Rattle.std.specs.List.{prefix_len, count_by}
 use Rattle.std.specs.Str.{chars}
 use Rattle.std.proofs.lemmas.Bool.{cases_Bool}
 use Rattle.std.proofs.lemmas.List.Sums.{prefix_len-le-length}
 use Rattle.std.proofs.lemmas.Bool.Decides.{nat_tests}
-use Rattle.std.proofs.lemmas.List.{get_or-drop, take-append-drop, take_at, drop_at, length-append}
+use Rattle.std.proofs.lemmas.List.{take-append-drop, take_at, drop_at, length-append}
 use Rattle.std.proofs.lemmas.Str.{encodes-append, length-encode, len_utf8_bounds}
 use lib.Utf8.{encode}
 use Rattle.yaml_text.specs.declared.types.yaml_mark_t.{yaml_mark_t}
@@ -13,10 +13,10 @@ use Rattle.yaml_text.specs.Chars.{AreChars, IsText, utf8}
 use Rattle.yaml_text.specs.Classes.{is_break}
 use Rattle.yaml_text.proofs.Fronts.{chars-utf8, IsText-utf8}
 use Rattle.yaml_text.proofs.Places.{AreChars-parts}
-use Rattle.yaml_lexeme.specs.Place.{Place, peek, place_at, IsMarkOf, ends_line, skip_from, skip, behind, run, run_len, mark_behind, width}
+use Rattle.yaml_lexeme.specs.Place.{Place, place_at, IsMarkOf, ends_line, skip_from, skip, behind, run, run_len, mark_behind, width}
 use Rattle.yaml_lexeme.specs.declared.runs.class_t.{class_t}
 use Rattle.yaml_lexeme.specs.Runs.{is_quiet, class_test, begins}
-use Rattle.yaml_lexeme.proofs.Places.{skip_skip, moved}
+use Rattle.yaml_lexeme.proofs.Places.{skip_skip, moved, rest_skip}
 use Rattle.yaml_lexeme.proofs.Heads.{head, ascii_head, past_ascii}
 use Rattle.yaml_lexeme.proofs.Quiet.{Over, over, along, count_chars, spaces_bytes, over_spaces}
 use Rattle.yaml_lexeme.specs.declared.runs.class_t.TheVariants.{SPACE}
@@ -54,15 +54,6 @@ quiet_moves class m bytes n k t n-is k-is =
     }
 
 -- ---- a run
-
-rest_from : (n : ℕ) (m : yaml_mark_t) (cs : List ℕ) → (skip_from n m cs).rest ≡ drop n cs
-rest_from zero m cs = refl
-rest_from (suc n) m [] = refl
-rest_from (suc n) m (c ∷ cs) = rest_from n (mark_behind m c (get_or cs 0 0)) cs
-
-pub rest_skip : (n : ℕ) (p : Place) → (skip n p).rest ≡ drop n p.rest
-unfolding skip
-rest_skip n p = rest_from n p.mark p.rest
 
 take_parts : (n : ℕ) (cs : List ℕ) → utf8 cs ≡ utf8 (take n cs) ++ utf8 (drop n cs)
 take_parts n cs = ap utf8 (sym (take-append-drop n cs)) ∙ encodes-append (take n cs) (drop n cs)
@@ -118,7 +109,7 @@ finds bytes cs m n e each at =
     let parts : bytes ≡ utf8 (take n cs) ++ utf8 (drop n cs) = e ∙ take_parts n cs in
     let dr : drop m.index bytes ≡ utf8 (drop n cs) = ap (λ (x : List ℕ). drop m.index x) parts ∙ drop_at (utf8 (take n cs)) (utf8 (drop n cs)) m.index (sym index) in
     let two = AreChars-parts (take n cs) (drop n cs) (subst AreChars (sym (take-append-drop n cs)) each) in
-    let left : chars (drop m.index bytes) ≡ (skip_from n z cs).rest = ap chars dr ∙ chars-utf8 (drop n cs) two.1 ∙ sym (rest_from n z cs) in
+    let left : chars (drop m.index bytes) ≡ (skip_from n z cs).rest = ap chars dr ∙ chars-utf8 (drop n cs) two.1 ∙ sym (rest_skip n (record { mark = z; rest = cs })) in
     record {
       within = omega (arith, index, ap length parts, length-append (utf8 (take n cs)) (utf8 (drop n cs)));
       text = subst IsText (sym dr) (IsText-utf8 (drop n cs) two.1);
@@ -180,10 +171,6 @@ line_feed_moves m bytes t some e =
 pub at_front : (cs : List ℕ) → IsMarkOf cs (record { index = 0; line = 0; column = 0 }) 0
 unfolding skip
 at_front cs = record { within = omega arith; mark_is = refl }
-
--- the character k places on is the first at the place there
-pub peek_on : (k : ℕ) (p : Place) → peek (skip k p) 0 ≡ peek p k
-peek_on k p = ap (λ (x : List ℕ). get_or x 0 0) (rest_skip k p) ∙ get_or-drop k p.rest 0 0 ∙ ap (λ i. get_or p.rest i 0) (add-zero k)
 
 -- the place after some of the first spaces
 pub record SpaceMove (m : yaml_mark_t) (bytes : List ℕ) (p : Place) (k : ℕ) : Type 0 where

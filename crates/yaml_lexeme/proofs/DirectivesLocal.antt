@@ -1,6 +1,6 @@
 -- Directives are local.
 use Rattle.std.proofs.Common.{◌≡◌, ℕ, pos, ◌+◌, ◌<◌, ◌≤◌, true, false, not, ◌==◌, ◌||◌, nat_lt, if◌then◌else◌, inl, inr, List, ◌++◌, length, codes, refl, sym, ap, ◌∙◌, subst, arith, lt-ltb}
-use Rattle.std.proofs.lemmas.Bool.{cases_Bool, cases_lt}
+use Rattle.std.proofs.lemmas.Bool.{cases_Bool, cases_lt, eqb-true}
 use Rattle.std.proofs.lemmas.Bool.Decides.{nat_tests}
 use Rattle.std.specs.Str.{bytes_eq}
 use Rattle.std.specs.Str.Parse.{digits_value}
@@ -35,9 +35,6 @@ at_some : (p : Place) → (run_len is_digit p == 0) ≡ false → nat_lt 9 (run_
 unfolding number
 at_some p h l = rw (h, l) refl
 
-is_none : (k : ℕ) → (k == 0) ≡ true → k ≡ 0
-is_none k h = grind (arith, nat_tests)
-
 is_long : (k : ℕ) → nat_lt 9 k ≡ true → 9 < k
 is_long k h = grind (arith, nat_tests)
 
@@ -58,7 +55,7 @@ number_like : IsLike number
 number_like n p q a =
     let k = run_len is_digit p in
     elim (cases_Bool (k == 0)) [
-      | inl e ↦ let z : k ≡ 0 = is_none k e in rw (at_none p e) (record { count = 0; ends = sym (skip_none p); same = λ h. rw (skip_none q) (at_none q (ap (λ (i : ℕ). i == 0) (run_same is_digit p q (agree_less (k + 1) n p q (omega arith) a)) ∙ e)) })
+      | inl e ↦ let z : k ≡ 0 = eqb-true k 0 e in rw (at_none p e) (record { count = 0; ends = sym (skip_none p); same = λ h. rw (skip_none q) (at_none q (ap (λ (i : ℕ). i == 0) (run_same is_digit p q (agree_less (k + 1) n p q (omega arith) a)) ∙ e)) })
       | inr e ↦
           elim (cases_Bool (nat_lt 9 k)) [
             | inl l ↦ rw (at_long p e l) (record { count = 9; ends = refl; same = λ h. let m = long_same n p q (omega arith) a (is_long k l) in at_long q (not_none (run_len is_digit q) m) (lt-ltb 9 (run_len is_digit q) m) })

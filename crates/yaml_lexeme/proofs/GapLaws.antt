@@ -1,23 +1,15 @@
 -- A gap is the longest text that is gap lines joined by breaks.
-use Rattle.std.proofs.Common.{◌≡◌, ℕ, zero, suc, ◌+◌, ◌<◌, ◌≤◌, ◌⊎◌, Bool, true, false, not, ◌==◌, ◌&&◌, ◌||◌, nat_lt, inl, inr, List, length, refl, sym, ap, ◌∙◌, subst, arith, get_or-drop}
-use Rattle.std.proofs.lemmas.Bool.{cases_Bool, cases_lt}
+use Rattle.std.proofs.Common.{◌≡◌, ℕ, zero, suc, ◌<◌, ◌≤◌, ◌⊎◌, Bool, true, false, not, ◌==◌, ◌&&◌, ◌||◌, nat_lt, inl, inr, length, refl, sym, ap, ◌∙◌, subst, arith}
+use Rattle.std.proofs.lemmas.Bool.{cases_Bool, cases_lt, and_parts, eqb-true, true≢false}
 use Rattle.std.proofs.lemmas.Bool.Decides.{nat_tests}
 use Rattle.std.proofs.lemmas.List.Sums.{prefix_len-le-length, prefix_len_passes, prefix_len_stops}
-use Rattle.std.specs.Prelude.{slice_index}
-use Rattle.yaml_lexeme.proofs.CountLaws.{rest_behind}
-use Rattle.yaml_lexeme.proofs.Gaps.{within_line}
-use Rattle.yaml_lexeme.proofs.Places.{skip_none, length_skip, within_if, break_within}
+use Rattle.yaml_lexeme.proofs.Gaps.{within_line, lines_none}
+use Rattle.yaml_lexeme.proofs.Places.{skip_none, length_skip, within_if, break_within, first_on}
 use Rattle.yaml_lexeme.proofs.Spaces.{stopped}
 use Rattle.yaml_lexeme.specs.Classes.{is_in_line}
 use Rattle.yaml_lexeme.specs.Gap.{byte_order_mark, is_gap_blank, after_mark, after_comment, after_gap_line, after_gap_lines, gap}
 use Rattle.yaml_lexeme.specs.GapText.{Passes, MayBeMark, MayBeComment, GapLine, GapLines, GapIsLongest, RunIsLongest}
-use Rattle.yaml_lexeme.specs.Place.{Place, peek, first, skip, run_len, behind, break_len}
-
-peek_on : (k i : ℕ) (p : Place) → peek (skip k p) i ≡ peek p (k + i)
-peek_on k i p = ap (λ (cs : List ℕ). slice_index cs i) (rest_behind k p) ∙ get_or-drop k p.rest i 0
-
-first_on : (k : ℕ) (p : Place) → first (skip k p) ≡ peek p k
-first_on k p = let e : k + 0 ≡ k = omega arith in peek_on k 0 p ∙ ap (peek p) e
+use Rattle.yaml_lexeme.specs.Place.{Place, first, skip, run_len, behind, break_len}
 
 -- runs
 pass_run : (test : ℕ → Bool) (p : Place) → Passes test p (behind test p)
@@ -40,13 +32,10 @@ passes_cases test p q a =
     elim (cases_lt n k) [
       | inl less ↦ inr (rw a.is (rw (first_on n p) (prefix_len_passes test p.rest n 0 less)), omega (arith, length_skip n p, length_skip k p))
       | inr more ↦ elim (cases_lt k n) [
-        | inl past ↦ absurd (clash (test (peek p k)) (a.all k past) (prefix_len_stops test p.rest 0 (omega (arith, a.within))))
+        | inl past ↦ absurd (true≢false (sym (a.all k past) ∙ prefix_len_stops test p.rest 0 (omega (arith, a.within))))
         | inr not_past ↦ let same : n ≡ k = omega arith in inl (a.is ∙ ap (λ (i : ℕ). skip i p) same)
       ]
     ]
-  where
-    clash : (b : Bool) → b ≡ true → b ≡ false → ⊥
-    clash b x y = cc
 
 -- a `#` is no break
 hash_no_break : (p : Place) → first p ≡ 0x23 → break_len p ≡ 0
@@ -85,11 +74,8 @@ comment_cases p q (inr c) =
     let is : after_comment p ≡ behind is_in_line p = rw c.0 refl in
     elim (passes_cases is_in_line p q c.1) [
       | inl e ↦ inl (e ∙ sym is)
-      | inr m ↦ absurd (clash (is_in_line (first q)) m.0 c.2)
+      | inr m ↦ absurd (true≢false (sym m.0 ∙ c.2))
     ]
-  where
-    clash : (b : Bool) → b ≡ true → b ≡ false → ⊥
-    clash b x y = cc
 
 hash_no_blank : (tabs : Bool) (c : ℕ) → c ≡ 0x23 → is_gap_blank tabs c ≡ true → ⊥
 hash_no_blank tabs c e h = absurd (none tabs (subst (λ (d : ℕ). is_gap_blank tabs d ≡ true) e h))
@@ -138,13 +124,6 @@ left_mark tabs p to x m a c = elim (cases_lt 0 a.count) [
     at to e (inl same) = same ∙ e
     at to e (inr d) = absurd (mark_no_hash (first p) m (ap (λ (y : Place). first y) (sym e) ∙ d.0))
 
-both_true : (a b : Bool) → (a && b) ≡ true → b ≡ true
-both_true true b h = h
-both_true false b h = absurd cc
-
-is_mark : (c : ℕ) → (c == byte_order_mark) ≡ true → c ≡ byte_order_mark
-is_mark c h = grind (arith, nat_tests)
-
 -- a gap line is the one that is taken, or is shorter and ends before no break
 line_cases : (tabs : Bool) (p x : Place) → GapLine tabs p x → (x ≡ after_gap_line tabs p) ⊎ Short (after_gap_line tabs p) x
 unfolding after_gap_line
@@ -157,7 +136,7 @@ line_cases tabs p x g = elim (from_is g.mark) [
   where
     from_is : MayBeMark p g.from → (g.from ≡ after_mark p) ⊎ ((g.from ≡ p) × (first p ≡ byte_order_mark))
     from_is (inl e) = elim (cases_Bool (p.mark.column == 0 && first p == byte_order_mark)) [
-      | inl b ↦ inr (e, is_mark (first p) (both_true (p.mark.column == 0) (first p == byte_order_mark) b))
+      | inl b ↦ inr (e, eqb-true (first p) byte_order_mark (and_parts (p.mark.column == 0) (first p == byte_order_mark) b).1)
       | inr b ↦ inl (rw b e)
     ]
     from_is (inr m) = let after : after_mark p ≡ skip 1 p = rw (m.0, m.1) refl in inl (m.2 ∙ sym after)
@@ -173,16 +152,9 @@ line_is tabs p = record {
   comment = comment_is (behind (is_gap_blank tabs) (after_mark p));
 }
   where
-    is_zero : (c : ℕ) → (c == 0) ≡ true → c ≡ 0
-    is_zero c h = grind (arith, nat_tests)
-
-    first_true : (a b : Bool) → (a && b) ≡ true → a ≡ true
-    first_true true b h = refl
-    first_true false b h = absurd cc
-
     mark_is : MayBeMark p (after_mark p)
     mark_is = elim (cases_Bool (p.mark.column == 0 && first p == byte_order_mark)) [
-      | inl b ↦ inr (is_zero p.mark.column (first_true (p.mark.column == 0) (first p == byte_order_mark) b), is_mark (first p) (both_true (p.mark.column == 0) (first p == byte_order_mark) b), rw b refl)
+      | inl b ↦ inr (eqb-true p.mark.column 0 (and_parts (p.mark.column == 0) (first p == byte_order_mark) b).0, eqb-true (first p) byte_order_mark (and_parts (p.mark.column == 0) (first p == byte_order_mark) b).1, rw b refl)
       | inr b ↦ inl (rw b refl)
     ]
 
@@ -248,17 +220,12 @@ goes_on flow tabs p q h r = record { breaks = suc r.breaks; text = (after_gap_li
     all zero x g = short x (line_cases tabs p x g)
     all (suc n) x g = behind_line n g.0 x g.2 g.3 (line_cases tabs p g.0 g.1)
 
-no_break_left : (n : ℕ) (flow : Bool) (p : Place) → break_len p ≡ 0 → after_gap_lines n flow p ≡ p
-unfolding after_gap_lines
-no_break_left zero flow p h = refl
-no_break_left (suc n) flow p h = rw h refl
-
 one_more : (n : ℕ) (flow : Bool) (p : Place) → 0 < break_len p → after_gap_lines (suc n) flow p ≡ after_gap_lines n flow (after_gap_line flow (skip (break_len p) p))
 unfolding after_gap_lines
 one_more n flow p h = let e : (break_len p == 0) ≡ false = grind (arith, nat_tests) in rw e refl
 
 last_line : (n : ℕ) (flow tabs : Bool) (p : Place) → break_len (after_gap_line tabs p) ≡ 0 → Reaches flow tabs p (after_gap_lines n flow (after_gap_line tabs p))
-last_line n flow tabs p e = subst (λ (y : Place). Reaches flow tabs p y) (sym (no_break_left n flow (after_gap_line tabs p) e)) (ends_here flow tabs p e)
+last_line n flow tabs p e = subst (λ (y : Place). Reaches flow tabs p y) (sym (lines_none n flow (after_gap_line tabs p) e)) (ends_here flow tabs p e)
 
 reaches : (n : ℕ) (flow tabs : Bool) (p : Place) → length (after_gap_line tabs p).rest ≤ n → Reaches flow tabs p (after_gap_lines n flow (after_gap_line tabs p))
 reaches zero flow tabs p l = elim (cases_lt 0 (break_len (after_gap_line tabs p))) [

@@ -1,13 +1,12 @@
 -- Gap lines, one by one.
 use Rattle.std.proofs.Common.{◌≡◌, ℕ, zero, suc, ◌<◌, ◌≤◌, Bool, true, false, cond, not, ◌==◌, ◌&&◌, ◌||◌, inl, inr, length, refl, sym, ap, ◌∙◌, arith}
 use Rattle.std.proofs.lemmas.Bool.Decides.{nat_tests}
-use Rattle.std.proofs.lemmas.Bool.{cases_lt, cases_Bool}
+use Rattle.std.proofs.lemmas.Bool.{cases_lt, cases_Bool, and_right}
 use Rattle.std.specs.Prelude.{nat_lt}
 use Rattle.yaml_text.specs.Classes.{is_break}
 use Rattle.yaml_lexeme.specs.declared.runs.class_t.TheVariants.{SPACE}
 use Rattle.yaml_lexeme.specs.Runs.{class_test}
-use Rattle.yaml_lexeme.proofs.Cursors.{peek_on}
-use Rattle.yaml_lexeme.proofs.Places.{length_skip, length_one, within_if, break_within, behind_none, behind_more}
+use Rattle.yaml_lexeme.proofs.Places.{length_skip, length_one, within_if, break_within, behind_none, behind_more, first_on}
 use Rattle.yaml_lexeme.specs.Classes.{is_in_line}
 use Rattle.yaml_lexeme.specs.Gap.{byte_order_mark, is_gap_blank, is_solid, after_mark, after_comment, after_gap_line, after_gap_lines, gap, IsGap}
 use Rattle.yaml_lexeme.specs.Place.{Place, first, peek, skip, behind, run_len, break_len}
@@ -81,13 +80,9 @@ record Solid (tabs : Bool) (c : ℕ) : Type 0 where
 solid_is : (tabs : Bool) (c : ℕ) → is_solid c ≡ true → Solid tabs c
 solid_is tabs c h = record { blank = grind (arith, nat_tests); comment = grind (arith, nat_tests); break = grind (arith, nat_tests); mark = grind (arith, nat_tests) }
 
-and_none : (b : Bool) → (b && false) ≡ false
-and_none true = refl
-and_none false = refl
-
 -- no byte order mark
 mark_none : (p : Place) → (first p == byte_order_mark) ≡ false → after_mark p ≡ p
-mark_none p h = rw (h, and_none (p.mark.column == 0)) refl
+mark_none p h = rw (h, and_right (p.mark.column == 0) false refl) refl
 
 -- a gap line that ends at q
 line_is : (tabs : Bool) (p q : Place) → (first p == byte_order_mark) ≡ false → behind (is_gap_blank tabs) p ≡ q → (first q == 0x23) ≡ false → after_gap_line tabs p ≡ q
@@ -97,7 +92,7 @@ line_is tabs p q m e h = ap (λ (r : Place). after_comment (behind (is_gap_blank
 no_break : (p : Place) → is_break (first p) ≡ false → break_len p ≡ 0
 no_break p h = grind (arith, nat_tests)
 
-lines_none : (n : ℕ) (flow : Bool) (p : Place) → break_len p ≡ 0 → after_gap_lines n flow p ≡ p
+pub lines_none : (n : ℕ) (flow : Bool) (p : Place) → break_len p ≡ 0 → after_gap_lines n flow p ≡ p
 unfolding after_gap_lines
 lines_none zero flow p h = refl
 lines_none (suc n) flow p h = rw h refl
@@ -118,7 +113,7 @@ pub gap_space : (p : Place) → first p ≡ 0x20 → is_solid (peek p 1) ≡ tru
 gap_space p e h flow allowed =
     let tabs = flow || not allowed in
     let q = skip 1 p in
-    let s = solid_is tabs (first q) (ap is_solid (peek_on 1 p) ∙ h) in
+    let s = solid_is tabs (first q) (ap is_solid (first_on 1 p) ∙ h) in
     let mark : (first p == byte_order_mark) ≡ false = rw e refl in
     let blank : is_gap_blank tabs (first p) ≡ true = rw e refl in
     let run = (behind_more (is_gap_blank tabs) p blank refl).1 ∙ behind_none (is_gap_blank tabs) q s.blank in

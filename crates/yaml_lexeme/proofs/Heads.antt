@@ -11,7 +11,7 @@ use Rattle.yaml_text.specs.Chars.{AreChars, IsText, utf8}
 use Rattle.yaml_text.specs.Utf8.{width_of, value_of}
 use Rattle.yaml_text.proofs.Spelling.{char_range, stands}
 use Rattle.yaml_text.proofs.Fronts.{chars-utf8, IsText-utf8}
-use Rattle.yaml_text.proofs.ClassLaws.{Leads, leads}
+use Rattle.yaml_text.proofs.ClassLaws.{Leads, leads, low_same}
 
 -- c is the first of the characters that the bytes spell
 pub record Head (bytes : List ℕ) (c : ℕ) : Type 0 where
@@ -49,15 +49,12 @@ head_from bytes (c ∷ cs) e t some =
 pub head : (bytes : List ℕ) → IsText bytes → 0 < length bytes → Head bytes (get_or (chars bytes) 0 0)
 head bytes t some = head_from bytes (chars bytes) refl t some
 
-low_lead : (c a b d : ℕ) → Leads c a b d → a < 128 → a ≡ c
-low_lead c a b d h l = grind (arith, nat_tests)
-
 -- a byte of ASCII is its character
 pub ascii_head : (bytes : List ℕ) → IsText bytes → get_or bytes 0 0 < 128 → get_or bytes 0 0 ≡ get_or (chars bytes) 0 0
 ascii_head bytes t low =
     let h : Leads (get_or (chars bytes) 0 0) (get_or bytes 0 0) (get_or bytes 1 0) (get_or bytes 2 0) =
     subst (λ (x : List ℕ). Leads (get_or (chars bytes) 0 0) (get_or x 0 0) (get_or x 1 0) (get_or x 2 0)) t.spelled (leads (chars bytes) t.each) in
-    low_lead _ _ _ _ h low
+    low_same _ _ _ _ h low
 
 no_bytes : (bytes cs : List ℕ) → chars bytes ≡ cs → IsText bytes → length bytes ≤ 0 → cs ≡ []
 no_bytes bytes [] e t none = refl

@@ -6,7 +6,7 @@ use Rattle.yaml_lexeme.specs.declared.kind.yaml_lexeme_kind_t.TheVariants as kin
 use Rattle.yaml_text.specs.Token.{TokenData as token}
 use Rattle.yaml_lexeme.proofs.Ahead.{ahead_here, ahead_some, ahead_on, Goes, Span}
 use Rattle.yaml_lexeme.proofs.Orders.{after_trans, after_less, gap_order, marks_after, name_goes, tag_goes}
-use Rattle.yaml_lexeme.proofs.Places.{is_there}
+use Rattle.yaml_lexeme.proofs.Places.{is_there, some_char}
 use Rattle.yaml_lexeme.proofs.Spans.{quoted_goes, plain_span, directive_span, block_span}
 use Rattle.yaml_lexeme.specs.Block.{block}
 use Rattle.yaml_lexeme.specs.Classes.{ends}
@@ -36,14 +36,11 @@ end_kind : (flow : Bool) (p : Place) → is_z (first p) ≡ true → kind_at flo
 unfolding kind_at
 end_kind flow p h = rw h refl
 
-not_end : (c : ℕ) → is_z c ≡ false → 0 < c
-not_end c h = grind (arith, nat_tests)
-
 there : (flow : Bool) (k : yaml_lexeme_kind_t) (p : Place) → kind_at flow p ≡ Some k → (k ≡ kind.STREAM_END → ⊥) → 0 < length p.rest
 there flow k p h other =
     elim (cases_Bool (is_z (first p))) [
       | inl e ↦ let same : k ≡ kind.STREAM_END = cc (end_kind flow p e) in absurd (other same)
-      | inr e ↦ is_there p 0 (not_end (first p) e)
+      | inr e ↦ is_there p 0 (some_char (first p) e)
     ]
 
 -- a row that does not give a plain scalar does not fit

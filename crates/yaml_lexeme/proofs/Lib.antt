@@ -24,6 +24,7 @@ pub mod ScalarParts
 pub mod GapLaws
 pub mod ListParts
 mod Rows
+pub mod Founds
 pub mod Lanes
 pub mod Vectors
 pub mod Counts

@@ -6,27 +6,13 @@ use Rattle.yaml_lexeme.specs.Lexeme.{Scalar as scalar_t}
 use Rattle.yaml_lexeme.proofs.PartLaws.{Advances, many_longest, many_refused, found_of, refused_of}
 use Rattle.yaml_lexeme.proofs.Spans.{blank_goes, line_spans, line_goes_of}
 use Rattle.yaml_lexeme.proofs.Uris.{uri_ahead}
+use Rattle.yaml_lexeme.proofs.Founds.{value_or, end_or, offence_or, both}
+use Rattle.yaml_lexeme.proofs.Blocks.{after_blanks, blanks_is, tail_of, after_leading, after_start, after_header, block_is}
 use Rattle.yaml_lexeme.specs.Block.{Blank, Blanks, Line, header_at, after_line, after_indent, blank_line, blank_lines, blanks_of, leading_limit, text_line, block}
 use Rattle.yaml_lexeme.specs.Parts.{Piece, values, IsLongest, UriParts, UriIsParts, UriIsRefused, BlankParts, BlanksAreLines, BlockParts, BlockIsLines, indent_of, block_scalar}
 use Rattle.yaml_lexeme.specs.Place.{Place, skip}
 use Rattle.yaml_lexeme.specs.Reading.{Offence, Found, Read, found, ◌>>=◌, over, many}
 use Rattle.yaml_lexeme.specs.Uri.{uri_part, uri}
-
--- what was read, taken apart
-abbrev value_or : {A : Type 0} → A → Read A → A
-value_or a (Ok f) = f.value
-value_or a (Err e) = a
-
-abbrev end_or : {A : Type 0} → Place → Read A → Place
-end_or p (Ok f) = f.end
-end_or p (Err e) = p
-
-abbrev offence_or : {A : Type 0} → Offence → Read A → Offence
-offence_or o (Ok f) = o
-offence_or o (Err e) = e
-
-both : {A : Type 0} (f : Found A) (v : A) (e : Place) → f.value ≡ v → f.end ≡ e → found v e ≡ Ok f
-both {A} f v e hv he = ap (λ (x : A). found x e) (sym hv) ∙ ap (λ (x : Place). found f.value x) (sym he)
 
 -- uris
 uri_advances : (listed : Bool) → Advances (uri_part listed)
@@ -76,18 +62,11 @@ blank_advances limit p = (blank_goes limit p).goes
 abbrev at_indent : Blanks → Result Place Offence → Read Blanks
 at_indent b r = r >>= λ next. found b next
 
-abbrev indented : Option ℕ → Read (List Blank) → Read Blanks
-indented limit r = r >>= λ lines. at_indent (blanks_of lines.value lines.end.mark) (after_indent limit lines.end)
-
-blanks_is : (limit : Option ℕ) (p : Place) → blank_lines limit p ≡ indented limit (many (blank_line limit) p)
-unfolding blank_lines
-blanks_is limit p = refl
-
 indent_from : (b : Blanks) (r : Result Place Offence) (f : Found Blanks) → at_indent b r ≡ Ok f → (r ≡ Ok f.end) × (f.value ≡ b)
 indent_from b (Ok x) f h = (ap (λ (y : Place). Ok y) (ap (end_or x) h), sym (ap (value_or b) h))
 indent_from b (Err o) f h = absurd cc
 
-blanks_from : (limit : Option ℕ) (p : Place) (f : Found Blanks) (r : Read (List Blank)) → many (blank_line limit) p ≡ r → indented limit r ≡ Ok f → BlankParts limit p f
+blanks_from : (limit : Option ℕ) (p : Place) (f : Found Blanks) (r : Read (List Blank)) → many (blank_line limit) p ≡ r → after_blanks limit r ≡ Ok f → BlankParts limit p f
 blanks_from limit p f (Ok b) e h =
     let l = many_longest (blank_line limit) (blank_advances limit) p b e in
     let t = indent_from (blanks_of b.value b.end.mark) (after_indent limit b.end) f h in
@@ -102,7 +81,7 @@ blanks_from limit p f (Err o) e h = absurd cc
 
 blanks_to : (limit : Option ℕ) (p : Place) (f : Found Blanks) → BlankParts limit p f → blank_lines limit p ≡ Ok f
 blanks_to limit p f q =
-    blanks_is limit p ∙ ap (indented limit) (found_of (blank_line limit) (blank_advances limit) p q.lines q.last q.longest)
+    blanks_is limit p ∙ ap (after_blanks limit) (found_of (blank_line limit) (blank_advances limit) p q.lines q.last q.longest)
     ∙ ap (at_indent (blanks_of (values q.lines) q.last.mark)) q.indent ∙ both f (blanks_of (values q.lines) q.last.mark) f.end q.value refl
 
 pub blanks_lines : BlanksAreLines
@@ -112,25 +91,9 @@ blanks_lines limit p f = (λ h. blanks_from limit p f (many (blank_line limit) p
 line_advances : (indent : ℕ) → Advances (text_line indent)
 line_advances indent p = (line_goes_of p (text_line indent p) (line_spans indent p)).goes
 
-abbrev with_lines : Bool → header_t → Blanks → Read (List Line) → Read scalar_t
-with_lines folded h leading r = r >>= λ lines. found (block_scalar folded h.chomp leading lines.value) lines.end
-
-abbrev with_leading : Bool → ℕ → header_t → Read Blanks → Read scalar_t
-with_leading folded least h r = r >>= λ leading. with_lines folded h leading.value (many (text_line (indent_of least h leading)) leading.end)
-
-abbrev with_start : Bool → ℕ → header_t → Result Place Offence → Read scalar_t
-with_start folded least h r = r >>= λ start. with_leading folded least h (blank_lines (leading_limit least h.digit) start)
-
-abbrev with_header : Bool → ℕ → Read header_t → Read scalar_t
-with_header folded least r = r >>= λ header. with_start folded least header.value (after_line header.end)
-
-block_is : (folded : Bool) (least : ℕ) (p : Place) → block folded least p ≡ with_header folded least (header_at (skip 1 p))
-unfolding block
-block_is folded least p = refl
-
 module _ (folded : Bool) (least : ℕ) (p : Place) (f : Found scalar_t) where
   lines_from : (header : Found header_t) (start : Place) (leading : Found Blanks) → header_at (skip 1 p) ≡ Ok header → after_line header.end ≡ Ok start → blank_lines (leading_limit least header.value.digit) start ≡ Ok leading
-      → (r : Read (List Line)) → many (text_line (indent_of least header.value leading)) leading.end ≡ r → with_lines folded header.value leading.value r ≡ Ok f → BlockParts folded least p f
+      → (r : Read (List Line)) → many (text_line (indent_of least header.value leading)) leading.end ≡ r → tail_of folded header.value.chomp leading.value r ≡ Ok f → BlockParts folded least p f
   lines_from header start leading eh es el (Ok b) e h =
       let l = many_longest (text_line (indent_of least header.value leading)) (line_advances (indent_of least header.value leading)) leading.end b e in
       record {
@@ -147,22 +110,22 @@ module _ (folded : Bool) (least : ℕ) (p : Place) (f : Found scalar_t) where
   lines_from header start leading eh es el (Err o) e h = absurd cc
 
   leading_from : (header : Found header_t) (start : Place) → header_at (skip 1 p) ≡ Ok header → after_line header.end ≡ Ok start → (r : Read Blanks) → blank_lines (leading_limit least header.value.digit) start ≡ r
-      → with_leading folded least header.value r ≡ Ok f → BlockParts folded least p f
+      → after_leading folded least header.value r ≡ Ok f → BlockParts folded least p f
   leading_from header start eh es (Ok leading) e h = lines_from header start leading eh es e (many (text_line (indent_of least header.value leading)) leading.end) refl h
   leading_from header start eh es (Err o) e h = absurd cc
 
-  start_from : (header : Found header_t) → header_at (skip 1 p) ≡ Ok header → (r : Result Place Offence) → after_line header.end ≡ r → with_start folded least header.value r ≡ Ok f → BlockParts folded least p f
+  start_from : (header : Found header_t) → header_at (skip 1 p) ≡ Ok header → (r : Result Place Offence) → after_line header.end ≡ r → after_start folded least header.value r ≡ Ok f → BlockParts folded least p f
   start_from header eh (Ok start) e h = leading_from header start eh e (blank_lines (leading_limit least header.value.digit) start) refl h
   start_from header eh (Err o) e h = absurd cc
 
-  header_from : (r : Read header_t) → header_at (skip 1 p) ≡ r → with_header folded least r ≡ Ok f → BlockParts folded least p f
+  header_from : (r : Read header_t) → header_at (skip 1 p) ≡ r → after_header folded least r ≡ Ok f → BlockParts folded least p f
   header_from (Ok header) e h = start_from header e (after_line header.end) refl h
   header_from (Err o) e h = absurd cc
 
   block_to : BlockParts folded least p f → block folded least p ≡ Ok f
   block_to q =
-      block_is folded least p ∙ ap (with_header folded least) q.header_is ∙ ap (with_start folded least q.header.value) q.start_is ∙ ap (with_leading folded least q.header.value) q.leading_is
-      ∙ ap (with_lines folded q.header.value q.leading.value) (found_of (text_line (indent_of least q.header.value q.leading)) (line_advances (indent_of least q.header.value q.leading)) q.leading.end q.lines f.end q.longest)
+      block_is folded least p ∙ ap (after_header folded least) q.header_is ∙ ap (after_start folded least q.header.value) q.start_is ∙ ap (after_leading folded least q.header.value) q.leading_is
+      ∙ ap (tail_of folded q.header.value.chomp q.leading.value) (found_of (text_line (indent_of least q.header.value q.leading)) (line_advances (indent_of least q.header.value q.leading)) q.leading.end q.lines f.end q.longest)
       ∙ both f (block_scalar folded q.header.value.chomp q.leading.value (values q.lines)) f.end q.value refl
 
 pub block_lines : BlockIsLines

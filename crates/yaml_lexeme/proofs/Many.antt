@@ -50,12 +50,12 @@ joined bytes parts = parts >>= λ r. found (flat_map bytes r.value) r.end
 abbrev pub Reading : {A : Type 0} → (A → List ℕ) → (Place → Part A) → Place → List ℕ → Read (List ℕ) → Type 0
 Reading bytes one p out whole = with_front out (joined bytes (many one p)) ≡ whole
 
-begin : (r : Read (List ℕ)) → with_front [] r ≡ r
-begin (Ok r) = refl
-begin (Err e) = refl
+pub no_front : (r : Read (List ℕ)) → with_front [] r ≡ r
+no_front (Ok r) = refl
+no_front (Err e) = refl
 
 pub begins : {A : Type 0} → (bytes : A → List ℕ) (one : Place → Part A) (p : Place) → Reading bytes one p [] (joined bytes (many one p))
-begins bytes one p = begin (joined bytes (many one p))
+begins bytes one p = no_front (joined bytes (many one p))
 
 push : {A : Type 0} → (bytes : A → List ℕ) (out : List ℕ) (a : A) (r : Read (List A))
     → with_front out (joined bytes (with_front (a ∷ []) r)) ≡ with_front (out ++ bytes a) (joined bytes r)

@@ -6,8 +6,8 @@ use Rattle.yaml_lexeme.specs.Parts.{Piece, past, IsPiece, Pieces, texts, values,
 use Rattle.yaml_lexeme.specs.Place.{Place, skip}
 use Rattle.yaml_lexeme.specs.Reading.{Offence, Found, Read, found, ◌>>=◌, Part, part, over, with_front, go_on, many}
 use Rattle.yaml_lexeme.proofs.Ahead.{shorter, part_shorter, PartAhead}
-use Rattle.yaml_lexeme.proofs.CountLaws.{rest_behind}
 use Rattle.yaml_lexeme.proofs.Many.{Shortens, many_turn}
+use Rattle.yaml_lexeme.proofs.Places.{rest_skip}
 
 -- each part takes a character or more
 abbrev pub Advances : {A : Type 0} → (Place → Part A) → Type 0
@@ -23,7 +23,7 @@ piece_of n p value = record { text = take n p.rest; value = value }
 
 -- a text, cut after n characters
 pub split : (n : ℕ) (p : Place) → p.rest ≡ take n p.rest ++ (skip n p).rest
-split n p = sym (ap (λ (cs : List ℕ). take n p.rest ++ cs) (rest_behind n p) ∙ take-append-drop n p.rest)
+split n p = sym (ap (λ (cs : List ℕ). take n p.rest ++ cs) (rest_skip n p) ∙ take-append-drop n p.rest)
 
 is_piece : {A : Type 0} → (one : Place → Part A) (p : Place) (f : Found A) → one p ≡ part f.value f.end → (a : IsAhead 1 p f.end) → IsPiece one p (piece_of a.count p f.value) × (past (piece_of a.count p f.value) p ≡ f.end)
 is_piece one p f e a =

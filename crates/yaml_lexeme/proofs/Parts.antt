@@ -9,9 +9,8 @@ use Rattle.std.proofs.lemmas.Str.{encodes-append}
 use Rattle.std.proofs.lemmas.List.Sums.{prefix_len-le-length}
 use Rattle.yaml_text.specs.declared.types.yaml_mark_t.{yaml_mark_t}
 use Rattle.yaml_lexeme.proofs.Body.{at_char, at_space, body_shortens}
-use Rattle.yaml_lexeme.proofs.Cursors.{rest_skip}
 use Rattle.yaml_lexeme.proofs.Many.{Reading, reads_more}
-use Rattle.yaml_lexeme.proofs.Places.{skip_skip, skip_none}
+use Rattle.yaml_lexeme.proofs.Places.{skip_skip, skip_none, rest_skip}
 use Rattle.yaml_lexeme.specs.Classes.{is_white}
 use Rattle.yaml_lexeme.specs.Fold.{fold, breaks}
 use Rattle.yaml_lexeme.specs.Gives.{TakesPart}
@@ -88,7 +87,12 @@ two single p out whole a b k e r =
 takes_some : (read : Part (List ℕ)) (value old : List ℕ) (p q : Place) → read ≡ part value q → TakesPart utf8 read true old (old ++ utf8 value) p q
 takes_some read value old p q e = rw e (refl, refl)
 
-first_one : (cs : List ℕ) → 0 < length cs → take 1 cs ≡ get_or cs 0 0 ∷ []
+pub stop_le : (p : ℕ → Bool) (xs : List ℕ) (j : ℕ) → p (get_or xs j 0) ≡ false → prefix_len p xs ≤ j
+stop_le p [] j h = omega arith
+stop_le p (x ∷ xs) zero h = rw h (omega arith)
+stop_le p (x ∷ xs) (suc j) h = elim (cases_Bool (p x)) [ inl t ↦ rw t (omega (arith, stop_le p xs j h)) | inr f ↦ rw f (omega arith) ]
+
+pub first_one : (cs : List ℕ) → 0 < length cs → take 1 cs ≡ get_or cs 0 0 ∷ []
 first_one [] h = absurd (omega arith)
 first_one (c ∷ cs) h = refl
 

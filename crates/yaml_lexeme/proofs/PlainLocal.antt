@@ -1,21 +1,21 @@
 -- Plain scalars are local.
 use Rattle.std.proofs.Common.{◌≡◌, ℕ, ◌≤◌, Bool, true, false, not, ◌==◌, if◌then◌else◌, inl, inr, List, [], ◌∷◌, ◌++◌, length, take, slice_index, Option, Some, None, Ok, Err, refl, sym, ap, ◌∙◌, subst, arith}
-use Rattle.std.proofs.lemmas.Bool.{cases_Bool}
-use Rattle.std.proofs.lemmas.Bool.Decides.{nat_tests}
+use Rattle.std.proofs.lemmas.Bool.{cases_Bool, eqb-true}
 use Rattle.std.proofs.lemmas.List.{length-take-le}
 use Rattle.std.specs.List.{list_any, flat_map}
 use Rattle.yaml_lexeme.proofs.ChunkLocal.{chunk_like, sep_run, sep_like}
 use Rattle.yaml_lexeme.proofs.Like.{Like, IsLike, found_here, like_if, like_bind, like_map}
 use Rattle.yaml_lexeme.proofs.Loop.{Next, go, stop, join, finish, finish_like}
 use Rattle.yaml_lexeme.proofs.Places.{skip_none, behind_none}
-use Rattle.yaml_lexeme.proofs.Plains.{tab_at, link_shortens}
+use Rattle.yaml_lexeme.proofs.Plains.{tab_at, link_shortens, behind_gap, tail_of}
 use Rattle.yaml_lexeme.proofs.Spaces.{run_none}
 use Rattle.yaml_lexeme.specs.Classes.{is_white}
 use Rattle.yaml_lexeme.specs.Fold.{fold}
 use Rattle.yaml_lexeme.proofs.Agreeing.{Agree}
+use Rattle.yaml_lexeme.proofs.Founds.{value_or, end_or}
 use Rattle.yaml_lexeme.specs.Place.{Place, first, peek, skip, run, behind}
 use Rattle.yaml_lexeme.specs.Plain.{is_bad_colon, is_chunk, chunk_len, chunk, untabbed, separator, is_over, link, plain}
-use Rattle.yaml_lexeme.specs.Reading.{Found, Read, found, refuse, ◌>>=◌, Part, part, over, many}
+use Rattle.yaml_lexeme.specs.Reading.{Found, Read, found, refuse, ◌>>=◌, part, over, many}
 use Rattle.yaml_lexeme.specs.Lexeme.{Scalar as scalar_t}
 use Rattle.yaml_lexeme.specs.declared.problem.problem_t.TheVariants.{COLON_IN_FLOW}
 use Rattle.yaml_text.specs.Chars.{utf8}
@@ -62,20 +62,9 @@ chunk_within flow (c ∷ cs) =
       | inr none ↦ rw none (omega arith)
     ]
 
-abbrev value_of : Read (List ℕ) → List ℕ
-value_of (Ok f) = f.value
-value_of (Err o) = []
-
-abbrev end_or : Place → Read (List ℕ) → Place
-end_or e (Ok f) = f.end
-end_or e (Err o) = e
-
 pub unless_bad : (b : Bool) (v : List ℕ) (e : Place) (c : Found (List ℕ)) → (if b then refuse COLON_IN_FLOW e else found v e) ≡ Ok c → (c.value ≡ v) × (c.end ≡ e)
 unless_bad true v e c h = absurd cc
-unless_bad false v e c h = (ap value_of (sym h), ap (end_or e) (sym h))
-
-zero_of : (k : ℕ) → (k == 0) ≡ true → k ≡ 0
-zero_of k h = grind (arith, nat_tests)
+unless_bad false v e c h = (ap (value_or []) (sym h), ap (end_or e) (sym h))
 
 chunk_empty : (flow : Bool) (e : Place) (c : Found (List ℕ)) → chunk flow e ≡ Ok c → (length c.value == 0) ≡ true → c.end ≡ e
 unfolding chunk
@@ -83,7 +72,7 @@ chunk_empty flow e c h z =
     let k = chunk_len flow e.rest in
     let end = skip k e in
     let t = unless_bad (is_bad_colon flow (first end) (peek end 1)) (take k e.rest) end c h in
-    let none : k ≡ 0 = omega (arith, length-take-le k e.rest (chunk_within flow e.rest), ap length t.0, zero_of (length c.value) z) in
+    let none : k ≡ 0 = omega (arith, length-take-le k e.rest (chunk_within flow e.rest), ap length t.0, eqb-true (length c.value) 0 z) in
     t.1 ∙ ap (λ (i : ℕ). skip i e) none ∙ skip_none e
 
 by_length : (d : Bool) (b : Bool) (flow : Bool) (least : ℕ) (m : yaml_mark_t) (cs : List ℕ) (e : Place) (c : Found (List ℕ)) → (d ≡ true → c.end ≡ e)
@@ -96,12 +85,6 @@ by_chunk : (r : Read (List ℕ)) (b : Bool) (flow : Bool) (least : ℕ) (m : yam
     ≡ join (r >>= λ c. if length c.value == 0 then over else part (fold cs ++ c.value) c.end) (found {A = Tail} (m, b) e)
 by_chunk (Ok c) b flow least m cs e h = by_length (length c.value == 0) b flow least m cs e c (λ z. chunk_empty flow e c h z)
 by_chunk (Err o) b flow least m cs e h = refl
-
-abbrev behind_gap : Bool → ℕ → List ℕ → Place → Part (List ℕ)
-behind_gap flow least gap q =
-    if is_over flow least q then over
-    else chunk flow q >>= λ c.
-    if length c.value == 0 then over else part (gap ++ c.value) c.end
 
 by_over : (o : Bool) (flow : Bool) (least : ℕ) (m : yaml_mark_t) (cs : List ℕ) (e : Place) → is_over flow least e ≡ o → turn_then flow least m cs e ≡ join (behind_gap flow least (fold cs) e) (found {A = Tail} (m, list_any is_break cs) e)
 by_over true flow least m cs e h = rw h refl
@@ -126,9 +109,6 @@ scalar_of v t = record { value = utf8 v ++ flat_map utf8 t.0; end = t.1.0; passe
 
 abbrev scalar_from : List ℕ → Read (List (List ℕ) × Tail) → Read scalar_t
 scalar_from v r = r >>= λ t. found (scalar_of v t.value) t.end
-
-abbrev tail_of : List ℕ → Read (List (List ℕ)) → Read scalar_t
-tail_of v r = r >>= λ links. found (record { value = utf8 v ++ flat_map utf8 links.value; end = links.end.mark; passed_break = list_any is_break (run is_white links.end) }) (behind is_white links.end)
 
 tail_is : (v : List ℕ) (r : Read (List (List ℕ))) → tail_of v r ≡ scalar_from v (finish trailing r)
 tail_is v (Ok links) = refl

@@ -1,11 +1,11 @@
 -- What is kept unchanged in a line of a plain scalar.
 use Rattle.std.proofs.Common.{◌≡◌, ◌==◌, ◌&&◌, ◌||◌, not, ℕ, zero, suc, ◌+◌, ◌-◌, ◌<◌, ◌≤◌, inl, inr, Bool, true, false, List, [], ◌∷◌, ◌++◌, length, get_or, take, drop, None, Ok, Err, refl, sym, ap, ◌∙◌, subst, arith, add-zero, append_assoc, take-add, le-ltb, ne_eqb, if◌then◌else◌}
 use Rattle.std.specs.Prelude.{IsTrue, nat_le, nat_lt}
-use Rattle.std.specs.List.{prefix_len, flat_map, list_any}
+use Rattle.std.specs.List.{prefix_len, list_any}
 use Rattle.std.specs.Char.{encode_utf8}
-use Rattle.std.proofs.lemmas.Bool.{cases_Bool, cases_lt, leb-true, le-leb}
+use Rattle.std.proofs.lemmas.Bool.{cases_Bool, cases_lt, leb-true, le-leb, and_right}
 use Rattle.std.proofs.lemmas.Bool.Decides.{nat_tests}
-use Rattle.std.proofs.lemmas.List.{append-nil, get_or-drop, length-append, length-take, length-drop, get_or-take, take-take, take_at}
+use Rattle.std.proofs.lemmas.List.{append-nil, get_or-drop, length-drop}
 use Rattle.std.proofs.lemmas.List.Sums.{prefix_len-le-length, prefix_len_passes, prefix_len_stops}
 use Rattle.std.proofs.lemmas.Str.{encodes-append}
 use Rattle.yaml_text.specs.declared.types.yaml_mark_t.{yaml_mark_t}
@@ -14,13 +14,11 @@ use Rattle.yaml_text.specs.Classes.{is_blank, is_break}
 use Rattle.yaml_lexeme.specs.declared.problem.problem_t.TheVariants.{COLON_IN_FLOW}
 use Rattle.yaml_lexeme.specs.declared.problem.refusal_t.{refusal_t}
 use Rattle.yaml_lexeme.specs.declared.problem.refusal_t.TheVariants as errors
-use Rattle.yaml_lexeme.specs.Lexeme.{Scalar as scalar_t}
-use Rattle.yaml_lexeme.proofs.Cursors.{rest_skip}
-use Rattle.yaml_lexeme.proofs.Many.{joined, many_turn, reads_all, reads_none}
-use Rattle.yaml_lexeme.proofs.Parts.{fold_none, no_breaks, column_behind, no_marker, space_first}
-use Rattle.yaml_lexeme.proofs.Places.{skip_none, skip_skip, length_skip, behind_more, behind_none}
-use Rattle.yaml_lexeme.proofs.Plains.{chunk_more, chunk_stop, chunk_there, Gap, at_gap, Passes, passes_more, passes_spaces, passes_all, passed, same_none, link_shortens, tail_all, tail_none, scalar_at, plain_is}
-use Rattle.yaml_lexeme.proofs.Trims.{trimmed, trim_last}
+use Rattle.yaml_lexeme.proofs.Many.{joined, many_turn, reads_all, reads_none, no_front}
+use Rattle.yaml_lexeme.proofs.Parts.{fold_none, no_breaks, column_behind, no_marker, space_first, stop_le, first_one}
+use Rattle.yaml_lexeme.proofs.Places.{skip_none, skip_skip, length_skip, behind_more, behind_none, rest_skip, solid}
+use Rattle.yaml_lexeme.proofs.Plains.{chunk_more, chunk_stop, chunk_there, Gap, at_gap, Passes, passes_more, passes_spaces, passes_all, passed, same_none, link_shortens, tail_all, tail_none, scalar_at, plain_is, after_head}
+use Rattle.yaml_lexeme.proofs.Trims.{trims_at}
 use Rattle.yaml_lexeme.specs.Classes.{is_white}
 use Rattle.yaml_lexeme.specs.Fold.{fold}
 use Rattle.yaml_lexeme.specs.Gives.{Refuses, TakesPart}
@@ -35,10 +33,6 @@ use Rattle.yaml_lexeme.specs.Words.{links, words, plain_of, Goes}
 two_fronts : (a b : List ℕ) (r : Read (List ℕ)) → with_front a (with_front b r) ≡ with_front (a ++ b) r
 two_fronts a b (Ok f) = ap (λ (xs : List ℕ). found xs f.end) (sym (append_assoc a b f.value))
 two_fronts a b (Err e) = refl
-
-pub no_front : (r : Read (List ℕ)) → with_front [] r ≡ r
-no_front (Ok f) = refl
-no_front (Err e) = refl
 
 -- what follows a chunk
 abbrev then_links : Bool → ℕ → Read (List ℕ) → Read (List ℕ)
@@ -92,10 +86,6 @@ links_open flow least p q g o h =
 
 -- ---- blanks within a line
 
-and_false : (b : Bool) → (b && false) ≡ false
-and_false true = refl
-and_false false = refl
-
 -- no break, no tab in indentation
 tab_none : (least : ℕ) (m : yaml_mark_t) (cs : List ℕ) → ((i : ℕ) → i < prefix_len is_white cs → is_break (get_or cs i 0) ≡ false) → tab_from least false m cs ≡ None
 tab_none least m [] h = refl
@@ -105,7 +95,7 @@ tab_none least m (c ∷ cs) h =
           let k : prefix_len is_white (c ∷ cs) ≡ 1 + prefix_len is_white cs = rw w refl in
           let b : is_break c ≡ false = h 0 (omega (arith, k)) in
           let m' : yaml_mark_t = record { index = m.index + width c; line = m.line; column = m.column + 1 } in
-          rw (w, and_false (c == 0x09), b) (tab_none least m' cs (λ i l. h (suc i) (omega (arith, k))))
+          rw (w, and_right (c == 0x09) false refl, b) (tab_none least m' cs (λ i l. h (suc i) (omega (arith, k))))
       | inr o ↦ rw o refl
     ]
 
@@ -169,15 +159,6 @@ solid_behind flow a b k cs e some s = record {
   last = λ h. let i : a + (b - 1) ≡ k - 1 = omega arith in ap is_white (get_or-drop a cs (b - 1) 0 ∙ ap (λ n. get_or cs n 0) i) ∙ s.last (omega arith);
 }
 
-stop_le : (p : ℕ → Bool) (xs : List ℕ) (j : ℕ) → p (get_or xs j 0) ≡ false → prefix_len p xs ≤ j
-stop_le p [] j h = omega arith
-stop_le p (x ∷ xs) zero h = rw h (omega arith)
-stop_le p (x ∷ xs) (suc j) h = elim (cases_Bool (p x)) [ inl t ↦ rw t (omega (arith, stop_le p xs j h)) | inr f ↦ rw f (omega arith) ]
-
-first_one : (cs : List ℕ) → 0 < length cs → take 1 cs ≡ get_or cs 0 0 ∷ []
-first_one [] h = absurd (omega arith)
-first_one (c ∷ cs) h = refl
-
 far_on : (flow : Bool) (least : ℕ) (p q : Place) → p.mark.column ≤ q.mark.column → GoesFar flow least p → GoesFar flow least q
 far_on true least p q h f = refl
 far_on false least p q h f = let l : least ≤ p.mark.column + 1 = leb-true least (p.mark.column + 1) f in le-leb least (q.mark.column + 1) (omega arith)
@@ -229,27 +210,19 @@ words_over flow least (suc fuel) (suc k) p le s far =
           ]
     ]
 
-solid : (c : ℕ) → is_blank c ≡ false → is_break c ≡ false → is_white c ≡ false
-solid c a b = rw (a, b) refl
-
 -- The beginning of a line, without the blanks at its end.
 trimmed_solid : (flow : Bool) (cs : List ℕ) (m : ℕ) → m ≤ prefix_len (class_test (plain_of flow)) cs → let front = trim (take m cs) in Solid flow (length front) cs
-trimmed_solid flow cs m low =
+trimmed_solid flow cs m passing =
     let test = class_test (plain_of flow) in
-    let t = trimmed (take m cs) in
-    let kept = trim (take m cs) in
-    let k = length kept in
+    let k = length (trim (take m cs)) in
     let within : m ≤ length cs = omega (arith, prefix_len-le-length test cs) in
-    let len : length (take m cs) ≡ m = omega (arith, length-take m cs) in
-    let sum : k + length t.blanks ≡ m = omega (arith, len, ap length t.parts, length-append kept t.blanks) in
-    let front : take k cs ≡ kept = sym (take-take k m cs (omega arith)) ∙ ap (λ (x : List ℕ). take k x) t.parts ∙ take_at kept t.blanks k refl in
+    let cut = trims_at cs m within in
+    let low : k ≤ m = omega (arith, cut.sum) in
     let passes : (i : ℕ) → i < m → test (get_or cs i 0) ≡ true = λ i l. prefix_len_passes test cs i 0 (omega arith) in
     record {
       within = omega arith;
       each = λ i l. passes i (omega arith);
-      last = λ some.
-          let last : get_or cs (k - 1) 0 ≡ get_or kept (k - 1) 0 = sym (get_or-take k cs (k - 1) 0 (omega arith)) ∙ ap (λ (x : List ℕ). get_or x (k - 1) 0) front in
-          solid (get_or cs (k - 1) 0) (ap is_blank last ∙ trim_last (take m cs) some) (line_char flow (get_or cs (k - 1) 0) (passes (k - 1) (omega arith))).0;
+      last = λ some. solid (get_or cs (k - 1) 0) (cut.last some) (line_char flow (get_or cs (k - 1) 0) (passes (k - 1) (omega arith))).0;
     }
 
 -- nothing is taken
@@ -287,14 +260,11 @@ goes_out flow least p q out piece new e n = ap (with_front out) e ∙ two_fronts
 
 -- ---- the scalar
 
-abbrev after_words : Bool → ℕ → Read (List ℕ) → Read scalar_t
-after_words flow least r = r >>= λ head. many (link flow least) head.end >>= λ ls. scalar_at (utf8 head.value ++ flat_map utf8 ls.value) ls.end
-
-all_words : (flow : Bool) (least : ℕ) (r : Read (List ℕ)) (out : List ℕ) (q : Place) → then_links flow least r ≡ found out q → after_words flow least r ≡ scalar_at out q
+all_words : (flow : Bool) (least : ℕ) (r : Read (List ℕ)) (out : List ℕ) (q : Place) → then_links flow least r ≡ found out q → after_head flow least r ≡ scalar_at out q
 all_words flow least (Ok head) out q h = tail_all (many (link flow least) head.end) (utf8 head.value) out q h
 all_words flow least (Err e) out q h = absurd cc
 
-no_words : (flow : Bool) (least : ℕ) (r : Read (List ℕ)) (o : Offence) → then_links flow least r ≡ Err o → after_words flow least r ≡ Err o
+no_words : (flow : Bool) (least : ℕ) (r : Read (List ℕ)) (o : Offence) → then_links flow least r ≡ Err o → after_head flow least r ≡ Err o
 no_words flow least (Ok head) o h = tail_none (many (link flow least) head.end) (utf8 head.value) o.problem o.at h
 no_words flow least (Err e) o h = let same : e ≡ o = cc in ap (λ x. Err x) same
 

@@ -10,8 +10,9 @@ use Rattle.yaml_lexeme.specs.declared.problem.problem_t.{problem_t}
 use Rattle.yaml_lexeme.specs.Lexeme.{Scalar as scalar_t}
 use Rattle.yaml_lexeme.specs.declared.problem.problem_t.TheVariants.{COLON_IN_FLOW, TAB_IN_PLAIN}
 use Rattle.yaml_lexeme.proofs.Many.{IsShorter, Shortens, joined}
-use Rattle.yaml_lexeme.proofs.Places.{length_skip, length_one, is_there, behind_more, behind_none}
+use Rattle.yaml_lexeme.proofs.Places.{length_skip, length_one, is_there, behind_more, behind_none, blank_white}
 use Rattle.yaml_lexeme.proofs.Spaces.{run_more, run_none, behind_blanks, stopped as run_stopped}
+use Rattle.yaml_lexeme.proofs.Founds.{value_or, end_or}
 use Rattle.yaml_lexeme.specs.Classes.{is_white, ends}
 use Rattle.yaml_lexeme.specs.Fold.{fold}
 use Rattle.yaml_lexeme.specs.Gives.{Refuses, TakesPart, TakesRead}
@@ -57,14 +58,6 @@ chunk_char flow c next h = grind (arith, nat_tests)
 
 pub chunk_there : (flow : Bool) (p : Place) → is_chunk flow (first p) (peek p 1) ≡ true → 0 < length p.rest
 chunk_there flow p h = is_there p 0 (chunk_char flow (first p) (peek p 1) h)
-
-abbrev value_of : Read (List ℕ) → List ℕ
-value_of (Ok r) = r.value
-value_of (Err e) = []
-
-abbrev end_of : Read (List ℕ) → Place
-end_of (Ok r) = r.end
-end_of (Err e) = e.at
 
 -- a place's tab is found
 abbrev pub tab_at : ℕ → Bool → Place → Option Place
@@ -150,7 +143,7 @@ unfolding link
 link_none flow least p h = rw h refl
 
 -- the part of a link after its separator
-abbrev behind_gap : Bool → ℕ → List ℕ → Place → Part (List ℕ)
+abbrev pub behind_gap : Bool → ℕ → List ℕ → Place → Part (List ℕ)
 behind_gap flow least gap q =
     if is_over flow least q then over
     else chunk flow q >>= λ c.
@@ -224,9 +217,6 @@ nothing_or : (b : Bool) (value : List ℕ) (p q : Place) → length q.rest < len
 nothing_or true value p q h = tt
 nothing_or false value p q h = h
 
-blank_space : (c : ℕ) → is_blank c ≡ true → is_white c ≡ true
-blank_space c h = grind (arith, nat_tests)
-
 blank_no_break : (c : ℕ) → is_blank c ≡ true → is_break c ≡ false
 blank_no_break c h = grind (arith, nat_tests)
 
@@ -272,9 +262,13 @@ link_shortens flow least p =
 abbrev pub scalar_at : List ℕ → Place → Read scalar_t
 scalar_at bytes q = found (record { value = bytes; end = q.mark; passed_break = list_any is_break (run is_white q) }) (behind is_white q)
 
+-- what follows the bytes of the first chunk
+abbrev pub tail_of : List ℕ → Read (List (List ℕ)) → Read scalar_t
+tail_of v r = r >>= λ links. scalar_at (utf8 v ++ flat_map utf8 links.value) links.end
+
 -- what follows the first chunk
-abbrev after_head : Bool → ℕ → Read (List ℕ) → Read scalar_t
-after_head flow least r = r >>= λ head. many (link flow least) head.end >>= λ links. scalar_at (utf8 head.value ++ flat_map utf8 links.value) links.end
+abbrev pub after_head : Bool → ℕ → Read (List ℕ) → Read scalar_t
+after_head flow least r = r >>= λ head. tail_of head.value (many (link flow least) head.end)
 
 pub plain_is : (flow : Bool) (least : ℕ) (p : Place) → plain flow least p ≡ after_head flow least (chunk flow p)
 unfolding plain
@@ -285,7 +279,7 @@ refusal (Ok r) = scalar_at r.value r.end
 refusal (Err e) = Err e
 
 pub tail_all : (m : Read (List (List ℕ))) (front out : List ℕ) (q : Place) → with_front front (joined utf8 m) ≡ found out q → (m >>= λ links. scalar_at (front ++ flat_map utf8 links.value) links.end) ≡ scalar_at out q
-tail_all (Ok links) front out q h = ap (λ (r : Read (List ℕ)). scalar_at (value_of r) (end_of r)) h
+tail_all (Ok links) front out q h = ap (λ (r : Read (List ℕ)). scalar_at (value_or [] r) (end_or q r)) h
 tail_all (Err e) front out q h = absurd cc
 
 pub tail_none : (m : Read (List (List ℕ))) (front : List ℕ) (problem : problem_t) (q : Place) → with_front front (joined utf8 m) ≡ refuse problem q → (m >>= λ links. scalar_at (front ++ flat_map utf8 links.value) links.end) ≡ refuse problem q
@@ -302,7 +296,7 @@ any_behind (suc n) p h =
     elim (cases_Bool (is_blank (first p))) [
       | inl blank ↦
           let t = behind_more is_blank p blank refl in
-          let space : is_white (first p) ≡ true = blank_space (first p) blank in
+          let space : is_white (first p) ≡ true = blank_white (first p) blank in
           let other : is_break (first p) ≡ false = blank_no_break (first p) blank in
           rw t.1 (ap (list_any is_break) (run_more is_white p space refl) ∙ rw other (any_behind n (skip 1 p) (omega (arith, t.0, length_one p))))
       | inr other ↦ rw (behind_none is_blank p other) refl

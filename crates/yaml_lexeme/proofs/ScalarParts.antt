@@ -1,6 +1,6 @@
 -- Quoted and plain scalars are their parts.
-use Rattle.std.proofs.Common.{◌≡◌, ℕ, zero, suc, ◌+◌, ◌<◌, ◌≤◌, ◌⊎◌, Bool, true, false, not, ◌==◌, ◌&&◌, ◌||◌, if◌then◌else◌, inl, inr, List, [], ◌∷◌, ◌++◌, length, take, drop, slice_index, Option, Some, None, Ok, Err, refl, sym, ap, ◌∙◌, subst, arith, append_assoc, length-append, get_or-drop}
-use Rattle.std.proofs.lemmas.Bool.{cases_Bool}
+use Rattle.std.proofs.Common.{◌≡◌, ℕ, zero, suc, ◌+◌, ◌<◌, ◌≤◌, ◌⊎◌, Bool, true, false, not, ◌==◌, ◌&&◌, ◌||◌, if◌then◌else◌, inl, inr, List, [], ◌∷◌, ◌++◌, length, take, drop, slice_index, Option, Some, None, Ok, Err, refl, sym, ap, ◌∙◌, subst, arith, append_assoc, length-append}
+use Rattle.std.proofs.lemmas.Bool.{cases_Bool, and_parts, eqb-true, not-false}
 use Rattle.std.proofs.lemmas.Bool.Decides.{nat_tests}
 use Rattle.std.proofs.lemmas.List.{length-take-le}
 use Rattle.std.specs.List.{flat_map}
@@ -16,29 +16,16 @@ use Rattle.yaml_lexeme.specs.Kind.{is_marker}
 use Rattle.yaml_lexeme.specs.Parts.{Piece, texts, values, IsLongest, QuotedParts, QuotedIsParts, QuotedIsRefused, plain_scalar, PlainParts, PlainIsParts, ChunkRefused, LinksRefused, PlainIsRefused, ChunkIsLongest, LinkParts, LinkIsLongest, SeparatorEnds, LinkIsOver}
 use Rattle.yaml_lexeme.specs.Place.{Place, first, peek, skip, run, behind}
 use Rattle.yaml_lexeme.specs.Plain.{is_bad_colon, is_chunk, chunk_len, chunk, tab_from, untabbed, separator, is_over, link, plain}
-use Rattle.yaml_lexeme.specs.Quoted.{quote, body_part, spelled, quoted}
+use Rattle.yaml_lexeme.specs.Quoted.{quote, body_part, quoted}
 use Rattle.yaml_lexeme.specs.Reading.{Offence, Found, Read, found, refuse, ◌>>=◌, Part, part, over, many}
-use Rattle.yaml_lexeme.proofs.CountLaws.{rest_behind}
 use Rattle.yaml_lexeme.proofs.PartLaws.{Advances, split, many_longest, many_refused, found_of, refused_of}
-use Rattle.yaml_lexeme.proofs.Places.{skip_none}
+use Rattle.yaml_lexeme.proofs.Places.{skip_none, rest_skip, peek_on}
 use Rattle.yaml_lexeme.proofs.PlainLocal.{unless_bad, chunk_within}
 use Rattle.yaml_lexeme.proofs.Spaces.{stopped}
 use Rattle.yaml_lexeme.proofs.Spans.{body_goes, link_goes}
-
-abbrev value_or : {A : Type 0} → A → Read A → A
-value_or a (Ok f) = f.value
-value_or a (Err e) = a
-
-abbrev end_or : {A : Type 0} → Place → Read A → Place
-end_or p (Ok f) = f.end
-end_or p (Err e) = p
-
-abbrev offence_or : {A : Type 0} → Offence → Read A → Offence
-offence_or o (Ok f) = o
-offence_or o (Err e) = e
-
-both : {A : Type 0} (f : Found A) (v : A) (e : Place) → f.value ≡ v → f.end ≡ e → found v e ≡ Ok f
-both f v e hv he = ap (λ x. found x e) (sym hv) ∙ ap (λ (x : Place). found f.value x) (sym he)
+use Rattle.yaml_lexeme.proofs.Founds.{value_or, end_or, offence_or, both}
+use Rattle.yaml_lexeme.proofs.Body.{finish, quoted_is}
+use Rattle.yaml_lexeme.proofs.Plains.{tail_of, after_head, plain_is}
 
 -- quoted scalars
 body_advances : (single : Bool) → Advances (body_part single)
@@ -61,13 +48,6 @@ no_escape : (r : Read ℕ) → (r >>= λ x. part (x.value ∷ []) x.end) ≡ ove
 no_escape (Ok x) h = cc
 no_escape (Err e) h = cc
 
-left : (a b : Bool) → (a && b) ≡ true → a ≡ true
-left true b h = refl
-left false b h = h
-
-equal : (c d : ℕ) → (c == d) ≡ true → c ≡ d
-equal c d h = grind (arith, nat_tests)
-
 closes : (single : Bool) (p : Place) → body_part single p ≡ over → first p ≡ quote single
 unfolding body_part
 closes single p h =
@@ -79,14 +59,7 @@ closes single p h =
     let r2 = other (single || not (c == backslash)) _ _ (λ e. absurd cc) r1 in
     let r3 = other (is_break (peek p 1)) _ _ (λ e. no_unmarked _ _ _ e) r2 in
     no_escape (escape p) r3) h2 in
-    equal c (quote single) (left (c == quote single) (not (single && peek p 1 == c)) closed)
-
-abbrev finish : Read (List (List ℕ)) → Read (List ℕ)
-finish r = spelled r >>= λ b. found b.value (skip 1 b.end)
-
-quoted_is : (single : Bool) (p : Place) → quoted single p ≡ finish (many (body_part single) (skip 1 p))
-unfolding quoted
-quoted_is single p = refl
+    eqb-true c (quote single) (and_parts (c == quote single) (not (single && peek p 1 == c)) closed).0
 
 body_from : (single : Bool) (p : Place) (f : Found (List ℕ)) (r : Read (List (List ℕ))) → many (body_part single) (skip 1 p) ≡ r → finish r ≡ Ok f → QuotedParts single p f
 body_from single p f (Ok b) e h =
@@ -166,7 +139,7 @@ chunk_longest flow p f h =
     let k = chunk_len flow p.rest in
     let t = chunk_is flow p f h in
     let len = length-take-le k p.rest (chunk_within flow p.rest) in
-    let rest : f.end.rest ≡ drop k p.rest = ap (λ (q : Place). q.rest) t.1 ∙ rest_behind k p in (
+    let rest : f.end.rest ≡ drop k p.rest = ap (λ (q : Place). q.rest) t.1 ∙ rest_skip k p in (
       chunk_joined flow p f h,
       λ i l. chunk_all flow p.rest i (omega (arith, len, ap length t.0)),
       subst (λ (cs : List ℕ). is_chunk flow (slice_index cs 0) (slice_index cs 1) ≡ false) (sym rest) (chunk_over flow p.rest),
@@ -215,9 +188,6 @@ no_chunk true true h = refl
 no_chunk false b h = refl
 no_chunk true false h = absurd cc
 
-peek_on : (k i : ℕ) (p : Place) → peek (skip k p) i ≡ peek p (k + i)
-peek_on k i p = ap (λ (cs : List ℕ). slice_index cs i) (rest_behind k p) ∙ get_or-drop k p.rest i 0
-
 text_within : (text more rest : List ℕ) → rest ≡ text ++ more → length text ≤ length rest
 text_within text more rest e = omega (arith, length-append text more, ap length e)
 
@@ -264,10 +234,6 @@ by_chunk flow gap q f (Ok c) e h =
     (c.value, e ∙ ap (λ (x : Place). found c.value x) (ap (end_in q) t.1), some (length c.value) t.0, sym (ap value_in t.1))
 by_chunk flow gap q f (Err o) e h = absurd cc
 
-is_so : (b : Bool) → not b ≡ false → b ≡ true
-is_so true h = refl
-is_so false h = absurd cc
-
 link_from : (flow : Bool) (least : ℕ) (p : Place) (f : Found (List ℕ)) → link flow least p ≡ part f.value f.end → LinkParts flow least p f
 unfolding link separator
 link_from flow least p f h =
@@ -278,7 +244,7 @@ link_from flow least p f h =
     let t = by_chunk flow (fold (run is_white p)) end f (chunk flow end) refl h3.1 in
     record {
       text = t.0;
-      white = is_so (is_white (first p)) h1.0;
+      white = not-false (is_white (first p)) h1.0;
       stops = stopped is_white p refl;
       separator = h2.0;
       goes_on = h3.0;
@@ -312,9 +278,6 @@ empty : (cs : List ℕ) → length cs ≡ 0 → cs ≡ []
 empty [] h = refl
 empty (c ∷ cs) h = absurd (omega arith)
 
-zero_of : (k : ℕ) → (k == 0) ≡ true → k ≡ 0
-zero_of k h = grind (arith, nat_tests)
-
 no_more : (b : Bool) (v : List ℕ) (q : Place) → (if b then over else part v q) ≡ over → b ≡ true
 no_more true v q h = refl
 no_more false v q h = absurd cc
@@ -322,7 +285,7 @@ no_more false v q h = absurd cc
 chunk_none : (flow : Bool) (gap : List ℕ) (q : Place) (r : Read (List ℕ)) → chunk flow q ≡ r → (r >>= λ c. if length c.value == 0 then over else part (gap ++ c.value) c.end) ≡ over → chunk flow q ≡ found [] q
 chunk_none flow gap q (Ok c) e h =
     let k = chunk_len flow q.rest in
-    let z : length c.value ≡ 0 = zero_of (length c.value) (no_more (length c.value == 0) (gap ++ c.value) c.end h) in
+    let z : length c.value ≡ 0 = eqb-true (length c.value) 0 (no_more (length c.value == 0) (gap ++ c.value) c.end h) in
     let t = chunk_is flow q c e in
     let len : length (take k q.rest) ≡ k = length-take-le k q.rest (chunk_within flow q.rest) in
     let none : k ≡ 0 = omega (arith, z, len, ap length t.0) in
@@ -376,16 +339,6 @@ link_over flow least p = (over_from flow least p, over_to flow least p)
 link_advances : (flow : Bool) (least : ℕ) → Advances (link flow least)
 link_advances flow least p = (link_goes flow least p).goes
 
-abbrev tail_of : List ℕ → Read (List (List ℕ)) → Read scalar_t
-tail_of v r = r >>= λ links. found (plain_scalar v links.value links.end) (behind is_white links.end)
-
-abbrev with_links : Bool → ℕ → Read (List ℕ) → Read scalar_t
-with_links flow least r = r >>= λ head. tail_of head.value (many (link flow least) head.end)
-
-plain_is : (flow : Bool) (least : ℕ) (p : Place) → plain flow least p ≡ with_links flow least (chunk flow p)
-unfolding plain
-plain_is flow least p = refl
-
 links_from : (flow : Bool) (least : ℕ) (p : Place) (f : Found scalar_t) (head : Found (List ℕ)) → chunk flow p ≡ Ok head → (r : Read (List (List ℕ))) → many (link flow least) head.end ≡ r → tail_of head.value r ≡ Ok f → PlainParts flow least p f
 links_from flow least p f head starts (Ok b) e h =
     let l = many_longest (link flow least) (link_advances flow least) head.end b e in
@@ -401,13 +354,13 @@ links_from flow least p f head starts (Ok b) e h =
     }
 links_from flow least p f head starts (Err o) e h = absurd cc
 
-head_from : (flow : Bool) (least : ℕ) (p : Place) (f : Found scalar_t) (r : Read (List ℕ)) → chunk flow p ≡ r → with_links flow least r ≡ Ok f → PlainParts flow least p f
+head_from : (flow : Bool) (least : ℕ) (p : Place) (f : Found scalar_t) (r : Read (List ℕ)) → chunk flow p ≡ r → after_head flow least r ≡ Ok f → PlainParts flow least p f
 head_from flow least p f (Ok head) e h = links_from flow least p f head e (many (link flow least) head.end) refl h
 head_from flow least p f (Err o) e h = absurd cc
 
 plain_to : (flow : Bool) (least : ℕ) (p : Place) (f : Found scalar_t) → PlainParts flow least p f → plain flow least p ≡ Ok f
 plain_to flow least p f q =
-    plain_is flow least p ∙ ap (with_links flow least) q.starts ∙ ap (tail_of q.head.value) (found_of (link flow least) (link_advances flow least) q.head.end q.links q.last q.longest)
+    plain_is flow least p ∙ ap (after_head flow least) q.starts ∙ ap (tail_of q.head.value) (found_of (link flow least) (link_advances flow least) q.head.end q.links q.last q.longest)
     ∙ both f (plain_scalar q.head.value (values q.links) q.last) (behind is_white q.last) q.value q.end
 
 pub plain_parts : PlainIsParts
@@ -419,14 +372,14 @@ links_refused flow least p e head starts (Err o) is h =
     let m = many_refused (link flow least) (link_advances flow least) head.end e (is ∙ ap (λ (x : Offence). Err x) (ap (offence_or o) h)) in
     record { head = head; links = m.0; last = m.1; starts = starts; longest = m.2 }
 
-head_refused : (flow : Bool) (least : ℕ) (p : Place) (e : Offence) (r : Read (List ℕ)) → chunk flow p ≡ r → with_links flow least r ≡ Err e → ChunkRefused flow p e ⊎ LinksRefused flow least p e
+head_refused : (flow : Bool) (least : ℕ) (p : Place) (e : Offence) (r : Read (List ℕ)) → chunk flow p ≡ r → after_head flow least r ≡ Err e → ChunkRefused flow p e ⊎ LinksRefused flow least p e
 head_refused flow least p e (Ok head) is h = inr (links_refused flow least p e head is (many (link flow least) head.end) refl h)
 head_refused flow least p e (Err o) is h = inl (chunk_refused_from flow p e (is ∙ ap (λ (x : Offence). Err x) (ap (offence_or o) h)))
 
 refused_to : (flow : Bool) (least : ℕ) (p : Place) (e : Offence) → ChunkRefused flow p e ⊎ LinksRefused flow least p e → plain flow least p ≡ Err e
-refused_to flow least p e (inl h) = plain_is flow least p ∙ ap (with_links flow least) (chunk_refused_to flow p e h)
+refused_to flow least p e (inl h) = plain_is flow least p ∙ ap (after_head flow least) (chunk_refused_to flow p e h)
 refused_to flow least p e (inr r) =
-    plain_is flow least p ∙ ap (with_links flow least) r.starts ∙ ap (tail_of r.head.value) (refused_of (link flow least) (link_advances flow least) r.head.end r.links r.last e r.longest)
+    plain_is flow least p ∙ ap (after_head flow least) r.starts ∙ ap (tail_of r.head.value) (refused_of (link flow least) (link_advances flow least) r.head.end r.links r.last e r.longest)
 
 pub plain_refused : PlainIsRefused
 plain_refused flow least p e = (λ h. head_refused flow least p e (chunk flow p) refl (sym (plain_is flow least p) ∙ h), refused_to flow least p e)

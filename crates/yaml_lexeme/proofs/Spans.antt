@@ -1,13 +1,13 @@
 -- Where tokens end, kind by kind.
 use Rattle.std.proofs.Common.{◌≡◌, ℕ, zero, suc, ◌+◌, ◌<◌, Bool, true, false, not, ◌==◌, ◌&&◌, ◌||◌, nat_lt, if◌then◌else◌, inl, inr, List, [], ◌∷◌, length, take, Option, Some, None, is_some, Ok, Err, refl, sym, subst, arith}
-use Rattle.std.proofs.lemmas.Bool.{cases_Bool}
+use Rattle.std.proofs.lemmas.Bool.{cases_Bool, not-false}
 use Rattle.std.proofs.lemmas.Bool.Decides.{nat_tests}
 use Rattle.std.specs.List.{list_all}
 use Rattle.std.specs.Str.Parse.{digits_value}
 use Rattle.yaml_lexeme.proofs.Ahead.{ahead_here, ahead_less, ahead_trans, ahead_skip, ahead_some, ahead_any, ahead_behind, ahead_on, shorter, part_shorter, Goes, found_goes, refuse_goes, if_goes, bind_goes, then_goes, PartGoes, part_goes, over_goes, refuse_part, part_if, part_bind, many_goes, GoesTo, to_goes, refuse_to, to_if, to_part_bind, Span, found_span, refuse_span, if_span, bind_span, to_span, span_span, spans_then, then_span, spans_end}
-use Rattle.yaml_lexeme.proofs.Many.{many_turn}
+use Rattle.yaml_lexeme.proofs.Many.{many_turn, Shortens}
 use Rattle.yaml_lexeme.proofs.Orders.{comment_ahead, on, next, named_goes}
-use Rattle.yaml_lexeme.proofs.Places.{is_there, break_within, behind_more, behind_none}
+use Rattle.yaml_lexeme.proofs.Places.{is_there, break_within, behind_more, behind_none, some_char, in_or_break, is_break_len}
 use Rattle.yaml_lexeme.proofs.Plains.{chunk_more, chunk_there}
 use Rattle.yaml_lexeme.specs.Block.{is_sign, digit_at, header_at, after_line, is_indenting, indent_len, after_indent, blank_line, Blanks, blank_lines, Line, line_at, is_text, text_line, end_of, block, block_indent, leading_limit}
 use Rattle.yaml_lexeme.specs.Classes.{ends, is_white, is_in_line}
@@ -30,9 +30,6 @@ behind_some : (test : ℕ → Bool) (p : Place) → test (first p) ≡ true → 
 behind_some test p h none =
     let t = behind_more test p h none in
     subst (λ (x : Place). IsAhead 1 p x) (sym t.1) (next p (behind test (skip 1 p)) t.0 (ahead_behind test (skip 1 p)))
-
-not_end : (c : ℕ) → is_z c ≡ false → 0 < c
-not_end c h = grind (arith, nat_tests)
 
 unmarked_goes : (n : ℕ) (value : List ℕ) (p q : Place) → IsAhead n p q → PartGoes n p (unmarked value q)
 unmarked_goes n value p q a = part_if (is_marker q) (λ e. refuse_part) (λ e. part_goes a)
@@ -57,7 +54,7 @@ body_goes single p =
     let c = first p in
     let r = skip (break_len (skip 1 p)) (skip 1 p) in
     part_if (is_z c) (λ e. refuse_part) (λ e.
-    let there : 0 < length p.rest = is_there p 0 (not_end c e) in
+    let there : 0 < length p.rest = is_there p 0 (some_char c e) in
     part_if (is_white c) (λ s. unmarked_goes 1 _ p (behind is_white p) (behind_some is_white p s refl)) (λ s.
     part_if (c == quote single && not (single && peek p 1 == c)) (λ e. over_goes) (λ e.
     part_if (c == quote single) (λ e. part_goes (ahead_some 1 2 p (omega arith) (omega arith))) (λ e.
@@ -90,15 +87,11 @@ separator_goes : (least : ℕ) (p : Place) → is_white (first p) ≡ true → G
 unfolding separator
 separator_goes least p h = untabbed_goes (tab_from least false p.mark p.rest) _ p (behind is_white p) (behind_some is_white p h refl)
 
-space_of : (b : Bool) → not b ≡ false → b ≡ true
-space_of true h = refl
-space_of false h = sym h
-
 pub link_goes : (flow : Bool) (least : ℕ) (p : Place) → PartGoes 1 p (link flow least p)
 unfolding link
 link_goes flow least p =
     part_if (not (is_white (first p))) (λ e. over_goes) (λ e.
-    part_bind 1 (separator_goes least p (space_of (is_white (first p)) e)) (λ gap a.
+    part_bind 1 (separator_goes least p (not-false (is_white (first p)) e)) (λ gap a.
     part_if (is_over flow least gap.end) (λ o. over_goes) (λ o.
     part_bind 1 (then_goes 1 0 a (chunk_goes flow gap.end)) (λ c b.
     part_if (length c.value == 0) (λ z. over_goes) (λ z. part_goes b)))))
@@ -164,19 +157,13 @@ blanks_span limit p =
     bind_span 0 (many_goes (blank_line limit) (blank_goes limit) p) (λ lines a.
     to_span 0 a (indent_goes limit lines.end) (λ x b c. found_span (record { behind = lines.end; is = refl; taken = a; read = c })))
 
-a_break : (c : ℕ) → is_z c ≡ false → is_in_line c ≡ false → is_break c ≡ true
-a_break c e h = grind (arith, nat_tests)
-
-is_break_len : (p : Place) → is_break (first p) ≡ true → 0 < break_len p
-is_break_len p h = grind (arith, nat_tests)
-
 -- a line that does not begin at the end
 line_some : (p : Place) → is_z (first p) ≡ false → let q = behind is_in_line p in IsAhead 1 p (skip (break_len q) q)
 line_some p h =
     let q = behind is_in_line p in
     elim (cases_Bool (is_in_line (first p))) [
       | inl i ↦ ahead_on 1 p q (skip (break_len q) q) (behind_some is_in_line p i refl) (ahead_any (break_len q) q)
-      | inr o ↦ rw (behind_none is_in_line p o) (break_some p (is_break_len p (a_break (first p) h o)))
+      | inr o ↦ rw (behind_none is_in_line p o) (break_some p (is_break_len p (in_or_break (first p) h o)))
     ]
 
 line_span : (indent : ℕ) (p : Place) → is_z (first p) ≡ false → Span (λ (l : Line). l.end) 1 p (line_at indent p)
@@ -240,3 +227,10 @@ block_span folded least p h =
     to_span 1 a (line_end_goes header.end) (λ start b c.
     span_span 1 (then_span 1 0 (blank_lines (leading_limit least header.value.digit) start) b (blanks_span (leading_limit least header.value.digit) start)) (λ leading s.
     span_span 1 (lines_span 1 (block_indent least header.value.digit leading.value.column leading.end.mark.column) p leading.value.end leading.end s) (λ lines t. found_span t))))
+
+-- empty lines and text lines take a character or more
+pub blank_shortens : (limit : Option ℕ) → Shortens (blank_line limit)
+blank_shortens limit p = part_shorter p (blank_line limit p) (blank_goes limit p).goes
+
+pub text_shortens : (indent : ℕ) → Shortens (text_line indent)
+text_shortens indent p = part_shorter p (text_line indent p) (line_goes_of p (text_line indent p) (line_spans indent p)).goes

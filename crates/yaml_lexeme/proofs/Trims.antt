@@ -2,7 +2,7 @@
 use Rattle.std.proofs.Common.{◌≡◌, ◌&&◌, ℕ, suc, ◌+◌, ◌-◌, ◌/◌, ◌<◌, ◌≤◌, Bool, true, false, not, cond, List, [], ◌∷◌, ◌++◌, length, get_or, take, refl, sym, ap, ◌∙◌, arith, inl, inr}
 use Rattle.std.specs.List.{list_all}
 use Rattle.std.proofs.Math.Seq.{take-suc}
-use Rattle.std.proofs.lemmas.Bool.{cases_lt, cases_Bool, true≢false}
+use Rattle.std.proofs.lemmas.Bool.{cases_lt, cases_Bool, true≢false, and_right}
 use Rattle.std.proofs.lemmas.Bool.Decides.{nat_tests}
 use Rattle.std.proofs.lemmas.Str.{encode_ascii}
 use lib.Utf8.{encode, next}
@@ -10,6 +10,8 @@ use Rattle.yaml_text.specs.Chars.{utf8}
 use Rattle.yaml_text.specs.Classes.{is_blank}
 use Rattle.yaml_text.proofs.Spelling.{two, three, four}
 use Rattle.yaml_lexeme.specs.Runs.{trim}
+use Rattle.yaml_text.proofs.ClassLaws.{high_blank}
+use Rattle.std.proofs.lemmas.List.{length-append, length-take, take-take, take_at, get_or-take}
 
 abbrev all : List ℕ → Bool
 all xs = list_all is_blank xs
@@ -22,10 +24,6 @@ and_one : (b : Bool) → (b && true) ≡ b
 and_one true = refl
 and_one false = refl
 
-and_none : (b : Bool) → (b && false) ≡ false
-and_none true = refl
-and_none false = refl
-
 -- a blank at the end is dropped
 pub trim_blank : (xs : List ℕ) (b : ℕ) → is_blank b ≡ true → trim (xs ++ b ∷ []) ≡ trim xs
 trim_blank [] b h = rw h refl
@@ -37,7 +35,7 @@ trim_blank (x ∷ xs) b h =
 pub trim_solid : (xs : List ℕ) (b : ℕ) → is_blank b ≡ false → trim (xs ++ b ∷ []) ≡ xs ++ b ∷ []
 trim_solid [] b h = rw h refl
 trim_solid (x ∷ xs) b h =
-    let e : all ((x ∷ xs) ++ b ∷ []) ≡ false = all_push (x ∷ xs) b ∙ ap (λ t. all (x ∷ xs) && t) h ∙ and_none (all (x ∷ xs)) in
+    let e : all ((x ∷ xs) ++ b ∷ []) ≡ false = all_push (x ∷ xs) b ∙ ap (λ t. all (x ∷ xs) && t) h ∙ and_right (all (x ∷ xs)) false refl in
     ap (λ t. cond t [] (x ∷ trim (xs ++ b ∷ []))) e ∙ ap (λ ys. x ∷ ys) (trim_solid xs b h)
 
 -- one step of a loop from the end
@@ -83,6 +81,25 @@ trim_last (c ∷ cs) h =
       | inr f ↦ rw f (last_from c cs (trim cs) refl f (trim_last cs))
     ]
 
+-- The first m characters, without the blanks at their end.
+pub record TrimsAt (cs : List ℕ) (m : ℕ) (blanks : List ℕ) : Type 0 where
+  pub sum : length (trim (take m cs)) + length blanks ≡ m
+  pub front : take (length (trim (take m cs))) cs ≡ trim (take m cs)
+  pub last : 0 < length (trim (take m cs)) → is_blank (get_or cs (length (trim (take m cs)) - 1) 0) ≡ false
+
+pub trims_at : (cs : List ℕ) (m : ℕ) → m ≤ length cs → TrimsAt cs m (trimmed (take m cs)).blanks
+trims_at cs m within =
+    let t = trimmed (take m cs) in
+    let kept = trim (take m cs) in
+    let k = length kept in
+    let sum : k + length t.blanks ≡ m = omega (arith, length-take m cs, ap length t.parts, length-append kept t.blanks) in
+    let front : take k cs ≡ kept = sym (take-take k m cs (omega arith)) ∙ ap (λ (x : List ℕ). take k x) t.parts ∙ take_at kept t.blanks k refl in
+    record {
+      sum = sum;
+      front = front;
+      last = λ some. ap is_blank (sym (get_or-take k cs (k - 1) 0 (omega arith)) ∙ ap (λ (x : List ℕ). get_or x (k - 1) 0) front) ∙ trim_last (take m cs) some;
+    }
+
 -- ---- bytes
 
 abbrev none : List ℕ → Bool
@@ -99,16 +116,13 @@ solid_front (x ∷ xs) bs h =
 next_solid : (c : ℕ) → is_blank (next c) ≡ false
 next_solid c = let l : 128 ≤ next c = omega arith in grind (arith, nat_tests)
 
-high_solid : (b : ℕ) → 128 ≤ b → is_blank b ≡ false
-high_solid b l = grind (arith, nat_tests)
-
 encode_solid : (c : ℕ) → 128 ≤ c → none (encode c) ≡ true
 encode_solid c l =
     elim (cases_lt c 2048) [
-      | inl b ↦ rw (two c l b, high_solid (192 + c / 64) (omega arith), next_solid c) refl
+      | inl b ↦ rw (two c l b, high_blank (192 + c / 64) (omega arith), next_solid c) refl
       | inr b ↦ elim (cases_lt c 65536) [
-        | inl d ↦ rw (three c b d, high_solid (224 + c / 4096) (omega arith), next_solid (c / 64), next_solid c) refl
-        | inr d ↦ rw (four c d, high_solid (240 + c / 262144) (omega arith), next_solid (c / 4096), next_solid (c / 64), next_solid c) refl
+        | inl d ↦ rw (three c b d, high_blank (224 + c / 4096) (omega arith), next_solid (c / 64), next_solid c) refl
+        | inr d ↦ rw (four c d, high_blank (240 + c / 262144) (omega arith), next_solid (c / 4096), next_solid (c / 64), next_solid c) refl
       ]
     ]
 
@@ -128,7 +142,7 @@ all_bytes [] = refl
 all_bytes (c ∷ cs) =
     elim (cases_lt c 128) [
       | inl a ↦ rw (encode_ascii c a) (ap (λ t. is_blank c && t) (all_bytes cs))
-      | inr h ↦ all_front (encode c) (utf8 cs) (encode_solid c h) (encode_length c h) ∙ sym (rw (high_solid c h) refl)
+      | inr h ↦ all_front (encode c) (utf8 cs) (encode_solid c h) (encode_length c h) ∙ sym (rw (high_blank c h) refl)
     ]
 
 -- the bytes of what stays
@@ -142,6 +156,6 @@ trim_bytes (c ∷ cs) =
           ap (λ (x : List ℕ). trim (x ++ utf8 cs)) e ∙ ap (λ t. cond (is_blank c && t) [] (c ∷ trim (utf8 cs))) (all_bytes cs) ∙ ap (λ ys. cond (all (c ∷ cs)) [] (c ∷ ys)) (trim_bytes cs) in
           left ∙ elim (cases_Bool (all (c ∷ cs))) [ inl t ↦ rw t refl | inr f ↦ rw (f, e) refl ]
       | inr h ↦
-          let f : all (c ∷ cs) ≡ false = rw (high_solid c h) refl in
+          let f : all (c ∷ cs) ≡ false = rw (high_blank c h) refl in
           solid_front (encode c) (utf8 cs) (encode_solid c h) ∙ ap (λ (x : List ℕ). encode c ++ x) (trim_bytes cs) ∙ sym (rw f refl)
     ]

@@ -13,6 +13,7 @@ use Rattle.yaml_lexeme.specs.declared.problem.problem_t.TheVariants.{NO_OCTET, B
 use Rattle.yaml_lexeme.proofs.Ahead.{Ahead, PartAhead, ahead_here, ahead_skip, ahead_some, if_ahead, bind_ahead, bind_part, then_ahead, part_shorter}
 use Rattle.yaml_lexeme.proofs.Many.{Shortens, joined}
 use Rattle.yaml_lexeme.proofs.Places.{is_there}
+use Rattle.yaml_lexeme.proofs.Founds.{value_or, end_or}
 use Rattle.yaml_lexeme.specs.Gives.{Refuses, TakesRead, Appends}
 use Rattle.yaml_lexeme.specs.Place.{Place, first, peek, skip, run}
 use Rattle.yaml_lexeme.specs.Reading.{Read, found, part, refuse, over, many, with_front, ◌>>=◌}
@@ -37,17 +38,9 @@ alpha_bytes (c ∷ cs) =
 pub name_bytes : (p : Place) → utf8 (run is_alpha p) ≡ run is_alpha p
 name_bytes p = alpha_bytes p.rest
 
-abbrev value_of : Read (List ℕ) → List ℕ
-value_of (Ok f) = f.value
-value_of (Err e) = []
-
-abbrev end_of : Place → Read (List ℕ) → Place
-end_of q (Ok f) = f.end
-end_of q (Err e) = q
-
 -- what was appended to `old` is what was read
 pub appended : (r : Read (List ℕ)) (old new : List ℕ) (q : Place) → with_front old r ≡ found new q → TakesRead (λ cs. cs) r old new q
-appended (Ok f) old new q h = (sym (ap value_of h), sym (ap (end_of q) h))
+appended (Ok f) old new q h = (sym (ap (value_or []) h), sym (ap (end_or q) h))
 appended (Err e) old new q h = absurd cc
 
 pub not_appended : (e : refusal_t) (r : Read (List ℕ)) (old : List ℕ) (q : Place) → Refuses e q (with_front old r) → Refuses e q r

@@ -1,6 +1,6 @@
 -- Laws: no place where reading ends or is refused is between CR and LF, so that marks are the counted ones.
 use Rattle.std.proofs.Common.{◌≡◌, ℕ, zero, suc, ◌+◌, ◌-◌, ◌≤◌, Bool, true, false, not, ◌==◌, ◌&&◌, ◌||◌, if◌then◌else◌, inl, inr, List, length, take, drop, slice_index, Option, Some, None, Result, Ok, Err, refl, sym, ap, ◌∙◌, subst, arith, get_or-drop, get_or-take}
-use Rattle.std.proofs.lemmas.Bool.{cases_Bool}
+use Rattle.std.proofs.lemmas.Bool.{cases_Bool, and_parts}
 use Rattle.std.proofs.lemmas.Bool.Decides.{nat_tests}
 use Rattle.std.proofs.lemmas.List.{length-take}
 use Rattle.yaml_lexeme.specs.declared.kind.yaml_lexeme_kind_t.TheVariants as kind
@@ -14,11 +14,11 @@ use Rattle.yaml_text.specs.Token.{TokenData as unnamed_yaml_token_t_data}
 use Rattle.yaml_text.specs.declared.types.yaml_mark_t.{yaml_mark_t}
 use Rattle.yaml_text.specs.declared.types.yaml_scalar_style_t.{yaml_scalar_style_t}
 use Rattle.yaml_text.specs.declared.types.yaml_scalar_style_t.TheVariants.{YAML_PLAIN_SCALAR_STYLE, YAML_SINGLE_QUOTED_SCALAR_STYLE, YAML_DOUBLE_QUOTED_SCALAR_STYLE, YAML_LITERAL_SCALAR_STYLE, YAML_FOLDED_SCALAR_STYLE}
-use Rattle.yaml_lexeme.proofs.Clear.{parts, Clear, clear_here, clear_behind, clear_one, second}
+use Rattle.yaml_lexeme.proofs.Clear.{parts, Clear, clear_here, clear_behind, clear_one}
 use Rattle.yaml_lexeme.proofs.Clears.{Held, Holds, ok_holds, bind_holds, Clears, is_not, gap_clear, name_clears, tag_clears}
-use Rattle.yaml_lexeme.proofs.CountLaws.{rest_behind, places_counted}
-use Rattle.yaml_lexeme.proofs.Places.{skip_skip, length_skip}
-use Rattle.yaml_lexeme.proofs.Wholes.{first_of, HasMark, mark_here, Marks, quoted_clears, plain_marks, directive_marks, block_marks}
+use Rattle.yaml_lexeme.proofs.CountLaws.{places_counted}
+use Rattle.yaml_lexeme.proofs.Places.{skip_skip, length_skip, rest_skip}
+use Rattle.yaml_lexeme.proofs.Wholes.{HasMark, mark_here, Marks, quoted_clears, plain_marks, directive_marks, block_marks}
 use Rattle.yaml_lexeme.specs.Block.{block}
 use Rattle.yaml_lexeme.specs.Classes.{ends}
 use Rattle.yaml_lexeme.specs.Directive.{directive}
@@ -90,7 +90,7 @@ marker_rows flow k p t m n h =
     absurd (cc r20)
 
 third : (c : ℕ) (p : Place) → (c == 0x0D) ≡ false → is_marker_of c p ≡ true → (peek p 2 == 0x0D) ≡ false
-third c p n h = is_not (peek p 2) c n (first_of (peek p 2 == c) (ends (peek p 3)) (second (p.mark.column == 0 && (peek p 0 == c && peek p 1 == c)) (peek p 2 == c && ends (peek p 3)) h))
+third c p n h = is_not (peek p 2) c n (and_parts (peek p 2 == c) (ends (peek p 3)) (and_parts (p.mark.column == 0 && (peek p 0 == c && peek p 1 == c)) (peek p 2 == c && ends (peek p 3)) h).1).0
 
 marker_end : (flow : Bool) (k : yaml_lexeme_kind_t) (p : Place) → len_of k ≡ 3 → kind_at flow p ≡ Some k → (peek p 2 == 0x0D) ≡ false
 marker_end flow k p t h =
@@ -189,7 +189,7 @@ cut_is n text h =
     ap (λ (c : ℕ). is_crlf c (slice_index (drop (suc n) text) 0)) (before_is n text h) ∙ ap (λ (d : ℕ). is_crlf (slice_index text n) d) (behind_is (suc n) text)
 
 far : (text : List ℕ) (n i : ℕ) → slice_index (place_at text n).rest i ≡ slice_index text (n + i)
-far text n i = ap (λ (cs : List ℕ). slice_index cs i) (rest_behind n (start text)) ∙ get_or-drop n text i 0
+far text n i = ap (λ (cs : List ℕ). slice_index cs i) (rest_skip n (start text)) ∙ get_or-drop n text i 0
 
 no_cut : (text : List ℕ) (index n k : ℕ) → IsPlaceAt text index n → n + k ≤ length text → parts (place_at text n).rest k ≡ false → cuts_break (take (n + k) text) (drop (n + k) text) ≡ false
 no_cut text index n zero at l h = let e : n + 0 ≡ n = omega arith in rw e at.whole

@@ -1,6 +1,6 @@
 -- No place where reading ends or is refused is between CR and LF: scalars.
 use Rattle.std.proofs.Common.{◌≡◌, ℕ, zero, suc, ◌+◌, ◌<◌, ◌≤◌, Bool, true, false, not, ◌==◌, ◌&&◌, ◌||◌, nat_lt, if◌then◌else◌, inl, inr, List, [], ◌∷◌, length, take, slice_index, Option, Some, None, is_some, Ok, Err, refl, arith}
-use Rattle.std.proofs.lemmas.Bool.{cases_Bool}
+use Rattle.std.proofs.lemmas.Bool.{cases_Bool, and_parts, not-false}
 use Rattle.std.proofs.lemmas.Bool.Decides.{nat_tests}
 use Rattle.std.specs.List.{list_all}
 use Rattle.std.specs.Str.Parse.{digits_value}
@@ -8,8 +8,8 @@ use Rattle.yaml_text.specs.declared.types.yaml_mark_t.{yaml_mark_t}
 use Rattle.yaml_lexeme.specs.Lexeme.{Scalar as scalar_t}
 use Rattle.yaml_lexeme.specs.Lexeme.{Directive as directive_t}
 use Rattle.yaml_lexeme.proofs.Ahead.{shorter, part_shorter, PartAhead}
-use Rattle.yaml_lexeme.proofs.Clear.{parts, Clear, clear_here, clear_trans, clear_skip, clear_behind, clear_one, clear_run, clear_within, clear_break, second, other, one_more, no_return, end_whole}
-use Rattle.yaml_lexeme.proofs.Clears.{Held, Holds, ok_holds, refuse_holds, if_holds, bind_holds, from_holds, Clears, PartClears, ClearsTo, then_clears, then_to, many_clears, sure_white, sure_in_line, sure_alpha, is_not, is_true, named_clears, line_end_clears}
+use Rattle.yaml_lexeme.proofs.Clear.{parts, Clear, clear_here, clear_trans, clear_skip, clear_behind, clear_one, clear_run, clear_within, clear_break, other, one_more, no_return, end_whole}
+use Rattle.yaml_lexeme.proofs.Clears.{Held, Holds, ok_holds, refuse_holds, if_holds, bind_holds, from_holds, Clears, PartClears, ClearsTo, then_clears, then_to, many_clears, sure_white, sure_in_line, sure_alpha, is_not, named_clears, line_end_clears}
 use Rattle.yaml_lexeme.proofs.Many.{many_turn}
 use Rattle.yaml_lexeme.proofs.Spans.{body_goes}
 use Rattle.yaml_lexeme.specs.Block.{is_sign, digit_at, header_at, is_indenting, indent_len, after_indent, blank_line, Blanks, blank_lines, Line, line_at, is_text, text_line, end_of, block, block_indent, leading_limit}
@@ -24,15 +24,11 @@ use Rattle.yaml_lexeme.specs.Reading.{Found, Read, Part, go_on, at_most, many}
 use Rattle.yaml_text.specs.Classes.{is_alpha, is_digit, is_hex, is_break, is_z, is_crlf}
 
 -- escapes
-pub first_of : (a b : Bool) → (a && b) ≡ true → a ≡ true
-first_of true b h = refl
-first_of false b h = absurd cc
-
 hex_whole : (n : ℕ) (cs : List ℕ) → list_all is_hex (take n cs) ≡ true → parts cs n ≡ false
 hex_whole zero cs h = refl
 hex_whole (suc n) [] h = end_whole (suc n) [] (omega arith)
 hex_whole (suc n) (c ∷ cs) h =
-    one_more c cs n (hex_whole n cs (second (is_hex c) (list_all is_hex (take n cs)) h)) (λ e. no_return c (slice_index cs 0) (other is_hex refl c (first_of (is_hex c) (list_all is_hex (take n cs)) h)))
+    one_more c cs n (hex_whole n cs (and_parts (is_hex c) (list_all is_hex (take n cs)) h).1) (λ e. no_return c (slice_index cs 0) (other is_hex refl c (and_parts (is_hex c) (list_all is_hex (take n cs)) h).0))
 
 both : (a b : Bool) → not (a && b) ≡ false → b ≡ true
 both true true h = refl
@@ -181,7 +177,7 @@ unfolding skip
 tab_at least broken m [] = tt
 tab_at least broken m (c ∷ cs) =
     tab_if (not (is_white c)) ((c == 0x09 && broken) && nat_lt m.column least) m (c ∷ cs) (record { mark = m; rest = c ∷ cs }) (tab_from least (broken || is_break c) (mark_behind m c (slice_index cs 0)) cs)
-    (λ e. record { count = 0; within = omega arith; is = refl; tab = first_of (c == 0x09) broken (first_of (c == 0x09 && broken) (nat_lt m.column least) e) })
+    (λ e. record { count = 0; within = omega arith; is = refl; tab = (and_parts (c == 0x09) broken (and_parts (c == 0x09 && broken) (nat_lt m.column least) e).0).0 })
     (tab_more m c cs _ (tab_at least (broken || is_break c) (mark_behind m c (slice_index cs 0)) cs))
 
 no_feed : (c d : ℕ) → (d == 0x09) ≡ true → is_crlf c d ≡ false
@@ -249,7 +245,7 @@ unfolding digit_at
 digit_clears p =
     if_holds (not (is_digit (first p))) (λ e. ok_holds (clear_here p)) (λ e.
     if_holds (first p == 0x30) (λ z. refuse_holds (clear_here p)) (λ z.
-    ok_holds (clear_one p (other is_digit refl (first p) (is_true (is_digit (first p)) e)))))
+    ok_holds (clear_one p (other is_digit refl (first p) (not-false (is_digit (first p)) e)))))
 
 sign_not : (c : ℕ) → is_sign c ≡ true → (c == 0x0D) ≡ false
 sign_not c h = other is_sign refl c h
@@ -259,7 +255,7 @@ unfolding header_at
 header_clears p =
     if_holds (is_sign (first p)) (λ e. bind_holds (then_clears (clear_one p (sign_not (first p) e)) (digit_clears (skip 1 p))) (λ x a. ok_holds a)) (λ e.
     bind_holds (digit_clears p) (λ x a.
-    if_holds (is_some x.value && is_sign (first x.end)) (λ s. ok_holds (clear_trans a (clear_one x.end (sign_not (first x.end) (second (is_some x.value) (is_sign (first x.end)) s))))) (λ s. ok_holds a)))
+    if_holds (is_some x.value && is_sign (first x.end)) (λ s. ok_holds (clear_trans a (clear_one x.end (sign_not (first x.end) (and_parts (is_some x.value) (is_sign (first x.end)) s).1)))) (λ s. ok_holds a)))
 
 indent_small : (limit : Option ℕ) (p : Place) → indent_len limit p ≤ run_len (λ c. c == 0x20) p
 indent_small None p = omega arith

@@ -1,20 +1,19 @@
 -- What is kept unchanged in a line.
-use Rattle.std.proofs.Common.{◌≡◌, ◌==◌, ◌&&◌, ℕ, zero, suc, ◌+◌, ◌-◌, ◌<◌, ◌≤◌, inl, inr, Bool, true, false, List, [], ◌∷◌, ◌++◌, length, get_or, take, drop, refl, sym, ap, ◌∙◌, subst, arith, add-zero}
+use Rattle.std.proofs.Common.{◌≡◌, ◌==◌, ℕ, zero, suc, ◌+◌, ◌-◌, ◌<◌, ◌≤◌, inl, inr, Bool, true, false, List, [], ◌∷◌, ◌++◌, length, get_or, take, drop, refl, sym, ap, ◌∙◌, subst, arith, add-zero}
 use Rattle.std.specs.List.{prefix_len, list_all}
 use Rattle.std.proofs.lemmas.Bool.{cases_Bool, cases_lt, and_parts}
 use Rattle.std.proofs.lemmas.Bool.Decides.{nat_tests}
-use Rattle.std.proofs.lemmas.List.{get_or-drop, get_or_past, take_at, length-append, length-take, length-drop, get_or-take, get_or-append-add, take-take}
+use Rattle.std.proofs.lemmas.List.{get_or-drop, get_or_past, length-drop, get_or-take, get_or-append-add}
 use Rattle.std.proofs.lemmas.List.Sums.{prefix_len-le-length, prefix_len_is, prefix_len_passes, prefix_len_stops}
 use Rattle.yaml_text.specs.Chars.{utf8}
 use Rattle.yaml_text.specs.Classes.{is_blank, is_break}
 use Rattle.yaml_lexeme.specs.declared.runs.class_t.{class_t}
 use Rattle.yaml_lexeme.proofs.Body.{at_space, body_shortens}
-use Rattle.yaml_lexeme.proofs.Cursors.{rest_skip}
 use Rattle.yaml_lexeme.proofs.Many.{Reading, joined, many_turn}
-use Rattle.yaml_lexeme.proofs.Parts.{Whole, parts_over, in_quotes}
-use Rattle.yaml_lexeme.proofs.Places.{class_end, skip_skip, behind_none}
+use Rattle.yaml_lexeme.proofs.Parts.{Whole, parts_over, in_quotes, stop_le}
+use Rattle.yaml_lexeme.proofs.Places.{class_end, skip_skip, behind_none, rest_skip, is_break_len, solid, blank_white}
 use Rattle.yaml_lexeme.proofs.Spaces.{fold_breaks, breaks_at}
-use Rattle.yaml_lexeme.proofs.Trims.{trimmed, trim_last}
+use Rattle.yaml_lexeme.proofs.Trims.{trimmed, trims_at}
 use Rattle.yaml_lexeme.specs.Classes.{is_white}
 use Rattle.yaml_lexeme.specs.Fold.{fold, join_breaks, written}
 use Rattle.yaml_lexeme.specs.Kind.{is_marker}
@@ -23,11 +22,6 @@ use Rattle.yaml_lexeme.specs.Quoted.{body_part, unmarked}
 use Rattle.yaml_lexeme.specs.Reading.{Read, ◌>>=◌, go_on, many, with_front}
 use Rattle.yaml_lexeme.specs.Runs.{class_test, line_of, trim}
 use Rattle.yaml_lexeme.specs.Words.{GoesOn}
-
-stop_le : (p : ℕ → Bool) (xs : List ℕ) (j : ℕ) → p (get_or xs j 0) ≡ false → prefix_len p xs ≤ j
-stop_le p [] j h = omega arith
-stop_le p (x ∷ xs) zero h = rw h (omega arith)
-stop_le p (x ∷ xs) (suc j) h = elim (cases_Bool (p x)) [ inl t ↦ rw t (omega (arith, stop_le p xs j h)) | inr f ↦ rw f (omega arith) ]
 
 stops_at : (line : class_t) (cs : List ℕ) → class_test line (get_or cs (prefix_len (class_test line) cs) 0) ≡ false
 stops_at line cs =
@@ -40,9 +34,6 @@ stops_at line cs =
 no_white : (single : Bool) (c : ℕ) → class_test (line_of single) c ≡ false → is_break c ≡ false → is_white c ≡ false
 no_white true c f b = grind (arith, nat_tests)
 no_white false c f b = grind (arith, nat_tests)
-
-solid : (c : ℕ) → is_blank c ≡ false → is_break c ≡ false → is_white c ≡ false
-solid c a b = rw (a, b) refl
 
 -- The run of white after any of the first k characters ends within them, since the last of them is not white.
 ends_within : (k i : ℕ) (cs : List ℕ) → i < k → is_white (get_or cs (k - 1) 0) ≡ false → i + prefix_len is_white (drop i cs) ≤ k
@@ -93,16 +84,13 @@ white_more c h = grind (arith, nat_tests)
 break_white : (c : ℕ) → is_break c ≡ true → (is_white c ≡ true) × (is_blank c ≡ false)
 break_white c h = (grind (arith, nat_tests), grind (arith, nat_tests))
 
-some_break : (q : Place) → is_break (first q) ≡ true → 0 < break_len q
-some_break q h = elim (cases_Bool (first q == 13 && get_or q.rest 1 0 == 10)) [ inl t ↦ rw t (omega arith) | inr f ↦ rw (f, h) (omega arith) ]
-
 -- a separator has the same value from its break on
 pub blanks_pass : (single : Bool) (p q : Place) → q ≡ behind is_blank p → is_white (first p) ≡ true → is_break (first q) ≡ true → many (body_part single) p ≡ many (body_part single) q
 blanks_pass single p q e wp bq =
     let t = break_white (first q) bq in
     let stays : behind is_blank q ≡ q = behind_none is_blank q t.1 in
     let two : behind is_blank p ≡ behind is_blank q = sym e ∙ sym stays in
-    let some : 0 < break_len (behind is_blank p) = subst (λ (x : Place). 0 < break_len x) e (some_break q bq) in
+    let some : 0 < break_len (behind is_blank p) = subst (λ (x : Place). 0 < break_len x) e (is_break_len q bq) in
     let fp = fold_breaks p some in
     let fq = fold_breaks q (subst (λ (x : Place). 0 < break_len x) two some) in
     let value : fold (run is_white p) ≡ fold (run is_white q) = fp.0 ∙ ap (λ (x : Place). join_breaks (written (first x)) (breaks_at (skip (break_len x) x))) two ∙ sym fq.0 in
@@ -110,9 +98,6 @@ blanks_pass single p q e wp bq =
     let a : body_part single p ≡ unmarked (fold (run is_white p)) (behind is_white p) = at_space single p (white_more (first p) wp) wp in
     let b : body_part single q ≡ unmarked (fold (run is_white p)) (behind is_white p) = at_space single q (white_more (first q) t.0) t.0 ∙ ap (λ (v : List ℕ). unmarked v (behind is_white q)) (sym value) ∙ ap (λ (x : Place). unmarked (fold (run is_white p)) x) (sym end) in
     same_many single p q (behind is_white p) (fold (run is_white p)) a b
-
-blank_white : (c : ℕ) → is_blank c ≡ true → is_white c ≡ true
-blank_white c h = rw h refl
 
 all_index : (xs : List ℕ) (i : ℕ) → list_all is_blank xs ≡ true → i < length xs → is_blank (get_or xs i 0) ≡ true
 all_index [] i h l = absurd (omega arith)
@@ -129,19 +114,16 @@ trimmed_goes_on single p q out new e n h whole r =
     let kept = trim (take m cs) in
     let k = length kept in
     let within : m ≤ length cs = prefix_len-le-length test cs in
-    let len : length (take m cs) ≡ m = omega (arith, length-take m cs) in
-    let sum : k + length t.blanks ≡ m = omega (arith, len, ap length t.parts, length-append kept t.blanks) in
-    let front : take k cs ≡ kept = sym (take-take k m cs (omega arith)) ∙ ap (λ (x : List ℕ). take k x) t.parts ∙ take_at kept t.blanks k refl in
+    let cut = trims_at cs m within in
+    let sum : k + length t.blanks ≡ m = cut.sum in
     let passes : (i : ℕ) → i < m → test (get_or cs i 0) ≡ true = λ i l. prefix_len_passes test cs i 0 l in
     let w : Whole (line_of single) k cs = record {
       within = omega arith;
       each = λ i l. passes i (omega arith);
       whole = λ i l.
           let some : 0 < k = omega arith in
-          let last : get_or cs (k - 1) 0 ≡ get_or kept (k - 1) 0 = sym (get_or-take k cs (k - 1) 0 (omega arith)) ∙ ap (λ (x : List ℕ). get_or x (k - 1) 0) front in
-          let blank : is_blank (get_or cs (k - 1) 0) ≡ false = ap is_blank last ∙ trim_last (take m cs) some in
           let line : is_break (get_or cs (k - 1) 0) ≡ false = in_quotes single (get_or cs (k - 1) 0) (passes (k - 1) (omega arith)) in
-          ends_within k i cs l (solid (get_or cs (k - 1) 0) blank line);
+          ends_within k i cs l (solid (get_or cs (k - 1) 0) (cut.last some) line);
     } in
     let here = skip k p in
     let at_here : Reading utf8 (body_part single) here (out ++ utf8 (take k cs)) whole = parts_over single k k p out whole (omega arith) w r in
@@ -162,6 +144,6 @@ trimmed_goes_on single p q out new e n h whole r =
       | inr none ↦ let at : k ≡ m = omega arith in ap (λ i. is_white (get_or cs i 0)) at ∙ (break_white (get_or cs m 0) broken).0
     ] in
     let same : many (body_part single) here ≡ many (body_part single) q = blanks_pass single here q end white h in
-    let bytes : new ≡ out ++ utf8 (take k cs) = n ∙ ap (λ (x : List ℕ). out ++ utf8 x) (sym front) in
+    let bytes : new ≡ out ++ utf8 (take k cs) = n ∙ ap (λ (x : List ℕ). out ++ utf8 x) (sym cut.front) in
     subst (λ (x : List ℕ). Reading utf8 (body_part single) q x whole) (sym bytes)
     (ap (λ (x : Read (List (List ℕ))). with_front (out ++ utf8 (take k cs)) (joined utf8 x)) (sym same) ∙ at_here)

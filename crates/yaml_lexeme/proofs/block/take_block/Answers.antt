@@ -1,12 +1,13 @@
-use Rattle.std.proofs.Common.{◌≡◌, true, false, refl, sym, ap, ◌∙◌}
+use Rattle.std.proofs.Common.{◌≡◌, ◌<◌, true, false, length, refl, sym, ap, ◌∙◌}
 use Rattle.std.proofs.lemmas.Result.{err_from_is_err_and}
 use Rattle.yaml_text.specs.declared.types.yaml_mark_t.{yaml_mark_t}
-use Rattle.yaml_lexeme.proofs.Blocks.{header_refused, start_refused, leading_refused, blocks_begin, blocks_more, blocks_all, blocks_refused}
+use Rattle.yaml_lexeme.proofs.Blocks.{Blocking, header_refused, start_refused, leading_refused, blocks_begin, blocks_more, blocks_all, blocks_refused}
 use Rattle.yaml_lexeme.specs.Block.{header_at, block_indent, is_text}
 use Rattle.yaml_lexeme.specs.Place.{first, skip}
 use Rattle.yaml_lexeme.specs.Reading.{found}
 use Rattle.yaml_text.specs.Classes.{is_blank}
 use Rattle.yaml_lexeme.proofs.block.take_block.Goals as goal
+use Rattle.yaml_lexeme.proofs.block.take_block.Goals.{In_ok-tail}
 
 pub returns-in_err-header : goal.returns-in_err-header
 returns-in_err-header c =
@@ -44,19 +45,19 @@ returns-in_err-tail c =
     let there : is_text c.block_indent-indent.result p ≡ true = sym c.is_text.ensures ∙ c.lines-test.true in
     rw (e.1, e.2) (blocks_refused c.in_err-tail.field-0.0 c.args.folded c.args.least c.args.cursor.now c.in_ok-header.header.chomp c.block_indent-indent.result p c.take_line.new.cursor c.lines.out.items c.lines.tail there c.lines.invariant c.in_err-tail.ensures)
 
-pub lines-preserved : goal.lines-preserved
-lines-preserved c =
+next : (c : In_ok-tail) → (length c.take_line.new.cursor.rest < length c.lines.cursor.rest)
+    × Blocking c.args.folded c.args.least c.args.cursor.now c.in_ok-header.header.chomp c.block_indent-indent.result c.take_line.new.cursor c.take_line.new.out.items c.in_ok-tail.tail
+next c =
     let p = c.lines.cursor in
     let there : is_text c.block_indent-indent.result p ≡ true = sym c.is_text.ensures ∙ c.lines-test.true in
     let blank : c.is_blank.result ≡ is_blank (first p) = c.is_blank.ensures ∙ ap is_blank c.peek.ensures in
-    (blocks_more c.args.folded c.args.least c.args.cursor.now c.in_ok-header.header.chomp c.block_indent-indent.result p c.take_line.new.cursor c.lines.out.items c.push_between.new.out.items c.take_line.new.out.items c.lines.tail c.in_ok-tail.tail c.is_blank.result there c.lines.invariant blank c.in_ok-push_between.ensures c.in_ok-tail.ensures).1
+    blocks_more c.args.folded c.args.least c.args.cursor.now c.in_ok-header.header.chomp c.block_indent-indent.result p c.take_line.new.cursor c.lines.out.items c.push_between.new.out.items c.take_line.new.out.items c.lines.tail c.in_ok-tail.tail c.is_blank.result there c.lines.invariant blank c.in_ok-push_between.ensures c.in_ok-tail.ensures
+
+pub lines-preserved : goal.lines-preserved
+lines-preserved c = (next (goal.at.lines-preserved c).In_ok-tail).1
 
 pub lines-smaller : goal.lines-smaller
-lines-smaller c =
-    let p = c.lines.cursor in
-    let there : is_text c.block_indent-indent.result p ≡ true = sym c.is_text.ensures ∙ c.lines-test.true in
-    let blank : c.is_blank.result ≡ is_blank (first p) = c.is_blank.ensures ∙ ap is_blank c.peek.ensures in
-    (blocks_more c.args.folded c.args.least c.args.cursor.now c.in_ok-header.header.chomp c.block_indent-indent.result p c.take_line.new.cursor c.lines.out.items c.push_between.new.out.items c.take_line.new.out.items c.lines.tail c.in_ok-tail.tail c.is_blank.result there c.lines.invariant blank c.in_ok-push_between.ensures c.in_ok-tail.ensures).0
+lines-smaller c = (next (goal.at.lines-smaller c).In_ok-tail).0
 
 pub returns : goal.returns
 returns c =

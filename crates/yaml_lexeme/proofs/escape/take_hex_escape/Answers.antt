@@ -1,8 +1,7 @@
 use Rattle.std.proofs.Common.{◌≡◌, ℕ, refl, subst, arith, ◌∙◌, ap, sym}
 use Rattle.std.proofs.lemmas.Bool.Decides.{nat_tests}
 use Rattle.yaml_lexeme.specs.Place.{Place, peek, skip}
-use Rattle.yaml_lexeme.proofs.Places.{skip_none, skip_skip}
-use Rattle.yaml_lexeme.proofs.Cursors.{peek_on}
+use Rattle.yaml_lexeme.proofs.Places.{skip_none, skip_skip, first_on}
 use Rattle.yaml_lexeme.proofs.Hex.{Digits, more_digits, fits_digits, no_digit, no_scalar, a_scalar}
 use Rattle.yaml_lexeme.proofs.escape.take_hex_escape.Goals as goal
 
@@ -12,7 +11,7 @@ digits-init c = (record { within = omega arith; all = refl; same = refl; below =
 pub returns-in_default : goal.returns-in_default
 returns-in_default c =
     let d = c.digits in
-    let here : c.peek.result ≡ peek c.args.cursor.now d.k = c.peek.ensures ∙ ap (λ (x : Place). peek x 0) d.invariant.1 ∙ peek_on d.k c.args.cursor.now in
+    let here : c.peek.result ≡ peek c.args.cursor.now d.k = c.peek.ensures ∙ ap (λ (x : Place). peek x 0) d.invariant.1 ∙ first_on d.k c.args.cursor.now in
     no_digit c.args.cursor.now d.k c.args.n d.value c.digits-test.true c.requires (rw here at c.in_default.ensures.value) d.invariant.0
 
 pub overflow_mul-value : goal.overflow_mul-value
@@ -29,7 +28,7 @@ pub digits-preserved : goal.digits-preserved
 digits-preserved c =
     let d = c.digits in
     let p = c.args.cursor.now in
-    let here : c.peek.result ≡ peek c.args.cursor.now d.k = c.peek.ensures ∙ ap (λ (x : Place). peek x 0) d.invariant.1 ∙ peek_on d.k c.args.cursor.now in
+    let here : c.peek.result ≡ peek c.args.cursor.now d.k = c.peek.ensures ∙ ap (λ (x : Place). peek x 0) d.invariant.1 ∙ first_on d.k c.args.cursor.now in
     let next = c.advance.ensures ∙ ap (λ (x : Place). skip 1 x) d.invariant.1 ∙ skip_skip d.k 1 p in
     (more_digits p d.k d.value c.in-Some.digit (omega (arith, c.in-Some.ensures.value.0, c.in-Some.ensures.value.1)) (rw here at c.in-Some.ensures.value.1) d.invariant.0, next)
 

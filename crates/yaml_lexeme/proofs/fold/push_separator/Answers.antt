@@ -7,6 +7,7 @@ use Rattle.yaml_lexeme.specs.Place.{behind, break_len, run}
 use Rattle.yaml_text.specs.Chars.{utf8}
 use Rattle.yaml_text.specs.Classes.{is_blank}
 use Rattle.yaml_lexeme.proofs.fold.push_separator.Goals as goal
+use Rattle.yaml_lexeme.proofs.fold.push_separator.Goals.{In_ok-push_breaks-2}
 
 pub returns-then-break_len-eq0 : goal.returns-then-break_len-eq0
 returns-then-break_len-eq0 c =
@@ -29,14 +30,18 @@ returns-then-first-ne10 c =
     let s = sep_kept p c.args.out.now.items c.push_char.new.out.items c.push_breaks.new.out.items c.push_breaks.new.cursor (omega arith) other mid value end in
     record { value = s.0; end = s.1 }
 
+broken : (c : In_ok-push_breaks-2) → let p = c.args.cursor.now in
+    (first_of p ≡ 10) × (c.push_breaks-2.new.out.items ≡ c.args.out.now.items ++ utf8 (breaks_at (behind_break p))) × (c.push_breaks-2.new.cursor ≡ behind is_white (behind_break p))
+broken c =
+    let at : c.skip.new.self ≡ behind_break c.args.cursor.now = cc in
+    let feed : first_of c.args.cursor.now ≡ 10 = cc in
+    (feed, rw at at c.in_ok-push_breaks-2.ensures.value, rw at at c.in_ok-push_breaks-2.ensures.end)
+
 pub returns-in_ok-push_char-2 : goal.returns-in_ok-push_char-2
 returns-in_ok-push_char-2 c =
     let p = c.args.cursor.now in
-    let at : c.skip.new.self ≡ behind_break p = cc in
     let here : c.break_len.result ≡ break_len (behind is_blank p) = cc in
-    let feed : first_of p ≡ 10 = cc in
-    let value : c.push_breaks-2.new.out.items ≡ c.args.out.now.items ++ utf8 (breaks_at (behind_break p)) = rw at at c.in_ok-push_breaks-2.ensures.value in
-    let end : c.push_breaks-2.new.cursor ≡ behind is_white (behind_break p) = rw at at c.in_ok-push_breaks-2.ensures.end in
+    let (feed, value, end) = broken (goal.at.returns-in_ok-push_char-2 c).In_ok-push_breaks-2 in
     let same : length c.push_breaks-2.new.out.items ≡ length c.args.out.now.items = grind (arith, common_steps) in
     let s = sep_space p c.args.out.now.items c.push_breaks-2.new.out.items c.push_char-then-len-before.new.out.items c.push_breaks-2.new.cursor (omega arith) feed value same c.in_ok-push_char-2.ensures end in
     record { value = s.0; end = s.1 }
@@ -44,11 +49,8 @@ returns-in_ok-push_char-2 c =
 pub returns-else-len-before : goal.returns-else-len-before
 returns-else-len-before c =
     let p = c.args.cursor.now in
-    let at : c.skip.new.self ≡ behind_break p = cc in
     let here : c.break_len.result ≡ break_len (behind is_blank p) = cc in
-    let feed : first_of p ≡ 10 = cc in
-    let value : c.push_breaks-2.new.out.items ≡ c.args.out.now.items ++ utf8 (breaks_at (behind_break p)) = rw at at c.in_ok-push_breaks-2.ensures.value in
-    let end : c.push_breaks-2.new.cursor ≡ behind is_white (behind_break p) = rw at at c.in_ok-push_breaks-2.ensures.end in
+    let (feed, value, end) = broken (goal.at.returns-else-len-before c).In_ok-push_breaks-2 in
     let other : length c.push_breaks-2.new.out.items ≡ length c.args.out.now.items → ⊥ = λ e. grind (arith, common_steps) in
     let s = sep_more p c.args.out.now.items c.push_breaks-2.new.out.items c.push_breaks-2.new.cursor (omega arith) feed value other end in
     record { value = s.0; end = s.1 }

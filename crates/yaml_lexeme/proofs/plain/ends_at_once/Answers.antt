@@ -1,4 +1,4 @@
-use Rattle.std.proofs.Common.{◌≡◌, ◌∙◌, false, sym, ap, arith}
+use Rattle.std.proofs.Common.{◌≡◌, ◌∙◌, false, sym, ap, arith, rules}
 use Rattle.yaml_lexeme.proofs.Places.{behind_none}
 use Rattle.yaml_lexeme.proofs.Plains.{link_none}
 use Rattle.yaml_lexeme.proofs.PlainRuns.{over_below, passed_feed}
@@ -20,25 +20,12 @@ returns-then-not-is_white-clause-end c =
     let none : is_white (first p) ≡ false = cc in
     sym (behind_none is_white p none)
 
-pub returns-clause-over : goal.returns-clause-over
-returns-clause-over c =
+pub returns : goal.returns
+returns c =
     let p = c.args.cursor.now in
     let q = c.skip_run.new.self in
     let feed : first p ≡ 10 = omega (arith, c.peek-c.ensures) in
     let at : q ≡ behind (class_test SPACE) (skip 1 p) = c.skip_run.ensures ∙ ap (behind (class_test SPACE)) (c.advance.ensures ∙ ap (skip 1) c.again-next.ensures) in
     let solid : is_white (first q) ≡ false = cc in
-    (over_below c.args.in_flow c.args.least p q c.if-in_flow.false feed at solid (omega (arith, ap (λ m. m.column) c.mark.ensures.value))).0
-
-pub returns-clause-end : goal.returns-clause-end
-returns-clause-end c =
-    let p = c.args.cursor.now in
-    let q = c.skip_run.new.self in
-    let feed : first p ≡ 10 = omega (arith, c.peek-c.ensures) in
-    let at : q ≡ behind (class_test SPACE) (skip 1 p) = c.skip_run.ensures ∙ ap (behind (class_test SPACE)) (c.advance.ensures ∙ ap (skip 1) c.again-next.ensures) in
-    let solid : is_white (first q) ≡ false = cc in
-    (over_below c.args.in_flow c.args.least p q c.if-in_flow.false feed at solid (omega (arith, ap (λ m. m.column) c.mark.ensures.value))).1
-
-pub returns-clause-broken : goal.returns-clause-broken
-returns-clause-broken c =
-    let feed : first c.args.cursor.now ≡ 10 = omega (arith, c.peek-c.ensures) in
-    sym (passed_feed c.args.cursor.now feed)
+    let t = over_below c.args.in_flow c.args.least p q c.if-in_flow.false feed at solid (omega (arith, ap (λ m. m.column) c.mark.ensures.value)) in
+    record { over = t.0; end = t.1; broken = sym (passed_feed p feed); stays = search rules }

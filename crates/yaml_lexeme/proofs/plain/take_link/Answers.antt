@@ -12,6 +12,7 @@ use Rattle.yaml_lexeme.specs.Words.{links, words}
 use Rattle.yaml_lexeme.proofs.Plains.{gap_is, ends_here, link_refused, is_over_there, colon_there, nothing_there}
 use Rattle.yaml_lexeme.proofs.PlainRuns.{links_over, links_none, links_go, links_go_wrong, white_shorter}
 use Rattle.yaml_lexeme.proofs.plain.take_link.Goals as goal
+use Rattle.yaml_lexeme.proofs.plain.take_link.Goals.{In_ok-push_separator}
 
 pub returns-then-not-is_white-clause-value : goal.returns-then-not-is_white-clause-value
 returns-then-not-is_white-clause-value c =
@@ -57,32 +58,26 @@ returns-then-not-is_chunk-clause-value c =
     let t = gap_is c.args.least p q c.in_ok-skip_separator.ensures in
     links_over c.args.in_flow c.args.least p c.again-start.result c.args.out.now.items (nothing_there c.args.in_flow c.args.least p q c.again-start.result c.args.out.now.items (record { space = space; read = t.0 }) o b h c.again-start.ensures)
 
+goes : (c : In_ok-push_separator) → with_front c.args.out.now.items (links c.args.in_flow c.args.least c.args.cursor.now) ≡ with_front c.push_separator.new.out.items (words c.args.in_flow c.args.least c.skip_separator.new.cursor)
+goes c =
+    let p = c.args.cursor.now in
+    let q = c.skip_separator.new.cursor in
+    let out = c.args.out.now.items in
+    let space : is_white (first p) ≡ true = cc in
+    let o : is_over c.args.in_flow c.args.least q ≡ false = cc in
+    let h : is_chunk c.args.in_flow (first q) (peek q 1) ≡ true = cc in
+    let t = gap_is c.args.least p q c.in_ok-skip_separator.ensures in
+    let mid : c.push_separator.new.out.items ≡ out ++ utf8 (fold (run is_white p)) = rw c.again-start.ensures at c.in_ok-push_separator.ensures.value in
+    links_go c.args.in_flow c.args.least p q out c.push_separator.new.out.items (record { space = space; read = t.0 }) o h mid
+
 pub returns-in_err-take_words-clause-value : goal.returns-in_err-take_words-clause-value
 returns-in_err-take_words-clause-value c =
-    let p = c.args.cursor.now in
-    let q = c.skip_separator.new.cursor in
-    let out = c.args.out.now.items in
-    let space : is_white (first p) ≡ true = cc in
-    let o : is_over c.args.in_flow c.args.least q ≡ false = cc in
-    let h : is_chunk c.args.in_flow (first q) (peek q 1) ≡ true = cc in
-    let t = gap_is c.args.least p q c.in_ok-skip_separator.ensures in
-    let mid : c.push_separator.new.out.items ≡ out ++ utf8 (fold (run is_white p)) = rw c.again-start.ensures at c.in_ok-push_separator.ensures.value in
     let error = c.in_err-take_words.field-0.0 in
     let e = err_from_is_err_and c.from_residual-in_err-take_words.result c.from_residual-in_err-take_words.ensures.1 in
-    let goes = links_go c.args.in_flow c.args.least p q out c.push_separator.new.out.items (record { space = space; read = t.0 }) o h mid in
-    rw (e.1, e.2) (links_go_wrong error (with_front out (links c.args.in_flow c.args.least p)) (with_front c.push_separator.new.out.items (words c.args.in_flow c.args.least q)) c.take_words.new.cursor goes c.in_err-take_words.ensures.value)
+    rw (e.1, e.2) (links_go_wrong error (with_front c.args.out.now.items (links c.args.in_flow c.args.least c.args.cursor.now)) (with_front c.push_separator.new.out.items (words c.args.in_flow c.args.least c.skip_separator.new.cursor)) c.take_words.new.cursor (goes (goal.at.returns-in_err-take_words-clause-value c).In_ok-push_separator) c.in_err-take_words.ensures.value)
 
 pub returns-clause-value : goal.returns-clause-value
-returns-clause-value c =
-    let p = c.args.cursor.now in
-    let q = c.skip_separator.new.cursor in
-    let out = c.args.out.now.items in
-    let space : is_white (first p) ≡ true = cc in
-    let o : is_over c.args.in_flow c.args.least q ≡ false = cc in
-    let h : is_chunk c.args.in_flow (first q) (peek q 1) ≡ true = cc in
-    let t = gap_is c.args.least p q c.in_ok-skip_separator.ensures in
-    let mid : c.push_separator.new.out.items ≡ out ++ utf8 (fold (run is_white p)) = rw c.again-start.ensures at c.in_ok-push_separator.ensures.value in
-    links_go c.args.in_flow c.args.least p q out c.push_separator.new.out.items (record { space = space; read = t.0 }) o h mid ∙ c.in_ok-take_words.ensures.value
+returns-clause-value c = goes (goal.at.returns-clause-value c).In_ok-push_separator ∙ c.in_ok-take_words.ensures.value
 
 pub returns-clause-shorter : goal.returns-clause-shorter
 returns-clause-shorter c =

@@ -1,47 +1,41 @@
-use Rattle.std.proofs.Common.{rules, length, ◌<◌, ◌^◌, ◌+◌, refl, sym, ap, ◌∙◌, arith, ℕ, List}
+use Rattle.std.proofs.Common.{rules, length, ◌<◌, ◌≤◌, ◌^◌, ◌+◌, refl, sym, ap, ◌∙◌, arith, ℕ, List}
 use Rattle.std.proofs.lemmas.List.Sums.{prefix_len-le-length}
 use lib.Count.{count_trailing_zeros}
 use lib.Lanes.{chunk}
 use Rattle.std.specs.List.{count_by}
 use Rattle.yaml_lexeme.specs.Runs.{is_stop, is_quiet, begins}
-use Rattle.yaml_lexeme.proofs.Vectors.{run_through, run_stops, stop_within}
+use Rattle.yaml_text.proofs.Vectors.{run_through, run_stops}
+use Rattle.yaml_lexeme.proofs.Vectors.{stop_within}
 use Rattle.yaml_lexeme.proofs.Counts.{count_stops, count_goes, count_small, count_part}
 use Rattle.yaml_lexeme.proofs.runs.quiet_line.Goals as goal
+use Rattle.yaml_lexeme.proofs.runs.quiet_line.Goals.{Then-found-ne0}
 
-pub starts_before-requires-clause-few : goal.starts_before-requires-clause-few
-starts_before-requires-clause-few c =
+stop : (c : Then-found-ne0) → count_trailing_zeros 64 c.stops-found.result ≤ 16
+stop c =
     let found = c.stops-found in
-    let w = stop_within (is_stop c.args.class) (is_quiet c.args.class) (λ x. refl) c.args.text.now c.wide.i 16 (omega arith) (omega arith) (omega (arith, found.ensures)) in
+    let w = stop_within (is_stop c.args.class) c.args.text.now c.wide.i 16 (omega arith) (omega arith) (omega (arith, found.ensures)) in
     let e = ap (count_trailing_zeros 64) found.ensures in
     omega (arith, w, e)
 
+pub starts_before-requires-clause-few : goal.starts_before-requires-clause-few
+starts_before-requires-clause-few c = omega (arith, stop (goal.at.starts_before-requires-clause-few c).Then-found-ne0)
+
 pub overflow_add-result-then-found-ne0 : goal.overflow_add-result-then-found-ne0
 overflow_add-result-then-found-ne0 c =
-    let found = c.stops-found in
-    let small = count_small begins (count_trailing_zeros 64 found.result) (chunk c.wide.i 16 c.args.text.now) in
-    let w = stop_within (is_stop c.args.class) (is_quiet c.args.class) (λ x. refl) c.args.text.now c.wide.i 16 (omega arith) (omega arith) (omega (arith, found.ensures)) in
-    let e = ap (count_trailing_zeros 64) found.ensures in
+    let small = count_small begins (count_trailing_zeros 64 c.stops-found.result) (chunk c.wide.i 16 c.args.text.now) in
     let room : length c.args.text.now < 2 ^ 63 = search rules in
-    omega (arith, c.starts_before.ensures, small, w, e, c.wide.invariant.fewer, room)
+    omega (arith, c.starts_before.ensures, small, stop (goal.at.overflow_add-result-then-found-ne0 c).Then-found-ne0, c.wide.invariant.fewer, room)
 
-pub returns-then-found-ne0-clause-bytes : goal.returns-then-found-ne0-clause-bytes
-returns-then-found-ne0-clause-bytes c =
+pub returns-then-found-ne0 : goal.returns-then-found-ne0
+returns-then-found-ne0 c =
     let found = c.stops-found in
+    let k = count_trailing_zeros 64 found.result in
     let run = run_stops (is_stop c.args.class) (is_quiet c.args.class) (λ x. refl) c.args.text.now c.wide.i 16 (omega arith) (omega arith) (omega (arith, found.ensures)) ∙ ap (count_trailing_zeros 64) (sym found.ensures) in
-    omega (arith, run, c.wide.invariant.run)
-
-pub returns-then-found-ne0-clause-chars : goal.returns-then-found-ne0-clause-chars
-returns-then-found-ne0-clause-chars c =
-    let found = c.stops-found in
-    let w = stop_within (is_stop c.args.class) (is_quiet c.args.class) (λ x. refl) c.args.text.now c.wide.i 16 (omega arith) (omega arith) (omega (arith, found.ensures)) in
-    let e = ap (count_trailing_zeros 64) found.ensures in
-    count_stops begins c.args.text.now c.wide.i (count_trailing_zeros 64 found.result) c.wide.n c.starts_before.result c.wide.invariant.chars (omega (arith, w, e)) c.starts_before.ensures
-
-pub returns-then-found-ne0-clause-bound : goal.returns-then-found-ne0-clause-bound
-returns-then-found-ne0-clause-bound c =
-    let found = c.stops-found in
-    let run = run_stops (is_stop c.args.class) (is_quiet c.args.class) (λ x. refl) c.args.text.now c.wide.i 16 (omega arith) (omega arith) (omega (arith, found.ensures)) ∙ ap (count_trailing_zeros 64) (sym found.ensures) in
-    omega (arith, run, c.wide.invariant.run, prefix_len-le-length (is_quiet c.args.class) c.args.text.now)
+    record {
+      bytes = omega (arith, run, c.wide.invariant.run);
+      chars = count_stops begins c.args.text.now c.wide.i k c.wide.n c.starts_before.result c.wide.invariant.chars (stop (goal.at.returns-then-found-ne0 c).Then-found-ne0) c.starts_before.ensures;
+      bound = omega (arith, run, c.wide.invariant.run, prefix_len-le-length (is_quiet c.args.class) c.args.text.now);
+    }
 
 pub wide-preserved : goal.wide-preserved
 wide-preserved c =

@@ -1,11 +1,7 @@
-use Rattle.std.proofs.Common.{◌≡◌, Bool, not, true, false, refl, arith, eqb-true}
+use Rattle.std.proofs.Common.{arith, eqb-true}
 use Rattle.yaml_text.specs.Utf8.{is_single, is_other}
-use Rattle.yaml_text.proofs.Vectors.{run_through}
+use Rattle.yaml_text.proofs.Vectors.{run_through, twice}
 use Rattle.yaml_text.proofs.ascii.are_single.Goals as goal
-
-twice : (b : Bool) → b ≡ not (not b)
-twice true = refl
-twice false = refl
 
 pub returns : goal.returns
 returns c = λ none.

@@ -1,25 +1,15 @@
-use Rattle.std.proofs.Common.{◌≡◌, Bool, not, true, false, refl, sym, ap, ◌∙◌, arith}
+use Rattle.std.proofs.Common.{sym, ap, ◌∙◌, arith}
 use lib.Count.{count_trailing_zeros}
 use Rattle.std.proofs.lemmas.List.Sums.{prefix_len-le-length}
 use Rattle.yaml_text.specs.Utf8.{is_single, is_other}
-use Rattle.yaml_text.proofs.Vectors.{run_through, run_stops}
+use Rattle.yaml_text.proofs.Vectors.{run_through, run_stops, twice}
 use Rattle.yaml_text.proofs.ascii.single_len.Goals as goal
 
-twice : (b : Bool) → b ≡ not (not b)
-twice true = refl
-twice false = refl
-
-pub returns-then-found-ne0-clause-value : goal.returns-then-found-ne0-clause-value
-returns-then-found-ne0-clause-value c =
+pub returns-then-found-ne0 : goal.returns-then-found-ne0
+returns-then-found-ne0 c =
     let found = c.others-found in
     let run = run_stops is_other is_single (λ x. twice (is_single x)) c.args.bytes.now c.wide.i 16 (omega arith) (omega arith) (omega (arith, found.ensures)) ∙ ap (count_trailing_zeros 64) (sym found.ensures) in
-    omega (arith, run, c.wide.invariant.0)
-
-pub returns-then-found-ne0-clause-bound : goal.returns-then-found-ne0-clause-bound
-returns-then-found-ne0-clause-bound c =
-    let found = c.others-found in
-    let run = run_stops is_other is_single (λ x. twice (is_single x)) c.args.bytes.now c.wide.i 16 (omega arith) (omega arith) (omega (arith, found.ensures)) ∙ ap (count_trailing_zeros 64) (sym found.ensures) in
-    omega (arith, run, c.wide.invariant.0, prefix_len-le-length is_single c.args.bytes.now)
+    record { value = omega (arith, run, c.wide.invariant.0); bound = omega (arith, run, c.wide.invariant.0, prefix_len-le-length is_single c.args.bytes.now) }
 
 pub wide-preserved : goal.wide-preserved
 wide-preserved c =
