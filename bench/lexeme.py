@@ -15,46 +15,12 @@ LEXLIST = os.path.join(HERE, "..", "crates", "lexlist", "out", "lexlist")
 SIZE = 1_000_000
 
 
-def word(r):
-    return "".join(r.choice("etaoinshrdlucmfwypvbgkjqxz") for _ in range(r.choice([1, 2, 2, 3, 3, 3, 4, 4, 5, 5, 6, 7, 8, 9, 10])))
-
-
-def words(r, size):
-    made, count = [], 0
-    while count < size:
-        made.append(word(r))
-        count += len(made[-1]) + 1
-    return " ".join(made)[:size].strip() + "x"
-
-
-def lines(r, size, width, between):
-    made, count = [], 0
-    while count < size:
-        made.append(words(r, width))
-        count += width + len(between)
-    return between.join(made)
-
-
-def escapes(r, size, choices):
-    made, count = [], 0
-    while count < size:
-        made.append(r.choice(choices) if r.random() < 0.5 else word(r))
-        count += len(made[-1])
-    return "".join(made)
-
-
 def texts():
-    r = random.Random(7)
-    many = ["\\n", "\\t", '\\"', "\\\\", "\\x41", "\\u263A", "\\U0001F600", "a", "bc"]
-    yield "plain, one line of words", words(r, SIZE), False
-    yield "plain, lines of 78", lines(r, SIZE, 78, "\n"), False
-    yield "double quoted, no escapes", '"' + words(r, SIZE) + '"', False
-    yield "double quoted, an escape every other word", '"' + escapes(r, SIZE, ["\\n", "\\t", '\\"', "\\\\"]) + '"', False
-    yield "double quoted, escapes of all kinds", '"' + "".join(r.choice(many) for _ in range(SIZE // 3)) + '"', False
-    yield "literal, lines of 78", "|\n  " + lines(r, SIZE, 78, "\n  ") + "\n", False
-    yield "folded, lines of 78", ">\n  " + lines(r, SIZE, 78, "\n  ") + "\n", False
+    """The name of each text, the text, and whether all its lexemes are read or only the first."""
+    for name, text in scalars():
+        yield name, text, False
     # both read the entries of a sequence
-    yield "100,000 short plain scalars", "".join("- " + word(r) + word(r) + "\n" for _ in range(100_000)), True
+    yield "100,000 short plain scalars", short_entries(), True
 
 
 def main():

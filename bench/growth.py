@@ -1,0 +1,52 @@
+#!/usr/bin/env python3
+"""Shows that the time of deep inputs grows with their length: growth.py.
+
+It needs the program lexlist as the gate builds it. A key limit of 65,536 bytes is the largest: so many bytes may be read
+before it is known whether a key stands there.
+"""
+
+import sys
+
+from common import Table, measure_ours, milliseconds, print_table, ratio
+from texts import TIMES, keys_of_keys, nested_keys
+
+NESTED = "entries of 12,500 mappings, each the key of the one around it"
+COLUMNS = ["Text", "Key limit", "100,000, ms", "200,000, ms", "Times as long"]
+NOTE = "Only ours, best of nine. The text is scanned with 100,000 of its parts and with 200,000."
+
+
+def inputs():
+    """The name of a text, the text of a count, and the key limit, or None for the usual one."""
+    yield "`[`", lambda count: "[" * count, None
+    yield "`{a: `", lambda count: "{a: " * count, None
+    yield "mappings, each the key of the one around it", keys_of_keys, None
+    yield NESTED, nested_keys, None
+    yield "`[`", lambda count: "[" * count, 65_536
+    yield "`{a: `", lambda count: "{a: " * count, 65_536
+    yield NESTED, nested_keys, 65_536
+
+
+def measure(text, limit):
+    return measure_ours(text.encode(), "scan", *([str(limit)] if limit else []))
+
+
+def takes_limits():
+    """Whether a larger limit makes tokens for keys that the usual one does not find."""
+    text = nested_keys(12_500)
+    return measure(text, 65_536).count > measure(text, None).count
+
+
+def rows(_):
+    limits = takes_limits()
+    if not limits:
+        print("lexlist takes no key limit for measure scan: those rows are left out", file=sys.stderr)
+    for name, text_of, limit in inputs():
+        if limit is None or limits:
+            once, twice = (measure(text_of(count), limit).best for count in (TIMES, 2 * TIMES))
+            yield [name, str(limit or 1024), milliseconds(once), milliseconds(twice), ratio(twice / once)]
+
+
+GROWTH = Table("Growth", NOTE, COLUMNS, 2, rows)
+
+if __name__ == "__main__":
+    print_table(GROWTH)
