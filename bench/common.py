@@ -49,7 +49,7 @@ def measure_libyaml(folder, data, *words):
 def milliseconds(nanoseconds):
     """Three digits or more, in milliseconds."""
     value = nanoseconds / 1e6
-    return f"{value:.0f}" if value >= 100 else f"{value:.3g}" if value >= 1 else f"{value:.3f}"
+    return f"{value:.0f}" if value >= 100 else f"{value:.1f}" if value >= 10 else f"{value:.2f}" if value >= 1 else f"{value:.3f}"
 
 
 def ratio(value):

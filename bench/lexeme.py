@@ -5,14 +5,10 @@ lexeme.py needs the program lexlist as the gate builds it (crates/lexlist/out/le
 (Debian: libyaml-dev). Texts of about 1 MB are made anew each time, from a fixed seed.
 """
 
-import os
-import random
-import subprocess
-import tempfile
+from common import Table, measure_libyaml, measure_ours, milliseconds, print_table, ratio
+from texts import scalars, short_entries
 
-HERE = os.path.dirname(os.path.abspath(__file__))
-LEXLIST = os.path.join(HERE, "..", "crates", "lexlist", "out", "lexlist")
-SIZE = 1_000_000
+COLUMNS = ["Text", "Bytes", "Ours, best (median) in ms", "libyaml, best (median) in ms", "Times as fast", "A copy, ms"]
 
 
 def texts():
@@ -23,24 +19,18 @@ def texts():
     yield "100,000 short plain scalars", short_entries(), True
 
 
-def main():
-    with tempfile.TemporaryDirectory() as room:
-        libyaml = os.path.join(room, "libyaml_scan")
-        subprocess.run(["cc", "-O2", "-o", libyaml, os.path.join(HERE, "libyaml_scan.c"), "-lyaml"], check=True)
-        print("| text | bytes | ours, best (median) in ms | libyaml, best (median) in ms | times | copy in ms |")
-        print("|---|---|---|---|---|---|")
-        for name, text, walks in texts():
-            path = os.path.join(room, "text")
-            data = text.encode()
-            pinned = ["taskset", "-c", "1"]
-            ours = subprocess.run([*pinned, LEXLIST, "measure", *(["walk"] if walks else [])], input=data, capture_output=True, check=True)
-            with open(path, "wb") as file:
-                file.write(data)
-            theirs = subprocess.run([*pinned, libyaml, path], capture_output=True, check=True)
-            _, best, median = (int(n) for n in ours.stdout.split())
-            _, _, lib_best, lib_median, copy = (float(n) for n in theirs.stdout.split())
-            print(f"| {name} | {len(data)} | {best / 1e6:.2f} ({median / 1e6:.2f}) | {lib_best / 1e6:.2f} ({lib_median / 1e6:.2f}) | {lib_best / best:.1f} | {copy / 1e6:.2f} |")
+def both(measured):
+    return f"{milliseconds(measured.best)} ({milliseconds(measured.median)})"
+
+
+def rows(folder):
+    for name, text, walks in texts():
+        data = text.encode()
+        ours = measure_ours(data, *(["walk"] if walks else []))
+        theirs = measure_libyaml(folder, data)
+        times = ratio(theirs.best / ours.best)
+        yield [name, str(len(data)), both(ours), both(theirs), times, milliseconds(theirs.copy)]
 
 
 if __name__ == "__main__":
-    main()
+    print_table(Table("Lexemes", "", COLUMNS, 2, rows))
