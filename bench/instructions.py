@@ -14,7 +14,7 @@ from texts import dense, realistic
 
 SIZE = 200_000
 SCANS = 9
-COLUMNS = ["Text", "Bytes", "Tokens", "Ours", "libyaml", "libyaml's for one of ours"]
+COLUMNS = ["Text", "Bytes", "Tokens", "Ours", "libyaml", "libyaml's in times of ours"]
 NOTE = "Instructions a token, counted by callgrind in one run; they do not depend on what else the machine does."
 
 
