@@ -84,6 +84,8 @@ def draw(rows, path):
         draw_row(axes, place, figures, stopped)
     figure.suptitle(TITLE, x=0.02, ha="left", color=INK, fontsize=11.5, fontweight="bold")
     note = "1 is libyaml; the scale is logarithmic. A bar ends at the lower of two runs, its line at the higher."
+    if any(stopped for _, _, stopped in rows):
+        note += " Over: libyaml was stopped."
     figure.text(0.02, 0.015, note, color=QUIET, fontsize=8.5)
     figure.tight_layout(rect=(0.01, 0.035, 1, 0.99))
     figure.savefig(path, format="svg", metadata={"Title": TITLE, "Date": None, "Creator": None})
@@ -91,7 +93,8 @@ def draw(rows, path):
 
 def add_dark(path):
     """Adds the rules that put the colours for dark surroundings in place of the others."""
-    rules = [f'[style*="{kind}: {light}"]{{{kind}:{dark}!important}}' for light, dark in DARK.items() for kind in ("fill", "stroke")]
+    kinds = [(kind, *colours) for colours in DARK.items() for kind in ("fill", "stroke")]
+    rules = [f'[style*="{kind}: {light}"]{{{kind}:{dark}!important}}' for kind, light, dark in kinds]
     with open(path, encoding="utf-8") as file:
         text = re.sub(r"[ \t]+$", "", file.read(), flags=re.MULTILINE)
     style = f"<style>@media (prefers-color-scheme:dark){{{''.join(rules)}}}</style>\n"
