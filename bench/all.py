@@ -8,11 +8,12 @@ All is measured once and then all again, so that the two figures of a cell are m
 import datetime
 import os
 import platform
+import shutil
 import subprocess
 import sys
 import tempfile
 
-from common import HERE, build_libyaml, line
+from common import HERE, LEXLIST, YAMLTOK, build_libyaml, line
 from decode import DECODING
 from growth import GROWTH
 from instructions import INSTRUCTIONS
@@ -84,6 +85,9 @@ def measured_lines(folder):
 
 
 def main():
+    missing = [name for name in (LEXLIST, YAMLTOK, "cc", "taskset", "valgrind") if not shutil.which(name)]
+    if missing:
+        raise SystemExit(f"not found: {', '.join(missing)}")
     path = sys.argv[1] if len(sys.argv) > 1 else os.path.join(HERE, "results.md")
     with tempfile.TemporaryDirectory() as folder:
         lines = measured_lines(folder)
