@@ -1,5 +1,5 @@
 #!/usr/bin/env python3
-"""Compares the speed of the proved scanner with libyaml's, on the same bytes and one core, best and median of nine.
+"""Compares the speed of the proved scanner with libyaml's, on the same bytes and one core, best of nine.
 
 scan.py needs the program lexlist as the gate builds it (crates/lexlist/out/lexlist), a C compiler and libyaml's header
 (Debian: libyaml-dev). Each scans a text from memory to its end or its fault and throws the tokens away; nothing is listed.
@@ -7,50 +7,41 @@ scan.py FILE.. measures those files instead of its own texts.
 """
 
 import os
-import subprocess
 import sys
-import tempfile
 
-from realistic import realistic
+from common import Table, measure_libyaml, measure_ours, milliseconds, print_table, ratio
+from texts import scanned
 
-HERE = os.path.dirname(os.path.abspath(__file__))
-LEXLIST = os.path.join(HERE, "..", "crates", "lexlist", "out", "lexlist")
-PINNED = ["taskset", "-c", "1"]
-TIMES = 100_000
-HOSTILE = ["[", "- ", '"x": ', "? ", "{a: "]
-
-
-def texts(paths):
-    if paths:
-        for path in paths:
-            with open(path, "rb") as file:
-                yield os.path.basename(path), file.read()
-        return
-    yield "realistic, 10 MB", realistic(10_000_000, 7).encode()
-    for piece in HOSTILE:
-        yield f"{TIMES:,} times `{piece}`", (piece * TIMES).encode()
+# A scan by libyaml is stopped after so many seconds.
+LIMIT = 200
+COLUMNS = ["Text", "Bytes", "Tokens", "Ours, ms", "libyaml, ms", "Times as fast"]
+NOTE = f"""All tokens are scanned from memory to the end or the fault, and thrown away. Each time is the best of nine;
+libyaml begins no scan after 20 seconds of a text, so a longer time is that of a single scan, and it is stopped after
+{LIMIT} seconds: "over" is written before such a time."""
 
 
-def main():
-    with tempfile.TemporaryDirectory() as room:
-        libyaml = os.path.join(room, "libyaml_scan")
-        subprocess.run(["cc", "-O2", "-o", libyaml, os.path.join(HERE, "libyaml_scan.c"), "-lyaml"], check=True)
-        print("| text | bytes | tokens | ours, best (median) in s | MB/s | libyaml, best (median) in s | MB/s | times |")
-        print("|---|---|---|---|---|---|---|---|")
-        for name, data in texts(sys.argv[1:]):
-            path = os.path.join(room, "text")
-            with open(path, "wb") as file:
-                file.write(data)
-            ours = subprocess.run([*PINNED, LEXLIST, "measure", "scan"], input=data, capture_output=True, check=True)
-            theirs = subprocess.run([*PINNED, libyaml, path], capture_output=True, check=True)
-            tokens, best, median = (int(n) for n in ours.stdout.split())
-            _, _, lib_best, lib_median, _ = (float(n) for n in theirs.stdout.split())
-            print(
-                f"| {name} | {len(data)} | {tokens} | {best / 1e9:.4f} ({median / 1e9:.4f}) | {len(data) / best * 1e3:.1f}"
-                f" | {lib_best / 1e9:.4f} ({lib_median / 1e9:.4f}) | {len(data) / lib_best * 1e3:.1f} | {lib_best / best:.2f} |",
-                flush=True,
-            )
+def row(folder, name, data):
+    ours = measure_ours(data, "scan")
+    theirs = measure_libyaml(folder, data, "9", str(LIMIT))
+    if theirs.ended and theirs.count != ours.count:
+        print(f"{name}: {ours.count} tokens are ours, {theirs.count} are libyaml's", file=sys.stderr)
+    over = "" if theirs.ended else "over "
+    times = ratio(theirs.best / ours.best)
+    return [name, str(len(data)), str(ours.count), milliseconds(ours.best), over + milliseconds(theirs.best), over + times]
 
+
+def rows(folder):
+    for name, text in scanned():
+        yield row(folder, name, text.encode())
+
+
+def rows_of_files(folder):
+    for path in sys.argv[1:]:
+        with open(path, "rb") as file:
+            yield row(folder, os.path.basename(path), file.read())
+
+
+SCANNING = Table("Scanning", NOTE, COLUMNS, 3, rows)
 
 if __name__ == "__main__":
-    main()
+    print_table(SCANNING._replace(rows=rows_of_files) if sys.argv[1:] else SCANNING)

@@ -1,15 +1,27 @@
 #!/usr/bin/env python3
 """Scans deep and long inputs with the program: deep.py PROGRAM.
 
-Depth and levels have no limit but the input's length, and no input takes more than a second to scan. The program
-`lexlist`, which is beside the given one, measures that.
+Depth and levels have no limit but the input's length. Each input gives the lines that are expected, and the time of a scan
+grows with the input: twice the input takes at most three times as long. The program `lexlist`, which is beside the given
+one, is used for the times.
 """
 
+import math
 import os
+import resource
 import subprocess
 import sys
 
 MANY = 100_000
+# the most that scanning twice the input may take, in times of scanning the input
+GROWTH = 3
+# A time in seconds that the ticks of the system's clock do not blur. A shorter one is taken as this.
+LEAST = 0.05
+# pairs of times that are always taken, and how many at most are taken if the growth is over
+FEW_PAIRS = 3
+MOST_PAIRS = 12
+# in seconds; a scan that is linear needs much less
+TIMEOUT = 120
 
 
 def mark(index, line=0):
@@ -34,56 +46,83 @@ def sequences(count):
     return starts + [one("BLOCK-END", end, end)] * count + [one("STREAM-END", end, end)]
 
 
-# the name, the input, the lines expected after the first, or None if only the last line is checked
+# the name, the input for a count, the lines expected after the first, or None if only the last line is checked
 INPUTS = [
-    ("openers", "[" * MANY, run_of("FLOW-SEQUENCE-START", MANY)),
-    ("closers", "]" * MANY, run_of("FLOW-SEQUENCE-END", MANY)),
-    ("sequences", "- " * (MANY // 2), sequences(MANY // 2)),
-    ("more sequences", "- " * MANY, sequences(MANY)),
-    ("quoted keys on a line", '"x": ' * MANY, None),
-    ("quoted keys on lines", '"x":\n' * MANY, None),
-    ("keys of keys", "? " * MANY, None),
-    ("mappings in mappings", "{a: " * MANY, None),
-    ("sequences of mappings", "[{a: b, " * (MANY // 2), None),
-    ("blank lines", "a" + "\n" * MANY + " b", None),
-    ("blank lines in quotes", '"a' + " \n" * MANY + 'b"', None),
-    ("a literal of blank lines", "|\n a" + "\n" * MANY + " b", None),
-    ("comments", "#c\n" * MANY, None),
-    ("anchors", "&a " * MANY, None),
-    ("escapes", '"' + "\\x41" * MANY + '"', None),
-    ("deeper and deeper", "".join(" " * k + "a:\n" for k in range(1000)), None),
-    ("a tag of escapes", "!" + "%41" * MANY + " a", None),
+    ("openers", lambda count: "[" * count, run_of("FLOW-SEQUENCE-START", MANY)),
+    ("closers", lambda count: "]" * count, run_of("FLOW-SEQUENCE-END", MANY)),
+    ("sequences", lambda count: "- " * (count // 2), sequences(MANY // 2)),
+    ("more sequences", lambda count: "- " * count, sequences(MANY)),
+    ("quoted keys on a line", lambda count: '"x": ' * count, None),
+    ("quoted keys on lines", lambda count: '"x":\n' * count, None),
+    ("keys of keys", lambda count: "? " * count, None),
+    ("mappings in mappings", lambda count: "{a: " * count, None),
+    ("mappings as keys", lambda count: "{" * count + "a" + ": b}" * count, None),
+    ("sequences of mappings", lambda count: "[{a: b, " * (count // 2), None),
+    ("blank lines", lambda count: "a" + "\n" * count + " b", None),
+    ("blank lines in quotes", lambda count: '"a' + " \n" * count + 'b"', None),
+    ("a literal of blank lines", lambda count: "|\n a" + "\n" * count + " b", None),
+    ("comments", lambda count: "#c\n" * count, None),
+    ("anchors", lambda count: "&a " * count, None),
+    ("escapes", lambda count: '"' + "\\x41" * count + '"', None),
+    # a text of n levels has n * n / 2 spaces, so the levels are as many as keep its length in proportion to the count
+    ("deeper and deeper", lambda count: "".join(" " * k + "a:\n" for k in range(math.isqrt(10 * count))), None),
+    ("a tag of escapes", lambda count: "!" + "%41" * count + " a", None),
 ]
 
 
 def seconds_of(lexlist, text):
-    """How long scanning takes, the best of nine times."""
-    done = subprocess.run([lexlist, "measure", "scan"], input=text.encode("ascii"), capture_output=True, check=True, timeout=60)
-    _, best, _ = done.stdout.split()
-    return int(best) / 1e9
+    """How long the processor was busy for nine scans of the text; the waiting for a busy machine is not in it."""
+    before = resource.getrusage(resource.RUSAGE_CHILDREN).ru_utime
+    subprocess.run([lexlist, "measure", "scan"], input=text.encode("ascii"), capture_output=True, check=True, timeout=TIMEOUT)
+    return resource.getrusage(resource.RUSAGE_CHILDREN).ru_utime - before
 
 
-def problem(program, lexlist, text, wanted):
-    done = subprocess.run([program, "scan", "any"], input=text.encode("ascii"), capture_output=True, timeout=60)
+def count_to_measure(lexlist, text_of):
+    """A count whose input takes long enough to be measured, or a large one if none does."""
+    count = MANY
+    while count < 16 * MANY and seconds_of(lexlist, text_of(count)) < LEAST:
+        count *= 2
+    return count
+
+
+def growth_problem(lexlist, text_of):
+    """Compares the best time of an input with the best time of one twice as long, each the best of several."""
+    count = count_to_measure(lexlist, text_of)
+    once, twice = text_of(count), text_of(2 * count)
+    best_once = best_twice = math.inf
+    for pair in range(1, MOST_PAIRS + 1):
+        best_once = min(best_once, max(seconds_of(lexlist, once), LEAST))
+        best_twice = min(best_twice, seconds_of(lexlist, twice))
+        if pair >= FEW_PAIRS and best_twice <= GROWTH * best_once:
+            return None
+    return f"{2 * count} took {best_twice:.2f} seconds, {count} took {best_once:.2f}"
+
+
+def listing_problem(program, text, wanted):
+    done = subprocess.run([program, "scan", "any"], input=text.encode("ascii"), capture_output=True, timeout=TIMEOUT)
     lines = done.stdout.decode("ascii").splitlines()
-    seconds = seconds_of(lexlist, text)
-    if seconds > 1:
-        return f"took {seconds:.2f} seconds"
     if done.stderr or done.returncode not in (0, 1):
         return f"status {done.returncode}, {done.stderr!r}"
     if lines[:1] != ["STREAM-START 0:0:0 0:0:0 UTF8"]:
         return f"begins with {lines[:1]}"
     if wanted is not None:
-        return None if lines[1:] == wanted and done.returncode == 0 else "other lines are wanted"
+        return None if lines[1:] == wanted and done.returncode == 0 else "the other lines are not as expected"
     ends = lines[-1].startswith("FAULT scanner " if done.returncode else "STREAM-END ")
     return None if ends else f"ends with {lines[-1]}"
+
+
+def problem(program, lexlist, text_of, wanted):
+    try:
+        return listing_problem(program, text_of(MANY), wanted) or growth_problem(lexlist, text_of)
+    except subprocess.TimeoutExpired:
+        return f"took more than {TIMEOUT} seconds"
 
 
 def main(program):
     lexlist = os.path.join(os.path.dirname(program), "..", "..", "lexlist", "out", "lexlist")
     wrong = 0
-    for name, text, wanted in INPUTS:
-        found = problem(program, lexlist, text, wanted)
+    for name, text_of, wanted in INPUTS:
+        found = problem(program, lexlist, text_of, wanted)
         if found:
             print(f"{name}: {found}")
             wrong += 1
