@@ -11,8 +11,9 @@
 //! line that is no such question is `?`.
 //!
 //! With the word `measure` something is done nine times with the input as a text: the lexeme at its front is read,
-//! with `measure walk` all its lexemes one after the other, and with `measure scan` its tokens are scanned. The
-//! answer is how many bytes were read, or tokens scanned, and the best and the median time in nanoseconds.
+//! with `measure walk` all its lexemes one after the other, with `measure scan` or `measure scan LIMIT` its tokens
+//! are scanned, and with `measure decode` it is decoded. The answer is how many bytes were read, tokens scanned or
+//! bytes decoded, and the best and the median time in nanoseconds.
 //!
 //! Four commands show what a session does if memory is refused: after the input is read, only the named calls
 //! take memory (`session.rt`). `each ENC LIMIT WORD` makes the calls of WORD one by one (`s` for a
@@ -28,8 +29,8 @@ mod show;
 mod words;
 
 use ask::answer;
-use measure::{measure, task_of, task_t};
-use session::list_session;
+use measure::{measure, task_of};
+use session::{limit_or_usual, list_session, wrong_words};
 use std::io::{BufRead, BufReader, BufWriter, Read, Write};
 use std::{env, io};
 
@@ -44,19 +45,19 @@ fn answer_lines(rt: &HostRuntime) -> io::Result<()> {
     out.flush()
 }
 
-fn measure_input(rt: &HostRuntime, task: task_t) -> io::Result<()> {
+fn measure_input(rt: &HostRuntime, words: &[String]) -> io::Result<()> {
+    let task = task_of(words.get(1).map(|word| word.as_str()));
+    let limit = limit_or_usual(words.get(2).map(|word| word.as_str())).ok_or(wrong_words())?;
     let mut input = Vec::new(rt.alloc());
     rt.reader().read_to_end(&mut input)?;
-    let text = measure(rt, &input, task)??;
+    let text = measure(rt, &input, task, limit)??;
     io::writer(rt).write_all(text.as_bytes())
 }
 
 fn main(rt: HostRuntime) -> io::Result<()> {
     let words: Vec<String> = env::args(&rt)?.skip(1).collect(rt.alloc())?;
     match words.first() {
-        Some(word) if word.as_str() == "measure" => {
-            measure_input(&rt, task_of(words.get(1).map(|w| w.as_str())))
-        }
+        Some(word) if word.as_str() == "measure" => measure_input(&rt, &words),
         Some(_) => list_session(&rt, &words),
         None => answer_lines(&rt),
     }

@@ -1,5 +1,5 @@
 //! How long reading takes.
-ghost use Rattle.std.specs.Prelude.{ℕ, ◌≡◌, IfSome};
+ghost use Rattle.std.specs.Prelude.{ℕ, ◌≡◌, ◌≤◌, IfSome};
 ghost use Rattle.yaml_lexeme.specs.Order.{is_stream_end};
 ghost use Rattle.yaml_lexeme.specs.Place.{IsMarkOf};
 
@@ -24,13 +24,16 @@ pub enum task_t {
     WALK,
     /// Its tokens are scanned.
     SCAN,
+    /// It is decoded.
+    DECODE,
 }
 
-/// The task of a word: `walk`, `scan`, or the front for any other and for none.
+/// The task of a word: `walk`, `scan`, `decode`, or the front for any other and for none.
 pub fn task_of(word: Option<&str>) -> task_t {
     match word {
         Some("walk") => task_t::WALK,
         Some("scan") => task_t::SCAN,
+        Some("decode") => task_t::DECODE,
         _ => task_t::FRONT,
     }
 }
@@ -107,9 +110,13 @@ fn walk(alloc: Global, text: &yaml_text_t) -> u64 {
     at.index
 }
 
-/// How many tokens an input has, up to its end or a fault.
-fn scan(alloc: Global, input: &[u8]) -> u64 {
-    let mut parser = yaml_parser_t::new(alloc, input, yaml_encoding_t::YAML_ANY_ENCODING);
+/// How many tokens an input has with a key limit, up to its end or a fault.
+fn scan(alloc: Global, input: &[u8], limit: u32) -> u64
+    requires least { 1 ≤ limit }
+    requires most { limit ≤ 65536 }
+{
+    let any = yaml_encoding_t::YAML_ANY_ENCODING;
+    let mut parser = yaml_parser_t::with_key_limit(alloc, input, any, limit);
     let mut tokens: u64 = 0;
     'tokens: for _ in 0..u64::MAX {
         let Ok(token) = yaml_parser_scan(&mut parser) else {
@@ -123,30 +130,46 @@ fn scan(alloc: Global, input: &[u8]) -> u64 {
     tokens
 }
 
-fn done(alloc: Global, task: task_t, input: &[u8], text: &yaml_text_t) -> u64 {
-    match task {
-        task_t::FRONT => read_front(alloc, text),
-        task_t::WALK => walk(alloc, text),
-        task_t::SCAN => scan(alloc, input),
+/// How many bytes an input has in UTF-8, or 0 if it is no text.
+fn decode(alloc: Global, input: &[u8]) -> u64 {
+    match yaml_decode(alloc, input, yaml_encoding_t::YAML_ANY_ENCODING) {
+        Ok(text) => text.bytes().len() as u64,
+        Err(_) => 0,
     }
 }
 
-/// Does the task on the input nine times, and says how many bytes were read, or tokens scanned, and the best and the median
-/// time in nanoseconds.
+fn done(alloc: Global, task: task_t, limit: u32, input: &[u8], text: &yaml_text_t) -> u64
+    requires least { 1 ≤ limit }
+    requires most { limit ≤ 65536 }
+{
+    match task {
+        task_t::FRONT => read_front(alloc, text),
+        task_t::WALK => walk(alloc, text),
+        task_t::SCAN => scan(alloc, input, limit),
+        task_t::DECODE => decode(alloc, input),
+    }
+}
+
+/// Does the task on the input nine times, and says how many bytes were read, tokens scanned or bytes decoded, and the best
+/// and the median time in nanoseconds. The key limit is that of scanning.
 pub fn measure(
     rt: &HostRuntime,
     input: &[u8],
     task: task_t,
-) -> io::Result<Result<String, AllocError>> {
+    limit: u32,
+) -> io::Result<Result<String, AllocError>>
+    requires least { 1 ≤ limit }
+    requires most { limit ≤ 65536 }
+{
     let alloc = rt.alloc();
-    let Ok(text) = yaml_decode(alloc, input, yaml_encoding_t::YAML_UTF8_ENCODING) else {
+    let Ok(text) = yaml_decode(alloc, input, yaml_encoding_t::YAML_ANY_ENCODING) else {
         return Ok(String::from_str(alloc, "no text\n"));
     };
     let mut times = Vec::new(alloc);
     let mut count = 0;
     for _ in 0..9 {
         let start = Instant::now(rt)?;
-        count = done(alloc, task, input, &text);
+        count = done(alloc, task, limit, input, &text);
         times.push(start.elapsed(rt)?.as_nanos())?;
     }
     times.sort()?;

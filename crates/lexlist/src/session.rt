@@ -293,7 +293,17 @@ fn limit_of(word: &str) -> Option<u32>
     }
 }
 
-fn wrong_words() -> io::Error {
+/// The key limit of a word, or the usual one if there is no word.
+pub fn limit_or_usual(word: Option<&str>) -> Option<u32>
+    ensures { IfSome result (λ limit. (1 ≤ limit) × (limit ≤ 65536)) }
+{
+    match word {
+        Some(word) => limit_of(word),
+        None => Some(1024),
+    }
+}
+
+pub fn wrong_words() -> io::Error {
     io::Error::from(io::ErrorKind::InvalidInput)
 }
 
