@@ -33,6 +33,7 @@ use measure::{measure, task_of};
 use session::{limit_or_usual, list_session, wrong_words};
 use std::io::{BufRead, BufReader, BufWriter, Read, Write};
 use std::{env, io};
+use words::word_at;
 
 fn answer_lines(rt: &HostRuntime) -> io::Result<()> {
     let alloc = rt.alloc();
@@ -46,8 +47,8 @@ fn answer_lines(rt: &HostRuntime) -> io::Result<()> {
 }
 
 fn measure_input(rt: &HostRuntime, words: &[String]) -> io::Result<()> {
-    let task = task_of(words.get(1).map(|word| word.as_str()));
-    let limit = limit_or_usual(words.get(2).map(|word| word.as_str())).ok_or(wrong_words())?;
+    let task = task_of(word_at(words, 1));
+    let limit = limit_or_usual(word_at(words, 2)).ok_or(wrong_words())?;
     let mut input = Vec::new(rt.alloc());
     rt.reader().read_to_end(&mut input)?;
     let text = measure(rt, &input, task, limit)??;

@@ -29,11 +29,11 @@ pub enum task_t {
 }
 
 /// The task of a word: `walk`, `scan`, `decode`, or the front for any other and for none.
-pub fn task_of(word: Option<&str>) -> task_t {
+pub fn task_of(word: &str) -> task_t {
     match word {
-        Some("walk") => task_t::WALK,
-        Some("scan") => task_t::SCAN,
-        Some("decode") => task_t::DECODE,
+        "walk" => task_t::WALK,
+        "scan" => task_t::SCAN,
+        "decode" => task_t::DECODE,
         _ => task_t::FRONT,
     }
 }

@@ -4,6 +4,7 @@
 //! piece. So each request for memory after the input is read comes from the call that is tested.
 ghost use Rattle.std.specs.Prelude.{◌≤◌, IfOk, IfSome, length};
 
+use crate::words::word_at;
 use std::alloc::{AllocError, Global};
 use std::io;
 use std::io::{Read, Write};
@@ -293,13 +294,13 @@ fn limit_of(word: &str) -> Option<u32>
     }
 }
 
-/// The key limit of a word, or the usual one if there is no word.
-pub fn limit_or_usual(word: Option<&str>) -> Option<u32>
+/// The key limit of a word, or the usual one if the word is empty.
+pub fn limit_or_usual(word: &str) -> Option<u32>
     ensures { IfSome result (λ limit. (1 ≤ limit) × (limit ≤ 65536)) }
 {
     match word {
-        Some(word) => limit_of(word),
-        None => Some(1024),
+        "" => Some(1024),
+        _ => limit_of(word),
     }
 }
 
@@ -319,12 +320,7 @@ pub fn list_session(rt: &HostRuntime, words: &[String]) -> io::Result<()> {
     };
     let limit = limit_of(limit.as_str()).ok_or(wrong_words())?;
     match command.as_str() {
-        "each" => make_calls(
-            rt,
-            setting,
-            limit,
-            words.first().map_or("", |word| word.as_str()),
-        ),
+        "each" => make_calls(rt, setting, limit, word_at(words, 0)),
         "calls" => run_words(rt, setting, limit, words),
         "all" => scan_all(rt, setting, limit),
         _ => Err(wrong_words()),

@@ -31,6 +31,14 @@ pub fn bytes_of(alloc: Global, word: &str) -> Result<Option<Vec<u8>>, AllocError
     Ok(Some(bytes))
 }
 
+/// The word at a place, or the empty one.
+pub fn word_at(words: &[String], at: usize) -> &str {
+    match words.get(at) {
+        Some(word) => word.as_str(),
+        None => "",
+    }
+}
+
 /// 0 or 1.
 pub fn flag_of(word: &str) -> Option<bool> {
     match word {

@@ -111,7 +111,9 @@ fn show_fault(alloc: Global, fault: &yaml_fault_t) -> Result<String, Fail> {
 
 /// The gap at the front of a text, and whether a break is in it.
 fn show_gap(alloc: Global, bytes: &[u8], in_flow: bool, allowed: bool) -> Result<String, Fail> {
-    let text = yaml_decode(alloc, bytes, ANY).map_err(|_| "refused")?;
+    let Ok(text) = yaml_decode(alloc, bytes, ANY) else {
+        return Err("refused".into());
+    };
     let (mark, broken) = yaml_gap(&text, FRONT, in_flow, allowed);
     let mark = show_mark(alloc, mark)?;
     Ok(format!(in alloc; "{mark} {broken}")?)
@@ -124,7 +126,9 @@ fn kind_behind(
     index: usize,
     in_flow: bool,
 ) -> Result<Option<yaml_lexeme_kind_t>, Fail> {
-    let text = yaml_decode(alloc, bytes, ANY).map_err(|_| "refused")?;
+    let Ok(text) = yaml_decode(alloc, bytes, ANY) else {
+        return Err("refused".into());
+    };
     if !yaml_is_place(&text, index) {
         return Err("no place".into());
     }
@@ -133,13 +137,17 @@ fn kind_behind(
 }
 
 fn kind_of(alloc: Global, bytes: &[u8], in_flow: bool) -> Result<Option<yaml_lexeme_kind_t>, Fail> {
-    let text = yaml_decode(alloc, bytes, ANY).map_err(|_| "refused")?;
+    let Ok(text) = yaml_decode(alloc, bytes, ANY) else {
+        return Err("refused".into());
+    };
     Ok(yaml_lexeme_kind(&text, FRONT, in_flow))
 }
 
 /// The lexeme at the front of a text.
 fn lexed(alloc: Global, bytes: &[u8], depth: u64, level: Option<u64>) -> Result<String, Fail> {
-    let text = yaml_decode(alloc, bytes, ANY).map_err(|_| "refused")?;
+    let Ok(text) = yaml_decode(alloc, bytes, ANY) else {
+        return Err("refused".into());
+    };
     let Some(kind) = yaml_lexeme_kind(&text, FRONT, depth > 0) else {
         return Ok(String::from_str(alloc, "no kind")?);
     };

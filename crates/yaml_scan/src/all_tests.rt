@@ -12,10 +12,10 @@ fn all_tokens_and_the_fault(rt: HostRuntime) -> Result<(), Fail> {
     assert!(rt; fault.is_none());
     let (tokens, fault) = yaml_scan_all_limit(rt.alloc(), b"ab: 1", ANY, 1)?;
     assert_eq!(rt; tokens.len(), 2);
-    assert_eq!(rt;
-        fault.map(|f| f.error),
-        Some(yaml_error_type_t::YAML_SCANNER_ERROR)
-    );
+    match fault {
+        Some(fault) => assert_eq!(rt; fault.error, yaml_error_type_t::YAML_SCANNER_ERROR),
+        None => return Err("no fault".into()),
+    }
     Ok(())
 }
 
@@ -34,8 +34,10 @@ fn deep_texts(rt: HostRuntime) -> Result<(), Fail> {
         let (found, fault) = yaml_scan_all(rt.alloc(), input.as_bytes(), ANY)?;
         assert!(rt; fault.is_none(), "{part}");
         assert_eq!(rt; found.len(), tokens, "{part}");
-        let end = found.last().map(|token| token.end_mark.index);
-        assert_eq!(rt; end, Some(100_000), "{part}");
+        match found.last() {
+            Some(token) => assert_eq!(rt; token.end_mark.index, 100_000, "{part}"),
+            None => return Err("no token".into()),
+        }
     }
     Ok(())
 }

@@ -1,19 +1,35 @@
 use super::*;
 use std::test::Fail;
-use yaml_text::{yaml_encoding_t, yaml_error_type_t, yaml_fault_t, yaml_mark_t, yaml_token_type_t};
+use yaml_text::{
+    yaml_encoding_t, yaml_error_type_t, yaml_fault_t, yaml_mark_t, yaml_token_t, yaml_token_type_t,
+};
+
+fn scanned(parser: &mut yaml_parser_t) -> Result<yaml_token_t, Fail> {
+    match yaml_parser_scan(parser) {
+        Ok(token) => Ok(token),
+        Err(_) => Err("a fault".into()),
+    }
+}
+
+fn type_peeked(parser: &mut yaml_parser_t) -> Result<yaml_token_type_t, Fail> {
+    match yaml_parser_peek(parser) {
+        Ok(token) => Ok(token.type_()),
+        Err(_) => Err("a fault".into()),
+    }
+}
 
 #[test]
 fn first_tokens(rt: HostRuntime) -> Result<(), Fail> {
     let any = yaml_encoding_t::YAML_ANY_ENCODING;
     let mut parser = yaml_parser_t::new(rt.alloc(), b"a: 1", any);
-    let token = yaml_parser_scan(&mut parser).map_err(|_| "a fault")?;
+    let token = scanned(&mut parser)?;
     assert_eq!(rt; token.type_(), yaml_token_type_t::YAML_STREAM_START_TOKEN);
-    let token = yaml_parser_scan(&mut parser).map_err(|_| "a fault")?;
+    let token = scanned(&mut parser)?;
     assert_eq!(rt;
         token.type_(),
         yaml_token_type_t::YAML_BLOCK_MAPPING_START_TOKEN
     );
-    let token = yaml_parser_scan(&mut parser).map_err(|_| "a fault")?;
+    let token = scanned(&mut parser)?;
     assert_eq!(rt; token.type_(), yaml_token_type_t::YAML_KEY_TOKEN);
     Ok(())
 }
@@ -21,8 +37,8 @@ fn first_tokens(rt: HostRuntime) -> Result<(), Fail> {
 /// The type of the token that a scan takes (`s`) or a peek shows (`p`); a skip (`k`) has none.
 fn called(parser: &mut yaml_parser_t, call: u8) -> Result<yaml_token_type_t, Fail> {
     match call {
-        b's' => Ok(yaml_parser_scan(parser).map_err(|_| "a fault")?.type_()),
-        b'p' => Ok(yaml_parser_peek(parser).map_err(|_| "a fault")?.type_()),
+        b's' => Ok(scanned(parser)?.type_()),
+        b'p' => type_peeked(parser),
         _ => {
             if yaml_parser_has_token(parser) {
                 yaml_parser_skip(parser);
@@ -151,7 +167,9 @@ fn a_fault_is_answered_once(rt: HostRuntime) -> Result<(), Fail> {
         );
         assert!(rt; !yaml_parser_has_token(&parser));
     }
-    let fault = yaml_parser_fault(&parser).map(|fault| fault.problem_mark.column);
-    assert_eq!(rt; fault, Some(4));
+    match yaml_parser_fault(&parser) {
+        Some(fault) => assert_eq!(rt; fault.problem_mark.column, 4),
+        None => return Err("no fault".into()),
+    }
     Ok(())
 }

@@ -60,7 +60,9 @@ fn refusals(rt: HostRuntime) -> Result<(), Fail> {
 /// The bytes of a text, and all that a fault says. `tests/sessions.py` checks that no memory is taken for them.
 #[test]
 fn text_or_fault(rt: HostRuntime) -> Result<(), Fail> {
-    let text = yaml_decode(rt.alloc(), b"a: 1", ANY).map_err(|_| "a text")?;
+    let Ok(text) = yaml_decode(rt.alloc(), b"a: 1", ANY) else {
+        return Err("a text".into());
+    };
     assert_eq!(rt; text.encoding(), UTF8);
     assert_eq!(rt; text.bytes(), b"a: 1".as_slice());
     let fault = yaml_decode(rt.alloc(), b"a\xFF", ANY)
@@ -79,7 +81,9 @@ fn text_or_fault(rt: HostRuntime) -> Result<(), Fail> {
 
 #[test]
 fn fronts(rt: HostRuntime) -> Result<(), Fail> {
-    let (text, refusal) = yaml_decode_front(rt.alloc(), b"ab\xFF", ANY).map_err(|_| "no memory")?;
+    let Ok((text, refusal)) = yaml_decode_front(rt.alloc(), b"ab\xFF", ANY) else {
+        return Err("no memory".into());
+    };
     assert_eq!(rt; text.bytes(), b"ab".as_slice());
     assert_eq!(rt; text.encoding(), UTF8);
     let fault = refusal.ok_or("a fault")?;
@@ -90,7 +94,9 @@ fn fronts(rt: HostRuntime) -> Result<(), Fail> {
 
 #[test]
 fn places(rt: HostRuntime) -> Result<(), Fail> {
-    let text = yaml_decode(rt.alloc(), b"a\r\n\xC3\xA9", ANY).map_err(|_| "a text")?;
+    let Ok(text) = yaml_decode(rt.alloc(), b"a\r\n\xC3\xA9", ANY) else {
+        return Err("a text".into());
+    };
     assert!(rt; yaml_is_place(&text, 0));
     assert!(rt; !yaml_is_place(&text, 2));
     assert!(rt; yaml_is_place(&text, 3));
