@@ -23,7 +23,7 @@ fn name(class: Class) -> &'static str {
     }
 }
 
-/// Writes what stands before the first text.
+/// Writes what comes before the first text.
 pub fn begin(out: &mut dyn Write, title: &str) -> io::Result<()> {
     let title = escaped(title);
     let style = include_str!("page.css");
@@ -32,7 +32,7 @@ pub fn begin(out: &mut dyn Write, title: &str) -> io::Result<()> {
     writeln!(out, "<title>{title}</title>\n<style>\n{style}</style>\n</head>\n<body>")
 }
 
-/// Writes what stands after the last text.
+/// Writes what comes after the last text.
 pub fn end(out: &mut dyn Write) -> io::Result<()> {
     writeln!(out, "</body>\n</html>")
 }
@@ -106,7 +106,7 @@ impl Lines<'_> {
     }
 }
 
-/// Whether a character may stand in a page as it is or as an entity.
+/// Whether a page may hold a character, as it is or as an entity.
 fn is_allowed(character: char) -> bool {
     let code = character as u32;
     let is_control = character.is_control() && !matches!(character, '\t' | '\n' | '\r');

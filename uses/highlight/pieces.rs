@@ -5,7 +5,7 @@ use crate::text::{break_len, character_len, find_break, Text};
 /// What a piece of the text is.
 #[derive(Clone, Copy, Debug, PartialEq, Eq)]
 pub enum Class {
-    /// Blanks and line breaks between tokens, and what stands after a fault.
+    /// Blanks and line breaks between tokens, and what follows a fault.
     Other,
     Comment,
     Directive,
@@ -121,7 +121,7 @@ struct Cutter<'a> {
 }
 
 impl Cutter<'_> {
-    /// Puts what stands up to an index, unless that is nothing.
+    /// Puts what comes before an index, unless that is nothing.
     fn piece(&mut self, class: Class, end: usize) {
         if self.at < end {
             self.pieces.push(Piece { class, start: self.at, end });
@@ -129,7 +129,7 @@ impl Cutter<'_> {
         }
     }
 
-    /// Puts the comments, blanks and breaks that stand here, as far as an index.
+    /// Puts the comments, blanks and breaks from here up to an index.
     fn gap(&mut self, end: usize) {
         let mut at = self.at;
         while at < end {

@@ -45,7 +45,7 @@ fn utf8_len(text: &[u8]) -> usize {
     std::str::from_utf8(text).map_or_else(|error| error.valid_up_to(), str::len)
 }
 
-/// The text of an input in UTF-16 in UTF-8, and how many bytes of it stand before the character that an offset is in.
+/// The text of an input in UTF-16 in UTF-8, and how many bytes of it come before the character that an offset is in.
 fn utf16_and_front(input: &[u8], offset: usize) -> (Vec<u8>, usize) {
     let is_big = input[0] == 0xFE;
     let is_half = matches!(input[if is_big { offset - 2 } else { offset - 1 }], 0xD8..=0xDB);
@@ -66,7 +66,7 @@ fn utf16(input: &[u8], is_big: bool) -> Vec<u8> {
     char::decode_utf16(units).map(|unit| unit.unwrap_or(char::REPLACEMENT_CHARACTER)).collect::<String>().into_bytes()
 }
 
-/// The problem of a fault. That of a reader fault stands at the end of the text before it.
+/// The problem of a fault. That of a reader fault is at the end of the text before it.
 fn problem_of(fault: &Fault, front: &[u8]) -> Problem {
     match fault {
         Fault::Scanner { problem, mark, context, context_mark } => {
@@ -84,7 +84,7 @@ fn problem_of(fault: &Fault, front: &[u8]) -> Problem {
     }
 }
 
-/// The line and the column that stand after a text, from 1.
+/// The line and the column after a text, from 1.
 fn place(mut text: &[u8]) -> (u64, u64) {
     let mut line = 1;
     while let Some((at, len)) = find_break(text) {
@@ -104,7 +104,7 @@ pub fn break_len(text: &[u8]) -> usize {
     }
 }
 
-/// Where the first line break of a text stands, and its length.
+/// Where the first line break of a text is, and its length.
 pub fn find_break(text: &[u8]) -> Option<(usize, usize)> {
     (0..text.len()).map(|at| (at, break_len(&text[at..]))).find(|(_, len)| *len > 0)
 }

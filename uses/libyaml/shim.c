@@ -2,7 +2,7 @@
  * also call yaml_parser_scan, and everything else in the library stays libyaml's own.
  *
  * When the first token is wanted, the input is read to its end and scanned. parser->eof says that this is done. What the scan
- * leaves then stands in the two buffers that libyaml's own reader would fill, since yaml_parser_delete frees them:
+ * leaves is then in the two buffers that libyaml's own reader would fill, since yaml_parser_delete frees them:
  * raw_buffer.start holds a struct scanned, and buffer.start the texts of its tokens and the words of its fault. */
 #include "yaml_c.h"
 
@@ -110,7 +110,7 @@ static uint64_t guess_tokens(const struct input *input) {
 }
 
 /* Scans the input into rooms of a size that is guessed. If there is no memory for so much, the rooms are empty. If they are too
- * small, the scan has told the right size, and is made again. */
+ * small, the scan has returned the right size, and is made again. */
 static int scan_all(yaml_parser_t *parser, const struct input *input, struct rooms *rooms) {
     uint64_t token_room = guess_tokens(input), text_room = input->len + 256;
     if (!make_rooms(rooms, token_room, text_room)) {
@@ -135,7 +135,7 @@ static int scan_all(yaml_parser_t *parser, const struct input *input, struct roo
     }
 }
 
-/* Puts a 0 after each of the fault's two words, so that the second one stands a byte further. */
+/* Puts a 0 after each of the fault's two words, so that the second one is a byte further. */
 static void end_words(const struct yaml_c_answer *answer, uint8_t *texts) {
     uint8_t *problem_end = texts + answer->text_len + answer->problem_len;
     memmove(problem_end + 1, problem_end, answer->context_len);

@@ -2,7 +2,7 @@
  * The exit status is 0, 1 when there is a message, 2 when a file can not be read, memory is refused or the words are wrong.
  *
  * A file is scanned in one call. One walk over the tokens collects the keys, the anchors and aliases, and the lines that hold a
- * key. Each list is sorted, so that what belongs together stands side by side. The time is that of sorting, for every input. */
+ * key. Each list is sorted, so that what belongs together is side by side. The time is that of sorting, for every input. */
 #include "yaml_c.h"
 
 #include <errno.h>
@@ -393,7 +393,7 @@ static void check_key_line(struct file *f, uint64_t number, const uint8_t *line,
         add(f, (struct message){number, count_characters(line, (size_t)(tab - line)), TAB, NULL, 0, 0});
 }
 
-/* Looks at every line of the text. A reader fault stands at its end. */
+/* Looks at every line of the text. A reader fault is at its end. */
 static void check_lines(struct file *f, uint64_t width) {
     const uint8_t *line = f->text, *end = f->text + f->text_len;
     for (uint64_t number = 0, key = 0;; number++) {
