@@ -13,7 +13,7 @@ from common import Table, measure_libyaml, measure_ours, milliseconds, print_tab
 from texts import scanned
 
 # A scan by libyaml is stopped after so many seconds.
-LIMIT = 200
+LIMIT = 60
 COLUMNS = ["Text", "Bytes", "Tokens", "Ours, ms", "libyaml, ms", "Times as fast"]
 NOTE = f"""All tokens are scanned from memory to the end or the fault, and thrown away. Each time is the best of nine;
 libyaml begins no scan after 20 seconds of a text, so a longer time is that of a single scan, and it is stopped after
