@@ -5,8 +5,8 @@ One line of output for each check; what is wrong is printed before it. The check
 
 - paths: what a document has in backticks or as a link, and looks like a path of the repository, is there. A `*` stands for
   any name. Paths are from the repository's root, or from the document's folder.
-- rules: in RULES.md every heading has a line with a definition and a code file. What that line names is in the file that it
-  names: a definition in parentheses, and a test.
+- rules: in RULES.md every heading has a line with a definition and a code file, and a link to it. What that line names is
+  in the file that it names: a definition in parentheses, and a test.
 - proofs: PROOFS.md names every law, every public function and every file of lemmas of each crate, and no others.
 - edits: every must-fail edit has a line in edits.txt, and every line has its edit. What a README.md of must-fail edits names
   is there.
@@ -119,8 +119,16 @@ def tests_in(text):
         yield path, re.findall(r"`(\w+)`", names)
 
 
+def anchor(heading):
+    return re.sub(r"[^\w -]", "", heading.lower()).replace(" ", "-")
+
+
 def check_rules():
-    wrong, sections = [], re.split(r"^## ", read("docs/RULES.md"), flags=re.M)[1:]
+    wrong, (front, *sections) = [], re.split(r"^## ", read("docs/RULES.md"), flags=re.M)
+    links = re.findall(r"\]\(#([^)]+)\)", front)
+    headings = [section.partition("\n")[0] for section in sections]
+    if links != [anchor(heading) for heading in headings]:
+        wrong.append("RULES.md: the links are not those of the headings, in their order")
     for section in sections:
         heading, _, rest = section.partition("\n")
         line = next((line for line in rest.split("\n") if line.startswith("*Definition:*")), "")
