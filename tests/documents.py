@@ -47,7 +47,7 @@ def every_name():
     """The names of all files and folders, without what is built."""
     names = set()
     for _, folders, files in os.walk(ROOT):
-        folders[:] = [name for name in folders if name not in ("out", ".git", "__pycache__")]
+        folders[:] = [name for name in folders if name not in ("bin", "out", ".git", "__pycache__")]
         names.update(folders + files)
     return names
 
@@ -171,7 +171,7 @@ def check_proofs():
     for section in re.split(r"^#{2,3} ", read("docs/PROOFS.md"), flags=re.M)[1:]:
         heading, _, rest = section.partition("\n")
         sections[heading] = rest
-    for crate in (os.path.basename(path) for path in found("crates/*")):
+    for crate in (path.split("/")[1] for path in found("crates/*/src")):
         laws = f"crates/{crate}/src/laws.rt"
         lemmas = names_of(f"crates/{crate}/proofs/*.antt") - {"Lib"}
         wanted = {
