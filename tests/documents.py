@@ -1,0 +1,237 @@
+#!/usr/bin/env python3
+"""Checks that the documents and the repository name the same things: documents.py [PROGRAM]. No program is run.
+
+One line of output for each check; what is wrong is printed before it. The checks:
+
+- paths: what a document has in backticks or as a link, and looks like a path of the repository, is there. A `*` stands for
+  any name. Paths are from the repository's root, or from the document's folder.
+- rules: in RULES.md every heading has a line with a definition and a code file, and a link to it. What that line names is
+  in the file that it names: a definition in parentheses, and a test.
+- proofs: PROOFS.md names every law, every public function and every file of lemmas of each crate, and no others.
+- edits: every must-fail edit has a line in edits.txt, and every line has its edit. What a README.md of must-fail edits names
+  is there.
+- comments: no line of a comment of the code is longer than 128 characters.
+"""
+
+import glob
+import os
+import re
+import sys
+
+ROOT = os.path.dirname(os.path.dirname(os.path.abspath(__file__)))
+DOCUMENTS = ["README.md", "docs/*.md", "tests/README.md", "bench/README.md", "uses/*/README.md"]
+FOLDERS = ("bench", "crates", "docs", "ffi", "tests", "uses")
+ENDINGS = ("antt", "c", "css", "edit", "gz", "h", "html", "md", "py", "rs", "rt", "txt")
+STAND_FOR_NAMES = {"FILE", "FUNCTION", "NAME"}
+WRITTEN_BY_SCRIPTS = {"bench/results.md", "docs/speed.svg"}
+LONGEST_LINE = 128
+PATH = re.compile(r"(\.\./|\./)?[\w*.-]+(/[\w*.-]+)*/?")
+
+
+def found(pattern):
+    """The files and folders of a pattern, by their paths from the root."""
+    return sorted(os.path.relpath(path, ROOT) for path in glob.glob(os.path.join(ROOT, pattern), recursive=True))
+
+
+def read(path):
+    with open(os.path.join(ROOT, path), encoding="utf-8") as text:
+        return text.read()
+
+
+def names_of(pattern):
+    """The names of the files of a pattern, without their endings."""
+    return {os.path.basename(path).split(".")[0] for path in found(pattern)}
+
+
+def every_name():
+    """The names of all files and folders, without what is built."""
+    names = set()
+    for _, folders, files in os.walk(ROOT):
+        folders[:] = [name for name in folders if name not in ("bin", "out", ".git", "__pycache__")]
+        names.update(folders + files)
+    return names
+
+
+# PATHS
+
+def with_stars(path):
+    """A path whose placeholders stand for any name."""
+    parts = path.split("/")
+    return "/".join("*" + part[len(part.split(".")[0]):] if part.split(".")[0] in STAND_FOR_NAMES else part for part in parts)
+
+
+def is_written(path):
+    """Whether a path is of what scripts write, so that it may be missing."""
+    return "out" in path.split("/") or os.path.normpath(path) in WRITTEN_BY_SCRIPTS
+
+
+def places_of(word, folder):
+    """The paths from the root that a word of a document may mean; none if it is no path of the repository."""
+    if not PATH.fullmatch(word):
+        return []
+    plain = with_stars(word[2:] if word.startswith("./") else word)
+    first = plain.split("/")[0]
+    there = os.path.normpath(os.path.join(folder, plain))
+    if word.startswith("./") or first in FOLDERS:
+        return [plain]
+    if first == "..":
+        return [there]
+    if "/" in plain:
+        return [there] if folder and os.path.exists(os.path.join(ROOT, folder, first)) else []
+    if plain.split(".")[-1] in ENDINGS and "." in plain:
+        return [there, plain, os.path.join("**", plain)]
+    return []
+
+
+def words_of(text):
+    for quoted in re.findall(r"`([^`\n]+)`", text):
+        yield from quoted.split()
+    for link in re.findall(r"\]\(([^)\s]+)\)", text):
+        if ":" not in link:
+            yield link.split("#")[0]
+
+
+def check_paths():
+    names, count, wrong = every_name(), 0, []
+    for document in (path for pattern in DOCUMENTS for path in found(pattern)):
+        for word in words_of(read(document)):
+            places = places_of(word, os.path.dirname(document))
+            if not places or any(is_written(place) for place in places):
+                continue
+            count += 1
+            bare = "/" not in word and "*" not in with_stars(word) and word in names
+            if not bare and not any(found(place) for place in places):
+                wrong.append(f"{document}: {word} is not there")
+    return count, wrong
+
+
+# RULES
+
+def files_in(text):
+    """Each file that a line names, with the names in parentheses after it."""
+    for path, _, names in re.findall(r"`(crates/[^`]+\.\w+)`( \(((?:`\w+`(?:, )?)+)\))?", text):
+        yield path, re.findall(r"`(\w+)`", names)
+
+
+def tests_in(text):
+    """Each file of tests that a line names, with the names before it."""
+    for names, path in re.findall(r"((?:`\w+`(?:, | and )?)+) in `(crates/[^`]+\.rt)`", text):
+        yield path, re.findall(r"`(\w+)`", names)
+
+
+def anchor(heading):
+    return re.sub(r"[^\w -]", "", heading.lower()).replace(" ", "-")
+
+
+def check_rules():
+    wrong, (front, *sections) = [], re.split(r"^## ", read("docs/RULES.md"), flags=re.M)
+    links = re.findall(r"\]\(#([^)]+)\)", front)
+    headings = [section.partition("\n")[0] for section in sections]
+    if links != [anchor(heading) for heading in headings]:
+        wrong.append("RULES.md: the links are not those of the headings, in their order")
+    for section in sections:
+        heading, _, rest = section.partition("\n")
+        line = next((line for line in rest.split("\n") if line.startswith("*Definition:*")), "")
+        definition, _, behind = line.partition("*Code:*")
+        code, _, shown = behind.partition("*Proofs:*")
+        definitions, codes = list(files_in(definition)), list(files_in(code))
+        if not any("/specs/" in path and found(path) for path, _ in definitions):
+            wrong.append(f"RULES.md: {heading}: no definition is named")
+        if not any("/src/" in path and found(path) for path, _ in codes):
+            wrong.append(f"RULES.md: {heading}: no code is named")
+        for path, names in definitions:
+            gone = [name for name in names if found(path) and not re.search(rf"^(\w+ )*{name} :", read(path), re.M)]
+            wrong += [f"RULES.md: {heading}: {name} is not in {path}" for name in gone]
+        for path, names in tests_in(shown):
+            gone = [name for name in names if found(path) and not re.search(rf"\bfn {name}\b", read(path))]
+            wrong += [f"RULES.md: {heading}: {name} is not in {path}" for name in gone]
+    return len(sections), wrong
+
+
+# PROOFS
+
+def functions_of(crate):
+    """The public functions of a crate: of a library those of the files that it exports, of a program all."""
+    library = f"crates/{crate}/src/lib.rt"
+    sources = found(f"crates/{crate}/src/*.rt")
+    if found(library):
+        exported = set(re.findall(r"^pub use (\w+)::", read(library), re.M)) | {"lib"}
+        sources = [path for path in sources if os.path.basename(path).split(".")[0] in exported]
+    pattern = re.compile(r'^ *pub (?:extern "C" )?fn (\w+)', re.M)
+    return {name for path in sources for name in pattern.findall(read(path))}
+
+
+def compare(what, said, wanted):
+    return ([f"PROOFS.md: {what} {name} is missing" for name in sorted(wanted - said)]
+            + [f"PROOFS.md: {what} {name} is gone" for name in sorted(said - wanted)])
+
+
+def check_proofs():
+    wrong, count, sections = [], 0, {}
+    for section in re.split(r"^#{2,3} ", read("docs/PROOFS.md"), flags=re.M)[1:]:
+        heading, _, rest = section.partition("\n")
+        sections[heading] = rest
+    for crate in (path.split("/")[1] for path in found("crates/*/src")):
+        laws = f"crates/{crate}/src/laws.rt"
+        lemmas = names_of(f"crates/{crate}/proofs/*.antt") - {"Lib"}
+        wanted = {
+            f"Laws of {crate}": set(re.findall(r"^pub fn (\w+)", read(laws), re.M)) if found(laws) else set(),
+            f"Lemma files of {crate}": lemmas,
+        }
+        functions = f"Public functions of {crate}"
+        if functions in sections or found(f"crates/{crate}/src/lib.rt"):
+            wanted[functions] = functions_of(crate)
+        for heading, names in wanted.items():
+            text = sections.get(heading, "")
+            said = set(re.findall(r"^(?:\| |- )`(\w+)`", text, re.M))
+            wrong += compare(f"{heading}:", said, names)
+            rows = re.findall(r"^\| `\w+` \|.*\| (.*) \|$", text, re.M)
+            rests = {name for row in rows for name in re.findall(r"`([A-Z]\w*[a-z]\w*)`", row)}
+            wrong += [f"PROOFS.md: {heading}: there is no lemma file {name}" for name in sorted(rests - lemmas)]
+            count += len(names)
+    return count, wrong
+
+
+# EDITS
+
+def check_edits():
+    edits = {f"wrong/{name}" for name in names_of("tests/wrong/*.edit")}
+    for path in found("crates/*/must-fail/*.edit"):
+        edits.add(f"{path.split('/')[1]}/{os.path.basename(path)[:-len('.edit')]}")
+    lines = {line.split("\t")[0] for line in read("tests/edits.txt").split("\n") if line and not line.startswith("#")}
+    wrong = [f"edits.txt: {name} is missing" for name in sorted(edits - lines)]
+    wrong += [f"edits.txt: {name} is gone" for name in sorted(lines - edits)]
+    for path in found("crates/*/must-fail/README.md"):
+        named = {f"{path.split('/')[1]}/{name}" for name in re.findall(r"^\| `(\w+)`", read(path), re.M)}
+        wrong += [f"{path}: {name} is gone" for name in sorted(named - edits)]
+    return len(edits), wrong
+
+
+# COMMENTS
+
+def check_comments():
+    count, wrong = 0, []
+    for path in found("crates/*/src/**/*.rt"):
+        for number, line in enumerate(read(path).split("\n"), 1):
+            if line.lstrip().startswith("//"):
+                count += 1
+                if len(line) > LONGEST_LINE:
+                    wrong.append(f"{path}, line {number}: {len(line)} characters")
+    return count, wrong
+
+
+CHECKS = {"paths": check_paths, "rules": check_rules, "laws, functions and lemma files": check_proofs,
+          "edits": check_edits, "lines of comments": check_comments}
+
+
+def main():
+    failed = False
+    for what, check in CHECKS.items():
+        count, wrong = check()
+        print("".join(f"{line}\n" for line in wrong) + f"documents: {count} {what}, {len(wrong)} wrong")
+        failed |= bool(wrong) or not count
+    return 1 if failed else 0
+
+
+if __name__ == "__main__":
+    sys.exit(main())
