@@ -8,8 +8,8 @@ One line of output for each check; what is wrong is printed before it. The check
 - rules: in RULES.md every heading has a line with a definition and a code file, and a link to it. What that line names is
   in the file that it names: a definition in parentheses, and a test.
 - proofs: PROOFS.md names every law, every public function and every file of lemmas of each crate, and no others.
-- edits: every must-fail edit has a line in edits.txt, and every line has its edit. What a README.md of must-fail edits names
-  is there.
+- edits: every must-fail edit has a line in edits.txt, and every line has its edit. The README.md of a crate's must-fail edits
+  names each of them, and no others.
 - comments: no line of a comment of the code is longer than 128 characters.
 """
 
@@ -201,9 +201,13 @@ def check_edits():
     lines = {line.split("\t")[0] for line in read("tests/edits.txt").split("\n") if line and not line.startswith("#")}
     wrong = [f"edits.txt: {name} is missing" for name in sorted(edits - lines)]
     wrong += [f"edits.txt: {name} is gone" for name in sorted(lines - edits)]
-    for path in found("crates/*/must-fail/README.md"):
-        named = {f"{path.split('/')[1]}/{name}" for name in re.findall(r"^\| `(\w+)`", read(path), re.M)}
-        wrong += [f"{path}: {name} is gone" for name in sorted(named - edits)]
+    for folder in found("crates/*/must-fail"):
+        crate, path = folder.split("/")[1], f"{folder}/README.md"
+        text = read(path) if found(path) else ""
+        named = {f"{crate}/{name}" for name in re.findall(r"^\| `(\w+)`", text, re.M)}
+        wanted = {edit for edit in edits if edit.startswith(f"{crate}/")}
+        wrong += [f"{path}: {name} is missing" for name in sorted(wanted - named)]
+        wrong += [f"{path}: {name} is gone" for name in sorted(named - wanted)]
     return len(edits), wrong
 
 
