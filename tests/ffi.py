@@ -23,6 +23,7 @@ FFI = os.path.join(os.path.dirname(HERE), "ffi")
 CRATE = os.path.join(os.path.dirname(HERE), "crates", "yaml_c", "src")
 sys.path.insert(0, os.path.join(HERE, "lib"))
 sys.dont_write_bytecode = True
+from library import build_library
 from worked import MEMORY, build_refuser, run
 
 PLAIN = {"u32": c.c_uint32, "i32": c.c_int32, "u64": c.c_uint64}
@@ -341,7 +342,7 @@ def main():
     if shutil.which("cc") is None:
         print("ffi: skipped: no C compiler")
         return 0
-    subprocess.run([os.path.join(FFI, "build")], check=True)
+    build_library()
     every = list(vectors())
     rust = has_rust()
     if not rust:

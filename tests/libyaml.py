@@ -38,6 +38,7 @@ sys.path.insert(0, os.path.join(HERE, "lib"))
 sys.path.insert(0, os.path.join(TOP, "bench"))
 sys.dont_write_bytecode = True
 from realistic import realistic
+from library import build_library
 from worked import rows
 
 STRICT = ["-std=c11", "-Wall", "-Wextra", "-pedantic", "-Werror", "-O2"]
@@ -371,7 +372,7 @@ def main():
     if shutil.which("cc") is None or not has_libyaml():
         print("libyaml: skipped: no C compiler, or no libyaml-dev")
         return 0
-    subprocess.run([os.path.join(TOP, "ffi", "build")], check=True)
+    build_library()
     subprocess.run([os.path.join(USE, "build")], check=True)
     every = [*yaml_files(), *long_texts(), *vectors()]
     with tempfile.TemporaryDirectory() as room:

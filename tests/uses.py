@@ -24,6 +24,7 @@ USES = os.path.join(os.path.dirname(HERE), "uses")
 sys.path[:0] = [HERE, os.path.join(HERE, "lib")]
 sys.dont_write_bytecode = True
 from ffi import FFI, build_rust, has_rust, vectors
+from library import build_library
 from worked import build_refuser, rows, run
 
 SECONDS = 5
@@ -114,7 +115,7 @@ PIECES = [
 
 def build(room):
     """Builds the programs in a folder; None for what cannot be built here."""
-    subprocess.run([os.path.join(FFI, "build")], check=True, stdout=subprocess.DEVNULL)
+    build_library()
     lint = os.path.join(room, "lint")
     words = ["-std=c11", "-Wall", "-Wextra", "-pedantic", "-Werror", "-O2", "-I", FFI, os.path.join(USES, "lint", "lint.c")]
     subprocess.run(["cc", *words, os.path.join(FFI, "out", "libyaml_c.a"), "-o", lint], check=True)
