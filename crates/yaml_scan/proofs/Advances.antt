@@ -1,5 +1,5 @@
 -- A lexeme is laid: the rows of its reading, and what the scanner holds then.
-use Rattle.std.proofs.Common.{◌≡◌, ℕ, ◌+◌, ◌-◌, ◌≤◌, ◌<◌, not, ◌&&◌, Bool, true, false, List, [], ◌∷◌, ◌++◌, reverse, map, filter, drop, length, length-append, length-drop, Option, Some, None, refl, ap, sym, ◌∙◌, subst, arith, inl, inr, eqb, vec_len, eqb-true, eq-eqb, ne_eqb}
+use Rattle.std.proofs.Common.{◌≡◌, ℕ, ◌+◌, ◌≤◌, ◌<◌, not, ◌&&◌, Bool, true, false, List, [], ◌∷◌, ◌++◌, reverse, map, filter, drop, length, Option, Some, None, refl, ap, sym, ◌∙◌, subst, arith, inl, inr, eqb, vec_len, eqb-true, eq-eqb, ne_eqb}
 use Rattle.std.specs.Bool.{◌==◌}
 use Rattle.std.specs.Option.{is_some, IfSome}
 use Rattle.std.specs.Prelude.{if◌then◌else◌, option_map, nat_eq, nat_lt, Result, Ok, Err}
@@ -10,7 +10,8 @@ use Rattle.yaml_lexeme.specs.Lexeme.{Lexeme as yaml_lexeme_t}
 use Rattle.yaml_lexeme.specs.Place.{IsMarkOf, place_at}
 use Rattle.yaml_scan.specs.declared.step.scanner_t.{scanner_t}
 use Rattle.yaml_scan.specs.declared.step.met_t.{met_t}
-use Rattle.yaml_scan.specs.declared.queue.queued_t.{queued_t}
+use Rattle.yaml_scan.specs.declared.queue.group_t.{group_t}
+use Rattle.yaml_text.specs.Token.{token_of}
 use Rattle.yaml_scan.specs.Kind.{Kind, is_candidate_kind, is_stream_end}
 use Rattle.yaml_scan.specs.Lexeme.{Lexeme}
 use Rattle.yaml_scan.specs.Source.{Source, Reading, Offence}
@@ -19,29 +20,26 @@ use Rattle.yaml_scan.specs.TextReads.{IsRead, IsOffence}
 use Rattle.yaml_scan.specs.Laid.{Laid, candidate, depth, live, reach, completed_by, is_none, allowed, allowed_behind, allows}
 use Rattle.yaml_scan.specs.Levels.{AllLess, IsFalling, laid, is_required, stays, open_columns, kept_columns, level, greatest_level, greater_of}
 use Rattle.yaml_scan.specs.Order.{IsHistory, IsNotBefore, Follows, ended}
-use Rattle.yaml_scan.specs.Offline.{Token, end_at, block_ends, offline, before}
-use Rattle.yaml_scan.specs.Offline.Token.{BlockEnd, OfLexeme}
-use Rattle.yaml_scan.specs.Queue.{opened, put_starts, Fitting, is_new}
+use Rattle.yaml_scan.specs.Offline.{end_at, offline, before}
+use Rattle.yaml_scan.specs.Offline.Token.{BlockEnd}
+use Rattle.yaml_scan.specs.Queue.{opened, is_new}
 use Rattle.yaml_scan.specs.Slots.{Held, held, held_of, still_held, lost_held, outer_to, root_of, slot_behind, completed_held, nested_outer, nested_top, is_margin_level}
 use Rattle.yaml_scan.specs.Step.{Outcome, step, read_step, after_read, unless, stale, required, lost, start_at, lexeme_of, front_of, place_behind}
 use Rattle.yaml_scan.specs.Step.Outcome.{Reads}
 use Rattle.yaml_scan.specs.Cut.{IsReadInOrder}
 use Rattle.yaml_scan.specs.Moves.{IsLost}
-use Rattle.yaml_scan.specs.Numbered.{IsQueue, Appends, Changes, IsTokenOf}
+use Rattle.yaml_scan.specs.Groups.{IsQueue, Fitting, ends_at, completed_in, opened_by}
 use Rattle.yaml_scan.specs.Scanning.{Holds, IsMet, Offends}
 use Rattle.yaml_scan.proofs.Histories.{IsNotBefore-trans, to_start, to_reach, completion_is}
-use Rattle.yaml_scan.proofs.Bound.{length-begins}
-use Rattle.yaml_scan.proofs.Extend.{before-offline}
 use Rattle.yaml_scan.proofs.Stable.{start_in}
 use Rattle.yaml_scan.proofs.Candidates.{candidate-other, candidate-saved, candidate-kept, candidate-cleared, candidate_split}
 use Rattle.yaml_scan.proofs.Falling.{open_columns-falls, falling_filter}
 use Rattle.yaml_scan.proofs.Look.{completed_later, lost_later, root_is, outer_length}
-use Rattle.yaml_scan.proofs.Queues.{same_length}
 use Rattle.yaml_scan.proofs.Refusals.{margin_is, flow_is, mark_is, later, Loses, is_none_some, is_none_map}
-use Rattle.yaml_scan.proofs.Onward.{ends_are, levels_more, queue_more, fits, taken_more, allowed_more, outer_swept, top_swept, nested_outer_is, nested_top_is, required_is, candidate_is, allowed_of, at_depth, enters_below, reach_is}
+use Rattle.yaml_scan.proofs.Onward.{ends_are, levels_more, queue_more, fits, new_is, taken_more, allowed_more, outer_swept, top_swept, nested_outer_is, nested_top_is, candidate_is, allowed_of, at_depth, enters_below, reach_is}
 use Rattle.yaml_scan.proofs.TextOrder.{text_order, text_problem, text_sums, text_reach}
 
-held_eq : (h : Held) (n : ℕ) (st : yaml_mark_t) (q : Bool) → h.at ≡ n → h.start ≡ st → h.required ≡ q → h ≡ record { at = n; start = st; required = q }
+held_eq : (h : Held) (n : ℕ) (st : yaml_mark_t) (q : Bool) → h.step ≡ n → h.start ≡ st → h.required ≡ q → h ≡ record { step = n; start = st; required = q }
 held_eq h n st q e f g = rw (← e, ← f, ← g) refl
 
 -- the stale test after one lexeme more
@@ -58,20 +56,17 @@ module _ (limit : ℕ) (H : List Laid) (x : Lexeme) (h : IsHistory limit (laid l
     none = λ n. let q : Some (f c) ≡ None = sym e ∙ n in absurd (cc);
   }
 
-  -- if the candidate of depth 0 is as before
-  same_root : candidate (laid limit H x ∷ H) 0 ≡ candidate H 0 → lost_held limit x.reach (held limit H 0) ≡ option_map (held_of H) (stale limit (laid limit H x ∷ H) x.reach)
+  -- where the candidate of depth 0 is as before
+  same_root : candidate (laid limit H x ∷ H) 0 ≡ candidate H 0 → lost_held limit x.reach (held limit H 0) ≡ option_map held_of (stale limit (laid limit H x ∷ H) x.reach)
   unfolding stale required laid
   same_root e = lost_later limit H h.2 x.reach onward fresh ∙ (rw e refl)
     where
       onward : IsNotBefore (reach H) x.reach
       onward = IsNotBefore-trans _ _ _ (to_start h.1) (to_reach h.1)
 
-  abbrev new_at : ℕ → Laid → Held
-  new_at n c = record { at = n; start = c.lexeme.start; required = is_required c }
-
-  saved_root : (n : ℕ) (i : Laid) → candidate (laid limit H x ∷ H) 0 ≡ Some i → lost_held limit x.reach (Some (new_at n i)) ≡ option_map (new_at n) (stale limit (laid limit H x ∷ H) x.reach)
+  saved_root : (i : Laid) → candidate (laid limit H x ∷ H) 0 ≡ Some i → lost_held limit x.reach (Some (held_of i)) ≡ option_map held_of (stale limit (laid limit H x ∷ H) x.reach)
   unfolding stale required
-  saved_root n i e = elim (cases_Bool (is_required i)) [
+  saved_root i e = elim (cases_Bool (is_required i)) [
     | inl r ↦ elim (cases_Bool (live limit i x.reach)) [
       | inl t ↦ rw (r, t) (rw (e) (rw r (rw t refl)))
       | inr t ↦ rw (r, t) (rw (e) (rw r (rw t (ap (λ (q : Bool). new_with q) (sym r)))))
@@ -80,37 +75,37 @@ module _ (limit : ℕ) (H : List Laid) (x : Lexeme) (h : IsHistory limit (laid l
   ]
     where
       new_with : Bool → Option Held
-      new_with q = Some record { at = n; start = i.lexeme.start; required = q }
+      new_with q = Some record { step = i.number + 2; start = i.lexeme.start; required = q }
 
   none_root : candidate (laid limit H x ∷ H) 0 ≡ None → stale limit (laid limit H x ∷ H) x.reach ≡ None
   unfolding stale required
   none_root e = rw e refl
 
-  module _ (a : Bool) (A : a ≡ allowed H x.front) (n : ℕ) where
+  module _ (a : Bool) (A : a ≡ allowed H x.front) where
     abbrev settled_root : Option Held
-    settled_root = root_of (outer_to limit H (depth H)) (slot_behind x.kind a (new_at n (laid limit H x)) (held limit H (depth H)))
+    settled_root = root_of (outer_to limit H (depth H)) (slot_behind x.kind a (held_of (laid limit H x)) (held limit H (depth H)))
 
     pub root_agrees : Agrees (lost_held limit x.reach settled_root) (stale limit (laid limit H x ∷ H) x.reach)
     root_agrees = elim (cases_eq (depth H) 0) [
       | inr z ↦ (let d : eqb (laid limit H x).depth 0 ≡ false = ne_eqb _ _ (λ q. z (sym (eqb-true _ _ (at_depth limit H x h)) ∙ q)) in
           let e : candidate (laid limit H x ∷ H) 0 ≡ candidate H 0 = candidate-other (laid limit H x) H 0 (enters_below limit H x h 0 (omega arith)) d in
           let w : settled_root ≡ held limit H 0 = root_is limit H (depth H) _ (λ q. absurd (z q)) in
-          agrees_map (held_of H) (λ c. refl) _ _ (rw w (same_root e)))
+          agrees_map held_of (λ c. refl) _ _ (rw w (same_root e)))
       | inl z ↦ (let d : eqb (laid limit H x).depth 0 ≡ true = eq-eqb _ _ (eqb-true _ _ (at_depth limit H x h) ∙ z) in
           let o : outer_to limit H (depth H) ≡ [] = rw z refl in
-          let u : settled_root ≡ slot_behind x.kind a (new_at n (laid limit H x)) (held limit H 0) = rw (o, z) refl in
+          let u : settled_root ≡ slot_behind x.kind a (held_of (laid limit H x)) (held limit H 0) = rw (o, z) refl in
           elim (cases_Bool (is_candidate_kind x.kind)) [
             | inl c ↦ elim (cases_Bool a) [
               | inl b ↦ (let e : candidate (laid limit H x ∷ H) 0 ≡ Some (laid limit H x) = candidate-saved (laid limit H x) H 0 (enters_below limit H x h 0 (omega arith)) d (candidate_is limit H x h ∙ c) (allowed_of limit H x h ∙ sym A ∙ b) in
-                  let w : settled_root ≡ Some (new_at n (laid limit H x)) = u ∙ (rw (c, b) refl) in
-                  agrees_map (new_at n) (λ c. refl) _ _ (rw w (saved_root n (laid limit H x) e)))
+                  let w : settled_root ≡ Some (held_of (laid limit H x)) = u ∙ (rw (c, b) refl) in
+                  agrees_map held_of (λ c. refl) _ _ (rw w (saved_root (laid limit H x) e)))
               | inr b ↦ (let e : candidate (laid limit H x ∷ H) 0 ≡ candidate H 0 = candidate-kept (laid limit H x) H 0 (enters_below limit H x h 0 (omega arith)) d (candidate_is limit H x h ∙ c) (allowed_of limit H x h ∙ sym A ∙ b) in
                   let w : settled_root ≡ held limit H 0 = u ∙ (rw (c, b) refl) in
-                  agrees_map (held_of H) (λ c. refl) _ _ (rw w (same_root e)))
+                  agrees_map held_of (λ c. refl) _ _ (rw w (same_root e)))
             ]
             | inr c ↦ (let e : candidate (laid limit H x ∷ H) 0 ≡ None = candidate-cleared (laid limit H x) H 0 (enters_below limit H x h 0 (omega arith)) d (candidate_is limit H x h ∙ c) in
                 let w : settled_root ≡ None = u ∙ (rw c refl) in
-                agrees_map (held_of H) (λ c. refl) _ _ (rw (w, none_root e) refl))
+                agrees_map held_of (λ c. refl) _ _ (rw (w, none_root e) refl))
           ])
     ]
 
@@ -150,7 +145,7 @@ completed_column limit H x c h f e =
     o.column (sym q)
 
 opened_less : (limit : ℕ) (H : List Laid) (x : Lexeme) (n : ℕ) (margin : Bool) (cs : List ℕ) (o : Option Laid) → completed_by limit H x.kind x.start ≡ o → IsHistory limit (laid limit H x ∷ H) → Follows (reach H) x → x.start.column < n → AllLess n cs
-    → AllLess n (opened margin (option_map (held_of H) o) x.kind x.start cs)
+    → AllLess n (opened margin (option_map held_of o) x.kind x.start cs)
 opened_less limit H x n margin cs None e h f l a = go (is_new margin x.start.column cs && Rattle.yaml_scan.specs.Levels.opens_level x.kind true)
   where
     go : (b : Bool) → AllLess n ((if b then x.start.column ∷ [] else []) ++ cs)
@@ -163,7 +158,7 @@ opened_less limit H x n margin cs (Some c) e h f l a = go (is_new margin c.lexem
     go false = a
 
 -- THE STEP
-module _ (H : List Laid) (N : ℕ) (s : scanner_t) (r : Holds H N s) (running : ended H ≡ false) (m : met_t) (w : IsMet H s m) (margin : Bool) (M : margin ≡ vec_len s.outer == 0)
+module _ (H : List Laid) (N : ℕ) (s : scanner_t) (r : Holds H N s) (running : ended H ≡ false) (m : met_t) (w : IsMet H s m) (margin : Bool) (M : margin ≡ vec_len s.slots.outer == 0)
     (start : yaml_mark_t) (START : start ≡ start_at m.kind m.front) where
   abbrev S : Source
   S = source_of s.text.chars
@@ -174,10 +169,10 @@ module _ (H : List Laid) (N : ℕ) (s : scanner_t) (r : Holds H N s) (running : 
   front_is : m.front ≡ S.mark P
   front_is = mark_is H N s r running margin M m.front w.front
 
-  pub levels_fall : IsFalling (reverse s.levels.items)
+  pub levels_fall : IsFalling (reverse s.layout.levels.items)
   levels_fall = rw r.levels (open_columns-falls s.limit H r.is_history)
 
-  open_is : filter (stays (not margin) m.kind start) (reverse s.levels.items) ≡ kept_columns H m.kind start
+  open_is : filter (stays (not margin) m.kind start) (reverse s.layout.levels.items) ≡ kept_columns H m.kind start
   unfolding kept_columns
   open_is = rw (flow_is H N s r running margin M, r.levels) refl
 
@@ -191,14 +186,14 @@ module _ (H : List Laid) (N : ℕ) (s : scanner_t) (r : Holds H N s) (running : 
   front_column : m.front.column ≤ length s.text.chars
   front_column = let t = text_sums s.text.chars P front_within in let q = ap (λ (z : yaml_mark_t). z.column) front_is in let v = front_within in omega arith
 
-  module _ (l : List ℕ) (L : reverse l ≡ filter (stays (not margin) m.kind start) (reverse s.levels.items)) where
+  module _ (l : List ℕ) (L : reverse l ≡ filter (stays (not margin) m.kind start) (reverse s.layout.levels.items)) where
     l_is : reverse l ≡ kept_columns H m.kind start
     l_is = L ∙ open_is
 
     pub l_falls : IsFalling (reverse l)
-    l_falls = rw L (falling_filter (stays (not margin) m.kind start) (reverse s.levels.items) levels_fall)
+    l_falls = rw L (falling_filter (stays (not margin) m.kind start) (reverse s.layout.levels.items) levels_fall)
 
-    module _ (level' : Option ℕ) (LV : level' ≡ greatest_level (reverse l)) (n : ℕ) (D : n ≡ vec_len s.outer) where
+    module _ (level' : Option ℕ) (LV : level' ≡ greatest_level (reverse l)) (n : ℕ) (D : n ≡ vec_len s.slots.outer) where
       pub level_within : IfSome level' (λ z. z ≤ length s.text.chars)
       level_within = rw (LV, l_is) (some_less (length s.text.chars) (greatest_level (kept_columns H m.kind start)) (greatest_less (length s.text.chars + 1) (kept_columns H m.kind start) (kept_less m.kind start)))
 
@@ -272,25 +267,15 @@ module _ (H : List Laid) (N : ℕ) (s : scanner_t) (r : Holds H N s) (running : 
         step_kept : step S s.limit H ≡ unless (stale s.limit (laid s.limit H X ∷ H) b.reach) b.reach read.0 (Reads X)
         step_kept = subst (λ (z : Lexeme). step S s.limit H ≡ unless (stale s.limit (laid s.limit H z ∷ H) b.reach) b.reach read.0 (Reads z)) (sym x_is) (step_read (Ok R) read.1)
 
-        module _ (c : Option Held) (C : c ≡ completed_held m.kind s.limit start s.top) (q1 : List queued_t)
-            (Q : Appends N N s.queue.items q1 (map (λ z. BlockEnd (end_at m.kind m.front start z)) (filter (λ z. not (stays (not margin) m.kind start z)) (reverse s.levels.items)))) where
-          c_is : c ≡ option_map (held_of H) (completed_by s.limit H X.kind X.start)
+        module _ (c : Option Held) (C : c ≡ completed_held m.kind s.limit start s.slots.top) where
+          c_is : c ≡ option_map held_of (completed_by s.limit H X.kind X.start)
           c_is = C ∙ (rw r.top (completed_later s.limit H r.is_history X.start (to_start follows) X.kind))
 
-          q1_is : IsQueue s.text.encoding r.first N q1 (drop s.taken (offline H) ++ block_ends (laid s.limit H X))
-          q1_is = subst (λ (z : List Token). IsQueue s.text.encoding r.first N q1 (drop s.taken (offline H) ++ z))
-              (ap (λ (f : Bool). map (λ z. BlockEnd (end_at m.kind m.front start z)) (filter (λ z. not (stays f m.kind start z)) (reverse s.levels.items))) (flow_is H N s r running margin M)
-              ∙ ap (λ (z : List ℕ). map (λ z. BlockEnd (end_at m.kind m.front start z)) (filter (λ z. not (stays (nat_lt 0 (depth H)) m.kind start z)) z)) r.levels ∙ ends_are s.limit H X history)
-              (Q s.text.encoding r.first (drop s.taken (offline H)) r.queue)
+          none_early : IsQueue s.text.encoding 0 s.layout.queue.front s.layout.queue.groups.items (drop s.taken (offline H))
+          none_early = subst (λ (k : ℕ). IsQueue s.text.encoding k s.layout.queue.front s.layout.queue.groups.items (drop s.taken (offline H))) (r.early running) r.queue
 
-          q1_length : length q1 ≡ length (drop s.taken (offline H)) + length (block_ends (laid s.limit H X))
-          q1_length = same_length s.text.encoding r.first N q1 (drop s.taken (offline H) ++ block_ends (laid s.limit H X)) q1_is ∙ length-append (drop s.taken (offline H)) (block_ends (laid s.limit H X))
-
-          q1_long : length (offline H) - s.taken ≤ length q1
-          q1_long = let e = q1_length in let d = length-drop s.taken (offline H) in omega arith
-
-          pub fitting : Fitting c s.taken (length q1)
-          fitting = rw c_is (fits s.limit H X history s.taken (length q1) r.taken q1_long)
+          pub fitting : Fitting c s.layout.queue.done s.layout.queue.groups.items
+          fitting = rw c_is (fits s.limit H X history s.taken r.taken s.text.encoding s.layout.queue.front s.layout.queue.groups.items none_early s.layout.queue.done r.count)
 
           -- the levels and the queue
           pub levels_then : (l2 : List ℕ) → reverse l2 ≡ opened margin c X.kind X.start (reverse l) → reverse l2 ≡ open_columns (laid s.limit H X ∷ H)
@@ -301,42 +286,33 @@ module _ (H : List Laid) (N : ℕ) (s : scanner_t) (r : Holds H N s) (running : 
               (opened_less s.limit H X (length s.text.chars + 1) (nat_eq (depth H) 0) (kept_columns H X.kind X.start) (completed_by s.limit H X.kind X.start) refl history follows
               (rw START (start_less m.kind m.front (length s.text.chars) front_column)) (kept_less X.kind X.start))
 
-          pub queue_then : (q2 : List queued_t) → ((x : Lexeme) → IsTokenOf (record { token_data = b.token_data; start_mark = start; end_mark = b.end_mark }) x → Changes N (N + 1) q1 q2 (λ q. put_starts margin c m.kind start (reverse l) s.taken q ++ OfLexeme x ∷ []))
-              → IsQueue s.text.encoding r.first (N + 1) q2 (drop s.taken (offline (laid s.limit H X ∷ H)))
-          queue_then q2 e = subst (λ (z : List Token). IsQueue s.text.encoding r.first (N + 1) q2 z)
-              (rw (margin_is H N s r running margin M, c_is, l_is) (queue_more s.limit H X history s.taken r.taken))
-              (e X refl s.text.encoding r.first (drop s.taken (offline H) ++ block_ends (laid s.limit H X)) q1_is)
+          pub queue_then : (y : group_t) (n : ℕ) (f : yaml_mark_t) → ends_at n f ++ ends_at y.ends start ≡ map (λ z. BlockEnd (end_at m.kind m.front start z)) (filter (λ z. not (stays (not margin) m.kind start z)) (reverse s.layout.levels.items))
+              → token_of y.token ≡ record { token_data = b.token_data; start_mark = start; end_mark = b.end_mark } → y.key ≡ false → y.opens ≡ opened_by margin c m.kind start.column (reverse l)
+              → (ys : List group_t) → ys ≡ completed_in margin c (reverse l) s.layout.queue.done s.layout.queue.groups.items ++ y ∷ [] → IsQueue s.text.encoding n f ys (drop s.taken (offline (laid s.limit H X ∷ H)))
+          queue_then y n f E Y K O ys V = rw V (rw (margin_is H N s r running margin M, c_is, l_is) (queue_more s.limit H X history s.taken r.taken s.text.encoding s.layout.queue.front s.layout.queue.groups.items none_early s.layout.queue.done r.count y n f
+              (E ∙ ap (λ (f : Bool). map (λ z. BlockEnd (end_at m.kind m.front start z)) (filter (λ z. not (stays f m.kind start z)) (reverse s.layout.levels.items))) (flow_is H N s r running margin M)
+              ∙ ap (λ (z : List ℕ). map (λ z. BlockEnd (end_at m.kind m.front start z)) (filter (λ z. not (stays (nat_lt 0 (depth H)) m.kind start z)) z)) r.levels ∙ ends_are s.limit H X history)
+              Y K (O ∙ (rw (margin_is H N s r running margin M, c_is, l_is) refl))))
 
           pub allowed_then : (none : Bool) → is_some c ≡ not none → (a : Bool) → ((d : ℕ) → margin ≡ nat_eq d 0 → a ≡ allows X.kind d none X.passed_break) → a ≡ allowed_behind (laid s.limit H X ∷ H)
-          allowed_then none V a e = e (depth H) (margin_is H N s r running margin M) ∙ allowed_more s.limit H X history none (is_none_some c none V ∙ ap (λ (z : Option Held). is_none z) c_is ∙ is_none_map H (completed_by s.limit H X.kind X.start))
+          allowed_then none V a e = e (depth H) (margin_is H N s r running margin M) ∙ allowed_more s.limit H X history none (is_none_some c none V ∙ ap (λ (z : Option Held). is_none z) c_is ∙ is_none_map (completed_by s.limit H X.kind X.start))
 
           -- the slots
-          module _ (new : Held) (NA : new.at ≡ s.taken + length q1) (NS : new.start ≡ start) (NR : new.required ≡ is_margin_level margin level' start.column)
-              (a : Bool) (A : a ≡ allowed H m.front) (top' : Option Held) (T : top' ≡ slot_behind m.kind a new s.top) where
-            at_is : new.at ≡ length (offline H) + length (block_ends (laid s.limit H X))
-            at_is = let e = q1_length in let d = length-drop s.taken (offline H) in
-                let k = length-begins _ _ (before-offline s.limit H r.is_history) in let v = r.taken in omega (arith, NA)
-
+          module _ (new : Held) (NA : new.step ≡ N) (NS : new.start ≡ start) (NR : new.required ≡ is_margin_level margin level' start.column)
+              (a : Bool) (A : a ≡ allowed H m.front) (top' : Option Held) (T : top' ≡ slot_behind m.kind a new s.slots.top) where
             required_then : new.required ≡ is_margin_level (nat_eq (depth H) 0) (greatest_level (kept_columns H m.kind start)) start.column
             required_then = NR ∙ (rw (margin_is H N s r running margin M, LV, l_is) refl)
 
-            new_full : new ≡ record { at = length (offline H) + length (block_ends (laid s.limit H X)); start = start; required = is_margin_level (nat_eq (depth H) 0) (greatest_level (kept_columns H m.kind start)) start.column }
-            new_full = held_eq new _ _ _ at_is NS required_then
+            new_laid : new ≡ held_of (laid s.limit H X)
+            new_laid = new_is s.limit H X history new (held_eq new _ _ _ (NA ∙ r.number) NS required_then)
 
-            start_is : start ≡ (laid s.limit H X).lexeme.start
-            unfolding laid
-            start_is = refl
-
-            new_laid : new ≡ record { at = new.at; start = (laid s.limit H X).lexeme.start; required = is_required (laid s.limit H X) }
-            new_laid = held_eq new _ _ _ refl (NS ∙ start_is) (required_then ∙ sym (required_is s.limit H X history))
-
-            root_then : (root : Option Held) (o : List (Option Held)) → o ≡ s.outer.items → root ≡ root_of o top' → root ≡ settled_root s.limit H X history r.fresh a A new.at
+            root_then : (root : Option Held) (o : List (Option Held)) → o ≡ s.slots.outer.items → root ≡ root_of o top' → root ≡ settled_root s.limit H X history r.fresh a A
             root_then root o O e = e ∙ ap (λ (z : List (Option Held)). root_of z top') (O ∙ r.outer) ∙ ap (λ (z : Option Held). root_of (outer_to s.limit H (depth H)) z)
-                (T ∙ ap (λ (z : Held). slot_behind m.kind a z s.top) new_laid ∙ ap (λ (z : Option Held). slot_behind m.kind a (new_at s.limit H X history r.fresh new.at (laid s.limit H X)) z) r.top)
+                (T ∙ ap (λ (z : Held). slot_behind m.kind a z s.slots.top) new_laid ∙ ap (λ (z : Option Held). slot_behind m.kind a (held_of (laid s.limit H X)) z) r.top)
 
-            module _ (root : Option Held) (o : List (Option Held)) (O : o ≡ s.outer.items) (ROOT : root ≡ root_of o top') (lost' : Option Held) (LO : lost' ≡ lost_held s.limit b.reach root) where
+            module _ (root : Option Held) (o : List (Option Held)) (O : o ≡ s.slots.outer.items) (ROOT : root ≡ root_of o top') (lost' : Option Held) (LO : lost' ≡ lost_held s.limit b.reach root) where
               agree : Agrees s.limit H X history r.fresh lost' (stale s.limit (laid s.limit H X ∷ H) b.reach)
-              agree = rw (LO, root_then root o O ROOT) (root_agrees s.limit H X history r.fresh a A new.at)
+              agree = rw (LO, root_then root o O ROOT) (root_agrees s.limit H X history r.fresh a A)
 
               -- row 6
               pub row_stale : (f : Fault) → IsLost lost' b.reach f → Offends H s f
@@ -353,17 +329,23 @@ module _ (H : List Laid) (N : ℕ) (s : scanner_t) (r : Holds H N s) (running : 
               pub fresh_then : lost' ≡ None → stale s.limit (laid s.limit H X ∷ H) (reach (laid s.limit H X ∷ H)) ≡ None
               fresh_then e = ap (λ (z : yaml_mark_t). stale s.limit (laid s.limit H X ∷ H) z) (reach_is s.limit H X history) ∙ agree.none e
 
-            swept : map (still_held s.limit b.reach) s.outer.items ≡ outer_to s.limit (laid s.limit H X ∷ H) (depth H)
+            swept : map (still_held s.limit b.reach) s.slots.outer.items ≡ outer_to s.limit (laid s.limit H X ∷ H) (depth H)
             swept = rw r.outer (outer_swept s.limit H X history (depth H) (omega arith))
 
             swept_top : still_held s.limit b.reach top' ≡ held s.limit (laid s.limit H X ∷ H) (depth H)
-            swept_top = ap (λ (z : Option Held). still_held s.limit b.reach z) (T ∙ ap (λ (z : Option Held). slot_behind m.kind a new z) r.top) ∙ top_swept s.limit H X history a A new new_full
+            swept_top = ap (λ (z : Option Held). still_held s.limit b.reach z) (T ∙ ap (λ (z : Option Held). slot_behind m.kind a new z) r.top) ∙ top_swept s.limit H X history a A new new_laid
 
-            pub outer_then : (o : List (Option Held)) → o ≡ nested_outer m.kind (map (still_held s.limit b.reach) s.outer.items) (still_held s.limit b.reach top') → o ≡ outer_to s.limit (laid s.limit H X ∷ H) (depth (laid s.limit H X ∷ H))
-            outer_then o e = e ∙ (rw (swept, swept_top) (nested_outer_is s.limit H X history))
+            pub outer_then : (o os : List (Option Held)) → os ≡ s.slots.outer.items → o ≡ nested_outer m.kind (map (still_held s.limit b.reach) os) (still_held s.limit b.reach top') → o ≡ outer_to s.limit (laid s.limit H X ∷ H) (depth (laid s.limit H X ∷ H))
+            outer_then o os O e = e ∙ (rw (O, swept, swept_top) (nested_outer_is s.limit H X history))
 
-            pub top_then : (o : Option Held) → o ≡ nested_top m.kind (map (still_held s.limit b.reach) s.outer.items) (still_held s.limit b.reach top') → o ≡ held s.limit (laid s.limit H X ∷ H) (depth (laid s.limit H X ∷ H))
-            top_then o e = e ∙ (rw (swept, swept_top) (nested_top_is s.limit H X history))
+            pub top_then : (o : Option Held) (os : List (Option Held)) → os ≡ s.slots.outer.items → o ≡ nested_top m.kind (map (still_held s.limit b.reach) os) (still_held s.limit b.reach top') → o ≡ held s.limit (laid s.limit H X ∷ H) (depth (laid s.limit H X ∷ H))
+            top_then o os O e = e ∙ (rw (O, swept, swept_top) (nested_top_is s.limit H X history))
+
+        pub number_then : N + 1 ≡ length (laid s.limit H X ∷ H) + 2
+        number_then = let n = r.number in omega arith
+
+        pub early_then : (n : ℕ) → (is_stream_end m.kind ≡ false → n ≡ 0) → ended (laid s.limit H X ∷ H) ≡ false → n ≡ 0
+        early_then n f e = f (sym laid_ended ∙ e)
 
         pub taken_then : s.taken ≤ length (before s.limit (laid s.limit H X ∷ H))
         taken_then = taken_more s.limit H X history s.taken r.taken

@@ -20,7 +20,7 @@ use Rattle.yaml_scan.specs.Offline.Token.{StreamStart}
 use Rattle.yaml_scan.specs.Cut.{oldest}
 use Rattle.yaml_scan.specs.Answers.{course, starts_near}
 use Rattle.yaml_scan.specs.Near.{near_fault}
-use Rattle.yaml_scan.specs.Numbered.{IsQueue}
+use Rattle.yaml_scan.specs.Groups.{IsQueue}
 use Rattle.yaml_scan.specs.Session.{first_steps, pace}
 use Rattle.yaml_scan.specs.Inputs.{decoded_input}
 use Rattle.yaml_scan.specs.Scanning.{Holds, Runs, IsNearFrom, history, course_of, input_of}
@@ -85,7 +85,7 @@ new_reach s n H = let m = n.made in n.reach ∙ ap reach (sym (first_none s.made
 
 pub new_stopped : (setting : yaml_encoding_t) (input : List ℕ) (s : scanner_t) → IsNew s → IsStopped setting input s s
 unfolding pace
-new_stopped setting input s n = record { limit = refl; taken = refl; least = omega arith; most = omega arith; unsettled = (let m = n.made in rw m refl); reach = new_reach s n (course_in s.limit setting input).read }
+new_stopped setting input s n = record { limit = refl; taken = refl; done = refl; least = omega arith; most = omega arith; unsettled = (let m = n.made in rw m refl); reach = new_reach s n (course_in s.limit setting input).read }
 
 pub new_ended : (setting : yaml_encoding_t) (input : List ℕ) (s : scanner_t) → IsNew s → (text : Text) → text ≡ front setting input → (r : Option Fault) → r ≡ refusal setting input → (near : ℕ) → IsNearFrom text.chars near → (f : Fault) → near_fault near 0 r ≡ Some f → IsEnded setting input s s f
 new_ended setting input s n text T r R near N f e =
@@ -124,8 +124,8 @@ empty_top : (limit : ℕ) → held limit [] (depth []) ≡ None
 unfolding candidate
 empty_top limit = refl
 
-module _ (setting : yaml_encoding_t) (input : List ℕ) (s t : scanner_t) (n : IsNew s) (T : t.text ≡ front setting input) (C : AreChars t.text.chars) (small : length t.text.chars + 1 < 2 ^ 64) (R : refusal_seen t.refusal ≡ refusal setting input) (N : IsNearFrom t.text.chars t.near)
-    (L : t.limit ≡ s.limit) (V : t.levels.items ≡ s.levels.items) (O : t.outer.items ≡ s.outer.items) (E : t.not_simple_keys ≡ s.not_simple_keys) (P : t.top ≡ s.top) (A : t.allowed ≡ s.allowed) (Q : IsQueue t.text.encoding 1 2 t.queue.items (StreamStart ∷ [])) (J : t.reach ≡ s.reach) (K : t.taken ≡ s.taken) (M : t.made ≡ 1)
+module _ (setting : yaml_encoding_t) (input : List ℕ) (s t : scanner_t) (n : IsNew s) (T : t.text ≡ front setting input) (C : AreChars t.text.chars) (small : length t.text.chars < 2 ^ 63) (R : refusal_seen t.refusal ≡ refusal setting input) (N : IsNearFrom t.text.chars t.near)
+    (L : t.limit ≡ s.limit) (V : t.layout.levels.items ≡ s.layout.levels.items) (O : t.slots ≡ s.slots) (A : t.allowed ≡ s.allowed) (Q : IsQueue t.text.encoding t.layout.queue.early t.layout.queue.front t.layout.queue.groups.items (StreamStart ∷ [])) (G : length t.layout.queue.groups.items ≡ 1) (E : t.layout.queue.early ≡ s.layout.queue.early) (D : t.layout.queue.done ≡ s.layout.queue.done) (J : t.reach ≡ s.reach) (K : t.taken ≡ s.taken) (M : t.made ≡ 1)
     (e : near_fault t.near 0 (refusal_seen t.refusal) ≡ None) where
   input_is : input_of t ≡ decoded_input setting input
   unfolding decoded_input
@@ -140,18 +140,21 @@ module _ (setting : yaml_encoding_t) (input : List ℕ) (s t : scanner_t) (n : I
   history_none = let m : t.made - 1 ≡ 0 = omega (arith, M) in ap (λ (k : ℕ). oldest k (course_of t).read) m ∙ oldest_none (course_of t).read
 
   holds : Holds [] (t.made + 1) t
-  holds = let k : t.taken ≡ 0 = K ∙ n.taken in let q : t.made + 1 ≡ 2 = omega (arith, M) in record {
+  holds = let k : t.taken ≡ 0 = K ∙ n.taken in record {
     text = C;
     is_history = tt;
+    number = omega (arith, M);
     fresh = empty_fresh t.limit;
     levels = ap reverse V ∙ ap reverse n.levels ∙ sym empty_columns;
     columns = rw empty_columns tt;
-    outer = O ∙ n.outer ∙ sym (empty_outer t.limit);
-    empty = rw (O, n.outer) (E ∙ n.empty);
-    top = P ∙ n.top ∙ sym (empty_top t.limit);
+    outer = rw O (n.outer ∙ sym (empty_outer t.limit));
+    empty = rw (O, n.outer) n.empty;
+    top = rw O (n.top ∙ sym (empty_top t.limit));
+    awaited = rw (O, n.outer, n.top) n.awaited;
     allowed = A ∙ n.allowed;
-    first = 1;
-    queue = rw (k, q, empty_offline) Q;
+    queue = rw (k, empty_offline) Q;
+    count = (let d = n.done in omega (arith, G, D));
+    early = λ z. E ∙ n.early;
     reach = J ∙ n.reach;
     taken = omega (arith, k);
     place = λ z. rw (J, n.reach) (start_mark t.text.chars);
@@ -161,4 +164,4 @@ module _ (setting : yaml_encoding_t) (input : List ℕ) (s t : scanner_t) (n : I
   runs = record { small = small; near = N; holds = subst (λ (Z : List Laid). Holds Z (t.made + 1) t) (sym history_none) holds; begun = omega (arith, M); start = begun; within = omega (arith, M) }
 
   pub begins : Begins setting input s t
-  begins = record { stands = record { runs = runs; reads = input_is }; still_open = λ z. (let a = offline_some (course_of t).read in let k = n.taken in omega (arith, K)); made = M; limit = L; taken = K }
+  begins = record { stands = record { runs = runs; reads = input_is }; still_open = λ z. (let a = offline_some (course_of t).read in let k = n.taken in omega (arith, K)); made = M; limit = L; taken = K; done = D }

@@ -1,18 +1,14 @@
 -- The key slots, one step on.
-use Rattle.std.proofs.Common.{◌≡◌, ℕ, ◌+◌, ◌≤◌, Bool, true, false, List, [], ◌∷◌, ◌++◌, length, length-append, Option, Some, None, refl, ap, sym, ◌∙◌, arith, eqb, inl, inr}
+use Rattle.std.proofs.Common.{◌≡◌, ℕ, ◌≤◌, Bool, true, false, List, ◌∷◌, Option, Some, None, refl, ap, sym, ◌∙◌, arith, eqb, inl, inr}
 use Rattle.std.specs.Prelude.{if◌then◌else◌, option_map}
 use Rattle.std.proofs.lemmas.Bool.{cases_Bool, cases_eq}
-use Rattle.yaml_scan.specs.Offline.{Token, up_to, offline, block_ends, groups}
 use Rattle.yaml_scan.specs.Laid.{Laid, candidate, depth, live, reach, only_live, is_candidate, enters}
 use Rattle.yaml_scan.specs.Order.{IsHistory}
-use Rattle.yaml_scan.specs.Levels.{is_required}
 use Rattle.yaml_scan.specs.Slots.{held, held_of, still_held}
 use Rattle.yaml_scan.proofs.Candidates.{candidate-entered, candidate-other, candidate-saved, candidate-kept, candidate-cleared, candidate_split}
 use Rattle.yaml_scan.proofs.Histories.{to_start, to_reach, completed_is, live_earlier, IsNotBefore-trans}
-use Rattle.yaml_scan.proofs.Stable.{start_in, up_to-split, groups-other, other_below}
+use Rattle.yaml_scan.proofs.Stable.{start_in}
 use Rattle.yaml_scan.proofs.Whole.{candidate_order}
-use Rattle.yaml_scan.proofs.Queued.{up_to-more}
-use Rattle.yaml_scan.proofs.Falling.{candidate_completes_nothing}
 
 -- what is completed is not before the candidate of a depth entered
 pub completed_from : (limit : ℕ) (i : Laid) (H : List Laid) (k : ℕ) (c : Laid) → IsHistory limit (i ∷ H) → candidate H k ≡ Some c → k ≤ depth H → (n : ℕ) → i.completed ≡ Some n → c.number ≤ n
@@ -26,21 +22,17 @@ completed_from limit i H k c h s l n e =
     some_one : (a b : Laid) → Some a ≡ Some b → a ≡ b
     some_one a b q = cc
 
-held_same : (limit : ℕ) (i : Laid) (H : List Laid) (c : Laid) → up_to (i ∷ H) (Some c) ≡ up_to H (Some c) → held_of (i ∷ H) c ≡ held_of H c
-held_same limit i H c e = rw e refl
-
--- a candidate that is left as it is is only tested
+-- a candidate that is left alone is only tested
 pub held-left : (limit : ℕ) (i : Laid) (H : List Laid) (k : ℕ) → IsHistory limit (i ∷ H) → k ≤ depth H → candidate (i ∷ H) k ≡ candidate H k → held limit (i ∷ H) k ≡ still_held limit i.lexeme.reach (held limit H k)
 held-left limit i H k h l e = rw e (go (candidate H k) refl)
   where
-    go : (o : Option Laid) → candidate H k ≡ o → option_map (held_of (i ∷ H)) (only_live limit (reach (i ∷ H)) o) ≡ still_held limit i.lexeme.reach (option_map (held_of H) (only_live limit (reach H) o))
+    go : (o : Option Laid) → candidate H k ≡ o → option_map held_of (only_live limit (reach (i ∷ H)) o) ≡ still_held limit i.lexeme.reach (option_map held_of (only_live limit (reach H) o))
     go None s = refl
     go (Some c) s = elim (cases_Bool (live limit c i.lexeme.reach)) [
       | inl t ↦ (let a = candidate_split H k c s in
           let o = start_in limit H a.newer c a.older a.is h.2 in
           let u : live limit c (reach H) ≡ true = live_earlier limit c (reach H) i.lexeme.reach o (IsNotBefore-trans _ _ _ (to_start h.1) (to_reach h.1)) t in
-          let v = held_same limit i H c (up_to-more limit i H k c h s (completed_from limit i H k c h s l)) in
-          rw (t, u) (rw t (ap Some v)))
+          rw (t, u) (rw t refl))
       | inr t ↦ elim (cases_Bool (live limit c (reach H))) [
         | inl u ↦ rw (t, u) (rw t refl)
         | inr u ↦ rw (t, u) refl
@@ -61,22 +53,10 @@ pub held-kept : (limit : ℕ) (i : Laid) (H : List Laid) (k : ℕ) → IsHistory
     → held limit (i ∷ H) k ≡ still_held limit i.lexeme.reach (held limit H k)
 held-kept limit i H k h l e d c a = held-left limit i H k h l (candidate-kept i H k e d c a)
 
--- the token of a candidate that is saved comes after all, and after the block ends of its step
-pub held-saved : (limit : ℕ) (i : Laid) (H : List Laid) (k : ℕ) → IsHistory limit (i ∷ H) → enters k i ≡ false → eqb i.depth k ≡ true → is_candidate i ≡ true → i.key_allowed ≡ true
-    → held limit (i ∷ H) k ≡ still_held limit i.lexeme.reach (Some record { at = length (offline H) + length (block_ends i); start = i.lexeme.start; required = is_required i })
-unfolding offline
-held-saved limit i H k h e d c a = rw (candidate-saved i H k e d c a) (cases (live limit i i.lexeme.reach))
+-- a candidate that is saved is the lexeme itself
+pub held-saved : (limit : ℕ) (i : Laid) (H : List Laid) (k : ℕ) → enters k i ≡ false → eqb i.depth k ≡ true → is_candidate i ≡ true → i.key_allowed ≡ true → held limit (i ∷ H) k ≡ still_held limit i.lexeme.reach (Some (held_of i))
+held-saved limit i H k e d c a = rw (candidate-saved i H k e d c a) (cases (live limit i i.lexeme.reach))
   where
-    laid_of : length (up_to (i ∷ H) (Some i)) ≡ length (groups H H) + length (block_ends i)
-    laid_of =
-        let n = candidate_completes_nothing limit i H h c in
-        let o = groups-other i H H (other_below limit i H h.2 (λ m f. absurd (none_some m (sym n ∙ f)))) in
-        ap (λ (x : List Token). length x) (up_to-split limit (i ∷ H) [] i H refl h ∙ ap (λ (x : List Token). x ++ block_ends i) o) ∙ length-append (groups H H) (block_ends i)
-      where
-        none_some : (m : ℕ) → None ≡ Some m → ⊥
-        none_some m f = cc
-
-    cases : (b : Bool) → option_map (held_of (i ∷ H)) (if b then Some i else None)
-        ≡ (if b then Some record { at = length (groups H H) + length (block_ends i); start = i.lexeme.start; required = is_required i } else None)
-    cases true = rw laid_of refl
+    cases : (b : Bool) → option_map held_of (if b then Some i else None) ≡ (if b then Some (held_of i) else None)
+    cases true = refl
     cases false = refl

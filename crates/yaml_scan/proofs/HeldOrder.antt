@@ -1,5 +1,5 @@
--- The candidates that are held: those of greater depths start later, and their tokens are further on.
-use Rattle.std.proofs.Common.{◌≡◌, ℕ, zero, suc, ◌≤◌, ◌<◌, true, List, [], ◌∷◌, ◌++◌, length, Option, Some, None, refl, ap, sym, ◌∙◌, subst, arith, inl, inr, eqb-true}
+-- The candidates that are held: those of greater depths start later, and their tokens stand further on.
+use Rattle.std.proofs.Common.{◌≡◌, ℕ, zero, suc, ◌+◌, ◌≤◌, ◌<◌, true, List, [], ◌∷◌, ◌++◌, length, Option, Some, None, refl, ap, sym, ◌∙◌, subst, arith, inl, inr, eqb-true}
 use Rattle.std.specs.Prelude.{◌⊎◌, slice_get, option_map}
 use Rattle.std.proofs.lemmas.Bool.{cases_Bool, cases_eq, and_parts}
 use Rattle.std.proofs.lemmas.Option.{slice_get_within}
@@ -23,7 +23,7 @@ pub record IsHeld (limit : ℕ) (H : List Laid) (k : ℕ) (h : Held) : Type 0 wh
   pub laid : Laid
   pub is : candidate H k ≡ Some laid
   pub still : live limit laid (reach H) ≡ true
-  pub told : h ≡ held_of H laid
+  pub told : h ≡ held_of laid
 
 pub held_is : (limit : ℕ) (H : List Laid) (k : ℕ) (h : Held) → held limit H k ≡ Some h → IsHeld limit H k h
 held_is limit H k h e = go (candidate H k) refl e
@@ -34,10 +34,10 @@ held_is limit H k h e = go (candidate H k) refl e
     none_held : {X : Type 0} → None ≡ Some h → X
     none_held q = cc
 
-    go : (o : Option Laid) → candidate H k ≡ o → option_map (held_of H) (only_live limit (reach H) o) ≡ Some h → IsHeld limit H k h
+    go : (o : Option Laid) → candidate H k ≡ o → option_map held_of (only_live limit (reach H) o) ≡ Some h → IsHeld limit H k h
     go None s f = none_held f
     go (Some c) s f = elim (cases_Bool (live limit c (reach H))) [
-      | inl v ↦ (let g : Some (held_of H c) ≡ Some h = rw v at f in record { laid = c; is = s; still = v; told = same_held _ _ g })
+      | inl v ↦ (let g : Some (held_of c) ≡ Some h = rw v at f in record { laid = c; is = s; still = v; told = same_held _ _ g })
       | inr v ↦ none_held (rw v at f)
     ]
 
@@ -55,6 +55,14 @@ start_order limit H k n c d h s t l =
     go O U u v g (same e f) = let q = ap (λ (X : List Laid). length X) f in absurd (omega arith)
     go O U u v g (later M f) = IsNotBefore-trans _ _ _ (start_in limit U M c O f g.2) (to_start g.1)
 
+-- the token of a candidate of a greater depth stands further on
+pub token_order : (limit : ℕ) (H : List Laid) (k n : ℕ) (c d : Laid) → IsHistory limit H → k < n → n ≤ depth H → candidate H k ≡ Some c → candidate H n ≡ Some d → length (up_to H (Some c)) ≤ length (up_to H (Some d))
+token_order limit H k n c d h l m s t =
+    let a = candidate_split H k c s in
+    let b = candidate_split H n d t in
+    let z = candidate_order limit H k n c d h s t l m in
+    up_to-mono limit H a.newer c a.older b.newer d b.older h a.is b.is (omega arith)
+
 module _ (limit : ℕ) (H : List Laid) (h : IsHistory limit H) where
   -- a candidate of a greater depth
   module _ (k n : ℕ) (x y : Held) (l : k < n) (m : n ≤ depth H) (e : held limit H k ≡ Some x) (f : held limit H n ≡ Some y) where
@@ -66,15 +74,6 @@ module _ (limit : ℕ) (H : List Laid) (h : IsHistory limit H) where
 
     further : c.laid.number < d.laid.number
     further = candidate_order limit H k n c.laid d.laid h c.is d.is l m
-
-    pub token_order : x.at ≤ y.at
-    token_order =
-        let a = candidate_split H k c.laid c.is in
-        let b = candidate_split H n d.laid d.is in
-        let w = up_to-mono limit H a.newer c.laid a.older b.newer d.laid b.older h a.is b.is (let z = further in omega arith) in
-        let s : x.at ≡ length (up_to H (Some c.laid)) = ap (λ (z : Held). z.at) c.told in
-        let t : y.at ≡ length (up_to H (Some d.laid)) = ap (λ (z : Held). z.at) d.told in
-        omega arith
 
     pub start_after : (y.start.line ≡ x.start.line) × (x.start.index ≤ y.start.index)
     start_after =
@@ -111,6 +110,10 @@ outer_nested limit H h k n x y l e f =
   where
     same_slot : (a b : Option Held) → Some a ≡ Some b → a ≡ b
     same_slot a b q = cc
+
+-- those of the outer depths and of the present one
+pub outer_more : (limit : ℕ) (H : List Laid) (hs : List (Option Held)) (top : Option Held) → hs ≡ outer_to limit H (depth H) → top ≡ held limit H (depth H) → hs ++ top ∷ [] ≡ outer_to limit H (depth H + 1)
+outer_more limit H hs top e f = let n : depth H + 1 ≡ suc (depth H) = omega arith in rw (e, f, n) refl
 
 -- the lowest candidate of those below depth n
 pub record IsLowest (limit : ℕ) (H : List Laid) (n : ℕ) : Type 0 where

@@ -33,6 +33,7 @@ pub mod AnswerOrder
 pub mod Local
 pub mod Queues
 pub mod Stacks
+pub mod Standing
 pub mod Places
 pub mod TextOrder
 pub mod Refusals

@@ -19,10 +19,10 @@ module _ (limit : ℕ) (H : List Laid) (h : IsHistory limit H) (m : yaml_mark_t)
   live_then k c s t = let a = candidate_split H k c s in live_earlier limit c (reach H) m (start_in limit H a.newer c a.older a.is h) o t
 
   -- what is held and still live at a later mark is the candidate that is live there
-  pub held_later : (k : ℕ) → still_held limit m (held limit H k) ≡ option_map (held_of H) (only_live limit m (candidate H k))
+  pub held_later : (k : ℕ) → still_held limit m (held limit H k) ≡ option_map held_of (only_live limit m (candidate H k))
   held_later k = go (candidate H k) refl
     where
-      go : (c : Option Laid) → candidate H k ≡ c → still_held limit m (option_map (held_of H) (only_live limit (reach H) c)) ≡ option_map (held_of H) (only_live limit m c)
+      go : (c : Option Laid) → candidate H k ≡ c → still_held limit m (option_map held_of (only_live limit (reach H) c)) ≡ option_map held_of (only_live limit m c)
       go None s = refl
       go (Some c) s = elim (cases_Bool (live limit c m)) [
         | inl t ↦ rw (t, live_then k c s t) (rw t refl)
@@ -32,19 +32,19 @@ module _ (limit : ℕ) (H : List Laid) (h : IsHistory limit H) (m : yaml_mark_t)
         ]
       ]
 
-  pub completed_later : (k : Kind) → completed_held k limit m (held limit H (depth H)) ≡ option_map (held_of H) (completed_by limit H k m)
+  pub completed_later : (k : Kind) → completed_held k limit m (held limit H (depth H)) ≡ option_map held_of (completed_by limit H k m)
   unfolding completed_by
   completed_later k = go (is_value k)
     where
-      go : (b : Bool) → (if b then still_held limit m (held limit H (depth H)) else None) ≡ option_map (held_of H) (if b then only_live limit m (candidate H (depth H)) else None)
+      go : (b : Bool) → (if b then still_held limit m (held limit H (depth H)) else None) ≡ option_map held_of (if b then only_live limit m (candidate H (depth H)) else None)
       go true = held_later (depth H)
       go false = refl
 
-  pub needed_later : needed limit m (held limit H 0) ≡ option_map (held_of H) (only_live limit m (required H))
+  pub needed_later : needed limit m (held limit H 0) ≡ option_map held_of (only_live limit m (required H))
   unfolding required
   needed_later = go (candidate H 0) refl
     where
-      go : (c : Option Laid) → candidate H 0 ≡ c → needed limit m (option_map (held_of H) (only_live limit (reach H) c)) ≡ option_map (held_of H) (only_live limit m (only_required c))
+      go : (c : Option Laid) → candidate H 0 ≡ c → needed limit m (option_map held_of (only_live limit (reach H) c)) ≡ option_map held_of (only_live limit m (only_required c))
       go None s = refl
       go (Some c) s = elim (cases_Bool (is_required c)) [
         | inl r ↦ elim (cases_Bool (live limit c m)) [
@@ -61,11 +61,11 @@ module _ (limit : ℕ) (H : List Laid) (h : IsHistory limit H) (m : yaml_mark_t)
       ]
 
   -- a required one that is stale now, and was not at the last reach
-  pub lost_later : stale limit H (reach H) ≡ None → lost_held limit m (held limit H 0) ≡ option_map (held_of H) (stale limit H m)
+  pub lost_later : stale limit H (reach H) ≡ None → lost_held limit m (held limit H 0) ≡ option_map held_of (stale limit H m)
   unfolding stale required
   lost_later e = go (candidate H 0) refl e
     where
-      go : (c : Option Laid) → candidate H 0 ≡ c → only_stale limit (reach H) (only_required c) ≡ None → lost_held limit m (option_map (held_of H) (only_live limit (reach H) c)) ≡ option_map (held_of H) (only_stale limit m (only_required c))
+      go : (c : Option Laid) → candidate H 0 ≡ c → only_stale limit (reach H) (only_required c) ≡ None → lost_held limit m (option_map held_of (only_live limit (reach H) c)) ≡ option_map held_of (only_stale limit m (only_required c))
       go None s f = refl
       go (Some c) s f = elim (cases_Bool (is_required c)) [
         | inl r ↦ elim (cases_Bool (live limit c (reach H))) [
@@ -95,13 +95,13 @@ outer_length limit H zero = refl
 outer_length limit H (suc n) = let a = length-append (outer_to limit H n) (held limit H n ∷ []) in let b = outer_length limit H n in omega arith
 
 -- THE ROWS
-map_none : (H : List Laid) (o : Option Laid) (p : Option Held) → p ≡ option_map (held_of H) o → p ≡ None → o ≡ None
-map_none H None p e f = refl
-map_none H (Some c) p e f = cc
+map_none : (o : Option Laid) (p : Option Held) → p ≡ option_map held_of o → p ≡ None → o ≡ None
+map_none None p e f = refl
+map_none (Some c) p e f = cc
 
-pub lost_row : (H : List Laid) (o : Option Laid) (p : Option Held) (h : Held) (m : yaml_mark_t) (place : ℕ) (r : Outcome) → p ≡ option_map (held_of H) o → p ≡ Some h → unless o m place r ≡ Faults (lost h.start m place)
-lost_row H None p h m place r e l = cc
-lost_row H (Some c) p h m place r e l = let q : h ≡ held_of H c = cc in ap (λ (x : Held). Faults (lost x.start m place)) (sym q)
+pub lost_row : (o : Option Laid) (p : Option Held) (h : Held) (m : yaml_mark_t) (place : ℕ) (r : Outcome) → p ≡ option_map held_of o → p ≡ Some h → unless o m place r ≡ Faults (lost h.start m place)
+lost_row None p h m place r e l = cc
+lost_row (Some c) p h m place r e l = let q : h ≡ held_of c = cc in ap (λ (x : Held). Faults (lost x.start m place)) (sym q)
 
-pub kept_row : (H : List Laid) (o : Option Laid) (p : Option Held) (m : yaml_mark_t) (place : ℕ) (r : Outcome) → p ≡ option_map (held_of H) o → p ≡ None → unless o m place r ≡ r
-kept_row H o p m place r e f = rw (map_none H o p e f) refl
+pub kept_row : (o : Option Laid) (p : Option Held) (m : yaml_mark_t) (place : ℕ) (r : Outcome) → p ≡ option_map held_of o → p ≡ None → unless o m place r ≡ r
+kept_row o p m place r e f = rw (map_none o p e f) refl

@@ -1,30 +1,39 @@
--- What a scanner holds after one lexeme more.
-use Rattle.std.proofs.Common.{◌≡◌, ℕ, zero, suc, ◌+◌, ◌-◌, ◌≤◌, not, ◌&&◌, Bool, true, false, List, [], ◌∷◌, ◌++◌, map, filter, drop, take, slice_get, length, Option, Some, None, refl, ap, sym, ◌∙◌, subst, arith, inl, inr, eqb, append_assoc, append-nil, ne_eqb, lt-ltb, eq-eqb}
+-- What a scanner holds behind one lexeme more.
+use Rattle.std.proofs.Common.{◌≡◌, ℕ, zero, suc, ◌+◌, ◌-◌, ◌≤◌, not, ◌&&◌, Bool, true, false, List, [], ◌∷◌, ◌++◌, map, filter, drop, take, slice_get, length, length-append, Option, Some, None, refl, ap, sym, ◌∙◌, subst, arith, inl, inr, eqb, append_assoc, append-nil, ne_eqb, lt-ltb, eq-eqb}
 use Rattle.std.specs.Prelude.{if◌then◌else◌, option_map, nat_eq, nat_lt}
 use Rattle.std.proofs.lemmas.Bool.{cases_Bool, cases_eq}
-use Rattle.std.proofs.lemmas.List.{take_at, map-append}
-use Rattle.yaml_scan.specs.Kind.{Kind, is_candidate_kind, is_flow_start, is_flow_end}
+use Rattle.std.proofs.lemmas.List.{take_at, map-append, drop-append-le}
+use Rattle.yaml_scan.specs.Kind.{Kind, is_block_entry, is_candidate_kind, is_flow_start, is_flow_end}
 use Rattle.yaml_text.specs.declared.types.yaml_mark_t.{yaml_mark_t}
 use Rattle.yaml_scan.specs.Slots.{Held, held, held_of, still_held, outer_to, slot_behind, nested_outer, nested_top, or_top, is_margin_level}
+use Rattle.yaml_scan.specs.Token.{yaml_token_t}
 use Rattle.yaml_scan.specs.Lexeme.{Lexeme}
-use Rattle.yaml_scan.specs.Offline.{Token, end_at, start_token, block_ends, group, inserted, offline, before, up_to, groups}
-use Rattle.yaml_scan.specs.Offline.Token.{BlockEnd, OfLexeme}
+use Rattle.yaml_scan.specs.Offline.{Token, end_at, start_token, block_ends, group, inserted, offline, before, up_to}
+use Rattle.yaml_scan.specs.Offline.Token.{BlockEnd, BlockSequenceStart, BlockMappingStart, InsertedKey, OfLexeme}
 use Rattle.yaml_scan.specs.Laid.{Laid, depth, live, reach, completed_by, is_none, allowed, allowed_behind, allows, column, is_candidate, enters}
 use Rattle.yaml_scan.specs.Levels.{laid, is_required, stays, open_columns, kept_columns, level, greatest_level, is_above, opens_level}
 use Rattle.yaml_scan.specs.Order.{IsHistory}
-use Rattle.yaml_scan.specs.Queue.{put_in, is_new, key_at, opened, put_starts, Fitting}
+use Rattle.yaml_text.specs.declared.types.yaml_encoding_t.{yaml_encoding_t}
+use Rattle.yaml_scan.specs.declared.queue.block_t.{block_t}
+use Rattle.yaml_scan.specs.declared.queue.block_t.TheVariants.{NONE, SEQUENCE, MAPPING}
+use Rattle.yaml_scan.specs.declared.queue.group_t.{group_t}
+use Rattle.yaml_text.specs.Token.{token_of}
+use Rattle.yaml_scan.specs.Queue.{is_new, key_at, opened}
+use Rattle.yaml_scan.specs.Laws.{key_tokens}
+use Rattle.yaml_scan.specs.Groups.{IsQueue, Fitting, ends_at, start_at, start_of, leads, keyed_at, completed_in, opened_by}
+use Rattle.yaml_scan.proofs.Queues.{put_behind}
+use Rattle.yaml_scan.proofs.Standing.{Stands, stands, count, taken_count, key_put}
 use Rattle.yaml_scan.proofs.Histories.{to_start, laid_completed, completion_is, IsCompletion, live_earlier}
 use Rattle.yaml_scan.proofs.KindTests.{flow_kinds}
 use Rattle.yaml_scan.proofs.Candidates.{candidate_split}
 use Rattle.yaml_scan.proofs.HeldMore.{held-entered, held-cleared, held-other, held-kept, held-saved}
-use Rattle.yaml_scan.specs.Begins.{Begins}
-use Rattle.yaml_scan.proofs.Stable.{groups-ends, up_to-split, start_in}
+use Rattle.yaml_scan.proofs.Stable.{start_in, number_in}
 use Rattle.yaml_scan.proofs.Bound.{length-begins}
 use Rattle.yaml_scan.proofs.Extend.{before-before, before-offline}
 use Rattle.yaml_scan.proofs.Columns.{opens_itself, open_columns-none, open_columns-some, opens_self, completed_self, completes_not_opener}
-use Rattle.yaml_scan.proofs.Insertion.{and_false}
+use Rattle.yaml_scan.proofs.Insertion.{IsInsertion, offline-more_some, and_false}
 use Rattle.yaml_scan.proofs.Falling.{kept_columns-whole, level-candidate'}
-use Rattle.yaml_scan.proofs.Queued.{queue-more_none, queue-more_some, not_settled}
+use Rattle.yaml_scan.proofs.Queued.{queue-more_none, not_settled}
 use Rattle.yaml_scan.proofs.DepthMore.{depth-start, depth-end, depth-same}
 use Rattle.yaml_scan.proofs.Look.{outer_length}
 
@@ -39,10 +48,6 @@ filter_nothing k m (c ∷ cs) = filter_nothing k m cs
 none_number : (o : Option Laid) → is_none (option_map (λ (i : Laid). i.number) o) ≡ is_none o
 none_number None = refl
 none_number (Some c) = refl
-
-none_held : (H : List Laid) (o : Option Laid) → is_none (option_map (held_of H) o) ≡ is_none o
-none_held H None = refl
-none_held H (Some c) = refl
 
 module _ (limit : ℕ) (H : List Laid) (x : Lexeme) (h : IsHistory limit (laid limit H x ∷ H)) where
   lexeme_is : (laid limit H x).lexeme ≡ x
@@ -130,18 +135,50 @@ module _ (limit : ℕ) (H : List Laid) (x : Lexeme) (h : IsHistory limit (laid l
       taken_some : t ≤ length (up_to H (Some c))
       taken_some = let n = not_settled limit H (depth H) c h.2 is_completion.candidate was_live in omega arith
 
-      within : length (up_to H (Some c)) ≤ length (offline H)
-      unfolding offline
-      within =
-          let a = candidate_split H (depth H) c is_completion.candidate in
-          rw (up_to-split limit H a.newer c a.older a.is h.2) (length-begins _ _ (subst (λ (X : List Laid). Begins (groups H a.older ++ block_ends c) (groups H X)) (sym a.is) (groups-ends H a.newer c a.older)))
+      insertion : IsInsertion (laid limit H x) H c
+      insertion = offline-more_some limit (laid limit H x) H c h is_completion.candidate completed
 
-      fits_some : (n : ℕ) → length (offline H) - t ≤ n → Fitting (Some (held_of H c)) t n
-      fits_some n l = let w = within in (taken_some, omega arith)
+      within_front : t ≤ length insertion.front
+      within_front = let e = ap (λ (l : List Token). length l) insertion.at in let s = taken_some in omega arith
 
-      queue_some : put_in (length (up_to H (Some c)) - t) (key_at (is_new (nat_eq (depth H) 0) (column c) (kept_columns H x.kind x.start)) c.lexeme.start) (drop t (offline H) ++ block_ends (laid limit H x)) ++ OfLexeme x ∷ []
-          ≡ drop t (offline (laid limit H x ∷ H))
-      queue_some = sym (queue-more_some limit (laid limit H x) H c t h is_completion.candidate completed taken_some ∙ (rw (group_some, new_same, no_ends) (rw (append-nil (drop t (offline H))) refl)))
+      place : Stands H t c insertion.front insertion.rest
+      place = stands limit H (depth H) c t insertion.front insertion.rest h.2 is_completion.candidate insertion.at insertion.was within_front
+
+      -- the list so far, and with the key
+      was_is : drop t (offline H) ≡ place.whole ++ (place.ends ++ OfLexeme c.lexeme ∷ insertion.rest)
+      was_is = ap (λ (l : List Token). drop t l) insertion.was ∙ drop-append-le t insertion.front (OfLexeme c.lexeme ∷ insertion.rest) within_front
+          ∙ ap (λ (l : List Token). l ++ OfLexeme c.lexeme ∷ insertion.rest) place.front_is ∙ append_assoc place.whole place.ends (OfLexeme c.lexeme ∷ insertion.rest)
+
+      key_same : key_tokens c ≡ key_at (is_new (nat_eq (depth H) 0) (column c) (kept_columns H x.kind x.start)) c.lexeme.start
+      key_same = ap (λ (b : Bool). (if b then BlockMappingStart c.lexeme.start ∷ [] else []) ++ (InsertedKey c.lexeme.start ∷ [])) new_same
+
+      abbrev marked : List Token
+      marked = place.whole ++ (place.ends ++ (key_at (is_new (nat_eq (depth H) 0) (column c) (kept_columns H x.kind x.start)) c.lexeme.start ++ OfLexeme c.lexeme ∷ insertion.rest))
+
+      now_is : drop t (offline (laid limit H x ∷ H)) ≡ marked ++ OfLexeme x ∷ []
+      now_is =
+          let ks = key_tokens c in
+          let f = within_front in
+          let m : t ≤ length (insertion.front ++ (ks ++ (OfLexeme c.lexeme ∷ insertion.rest))) = (let a = length-append insertion.front (ks ++ (OfLexeme c.lexeme ∷ insertion.rest)) in omega arith) in
+          ap (λ (l : List Token). drop t l) insertion.now
+          ∙ drop-append-le t (insertion.front ++ (ks ++ (OfLexeme c.lexeme ∷ insertion.rest))) (group (laid limit H x ∷ H) (laid limit H x)) m
+          ∙ ap (λ (l : List Token). l ++ group (laid limit H x ∷ H) (laid limit H x)) (drop-append-le t insertion.front (ks ++ (OfLexeme c.lexeme ∷ insertion.rest)) f
+          ∙ ap (λ (l : List Token). l ++ (ks ++ (OfLexeme c.lexeme ∷ insertion.rest))) place.front_is ∙ append_assoc place.whole place.ends (ks ++ (OfLexeme c.lexeme ∷ insertion.rest)))
+          ∙ (rw (group_some, key_same) refl)
+
+      module _ (e : yaml_encoding_t) (m : yaml_mark_t) (ys : List group_t) (Q : IsQueue e 0 m ys (drop t (offline H))) (d : ℕ) (D : d + length ys ≡ length H + 1) where
+        place_is : (held_of c).step - 1 - d ≡ count place.whole
+        place_is = let a = taken_count H t e 0 m ys Q d D in let b = place.place in omega arith
+
+        fits_some : Fitting (Some (held_of c)) d ys
+        fits_some = let a = taken_count H t e 0 m ys Q d D in let b = place.place in
+            let n = number_in limit H (candidate_split H (depth H) c is_completion.candidate).newer c (candidate_split H (depth H) c is_completion.candidate).older (candidate_split H (depth H) c is_completion.candidate).is h.2 in
+            let k = ap (λ (X : List Laid). length X) (candidate_split H (depth H) c is_completion.candidate).is in
+            let l = length-append (candidate_split H (depth H) c is_completion.candidate).newer (c ∷ (candidate_split H (depth H) c is_completion.candidate).older) in
+            (omega arith, omega arith)
+
+        queue_some : IsQueue e 0 m (keyed_at ((held_of c).step - 1 - d) (is_new (nat_eq (depth H) 0) (column c) (kept_columns H x.kind x.start)) ys) marked
+        queue_some = rw place_is (key_put e m ys place.whole place.ends c.lexeme insertion.rest _ (subst (λ (l : List Token). IsQueue e 0 m ys l) was_is Q) place.is_whole place.are_ends)
 
   group_none : completed_by limit H x.kind x.start ≡ None → group (laid limit H x ∷ H) (laid limit H x)
       ≡ block_ends (laid limit H x) ++ ((if is_new (nat_eq (depth H) 0) x.start.column (kept_columns H x.kind x.start) && opens_level x.kind true then start_token x.kind x.start ∷ [] else []) ++ OfLexeme x ∷ [])
@@ -149,39 +186,61 @@ module _ (limit : ℕ) (H : List Laid) (x : Lexeme) (h : IsHistory limit (laid l
   group_none e = rw (opens_self limit (laid limit H x) H h, itself_is (completed_none e), completed_self limit (laid limit H x) H h, lexeme_is)
       (ap (λ (l : List Token). block_ends (laid limit H x) ++ (l ++ OfLexeme x ∷ [])) (append-nil _))
 
+  start_is : (b : Bool) → start_at (if b then start_of x.kind else NONE) x.start ≡ (if b then start_token x.kind x.start ∷ [] else [])
+  start_is true = go (is_block_entry x.kind)
+    where
+      go : (b : Bool) → start_at (if b then SEQUENCE else MAPPING) x.start ≡ (if b then BlockSequenceStart x.start else BlockMappingStart x.start) ∷ []
+      go true = refl
+      go false = refl
+  start_is false = refl
+
   queue_none : (t : ℕ) → t ≤ length (before limit H) → completed_by limit H x.kind x.start ≡ None
-      → ((drop t (offline H) ++ block_ends (laid limit H x)) ++ (if is_new (nat_eq (depth H) 0) x.start.column (kept_columns H x.kind x.start) && opens_level x.kind true then start_token x.kind x.start ∷ [] else [])) ++ OfLexeme x ∷ []
+      → drop t (offline H) ++ ((block_ends (laid limit H x) ++ start_at (opened_by (nat_eq (depth H) 0) None x.kind x.start.column (kept_columns H x.kind x.start)) x.start) ++ OfLexeme x ∷ [])
       ≡ drop t (offline (laid limit H x ∷ H))
   queue_none t l e =
       let b = before-offline limit H h.2 in
       let w = length-begins _ _ b in
       let u : t ≤ length (offline H) = omega arith in
-      sym (queue-more_none limit (laid limit H x) H t h (completed_none e) u ∙ ap (λ (l : List Token). drop t (offline H) ++ l) (group_none e)
-      ∙ sym (append_assoc (drop t (offline H)) (block_ends (laid limit H x)) _) ∙ sym (append_assoc (drop t (offline H) ++ block_ends (laid limit H x)) _ (OfLexeme x ∷ [])))
+      sym (queue-more_none limit (laid limit H x) H t h (completed_none e) u ∙ ap (λ (l : List Token). drop t (offline H) ++ l) (group_none e
+      ∙ sym (append_assoc (block_ends (laid limit H x)) _ (OfLexeme x ∷ []))
+      ∙ ap (λ (l : List Token). (block_ends (laid limit H x) ++ l) ++ OfLexeme x ∷ []) (sym (start_is (is_new (nat_eq (depth H) 0) x.start.column (kept_columns H x.kind x.start) && opens_level x.kind true)))))
 
   -- THE LEVELS AND THE QUEUE
-  pub levels_more : opened (nat_eq (depth H) 0) (option_map (held_of H) (completed_by limit H x.kind x.start)) x.kind x.start (kept_columns H x.kind x.start) ≡ open_columns (laid limit H x ∷ H)
+  pub levels_more : opened (nat_eq (depth H) 0) (option_map held_of (completed_by limit H x.kind x.start)) x.kind x.start (kept_columns H x.kind x.start) ≡ open_columns (laid limit H x ∷ H)
   levels_more = go (completed_by limit H x.kind x.start) refl
     where
-      go : (o : Option Laid) → completed_by limit H x.kind x.start ≡ o → opened (nat_eq (depth H) 0) (option_map (held_of H) o) x.kind x.start (kept_columns H x.kind x.start) ≡ open_columns (laid limit H x ∷ H)
+      go : (o : Option Laid) → completed_by limit H x.kind x.start ≡ o → opened (nat_eq (depth H) 0) (option_map held_of o) x.kind x.start (kept_columns H x.kind x.start) ≡ open_columns (laid limit H x ∷ H)
       go None e = levels_none e
       go (Some c) e = levels_some c e
 
-  pub queue_more : (t : ℕ) → t ≤ length (before limit H)
-      → put_starts (nat_eq (depth H) 0) (option_map (held_of H) (completed_by limit H x.kind x.start)) x.kind x.start (kept_columns H x.kind x.start) t (drop t (offline H) ++ block_ends (laid limit H x)) ++ OfLexeme x ∷ []
-      ≡ drop t (offline (laid limit H x ∷ H))
-  queue_more t l = go (completed_by limit H x.kind x.start) refl
-    where
-      go : (o : Option Laid) → completed_by limit H x.kind x.start ≡ o → put_starts (nat_eq (depth H) 0) (option_map (held_of H) o) x.kind x.start (kept_columns H x.kind x.start) t (drop t (offline H) ++ block_ends (laid limit H x)) ++ OfLexeme x ∷ [] ≡ drop t (offline (laid limit H x ∷ H))
-      go None e = queue_none t l e
-      go (Some c) e = queue_some c e t l
+  module _ (t : ℕ) (T : t ≤ length (before limit H)) (e : yaml_encoding_t) (m : yaml_mark_t) (ys : List group_t) (Q : IsQueue e 0 m ys (drop t (offline H))) (d : ℕ) (D : d + length ys ≡ length H + 1)
+      (y : group_t) (n : ℕ) (f : yaml_mark_t) (E : ends_at n f ++ ends_at y.ends x.start ≡ block_ends (laid limit H x)) (Y : token_of y.token ≡ record { token_data = x.token_data; start_mark = x.start; end_mark = x.end }) (K : y.key ≡ false) where
+    S : y.token.start_mark ≡ x.start
+    S = ap (λ (t : yaml_token_t). t.start_mark) Y
 
-  pub fits : (t n : ℕ) → t ≤ length (before limit H) → length (offline H) - t ≤ n → Fitting (option_map (held_of H) (completed_by limit H x.kind x.start)) t n
-  fits t n l m = go (completed_by limit H x.kind x.start) refl
+    leads_are : (o : block_t) → y.opens ≡ o → ends_at n f ++ leads y ≡ block_ends (laid limit H x) ++ start_at o x.start
+    leads_are o O = rw (K, O, S) (ap (λ (l : List Token). ends_at n f ++ (ends_at y.ends x.start ++ l)) (append-nil (start_at o x.start)) ∙ sym (append_assoc (ends_at n f) (ends_at y.ends x.start) (start_at o x.start)) ∙ ap (λ (l : List Token). l ++ start_at o x.start) E)
+
+    put_here : (zs : List group_t) (q : List Token) (o : block_t) → IsQueue e 0 m zs q → y.opens ≡ o → IsQueue e n f (zs ++ y ∷ []) (q ++ ((block_ends (laid limit H x) ++ start_at o x.start) ++ OfLexeme x ∷ []))
+    put_here zs q o R O = subst (λ (l : List Token). IsQueue e n f (zs ++ y ∷ []) (q ++ (l ++ OfLexeme x ∷ []))) (leads_are o O) (put_behind e m f n zs q y (OfLexeme x) R Y refl)
+
+    pub queue_more : y.opens ≡ opened_by (nat_eq (depth H) 0) (option_map held_of (completed_by limit H x.kind x.start)) x.kind x.start.column (kept_columns H x.kind x.start)
+        → IsQueue e n f (completed_in (nat_eq (depth H) 0) (option_map held_of (completed_by limit H x.kind x.start)) (kept_columns H x.kind x.start) d ys ++ y ∷ []) (drop t (offline (laid limit H x ∷ H)))
+    queue_more O = go (completed_by limit H x.kind x.start) refl O
+      where
+        go : (o : Option Laid) → completed_by limit H x.kind x.start ≡ o → y.opens ≡ opened_by (nat_eq (depth H) 0) (option_map held_of o) x.kind x.start.column (kept_columns H x.kind x.start)
+            → IsQueue e n f (completed_in (nat_eq (depth H) 0) (option_map held_of o) (kept_columns H x.kind x.start) d ys ++ y ∷ []) (drop t (offline (laid limit H x ∷ H)))
+        go None s O = subst (λ (l : List Token). IsQueue e n f (ys ++ y ∷ []) l) (queue_none t T s) (put_here ys (drop t (offline H)) _ Q O)
+        go (Some c) s O = subst (λ (l : List Token). IsQueue e n f (keyed_at ((held_of c).step - 1 - d) (is_new (nat_eq (depth H) 0) (column c) (kept_columns H x.kind x.start)) ys ++ y ∷ []) l)
+            (ap (λ (l : List Token). marked c s t T ++ (l ++ OfLexeme x ∷ [])) (append-nil (block_ends (laid limit H x)) ∙ no_ends c s) ∙ sym (now_is c s t T))
+            (put_here (keyed_at ((held_of c).step - 1 - d) (is_new (nat_eq (depth H) 0) (column c) (kept_columns H x.kind x.start)) ys) (marked c s t T) NONE (queue_some c s t T e m ys Q d D) O)
+
+  pub fits : (t : ℕ) → t ≤ length (before limit H) → (e : yaml_encoding_t) (m : yaml_mark_t) (ys : List group_t) → IsQueue e 0 m ys (drop t (offline H)) → (d : ℕ) → d + length ys ≡ length H + 1 → Fitting (option_map held_of (completed_by limit H x.kind x.start)) d ys
+  fits t l e m ys Q d D = go (completed_by limit H x.kind x.start) refl
     where
-      go : (o : Option Laid) → completed_by limit H x.kind x.start ≡ o → Fitting (option_map (held_of H) o) t n
-      go None e = tt
-      go (Some c) e = fits_some c e t l n m
+      go : (o : Option Laid) → completed_by limit H x.kind x.start ≡ o → Fitting (option_map held_of o) d ys
+      go None s = tt
+      go (Some c) s = fits_some c s t l e m ys Q d D
 
   pub taken_more : (t : ℕ) → t ≤ length (before limit H) → t ≤ length (before limit (laid limit H x ∷ H))
   taken_more t l = let b = before-before limit (laid limit H x ∷ []) H h in let w = length-begins _ _ b in omega arith
@@ -235,13 +294,16 @@ module _ (limit : ℕ) (H : List Laid) (x : Lexeme) (h : IsHistory limit (laid l
   pub at_depth : eqb (laid limit H x).depth (depth H) ≡ true
   at_depth = eq-eqb _ _ depth_is
 
-  module _ (a : Bool) (A : a ≡ allowed H x.front) (new : Held) (N : new ≡ record { at = length (offline H) + length (block_ends (laid limit H x)); start = x.start; required = is_margin_level (nat_eq (depth H) 0) (greatest_level (kept_columns H x.kind x.start)) x.start.column }) where
+  pub new_is : (new : Held) → new ≡ record { step = length H + 2; start = x.start; required = is_margin_level (nat_eq (depth H) 0) (greatest_level (kept_columns H x.kind x.start)) x.start.column } → new ≡ held_of (laid limit H x)
+  unfolding laid level
+  new_is new e = e
+
+  module _ (a : Bool) (A : a ≡ allowed H x.front) (new : Held) (N : new ≡ held_of (laid limit H x)) where
     pub top_swept : still_held limit x.reach (slot_behind x.kind a new (held limit H (depth H))) ≡ held limit (laid limit H x ∷ H) (depth H)
-    unfolding laid level
     top_swept = elim (cases_Bool (is_candidate_kind x.kind)) [
       | inl c ↦ elim (cases_Bool a) [
-        | inl b ↦ (let s = held-saved limit (laid limit H x) H (depth H) h (enters_below (depth H) (omega arith)) at_depth (candidate_is ∙ c) (allowed_of ∙ sym A ∙ b) in
-            rw (c, b, N) (sym s))
+        | inl b ↦ (let s = held-saved limit (laid limit H x) H (depth H) (enters_below (depth H) (omega arith)) at_depth (candidate_is ∙ c) (allowed_of ∙ sym A ∙ b) in
+            rw (c, b, N) (ap (λ (m : yaml_mark_t). still_held limit m (Some (held_of (laid limit H x)))) (sym reach_is) ∙ sym s))
         | inr b ↦ (let s = held-kept limit (laid limit H x) H (depth H) h (omega arith) (enters_below (depth H) (omega arith)) at_depth (candidate_is ∙ c) (allowed_of ∙ sym A ∙ b) in
             rw (c, b) (sym (s ∙ ap (λ (m : yaml_mark_t). still_held limit m (held limit H (depth H))) reach_is)))
       ]

@@ -28,9 +28,9 @@ zero_test n = elim (cases_eq n 0) [
   | inr e ↦ rw (ne_eqb n 0 e, lt-ltb 0 n (omega arith)) refl
 ]
 
-pub is_none_map : (H : List Laid) (o : Option Laid) → is_none (option_map (held_of H) o) ≡ is_none o
-is_none_map H None = refl
-is_none_map H (Some c) = refl
+pub is_none_map : (o : Option Laid) → is_none (option_map held_of o) ≡ is_none o
+is_none_map None = refl
+is_none_map (Some c) = refl
 
 pub is_none_some : {A : Type 0} (o : Option A) (b : Bool) → is_some o ≡ not b → b ≡ is_none o
 is_none_some None true e = refl
@@ -44,9 +44,9 @@ pub record Loses (m : yaml_mark_t) (p : ℕ) (r : Outcome) (f : Fault) : Type 0 
   pub is : r ≡ Faults (lost start m p)
   pub fault : (lost start m p).fault ≡ f
 
-pub loses : (H : List Laid) (o : Option Laid) (h : Option Held) (m : yaml_mark_t) (p : ℕ) (r : Outcome) (f : Fault) → h ≡ option_map (held_of H) o → IsLost h m f → Loses m p (unless o m p r) f
-loses H o None m p r f e l = absurd l
-loses H o (Some h) m p r f e l = record { start = h.start; is = lost_row H o (Some h) h m p r e refl; fault = sym l }
+pub loses : (o : Option Laid) (h : Option Held) (m : yaml_mark_t) (p : ℕ) (r : Outcome) (f : Fault) → h ≡ option_map held_of o → IsLost h m f → Loses m p (unless o m p r) f
+loses o None m p r f e l = absurd l
+loses o (Some h) m p r f e l = record { start = h.start; is = lost_row o (Some h) h m p r e refl; fault = sym l }
 
 pub start_index : (k : Kind) (g : yaml_mark_t) → (start_at k g).index ≡ g.index
 start_index k g = go (Rattle.yaml_scan.specs.Kind.is_stream_end k) (nat_eq g.column 0)
@@ -56,15 +56,15 @@ start_index k g = go (Rattle.yaml_scan.specs.Kind.is_stream_end k) (nat_eq g.col
     go true false = refl
     go false b = refl
 
-module _ (H : List Laid) (n : ℕ) (s : scanner_t) (r : Holds H n s) (running : ended H ≡ false) (margin : Bool) (M : margin ≡ vec_len s.outer == 0) where
+module _ (H : List Laid) (n : ℕ) (s : scanner_t) (r : Holds H n s) (running : ended H ≡ false) (margin : Bool) (M : margin ≡ vec_len s.slots.outer == 0) where
   pub margin_is : margin ≡ nat_eq (depth H) 0
-  margin_is = let e = ap (λ (l : List (Option Held)). length l) r.outer in let o = outer_length s.limit H (depth H) in let n : vec_len s.outer ≡ depth H = omega arith in M ∙ (rw n refl)
+  margin_is = let e = ap (λ (l : List (Option Held)). length l) r.outer in let o = outer_length s.limit H (depth H) in let n : vec_len s.slots.outer ≡ depth H = omega arith in M ∙ (rw n refl)
 
   pub flow_is : not margin ≡ nat_lt 0 (depth H)
   flow_is = ap (λ (b : Bool). not b) margin_is ∙ zero_test (depth H)
 
-  pub root_held : (root : Option Held) (l : List (Option Held)) → l ≡ s.outer.items → root ≡ root_of l s.top → root ≡ held s.limit H 0
-  root_held root l e f = f ∙ (rw (e, r.outer) (root_is s.limit H (depth H) s.top (λ z. r.top ∙ ap (λ (n : ℕ). held s.limit H n) z)))
+  pub root_held : (root : Option Held) (l : List (Option Held)) → l ≡ s.slots.outer.items → root ≡ root_of l s.slots.top → root ≡ held s.limit H 0
+  root_held root l e f = f ∙ (rw (e, r.outer) (root_is s.limit H (depth H) s.slots.top (λ z. r.top ∙ ap (λ (n : ℕ). held s.limit H n) z)))
 
   abbrev S : Source
   S = source_of s.text.chars
@@ -116,15 +116,15 @@ module _ (H : List Laid) (n : ℕ) (s : scanner_t) (r : Holds H n s) (running : 
     offends_at o f e q k p i = record { offence = o; step = e; fault = q; problem = record { kind = k; within = (let w = G.within in let z = size_is in omega arith); index = i ∙ ap (λ (m : yaml_mark_t). m.index) mark_is ∙ ap (λ (x : ℕ). (S.mark x).index) (sym p) } }
 
     -- row 1
-    stale_is : (root l : Option Held) → root ≡ held s.limit H 0 → l ≡ lost_held s.limit g root → l ≡ option_map (held_of H) (stale s.limit H g)
+    stale_is : (root l : Option Held) → root ≡ held s.limit H 0 → l ≡ lost_held s.limit g root → l ≡ option_map held_of (stale s.limit H g)
     stale_is root l e k = k ∙ (rw e (lost_later s.limit H r.is_history g later r.fresh))
 
     pub row_lost : (root l : Option Held) (f : Fault) → root ≡ held s.limit H 0 → l ≡ lost_held s.limit g root → IsLost l g f → Offends H s f
-    row_lost root l f e k q = let w = loses H (stale s.limit H g) l g P _ f (stale_is root l e k) q in
+    row_lost root l f e k q = let w = loses (stale s.limit H g) l g P _ f (stale_is root l e k) q in
         offends_at (lost w.start g P) f (step_is ∙ w.is) w.fault refl refl refl
 
     row_not_lost : (root l : Option Held) → root ≡ held s.limit H 0 → l ≡ lost_held s.limit g root → l ≡ None → step S s.limit H ≡ kind_from g (S.kind (nat_lt 0 (depth H)) P)
-    row_not_lost root l e k q = step_is ∙ kept_row H (stale s.limit H g) l g P _ (stale_is root l e k) q
+    row_not_lost root l e k q = step_is ∙ kept_row (stale s.limit H g) l g P _ (stale_is root l e k) q
 
     module _ (root l : Option Held) (e : root ≡ held s.limit H 0) (k : l ≡ lost_held s.limit g root) (q : l ≡ None) (o : Option Kind) (K : o ≡ S.kind (not margin) P) where
       pub kind_is : o ≡ S.kind (nat_lt 0 (depth H)) P
@@ -142,9 +142,9 @@ module _ (H : List Laid) (n : ℕ) (s : scanner_t) (r : Holds H n s) (running : 
         step_kind : step S s.limit H ≡ kind_from g (Some kind)
         step_kind = row_not_lost root l e k q ∙ ap (λ (x : Option Kind). kind_from g x) (sym kind_is ∙ some)
 
-        module _ (c : Option Held) (C : c ≡ completed_held kind s.limit g s.top) (none : Bool) (N : is_some c ≡ not none) where
+        module _ (c : Option Held) (C : c ≡ completed_held kind s.limit g s.slots.top) (none : Bool) (N : is_some c ≡ not none) where
           none_is : none ≡ is_none (completed_by s.limit H kind g)
-          none_is = is_none_some c none N ∙ ap (λ (x : Option Held). is_none x) (C ∙ (rw r.top (completed_later s.limit H r.is_history g later kind))) ∙ is_none_map H (completed_by s.limit H kind g)
+          none_is = is_none_some c none N ∙ ap (λ (x : Option Held). is_none x) (C ∙ (rw r.top (completed_later s.limit H r.is_history g later kind))) ∙ is_none_map (completed_by s.limit H kind g)
 
           refused_is : (if margin && not a then problem_of kind none else None) ≡ refused s.limit H kind g
           unfolding refused
@@ -168,20 +168,20 @@ module _ (H : List Laid) (n : ℕ) (s : scanner_t) (r : Holds H n s) (running : 
               go None v = refl
               go (Some p) v = cc
 
-          clears_is : (d : Option Held) → d ≡ (if replaces kind a && margin then needed s.limit g s.top else None) → d ≡ option_map (held_of H) (clears s.limit H kind g)
+          clears_is : (d : Option Held) → d ≡ (if replaces kind a && margin then needed s.limit g s.slots.top else None) → d ≡ option_map held_of (clears s.limit H kind g)
           unfolding clears
           clears_is d D = D ∙ (rw (allowed_is, margin_is, r.top) (go (replaces kind (allowed H g)) (nat_eq (depth H) 0) refl))
             where
-              go : (x y : Bool) → nat_eq (depth H) 0 ≡ y → (if x && y then needed s.limit g (held s.limit H (depth H)) else None) ≡ option_map (held_of H) (if x && y then only_live s.limit g (required H) else None)
+              go : (x y : Bool) → nat_eq (depth H) 0 ≡ y → (if x && y then needed s.limit g (held s.limit H (depth H)) else None) ≡ option_map held_of (if x && y then only_live s.limit g (required H) else None)
               go true true z = (let w : depth H ≡ 0 = eqb-true _ _ z in rw w (needed_later s.limit H r.is_history g later))
               go true false z = refl
               go false y z = refl
 
-          module _ (u : IsRefused (if margin && not a then problem_of kind none else None) g None) (start : yaml_mark_t) (B : start ≡ start_at kind g) (d : Option Held) (D : d ≡ (if replaces kind a && margin then needed s.limit g s.top else None)) where
+          module _ (u : IsRefused (if margin && not a then problem_of kind none else None) g None) (start : yaml_mark_t) (B : start ≡ start_at kind g) (d : Option Held) (D : d ≡ (if replaces kind a && margin then needed s.limit g s.slots.top else None)) where
             -- row 4
             pub row_clears : (f : Fault) → IsLost d start f → Offends H s f
-            row_clears f w = let v : Loses (start_at kind g) P (unless (clears s.limit H kind g) (start_at kind g) P (read_step S s.limit H kind P)) f = loses H (clears s.limit H kind g) d (start_at kind g) P _ f (clears_is d D) (subst (λ (m : yaml_mark_t). IsLost d m f) B w) in
+            row_clears f w = let v : Loses (start_at kind g) P (unless (clears s.limit H kind g) (start_at kind g) P (read_step S s.limit H kind P)) f = loses (clears s.limit H kind g) d (start_at kind g) P _ f (clears_is d D) (subst (λ (m : yaml_mark_t). IsLost d m f) B w) in
                 offends_at (lost v.start (start_at kind g) P) f (step_accepted u ∙ v.is) v.fault refl refl (start_index kind g)
 
             pub row_met : d ≡ None → step S s.limit H ≡ read_step S s.limit H kind P
-            row_met w = step_accepted u ∙ kept_row H (clears s.limit H kind g) d (start_at kind g) P _ (clears_is d D) w
+            row_met w = step_accepted u ∙ kept_row (clears s.limit H kind g) d (start_at kind g) P _ (clears_is d D) w

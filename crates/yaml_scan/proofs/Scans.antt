@@ -1,13 +1,11 @@
--- The answers to a peek, a scan and a skip.
-use Rattle.std.proofs.Common.{◌≡◌, ℕ, zero, suc, ◌+◌, ◌-◌, ◌≤◌, ◌<◌, Bool, true, false, List, [], ◌∷◌, ◌++◌, length, length-append, slice_get, get_or, Option, Some, None, Err, refl, ap, sym, ◌∙◌, subst, arith, inl, inr, append_assoc}
+-- What a peek, a scan and a skip answer.
+use Rattle.std.proofs.Common.{◌≡◌, ℕ, zero, suc, ◌+◌, ◌-◌, ◌≤◌, ◌<◌, Bool, true, false, List, [], ◌∷◌, ◌++◌, length, length-append, drop, slice_get, Option, Some, None, Ok, Err, refl, ap, sym, ◌∙◌, subst, arith, inl, inr, append_assoc}
 use Rattle.std.specs.Prelude.{◌⊎◌, if◌then◌else◌}
 use Rattle.std.proofs.lemmas.Bool.{cases_lt, false≢true}
 use Rattle.yaml_text.specs.declared.types.yaml_encoding_t.{yaml_encoding_t}
 use Rattle.yaml_text.specs.declared.fault.yaml_fault_t.{yaml_fault_t}
 use Rattle.yaml_text.specs.Fault.{Fault, fault_of}
-use Rattle.yaml_text.specs.Token.{token_of}
 use Rattle.yaml_scan.specs.declared.step.scanner_t.{scanner_t}
-use Rattle.yaml_scan.specs.declared.queue.queued_t.{queued_t}
 use Rattle.yaml_scan.specs.Token.{yaml_token_t, empty, is_last_type, type_of}
 use Rattle.yaml_scan.specs.Laid.{Laid, reach}
 use Rattle.yaml_scan.specs.Order.{ended}
@@ -27,6 +25,7 @@ use Rattle.yaml_scan.proofs.Paces.{enough_made}
 use Rattle.yaml_scan.proofs.Settlings.{course_is}
 use Rattle.yaml_scan.proofs.Stepped.{read_history, inside}
 use Rattle.yaml_scan.proofs.Pacing.{grows}
+use Rattle.yaml_scan.proofs.Queues.{IsFirst}
 use Rattle.yaml_scan.proofs.Takings as takings
 use Rattle.yaml_scan.proofs.TextOrder.{text_order}
 
@@ -164,7 +163,7 @@ shown_settled setting input s k =
     let e = enough_made s k.stands.runs k.settled in
     let c = course_is setting input s k.stands.reads in
     let d = ap (λ (x : Course). Rattle.yaml_scan.specs.Session.steps_for s.limit x.read s.taken) c in
-    record { stands = k.stands; still_open = k.still_open; settled = k.settled; made = omega arith; limit = refl; taken = refl }
+    record { stands = k.stands; still_open = k.still_open; settled = k.settled; made = omega arith; limit = refl; taken = refl; done = refl }
 
 tokens_begun : (limit : ℕ) (c : Course) → c.begun ≡ true → tokens_of limit c ≡ before limit c.read
 tokens_begun limit c e = rw e refl
@@ -230,27 +229,22 @@ module _ (setting : yaml_encoding_t) (input : List ℕ) (s t : scanner_t) (k : I
     show_token q r over e = subst (λ (b : Bool). Shows q true (record { input = input; setting = setting; limit = t.limit; session = record { taken = t.taken; steps = t.made; peeked = true; over = b; fault = fault } })) (sym e)
         (subst (λ (z : Parser). Shows z true now_shown) (sym r) (inl (ap PEEKED shown_is ∙ sym answer_is, show_left)))
 
-head_at : (l : List queued_t) (y : queued_t) → 0 < length l → y ≡ get_or l 0 y → (ys : List queued_t) × (l ≡ y ∷ ys)
-head_at [] y m e = absurd (omega arith)
-head_at (z ∷ l) y m e = (l, ap (λ (x : queued_t). x ∷ l) (sym e))
-
--- it is at the head of the queue
-module _ (setting : yaml_encoding_t) (input : List ℕ) (s : scanner_t) (k : IsShown setting input s) (y : queued_t) (m : 0 < length s.queue.items) (g : y ≡ get_or s.queue.items 0 y) where
-  next_is : (ys : List queued_t) (Q : s.queue.items ≡ y ∷ ys) → slice_get (tokens_of s.limit (course_in s.limit setting input)) s.taken ≡ Some (takings.next_token s k.stands.runs k.settled y ys Q)
-  next_is ys Q =
+-- it is the first one that the queue hands out
+module _ (setting : yaml_encoding_t) (input : List ℕ) (s : scanner_t) (k : IsShown setting input s) (x : yaml_token_t) (f : IsFirst s.text.encoding (drop s.taken (offline (history s))) x) where
+  next_is : slice_get (tokens_of s.limit (course_in s.limit setting input)) s.taken ≡ Some f.0
+  next_is =
       let c = course_is setting input s k.stands.reads in
       let b : (course_in s.limit setting input).begun ≡ true = sym (ap (λ (x : Course). x.begun) c) ∙ k.stands.runs.start in
       ap (λ (l : List Token). slice_get l s.taken) (tokens_begun s.limit (course_in s.limit setting input) b)
       ∙ ap (λ (x : Course). slice_get (before s.limit x.read) s.taken) (sym c)
-      ∙ takings.token_is s k.stands.runs k.settled y ys Q
+      ∙ takings.token_is s k.stands.runs k.settled f.0 f.1 f.2
 
-  told_is : token_of y.token ≡ token_or_empty (decoded_input setting input).encoding (slice_get (tokens_of s.limit (course_in s.limit setting input)) s.taken)
-  told_is = let h = head_at s.queue.items y m g in
-      takings.token_told s k.stands.runs k.settled y h.0 h.1
-      ∙ ap (λ (i : Input). handed_out i.encoding (takings.next_token s k.stands.runs k.settled y h.0 h.1)) k.stands.reads
-      ∙ sym (ap (λ (o : Option Token). token_or_empty (decoded_input setting input).encoding o) (next_is h.0 h.1))
+  told_is : x ≡ token_or_empty (decoded_input setting input).encoding (slice_get (tokens_of s.limit (course_in s.limit setting input)) s.taken)
+  told_is = f.3
+      ∙ ap (λ (i : Input). handed_out i.encoding f.0) k.stands.reads
+      ∙ sym (ap (λ (o : Option Token). token_or_empty (decoded_input setting input).encoding o) next_is)
 
-  pub head_shown : (peeked over : Bool) (fault : Option Fault) → peeked ≡ true → (q : Parser) → q ≡ record { input = input; setting = setting; limit = s.limit; session = record { taken = s.taken; steps = s.made; peeked = peeked; over = over; fault = fault } } → token_of y.token ≡ token_shown q
+  pub head_shown : (peeked over : Bool) (fault : Option Fault) → peeked ≡ true → (q : Parser) → q ≡ record { input = input; setting = setting; limit = s.limit; session = record { taken = s.taken; steps = s.made; peeked = peeked; over = over; fault = fault } } → x ≡ token_shown q
   unfolding course_read
   head_shown peeked over fault e q r = told_is
       ∙ sym (ap (λ (b : Bool). if b then token_or_empty (decoded_input setting input).encoding (slice_get (tokens_of s.limit (course_in s.limit setting input)) s.taken) else empty) e)

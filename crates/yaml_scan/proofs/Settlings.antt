@@ -23,11 +23,11 @@ both_false true b e = e
 both_false false b e = refl
 
 pub started_new : (setting : yaml_encoding_t) (input : List ℕ) (s t : scanner_t) → Begins setting input s t → s.made ≡ 0 → IsStarted setting input s t
-started_new setting input s t b z = let m = b.made in record { stands = b.stands; still_open = b.still_open; made = omega arith; limit = b.limit; taken = b.taken }
+started_new setting input s t b z = let m = b.made in record { stands = b.stands; still_open = b.still_open; made = omega arith; limit = b.limit; taken = b.taken; done = b.done }
 
 pub started_before : (setting : yaml_encoding_t) (input : List ℕ) (s : scanner_t) → IsReady setting input s → 0 < s.made → IsStarted setting input s s
 started_before setting input s (inl n) z = let m = n.made in absurd (omega arith)
-started_before setting input s (inr r) z = record { stands = r.0; still_open = r.1; made = omega arith; limit = refl; taken = refl }
+started_before setting input s (inr r) z = record { stands = r.0; still_open = r.1; made = omega arith; limit = refl; taken = refl; done = refl }
 
 pub ready_new : (setting : yaml_encoding_t) (input : List ℕ) (s : scanner_t) → IsReady setting input s → s.made ≤ 0 → IsNew s
 ready_new setting input s (inl n) z = n
@@ -59,6 +59,7 @@ module _ (setting : yaml_encoding_t) (input : List ℕ) (s t u : scanner_t) (b :
     made = k.made ∙ pace_is;
     limit = (let e = k.same in e.limit ∙ b.limit);
     taken = (let e = k.same in e.taken ∙ b.taken);
+    done = (let e = k.same in e.done ∙ b.done);
   }
 
   history_is : Same t u → reach (history u) ≡ reach (first_steps u.made (course_in s.limit setting input).read)
@@ -79,7 +80,7 @@ module _ (setting : yaml_encoding_t) (input : List ℕ) (s t u : scanner_t) (b :
       both_false _ _ (le-ltb s.taken (length (before s.limit (first_steps u.made (course_in s.limit setting input).read))) (omega arith))
 
   pub stopped_in : Stops t u → IsStopped setting input s u
-  stopped_in k = let e = k.same in let p = pace_is in let m = b.made in let l = k.least in let n = k.most in record { limit = e.limit ∙ b.limit; taken = e.taken ∙ b.taken; least = omega arith; most = omega arith; unsettled = unsettled_in k; reach = k.reach ∙ history_is e }
+  stopped_in k = let e = k.same in let p = pace_is in let m = b.made in let l = k.least in let n = k.most in record { limit = e.limit ∙ b.limit; taken = e.taken ∙ b.taken; done = e.done ∙ b.done; least = omega arith; most = omega arith; unsettled = unsettled_in k; reach = k.reach ∙ history_is e }
 
   pub begun_is : (course_in s.limit setting input).begun ≡ true
   begun_is = sym (ap (λ (c : Course). c.begun) course_t) ∙ b.stands.runs.start

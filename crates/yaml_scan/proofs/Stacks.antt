@@ -1,10 +1,13 @@
 -- Closing levels: a stack whose top stays keeps all.
-use Rattle.std.proofs.Common.{◌≡◌, ℕ, Bool, true, false, ◌≤◌, not, List, [], ◌∷◌, filter, leb, le-leb, refl, ap, arith, Some, None, inl, inr}
+use Rattle.std.proofs.Common.{◌≡◌, ℕ, Bool, true, false, ◌≤◌, not, List, [], ◌∷◌, ◌++◌, ◌+◌, map, filter, length, leb, le-leb, le-ltb, ltb-false, refl, ap, sym, arith, Some, None, inl, inr}
 use Rattle.std.proofs.lemmas.Bool.{cases_Bool, and_parts, and_from, leb-true}
 use Rattle.yaml_text.specs.declared.types.yaml_mark_t.{yaml_mark_t}
-use Rattle.yaml_scan.specs.Kind.{Kind, closes_all}
+use Rattle.yaml_scan.specs.Kind.{Kind, is_stream_end, closes_all}
 use Rattle.yaml_scan.specs.Levels.{IsFalling, AllLess, stays}
-use Rattle.yaml_scan.specs.Numbered.{closing}
+use Rattle.yaml_scan.specs.Groups.{closing, ends_at}
+use Rattle.yaml_scan.specs.Offline.{Token, end_at}
+use Rattle.yaml_scan.specs.Offline.Token.{BlockEnd}
+use Rattle.std.specs.Prelude.{◌&&◌, nat_lt, if◌then◌else◌}
 
 stays_less : (f : Bool) (k : Kind) (m : yaml_mark_t) (c d : ℕ) → d ≤ c → stays f k m c ≡ true → stays f k m d ≡ true
 stays_less true k m c d l e = refl
@@ -32,3 +35,59 @@ module _ (f : Bool) (k : Kind) (m : yaml_mark_t) where
   pub none_closed : (cs : List ℕ) → IsFalling cs → closing f k m cs ≡ None → filter (λ l. not (stays f k m l)) cs ≡ []
   none_closed [] g e = refl
   none_closed (c ∷ cs) g e = let l = top_stays c cs e in rw l (gone c cs g.0 l)
+
+-- THE ENDS
+-- those of the columns above the end of the gap come first
+module _ (k : Kind) (front start : yaml_mark_t) where
+  abbrev pub is_early : ℕ → Bool
+  is_early c = is_stream_end k && nat_lt front.column c
+
+  no_more : (c : ℕ) (cs : List ℕ) → AllLess c cs → is_early c ≡ false → filter is_early cs ≡ []
+  no_more c [] a e = refl
+  no_more c (d ∷ cs) a e = let f : is_early d ≡ false = less (is_stream_end k) e in rw f (no_more c cs a.1 e)
+    where
+      less : (b : Bool) → (b && nat_lt front.column c) ≡ false → (b && nat_lt front.column d) ≡ false
+      less false e = refl
+      less true e = let l = a.0 in let m = ltb-false front.column c e in le-ltb front.column d (omega arith)
+
+  one_start : (c : ℕ) → is_early c ≡ false → end_at k front start c ≡ start
+  one_start c e = rw e refl
+
+  all_late : (cs : List ℕ) → filter is_early cs ≡ [] → map (λ c. BlockEnd (end_at k front start c)) cs ≡ ends_at (length (filter (λ c. not (is_early c)) cs)) start
+  all_late [] e = refl
+  all_late (c ∷ cs) e = elim (cases_Bool (is_early c)) [
+    | inl q ↦ (let f : c ∷ filter is_early cs ≡ [] = rw q at e in absurd (let n = ap (λ (l : List ℕ). length l) f in omega arith))
+    | inr q ↦ (let f : filter is_early cs ≡ [] = rw q at e in rw (one_start c q, q) (ap (λ (l : List Token). BlockEnd start ∷ l) (all_late cs f)))
+  ]
+
+  pub ends_split : (cs : List ℕ) → IsFalling cs → ends_at (length (filter is_early cs)) front ++ ends_at (length (filter (λ c. not (is_early c)) cs)) start ≡ map (λ c. BlockEnd (end_at k front start c)) cs
+  ends_split [] g = refl
+  ends_split (c ∷ cs) g = elim (cases_Bool (is_early c)) [
+    | inl q ↦ rw q (ap (λ (l : List Token). BlockEnd front ∷ l) (ends_split cs g.1))
+    | inr q ↦ (let n = no_more c cs g.0 q in rw (q, n) (ap (λ (l : List Token). BlockEnd start ∷ l) (sym (all_late cs n))))
+  ]
+
+  pub none_early : (cs : List ℕ) → is_stream_end k ≡ false → length (filter is_early cs) ≡ 0
+  none_early [] e = refl
+  none_early (c ∷ cs) e = let f : is_early c ≡ false = rw e refl in rw f (none_early cs e)
+
+falling_some : (t : ℕ → Bool) (n : ℕ) (cs : List ℕ) → AllLess n cs → AllLess n (filter t cs)
+falling_some t n [] a = tt
+falling_some t n (c ∷ cs) a = elim (cases_Bool (t c)) [ inl q ↦ rw q (a.0, falling_some t n cs a.1) | inr q ↦ rw q (falling_some t n cs a.1) ]
+
+pub filter_falls : (t : ℕ → Bool) (cs : List ℕ) → IsFalling cs → IsFalling (filter t cs)
+filter_falls t [] g = tt
+filter_falls t (c ∷ cs) g = elim (cases_Bool (t c)) [ inl q ↦ rw q (falling_some t c cs g.0, filter_falls t cs g.1) | inr q ↦ rw q (filter_falls t cs g.1) ]
+
+-- one column more is closed
+pub one_closed : (f : Bool) (k : Kind) (m : yaml_mark_t) (u : ℕ → Bool) (c : ℕ) (cs : List ℕ) → closing f k m (c ∷ cs) ≡ Some c → length (filter u (filter (λ l. not (stays f k m l)) (c ∷ cs))) ≡ (if u c then 1 else 0) + length (filter u (filter (λ l. not (stays f k m l)) cs))
+one_closed f k m u c cs e = elim (cases_Bool (stays f k m c)) [
+  | inl s ↦ (let g : None ≡ Some c = rw s at e in absurd (cc))
+  | inr s ↦ rw s (elim (cases_Bool (u c)) [ inl q ↦ rw q (omega arith) | inr q ↦ rw q (omega arith) ])
+]
+
+pub kept_without : (f : Bool) (k : Kind) (m : yaml_mark_t) (c : ℕ) (cs : List ℕ) → closing f k m (c ∷ cs) ≡ Some c → filter (stays f k m) (c ∷ cs) ≡ filter (stays f k m) cs
+kept_without f k m c cs e = elim (cases_Bool (stays f k m c)) [
+  | inl s ↦ (let g : None ≡ Some c = rw s at e in absurd (cc))
+  | inr s ↦ rw s refl
+]

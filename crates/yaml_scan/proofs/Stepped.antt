@@ -66,7 +66,7 @@ unfolding history
 history_same s t e m = rw (course_same s t e, m) refl
 
 pub same_trans : (s t u : scanner_t) → Same s t → Same t u → Same s u
-same_trans s t u a b = record { text = b.text ∙ a.text; refusal = b.refusal ∙ a.refusal; near = b.near ∙ a.near; limit = b.limit ∙ a.limit; taken = b.taken ∙ a.taken }
+same_trans s t u a b = record { text = b.text ∙ a.text; refusal = b.refusal ∙ a.refusal; near = b.near ∙ a.near; limit = b.limit ∙ a.limit; taken = b.taken ∙ a.taken; done = b.done ∙ a.done }
 
 -- THE COURSE
 module _ (s : scanner_t) (r : Runs s) where
@@ -146,13 +146,13 @@ module _ (s : scanner_t) (r : Runs s) where
       pub near_last : (index : ℕ) (f : Fault) → index ≡ t.reach.index → near_fault s.near index (refusal_seen s.refusal) ≡ Some f → IsLast s f
       near_last index f i q = last_is _ (next_step ∙ near_some s.text.chars s.near r.near X a.within index (i ∙ a.index) (refusal_seen s.refusal) f q)
 
-      module _ (u : scanner_t) (H : u.text ≡ t.text) (J : u.refusal ≡ t.refusal) (K : u.near ≡ t.near) (L : u.limit ≡ t.limit) (V : u.levels ≡ t.levels) (O : u.outer ≡ t.outer) (E : u.not_simple_keys ≡ t.not_simple_keys) (P : u.top ≡ t.top) (A : u.allowed ≡ t.allowed) (Q : u.queue ≡ t.queue) (R : u.reach ≡ t.reach) (T : u.taken ≡ t.taken) (M : u.made ≡ t.made + 1)
+      module _ (u : scanner_t) (H : u.text ≡ t.text) (J : u.refusal ≡ t.refusal) (K : u.near ≡ t.near) (L : u.limit ≡ t.limit) (O : u.slots ≡ t.slots) (A : u.allowed ≡ t.allowed) (Q : u.layout ≡ t.layout) (R : u.reach ≡ t.reach) (T : u.taken ≡ t.taken) (M : u.made ≡ t.made + 1)
           (index : ℕ) (I : index ≡ t.reach.index) (F : near_fault s.near index (refusal_seen s.refusal) ≡ None) where
         reads : next (input_of s) s.limit (history s) ≡ X
         reads = next_step ∙ near_none s.text.chars s.near r.near X a.within index (I ∙ a.index) (refusal_seen s.refusal) F
 
         u_same : Same s u
-        u_same = let e = a.same in record { text = H ∙ e.text; refusal = J ∙ e.refusal; near = K ∙ e.near; limit = L ∙ e.limit; taken = T ∙ e.taken }
+        u_same = let e = a.same in record { text = H ∙ e.text; refusal = J ∙ e.refusal; near = K ∙ e.near; limit = L ∙ e.limit; taken = T ∙ e.taken; done = rw Q e.done }
 
         u_made : u.made ≡ s.made + 1
         u_made = let m = a.made in omega arith
@@ -165,15 +165,18 @@ module _ (s : scanner_t) (r : Runs s) where
         u_holds = let h = a.holds in record {
           text = rw H h.text;
           is_history = subst (λ (k : ℕ). IsHistory k (laid s.limit (history s) a.lexeme ∷ history s)) (sym L) h.is_history;
+          number = (let k = u_made in let n = h.number in omega arith);
           fresh = rw L h.fresh;
-          levels = rw V h.levels;
+          levels = rw Q h.levels;
           columns = rw H h.columns;
           outer = rw (O, L) h.outer;
-          empty = rw (O, E) h.empty;
-          top = rw (P, L) h.top;
+          empty = rw O h.empty;
+          top = rw (O, L) h.top;
+          awaited = rw O h.awaited;
           allowed = rw A h.allowed;
-          first = h.first;
-          queue = rw (H, Q, T, u_made) h.queue;
+          queue = rw (H, Q, T) h.queue;
+          count = rw Q h.count;
+          early = rw Q h.early;
           reach = rw R h.reach;
           taken = rw (T, L) h.taken;
           place = rw (H, R) h.place;
@@ -215,15 +218,15 @@ pub memory_stays : (near : ℕ) (r : Option Fault) (f : Fault) → f ≡ memory_
 memory_stays near r f e = rw e refl
 
 -- FEW TOKENS, AND FEW STEPS
-few_are_few : (n : ℕ) → n + 1 < 18446744073709551616 → 4 * (n + 3) ≤ 2 ^ 100
-few_are_few n l = omega arith
-
-pub few_made : (s : scanner_t) → Runs s → s.made ≤ 2 ^ 100
-few_made s r = let a = r.within in let b = read_short s r in let c = r.small in let d = few_are_few (length s.text.chars) c in omega arith
+pub few_made : (s : scanner_t) → Runs s → s.made + 2 < 2 ^ 64
+few_made s r = let a = r.within in let b = read_short s r in let c = r.small in omega arith
 
 pub history_length : (s : scanner_t) → Runs s → length (history s) ≡ s.made - 1
 unfolding history
 history_length s r = oldest_length (course_of s).read (s.made - 1) (inside s r)
+
+few_are_few : (t n : ℕ) → t ≤ 4 * (n + 3) → n < 9223372036854775808 → t + 4 ≤ 2 ^ 100
+few_are_few t n l m = omega arith
 
 pub few_taken : (s : scanner_t) → Runs s → s.taken + 4 ≤ 2 ^ 100
 few_taken s r =
@@ -233,8 +236,8 @@ few_taken s r =
     let d = history_length s r in
     let e = read_short s r in
     let f = inside s r in
-    let g = few_are_few (length s.text.chars) r.small in
-    omega arith
+    let g = r.small in
+    few_are_few s.taken (length s.text.chars) (omega arith) (omega arith)
 
 pub near_moved : (n m i : ℕ) (r q : Option yaml_fault_t) (x : Option Fault) → m ≡ n → q ≡ r → x ≡ near_fault m i (refusal_seen q) → near_fault n i (refusal_seen r) ≡ x
 near_moved n m i r q x e f g = rw (← e, ← f) (sym g)

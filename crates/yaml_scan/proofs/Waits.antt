@@ -1,11 +1,9 @@
 -- How many steps wait in the queue, as more steps are made and tokens are taken.
-use Rattle.std.proofs.Common.{◌≡◌, ℕ, zero, suc, ◌+◌, ◌-◌, ◌≤◌, ◌<◌, Bool, true, false, List, [], ◌∷◌, ◌++◌, reverse, filter, take, drop, take-append-drop, length, length-append, refl, ap, sym, ◌∙◌, subst, arith, inl, inr, get_or, eqb, eqb-true, ltb, ltb-true, ltb-false}
+use Rattle.std.proofs.Common.{◌≡◌, ℕ, zero, suc, ◌+◌, ◌-◌, ◌≤◌, ◌<◌, Bool, true, false, List, [], ◌∷◌, ◌++◌, reverse, filter, take, drop, take-append-drop, length, length-append, refl, ap, sym, ◌∙◌, subst, arith, inl, inr, eqb, eqb-true, ltb, ltb-true, ltb-false}
 use Rattle.std.specs.Prelude.{if◌then◌else◌, nat_eq}
 use Rattle.std.proofs.lemmas.Bool.{cases_Bool, cases_eq, cases_lt}
 use Rattle.std.proofs.lemmas.List.{take-append-le, drop_all, length-map, length-reverse}
 use Rattle.std.proofs.lemmas.List.Elements.{filter-append}
-use Rattle.yaml_text.specs.declared.types.yaml_encoding_t.{yaml_encoding_t}
-use Rattle.yaml_scan.specs.declared.queue.queued_t.{queued_t}
 use Rattle.yaml_scan.specs.declared.step.scanner_t.{scanner_t}
 use Rattle.yaml_scan.specs.Laid.{Laid}
 use Rattle.yaml_scan.specs.Laws.{is_of_lexeme}
@@ -13,7 +11,6 @@ use Rattle.yaml_scan.specs.Begins.{Begins}
 use Rattle.yaml_scan.specs.Order.{IsHistory}
 use Rattle.yaml_scan.specs.Offline.{Token, before, offline, groups, queued}
 use Rattle.yaml_scan.specs.Offline.Token.{OfLexeme}
-use Rattle.yaml_scan.specs.Numbered.{IsQueue, step_behind, step_at}
 use Rattle.yaml_scan.specs.Cut.{oldest}
 use Rattle.yaml_scan.specs.Session.{steps_for, pace, first_steps}
 use Rattle.yaml_scan.specs.Scanning.{Runs, history}
@@ -23,29 +20,8 @@ use Rattle.yaml_scan.proofs.Extend.{before-before, before-offline}
 use Rattle.yaml_scan.proofs.GoOn.{lexemes_come_in_order}
 use Rattle.yaml_scan.proofs.Next.{oldest_all, oldest_tail}
 use Rattle.yaml_scan.proofs.Pacing.{split, at_most, enough, oldest_length, oldest_twice, older}
-use Rattle.yaml_scan.proofs.Queues.{step_some, step_none}
+use Rattle.yaml_scan.proofs.Standing.{groups_count}
 use Rattle.yaml_scan.proofs.Stepped.{history_length}
-
--- IN THE QUEUE
-one_behind : (x : Token) (n k : ℕ) → step_behind x n + k ≡ n + ((if is_of_lexeme x then 1 else 0) + k)
-one_behind x n k = go (is_of_lexeme x)
-  where
-    go : (b : Bool) → (if b then n + 1 else n) + k ≡ n + ((if b then 1 else 0) + k)
-    go true = omega arith
-    go false = omega arith
-
-one_in : (x : Token) (xs : List Token) → length (filter is_of_lexeme (x ∷ xs)) ≡ (if is_of_lexeme x then 1 else 0) + length (filter is_of_lexeme xs)
-one_in x xs = go (is_of_lexeme x)
-  where
-    go : (b : Bool) → length (if b then x ∷ filter is_of_lexeme xs else filter is_of_lexeme xs) ≡ (if b then 1 else 0) + length (filter is_of_lexeme xs)
-    go true = omega arith
-    go false = omega arith
-
-pub steps_in : (e : yaml_encoding_t) (n m : ℕ) (ys : List queued_t) (xs : List Token) → IsQueue e n m ys xs → n + length (filter is_of_lexeme xs) ≡ m
-steps_in e n m [] [] i = omega (arith, i)
-steps_in e n m (y ∷ ys) (x ∷ xs) i = (let r = steps_in e (step_behind x n) m ys xs i.2 in let a = one_behind x n (length (filter is_of_lexeme xs)) in let b = one_in x xs in omega arith)
-steps_in e n m [] (x ∷ xs) i = absurd i
-steps_in e n m (y ∷ ys) [] i = absurd i
 
 -- OF THE LIST
 all_in : (H : List Laid) → length (filter is_of_lexeme (offline H)) ≡ length H + 1
@@ -175,37 +151,14 @@ module _ (limit : ℕ) (H : List Laid) (h : IsHistory limit H) where
   ]
 
 -- OF A SCANNER
-pub steps_queued : (s : scanner_t) (r : Runs s) → queued (history s) s.taken (history s) + (let g = r.holds in g.first) ≡ s.made + 1
+-- those that wait have a group, and those that do not are counted
+pub done_is : (s : scanner_t) → Runs s → queued (history s) s.taken (history s) + s.layout.queue.done ≡ s.made
 unfolding offline
-steps_queued s r =
+done_is s r =
     let g = r.holds in
-    let a = steps_in s.text.encoding g.first (s.made + 1) s.queue.items (drop s.taken (offline (history s))) g.queue in
+    let a = groups_count s.text.encoding s.layout.queue.early s.layout.queue.front s.layout.queue.groups.items (drop s.taken (offline (history s))) g.queue in
     let b = queued-count (history s) (history s) s.taken in
-    omega arith
-
-first_at : (e : yaml_encoding_t) (n m : ℕ) (ys : List queued_t) (xs : List Token) → IsQueue e n m ys xs → n ≡ step_at 0 m ys
-first_at e n m [] [] i = i
-first_at e n m (y ∷ ys) (x ∷ xs) i = sym i.1
-first_at e n m [] (x ∷ xs) i = absurd i
-first_at e n m (y ∷ ys) [] i = absurd i
-
-first_is : (s : scanner_t) (r : Runs s) → (let g = r.holds in g.first) ≡ step_at 0 (s.made + 1) s.queue.items
-first_is s r = let g = r.holds in first_at s.text.encoding g.first (s.made + 1) s.queue.items (drop s.taken (offline (history s))) g.queue
-
-first_step : (s : scanner_t) (r : Runs s) → 1 ≤ (let g = r.holds in g.first)
-first_step s r = let a = steps_queued s r in let b = queued_most (history s) s.taken in let c = history_length s r in let d = r.begun in omega arith
-
-pub done_some : (s : scanner_t) (r : Runs s) (y : queued_t) → 0 < length s.queue.items → y ≡ get_or s.queue.items 0 y → (1 ≤ y.step) × (queued (history s) s.taken (history s) + (y.step - 1) ≡ s.made)
-done_some s r y l e =
-    let a = step_some (s.made + 1) s.queue.items 0 y l e in
-    let b = first_is s r in
-    let d = first_step s r in
-    let f = steps_queued s r in
-    (omega arith, omega arith)
-
-pub done_none : (s : scanner_t) (r : Runs s) → length s.queue.items ≤ 0 → queued (history s) s.taken (history s) + s.made ≡ s.made
-done_none s r l =
-    let a = step_none (s.made + 1) s.queue.items 0 l in
-    let b = first_is s r in
-    let f = steps_queued s r in
+    let c = g.count in
+    let d = history_length s r in
+    let e = r.begun in
     omega arith

@@ -20,7 +20,7 @@ pub mod Session
 pub mod Laws
 pub mod TokenLaws
 pub mod SessionLaws
-pub mod Numbered
+pub mod Groups
 pub mod Near
 pub mod Moves
 pub mod Scanning

@@ -1,8 +1,8 @@
--- What a step does to the queue and the stack of levels of a running scanner.
-use Rattle.std.specs.Prelude.{ℕ, ◌≤◌, ◌-◌, Bool, true, ◌&&◌, List, [], ◌∷◌, ◌++◌, take, drop, Option, Some, None, if◌then◌else◌}
+-- What a step does to the offline list and to the stack of levels of a running scanner.
+use Rattle.std.specs.Prelude.{ℕ, Bool, true, ◌&&◌, List, [], ◌∷◌, ◌++◌, take, drop, Option, Some, None, if◌then◌else◌}
 use Rattle.yaml_text.specs.declared.types.yaml_mark_t.{yaml_mark_t}
 use Rattle.yaml_scan.specs.Kind.{Kind}
-use Rattle.yaml_scan.specs.Offline.{Token, start_token}
+use Rattle.yaml_scan.specs.Offline.{Token}
 use Rattle.yaml_scan.specs.Offline.Token.{BlockMappingStart, InsertedKey}
 use Rattle.yaml_scan.specs.Levels.{is_above, greatest_level, opens_level}
 use Rattle.yaml_scan.specs.Slots.{Held}
@@ -23,13 +23,3 @@ key_at new m = (if new then BlockMappingStart m ∷ [] else []) ++ (InsertedKey 
 abbrev pub opened : Bool → Option Held → Kind → yaml_mark_t → List ℕ → List ℕ
 opened margin None k m cs = (if is_new margin m.column cs && opens_level k true then m.column ∷ [] else []) ++ cs
 opened margin (Some h) k m cs = (if is_new margin h.start.column cs then h.start.column ∷ [] else []) ++ cs
-
--- and the queue, of which t tokens were taken
-abbrev pub put_starts : Bool → Option Held → Kind → yaml_mark_t → List ℕ → ℕ → List Token → List Token
-put_starts margin None k m cs t q = q ++ (if is_new margin m.column cs && opens_level k true then start_token k m ∷ [] else [])
-put_starts margin (Some h) k m cs t q = put_in (h.at - t) (key_at (is_new margin h.start.column cs) h.start) q
-
--- the token of the candidate that is held is among the n that are queued
-abbrev pub Fitting : Option Held → ℕ → ℕ → Type 0
-Fitting None t n = Unit {0}
-Fitting (Some h) t n = (t ≤ h.at) × ((h.at - t) ≤ n)

@@ -15,15 +15,19 @@ use Rattle.yaml_scan.specs.Session.{settled, pace, all_steps, first_steps, sessi
 use Rattle.yaml_scan.specs.Inputs.{decoded_input}
 use Rattle.yaml_scan.specs.Scanning.{Runs, IsOpen, history, course_of, input_of}
 use Rattle.yaml_scan.specs.Parser.{Parser}
+use Rattle.yaml_scan.specs.Groups.{IsLead}
 
 -- nothing was read yet
 pub record IsNew (s : scanner_t) : Type 0 where
-  pub levels : s.levels.items ≡ []
-  pub outer : s.outer.items ≡ []
-  pub empty : s.not_simple_keys ≡ 0
-  pub top : s.top ≡ None
+  pub levels : s.layout.levels.items ≡ []
+  pub outer : s.slots.outer.items ≡ []
+  pub empty : s.slots.not_simple_keys ≡ 0
+  pub top : s.slots.top ≡ None
+  pub awaited : s.slots.awaited ≡ 0
   pub allowed : s.allowed ≡ true
-  pub queue : s.queue.items ≡ []
+  pub queue : s.layout.queue.groups.items ≡ []
+  pub done : s.layout.queue.done ≡ 0
+  pub early : s.layout.queue.early ≡ 0
   pub reach : s.reach ≡ zero_mark
   pub taken : s.taken ≡ 0
   pub made : s.made ≡ 0
@@ -54,11 +58,13 @@ pub record IsSettled (setting : yaml_encoding_t) (input : List ℕ) (s t : scann
   pub made : t.made ≡ pace s.limit (course_in s.limit setting input).read s.taken s.made
   pub limit : t.limit ≡ s.limit
   pub taken : t.taken ≡ s.taken
+  pub done : t.layout.queue.done ≡ s.layout.queue.done
 
 -- a scanner that has stopped: no more steps were made than the next token needs, and it needs one more
 pub record IsStopped (setting : yaml_encoding_t) (input : List ℕ) (s t : scanner_t) : Type 0 where
   pub limit : t.limit ≡ s.limit
   pub taken : t.taken ≡ s.taken
+  pub done : t.layout.queue.done ≡ s.layout.queue.done
   pub least : s.made ≤ t.made
   pub most : t.made ≤ pace s.limit (course_in s.limit setting input).read s.taken s.made
   pub unsettled : settled s.limit (course_in s.limit setting input).read s.taken t.made ≡ false
@@ -93,16 +99,17 @@ parser_of p = record {
   input = p.input.now;
   setting = p.setting;
   limit = p.scanner.limit;
-  session = record { taken = p.scanner.taken; steps = p.scanner.made; peeked = p.peeked; over = p.over; fault = option_map fault_of p.fault };
+  session = record { taken = p.scanner.taken; steps = p.scanner.made; peeked = p.session.peeked; over = p.session.over; fault = option_map fault_of p.session.fault };
 }
 
 pub record Sound (p : Inside) : Type 0 where
-  pub ready : p.over ≡ false → IsReady p.setting p.input.now p.scanner
-  pub peeked : p.peeked ≡ true → (p.over ≡ false) × IsShown p.setting p.input.now p.scanner
+  pub ready : p.session.over ≡ false → IsReady p.setting p.input.now p.scanner
+  pub peeked : p.session.peeked ≡ true → (p.session.over ≡ false) × IsShown p.setting p.input.now p.scanner
   pub reach : p.scanner.reach ≡ reach (first_steps p.scanner.made (course_in p.scanner.limit p.setting p.input.now).read)
   pub empty : token_of p.empty ≡ empty
+  pub lead : p.session.peeked ≡ true → IsLead p.scanner.text.encoding p.scanner.layout.queue (token_of p.lead)
   pub limit : p.scanner.limit ≤ 65536
-  pub queued : session_queued (course_in p.scanner.limit p.setting p.input.now) (parser_of p).session + p.done ≡ p.scanner.made
+  pub queued : session_queued (course_in p.scanner.limit p.setting p.input.now) (parser_of p).session + p.scanner.layout.queue.done ≡ p.scanner.made
   pub few : session_queued (course_in p.scanner.limit p.setting p.input.now) (parser_of p).session ≤ p.scanner.limit + 1
 
 -- STREAM-START was made
@@ -112,6 +119,7 @@ pub record Begins (setting : yaml_encoding_t) (input : List ℕ) (s t : scanner_
   pub made : t.made ≡ 1
   pub limit : t.limit ≡ s.limit
   pub taken : t.taken ≡ s.taken
+  pub done : t.layout.queue.done ≡ s.layout.queue.done
 
 -- the first step was made, now or before
 pub record IsStarted (setting : yaml_encoding_t) (input : List ℕ) (s t : scanner_t) : Type 0 where
@@ -120,3 +128,4 @@ pub record IsStarted (setting : yaml_encoding_t) (input : List ℕ) (s t : scann
   pub made : t.made ≡ max 1 s.made
   pub limit : t.limit ≡ s.limit
   pub taken : t.taken ≡ s.taken
+  pub done : t.layout.queue.done ≡ s.layout.queue.done

@@ -1,5 +1,5 @@
--- What a running scanner holds after the lexemes H.
-use Rattle.std.specs.Prelude.{◌≡◌, ℕ, ◌+◌, ◌-◌, ◌≤◌, ◌<◌, ◌^◌, true, false, List, ◌∷◌, reverse, drop, length, None, Some, nat_lt}
+-- What a running scanner holds behind the lexemes H.
+use Rattle.std.specs.Prelude.{◌≡◌, ℕ, ◌+◌, ◌-◌, ◌≤◌, ◌<◌, ◌^◌, true, false, List, [], ◌∷◌, ◌++◌, reverse, drop, length, None, Some, nat_lt}
 use Rattle.yaml_text.specs.Fault.{Fault}
 use Rattle.yaml_text.specs.Chars.{AreChars}
 use Rattle.yaml_text.specs.Decode.{refusal_seen}
@@ -14,8 +14,8 @@ use Rattle.yaml_scan.specs.Laid.{Laid, reach, depth, allowed, allowed_behind}
 use Rattle.yaml_scan.specs.Levels.{AllLess, laid, open_columns}
 use Rattle.yaml_scan.specs.Order.{IsHistory, ended}
 use Rattle.yaml_scan.specs.Offline.{offline, before}
-use Rattle.yaml_scan.specs.Slots.{held, outer_to, empty_slots}
-use Rattle.yaml_scan.specs.Numbered.{IsQueue}
+use Rattle.yaml_scan.specs.Slots.{held, outer_to, empty_slots, lowest, step_of}
+use Rattle.yaml_scan.specs.Groups.{IsQueue}
 use Rattle.yaml_scan.specs.Step.{step, read_step, stale, place_behind, front_of}
 use Rattle.yaml_scan.specs.Step.Outcome.{Reads, Faults}
 use Rattle.yaml_scan.specs.Cut.{oldest}
@@ -37,15 +37,18 @@ IsNearFrom cs near = (p : ℕ) → p ≤ length cs → (near ≤ ((source_of cs)
 pub record Holds (H : List Laid) (n : ℕ) (s : scanner_t) : Type 0 where
   pub text : AreChars s.text.chars
   pub is_history : IsHistory s.limit H
+  pub number : n ≡ length H + 2
   pub fresh : stale s.limit H (reach H) ≡ None
-  pub levels : reverse s.levels.items ≡ open_columns H
+  pub levels : reverse s.layout.levels.items ≡ open_columns H
   pub columns : AllLess (length s.text.chars + 1) (open_columns H)
-  pub outer : s.outer.items ≡ outer_to s.limit H (depth H)
-  pub empty : s.not_simple_keys ≡ empty_slots s.outer.items
-  pub top : s.top ≡ held s.limit H (depth H)
+  pub outer : s.slots.outer.items ≡ outer_to s.limit H (depth H)
+  pub empty : s.slots.not_simple_keys ≡ empty_slots s.slots.outer.items
+  pub top : s.slots.top ≡ held s.limit H (depth H)
+  pub awaited : s.slots.awaited ≡ step_of (lowest (s.slots.outer.items ++ s.slots.top ∷ []))
   pub allowed : s.allowed ≡ allowed_behind H
-  pub first : ℕ
-  pub queue : IsQueue s.text.encoding first n s.queue.items (drop s.taken (offline H))
+  pub queue : IsQueue s.text.encoding s.layout.queue.early s.layout.queue.front s.layout.queue.groups.items (drop s.taken (offline H))
+  pub count : s.layout.queue.done + length s.layout.queue.groups.items ≡ length H + 1
+  pub early : ended H ≡ false → s.layout.queue.early ≡ 0
   pub reach : s.reach ≡ reach H
   pub taken : s.taken ≤ length (before s.limit H)
   pub place : ended H ≡ false → IsMarkOf s.text.chars s.reach (place_behind H)
@@ -64,6 +67,7 @@ pub record Same (s t : scanner_t) : Type 0 where
   pub near : t.near ≡ s.near
   pub limit : t.limit ≡ s.limit
   pub taken : t.taken ≡ s.taken
+  pub done : t.layout.queue.done ≡ s.layout.queue.done
 
 -- the next lexeme
 pub record Advances (H : List Laid) (s t : scanner_t) : Type 0 where
@@ -92,7 +96,7 @@ history s = oldest (s.made - 1) (course_of s).read
 
 -- STREAM-START was made, and the session is not over
 pub record Runs (s : scanner_t) : Type 0 where
-  pub small : length s.text.chars + 1 < 2 ^ 64
+  pub small : length s.text.chars < 2 ^ 63
   pub near : IsNearFrom s.text.chars s.near
   pub holds : Holds (history s) (s.made + 1) s
   pub begun : 0 < s.made

@@ -1,19 +1,19 @@
 -- The key slots of a running scanner, in the words of the definitions.
-use Rattle.std.specs.Prelude.{◌≡◌, ◌≢◌, ℕ, zero, suc, ◌+◌, ◌-◌, ◌<◌, ◌≤◌, take, slice_get, Bool, false, not, ◌&&◌, List, [], ◌∷◌, ◌++◌, length, nat_eq, nat_le, Option, Some, None, option_map, if◌then◌else◌}
+use Rattle.std.specs.Prelude.{◌≡◌, ◌≢◌, ℕ, zero, suc, ◌+◌, ◌-◌, ◌<◌, ◌≤◌, take, slice_get, Bool, not, ◌&&◌, List, [], ◌∷◌, ◌++◌, length, nat_eq, nat_le, Option, Some, None, option_map, if◌then◌else◌}
 use Rattle.yaml_text.specs.declared.types.yaml_mark_t.{yaml_mark_t}
 use Rattle.yaml_scan.specs.Kind.{Kind, is_flow_start, is_flow_end, is_value, is_candidate_kind}
 use Rattle.yaml_scan.specs.Laid.{Laid, names, candidate, reach, only_live}
 use Rattle.yaml_scan.specs.Levels.{is_required}
-use Rattle.yaml_scan.specs.Offline.{up_to}
--- what is kept of a candidate: the number of its token, its start, and whether it is required
+-- what is kept of a candidate: the number of its step, its start, and whether it is required
 pub use Rattle.yaml_scan.specs.declared.keys.held_t.{held_t as Held}
 
-abbrev pub held_of : List Laid → Laid → Held
-held_of H c = record { at = length (up_to H (Some c)); start = c.lexeme.start; required = is_required c }
+-- the first lexeme is step 2, behind STREAM-START
+abbrev pub held_of : Laid → Held
+held_of c = record { step = c.number + 2; start = c.lexeme.start; required = is_required c }
 
 -- the candidate of depth k, while it is live
 abbrev pub held : ℕ → List Laid → ℕ → Option Held
-held limit H k = option_map (held_of H) (only_live limit (reach H) (candidate H k))
+held limit H k = option_map held_of (only_live limit (reach H) (candidate H k))
 
 abbrev pub is_live : ℕ → yaml_mark_t → Held → Bool
 is_live limit m h = nat_eq m.line h.start.line && nat_le m.index (h.start.index + limit)
@@ -67,10 +67,10 @@ AreEmptyBelow n hs = (k : ℕ) (h : Held) → k < n → slice_get hs k ≢ Some 
 abbrev pub AreNested : List (Option Held) → Type 0
 AreNested hs = (k n : ℕ) (h g : Held) → k < n → slice_get hs k ≡ Some (Some h) → slice_get hs n ≡ Some (Some g) → (g.start.line ≡ h.start.line) × (h.start.index ≤ g.start.index)
 
--- what is held is the candidate whose token is number t
-abbrev pub waits : ℕ → Option Held → Bool
-waits t None = false
-waits t (Some h) = nat_eq h.at t
+-- the number of its step, or 0
+abbrev pub step_of : Option Held → ℕ
+step_of None = 0
+step_of (Some h) = h.step
 
 -- the candidate that a lexeme of kind k completes at m, of that of its depth
 abbrev pub completed_held : Kind → ℕ → yaml_mark_t → Option Held → Option Held

@@ -1,18 +1,32 @@
 //! Simple keys: the candidate of each flow depth, which a `:` may yet make a key (YAML 1.1, 10.2 Mappings, simple keys).
-ghost use Rattle.std.specs.Prelude.{◌≡◌, ◌+◌, ◌-◌, ◌&&◌, not, List, Option, None, map, IfOk, OnOk, if◌then◌else◌};
-ghost use Rattle.yaml_scan.specs.Slots.{is_live, still_held, lost_held, needed, slot_behind, root_of, waits, completed_held, nested_outer, nested_top, empty_slots, lowest, AreEmptyBelow, AreNested};
+ghost use Rattle.std.specs.Prelude.{◌≡◌, ◌+◌, ◌-◌, ◌<◌, ◌&&◌, ◌++◌, ◌∷◌, [], not, List, Option, None, map, vec_len, if◌then◌else◌};
+ghost use Rattle.std.specs.Vec.{vec_capacity};
+ghost use Rattle.yaml_scan.specs.Slots.{is_live, still_held, lost_held, needed, slot_behind, root_of, step_of};
+ghost use Rattle.yaml_scan.specs.Slots.{completed_held, nested_outer, nested_top, empty_slots, lowest, AreEmptyBelow, AreNested};
 
 use crate::kind::{is_candidate, is_colon, is_flow_end, is_flow_start};
-use std::alloc::AllocError;
 use yaml_lexeme::yaml_lexeme_kind_t;
 use yaml_text::yaml_mark_t;
 
-/// What is kept of a candidate: how many tokens come before its own, where it starts, and whether a `:` has to come.
+/// What is kept of a candidate: the number of its step, where it starts, and whether a `:` has to come.
 #[derive(Clone, Copy)]
 pub(crate) struct held_t {
-    pub at: u128,
+    pub step: u64,
     pub start: yaml_mark_t,
     pub required: bool,
+}
+
+/// The candidates of all depths.
+#[derive(Drop)]
+pub(crate) struct slots_t {
+    /// Those of the depths below the present one.
+    pub outer: Vec<Option<held_t>>,
+    /// How many of the lowest of these are empty: no slot below holds a candidate.
+    pub not_simple_keys: usize,
+    /// The candidate of the present depth.
+    pub top: Option<held_t>,
+    /// The step of the lowest candidate, or 0.
+    pub awaited: u64,
 }
 
 /// Whether a candidate is live at a mark: on its line, and at most `limit` bytes from its start.
@@ -76,6 +90,8 @@ fn give_up_stale(
     requires empty { empty ≡ empty_slots slots.old.items }
     requires nested { AreNested slots.old.items }
     ensures slots { slots.new.items ≡ map (still_held limit mark) slots.old.items }
+    ensures len { vec_len slots.new ≡ vec_len slots.old }
+    ensures capacity { vec_capacity slots.new ≡ vec_capacity slots.old }
     ensures empty { result ≡ empty_slots slots.new.items }
 {
     let mut empty = empty;
@@ -157,72 +173,62 @@ fn give_up(slot: &mut Option<held_t>, limit: u64, mark: yaml_mark_t)
     }
 }
 
-/// Enters a depth, or gives one up.
-fn nest(
-    outer: &mut Vec<Option<held_t>>,
-    top: &mut Option<held_t>,
-    kind: yaml_lexeme_kind_t,
-) -> Result<(), AllocError>
-    ensures outer { OnOk result (outer.new.items ≡ nested_outer kind outer.old.items top.old) }
-    ensures top { OnOk result (top.new ≡ nested_top kind outer.old.items top.old) }
+/// Enters a depth, or gives one up. There is room for one.
+fn nest(slots: &mut slots_t, kind: yaml_lexeme_kind_t)
+    requires { vec_len slots.old.outer < vec_capacity slots.old.outer }
+    ensures outer { slots.new.outer.items ≡ nested_outer kind slots.old.outer.items slots.old.top }
+    ensures top { slots.new.top ≡ nested_top kind slots.old.outer.items slots.old.top }
 {
     if is_flow_start(kind) {
-        outer.push(*top)?;
-        *top = None;
+        slots.outer.push_reserved(slots.top);
+        slots.top = None;
     } else if is_flow_end(kind) {
-        match outer.pop() {
+        match slots.outer.pop() {
             None => {}
-            Some(held) => *top = held,
+            Some(held) => slots.top = held,
         }
     }
-    Ok(())
 }
 
-/// Gives up what is stale at a mark, and changes the depth after a lexeme.
+/// The candidate of the least depth.
+fn lowest(slots: &slots_t) -> Option<held_t>
+    requires { slots.now.not_simple_keys ≡ empty_slots slots.now.outer.items }
+    ensures { result ≡ lowest (slots.now.outer.items ++ slots.now.top ∷ []) }
+{
+    match slots.outer.get(slots.not_simple_keys) {
+        Some(slot) => *slot,
+        None => slots.top,
+    }
+}
+
+/// The number of a candidate's step, or 0.
+fn step_of(held: Option<held_t>) -> u64
+    ensures { result ≡ step_of held }
+{
+    match held {
+        None => 0,
+        Some(held) => held.step,
+    }
+}
+
+/// Gives up what is stale at a mark, and changes the depth after a lexeme. There is room for one.
 pub(crate) fn move_slots(
-    outer: &mut Vec<Option<held_t>>,
-    empty: &mut usize,
-    top: &mut Option<held_t>,
+    slots: &mut slots_t,
     kind: yaml_lexeme_kind_t,
     limit: u64,
     mark: yaml_mark_t,
-) -> Result<(), AllocError>
-    requires empty { empty.old ≡ empty_slots outer.old.items }
-    requires nested { AreNested outer.old.items }
-    ensures outer { OnOk result (outer.new.items ≡ nested_outer kind (map (still_held limit mark) outer.old.items) (still_held limit mark top.old)) }
-    ensures top { OnOk result (top.new ≡ nested_top kind (map (still_held limit mark) outer.old.items) (still_held limit mark top.old)) }
-    ensures empty { OnOk result (empty.new ≡ empty_slots outer.new.items) }
+)
+    requires empty { slots.old.not_simple_keys ≡ empty_slots slots.old.outer.items }
+    requires nested { AreNested slots.old.outer.items }
+    requires room { vec_len slots.old.outer < vec_capacity slots.old.outer }
+    ensures outer { slots.new.outer.items ≡ nested_outer kind (map (still_held limit mark) slots.old.outer.items) (still_held limit mark slots.old.top) }
+    ensures top { slots.new.top ≡ nested_top kind (map (still_held limit mark) slots.old.outer.items) (still_held limit mark slots.old.top) }
+    ensures empty { slots.new.not_simple_keys ≡ empty_slots slots.new.outer.items }
+    ensures awaited { slots.new.awaited ≡ step_of (lowest (slots.new.outer.items ++ slots.new.top ∷ [])) }
 {
-    let below = give_up_stale(outer, *empty, limit, mark);
-    give_up(top, limit, mark);
-    nest(outer, top, kind)?;
-    *empty = count_empty(outer, below);
-    Ok(())
-}
-
-fn waits_for(slot: Option<held_t>, taken: u128) -> bool
-    ensures { result ≡ waits taken slot }
-{
-    match slot {
-        None => false,
-        Some(held) => held.at == taken,
-    }
-}
-
-/// Whether the token that comes after `taken` others is that of the candidate.
-pub(crate) fn is_awaited(top: Option<held_t>, taken: u128) -> bool
-    ensures { result ≡ waits taken top }
-{
-    waits_for(top, taken)
-}
-
-/// Whether the token that comes after `taken` others is that of the lowest outer candidate.
-pub(crate) fn is_lowest_awaited(slots: &[Option<held_t>], empty: usize, taken: u128) -> bool
-    requires { empty ≡ empty_slots slots.now }
-    ensures { result ≡ waits taken (lowest slots.now) }
-{
-    match slots.get(empty) {
-        None => false,
-        Some(slot) => waits_for(*slot, taken),
-    }
+    let below = give_up_stale(&mut slots.outer, slots.not_simple_keys, limit, mark);
+    give_up(&mut slots.top, limit, mark);
+    nest(slots, kind);
+    slots.not_simple_keys = count_empty(&slots.outer, below);
+    slots.awaited = step_of(lowest(slots));
 }

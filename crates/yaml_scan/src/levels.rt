@@ -1,37 +1,27 @@
 //! Indentation levels: the columns of the block collections that are open (YAML 1.1, 6.1 Indentation Spaces).
-ghost use Rattle.std.specs.Prelude.{◌≡◌, ◌+◌, ◌-◌, ◌≤◌, ◌&&◌, ◌++◌, ◌∷◌, [], true, not, reverse, map, filter, length, OnOk, if◌then◌else◌, None, Some};
-ghost use Rattle.yaml_text.specs.Token.{token_of};
+ghost use Rattle.std.specs.Prelude.{◌≡◌, ◌+◌, ◌-◌, ◌<◌, ◌≤◌, ◌&&◌, ◌++◌, ◌∷◌, [], true, false, not, reverse, map, filter, length, vec_len, nat_lt, None, Some, if◌then◌else◌};
+ghost use Rattle.std.specs.Vec.{vec_capacity};
+ghost use Rattle.std.specs.VecDeque.{deque_capacity};
+ghost use Rattle.yaml_scan.specs.declared.queue.block_t.TheVariants.{NONE};
+ghost use Rattle.yaml_scan.specs.Kind.{is_stream_end};
 ghost use Rattle.yaml_scan.specs.Levels.{stays, is_above, greatest_level, opens_level, IsFalling};
-ghost use Rattle.yaml_scan.specs.Lexeme.{Lexeme};
 ghost use Rattle.yaml_scan.specs.Offline.{end_at};
-ghost use Rattle.yaml_scan.specs.Offline.Token.{BlockEnd, OfLexeme};
-ghost use Rattle.yaml_scan.specs.Queue.{put_in, is_new, key_at, opened, put_starts, Fitting};
-ghost use Rattle.yaml_scan.specs.Numbered.{Appends, Changes, IsTokenOf, closing};
+ghost use Rattle.yaml_scan.specs.Offline.Token.{BlockEnd};
+ghost use Rattle.yaml_scan.specs.Queue.{is_new, opened};
+ghost use Rattle.yaml_scan.specs.Groups.{ends_at, closing, completed_in, opened_by, start_of, Fitting, KeepsRest};
 ghost use Rattle.yaml_scan.specs.Slots.{is_margin_level};
 
 use crate::keys::held_t;
 use crate::kind::{is_last, is_opener, stays_open};
-use crate::queue::{insert_key, put_block_end, put_block_start, put_lexeme, queued_t};
-use std::alloc::AllocError;
-use std::collections::VecDeque;
+use crate::queue::{block_t, group_t, mark_key, queue_t};
 use yaml_lexeme::yaml_lexeme_kind_t;
 use yaml_text::{yaml_mark_t, yaml_token_t};
 
-/// The mark of the end of a block collection: the start of the lexeme that closes it, or at the end of the stream the end
-/// of the gap for columns above that.
-fn mark_of_end(
-    kind: yaml_lexeme_kind_t,
-    front: yaml_mark_t,
-    start: yaml_mark_t,
-    column: u64,
-) -> yaml_mark_t
-    ensures { result ≡ end_at kind front start column }
+/// Whether a block collection ends at the end of the gap: at the end of the stream, if its column is above that.
+fn is_early(kind: yaml_lexeme_kind_t, front: yaml_mark_t, column: u64) -> bool
+    ensures { result ≡ (is_stream_end kind && nat_lt front.column column) }
 {
-    if is_last(kind) && front.column < column {
-        front
-    } else {
-        start
-    }
+    is_last(kind) && front.column < column
 }
 
 /// The greatest level, if a lexeme closes it.
@@ -56,25 +46,39 @@ fn closing(
     }
 }
 
-/// Closes the levels that a lexeme does not keep, greatest first, one token each.
+/// How many levels a lexeme closes: `ends` of them end at its start, and before these `early` at the end of the gap.
+#[derive(Clone, Copy)]
+pub(crate) struct closed_t {
+    pub early: usize,
+    pub ends: usize,
+}
+
+/// Closes the levels that a lexeme does not keep, greatest first.
 pub(crate) fn close_levels(
     levels: &mut Vec<u64>,
-    queue: &mut VecDeque<queued_t>,
     in_flow: bool,
     kind: yaml_lexeme_kind_t,
     front: yaml_mark_t,
     start: yaml_mark_t,
-    step: u128,
-) -> Result<(), AllocError>
+) -> closed_t
     requires { IsFalling (reverse levels.old.items) }
-    ensures levels { OnOk result (reverse levels.new.items ≡ filter (stays in_flow kind start) (reverse levels.old.items)) }
-    ensures queue { OnOk result (Appends step step queue.old.items queue.new.items (map (λ c. BlockEnd (end_at kind front start c)) (filter (λ c. not (stays in_flow kind start c)) (reverse levels.old.items)))) }
+    ensures levels { reverse levels.new.items ≡ filter (stays in_flow kind start) (reverse levels.old.items) }
+    ensures ends { ends_at result.early front ++ ends_at result.ends start ≡ map (λ c. BlockEnd (end_at kind front start c)) (filter (λ c. not (stays in_flow kind start c)) (reverse levels.old.items)) }
+    ensures none { is_stream_end kind ≡ false → result.early ≡ 0 }
+    ensures len { vec_len levels.new ≤ vec_len levels.old }
+    ensures capacity { vec_capacity levels.new ≡ vec_capacity levels.old }
 {
+    let mut early = 0;
+    let mut ends = 0;
     while let Some(last) = closing(levels, in_flow, kind, start) {
         levels.pop();
-        put_block_end(queue, mark_of_end(kind, front, start, last), step)?;
+        if is_early(kind, front, last) {
+            early += 1;
+        } else {
+            ends += 1;
+        }
     }
-    Ok(())
+    closed_t { early, ends }
 }
 
 /// The greatest of the open levels.
@@ -117,104 +121,113 @@ fn opens_at(levels: &[u64], margin: bool, kind: yaml_lexeme_kind_t, column: u64)
     is_new_level(levels, margin, column) && is_opener(kind)
 }
 
-/// Opens a level at a column if `opens`.
-fn open_level(levels: &mut Vec<u64>, opens: bool, column: u64) -> Result<(), AllocError>
-    ensures { OnOk result (reverse levels.new.items ≡ (if opens then column ∷ [] else []) ++ reverse levels.old.items) }
+/// Opens a level, or none. There is room for it.
+fn open_level(levels: &mut Vec<u64>, opens: bool, column: u64)
+    requires { vec_len levels.old < vec_capacity levels.old }
+    ensures { reverse levels.new.items ≡ (if opens then column ∷ [] else []) ++ reverse levels.old.items }
 {
     if opens {
-        levels.push(column)?;
+        levels.push_reserved(column);
     }
-    Ok(())
 }
 
-/// Inserts the key of a candidate, and opens a level at it if that is new.
-fn complete(
-    levels: &mut Vec<u64>,
-    queue: &mut VecDeque<queued_t>,
-    margin: bool,
-    held: held_t,
-    taken: u128,
-    step: u128,
-) -> Result<(), AllocError>
-    requires falls { IsFalling (reverse levels.old.items) }
-    requires not_taken { taken ≤ held.at }
-    requires queued { held.at - taken ≤ length queue.old.items }
-    ensures levels { OnOk result (reverse levels.new.items ≡ (if is_new margin held.start.column (reverse levels.old.items) then held.start.column ∷ [] else []) ++ reverse levels.old.items) }
-    ensures queue { OnOk result (Changes step step queue.old.items queue.new.items (put_in (held.at - taken) (key_at (is_new margin held.start.column (reverse levels.old.items)) held.start))) }
+/// The open levels, the greatest last, and the queue.
+#[derive(Drop)]
+pub(crate) struct layout_t {
+    pub levels: Vec<u64>,
+    pub queue: queue_t,
+}
+
+/// Completes a candidate. There is room for a level.
+fn complete(layout: &mut layout_t, margin: bool, held: held_t)
+    requires falls { IsFalling (reverse layout.old.levels.items) }
+    requires fits { Fitting (Some held) layout.old.queue.done layout.old.queue.groups.items }
+    requires room { vec_len layout.old.levels < vec_capacity layout.old.levels }
+    ensures levels { reverse layout.new.levels.items ≡ (if is_new margin held.start.column (reverse layout.old.levels.items) then held.start.column ∷ [] else []) ++ reverse layout.old.levels.items }
+    ensures groups { layout.new.queue.groups.items ≡ completed_in margin (Some held) (reverse layout.old.levels.items) layout.old.queue.done layout.old.queue.groups.items }
+    ensures rest { KeepsRest layout.old.queue layout.new.queue }
 {
-    let opens = is_new_level(levels, margin, held.start.column);
-    insert_key(queue, (held.at - taken) as usize, opens, held.start, step)?;
-    open_level(levels, opens, held.start.column)?;
-    Ok(())
+    let opens = is_new_level(&layout.levels, margin, held.start.column);
+    let at = (held.step - 1 - layout.queue.done) as usize;
+    mark_key(&mut layout.queue.groups, at, opens);
+    open_level(&mut layout.levels, opens, held.start.column);
 }
 
-/// Opens a level at a lexeme that completes nothing, if it does.
+/// The start that a kind of lexeme opens a block collection with, or none.
+fn block_start(opens: bool, kind: yaml_lexeme_kind_t) -> block_t
+    ensures { result ≡ (if opens then start_of kind else NONE) }
+{
+    if !opens {
+        return block_t::NONE;
+    }
+    match kind {
+        yaml_lexeme_kind_t::BLOCK_ENTRY => block_t::SEQUENCE,
+        _ => block_t::MAPPING,
+    }
+}
+
+/// Opens a level at a lexeme that completes nothing, if it does. There is room for one.
 fn begin(
     levels: &mut Vec<u64>,
-    queue: &mut VecDeque<queued_t>,
     margin: bool,
     kind: yaml_lexeme_kind_t,
     start: yaml_mark_t,
-    step: u128,
-) -> Result<(), AllocError>
-    requires { IsFalling (reverse levels.old.items) }
-    ensures levels { OnOk result (reverse levels.new.items ≡ opened margin None kind start (reverse levels.old.items)) }
-    ensures queue { OnOk result (Changes step step queue.old.items queue.new.items (put_starts margin None kind start (reverse levels.old.items) 0)) }
+) -> block_t
+    requires falls { IsFalling (reverse levels.old.items) }
+    requires room { vec_len levels.old < vec_capacity levels.old }
+    ensures levels { reverse levels.new.items ≡ opened margin None kind start (reverse levels.old.items) }
+    ensures opens { result ≡ opened_by margin None kind start.column (reverse levels.old.items) }
 {
     let opens = opens_at(levels, margin, kind, start.column);
-    put_block_start(queue, opens, kind, start, step)?;
-    open_level(levels, opens, start.column)?;
-    Ok(())
+    open_level(levels, opens, start.column);
+    block_start(opens, kind)
 }
 
-/// Inserts the key of the completed candidate, or opens a level at the lexeme if there is none.
-fn put_key(
-    levels: &mut Vec<u64>,
-    queue: &mut VecDeque<queued_t>,
+/// Completes a candidate, or opens a level at a lexeme. There is room for one.
+pub(crate) fn put_key(
+    layout: &mut layout_t,
     margin: bool,
     completed: Option<held_t>,
     kind: yaml_lexeme_kind_t,
     start: yaml_mark_t,
-    taken: u128,
-    step: u128,
-) -> Result<(), AllocError>
-    requires falls { IsFalling (reverse levels.old.items) }
-    requires fits { Fitting completed taken (length queue.old.items) }
-    ensures levels { OnOk result (reverse levels.new.items ≡ opened margin completed kind start (reverse levels.old.items)) }
-    ensures queue { OnOk result (Changes step step queue.old.items queue.new.items (put_starts margin completed kind start (reverse levels.old.items) taken)) }
+) -> block_t
+    requires falls { IsFalling (reverse layout.old.levels.items) }
+    requires fits { Fitting completed layout.old.queue.done layout.old.queue.groups.items }
+    requires room { vec_len layout.old.levels < vec_capacity layout.old.levels }
+    ensures levels { reverse layout.new.levels.items ≡ opened margin completed kind start (reverse layout.old.levels.items) }
+    ensures groups { layout.new.queue.groups.items ≡ completed_in margin completed (reverse layout.old.levels.items) layout.old.queue.done layout.old.queue.groups.items }
+    ensures opens { result ≡ opened_by margin completed kind start.column (reverse layout.old.levels.items) }
+    ensures rest { KeepsRest layout.old.queue layout.new.queue }
 {
     match completed {
-        Some(held) => complete(levels, queue, margin, held, taken, step),
-        None => begin(levels, queue, margin, kind, start, step),
+        Some(held) => {
+            complete(layout, margin, held);
+            block_t::NONE
+        }
+        None => begin(&mut layout.levels, margin, kind, start),
     }
 }
 
-/// Appends the token of a lexeme to the queue, with what the lexeme opens or completes.
-pub(crate) fn queue_lexeme(
-    levels: &mut Vec<u64>,
-    queue: &mut VecDeque<queued_t>,
-    margin: bool,
-    completed: Option<held_t>,
-    kind: yaml_lexeme_kind_t,
+/// Appends the group of a lexeme to the queue. There is room for it.
+pub(crate) fn put_group(
+    queue: &mut queue_t,
+    closed: closed_t,
+    front: yaml_mark_t,
+    opens: block_t,
     token: yaml_token_t,
-    taken: u128,
-    step: u128,
-) -> Result<(), AllocError>
-    requires falls { IsFalling (reverse levels.old.items) }
-    requires fits { Fitting completed taken (length queue.old.items) }
-    ensures levels { OnOk result (reverse levels.new.items ≡ opened margin completed kind token.start_mark (reverse levels.old.items)) }
-    ensures queue { OnOk result ((x : Lexeme) → IsTokenOf (token_of token) x → Changes step (step + 1) queue.old.items queue.new.items (λ q. put_starts margin completed kind token.start_mark (reverse levels.old.items) taken q ++ OfLexeme x ∷ [])) }
+)
+    requires { length queue.old.groups.items < deque_capacity queue.old.groups }
+    ensures groups { queue.new.groups.items ≡ queue.old.groups.items ++ record { ends = closed.ends; opens = opens; key = false; token = token } ∷ [] }
+    ensures done { queue.new.done ≡ queue.old.done }
+    ensures early { queue.new.early ≡ closed.early }
+    ensures front { queue.new.front ≡ front }
 {
-    put_key(
-        levels,
-        queue,
-        margin,
-        completed,
-        kind,
-        token.start_mark,
-        taken,
-        step,
-    )?;
-    put_lexeme(queue, token, step)?;
-    Ok(())
+    queue.early = closed.early;
+    queue.front = front;
+    queue.groups.push_back_reserved(group_t {
+        ends: closed.ends,
+        opens,
+        key: false,
+        token,
+    });
 }

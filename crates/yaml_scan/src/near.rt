@@ -13,7 +13,7 @@ fn continues(byte: u8) -> bool
 
 /// The least index of a place that fewer than eight characters follow.
 pub(crate) fn near_from(bytes: &[u8]) -> u64
-    ensures small { length bytes.now + 1 < 2 ^ 64 }
+    ensures small { length bytes.now < 2 ^ 63 }
     ensures near { (cs : List ℕ) → AreChars cs → bytes.now ≡ utf8 cs → IsNearFrom cs result }
 {
     let mut at = bytes.len();

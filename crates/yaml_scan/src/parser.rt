@@ -19,8 +19,10 @@ ghost use Rattle.yaml_scan.specs.Puts.{HasNext, IsAnsweredAlike};
 ghost use Rattle.yaml_scan.specs.Stop.{fault_at};
 
 use crate::fault::{fault_at, make_memory_fault, stop_t};
+use crate::keys::slots_t;
+use crate::levels::layout_t;
 use crate::near::near_from;
-use crate::queue::{put_stream_start, queued_t};
+use crate::queue::{has_lead, lead, put_stream_start, queue_t, take_next};
 use crate::run::settle_head;
 use crate::step::scanner_t;
 use std::alloc::Global;
@@ -34,6 +36,14 @@ use yaml_text::{
 #[cfg(test)]
 mod tests;
 
+/// What the calls so far have come to.
+#[derive(Drop)]
+struct session_t {
+    peeked: bool,
+    over: bool,
+    fault: Option<yaml_fault_t>,
+}
+
 /// A parser of an input. Its tokens are taken one after the other.
 #[derive(Drop)]
 pub struct yaml_parser_t<'a> {
@@ -41,14 +51,12 @@ pub struct yaml_parser_t<'a> {
     input: &'a [u8],
     setting: yaml_encoding_t,
     scanner: scanner_t<'a>,
-    /// How many steps have no token left to take.
-    done: u128,
-    peeked: bool,
-    over: bool,
+    session: session_t,
     /// The fault of a step that stopped.
     kept: yaml_fault_t,
-    fault: Option<yaml_fault_t>,
     empty: yaml_token_t,
+    /// The token that is shown if the head of the queue hands out one before its own.
+    lead: yaml_token_t,
 }
 
 impl<'a> Model for yaml_parser_t<'a> {
@@ -74,22 +82,33 @@ fn new_scanner<'a>(alloc: Global, limit: u64) -> scanner_t<'a>
     ensures new { IsNew result }
     ensures limit { result.limit ≡ limit }
 {
+    let zero = yaml_mark_t {
+        index: 0,
+        line: 0,
+        column: 0,
+    };
     scanner_t {
         text: empty_text(alloc),
         refusal: None,
         near: 0,
         limit,
-        levels: Vec::new(alloc),
-        outer: Vec::new(alloc),
-        not_simple_keys: 0,
-        top: None,
-        allowed: true,
-        queue: VecDeque::new(alloc),
-        reach: yaml_mark_t {
-            index: 0,
-            line: 0,
-            column: 0,
+        slots: slots_t {
+            outer: Vec::new(alloc),
+            not_simple_keys: 0,
+            top: None,
+            awaited: 0,
         },
+        allowed: true,
+        layout: layout_t {
+            levels: Vec::new(alloc),
+            queue: queue_t {
+                groups: VecDeque::new(alloc),
+                done: 0,
+                early: 0,
+                front: zero,
+            },
+        },
+        reach: zero,
         taken: 0,
         made: 0,
     }
@@ -126,7 +145,7 @@ fn begin<'a>(
         *kept = fault;
         return Err(stop_t::FAULT);
     }
-    put_stream_start(&mut scanner.queue, encoding)?;
+    put_stream_start(&mut scanner.layout.queue, encoding)?;
     scanner.text = text;
     scanner.refusal = refusal;
     scanner.near = near;
@@ -191,15 +210,31 @@ fn take_head(scanner: &mut scanner_t) -> yaml_token_t
     requires settled { scanner.old.taken < length (before scanner.old.limit (history scanner.old)) }
     ensures { Pops scanner.old scanner.new (token_of result) }
 {
-    let queued = scanner.queue.pop_front().unwrap();
     scanner.taken += 1;
-    queued.token
+    take_next(&mut scanner.layout.queue)
 }
 
 pub(crate) fn is_stream_end(token: &yaml_token_t) -> bool
     ensures { result ≡ is_last_type (type_of (data_of token.now.token_data)) }
 {
     matches!(token.token_data, unnamed_yaml_token_t_data::STREAM_END)
+}
+
+/// Goes on after a token that was taken: with the stream end the session is over.
+fn pass(session: &mut session_t, token: &yaml_token_t)
+    ensures { session.new ≡ record { peeked = false; over = is_last_type (type_of (data_of token.now.token_data)); fault = session.old.fault } }
+{
+    session.peeked = false;
+    session.over = is_stream_end(token);
+}
+
+/// Ends the session with a fault.
+fn end(session: &mut session_t, fault: yaml_fault_t)
+    ensures { session.new ≡ record { peeked = false; over = true; fault = Some fault } }
+{
+    session.peeked = false;
+    session.over = true;
+    session.fault = Some(fault);
 }
 
 impl<'a> yaml_parser_t<'a> {
@@ -226,12 +261,14 @@ impl<'a> yaml_parser_t<'a> {
             input,
             setting,
             scanner: new_scanner(alloc, limit as u64),
-            done: 0,
-            peeked: false,
-            over: false,
+            session: session_t {
+                peeked: false,
+                over: false,
+                fault: None,
+            },
             kept: make_memory_fault(),
-            fault: None,
             empty: yaml_token_t::empty(),
+            lead: yaml_token_t::empty(),
         }
     }
 }
@@ -240,10 +277,12 @@ impl<'a> yaml_parser_t<'a> {
 fn shown<'s>(parser: &'s yaml_parser_t<'_>) -> &'s yaml_token_t
     ensures { token_of result.now ≡ token_shown parser.now }
 {
-    if parser.peeked {
-        &parser.scanner.queue.front().unwrap().token
-    } else {
+    if !parser.session.peeked {
         &parser.empty
+    } else if has_lead(&parser.scanner.layout.queue) {
+        &parser.lead
+    } else {
+        &parser.scanner.layout.queue.groups.front().unwrap().token
     }
 }
 
@@ -251,7 +290,7 @@ fn shown<'s>(parser: &'s yaml_parser_t<'_>) -> &'s yaml_token_t
 pub(crate) fn show(parser: &mut yaml_parser_t) -> bool
     ensures { Shows parser.old result parser.new }
 {
-    if parser.over {
+    if parser.session.over {
         return true;
     }
     match look(
@@ -259,17 +298,16 @@ pub(crate) fn show(parser: &mut yaml_parser_t) -> bool
         &mut parser.scanner,
         parser.input,
         parser.setting,
-        parser.peeked,
+        parser.session.peeked,
         &mut parser.kept,
     ) {
         Ok(_) => {
-            parser.peeked = true;
+            parser.lead = lead(&parser.scanner.layout.queue);
+            parser.session.peeked = true;
             true
         }
         Err(stop) => {
-            parser.peeked = false;
-            parser.over = true;
-            parser.fault = Some(fault_at(stop, &parser.kept));
+            end(&mut parser.session, fault_at(stop, &parser.kept));
             false
         }
     }
@@ -280,20 +318,9 @@ fn last_fault(parser: &yaml_parser_t) -> yaml_fault_t
     requires { (f : Fault) × (parser.now.session.fault ≡ Some f) }
     ensures { parser.now.session.fault ≡ Some (fault_of result) }
 {
-    match parser.fault {
+    match parser.session.fault {
         Some(fault) => fault,
         None => unreachable!(),
-    }
-}
-
-/// How many steps have no token left to take.
-fn steps_done(scanner: &scanner_t) -> u128
-    requires { Runs scanner.now }
-    ensures { queued (history scanner.now) scanner.now.taken (history scanner.now) + result ≡ scanner.now.made }
-{
-    match scanner.queue.front() {
-        Some(queued) => queued.step - 1,
-        None => scanner.made,
     }
 }
 
@@ -304,9 +331,7 @@ fn take_shown(parser: &mut yaml_parser_t) -> yaml_token_t
     ensures left { parser.new ≡ behind parser.old SKIP }
 {
     let token = take_head(&mut parser.scanner);
-    parser.done = steps_done(&parser.scanner);
-    parser.peeked = false;
-    parser.over = is_stream_end(&token);
+    pass(&mut parser.session, &token);
     token
 }
 
@@ -323,13 +348,27 @@ pub fn yaml_parser_scan(parser: &mut yaml_parser_t) -> Result<yaml_token_t, yaml
     ensures local { IsAnsweredAlike parser.old SCAN (told result) }
     ensures marks { IsCountedIn parser.old (told result) }
 {
-    if parser.over {
+    if parser.session.over {
         return Ok(yaml_token_t::empty());
     }
-    if show(parser) {
-        Ok(take_shown(parser))
-    } else {
-        Err(last_fault(parser))
+    match look(
+        parser.alloc,
+        &mut parser.scanner,
+        parser.input,
+        parser.setting,
+        parser.session.peeked,
+        &mut parser.kept,
+    ) {
+        Ok(_) => {
+            let token = take_head(&mut parser.scanner);
+            pass(&mut parser.session, &token);
+            Ok(token)
+        }
+        Err(stop) => {
+            let fault = fault_at(stop, &parser.kept);
+            end(&mut parser.session, fault);
+            Err(fault)
+        }
     }
 }
 
@@ -368,14 +407,14 @@ pub fn yaml_parser_has_token(parser: &yaml_parser_t) -> bool
     ensures peeked { result ≡ parser.now.session.peeked }
     ensures next { HasNext parser.now }
 {
-    parser.peeked
+    parser.session.peeked
 }
 
 /// The fault that has ended the session, if one has: of kind reader, scanner or memory.
 pub fn yaml_parser_fault<'s>(parser: &'s yaml_parser_t<'_>) -> Option<&'s yaml_fault_t>
     ensures { option_map (λ f. fault_of f.now) result ≡ parser.now.session.fault }
 {
-    parser.fault.as_ref()
+    parser.session.fault.as_ref()
 }
 
 /// How many steps have a token that was made and not taken: at most one more than the key limit. STREAM-START is a step, and
@@ -384,7 +423,7 @@ pub fn yaml_parser_queued(parser: &yaml_parser_t) -> u64
     ensures steps { result ≡ session_queued (course_read parser.now) parser.now.session }
     ensures few { result ≤ parser.now.limit + 1 }
 {
-    (parser.scanner.made - parser.done) as u64
+    parser.scanner.made - parser.scanner.layout.queue.done
 }
 
 /// How far the last step without a fault was read: bytes of the text in UTF-8, lines and characters, all from 0. It is zero

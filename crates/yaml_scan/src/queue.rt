@@ -1,26 +1,46 @@
-//! The queue: tokens that were made and not taken, each with the number of its step.
-ghost use Rattle.std.specs.Prelude.{◌≡◌, ◌≤◌, ◌++◌, ◌∷◌, [], length, OnOk, if◌then◌else◌, ◌+◌, slice_index, Some, None, take, drop};
+//! The queue: of each step, in order, what it hands out that was not taken.
+ghost use Rattle.std.specs.Prelude.{◌≡◌, ◌+◌, ◌-◌, ◌<◌, ◌++◌, ◌∷◌, [], ◌&&◌, nat_eq, nat_lt, length, take, drop, OnOk, List, ◌^◌};
+ghost use Rattle.std.specs.VecDeque.{deque_capacity};
+ghost use Rattle.yaml_text.specs.declared.types.yaml_encoding_t.{yaml_encoding_t};
 ghost use Rattle.yaml_text.specs.Token.{data_of, token_of};
 ghost use Rattle.yaml_text.specs.declared.types.yaml_encoding_t.{yaml_encoding_t};
 ghost use Rattle.yaml_text.specs.declared.types.yaml_mark_t.{yaml_mark_t};
 ghost use Rattle.yaml_scan.specs.Token.{at_mark};
-ghost use Rattle.yaml_scan.specs.Numbered.{Appends, Changes, IsTokenOf, step_at, IsQueue};
-ghost use Rattle.yaml_scan.specs.Offline.{start_token, handed_out};
-ghost use Rattle.yaml_scan.specs.Offline.Token.{BlockEnd, OfLexeme, StreamStart};
-ghost use Rattle.yaml_scan.specs.Lexeme.{Lexeme};
-ghost use Rattle.yaml_scan.specs.Queue.{put_in, key_at};
-ghost use Rattle.yaml_scan.specs.Kind.{is_block_entry};
+ghost use Rattle.yaml_scan.specs.Groups.{IsQueue, IsLead, Takes, DropsLead, keyed_at, leads, pending, begins_with_end, mark_next, lead_tokens};
+ghost use Rattle.yaml_scan.specs.Offline.{Token, handed_out};
+ghost use Rattle.yaml_scan.specs.Offline.Token.{StreamStart};
 
 use std::alloc::AllocError;
 use std::collections::VecDeque;
-use yaml_lexeme::yaml_lexeme_kind_t;
 use yaml_text::{unnamed_yaml_token_t_data, yaml_encoding_t, yaml_mark_t, yaml_token_t};
 
-/// A token, and the number of its step: 1 for STREAM-START, 2 for the first lexeme.
+/// The start of a block collection, or none.
+#[derive(Clone, Copy)]
+pub(crate) enum block_t {
+    NONE,
+    SEQUENCE,
+    MAPPING,
+}
+
+/// What a step hands out: block ends, the start of a block collection and a key, all at the start of its token, and then its
+/// token.
 #[derive(Drop)]
-pub(crate) struct queued_t {
+pub(crate) struct group_t {
+    pub ends: usize,
+    pub opens: block_t,
+    pub key: bool,
     pub token: yaml_token_t,
-    pub step: u128,
+}
+
+/// The groups of the steps that have a token that was not taken.
+#[derive(Drop)]
+pub(crate) struct queue_t {
+    pub groups: VecDeque<group_t>,
+    /// How many groups were taken.
+    pub done: u64,
+    /// How many block ends come before the last group, at `front`: only the stream end has them.
+    pub early: usize,
+    pub front: yaml_mark_t,
 }
 
 /// A token with one mark.
@@ -34,110 +54,17 @@ fn token_at(says: unnamed_yaml_token_t_data, mark: yaml_mark_t) -> yaml_token_t
     }
 }
 
-/// Appends the end of a block collection to the queue.
-pub(crate) fn put_block_end(
-    queue: &mut VecDeque<queued_t>,
-    mark: yaml_mark_t,
-    step: u128,
-) -> Result<(), AllocError>
-    ensures { OnOk result (Appends step step queue.old.items queue.new.items (BlockEnd mark ∷ [])) }
-{
-    let token = token_at(unnamed_yaml_token_t_data::BLOCK_END, mark);
-    queue.push_back(queued_t { token, step })?;
-    Ok(())
-}
-
-fn block_start(kind: yaml_lexeme_kind_t) -> unnamed_yaml_token_t_data
-    ensures { (e : yaml_encoding_t) (m : yaml_mark_t) → at_mark (data_of result) m ≡ handed_out e (start_token kind m) }
-{
-    match kind {
-        yaml_lexeme_kind_t::BLOCK_ENTRY => unnamed_yaml_token_t_data::BLOCK_SEQUENCE_START,
-        _ => unnamed_yaml_token_t_data::BLOCK_MAPPING_START,
-    }
-}
-
-/// Appends the start of a block collection to the queue if `opens`.
-pub(crate) fn put_block_start(
-    queue: &mut VecDeque<queued_t>,
-    opens: bool,
-    kind: yaml_lexeme_kind_t,
-    mark: yaml_mark_t,
-    step: u128,
-) -> Result<(), AllocError>
-    ensures { OnOk result (Appends step step queue.old.items queue.new.items (if opens then start_token kind mark ∷ [] else [])) }
-{
-    if opens {
-        let token = token_at(block_start(kind), mark);
-        queue.push_back(queued_t { token, step })?;
-    }
-    Ok(())
-}
-
-/// Appends the token of a lexeme to the queue.
-pub(crate) fn put_lexeme(
-    queue: &mut VecDeque<queued_t>,
-    token: yaml_token_t,
-    step: u128,
-) -> Result<(), AllocError>
-    ensures { OnOk result ((x : Lexeme) → IsTokenOf (token_of token) x → Appends step (step + 1) queue.old.items queue.new.items (OfLexeme x ∷ [])) }
-{
-    queue.push_back(queued_t { token, step })?;
-    Ok(())
-}
-
-/// The step of the token at a place of the queue, or `step` at its end.
-fn step_at(queue: &VecDeque<queued_t>, at: usize, step: u128) -> u128
-    ensures { result ≡ step_at at step queue.now.items }
-{
-    match queue.get(at) {
-        Some(queued) => queued.step,
-        None => step,
-    }
-}
-
-/// Inserts a token at a place of the queue. Most are inserted at the head.
-#[inline(always)]
-fn put_before(queue: &mut VecDeque<queued_t>, at: usize, queued: queued_t) -> Result<(), AllocError>
-    requires { at ≤ length queue.old.items }
-    ensures items { OnOk result (queue.new.items ≡ take at queue.old.items ++ (queued ∷ drop at queue.old.items)) }
-    ensures len { OnOk result (length queue.new.items ≡ length queue.old.items + 1) }
-{
-    if at == 0 {
-        queue.push_front(queued)?;
-    } else {
-        queue.insert(at, queued)?;
-    }
-    Ok(())
-}
-
-/// Inserts the key of a candidate before its token, and before the key the start of a block mapping if `opens`. They are
-/// tokens of the candidate's step.
-pub(crate) fn insert_key(
-    queue: &mut VecDeque<queued_t>,
-    at: usize,
-    opens: bool,
-    mark: yaml_mark_t,
-    step: u128,
-) -> Result<(), AllocError>
-    requires { at ≤ length queue.old.items }
-    ensures { OnOk result (Changes step step queue.old.items queue.new.items (put_in at (key_at opens mark))) }
-{
-    let step = step_at(queue, at, step);
-    let token = token_at(unnamed_yaml_token_t_data::KEY, mark);
-    put_before(queue, at, queued_t { token, step })?;
-    if opens {
-        let token = token_at(unnamed_yaml_token_t_data::BLOCK_MAPPING_START, mark);
-        put_before(queue, at, queued_t { token, step })?;
-    }
-    Ok(())
-}
-
-/// Appends the first token to the queue.
+/// Puts the first token into a queue that is empty.
 pub(crate) fn put_stream_start(
-    queue: &mut VecDeque<queued_t>,
+    queue: &mut queue_t,
     encoding: yaml_encoding_t,
 ) -> Result<(), AllocError>
-    ensures { OnOk result (queue.old.items ≡ [] → IsQueue encoding 1 2 queue.new.items (StreamStart ∷ [])) }
+    requires empty { queue.old.groups.items ≡ [] }
+    requires none { queue.old.early ≡ 0 }
+    ensures queue { OnOk result (IsQueue encoding queue.new.early queue.new.front queue.new.groups.items (StreamStart ∷ [])) }
+    ensures long { OnOk result (length queue.new.groups.items ≡ 1) }
+    ensures early { queue.new.early ≡ queue.old.early }
+    ensures done { queue.new.done ≡ queue.old.done }
 {
     let zero = yaml_mark_t {
         index: 0,
@@ -145,6 +72,163 @@ pub(crate) fn put_stream_start(
         column: 0,
     };
     let token = token_at(unnamed_yaml_token_t_data::STREAM_START { encoding }, zero);
-    queue.push_back(queued_t { token, step: 1 })?;
+    queue.groups.push_back(group_t {
+        ends: 0,
+        opens: block_t::NONE,
+        key: false,
+        token,
+    })?;
     Ok(())
+}
+
+/// Marks the group of a candidate with a key, and with the start of a block mapping, or none.
+pub(crate) fn mark_key(groups: &mut VecDeque<group_t>, at: usize, opens: bool)
+    requires { at < length groups.old.items }
+    ensures items { groups.new.items ≡ keyed_at at opens groups.old.items }
+    ensures capacity { deque_capacity groups.new ≡ deque_capacity groups.old }
+{
+    let group = &mut groups[at];
+    group.key = true;
+    if opens {
+        group.opens = block_t::MAPPING;
+    }
+}
+
+/// Whether the block ends of the front are next.
+fn is_early(queue: &queue_t) -> bool
+    ensures { result ≡ (nat_lt 0 queue.now.early && nat_eq (length queue.now.groups.items) 1) }
+{
+    queue.early > 0 && queue.groups.len() == 1
+}
+
+/// Whether block ends are next.
+pub(crate) fn has_ends(queue: &queue_t) -> bool
+    ensures { result ≡ begins_with_end (pending queue.now.early queue.now.front queue.now.groups.items) }
+{
+    if is_early(queue) {
+        return true;
+    }
+    match queue.groups.front() {
+        None => false,
+        Some(head) => head.ends > 0,
+    }
+}
+
+/// What is handed out before the token of a group.
+#[derive(Clone, Copy)]
+enum lead_t {
+    NOTHING,
+    END,
+    SEQUENCE_START,
+    MAPPING_START,
+    KEY,
+}
+
+/// What is handed out next of a group before its token.
+fn lead_of(head: &group_t) -> lead_t
+    ensures { lead_tokens result head.now.token.start_mark ≡ take 1 (leads head.now) }
+{
+    if head.ends > 0 {
+        return lead_t::END;
+    }
+    match head.opens {
+        block_t::SEQUENCE => lead_t::SEQUENCE_START,
+        block_t::MAPPING => lead_t::MAPPING_START,
+        block_t::NONE => if head.key {
+            lead_t::KEY
+        } else {
+            lead_t::NOTHING
+        },
+    }
+}
+
+/// Takes that.
+fn drop_lead_of(head: &mut group_t)
+    ensures leads { leads head.new ≡ drop 1 (leads head.old) }
+    ensures token { head.new.token ≡ head.old.token }
+{
+    if head.ends > 0 {
+        head.ends -= 1;
+        return;
+    }
+    match head.opens {
+        block_t::NONE => head.key = false,
+        _ => head.opens = block_t::NONE,
+    }
+}
+
+/// What is handed out next, before the token of the head.
+fn next_lead(queue: &queue_t) -> lead_t
+    ensures { lead_tokens result (mark_next queue.now.early queue.now.front queue.now.groups.items) ≡ take 1 (pending queue.now.early queue.now.front queue.now.groups.items) }
+{
+    if is_early(queue) {
+        return lead_t::END;
+    }
+    match queue.groups.front() {
+        None => lead_t::NOTHING,
+        Some(head) => lead_of(head),
+    }
+}
+
+/// Whether a token is handed out before that of the head.
+pub(crate) fn has_lead(queue: &queue_t) -> bool
+    ensures { result ≡ nat_lt 0 (length (pending queue.now.early queue.now.front queue.now.groups.items)) }
+{
+    !matches!(next_lead(queue), lead_t::NOTHING)
+}
+
+/// Where it stands.
+fn lead_mark(queue: &queue_t) -> yaml_mark_t
+    ensures { result ≡ mark_next queue.now.early queue.now.front queue.now.groups.items }
+{
+    if is_early(queue) {
+        return queue.front;
+    }
+    match queue.groups.front() {
+        None => queue.front,
+        Some(head) => head.token.start_mark,
+    }
+}
+
+/// The token that is handed out before that of the head. There is one.
+pub(crate) fn lead(queue: &queue_t) -> yaml_token_t
+    ensures { (e : yaml_encoding_t) → IsLead e queue.now (token_of result) }
+{
+    let says = match next_lead(queue) {
+        lead_t::END => unnamed_yaml_token_t_data::BLOCK_END,
+        lead_t::SEQUENCE_START => unnamed_yaml_token_t_data::BLOCK_SEQUENCE_START,
+        lead_t::MAPPING_START => unnamed_yaml_token_t_data::BLOCK_MAPPING_START,
+        lead_t::KEY => unnamed_yaml_token_t_data::KEY,
+        lead_t::NOTHING => unnamed_yaml_token_t_data::NO_TOKEN,
+    };
+    token_at(says, lead_mark(queue))
+}
+
+/// Takes it.
+fn drop_lead(queue: &mut queue_t)
+    requires { 0 < length queue.old.groups.items }
+    ensures { DropsLead queue.old queue.new }
+{
+    if is_early(queue) {
+        queue.early -= 1;
+        return;
+    }
+    if let Some(head) = queue.groups.front_mut() {
+        drop_lead_of(head);
+    }
+}
+
+/// Takes the next token. There is one.
+pub(crate) fn take_next(queue: &mut queue_t) -> yaml_token_t
+    requires some { 0 < length queue.old.groups.items }
+    requires few { queue.old.done + 1 < 2 ^ 64 }
+    ensures { (e : yaml_encoding_t) (xs : List Token) → IsQueue e queue.old.early queue.old.front queue.old.groups.items xs → Takes e queue.old queue.new (token_of result) xs }
+{
+    if has_lead(queue) {
+        let token = lead(queue);
+        drop_lead(queue);
+        return token;
+    }
+    queue.done += 1;
+    queue.groups.pop_front().unwrap().token
 }

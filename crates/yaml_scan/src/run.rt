@@ -1,23 +1,26 @@
 //! The running scanner: as many steps are made as the next token needs.
-ghost use Rattle.std.specs.Prelude.{◌≡◌, ◌⊎◌, ℕ, ◌+◌, ◌-◌, ◌<◌, ◌≤◌, ◌^◌, ◌&&◌, not, nat_lt, length, true, false, MatchResult};
+ghost use Rattle.std.specs.Prelude.{◌≡◌, ◌⊎◌, ℕ, ◌+◌, ◌-◌, ◌<◌, ◌≤◌, ◌^◌, ◌&&◌, not, nat_lt, nat_eq, length, true, false, MatchResult};
 ghost use Rattle.yaml_text.specs.Decode.{refusal_seen};
 ghost use Rattle.yaml_text.specs.Fault.{fault_of, memory_fault};
 ghost use Rattle.yaml_scan.specs.Near.{near_fault, instead};
+ghost use Rattle.yaml_scan.specs.Groups.{begins_with_end, pending};
 ghost use Rattle.yaml_scan.specs.Offline.{before};
 ghost use Rattle.yaml_scan.specs.Order.{ended};
 ghost use Rattle.yaml_scan.specs.Stop.{fault_at};
 ghost use Rattle.yaml_scan.specs.Scanning.{Runs, Advances, Offends, Steps, IsLast, Stays, IsOpen, Settles, Fails, Stops, history};
 
 use crate::fault::{fault_at, stop_t};
-use crate::keys::{is_awaited, is_lowest_awaited};
+use crate::queue::has_ends;
 use crate::step::{lay, meet, scanner_t};
 use std::alloc::Global;
 use yaml_text::{yaml_error_type_t, yaml_fault_t, yaml_mark_t, yaml_token_t};
 
-fn is_none_of(empty: bool, outer: bool, top: bool) -> bool
-    ensures { result ≡ ((not empty && not outer) && not top) }
+/// Whether the head of the queue is the token of the lowest candidate.
+fn is_awaited(scanner: &scanner_t) -> bool
+    requires { scanner.now.layout.queue.done + 1 < 2 ^ 64 }
+    ensures { result ≡ (nat_eq scanner.now.slots.awaited (scanner.now.layout.queue.done + 1) && not (begins_with_end (pending scanner.now.layout.queue.early scanner.now.layout.queue.front scanner.now.layout.queue.groups.items))) }
 {
-    !empty && !outer && !top
+    scanner.slots.awaited == scanner.layout.queue.done + 1 && !has_ends(&scanner.layout.queue)
 }
 
 /// Whether the head of the queue is the next token.
@@ -25,10 +28,7 @@ fn is_settled(scanner: &scanner_t) -> bool
     requires { Runs scanner.now }
     ensures { result ≡ nat_lt scanner.now.taken (length (before scanner.now.limit (history scanner.now))) }
 {
-    let empty = scanner.queue.is_empty();
-    let outer = is_lowest_awaited(&scanner.outer, scanner.not_simple_keys, scanner.taken);
-    let top = is_awaited(scanner.top, scanner.taken);
-    is_none_of(empty, outer, top)
+    !scanner.layout.queue.groups.is_empty() && !is_awaited(scanner)
 }
 
 /// The reader's fault, if a step that read up to an index is near it.

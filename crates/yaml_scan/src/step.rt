@@ -1,25 +1,24 @@
 //! The steps of a text: the next lexeme, and what the layout makes of it.
-ghost use Rattle.std.specs.Prelude.{◌≡◌, ◌⊎◌, ℕ, ◌+◌, ◌-◌, ◌<◌, ◌≤◌, ◌^◌, ◌&&◌, ◌||◌, not, nat_lt, nat_eq, length, List, [], ◌∷◌, reverse, map, true, false, Option, Some, None, option_map, IfOk, OnOk, OnErr, MatchResult, if◌then◌else◌};
+ghost use Rattle.std.specs.Prelude.{◌≡◌, ◌⊎◌, ℕ, ◌+◌, ◌-◌, ◌<◌, ◌≤◌, ◌^◌, ◌&&◌, ◌||◌, not, nat_lt, nat_eq, length, List, [], ◌∷◌, ◌++◌, vec_len, reverse, map, true, false, Option, Some, None, option_map, IfOk, OnOk, OnErr, MatchResult, if◌then◌else◌};
 ghost use Rattle.yaml_text.specs.Fault.{memory_fault, scanner_fault};
+ghost use Rattle.yaml_scan.specs.Stop.{fault_at};
 ghost use Rattle.yaml_text.specs.Token.{data_of, token_of};
 ghost use Rattle.yaml_scan.specs.Fault.{no_token, in_next_token};
 ghost use Rattle.yaml_scan.specs.Laid.{Laid, allowed};
 ghost use Rattle.yaml_scan.specs.Order.{ended};
-ghost use Rattle.yaml_scan.specs.Slots.{needed, lost_held, still_held, root_of, slot_behind, nested_outer, nested_top, empty_slots, AreNested};
-ghost use Rattle.yaml_scan.specs.Stop.{fault_at};
+ghost use Rattle.yaml_scan.specs.Slots.{needed, lost_held, still_held, root_of, slot_behind, nested_outer, nested_top, empty_slots, lowest, step_of, AreNested};
+ghost use Rattle.std.specs.Vec.{vec_capacity};
 ghost use Rattle.yaml_scan.specs.Step.{problem_of, replaces, step};
 ghost use Rattle.yaml_scan.specs.Moves.{IsLost, IsRefused};
 ghost use Rattle.yaml_scan.specs.Scanning.{Holds, IsMet, Advances, Offends, Stays, text_of};
 ghost use Rattle.std.specs.Option.{option_copied};
 
 use crate::fault::{keep_fault, stop_t};
-use crate::keys::{completed_by, held_t, lost_at, move_slots, needed_at, root, settle};
+use crate::keys::{completed_by, held_t, lost_at, move_slots, needed_at, root, settle, slots_t};
 use crate::kind::{is_allowed_after, is_candidate, is_colon, start_behind};
-use crate::levels::{close_levels, is_level, queue_lexeme, top_level};
-use crate::queue::queued_t;
+use crate::levels::{close_levels, is_level, layout_t, put_group, put_key, top_level};
 use crate::source::{gap_end, kind_at, read_lexeme};
 use std::alloc::Global;
-use std::collections::VecDeque;
 use yaml_lexeme::{yaml_lexeme_kind_t, yaml_lexeme_t};
 use yaml_text::{yaml_fault_t, yaml_mark_t, yaml_text_t, yaml_token_t};
 
@@ -32,23 +31,16 @@ pub(crate) struct scanner_t<'a> {
     /// The index from which on a step is near the end of the text.
     pub near: u64,
     pub limit: u64,
-    /// The open levels, the greatest last.
-    pub levels: Vec<u64>,
-    /// The candidates of the depths below the present one.
-    pub outer: Vec<Option<held_t>>,
-    /// How many of the lowest of these are empty: no slot below holds a candidate.
-    pub not_simple_keys: usize,
-    /// The candidate of the present depth.
-    pub top: Option<held_t>,
+    pub slots: slots_t,
     /// Whether a key is allowed after the last lexeme.
     pub allowed: bool,
-    pub queue: VecDeque<queued_t>,
+    pub layout: layout_t,
     /// How far the last good step was read.
     pub reach: yaml_mark_t,
     /// How many tokens were taken.
     pub taken: u128,
     /// How many steps were made.
-    pub made: u128,
+    pub made: u64,
 }
 
 /// A kind of lexeme after a gap.
@@ -165,21 +157,28 @@ pub(crate) fn meet(scanner: &scanner_t, kept: &mut yaml_fault_t) -> Result<met_t
     ghost before: { List Laid }
     requires holds { Holds before (scanner.now.made + 1) scanner.now }
     requires running { ended before ≡ false }
-    requires small { length scanner.now.text.chars + 1 < 2 ^ 64 }
+    requires small { length scanner.now.text.chars < 2 ^ 63 }
     ensures { MatchResult result (λ m. IsMet before scanner.now m) (λ s. Offends before scanner.now (fault_at s kept.new)) }
 {
-    let margin = scanner.outer.is_empty();
+    let margin = scanner.slots.outer.is_empty();
     let front = gap_end(&scanner.text, scanner.reach, !margin, scanner.allowed);
-    let root = root(&scanner.outer, scanner.top);
+    let root = root(&scanner.slots.outer, scanner.slots.top);
     refuse_lost(kept, lost_at(root, scanner.limit, front), front)?;
     let kind = expect_kind(kept, kind_at(&scanner.text, front, !margin), front)?;
     let allowed = is_key_allowed(scanner.allowed, margin, scanner.reach, front);
-    let completed = completed_by(kind, scanner.top, scanner.limit, front);
+    let completed = completed_by(kind, scanner.slots.top, scanner.limit, front);
     refuse_kind(kept, kind, margin, allowed, completed.is_none(), front)?;
     let start = start_behind(kind, front);
     refuse_lost(
         kept,
-        cleared(kind, allowed, margin, scanner.top, scanner.limit, front),
+        cleared(
+            kind,
+            allowed,
+            margin,
+            scanner.slots.top,
+            scanner.limit,
+            front,
+        ),
         start,
     )?;
     Ok(met_t {
@@ -189,28 +188,27 @@ pub(crate) fn meet(scanner: &scanner_t, kept: &mut yaml_fault_t) -> Result<met_t
     })
 }
 
-/// Changes the candidates after a lexeme that was read to a mark. Stops if one is lost there.
+/// Changes the candidates after a lexeme that was read to a mark. Stops if one is lost there. There is room for one.
 fn keep_candidates(
     kept: &mut yaml_fault_t,
-    outer: &mut Vec<Option<held_t>>,
-    empty: &mut usize,
-    top: &mut Option<held_t>,
-    kind: yaml_lexeme_kind_t,
-    allowed: bool,
+    slots: &mut slots_t,
+    met: met_t,
     new: held_t,
     limit: u64,
     mark: yaml_mark_t,
 ) -> Result<(), stop_t>
-    requires empty { empty.old ≡ empty_slots outer.old.items }
-    requires nested { AreNested outer.old.items }
-    ensures lost { MatchResult result (λ _. lost_held limit mark (root_of outer.old.items (slot_behind kind allowed new top.old)) ≡ None) (λ s. (fault_at s kept.new ≡ memory_fault) ⊎ IsLost (lost_held limit mark (root_of outer.old.items (slot_behind kind allowed new top.old))) mark (fault_at s kept.new)) }
-    ensures outer { OnOk result (outer.new.items ≡ nested_outer kind (map (still_held limit mark) outer.old.items) (still_held limit mark (slot_behind kind allowed new top.old))) }
-    ensures top { OnOk result (top.new ≡ nested_top kind (map (still_held limit mark) outer.old.items) (still_held limit mark (slot_behind kind allowed new top.old))) }
-    ensures empty { OnOk result (empty.new ≡ empty_slots outer.new.items) }
+    requires empty { slots.old.not_simple_keys ≡ empty_slots slots.old.outer.items }
+    requires nested { AreNested slots.old.outer.items }
+    requires room { vec_len slots.old.outer < vec_capacity slots.old.outer }
+    ensures lost { MatchResult result (λ _. lost_held limit mark (root_of slots.old.outer.items (slot_behind met.kind met.allowed new slots.old.top)) ≡ None) (λ s. IsLost (lost_held limit mark (root_of slots.old.outer.items (slot_behind met.kind met.allowed new slots.old.top))) mark (fault_at s kept.new)) }
+    ensures outer { OnOk result (slots.new.outer.items ≡ nested_outer met.kind (map (still_held limit mark) slots.old.outer.items) (still_held limit mark (slot_behind met.kind met.allowed new slots.old.top))) }
+    ensures top { OnOk result (slots.new.top ≡ nested_top met.kind (map (still_held limit mark) slots.old.outer.items) (still_held limit mark (slot_behind met.kind met.allowed new slots.old.top))) }
+    ensures empty { OnOk result (slots.new.not_simple_keys ≡ empty_slots slots.new.outer.items) }
+    ensures awaited { OnOk result (slots.new.awaited ≡ step_of (lowest (slots.new.outer.items ++ slots.new.top ∷ []))) }
 {
-    settle(top, kind, allowed, new);
-    refuse_lost(kept, lost_at(root(outer, *top), limit, mark), mark)?;
-    move_slots(outer, empty, top, kind, limit, mark)?;
+    settle(&mut slots.top, met.kind, met.allowed, new);
+    refuse_lost(kept, lost_at(root(&slots.outer, slots.top), limit, mark), mark)?;
+    move_slots(slots, met.kind, limit, mark);
     Ok(())
 }
 
@@ -235,44 +233,38 @@ pub(crate) fn lay(
     ghost before: { List Laid }
     requires holds { Holds before (scanner.old.made + 1) scanner.old }
     requires running { ended before ≡ false }
-    requires small { length scanner.old.text.chars + 1 < 2 ^ 64 }
-    requires few { scanner.old.taken ≤ 2 ^ 100 }
-    requires few_steps { scanner.old.made ≤ 2 ^ 100 }
+    requires small { length scanner.old.text.chars < 2 ^ 63 }
+    requires few_steps { scanner.old.made + 1 < 2 ^ 64 }
     requires met { IsMet before scanner.old met }
     ensures { MatchResult result (λ _. Advances before scanner.old scanner.new) (λ s. ((fault_at s kept.new ≡ memory_fault) ⊎ Offends before scanner.old (fault_at s kept.new)) × Stays scanner.old scanner.new) }
 {
-    let margin = scanner.outer.is_empty();
-    let step = scanner.made + 1;
+    let margin = scanner.slots.outer.is_empty();
     let kind = met.kind;
     let start = start_behind(kind, met.front);
-    let levels = &mut scanner.levels;
-    let queue = &mut scanner.queue;
-    close_levels(levels, queue, !margin, kind, met.front, start, step)?;
-    let level = top_level(levels);
-    let depth = scanner.outer.len();
+    scanner.slots.outer.reserve(1)?;
+    scanner.layout.levels.reserve(1)?;
+    scanner.layout.queue.groups.reserve(1)?;
+    let closed = close_levels(&mut scanner.layout.levels, !margin, kind, met.front, start);
+    let level = top_level(&scanner.layout.levels);
+    let depth = scanner.slots.outer.len();
     let x = read_lexeme(alloc, kept, &scanner.text, met.front, kind, depth, level)?;
     let new = held_t {
-        at: scanner.taken + queue.len() as u128,
+        step: scanner.made + 1,
         start,
         required: is_level(margin, level, start.column),
     };
     let reach = x.reach;
     let passed_break = x.passed_break;
-    let token = token_of(start, x);
-    let completed = completed_by(kind, scanner.top, scanner.limit, start);
-    let taken = scanner.taken;
-    queue_lexeme(levels, queue, margin, completed, kind, token, taken, step)?;
-    keep_candidates(
-        kept,
-        &mut scanner.outer,
-        &mut scanner.not_simple_keys,
-        &mut scanner.top,
-        kind,
-        met.allowed,
-        new,
-        scanner.limit,
-        reach,
-    )?;
+    let completed = completed_by(kind, scanner.slots.top, scanner.limit, start);
+    keep_candidates(kept, &mut scanner.slots, met, new, scanner.limit, reach)?;
+    let opens = put_key(&mut scanner.layout, margin, completed, kind, start);
+    put_group(
+        &mut scanner.layout.queue,
+        closed,
+        met.front,
+        opens,
+        token_of(start, x),
+    );
     scanner.allowed = is_allowed_after(kind, margin, completed.is_none(), passed_break);
     scanner.reach = reach;
     Ok(())

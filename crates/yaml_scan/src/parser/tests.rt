@@ -10,7 +10,7 @@ fn counter_rises_past_a_stale_slot(rt: HostRuntime) -> Result<(), Fail> {
         return Err("a fault".into());
     };
     assert_eq!(rt; token.type_(), yaml_token_type_t::YAML_STREAM_START_TOKEN);
-    assert_eq!(rt; parser.scanner.not_simple_keys, 0);
+    assert_eq!(rt; parser.scanner.slots.not_simple_keys, 0);
     let Ok(token) = yaml_parser_peek(&mut parser) else {
         return Err("a fault".into());
     };
@@ -18,6 +18,6 @@ fn counter_rises_past_a_stale_slot(rt: HostRuntime) -> Result<(), Fail> {
         token.type_(),
         yaml_token_type_t::YAML_FLOW_SEQUENCE_START_TOKEN
     );
-    assert_eq!(rt; parser.scanner.not_simple_keys, 1);
+    assert_eq!(rt; parser.scanner.slots.not_simple_keys, 1);
     Ok(())
 }

@@ -1,8 +1,7 @@
-use Rattle.std.proofs.Common.{◌≡◌, ℕ, List, ◌++◌, None, reverse, map, sym, ap, ◌∙◌, subst, append-nil}
-use Rattle.yaml_scan.specs.Offline.{Token, end_at}
-use Rattle.yaml_scan.specs.Offline.Token.{BlockEnd}
-use Rattle.yaml_scan.specs.Numbered.{IsQueue, closing}
-use Rattle.yaml_scan.proofs.Stacks.{all_kept, none_closed}
+use Rattle.std.proofs.Common.{◌≡◌, ℕ, List, None, reverse, filter, length, not, sym, ap, ◌∙◌, arith}
+use Rattle.yaml_scan.specs.Levels.{stays}
+use Rattle.yaml_scan.specs.Groups.{closing}
+use Rattle.yaml_scan.proofs.Stacks.{is_early, all_kept, none_closed, ends_split, none_early, filter_falls}
 use Rattle.yaml_scan.proofs.levels.close_levels.Goals as goal
 
 pub returns-clause-levels : goal.returns-clause-levels
@@ -10,9 +9,18 @@ returns-clause-levels c =
     let n : closing c.args.in_flow c.args.kind c.args.start (reverse c.loop-last.levels.items) ≡ None = ap (λ (l : List ℕ). closing c.args.in_flow c.args.kind c.args.start (reverse l)) (sym c.deref.ensures.value) ∙ sym c.closing.ensures ∙ c.in_default.is in
     sym (all_kept c.args.in_flow c.args.kind c.args.start (reverse c.loop-last.levels.items) c.loop-last.invariant.falls n) ∙ c.loop-last.invariant.kept
 
-pub returns-clause-queue : goal.returns-clause-queue
-returns-clause-queue c = λ e n q i.
-    let z : closing c.args.in_flow c.args.kind c.args.start (reverse c.loop-last.levels.items) ≡ None = ap (λ (l : List ℕ). closing c.args.in_flow c.args.kind c.args.start (reverse l)) (sym c.deref.ensures.value) ∙ sym c.closing.ensures ∙ c.in_default.is in
-    let r = c.loop-last.invariant.closed e n q i in
-    let g = ap (λ (X : List ℕ). r.0 ++ map (λ l. BlockEnd (end_at c.args.kind c.args.front c.args.start l)) X) (none_closed c.args.in_flow c.args.kind c.args.start (reverse c.loop-last.levels.items) c.loop-last.invariant.falls z) in
-    subst (λ (X : List Token). IsQueue e n c.args.step c.loop-last.queue.items (q ++ X)) (sym (append-nil r.0) ∙ sym g ∙ r.2) r.1
+pub returns-clause-ends : goal.returns-clause-ends
+returns-clause-ends c =
+    let n : closing c.args.in_flow c.args.kind c.args.start (reverse c.loop-last.levels.items) ≡ None = ap (λ (l : List ℕ). closing c.args.in_flow c.args.kind c.args.start (reverse l)) (sym c.deref.ensures.value) ∙ sym c.closing.ensures ∙ c.in_default.is in
+    let z = none_closed c.args.in_flow c.args.kind c.args.start (reverse c.loop-last.levels.items) c.loop-last.invariant.falls n in
+    let cs : List ℕ = filter (λ l. not (stays c.args.in_flow c.args.kind c.args.start l)) (reverse c.args.levels.now.items) in
+    let a = ap (λ (l : List ℕ). length (filter (is_early c.args.kind c.args.front c.args.start) l)) z in
+    let b = ap (λ (l : List ℕ). length (filter (λ d. not (is_early c.args.kind c.args.front c.args.start d)) l)) z in
+    let v = c.loop-last.invariant.early in
+    let w = c.loop-last.invariant.late in
+    let e : c.loop-last.early ≡ length (filter (is_early c.args.kind c.args.front c.args.start) cs) = omega arith in
+    let f : c.loop-last.ends ≡ length (filter (λ d. not (is_early c.args.kind c.args.front c.args.start d)) cs) = omega arith in
+    rw (e, f) (ends_split c.args.kind c.args.front c.args.start cs (filter_falls (λ l. not (stays c.args.in_flow c.args.kind c.args.start l)) (reverse c.args.levels.now.items) c.requires))
+
+pub returns-clause-none : goal.returns-clause-none
+returns-clause-none c = λ s. let v = c.loop-last.invariant.early in let n = none_early c.args.kind c.args.front c.args.start (filter (λ l. not (stays c.args.in_flow c.args.kind c.args.start l)) (reverse c.args.levels.now.items)) s in omega arith

@@ -3,7 +3,7 @@ use Rattle.std.proofs.lemmas.Bool.{false≢true}
 use Rattle.std.proofs.lemmas.Result.{err_from_is_err_and}
 use Rattle.yaml_text.specs.declared.types.yaml_encoding_t.{yaml_encoding_t}
 use Rattle.yaml_scan.specs.Offline.Token.{StreamStart}
-use Rattle.yaml_scan.specs.Numbered.{IsQueue}
+use Rattle.yaml_scan.specs.Groups.{IsQueue}
 use Rattle.yaml_text.specs.Fault.{fault_of}
 use Rattle.yaml_text.specs.Decode.{refusal_seen}
 use Rattle.yaml_scan.proofs.Octets.{short}
@@ -20,9 +20,9 @@ returns-in-Err c = (inl (record { fault = c.in-Err.ensures.memory; in_utf8 = λ 
 pub returns-in_err-put_stream_start : goal.returns-in_err-put_stream_start
 returns-in_err-put_stream_start c = let p = err_from_is_err_and c.from_residual.result c.from_residual.ensures.1 in let z = new_stopped c.args.setting c.args.input.now c.args.scanner.now c.requires in rw (p.1, p.2) (
   inl (record { fault = refl; in_utf8 = λ u. begun_in c.args.scanner.now.limit c.args.setting c.args.input.now c.in-Ok.front.0 c.in-Ok.ensures.front (refusal_seen c.in-Ok.front.1) c.in-Ok.ensures.refusal c.near_from-near.result (c.near_from-near.ensures.near c.in-Ok.front.0.chars c.bytes.ensures.characters c.bytes.ensures.utf8) (sym c.near_start.ensures ∙ ap refusal_seen c.in_default.is) }),
-  record { limit = z.limit; taken = z.taken; least = z.least; most = z.most; unsettled = z.unsettled; reach = z.reach },
+  record { limit = z.limit; taken = z.taken; done = c.in_err-put_stream_start.ensures.done; least = z.least; most = z.most; unsettled = z.unsettled; reach = z.reach },
 )
 
 pub returns : goal.returns
 returns c = begins c.args.setting c.args.input.now c.args.scanner.now _ c.requires c.in-Ok.ensures.front c.bytes.ensures.characters (let s = short c.in-Ok.front.0.chars in let m = c.near_from-near.ensures.small in let e = ap length c.bytes.ensures.utf8 in omega arith) c.in-Ok.ensures.refusal (c.near_from-near.ensures.near c.in-Ok.front.0.chars c.bytes.ensures.characters c.bytes.ensures.utf8)
-    refl refl refl refl refl refl (subst (λ (e : yaml_encoding_t). IsQueue e 1 2 c.put_stream_start.new.queue.items (StreamStart ∷ [])) c.encoding-encoding.ensures.is (c.in_ok-put_stream_start.ensures c.requires.queue)) refl refl refl (sym c.near_start.ensures ∙ ap refusal_seen c.in_default.is)
+    refl refl refl refl (subst (λ (e : yaml_encoding_t). IsQueue e c.put_stream_start.new.queue.early c.put_stream_start.new.queue.front c.put_stream_start.new.queue.groups.items (StreamStart ∷ [])) c.encoding-encoding.ensures.is c.in_ok-put_stream_start.ensures.queue) c.in_ok-put_stream_start.ensures.long c.in_ok-put_stream_start.ensures.early c.in_ok-put_stream_start.ensures.done refl refl refl (sym c.near_start.ensures ∙ ap refusal_seen c.in_default.is)

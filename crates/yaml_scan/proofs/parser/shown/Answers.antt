@@ -1,14 +1,28 @@
-use Rattle.std.proofs.Common.{sym, arith}
+use Rattle.std.proofs.Common.{◌<◌, ◌≤◌, drop, length, sym, ◌∙◌, arith, ltb-true, ltb-false}
 use Rattle.std.specs.Prelude.{option_map}
 use Rattle.yaml_text.specs.Fault.{fault_of}
-use Rattle.yaml_scan.proofs.Takings.{queue_some}
+use Rattle.yaml_text.specs.Token.{token_of}
+use Rattle.yaml_scan.specs.Groups.{pending}
+use Rattle.yaml_scan.specs.Offline.{offline}
+use Rattle.yaml_scan.specs.Scanning.{history}
+use Rattle.yaml_scan.proofs.Queues.{lead_first, token_first}
+use Rattle.yaml_scan.proofs.Takings.{groups_some}
 use Rattle.yaml_scan.proofs.Scans.{head_shown}
 use Rattle.yaml_scan.proofs.parser.shown.Goals as goal
 
 pub unwrap-requires : goal.unwrap-requires
-unwrap-requires c = let k = (c.parser.invariant.peeked c.if-parser.true).1 in let n = queue_some c.parser.inside.scanner k.stands.runs k.settled in c.front.ensures.variant.1 (omega arith)
+unwrap-requires c = let k = (c.parser.invariant.peeked c.if-not-parser.false).1 in let n = groups_some c.parser.inside.scanner k.stands.runs k.settled in c.front.ensures.variant.1 (omega arith)
 
-pub returns-then-parser : goal.returns-then-parser
-returns-then-parser c = let i = c.parser.inside in
-    let k = (c.parser.invariant.peeked c.if-parser.true).1 in
-    head_shown i.setting i.input.now i.scanner k c.unwrap.result.now (queue_some i.scanner k.stands.runs k.settled) (rw c.unwrap.ensures at c.front.ensures.lookup) i.peeked i.over (option_map fault_of i.fault) c.if-parser.true c.args.parser.now (sym c.parser.view_is)
+pub returns-then-has_lead : goal.returns-then-has_lead
+returns-then-has_lead c = let i = c.parser.inside in let s = i.scanner in
+    let k = (c.parser.invariant.peeked c.if-not-parser.false).1 in
+    let l : 0 < length (pending s.layout.queue.early s.layout.queue.front s.layout.queue.groups.items) = ltb-true _ _ (sym c.has_lead.ensures ∙ c.if-has_lead.true) in
+    head_shown i.setting i.input.now s k (token_of i.lead) (lead_first s.text.encoding s.layout.queue (drop s.taken (offline (history s))) (token_of i.lead) k.stands.runs.holds.queue (c.parser.invariant.lead c.if-not-parser.false) l)
+    i.session.peeked i.session.over (option_map fault_of i.session.fault) c.if-not-parser.false c.args.parser.now (sym c.parser.view_is)
+
+pub returns-else-has_lead : goal.returns-else-has_lead
+returns-else-has_lead c = let i = c.parser.inside in let s = i.scanner in
+    let k = (c.parser.invariant.peeked c.if-not-parser.false).1 in
+    let l : length (pending s.layout.queue.early s.layout.queue.front s.layout.queue.groups.items) ≤ 0 = ltb-false _ _ (sym c.has_lead.ensures ∙ c.if-has_lead.false) in
+    head_shown i.setting i.input.now s k (token_of c.unwrap.result.now.token) (token_first s.text.encoding s.layout.queue (drop s.taken (offline (history s))) c.unwrap.result.now k.stands.runs.holds.queue (groups_some s k.stands.runs k.settled) (rw c.unwrap.ensures at c.front.ensures.lookup) l)
+    i.session.peeked i.session.over (option_map fault_of i.session.fault) c.if-not-parser.false c.args.parser.now (sym c.parser.view_is)

@@ -3,10 +3,12 @@ use Rattle.std.specs.Prelude.{option_map}
 use Rattle.std.proofs.lemmas.Bool.{false≢true}
 use Rattle.yaml_text.specs.Fault.{fault_of}
 use Rattle.yaml_text.specs.Token.{token_of}
+use Rattle.yaml_scan.specs.Token.{is_last_type, type_of}
 use Rattle.yaml_scan.specs.Parser.{Parser}
 use Rattle.yaml_scan.specs.Ready.{parser_of}
 use Rattle.yaml_scan.proofs.Scans.{shown_settled, stands_u, open_u, last_is, take_told_of, take_left_of, shown_session}
 use Rattle.yaml_scan.proofs.Keeps.{keeps_taken, reach_in}
+use Rattle.yaml_scan.proofs.Waits.{done_is}
 use Rattle.yaml_scan.proofs.parser.take_shown.Goals as goal
 
 pub invariant_of-parser : goal.invariant_of-parser
@@ -14,16 +16,17 @@ invariant_of-parser c = let i = c.parser.inside in let v = c.parser.invariant in
     let s = i.scanner in let u = c.take_head-token.new.scanner in let x = token_of c.take_head-token.result in let p = c.take_head-token.ensures in
     let k = shown_settled i.setting i.input.now s (v.peeked (ap (λ (z : Parser). z.session.peeked) c.parser.view_is ∙ c.requires)).1 in
     let t = stands_u i.setting i.input.now s s u x k p in
-    let w = keeps_taken i.setting i.input.now s u x p t c.steps_done-parser-inside.result i.done (record { queued = v.queued; few = v.few }) c.steps_done-parser-inside.ensures in
-    record {
-      ready = λ n. inr (t, open_u i.setting i.input.now s s u x k p (sym (last_is i.setting i.input.now s s u x k p) ∙ sym c.is_stream_end-parser-inside.ensures ∙ n));
+    let w = keeps_taken i.setting i.input.now s u x p t u.layout.queue.done s.layout.queue.done (record { queued = v.queued; few = v.few }) (done_is u p.runs) in
+    rw c.pass.ensures (record {
+      ready = λ n. inr (t, open_u i.setting i.input.now s s u x k p (sym (last_is i.setting i.input.now s s u x k p) ∙ n));
       peeked = λ n. absurd (false≢true n);
+      lead = λ n. absurd (false≢true n);
       reach = reach_in i.setting i.input.now u t;
       empty = v.empty;
       limit = (let a = v.limit in let b = p.limit in omega arith);
       queued = w.queued;
       few = w.few;
-    }
+    })
 
 pub returns-clause-token : goal.returns-clause-token
 returns-clause-token c = let i = c.parser.inside in let v = c.parser.invariant in
@@ -31,7 +34,7 @@ returns-clause-token c = let i = c.parser.inside in let v = c.parser.invariant i
     let r = ap (λ (z : Parser). z.session.peeked) c.parser.view_is ∙ c.requires in
     let h = v.peeked r in
     let e : c.args.parser.now ≡ parser_of i = sym c.parser.view_is in
-    take_told_of i.setting i.input.now s s u x (shown_settled i.setting i.input.now s h.1) p refl (option_map fault_of i.fault) c.args.parser.now (e ∙ shown_session (parser_of i) h.0 r)
+    take_told_of i.setting i.input.now s s u x (shown_settled i.setting i.input.now s h.1) p refl (option_map fault_of i.session.fault) c.args.parser.now (e ∙ shown_session (parser_of i) h.0 r)
 
 pub returns-clause-left : goal.returns-clause-left
 returns-clause-left c = let i = c.parser.inside in let v = c.parser.invariant in
@@ -39,4 +42,4 @@ returns-clause-left c = let i = c.parser.inside in let v = c.parser.invariant in
     let r = ap (λ (z : Parser). z.session.peeked) c.parser.view_is ∙ c.requires in
     let h = v.peeked r in
     let e : c.args.parser.now ≡ parser_of i = sym c.parser.view_is in
-    take_left_of i.setting i.input.now s s u x (shown_settled i.setting i.input.now s h.1) p refl (option_map fault_of i.fault) c.args.parser.now (e ∙ shown_session (parser_of i) h.0 r) c.is_stream_end-parser-inside.result c.is_stream_end-parser-inside.ensures
+    rw c.pass.ensures (take_left_of i.setting i.input.now s s u x (shown_settled i.setting i.input.now s h.1) p refl (option_map fault_of i.session.fault) c.args.parser.now (e ∙ shown_session (parser_of i) h.0 r) (is_last_type (type_of x.token_data)) refl)

@@ -1,32 +1,75 @@
-use Rattle.std.proofs.Common.{Bool, Ok, Err, sym, ap, ◌∙◌, subst}
-use Rattle.yaml_scan.specs.Token.{yaml_token_t}
-use Rattle.yaml_scan.specs.Session.Answer.{TOKEN}
-use Rattle.yaml_text.specs.Fault.{fault_of}
+use Rattle.std.proofs.Common.{◌≡◌, Err, Some, true, false, refl, sym, ap, ◌∙◌, inr, subst, arith}
+use Rattle.std.specs.Prelude.{◌⊎◌, option_map}
+use Rattle.std.proofs.lemmas.Bool.{false≢true}
+use Rattle.yaml_text.specs.Fault.{Fault, fault_of}
 use Rattle.yaml_text.specs.Token.{token_of}
-use Rattle.yaml_scan.specs.Parser.{Parser, Calls, Scans, Shows, told}
+use Rattle.yaml_scan.specs.Token.{yaml_token_t, is_last_type, type_of}
+use Rattle.yaml_scan.specs.Session.Answer.{TOKEN}
+use Rattle.yaml_scan.specs.Parser.{Parser, Calls, Scans, told}
+use Rattle.yaml_scan.specs.Ready.{parser_of, IsShown, IsShort, IsEnded}
 use Rattle.yaml_scan.specs.Session.Call.{SCAN}
 use Rattle.yaml_scan.proofs.CallMarks.{call_is_counted}
 use Rattle.yaml_scan.proofs.Alike.{scanned_alike}
-use Rattle.yaml_scan.proofs.Scans.{scan_over, scan_shown, scan_not_shown, fault_shown, bare, early}
+use Rattle.yaml_scan.proofs.Scans.{show_token, show_fault_of, open_session, shown_settled, stands_u, open_u, last_is, take_told_of, take_left_of, scan_over, scan_shown, scan_not_shown, bare, early}
+use Rattle.yaml_scan.proofs.Keeps.{stands_ready, keeps_settled, keeps_stopped, keeps_taken, reach_in, reach_stopped}
+use Rattle.yaml_scan.proofs.Waits.{done_is}
 use Rattle.yaml_scan.proofs.parser.yaml_parser_scan.Goals as goal
 
-pub last_fault-requires : goal.last_fault-requires
-last_fault-requires c = let w = subst (λ (b : Bool). Shows c.args.parser.now b c.show.new.parser) c.if-show.false c.show.ensures in (w.0, w.1)
+pub invariant_of-parser : goal.invariant_of-parser
+invariant_of-parser c = let i = c.parser.inside in let v = c.parser.invariant in let g = c.in-Ok.ensures in
+    let t = c.look.new.scanner in let u = c.take_head-token.new.scanner in let x = token_of c.take_head-token.result in let p = c.take_head-token.ensures in
+    let h : IsShown i.setting i.input.now t = record { stands = g.stands; still_open = g.still_open; settled = g.settled } in
+    let k = shown_settled i.setting i.input.now t h in
+    let b = stands_u i.setting i.input.now t t u x k p in
+    let n = keeps_settled i.setting i.input.now i.scanner t g (stands_ready i.setting i.input.now i.scanner (v.ready c.if-parser.false)) i.scanner.layout.queue.done (record { queued = v.queued; few = v.few }) in
+    let w = keeps_taken i.setting i.input.now t u x p b u.layout.queue.done i.scanner.layout.queue.done n (done_is u p.runs) in
+    rw c.pass.ensures (record {
+      ready = λ n. inr (b, open_u i.setting i.input.now t t u x k p (sym (last_is i.setting i.input.now t t u x k p) ∙ n));
+      peeked = λ n. absurd (false≢true n);
+      lead = λ n. absurd (false≢true n);
+      reach = reach_in i.setting i.input.now u b;
+      empty = v.empty;
+      limit = (let a = v.limit in let b = p.limit in let d = g.limit in omega arith);
+      queued = w.queued;
+      few = w.few;
+    })
 
-pub returns-then-show : goal.returns-then-show
-returns-then-show c =
-    let o = sym (ap (λ (p : Parser). p.session.over) c.parser.view_is) ∙ c.if-parser.false in
-    let s = subst (λ (b : Bool). Shows c.args.parser.now b c.show.new.parser) c.if-show.true c.show.ensures in
-    let a : Scans c.args.parser.now (Ok c.take_shown.result) c.take_shown.new.parser = scan_shown c.args.parser.now c.show.new.parser o (token_of c.take_shown.result) c.take_shown.new.parser s c.take_shown.ensures.token c.take_shown.ensures.left in
-    record { answers = a; bare = bare SCAN c.args.parser.now (told (Ok c.take_shown.result)) c.take_shown.new.parser a; early = early SCAN c.args.parser.now (told (Ok c.take_shown.result)) c.take_shown.new.parser a; local = scanned_alike c.args.parser.now (told (Ok c.take_shown.result)) c.take_shown.new.parser a; marks = call_is_counted SCAN c.args.parser.now (told (Ok c.take_shown.result)) c.take_shown.new.parser a }
+pub invariant_of-parser-in-Err : goal.invariant_of-parser-in-Err
+invariant_of-parser-in-Err c = let i = c.parser.inside in let v = c.parser.invariant in let k = c.in-Err.ensures.1 in
+    let w = keeps_stopped i.setting i.input.now i.scanner c.look.new.scanner k (stands_ready i.setting i.input.now i.scanner (v.ready c.if-parser.false)) i.scanner.layout.queue.done (record { queued = v.queued; few = v.few }) in
+    rw c.end.ensures (record {
+      ready = λ n. absurd (false≢true (sym n));
+      peeked = λ n. absurd (false≢true n);
+      lead = λ n. absurd (false≢true n);
+      reach = reach_stopped i.setting i.input.now i.scanner c.look.new.scanner k;
+      empty = v.empty;
+      limit = (let a = v.limit in let b = k.limit in omega arith);
+      queued = (let a = w.queued in let b = k.done in omega arith);
+      few = w.few;
+    })
 
-pub returns-else-show : goal.returns-else-show
-returns-else-show c =
-    let f = c.last_fault.result in
+pub returns-in-Ok : goal.returns-in-Ok
+returns-in-Ok c = let i = c.parser.inside in let g = c.in-Ok.ensures in
+    let t = c.look.new.scanner in let u = c.take_head-token.new.scanner in let x = token_of c.take_head-token.result in let p = c.take_head-token.ensures in
+    let e : c.args.parser.now ≡ parser_of i = sym c.parser.view_is in
     let o = sym (ap (λ (p : Parser). p.session.over) c.parser.view_is) ∙ c.if-parser.false in
-    let s = subst (λ (b : Bool). Shows c.args.parser.now b c.show.new.parser) c.if-show.false c.show.ensures in
-    let a : Scans c.args.parser.now (Err f) c.show.new.parser = scan_not_shown c.args.parser.now c.show.new.parser o f (fault_shown c.args.parser.now c.show.new.parser (fault_of f) s c.last_fault.ensures) in
-    record { answers = a; bare = bare SCAN c.args.parser.now (told (Err f)) c.show.new.parser a; early = early SCAN c.args.parser.now (told (Err f)) c.show.new.parser a; local = scanned_alike c.args.parser.now (told (Err f)) c.show.new.parser a; marks = call_is_counted SCAN c.args.parser.now (told (Err f)) c.show.new.parser a }
+    let h : IsShown i.setting i.input.now t = record { stands = g.stands; still_open = g.still_open; settled = g.settled } in
+    let k = shown_settled i.setting i.input.now t h in
+    let fault = option_map fault_of i.session.fault in
+    let q : Parser = record { input = i.input.now; setting = i.setting; limit = t.limit; session = record { taken = t.taken; steps = t.made; peeked = true; over = false; fault = fault } } in
+    let s = show_token i.setting i.input.now i.scanner t g i.session.peeked fault c.args.parser.now (e ∙ open_session (parser_of i) c.if-parser.false) false refl in
+    let r : Parser = record { input = i.input.now; setting = i.setting; limit = u.limit; session = record { taken = u.taken; steps = u.made; peeked = false; over = is_last_type (type_of x.token_data); fault = fault } } in
+    let a : Calls SCAN c.args.parser.now (TOKEN x) r = scan_shown c.args.parser.now q o x r s (take_told_of i.setting i.input.now t t u x k p refl fault q refl) (take_left_of i.setting i.input.now t t u x k p refl fault q refl (is_last_type (type_of x.token_data)) refl) in
+    rw c.pass.ensures (record { answers = a; bare = bare SCAN c.args.parser.now (TOKEN x) r a; early = early SCAN c.args.parser.now (TOKEN x) r a; local = scanned_alike c.args.parser.now (TOKEN x) r a; marks = call_is_counted SCAN c.args.parser.now (TOKEN x) r a })
+
+pub returns-in-Err : goal.returns-in-Err
+returns-in-Err c = let i = c.parser.inside in let f = c.in-Err.ensures in let t = c.look.new.scanner in let w = c.fault_at-fault.result in
+    let e : c.args.parser.now ≡ parser_of i = sym c.parser.view_is in
+    let o = sym (ap (λ (p : Parser). p.session.over) c.parser.view_is) ∙ c.if-parser.false in
+    let r : Parser = record { input = i.input.now; setting = i.setting; limit = t.limit; session = record { taken = t.taken; steps = t.made; peeked = false; over = true; fault = Some (fault_of w) } } in
+    let s = show_fault_of i.setting i.input.now i.scanner t i.session.peeked (option_map fault_of i.session.fault) w f.1 c.args.parser.now (e ∙ open_session (parser_of i) c.if-parser.false) (subst (λ (x : Fault). IsShort i.setting i.input.now i.scanner x ⊎ IsEnded i.setting i.input.now i.scanner t x) (sym c.fault_at-fault.ensures) f.0) f.2 in
+    let a : Scans c.args.parser.now (Err w) r = scan_not_shown c.args.parser.now r o w s.2 in
+    rw c.end.ensures (record { answers = a; bare = bare SCAN c.args.parser.now (told (Err w)) r a; early = early SCAN c.args.parser.now (told (Err w)) r a; local = scanned_alike c.args.parser.now (told (Err w)) r a; marks = call_is_counted SCAN c.args.parser.now (told (Err w)) r a })
 
 pub returns-then-parser-clause-local : goal.returns-then-parser-clause-local
 returns-then-parser-clause-local c =

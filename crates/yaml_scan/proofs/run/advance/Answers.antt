@@ -10,10 +10,10 @@ overflow_add-scanner c = let f = few_made c.args.scanner.now c.requires.runs in 
 
 pub returns-in-Some : goal.returns-in-Some
 returns-in-Some c = let a = c.in-Ok.ensures in let e = a.same in
-    (inr (near_last c.args.scanner.now c.requires.runs c.requires.running c.step.new.scanner a c.step.new.scanner.reach.index _ refl (near_moved c.args.scanner.now.near c.step.new.scanner.near c.step.new.scanner.reach.index c.args.scanner.now.refusal c.step.new.scanner.refusal _ a.same.near a.same.refusal c.in-Some.ensures)), record { same = record { text = e.text; refusal = e.refusal; near = e.near; limit = e.limit; taken = e.taken }; made = a.made; reach = refl })
+    (inr (near_last c.args.scanner.now c.requires.runs c.requires.running c.step.new.scanner a c.step.new.scanner.reach.index _ refl (near_moved c.args.scanner.now.near c.step.new.scanner.near c.step.new.scanner.reach.index c.args.scanner.now.refusal c.step.new.scanner.refusal _ a.same.near a.same.refusal c.in-Some.ensures)), record { same = record { text = e.text; refusal = e.refusal; near = e.near; limit = e.limit; taken = e.taken; done = e.done }; made = a.made; reach = refl })
 
 pub returns-in-None : goal.returns-in-None
-returns-in-None c = let a = c.in-Ok.ensures in stepped c.args.scanner.now c.requires.runs c.requires.running c.step.new.scanner a _ refl refl refl refl refl refl refl refl refl refl refl refl refl c.step.new.scanner.reach.index refl (near_moved c.args.scanner.now.near c.step.new.scanner.near c.step.new.scanner.reach.index c.args.scanner.now.refusal c.step.new.scanner.refusal None a.same.near a.same.refusal c.in-None.ensures)
+returns-in-None c = let a = c.in-Ok.ensures in stepped c.args.scanner.now c.requires.runs c.requires.running c.step.new.scanner a _ refl refl refl refl refl refl refl refl refl refl c.step.new.scanner.reach.index refl (near_moved c.args.scanner.now.near c.step.new.scanner.near c.step.new.scanner.reach.index c.args.scanner.now.refusal c.step.new.scanner.refusal None a.same.near a.same.refusal c.in-None.ensures)
 
 pub returns-in-Err : goal.returns-in-Err
 returns-in-Err c = let e = c.in-Err.ensures in let k = e.1.same in (

@@ -30,7 +30,7 @@ returns c = let v = c.steps.invariant in
     }
 
 pub steps-init : goal.steps-init
-steps-init c = record { runs = c.requires.runs; same = record { text = refl; refusal = refl; near = refl; limit = refl; taken = refl }; least = omega arith; most = least_pace c.args.scanner.now }
+steps-init c = record { runs = c.requires.runs; same = record { text = refl; refusal = refl; near = refl; limit = refl; taken = refl; done = refl }; least = omega arith; most = least_pace c.args.scanner.now }
 
 pub steps-smaller : goal.steps-smaller
 steps-smaller c = let k = c.in_ok-advance.ensures in let m = k.made in let e = ap (λ (x : Course). length x.read) (course_same c.steps.scanner c.advance.new.scanner k.same) in let w = c.steps.invariant.runs.within in omega arith
