@@ -207,7 +207,11 @@ fn keep_candidates(
     ensures awaited { OnOk result (slots.new.awaited ≡ step_of (lowest (slots.new.outer.items ++ slots.new.top ∷ []))) }
 {
     settle(&mut slots.top, met.kind, met.allowed, new);
-    refuse_lost(kept, lost_at(root(&slots.outer, slots.top), limit, mark), mark)?;
+    refuse_lost(
+        kept,
+        lost_at(root(&slots.outer, slots.top), limit, mark),
+        mark,
+    )?;
     move_slots(slots, met.kind, limit, mark);
     Ok(())
 }
