@@ -21,19 +21,24 @@ abbrev pub course_to : ℕ → yaml_encoding_t → List ℕ → Course
 course_to limit setting input = course limit (decoded_input setting input)
 
 -- these are the tokens that some of the steps settle, and no stream end is among them
-pub record AreSettled (limit : ℕ) (setting : yaml_encoding_t) (input : List ℕ) (tokens : List yaml_token_t) : Type 0 where
-  pub steps : ℕ
-  pub within : steps ≤ all_steps (course_to limit setting input)
-  pub tokens_are : tokens ≡ map (handed_out (decoded_input setting input).encoding) (settled_tokens limit (course_to limit setting input) steps)
-  -- so they are a beginning of all tokens
-  pub beginning : Begins tokens (answers_to limit setting input).tokens
-  -- memory is refused to the decoding of UTF-16, or in the first step or after it
-  pub in_utf8 : (decoded_input setting input).encoding ≡ YAML_UTF8_ENCODING → (course_to limit setting input).begun ≡ true
-  pub no_end : list_any (λ t. is_last_type (type_of t.token_data)) tokens ≡ false
+pub record AreSettled (limit : ℕ) (setting : yaml_encoding_t) (input : List ℕ) (tokens : List yaml_token_t) : Type 0
+  where
+    pub steps : ℕ
+    pub within : steps ≤ all_steps (course_to limit setting input)
+    pub tokens_are : tokens
+        ≡ map (handed_out (decoded_input setting input).encoding)
+        (settled_tokens limit (course_to limit setting input) steps)
+    -- so they are a beginning of all tokens
+    pub beginning : Begins tokens (answers_to limit setting input).tokens
+    -- memory is refused to the decoding of UTF-16, or in the first step or after it
+    pub in_utf8 : (decoded_input setting input).encoding ≡ YAML_UTF8_ENCODING
+        → (course_to limit setting input).begun ≡ true
+    pub no_end : list_any (λ t. is_last_type (type_of t.token_data)) tokens ≡ false
 
 -- What reading an input to its end returns: all of it, or a growth was refused after some of the steps.
 abbrev pub ReadsAll : ℕ → yaml_encoding_t → List ℕ → List yaml_token_t → Option Fault → Type 0
-ReadsAll limit setting input tokens fault = AllOf (answers_to limit setting input) tokens fault ⊎ (AreSettled limit setting input tokens × (fault ≡ Some memory_fault))
+ReadsAll limit setting input tokens fault = AllOf (answers_to limit setting input) tokens fault
+    ⊎ (AreSettled limit setting input tokens × (fault ≡ Some memory_fault))
 
 -- in every beginning there are at most as many block ends as block starts
 abbrev pub EndNoMore : List yaml_token_t → Type 0

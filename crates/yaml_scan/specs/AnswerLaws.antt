@@ -1,5 +1,6 @@
 -- What holds of the tokens that are returned.
-use Rattle.std.specs.Prelude.{◌≡◌, ℕ, ◌+◌, ◌≤◌, Bool, true, ◌&&◌, List, [], ◌∷◌, take, filter, length, nat_eq, nat_le, None}
+use Rattle.std.specs.Prelude.{◌≡◌, ℕ, ◌+◌, ◌≤◌, Bool, true, ◌&&◌, List, [], ◌∷◌, take, filter, length, nat_eq, nat_le}
+use Rattle.std.specs.Prelude.{None}
 use Rattle.std.specs.List.{list_any}
 use Rattle.yaml_text.specs.declared.types.yaml_mark_t.{yaml_mark_t}
 use Rattle.yaml_scan.specs.Token.{yaml_token_t, type_of, is_end_type, is_start_type, is_key_type, is_value_type}
@@ -10,10 +11,12 @@ use Rattle.yaml_scan.specs.Answers.{Input, course, answers}
 -- from index n on none starts after its end, or ends after the start of the next
 abbrev pub StandInOrder : ℕ → List yaml_token_t → Type 0
 StandInOrder n [] = Unit {0}
-StandInOrder n (t ∷ ts) = (n ≤ t.start_mark.index) × (t.start_mark.index ≤ t.end_mark.index) × StandInOrder t.end_mark.index ts
+StandInOrder n (t ∷ ts) = (n ≤ t.start_mark.index) × (t.start_mark.index ≤ t.end_mark.index)
+    × StandInOrder t.end_mark.index ts
 
 abbrev pub AnswersStandInOrder : Type 0
-AnswersStandInOrder = (limit : ℕ) (input : Input) → KeepsOrder input.source → StandInOrder 0 (answers limit input).tokens
+AnswersStandInOrder = (limit : ℕ) (input : Input) → KeepsOrder input.source
+    → StandInOrder 0 (answers limit input).tokens
 
 unfoldable pub ends_among : List yaml_token_t → ℕ
 ends_among ts = length (filter (λ t. is_end_type (type_of t.token_data)) ts)
@@ -23,11 +26,13 @@ starts_among ts = length (filter (λ t. is_start_type (type_of t.token_data)) ts
 
 -- in every beginning
 abbrev pub AnswersEndFewer : Type 0
-AnswersEndFewer = (limit : ℕ) (input : Input) (n : ℕ) → KeepsOrder input.source → ends_among (take n (answers limit input).tokens) ≤ starts_among (take n (answers limit input).tokens)
+AnswersEndFewer = (limit : ℕ) (input : Input) (n : ℕ) → KeepsOrder input.source
+    → ends_among (take n (answers limit input).tokens) ≤ starts_among (take n (answers limit input).tokens)
 
 -- if the stream ends at depth 0
 abbrev pub AnswersEndAll : Type 0
-AnswersEndAll = (limit : ℕ) (input : Input) → KeepsOrder input.source → (answers limit input).fault ≡ None → depth (course limit input).read ≡ 0
+AnswersEndAll = (limit : ℕ) (input : Input) → KeepsOrder input.source → (answers limit input).fault ≡ None
+    → depth (course limit input).read ≡ 0
     → ends_among (answers limit input).tokens ≡ starts_among (answers limit input).tokens
 
 abbrev pub same_mark : yaml_mark_t → yaml_mark_t → Bool
@@ -39,11 +44,14 @@ is_put_in t = is_key_type (type_of t.token_data) && same_mark t.start_mark t.end
 
 -- a VALUE that starts on the line of m, at most limit bytes further
 abbrev pub is_near_value : ℕ → yaml_mark_t → yaml_token_t → Bool
-is_near_value limit m t = is_value_type (type_of t.token_data) && (nat_eq t.start_mark.line m.line && nat_le t.start_mark.index (m.index + limit))
+is_near_value limit m t = is_value_type (type_of t.token_data)
+    && (nat_eq t.start_mark.line m.line && nat_le t.start_mark.index (m.index + limit))
 
 abbrev pub AreFollowed : ℕ → List yaml_token_t → Type 0
 AreFollowed limit [] = Unit {0}
-AreFollowed limit (t ∷ ts) = (is_put_in t ≡ true → list_any (is_near_value limit t.start_mark) ts ≡ true) × AreFollowed limit ts
+AreFollowed limit (t ∷ ts) = (is_put_in t ≡ true → list_any (is_near_value limit t.start_mark) ts ≡ true)
+    × AreFollowed limit ts
 
 abbrev pub AnswersFollowKeys : Type 0
-AnswersFollowKeys = (limit : ℕ) (input : Input) → KeepsOrder input.source → AreFollowed limit (answers limit input).tokens
+AnswersFollowKeys = (limit : ℕ) (input : Input) → KeepsOrder input.source
+    → AreFollowed limit (answers limit input).tokens

@@ -1,5 +1,6 @@
 -- The answers to a decoded input: a list of tokens, and perhaps a fault.
-use Rattle.std.specs.Prelude.{ℕ, ◌+◌, Bool, true, false, List, [], map, nat_lt, Option, Some, None, option_map, if◌then◌else◌}
+use Rattle.std.specs.Prelude.{ℕ, ◌+◌, Bool, true, false, List, [], map, nat_lt, Option, Some, None, option_map}
+use Rattle.std.specs.Prelude.{if◌then◌else◌}
 use Rattle.yaml_text.specs.declared.types.yaml_encoding_t.{yaml_encoding_t}
 use Rattle.yaml_scan.specs.Token.{yaml_token_t}
 use Rattle.yaml_scan.specs.Laid.{Laid}
@@ -49,7 +50,8 @@ course_from true refusal c = record { begun = false; read = []; fault = refusal 
 course_from false refusal c = record { begun = true; read = c.read; fault = option_map (λ o. o.fault) c.fault }
 
 unfoldable pub course : ℕ → Input → Course
-course limit input = course_from (starts_near input.source.size input.refusal) input.refusal (cut_from (next input limit) (input.source.size + 1) limit [])
+course limit input = course_from (starts_near input.source.size input.refusal) input.refusal
+    (cut_from (next input limit) (input.source.size + 1) limit [])
 
 -- the tokens of these steps that no further step revises; after the stream end these are all
 abbrev pub tokens_of : ℕ → Course → List Token
@@ -60,4 +62,7 @@ pub record Answers : Type 0 where
   pub fault : Option Fault
 
 unfoldable pub answers : ℕ → Input → Answers
-answers limit input = record { tokens = map (handed_out input.encoding) (tokens_of limit (course limit input)); fault = (course limit input).fault }
+answers limit input = record {
+  tokens = map (handed_out input.encoding) (tokens_of limit (course limit input));
+  fault = (course limit input).fault;
+}

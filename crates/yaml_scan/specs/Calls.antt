@@ -47,11 +47,17 @@ call_of code.SKIP = SKIP
 
 -- what is seen of one call
 abbrev pub Sees : Call → Parser → Seen → Parser → Type 0
-Sees call p a q = ((a ≡ seen (answered p call)) × (q ≡ behind p call)) ⊎ ((a ≡ FAULT memory_fault) × WantsMemory p q × (call ≢ SKIP))
+Sees call p a q = ((a ≡ seen (answered p call)) × (q ≡ behind p call))
+    ⊎ ((a ≡ FAULT memory_fault) × WantsMemory p q × (call ≢ SKIP))
 
 -- the parser after a list of calls
 abbrev pub behind_all : Parser → List Call → Parser
-behind_all p calls = record { input = p.input; setting = p.setting; limit = p.limit; session = after_all p.limit (course_read p) calls p.session }
+behind_all p calls = record {
+  input = p.input;
+  setting = p.setting;
+  limit = p.limit;
+  session = after_all p.limit (course_read p) calls p.session;
+}
 
 -- and their answers
 abbrev pub answered_all : Parser → List Call → List Answer
@@ -63,8 +69,8 @@ idle SCAN = TOKEN empty
 idle PEEK = PEEKED (type_of empty.token_data) empty.start_mark empty.end_mark
 idle SKIP = NOTHING
 
--- a growth was refused in the call after the first n: the answers to these are the session's, that to this call is the one
--- fault, and the others are as if the session is over
+-- a growth was refused in the call after the first n: the answers to these are the session's, that to this call is the
+-- one fault, and the others are as if the session is over
 pub record RunsOut (p : Parser) (calls : List Call) (all : List Seen) (q : Parser) : Type 0 where
   pub n : ℕ
   pub within : n < length calls
@@ -75,7 +81,8 @@ pub record RunsOut (p : Parser) (calls : List Call) (all : List Seen) (q : Parse
 
 -- the answers to calls are the session's, or a growth was refused in one of them
 abbrev pub Runs : Parser → List Call → List Seen → Parser → Type 0
-Runs p calls answers q = ((answers ≡ map seen (answered_all p calls)) × (q ≡ behind_all p calls)) ⊎ RunsOut p calls answers q
+Runs p calls answers q = ((answers ≡ map seen (answered_all p calls)) × (q ≡ behind_all p calls))
+    ⊎ RunsOut p calls answers q
 
 -- their answers are appended to others
 pub record PutsAnswers (p : Parser) (calls : List Call) (old new : List yaml_answer_t) (q : Parser) : Type 0 where

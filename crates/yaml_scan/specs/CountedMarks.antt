@@ -1,5 +1,5 @@
--- Marks are counted from the front of the text (YAML 1.1, section 5.4): each mark that is handed out is that of a place of
--- the text, so none is between CR and LF. The one exception is the mark of the end of a stream.
+-- Marks are counted from the front of the text (YAML 1.1, section 5.4): each mark that is handed out is that of a place
+-- of the text, so none is between CR and LF. The one exception is the mark of the end of a stream.
 use Rattle.std.specs.Prelude.{◌≡◌, ◌⊎◌, ℕ, List, [], ◌∷◌, length, Some, IfSome}
 use Rattle.yaml_text.specs.Decode.{front}
 use Rattle.yaml_text.specs.Mark.{IsMarkAt, mark_at}
@@ -19,7 +19,8 @@ use Rattle.yaml_scan.specs.Token.{yaml_token_t, type_of}
 abbrev pub IsCounted : List ℕ → yaml_mark_t → Type 0
 IsCounted text mark = (p : ℕ) × IsMarkAt text mark p
 
--- the mark of the end of a stream: that of the end of the text, moved to the start of the next line if its column is not 0
+-- the mark of the end of a stream: that of the end of the text, moved to the start of the next line if its column is
+-- not 0
 abbrev pub IsStreamEnd : List ℕ → yaml_mark_t → Type 0
 IsStreamEnd text mark = mark ≡ end_of (mark_at text (length text))
 
@@ -31,7 +32,8 @@ HasMark text _ mark = IsCounted text mark
 
 -- both marks of a token
 abbrev pub TokenIsCounted : List ℕ → yaml_token_t → Type 0
-TokenIsCounted text t = HasMark text (type_of t.token_data) t.start_mark × HasMark text (type_of t.token_data) t.end_mark
+TokenIsCounted text t = HasMark text (type_of t.token_data) t.start_mark
+    × HasMark text (type_of t.token_data) t.end_mark
 
 abbrev pub TokensAreCounted : List ℕ → List yaml_token_t → Type 0
 TokensAreCounted text [] = Unit {0}
@@ -70,7 +72,8 @@ AllAreCounted text (a ∷ more) = AnswerIsCounted text a × AllAreCounted text m
 -- whatever the calls, and in every state of the session
 abbrev pub SessionsAreCounted : Type 0
 SessionsAreCounted = (limit : ℕ) (setting : yaml_encoding_t) (input : List ℕ) (calls : List Call) (s : Session)
-    → AllAreCounted (text_of_input setting input) (session (decoded_input setting input).encoding limit (course limit (decoded_input setting input)) calls s)
+    → AllAreCounted (text_of_input setting input)
+    (session (decoded_input setting input).encoding limit (course limit (decoded_input setting input)) calls s)
 
 -- how far the last step was read
 abbrev pub ReachIsCounted : Type 0

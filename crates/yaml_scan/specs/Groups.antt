@@ -1,5 +1,6 @@
 -- The queue of a running scanner: of each step, in order, what it hands out that was not taken.
-use Rattle.std.specs.Prelude.{◌≡◌, ◌⊎◌, ℕ, zero, suc, ◌+◌, ◌-◌, ◌≤◌, ◌<◌, Bool, true, false, ◌&&◌, List, [], ◌∷◌, ◌++◌, length, drop, Option, None, Some, if◌then◌else◌}
+use Rattle.std.specs.Prelude.{◌≡◌, ◌⊎◌, ℕ, zero, suc, ◌+◌, ◌-◌, ◌≤◌, ◌<◌, Bool, true, false, ◌&&◌, List, [], ◌∷◌, ◌++◌}
+use Rattle.std.specs.Prelude.{length, drop, Option, None, Some, if◌then◌else◌}
 use Rattle.std.specs.VecDeque.{deque_capacity}
 use Rattle.yaml_text.specs.declared.types.yaml_mark_t.{yaml_mark_t}
 use Rattle.yaml_text.specs.declared.types.yaml_encoding_t.{yaml_encoding_t}
@@ -32,7 +33,8 @@ start_at MAPPING m = BlockMappingStart m ∷ []
 
 -- what a group hands out before its token, at the token's start
 abbrev pub leads : group_t → List Token
-leads y = ends_at y.ends y.token.start_mark ++ (start_at y.opens y.token.start_mark ++ (if y.key then InsertedKey y.token.start_mark ∷ [] else []))
+leads y = ends_at y.ends y.token.start_mark
+    ++ (start_at y.opens y.token.start_mark ++ (if y.key then InsertedKey y.token.start_mark ∷ [] else []))
 
 -- the block ends of the front come before the group that no other one follows
 abbrev pub early_before : ℕ → yaml_mark_t → List group_t → List Token
@@ -44,10 +46,12 @@ abbrev pub pending : ℕ → yaml_mark_t → List group_t → List Token
 pending early front [] = []
 pending early front (y ∷ ys) = early_before early front ys ++ leads y
 
--- These tokens are queued: each group hands out its leads and then its token, which is that of a lexeme or the start of the stream.
+-- These tokens are queued: each group hands out its leads and then its token, which is that of a lexeme or the start of
+-- the stream.
 abbrev pub IsQueue : yaml_encoding_t → ℕ → yaml_mark_t → List group_t → List Token → Type 0
 IsQueue e early front [] xs = xs ≡ []
-IsQueue e early front (y ∷ ys) xs = (x : Token) × (rest : List Token) × (xs ≡ pending early front (y ∷ ys) ++ x ∷ rest) × (token_of y.token ≡ handed_out e x) × (is_of_lexeme x ≡ true) × IsQueue e early front ys rest
+IsQueue e early front (y ∷ ys) xs = (x : Token) × (rest : List Token) × (xs ≡ pending early front (y ∷ ys) ++ x ∷ rest)
+    × (token_of y.token ≡ handed_out e x) × (is_of_lexeme x ≡ true) × IsQueue e early front ys rest
 
 -- the token of a lead, at its mark
 abbrev pub lead_tokens : lead_t → yaml_mark_t → List Token
@@ -106,7 +110,8 @@ pub record KeepsRest (old new : queue_t) : Type 0 where
 
 -- the token that is handed out before that of the first group, if there is one
 abbrev pub IsLead : yaml_encoding_t → queue_t → yaml_token_t → Type 0
-IsLead e q token = (x : Token) (rest : List Token) → pending q.early q.front q.groups.items ≡ x ∷ rest → token ≡ handed_out e x
+IsLead e q token = (x : Token) (rest : List Token) → pending q.early q.front q.groups.items ≡ x ∷ rest
+    → token ≡ handed_out e x
 
 -- it is taken: only the first group changes, or, where it is the only one, how many block ends of the front are left
 pub record DropsLead (old new : queue_t) : Type 0 where

@@ -1,7 +1,12 @@
 -- The kinds of lexemes, and what the layout needs to know of them.
 use Rattle.std.specs.Prelude.{Bool, true, false}
 pub use Rattle.yaml_lexeme.specs.declared.kind.yaml_lexeme_kind_t.{yaml_lexeme_kind_t as Kind}
-use Rattle.yaml_lexeme.specs.declared.kind.yaml_lexeme_kind_t.TheVariants.{STREAM_END, DIRECTIVE, DOCUMENT_START, DOCUMENT_END, FLOW_SEQUENCE_START, FLOW_MAPPING_START, FLOW_SEQUENCE_END, FLOW_MAPPING_END, FLOW_ENTRY, BLOCK_ENTRY, KEY, VALUE, ALIAS, ANCHOR, TAG, LITERAL, FOLDED, SINGLE_QUOTED, DOUBLE_QUOTED, PLAIN}
+use Rattle.yaml_lexeme.specs.declared.kind.yaml_lexeme_kind_t.TheVariants.{STREAM_END, DIRECTIVE, DOCUMENT_START}
+use Rattle.yaml_lexeme.specs.declared.kind.yaml_lexeme_kind_t.TheVariants.{DOCUMENT_END, FLOW_SEQUENCE_START}
+use Rattle.yaml_lexeme.specs.declared.kind.yaml_lexeme_kind_t.TheVariants.{FLOW_MAPPING_START, FLOW_SEQUENCE_END}
+use Rattle.yaml_lexeme.specs.declared.kind.yaml_lexeme_kind_t.TheVariants.{FLOW_MAPPING_END, FLOW_ENTRY, BLOCK_ENTRY}
+use Rattle.yaml_lexeme.specs.declared.kind.yaml_lexeme_kind_t.TheVariants.{KEY, VALUE, ALIAS, ANCHOR, TAG, LITERAL}
+use Rattle.yaml_lexeme.specs.declared.kind.yaml_lexeme_kind_t.TheVariants.{FOLDED, SINGLE_QUOTED, DOUBLE_QUOTED, PLAIN}
 
 abbrev pub is_stream_end : Kind → Bool
 is_stream_end STREAM_END = true

@@ -1,8 +1,10 @@
--- A lexeme in its setting: what the lexemes before it make of it. Lists of lexemes are newest first, so the lexemes before
--- one are its tail.
-use Rattle.std.specs.Prelude.{ℕ, ◌+◌, ◌-◌, Bool, true, false, not, ◌&&◌, ◌||◌, List, [], ◌∷◌, map, filter, length, nat_eq, nat_lt, nat_le, Option, Some, None, find, max, if◌then◌else◌}
+-- A lexeme in its setting: what the lexemes before it make of it. Lists of lexemes are newest first, so the lexemes
+-- before one are its tail.
+use Rattle.std.specs.Prelude.{ℕ, ◌+◌, ◌-◌, Bool, true, false, not, ◌&&◌, ◌||◌, List, [], ◌∷◌, map, filter, length}
+use Rattle.std.specs.Prelude.{nat_eq, nat_lt, nat_le, Option, Some, None, find, max, if◌then◌else◌}
 use Rattle.yaml_text.specs.declared.types.yaml_mark_t.{yaml_mark_t}
-use Rattle.yaml_scan.specs.Kind.{Kind, is_flow_start, is_flow_end, is_key, is_value, is_plain, is_candidate_kind, invites_key}
+use Rattle.yaml_scan.specs.Kind.{Kind, is_flow_start, is_flow_end, is_key, is_value, is_plain, is_candidate_kind}
+use Rattle.yaml_scan.specs.Kind.{invites_key}
 use Rattle.yaml_scan.specs.Token.{zero_mark}
 use Rattle.yaml_scan.specs.Lexeme.{Lexeme}
 
@@ -54,7 +56,8 @@ depth H = greatest (map unclosed (ends H))
 -- WHETHER A KEY IS ALLOWED
 -- after a lexeme of kind k, read at depth d; none: it completed nothing
 abbrev pub allows : Kind → ℕ → Bool → Bool → Bool
-allows k d none passed_break = invites_key k || ((nat_eq d 0 && (is_key k || (is_value k && none))) || (is_plain k && passed_break))
+allows k d none passed_break = invites_key k
+    || ((nat_eq d 0 && (is_key k || (is_value k && none))) || (is_plain k && passed_break))
 
 -- by the last lexeme, and at the start of the stream
 abbrev pub allowed_behind : List Laid → Bool

@@ -1,5 +1,6 @@
 -- Indentation levels: the columns of block collections that are open.
-use Rattle.std.specs.Prelude.{ℕ, ◌<◌, Bool, true, not, ◌&&◌, ◌||◌, List, [], ◌∷◌, map, filter, length, nat_eq, nat_lt, nat_le, Option, Some, None, max, option_map}
+use Rattle.std.specs.Prelude.{ℕ, ◌<◌, Bool, true, not, ◌&&◌, ◌||◌, List, [], ◌∷◌, map, filter, length, nat_eq, nat_lt}
+use Rattle.std.specs.Prelude.{nat_le, Option, Some, None, max, option_map}
 use Rattle.std.specs.List.{list_any, list_all}
 use Rattle.yaml_text.specs.declared.types.yaml_mark_t.{yaml_mark_t}
 use Rattle.yaml_scan.specs.Kind.{Kind, is_block_entry, is_key, is_value, closes_all}
@@ -29,7 +30,8 @@ is_opener i = opens_level i.lexeme.kind (is_none i.completed)
 unfoldable pub is_completed : List Laid → Laid → Bool
 is_completed H i = list_any (λ j. names i.number j.completed) H
 
--- i, read at depth 0, opens its column in H: the column is above the level at i, and i is an opener or its key is completed
+-- i, read at depth 0, opens its column in H: the column is above the level at i, and i is an opener or its key is
+-- completed
 unfoldable pub opens : List Laid → Laid → Bool
 opens H i = nat_eq i.depth 0 && (is_above (column i) i.level && (is_opener i || is_completed H i))
 

@@ -16,16 +16,19 @@ abbrev pub place_read : Result Reading Offence → ℕ
 place_read (Ok r) = r.place
 place_read (Err o) = o.place
 
--- what is read up to place r is the same in both texts, as if they agree on all characters below r + 8, the end counted as one
+-- what is read up to place r is the same in both texts, as if they agree on all characters below r + 8, the end counted
+-- as one
 pub record ReadsSame (r : ℕ) (S T : Source) : Type 0 where
   pub marks : (p : ℕ) → p ≤ r → T.mark p ≡ S.mark p
   pub gaps : (flow allowed : Bool) (p : ℕ) → S.gap flow allowed p ≤ r → T.gap flow allowed p ≡ S.gap flow allowed p
   pub kinds : (flow : Bool) (p : ℕ) → p ≤ r → T.kind flow p ≡ S.kind flow p
-  pub reads : (k : Kind) (d : ℕ) (l : Option ℕ) (p : ℕ) → place_read (S.read k d l p) ≤ r → T.read k d l p ≡ S.read k d l p
+  pub reads : (k : Kind) (d : ℕ) (l : Option ℕ) (p : ℕ) → place_read (S.read k d l p) ≤ r
+      → T.read k d l p ≡ S.read k d l p
 
 -- a step that has its reach or its problem at place r at most is the same in both
 abbrev pub StepIsLocal : Type 0
-StepIsLocal = (S T : Source) (limit : ℕ) (H : List Laid) (r : ℕ) → KeepsOrder S → place_behind H ≤ S.size → ReadsSame r S T → place_of (step S limit H) ≤ r
+StepIsLocal = (S T : Source) (limit : ℕ) (H : List Laid) (r : ℕ) → KeepsOrder S → place_behind H ≤ S.size
+    → ReadsSame r S T → place_of (step S limit H) ≤ r
     → step T limit H ≡ step S limit H
 
 -- the accepted input b agrees with the refused input a up to what a was refused for
@@ -36,13 +39,16 @@ pub record AgreesWith (a b : Input) (refusal : Fault) : Type 0 where
 
 -- what is handed out before a late reader fault is handed out of each such input
 abbrev pub TokensBeforeRefusal : Type 0
-TokensBeforeRefusal = (limit : ℕ) (a b : Input) (refusal : Fault) → KeepsOrder a.source → KeepsOrder b.source → AgreesWith a b refusal
+TokensBeforeRefusal = (limit : ℕ) (a b : Input) (refusal : Fault) → KeepsOrder a.source → KeepsOrder b.source
+    → AgreesWith a b refusal
     → Begins (tokens_of limit (course limit a)) (tokens_of limit (course limit b))
 
 -- and a fault instead of it is the fault of each, after the same lexemes
 abbrev pub FaultBeforeRefusal : Type 0
-FaultBeforeRefusal = (limit : ℕ) (a b : Input) (refusal f : Fault) → KeepsOrder a.source → KeepsOrder b.source → AgreesWith a b refusal → (course limit a).fault ≡ Some f
-    → (f ≡ refusal) ⊎ (((course limit b).fault ≡ Some f) × ((course limit b).read ≡ (course limit a).read) × (tokens_of limit (course limit b) ≡ tokens_of limit (course limit a)))
+FaultBeforeRefusal = (limit : ℕ) (a b : Input) (refusal f : Fault) → KeepsOrder a.source → KeepsOrder b.source
+    → AgreesWith a b refusal → (course limit a).fault ≡ Some f
+    → (f ≡ refusal) ⊎ (((course limit b).fault ≡ Some f) × ((course limit b).read ≡ (course limit a).read)
+    × (tokens_of limit (course limit b) ≡ tokens_of limit (course limit a)))
 
 -- the characters below place m are the same, with the end counted as one
 abbrev pub SameBelow : ℕ → List ℕ → List ℕ → Type 0

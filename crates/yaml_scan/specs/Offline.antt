@@ -1,6 +1,7 @@
--- The offline list: the tokens of a finished list of lexemes, with the keys and the starts and ends of blocks that the layout
--- inserts.
-use Rattle.std.specs.Prelude.{ℕ, ◌+◌, Bool, ◌&&◌, length, List, [], ◌∷◌, ◌++◌, map, filter, nat_lt, Option, Some, None, option_map, if◌then◌else◌}
+-- The offline list: the tokens of a finished list of lexemes, with the keys and the starts and ends of blocks that the
+-- layout inserts.
+use Rattle.std.specs.Prelude.{ℕ, ◌+◌, Bool, ◌&&◌, length, List, [], ◌∷◌, ◌++◌, map, filter, nat_lt, Option, Some, None}
+use Rattle.std.specs.Prelude.{option_map, if◌then◌else◌}
 use Rattle.yaml_text.specs.declared.types.yaml_mark_t.{yaml_mark_t}
 use Rattle.yaml_text.specs.declared.types.yaml_encoding_t.{yaml_encoding_t}
 use Rattle.yaml_scan.specs.Kind.{Kind, is_stream_end, is_block_entry}
@@ -47,7 +48,8 @@ block_start i = start_token i.lexeme.kind i.lexeme.start
 
 -- what is inserted before the token of i: a block start if it opens its column, and a key if a `:` of H completes it
 unfoldable pub inserted : List Laid → Laid → List Token
-inserted H i = (if opens H i then block_start i ∷ [] else []) ++ (if is_completed H i then InsertedKey i.lexeme.start ∷ [] else [])
+inserted H i = (if opens H i then block_start i ∷ [] else [])
+    ++ (if is_completed H i then InsertedKey i.lexeme.start ∷ [] else [])
 
 -- the tokens of one lexeme of H
 unfoldable pub group : List Laid → Laid → List Token
@@ -87,8 +89,8 @@ up_to H (Some i) = groups H (filter (λ j. nat_lt j.number i.number) H) ++ block
 unfoldable pub before : ℕ → List Laid → List Token
 before limit H = up_to H (waiting limit H)
 
--- how many of the earliest steps, STREAM-START and some lexemes of H, have a token of their group at place t of the offline
--- list or after it
+-- how many of the earliest steps, STREAM-START and some lexemes of H, have a token of their group at place t of the
+-- offline list or after it
 unfoldable pub queued : List Laid → ℕ → List Laid → ℕ
 queued H t [] = if nat_lt t (length (groups H [])) then 1 else 0
 queued H t (i ∷ early) = (if nat_lt t (length (groups H (i ∷ early))) then 1 else 0) + queued H t early

@@ -31,4 +31,5 @@ ended (i ∷ H) = is_stream_end i.lexeme.kind
 -- each lexeme is laid by those before it, they follow one another, and none comes after a stream end
 abbrev pub IsHistory : ℕ → List Laid → Type 0
 IsHistory limit [] = Unit {0}
-IsHistory limit (i ∷ H) = (i ≡ laid limit H i.lexeme) × Follows (reach H) i.lexeme × IsHistory limit H × (ended H ≡ false)
+IsHistory limit (i ∷ H) = (i ≡ laid limit H i.lexeme) × Follows (reach H) i.lexeme × IsHistory limit H
+    × (ended H ≡ false)

@@ -1,5 +1,6 @@
 -- A parser, as its calls see it.
-use Rattle.std.specs.Prelude.{◌≡◌, ◌⊎◌, ℕ, ◌≤◌, Bool, false, true, List, Option, None, Some, Result, Ok, Err, if◌then◌else◌}
+use Rattle.std.specs.Prelude.{◌≡◌, ◌⊎◌, ℕ, ◌≤◌, Bool, false, true, List, Option, None, Some, Result, Ok, Err}
+use Rattle.std.specs.Prelude.{if◌then◌else◌}
 use denote.Ref.{Bor}
 use Rattle.yaml_text.specs.declared.types.yaml_encoding_t.{yaml_encoding_t}
 use Rattle.yaml_text.specs.declared.types.yaml_encoding_t.TheVariants.{YAML_UTF8_ENCODING}
@@ -33,14 +34,19 @@ course_read p = course p.limit (input_read p)
 
 -- the parser after a call
 abbrev pub behind : Parser → Call → Parser
-behind p call = record { input = p.input; setting = p.setting; limit = p.limit; session = after p.limit (course_read p) call p.session }
+behind p call = record {
+  input = p.input;
+  setting = p.setting;
+  limit = p.limit;
+  session = after p.limit (course_read p) call p.session;
+}
 
 -- the answer to a call
 abbrev pub answered : Parser → Call → Answer
 answered p call = answer (input_read p).encoding p.limit (course_read p) call p.session
 
--- memory was refused in a call: the session is over, the tokens taken stay taken, no more steps were made than the next token
--- needs, and it needs one more
+-- memory was refused in a call: the session is over, the tokens taken stay taken, no more steps were made than the next
+-- token needs, and it needs one more
 pub record WantsMemory (p q : Parser) : Type 0 where
   pub input : q.input ≡ p.input
   pub setting : q.setting ≡ p.setting
@@ -52,8 +58,8 @@ pub record WantsMemory (p q : Parser) : Type 0 where
   pub peeked : q.session.peeked ≡ false
   pub over : q.session.over ≡ true
   pub fault : q.session.fault ≡ Some memory_fault
-  -- memory was needed for decoding UTF-16, or in the first step or after it: not if the reader's fault comes instead of the
-  -- first
+  -- memory was needed for decoding UTF-16, or in the first step or after it: not if the reader's fault comes instead of
+  -- the first
   pub in_utf8 : (input_read p).encoding ≡ YAML_UTF8_ENCODING → (course_read p).begun ≡ true
   -- none was needed if the answer was there already
   pub was_open : p.session.over ≡ false
@@ -103,7 +109,8 @@ token_or_empty e (Some x) = handed_out e x
 
 -- its next token if that was peeked, and else the empty one
 abbrev pub token_shown : Parser → yaml_token_t
-token_shown p = if p.session.peeked then token_or_empty (input_read p).encoding (next_token p.limit (course_read p) p.session) else empty
+token_shown p = if p.session.peeked
+    then token_or_empty (input_read p).encoding (next_token p.limit (course_read p) p.session) else empty
 
 -- a peek, by what the parser has after it: a token that is shown, or the fault that ended the session
 abbrev pub Shows : Parser → Bool → Parser → Type 0

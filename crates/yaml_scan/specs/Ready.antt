@@ -1,5 +1,6 @@
 -- A scanner that is new, or in an input.
-use Rattle.std.specs.Prelude.{◌≡◌, ◌⊎◌, ℕ, ◌+◌, ◌≤◌, ◌<◌, max, true, false, List, [], length, slice_get, None, Some, option_map}
+use Rattle.std.specs.Prelude.{◌≡◌, ◌⊎◌, ℕ, ◌+◌, ◌≤◌, ◌<◌, max, true, false, List, [], length, slice_get, None, Some}
+use Rattle.std.specs.Prelude.{option_map}
 use Rattle.yaml_text.specs.declared.types.yaml_encoding_t.{yaml_encoding_t}
 use Rattle.yaml_text.specs.declared.types.yaml_encoding_t.TheVariants.{YAML_UTF8_ENCODING}
 use Rattle.yaml_text.specs.Fault.{Fault, memory_fault, zero_mark}
@@ -70,10 +71,12 @@ pub record IsStopped (setting : yaml_encoding_t) (input : List ℕ) (s t : scann
   pub unsettled : settled s.limit (course_in s.limit setting input).read s.taken t.made ≡ false
   pub reach : t.reach ≡ reach (first_steps t.made (course_in s.limit setting input).read)
 
--- a growth was refused: in UTF-8, whose text takes none, in the first step, if no reader's fault replaces it, or after it
+-- a growth was refused: in UTF-8, whose text takes none, in the first step, if no reader's fault replaces it, or after
+-- it
 pub record IsShort (setting : yaml_encoding_t) (input : List ℕ) (s : scanner_t) (f : Fault) : Type 0 where
   pub fault : f ≡ memory_fault
-  pub in_utf8 : (decoded_input setting input).encoding ≡ YAML_UTF8_ENCODING → (course_in s.limit setting input).begun ≡ true
+  pub in_utf8 : (decoded_input setting input).encoding ≡ YAML_UTF8_ENCODING
+      → (course_in s.limit setting input).begun ≡ true
 
 -- there is no next token, and f is why
 pub record IsEnded (setting : yaml_encoding_t) (input : List ℕ) (s t : scanner_t) (f : Fault) : Type 0 where
@@ -99,17 +102,25 @@ parser_of p = record {
   input = p.input.now;
   setting = p.setting;
   limit = p.scanner.limit;
-  session = record { taken = p.scanner.taken; steps = p.scanner.made; peeked = p.session.peeked; over = p.session.over; fault = option_map fault_of p.session.fault };
+  session = record {
+    taken = p.scanner.taken;
+    steps = p.scanner.made;
+    peeked = p.session.peeked;
+    over = p.session.over;
+    fault = option_map fault_of p.session.fault;
+  };
 }
 
 pub record Sound (p : Inside) : Type 0 where
   pub ready : p.session.over ≡ false → IsReady p.setting p.input.now p.scanner
   pub peeked : p.session.peeked ≡ true → (p.session.over ≡ false) × IsShown p.setting p.input.now p.scanner
-  pub reach : p.scanner.reach ≡ reach (first_steps p.scanner.made (course_in p.scanner.limit p.setting p.input.now).read)
+  pub reach : p.scanner.reach
+      ≡ reach (first_steps p.scanner.made (course_in p.scanner.limit p.setting p.input.now).read)
   pub empty : token_of p.empty ≡ empty
   pub lead : p.session.peeked ≡ true → IsLead p.scanner.text.encoding p.scanner.layout.queue (token_of p.lead)
   pub limit : p.scanner.limit ≤ 65536
-  pub queued : session_queued (course_in p.scanner.limit p.setting p.input.now) (parser_of p).session + p.scanner.layout.queue.done ≡ p.scanner.made
+  pub queued : session_queued (course_in p.scanner.limit p.setting p.input.now) (parser_of p).session
+      + p.scanner.layout.queue.done ≡ p.scanner.made
   pub few : session_queued (course_in p.scanner.limit p.setting p.input.now) (parser_of p).session ≤ p.scanner.limit + 1
 
 -- STREAM-START was made

@@ -1,5 +1,6 @@
 -- What a running scanner holds behind the lexemes H.
-use Rattle.std.specs.Prelude.{◌≡◌, ℕ, ◌+◌, ◌-◌, ◌≤◌, ◌<◌, ◌^◌, true, false, List, [], ◌∷◌, ◌++◌, reverse, drop, length, None, Some, nat_lt}
+use Rattle.std.specs.Prelude.{◌≡◌, ℕ, ◌+◌, ◌-◌, ◌≤◌, ◌<◌, ◌^◌, true, false, List, [], ◌∷◌, ◌++◌, reverse, drop, length}
+use Rattle.std.specs.Prelude.{None, Some, nat_lt}
 use Rattle.yaml_text.specs.Fault.{Fault}
 use Rattle.yaml_text.specs.Chars.{AreChars}
 use Rattle.yaml_text.specs.Decode.{refusal_seen}
@@ -31,7 +32,9 @@ input_of s = record { encoding = s.text.encoding; source = source_of s.text.char
 
 -- from which index on steps are near
 abbrev pub IsNearFrom : List ℕ → ℕ → Type 0
-IsNearFrom cs near = (p : ℕ) → p ≤ length cs → (near ≤ ((source_of cs).mark p).index → is_near (length cs) p ≡ true) × (((source_of cs).mark p).index < near → is_near (length cs) p ≡ false)
+IsNearFrom cs near = (p : ℕ) → p ≤ length cs
+    → (near ≤ ((source_of cs).mark p).index → is_near (length cs) p ≡ true)
+    × (((source_of cs).mark p).index < near → is_near (length cs) p ≡ false)
 
 -- n is the number of the next step
 pub record Holds (H : List Laid) (n : ℕ) (s : scanner_t) : Type 0 where
@@ -46,7 +49,8 @@ pub record Holds (H : List Laid) (n : ℕ) (s : scanner_t) : Type 0 where
   pub top : s.slots.top ≡ held s.limit H (depth H)
   pub awaited : s.slots.awaited ≡ step_of (lowest (s.slots.outer.items ++ s.slots.top ∷ []))
   pub allowed : s.allowed ≡ allowed_behind H
-  pub queue : IsQueue s.text.encoding s.layout.queue.early s.layout.queue.front s.layout.queue.groups.items (drop s.taken (offline H))
+  pub queue : IsQueue s.text.encoding s.layout.queue.early s.layout.queue.front s.layout.queue.groups.items
+      (drop s.taken (offline H))
   pub count : s.layout.queue.done + length s.layout.queue.groups.items ≡ length H + 1
   pub early : ended H ≡ false → s.layout.queue.early ≡ 0
   pub reach : s.reach ≡ reach H

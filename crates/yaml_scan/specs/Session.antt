@@ -1,12 +1,14 @@
 -- A session: scan, peek and skip, one after the other, on the course of an input.
-use Rattle.std.specs.Prelude.{ℕ, ◌+◌, ◌-◌, Bool, true, false, ◌&&◌, List, [], ◌∷◌, length, max, nat_eq, nat_lt, slice_get, Option, Some, None, if◌then◌else◌}
+use Rattle.std.specs.Prelude.{ℕ, ◌+◌, ◌-◌, Bool, true, false, ◌&&◌, List, [], ◌∷◌, length, max, nat_eq, nat_lt}
+use Rattle.std.specs.Prelude.{slice_get, Option, Some, None, if◌then◌else◌}
 use Rattle.yaml_text.specs.declared.types.yaml_mark_t.{yaml_mark_t}
 use Rattle.yaml_text.specs.declared.types.yaml_encoding_t.{yaml_encoding_t}
 use Rattle.yaml_scan.specs.Kind.{is_stream_end}
 use Rattle.yaml_scan.specs.Token.{yaml_token_t, empty}
 use Rattle.yaml_scan.specs.Laid.{Laid, reach}
 use Rattle.yaml_scan.specs.Offline.{Token, before, queued, handed_out}
-use Rattle.yaml_scan.specs.Offline.Token.{StreamStart, BlockEnd, BlockSequenceStart, BlockMappingStart, InsertedKey, OfLexeme}
+use Rattle.yaml_scan.specs.Offline.Token.{StreamStart, BlockEnd, BlockSequenceStart, BlockMappingStart, InsertedKey}
+use Rattle.yaml_scan.specs.Offline.Token.{OfLexeme}
 use Rattle.yaml_scan.specs.Fault.{Fault}
 use Rattle.yaml_scan.specs.Cut.{oldest}
 use Rattle.yaml_scan.specs.Answers.{Course, tokens_of}
@@ -76,7 +78,13 @@ is_last (InsertedKey m) = false
 
 -- the next token was requested
 abbrev pub paced : ℕ → Course → Session → Session
-paced limit c s = record { taken = s.taken; steps = pace limit c.read s.taken s.steps; peeked = s.peeked; over = s.over; fault = s.fault }
+paced limit c s = record {
+  taken = s.taken;
+  steps = pace limit c.read s.taken s.steps;
+  peeked = s.peeked;
+  over = s.over;
+  fault = s.fault;
+}
 
 -- and shown
 abbrev pub looked : Session → Session
@@ -143,4 +151,5 @@ session_reach c s = reach (first_steps s.steps c.read)
 
 -- how many of its steps have a token that was not taken
 abbrev pub session_queued : Course → Session → ℕ
-session_queued c s = if nat_eq s.steps 0 then 0 else queued (first_steps s.steps c.read) s.taken (first_steps s.steps c.read)
+session_queued c s = if nat_eq s.steps 0 then 0
+    else queued (first_steps s.steps c.read) s.taken (first_steps s.steps c.read)

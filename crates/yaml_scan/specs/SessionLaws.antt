@@ -1,5 +1,6 @@
 -- What holds of answers and of sessions.
-use Rattle.std.specs.Prelude.{◌≡◌, ℕ, ◌+◌, ◌≤◌, ◌<◌, Bool, true, false, ◌&&◌, List, [], ◌∷◌, ◌++◌, length, Option, Some, None, option_map, if◌then◌else◌}
+use Rattle.std.specs.Prelude.{◌≡◌, ℕ, ◌+◌, ◌≤◌, ◌<◌, Bool, true, false, ◌&&◌, List, [], ◌∷◌, ◌++◌, length, Option, Some}
+use Rattle.std.specs.Prelude.{None, option_map, if◌then◌else◌}
 use Rattle.std.specs.Option.{option_to_list}
 use Rattle.yaml_scan.specs.Laid.{Laid}
 use Rattle.yaml_scan.specs.Offline.{Token, offline, before}
@@ -11,7 +12,8 @@ use Rattle.yaml_scan.specs.Step.{step}
 use Rattle.yaml_scan.specs.Step.Outcome.{Faults}
 use Rattle.yaml_scan.specs.Cut.{cut, IsRun, KeepsOrder}
 use Rattle.yaml_scan.specs.Answers.{Input, Course, place_of, next, course, tokens_of}
-use Rattle.yaml_scan.specs.Session.{Call, Session, new_session, settled, pace, next_token, after, after_all, session_queued}
+use Rattle.yaml_scan.specs.Session.{Call, Session, new_session, settled, pace, next_token, after, after_all}
+use Rattle.yaml_scan.specs.Session.{session_queued}
 use Rattle.yaml_scan.specs.Session.Call.{SCAN, PEEK, SKIP}
 
 -- THE COURSE OF AN INPUT
@@ -21,7 +23,8 @@ CourseIsHistory = (limit : ℕ) (input : Input) → KeepsOrder input.source → 
 -- it has a fault, or it ends with the stream end, and then all of the offline list is its tokens
 abbrev pub EndsOrFaults : Type 0
 EndsOrFaults = (limit : ℕ) (input : Input) → KeepsOrder input.source → (course limit input).fault ≡ None
-    → ((course limit input).begun ≡ true) × (ended (course limit input).read ≡ true) × (tokens_of limit (course limit input) ≡ offline (course limit input).read)
+    → ((course limit input).begun ≡ true) × (ended (course limit input).read ≡ true)
+    × (tokens_of limit (course limit input) ≡ offline (course limit input).read)
 
 -- NEAR STEPS
 -- the step of a refused front that ends or faults fewer than eight characters before the front's end gives the
@@ -60,7 +63,8 @@ RefusedHasFault = (limit : ℕ) (input : Input) (f : Fault)
 -- an accepted one has the course of its cut
 abbrev pub AcceptedIsCut : Type 0
 AcceptedIsCut = (limit : ℕ) (input : Input) → input.refusal ≡ None
-    → (course limit input).read ≡ (cut input.source limit).read × (course limit input).fault ≡ option_map (λ o. o.fault) (cut input.source limit).fault
+    → (course limit input).read ≡ (cut input.source limit).read
+    × (course limit input).fault ≡ option_map (λ o. o.fault) (cut input.source limit).fault
 
 -- what is handed out of any input is handed out of its text, or of its front alone as a text
 abbrev pub FrontIsCut : Type 0
@@ -89,7 +93,8 @@ tokens_in (o ∷ os) = option_to_list o ++ tokens_in os
 -- they are in order a beginning of the list, and as many as the session counts
 abbrev pub TakenAreBeginning : Type 0
 TakenAreBeginning = (limit : ℕ) (c : Course) (calls : List Call)
-    → Begins (tokens_in (taken_by limit c calls new_session)) (tokens_of limit c) × (length (tokens_in (taken_by limit c calls new_session)) ≡ (after_all limit c calls new_session).taken)
+    → Begins (tokens_in (taken_by limit c calls new_session)) (tokens_of limit c)
+    × (length (tokens_in (taken_by limit c calls new_session)) ≡ (after_all limit c calls new_session).taken)
 
 -- the same calls with no peeks, and a scan for each skip
 abbrev pub without_peeks : List Call → List Call
@@ -111,17 +116,22 @@ PeeksChangeNothing = (limit : ℕ) (c : Course) (calls : List Call) → skips_pe
 
 -- if a session of an input is not over and has no next token, there is a fault to return
 abbrev pub NoneIsStuck : Type 0
-NoneIsStuck = (limit : ℕ) (input : Input) (calls : List Call) → KeepsOrder input.source → (after_all limit (course limit input) calls new_session).over ≡ false
-    → next_token limit (course limit input) (after_all limit (course limit input) calls new_session) ≡ None → (f : Fault) × ((course limit input).fault ≡ Some f)
+NoneIsStuck = (limit : ℕ) (input : Input) (calls : List Call) → KeepsOrder input.source
+    → (after_all limit (course limit input) calls new_session).over ≡ false
+    → next_token limit (course limit input) (after_all limit (course limit input) calls new_session) ≡ None
+    → (f : Fault) × ((course limit input).fault ≡ Some f)
 
 -- THE PACE
 -- it is the least number of steps, not below those that were made, after which a token is settled
 abbrev pub PaceSettles : Type 0
-PaceSettles = (limit : ℕ) (H : List Laid) (t s : ℕ) → IsHistory limit H → t < length (before limit H) → settled limit H t (pace limit H t s) ≡ true
+PaceSettles = (limit : ℕ) (H : List Laid) (t s : ℕ) → IsHistory limit H → t < length (before limit H)
+    → settled limit H t (pace limit H t s) ≡ true
 
 abbrev pub PaceIsLeast : Type 0
-PaceIsLeast = (limit : ℕ) (H : List Laid) (t s r : ℕ) → IsHistory limit H → s ≤ r → settled limit H t r ≡ true → r ≤ length H + 1 → (s ≤ pace limit H t s) × (pace limit H t s ≤ r)
+PaceIsLeast = (limit : ℕ) (H : List Laid) (t s r : ℕ) → IsHistory limit H → s ≤ r → settled limit H t r ≡ true
+    → r ≤ length H + 1 → (s ≤ pace limit H t s) × (pace limit H t s ≤ r)
 
 -- after any calls few steps have a token that was not taken
 abbrev pub FewStepsQueued : Type 0
-FewStepsQueued = (limit : ℕ) (c : Course) (calls : List Call) → IsHistory limit c.read → session_queued c (after_all limit c calls new_session) ≤ limit + 1
+FewStepsQueued = (limit : ℕ) (c : Course) (calls : List Call) → IsHistory limit c.read
+    → session_queued c (after_all limit c calls new_session) ≤ limit + 1

@@ -7,7 +7,8 @@ use Rattle.yaml_scan.specs.Fault.{Fault}
 use Rattle.yaml_scan.specs.All.{ReadsAll}
 
 -- a sink was given, in order, what reading an input to its end returns
-pub record IsGivenAll (took : List yaml_token_t → Type 0) (limit : ℕ) (setting : yaml_encoding_t) (input : List ℕ) (fault : Option Fault) : Type 0 where
+pub record IsGivenAll (took : List yaml_token_t
+    → Type 0) (limit : ℕ) (setting : yaml_encoding_t) (input : List ℕ) (fault : Option Fault) : Type 0 where
   pub tokens : List yaml_token_t
   pub given : took tokens
   pub reads : ReadsAll limit setting input tokens fault

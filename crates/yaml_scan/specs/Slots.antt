@@ -1,5 +1,6 @@
 -- The key slots of a running scanner, in the words of the definitions.
-use Rattle.std.specs.Prelude.{◌≡◌, ◌≢◌, ℕ, zero, suc, ◌+◌, ◌-◌, ◌<◌, ◌≤◌, take, slice_get, Bool, not, ◌&&◌, List, [], ◌∷◌, ◌++◌, length, nat_eq, nat_le, Option, Some, None, option_map, if◌then◌else◌}
+use Rattle.std.specs.Prelude.{◌≡◌, ◌≢◌, ℕ, zero, suc, ◌+◌, ◌-◌, ◌<◌, ◌≤◌, take, slice_get, Bool, not, ◌&&◌, List, []}
+use Rattle.std.specs.Prelude.{◌∷◌, ◌++◌, length, nat_eq, nat_le, Option, Some, None, option_map, if◌then◌else◌}
 use Rattle.yaml_text.specs.declared.types.yaml_mark_t.{yaml_mark_t}
 use Rattle.yaml_scan.specs.Kind.{Kind, is_flow_start, is_flow_end, is_value, is_candidate_kind}
 use Rattle.yaml_scan.specs.Laid.{Laid, names, candidate, reach, only_live}
@@ -65,7 +66,8 @@ AreEmptyBelow n hs = (k : ℕ) (h : Held) → k < n → slice_get hs k ≢ Some 
 
 -- candidates are on one line, those of greater depths start no earlier
 abbrev pub AreNested : List (Option Held) → Type 0
-AreNested hs = (k n : ℕ) (h g : Held) → k < n → slice_get hs k ≡ Some (Some h) → slice_get hs n ≡ Some (Some g) → (g.start.line ≡ h.start.line) × (h.start.index ≤ g.start.index)
+AreNested hs = (k n : ℕ) (h g : Held) → k < n → slice_get hs k ≡ Some (Some h) → slice_get hs n ≡ Some (Some g)
+    → (g.start.line ≡ h.start.line) × (h.start.index ≤ g.start.index)
 
 -- the number of its step, or 0
 abbrev pub step_of : Option Held → ℕ
@@ -83,7 +85,8 @@ is_margin_level margin l c = margin && names c l
 -- THE NEXT DEPTH
 -- the outer slots after a lexeme of kind k
 abbrev pub nested_outer : Kind → List (Option Held) → Option Held → List (Option Held)
-nested_outer k outer top = if is_flow_start k then outer ++ top ∷ [] else (if is_flow_end k then take (length outer - 1) outer else outer)
+nested_outer k outer top = if is_flow_start k then outer ++ top ∷ []
+    else (if is_flow_end k then take (length outer - 1) outer else outer)
 
 abbrev pub or_top : Option Held → Option (Option Held) → Option Held
 or_top top None = top
@@ -91,4 +94,5 @@ or_top top (Some h) = h
 
 -- and the slot of the new depth
 abbrev pub nested_top : Kind → List (Option Held) → Option Held → Option Held
-nested_top k outer top = if is_flow_start k then None else (if is_flow_end k then or_top top (slice_get outer (length outer - 1)) else top)
+nested_top k outer top = if is_flow_start k then None
+    else (if is_flow_end k then or_top top (slice_get outer (length outer - 1)) else top)

@@ -16,11 +16,21 @@ abbrev pub count_to : ℕ → Place → ℕ
 count_to n p = n - length p.rest
 
 abbrev pub reading : yaml_lexeme_t → ℕ → Reading
-reading l place = record { token_data = l.token_data; end = l.end_mark; reach = l.reach; place = place; passed_break = l.passed_break }
+reading l place = record {
+  token_data = l.token_data;
+  end = l.end_mark;
+  reach = l.reach;
+  place = place;
+  passed_break = l.passed_break;
+}
 
 -- an offence of a lexeme of kind k that starts at p
 abbrev pub offence : Kind → Place → lexemes.Offence → ℕ → Offence
-offence k p e place = record { fault = scanner_fault (problem_text e.problem) e.at.mark (Some (context_text k e.problem)) p.mark; place = place }
+offence k p e place = record {
+  fault = scanner_fault (problem_text e.problem) e.at.mark
+      (Some (context_text k e.problem)) p.mark;
+  place = place;
+}
 
 abbrev pub reading_of : ℕ → Kind → Place → lexemes.Read yaml_lexeme_t → Result Reading Offence
 reading_of n k p (Ok f) = Ok (reading f.value (count_to n f.end))

@@ -1,11 +1,14 @@
 -- The step after a list of lexemes: the next lexeme, or the fault.
-use Rattle.std.specs.Prelude.{ℕ, ◌+◌, Bool, not, ◌&&◌, ◌||◌, List, [], ◌∷◌, nat_eq, nat_lt, Option, Some, None, Result, Ok, Err, if◌then◌else◌}
+use Rattle.std.specs.Prelude.{ℕ, ◌+◌, Bool, not, ◌&&◌, ◌||◌, List, [], ◌∷◌, nat_eq, nat_lt, Option, Some, None, Result}
+use Rattle.std.specs.Prelude.{Ok, Err, if◌then◌else◌}
 use Rattle.yaml_text.specs.declared.types.yaml_mark_t.{yaml_mark_t}
 use Rattle.yaml_scan.specs.Kind.{Kind, is_stream_end, is_block_entry, is_key, is_value, is_candidate_kind}
 use Rattle.yaml_scan.specs.Lexeme.{Lexeme}
-use Rattle.yaml_scan.specs.Laid.{Laid, is_none, depth, candidate, live, only_live, allowed, allowed_behind, completed_by}
+use Rattle.yaml_scan.specs.Laid.{Laid, is_none, depth, candidate, live, only_live, allowed, allowed_behind}
+use Rattle.yaml_scan.specs.Laid.{completed_by}
 use Rattle.yaml_scan.specs.Levels.{level, laid, is_required}
-use Rattle.yaml_scan.specs.Fault.{scanner_fault, no_token, no_colon, entry_not_allowed, key_not_allowed, value_not_allowed, in_next_token, in_simple_key}
+use Rattle.yaml_scan.specs.Fault.{scanner_fault, no_token, no_colon, entry_not_allowed, key_not_allowed}
+use Rattle.yaml_scan.specs.Fault.{value_not_allowed, in_next_token, in_simple_key}
 use Rattle.yaml_scan.specs.Source.{Source, Reading, Offence}
 
 pub data Outcome : Type 0 where
@@ -46,11 +49,13 @@ unless (Some i) m p o = Faults (lost i.lexeme.start m p)
 -- WHAT IS NOT ALLOWED
 -- the problem of a `-`, a `?` or a `:` that completes nothing
 abbrev pub problem_of : Kind → Bool → Option (List ℕ)
-problem_of k none = if is_block_entry k then Some entry_not_allowed else if is_key k then Some key_not_allowed else if is_value k && none then Some value_not_allowed else None
+problem_of k none = if is_block_entry k then Some entry_not_allowed else if is_key k then Some key_not_allowed
+    else if is_value k && none then Some value_not_allowed else None
 
 -- at depth 0, if no key is allowed
 unfoldable pub refused : ℕ → List Laid → Kind → yaml_mark_t → Option (List ℕ)
-refused limit H k g = if nat_eq (depth H) 0 && not (allowed H g) then problem_of k (is_none (completed_by limit H k g)) else None
+refused limit H k g = if nat_eq (depth H) 0 && not (allowed H g) then problem_of k (is_none (completed_by limit H k g))
+    else None
 
 abbrev pub not_allowed : List ℕ → yaml_mark_t → ℕ → Offence
 not_allowed problem m p = record { fault = scanner_fault problem m None m; place = p }
@@ -76,11 +81,21 @@ abbrev pub start_at : Kind → yaml_mark_t → yaml_mark_t
 start_at k g = if is_stream_end k then end_of g else g
 
 abbrev pub lexeme_of : Kind → yaml_mark_t → Reading → Lexeme
-lexeme_of k g r = record { kind = k; token_data = r.token_data; front = g; start = start_at k g; end = r.end; reach = r.reach; place = r.place; passed_break = r.passed_break }
+lexeme_of k g r = record {
+  kind = k;
+  token_data = r.token_data;
+  front = g;
+  start = start_at k g;
+  end = r.end;
+  reach = r.reach;
+  place = r.place;
+  passed_break = r.passed_break;
+}
 
 abbrev pub after_read : ℕ → List Laid → Kind → yaml_mark_t → Result Reading Offence → Outcome
 after_read limit H k g (Err o) = Faults o
-after_read limit H k g (Ok r) = unless (stale limit (laid limit H (lexeme_of k g r) ∷ H) r.reach) r.reach r.place (Reads (lexeme_of k g r))
+after_read limit H k g (Ok r) = unless (stale limit (laid limit H (lexeme_of k g r)
+    ∷ H) r.reach) r.reach r.place (Reads (lexeme_of k g r))
 
 -- the lexeme at place p or its offence, and the stale test at its reach
 unfoldable pub read_step : Source → ℕ → List Laid → Kind → ℕ → Outcome
@@ -91,16 +106,18 @@ no_kind m p = record { fault = scanner_fault no_token m (Some in_next_token) m; 
 
 abbrev pub kind_step : Source → ℕ → List Laid → ℕ → Option Kind → Outcome
 kind_step S limit H p None = Faults (no_kind (S.mark p) p)
-kind_step S limit H p (Some k) = refuse (refused limit H k (S.mark p)) (S.mark p) p (unless (clears limit H k (S.mark p)) (start_at k (S.mark p)) p (read_step S limit H k p))
+kind_step S limit H p (Some k) = refuse (refused limit H k (S.mark p)) (S.mark p) p
+    (unless (clears limit H k (S.mark p)) (start_at k (S.mark p)) p (read_step S limit H k p))
 
 abbrev pub gap_step : Source → ℕ → List Laid → ℕ → Outcome
-gap_step S limit H p = unless (stale limit H (S.mark p)) (S.mark p) p (kind_step S limit H p (S.kind (nat_lt 0 (depth H)) p))
+gap_step S limit H p = unless (stale limit H (S.mark p)) (S.mark p) p
+    (kind_step S limit H p (S.kind (nat_lt 0 (depth H)) p))
 
 -- the place where the gap after H ends
 abbrev pub front_of : Source → List Laid → ℕ
 front_of S H = S.gap (nat_lt 0 (depth H)) (allowed_behind H) (place_behind H)
 
--- The first that fits: a stale required candidate, no kind, a kind that is not allowed, a required candidate that would be
--- cleared, an offence, a required candidate that is stale at the reach; else the lexeme.
+-- The first that fits: a stale required candidate, no kind, a kind that is not allowed, a required candidate that would
+-- be cleared, an offence, a required candidate that is stale at the reach; else the lexeme.
 unfoldable pub step : Source → ℕ → List Laid → Outcome
 step S limit H = gap_step S limit H (front_of S H)

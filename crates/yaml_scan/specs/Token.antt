@@ -2,7 +2,11 @@
 use Rattle.std.specs.Prelude.{Bool, true, false}
 use Rattle.yaml_text.specs.declared.types.yaml_mark_t.{yaml_mark_t}
 use Rattle.yaml_text.specs.declared.types.yaml_token_type_t.{yaml_token_type_t}
-use Rattle.yaml_text.specs.declared.types.yaml_token_type_t.TheVariants.{YAML_STREAM_END_TOKEN, YAML_BLOCK_SEQUENCE_START_TOKEN, YAML_BLOCK_MAPPING_START_TOKEN, YAML_BLOCK_END_TOKEN, YAML_KEY_TOKEN, YAML_VALUE_TOKEN}
+use Rattle.yaml_text.specs.declared.types.yaml_token_type_t.TheVariants.{YAML_STREAM_END_TOKEN}
+use Rattle.yaml_text.specs.declared.types.yaml_token_type_t.TheVariants.{YAML_BLOCK_SEQUENCE_START_TOKEN}
+use Rattle.yaml_text.specs.declared.types.yaml_token_type_t.TheVariants.{YAML_BLOCK_MAPPING_START_TOKEN}
+use Rattle.yaml_text.specs.declared.types.yaml_token_type_t.TheVariants.{YAML_BLOCK_END_TOKEN, YAML_KEY_TOKEN}
+use Rattle.yaml_text.specs.declared.types.yaml_token_type_t.TheVariants.{YAML_VALUE_TOKEN}
 pub use Rattle.yaml_text.specs.Token.{type_of}
 use Rattle.yaml_text.specs.Token.{TokenData as token}
 -- the tokens of the definitions, by the names of the types of the code

@@ -6,7 +6,8 @@ use Rattle.yaml_scan.specs.Kind.{is_value}
 use Rattle.yaml_scan.specs.Token.{zero_mark}
 use Rattle.yaml_scan.specs.Laid.{Laid, reach}
 use Rattle.yaml_scan.specs.Offline.{Token, offline, before}
-use Rattle.yaml_scan.specs.Offline.Token.{StreamStart, BlockEnd, BlockSequenceStart, BlockMappingStart, InsertedKey, OfLexeme}
+use Rattle.yaml_scan.specs.Offline.Token.{StreamStart, BlockEnd, BlockSequenceStart, BlockMappingStart, InsertedKey}
+use Rattle.yaml_scan.specs.Offline.Token.{OfLexeme}
 use Rattle.yaml_scan.specs.Order.{IsHistory}
 
 abbrev pub start_of : Token → yaml_mark_t
@@ -28,14 +29,17 @@ end_of (OfLexeme x) = x.end
 -- from index n to index m: none starts after its end, or ends after the start of the next
 abbrev pub AreInOrder : ℕ → List Token → ℕ → Type 0
 AreInOrder n [] m = n ≤ m
-AreInOrder n (t ∷ ts) m = (n ≤ (start_of t).index) × ((start_of t).index ≤ (end_of t).index) × AreInOrder (end_of t).index ts m
+AreInOrder n (t ∷ ts) m = (n ≤ (start_of t).index) × ((start_of t).index ≤ (end_of t).index)
+    × AreInOrder (end_of t).index ts m
 
 abbrev pub TokensStandInOrder : Type 0
-TokensStandInOrder = (limit : ℕ) (H : List Laid) → IsHistory limit H → AreInOrder 0 (offline H) (reach H).index × AreInOrder 0 (before limit H) (reach H).index
+TokensStandInOrder = (limit : ℕ) (H : List Laid) → IsHistory limit H
+    → AreInOrder 0 (offline H) (reach H).index × AreInOrder 0 (before limit H) (reach H).index
 
 -- a `:` that starts on the line of m, at most limit bytes further
 abbrev pub is_value_near : ℕ → yaml_mark_t → Token → Bool
-is_value_near limit m (OfLexeme x) = is_value x.kind && (nat_eq x.start.line m.line && nat_le x.start.index (m.index + limit))
+is_value_near limit m (OfLexeme x) = is_value x.kind
+    && (nat_eq x.start.line m.line && nat_le x.start.index (m.index + limit))
 is_value_near limit m StreamStart = false
 is_value_near limit m (BlockEnd n) = false
 is_value_near limit m (BlockSequenceStart n) = false
@@ -57,7 +61,8 @@ KeysHaveValues limit (t ∷ ts) = HasValue limit t ts × KeysHaveValues limit ts
 
 -- every inserted key is followed by its `:`, near, and also among what was handed out
 abbrev pub KeysAreFollowed : Type 0
-KeysAreFollowed = (limit : ℕ) (H : List Laid) → IsHistory limit H → KeysHaveValues limit (offline H) × KeysHaveValues limit (before limit H)
+KeysAreFollowed = (limit : ℕ) (H : List Laid) → IsHistory limit H
+    → KeysHaveValues limit (offline H) × KeysHaveValues limit (before limit H)
 
 -- at most four tokens a step, of which STREAM-START is one
 abbrev pub FourTokensAStep : Type 0

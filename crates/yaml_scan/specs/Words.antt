@@ -3,7 +3,8 @@ use Rattle.std.specs.Prelude.{ℕ, ◌≢◌, List, [], ◌∷◌, Option, IsSom
 use Rattle.yaml_text.specs.declared.types.yaml_encoding_t.{yaml_encoding_t}
 use Rattle.yaml_text.specs.declared.types.yaml_encoding_t.TheVariants.{YAML_ANY_ENCODING}
 use Rattle.yaml_text.specs.declared.types.yaml_error_type_t.{yaml_error_type_t}
-use Rattle.yaml_text.specs.declared.types.yaml_error_type_t.TheVariants.{YAML_MEMORY_ERROR, YAML_READER_ERROR, YAML_SCANNER_ERROR}
+use Rattle.yaml_text.specs.declared.types.yaml_error_type_t.TheVariants.{YAML_MEMORY_ERROR, YAML_READER_ERROR}
+use Rattle.yaml_text.specs.declared.types.yaml_error_type_t.TheVariants.{YAML_SCANNER_ERROR}
 use Rattle.yaml_text.specs.declared.types.yaml_scalar_style_t.TheVariants.{YAML_ANY_SCALAR_STYLE}
 use Rattle.yaml_text.specs.Token.TokenData.{STREAM_START, SCALAR}
 use Rattle.yaml_scan.specs.Token.{yaml_token_t, unnamed_yaml_token_t_data}
@@ -40,7 +41,8 @@ HaveLines tokens fault = HaveWords tokens × IfSome fault HasLine
 
 -- the answers to any input
 abbrev pub AllHaveLines : Type 0
-AllHaveLines = (limit : ℕ) (setting : yaml_encoding_t) (input : List ℕ) → HaveLines (answers_to limit setting input).tokens (answers_to limit setting input).fault
+AllHaveLines = (limit : ℕ) (setting : yaml_encoding_t) (input : List ℕ)
+    → HaveLines (answers_to limit setting input).tokens (answers_to limit setting input).fault
 
 -- an answer to a call, of which a peek shows a type and marks alone
 abbrev pub AnswerHasLine : Answer → Type 0
@@ -57,4 +59,5 @@ AnswersHaveLines (a ∷ more) = AnswerHasLine a × AnswersHaveLines more
 -- whatever the calls, and in every state of the session
 abbrev pub SessionsHaveLines : Type 0
 SessionsHaveLines = (limit : ℕ) (setting : yaml_encoding_t) (input : List ℕ) (calls : List Call) (s : Session)
-    → AnswersHaveLines (session (decoded_input setting input).encoding limit (course limit (decoded_input setting input)) calls s)
+    → AnswersHaveLines (session (decoded_input setting input).encoding limit
+    (course limit (decoded_input setting input)) calls s)

@@ -36,13 +36,14 @@ impl yaml_token_sink_t for token_list_t {
 
     ghost took_none = { λ s. list_none (map token_of s.tokens.items) };
 
-    ghost took_more = { λ a b c xs ys e f. list_more (map token_of a.tokens.items) (map token_of b.tokens.items) (map token_of c.tokens.items) xs ys e f };
+    ghost took_more = { λ a b c xs ys e f.
+        list_more (map token_of a.tokens.items) (map token_of b.tokens.items) (map token_of c.tokens.items) xs ys e f };
 }
 
 /// All tokens of an input, to STREAM-END, or those before its fault, and the fault. The key limit is 1,024 bytes.
 ///
-/// If the scanner is refused memory, the fault is of kind memory, and the tokens are those that some of the steps settle,
-/// STREAM-END not among them.
+/// If the scanner is refused memory, the fault is of kind memory, and the tokens are those that some of the steps
+/// settle, STREAM-END not among them.
 ///
 /// # Errors
 /// `AllocError` if there is no memory for the list of tokens.
@@ -51,15 +52,20 @@ pub fn yaml_scan_all(
     input: &[u8],
     setting: yaml_encoding_t,
 ) -> Result<(Vec<yaml_token_t>, Option<yaml_fault_t>), AllocError>
-    ensures answers { IfOk result (λ r. ReadsAll 1024 setting input.now (map token_of r.0.items) (option_map fault_of r.1)) }
-    ensures early { IfOk result (λ r. IsRefusedEarly (decoded_input setting input.now) → AllOf (answers_to 1024 setting input.now) (map token_of r.0.items) (option_map fault_of r.1)) }
+    ensures answers { IfOk result (λ r.
+        ReadsAll 1024 setting input.now (map token_of r.0.items) (option_map fault_of r.1)) }
+    ensures early { IfOk result (λ r. IsRefusedEarly (decoded_input setting input.now)
+        → AllOf (answers_to 1024 setting input.now) (map token_of r.0.items) (option_map fault_of r.1)) }
     ensures order { IfOk result (λ r. StandInOrder 0 (map token_of r.0.items)) }
     ensures ends { IfOk result (λ r. EndNoMore (map token_of r.0.items)) }
-    ensures ends_all { IfOk result (λ r. EndAll (depth_of 1024 setting input.now) (map token_of r.0.items) (option_map fault_of r.1)) }
+    ensures ends_all { IfOk result (λ r.
+        EndAll (depth_of 1024 setting input.now) (map token_of r.0.items) (option_map fault_of r.1)) }
     ensures keys { IfOk result (λ r. AreFollowed 1024 (map token_of r.0.items)) }
     ensures lines { IfOk result (λ r. HaveLines (map token_of r.0.items) (option_map fault_of r.1)) }
-    ensures local { IfOk result (λ r. AreReadAlike 1024 setting input.now (map token_of r.0.items) (option_map fault_of r.1)) }
-    ensures marks { IfOk result (λ r. AllIsCounted setting input.now (map token_of r.0.items) (option_map fault_of r.1)) }
+    ensures local { IfOk result (λ r.
+        AreReadAlike 1024 setting input.now (map token_of r.0.items) (option_map fault_of r.1)) }
+    ensures marks { IfOk result (λ r.
+        AllIsCounted setting input.now (map token_of r.0.items) (option_map fault_of r.1)) }
 {
     yaml_scan_all_limit(alloc, input, setting, 1024)
 }
@@ -76,15 +82,20 @@ pub fn yaml_scan_all_limit(
 ) -> Result<(Vec<yaml_token_t>, Option<yaml_fault_t>), AllocError>
     requires least { 1 ≤ limit }
     requires most { limit ≤ 65536 }
-    ensures answers { IfOk result (λ r. ReadsAll limit setting input.now (map token_of r.0.items) (option_map fault_of r.1)) }
-    ensures early { IfOk result (λ r. IsRefusedEarly (decoded_input setting input.now) → AllOf (answers_to limit setting input.now) (map token_of r.0.items) (option_map fault_of r.1)) }
+    ensures answers { IfOk result (λ r.
+        ReadsAll limit setting input.now (map token_of r.0.items) (option_map fault_of r.1)) }
+    ensures early { IfOk result (λ r. IsRefusedEarly (decoded_input setting input.now)
+        → AllOf (answers_to limit setting input.now) (map token_of r.0.items) (option_map fault_of r.1)) }
     ensures order { IfOk result (λ r. StandInOrder 0 (map token_of r.0.items)) }
     ensures ends { IfOk result (λ r. EndNoMore (map token_of r.0.items)) }
-    ensures ends_all { IfOk result (λ r. EndAll (depth_of limit setting input.now) (map token_of r.0.items) (option_map fault_of r.1)) }
+    ensures ends_all { IfOk result (λ r.
+        EndAll (depth_of limit setting input.now) (map token_of r.0.items) (option_map fault_of r.1)) }
     ensures keys { IfOk result (λ r. AreFollowed limit (map token_of r.0.items)) }
     ensures lines { IfOk result (λ r. HaveLines (map token_of r.0.items) (option_map fault_of r.1)) }
-    ensures local { IfOk result (λ r. AreReadAlike limit setting input.now (map token_of r.0.items) (option_map fault_of r.1)) }
-    ensures marks { IfOk result (λ r. AllIsCounted setting input.now (map token_of r.0.items) (option_map fault_of r.1)) }
+    ensures local { IfOk result (λ r.
+        AreReadAlike limit setting input.now (map token_of r.0.items) (option_map fault_of r.1)) }
+    ensures marks { IfOk result (λ r.
+        AllIsCounted setting input.now (map token_of r.0.items) (option_map fault_of r.1)) }
 {
     let mut list = token_list_t {
         tokens: Vec::new(alloc),

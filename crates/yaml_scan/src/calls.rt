@@ -28,8 +28,8 @@ pub enum yaml_call_t {
     SKIP,
 }
 
-/// The answer to a call: the token that a scan took; the type, start and end of the token that a peek showed; that a token
-/// was skipped; that there was none to skip; or the fault.
+/// The answer to a call: the token that a scan took; the type, start and end of the token that a peek showed; that a
+/// token was skipped; that there was none to skip; or the fault.
 #[derive(Drop, PartialEq, Eq)]
 pub enum yaml_answer_t {
     TOKEN(yaml_token_t),
@@ -110,19 +110,21 @@ fn few_wait(parser: &yaml_parser_t)
 /// Makes the calls in order, and appends the answer to each to `out`. A skip when no token was peeked is answered by
 /// `NOTHING`.
 ///
-/// More scans than there are tokens left take all of these in order, then return the fault once, if there is one, and then
-/// empty tokens. If memory is refused in a call, its answer is the fault of kind memory, and the session is over.
+/// More scans than there are tokens left take all of these in order, then return the fault once, if there is one, and
+/// then empty tokens. If memory is refused in a call, its answer is the fault of kind memory, and the session is over.
 ///
 /// # Errors
-/// `AllocError` if there is no memory for the list of answers. It is reserved before the first call, so nothing has changed
-/// then.
+/// `AllocError` if there is no memory for the list of answers. It is reserved before the first call, so nothing has
+/// changed then.
 pub fn yaml_run(
     parser: &mut yaml_parser_t,
     calls: &[yaml_call_t],
     out: &mut Vec<yaml_answer_t>,
 ) -> Result<(), AllocError>
-    ensures answers { OnOk result (PutsAnswers parser.old (map call_of calls.now) out.old.items out.new.items parser.new) }
-    ensures early { OnOk result (IsRefusedEarly (input_read parser.old) → PutsSession parser.old (map call_of calls.now) out.old.items out.new.items parser.new) }
+    ensures answers { OnOk result (PutsAnswers parser.old (map call_of calls.now) out.old.items out.new.items
+        parser.new) }
+    ensures early { OnOk result (IsRefusedEarly (input_read parser.old)
+        → PutsSession parser.old (map call_of calls.now) out.old.items out.new.items parser.new) }
     ensures refused { OnErr result ((parser.new ≡ parser.old) × (out.new.items ≡ out.old.items)) }
     ensures few { session_queued (course_read parser.new) parser.new.session ≤ parser.new.limit + 1 }
     ensures reads_on { OnOk result (ReadsOn parser.old (map call_of calls.now) out.old.items out.new.items parser.new) }

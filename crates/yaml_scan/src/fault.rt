@@ -73,7 +73,8 @@ pub(crate) fn keep_fault(
     context: Option<&'static str>,
     context_mark: yaml_mark_t,
 ) -> stop_t
-    ensures { fault_at result kept.new ≡ scanner_fault problem.now problem_mark (option_copied context.entry) context_mark }
+    ensures { fault_at result kept.new
+        ≡ scanner_fault problem.now problem_mark (option_copied context.entry) context_mark }
 {
     *kept = make_scanner_fault(problem, problem_mark, context, context_mark);
     stop_t::FAULT

@@ -1,8 +1,11 @@
-//! Simple keys: the candidate of each flow depth, which a `:` may yet make a key (YAML 1.1, 10.2 Mappings, simple keys).
-ghost use Rattle.std.specs.Prelude.{◌≡◌, ◌+◌, ◌-◌, ◌<◌, ◌&&◌, ◌++◌, ◌∷◌, [], not, List, Option, None, map, vec_len, if◌then◌else◌};
+//! Simple keys: the candidate of each flow depth, which a `:` may yet make a key (YAML 1.1, 10.2 Mappings, simple
+//! keys).
+ghost use Rattle.std.specs.Prelude.{◌≡◌, ◌+◌, ◌-◌, ◌<◌, ◌&&◌, ◌++◌, ◌∷◌, [], not, List, Option, None, map, vec_len};
+ghost use Rattle.std.specs.Prelude.{if◌then◌else◌};
 ghost use Rattle.std.specs.Vec.{vec_capacity};
 ghost use Rattle.yaml_scan.specs.Slots.{is_live, still_held, lost_held, needed, slot_behind, root_of, step_of};
-ghost use Rattle.yaml_scan.specs.Slots.{completed_held, nested_outer, nested_top, empty_slots, lowest, AreEmptyBelow, AreNested};
+ghost use Rattle.yaml_scan.specs.Slots.{completed_held, nested_outer, nested_top, empty_slots, lowest, AreEmptyBelow};
+ghost use Rattle.yaml_scan.specs.Slots.{AreNested};
 
 use crate::kind::{is_candidate, is_colon, is_flow_end, is_flow_start};
 use yaml_lexeme::yaml_lexeme_kind_t;
@@ -221,8 +224,10 @@ pub(crate) fn move_slots(
     requires empty { slots.old.not_simple_keys ≡ empty_slots slots.old.outer.items }
     requires nested { AreNested slots.old.outer.items }
     requires room { vec_len slots.old.outer < vec_capacity slots.old.outer }
-    ensures outer { slots.new.outer.items ≡ nested_outer kind (map (still_held limit mark) slots.old.outer.items) (still_held limit mark slots.old.top) }
-    ensures top { slots.new.top ≡ nested_top kind (map (still_held limit mark) slots.old.outer.items) (still_held limit mark slots.old.top) }
+    ensures outer { slots.new.outer.items
+        ≡ nested_outer kind (map (still_held limit mark) slots.old.outer.items) (still_held limit mark slots.old.top) }
+    ensures top { slots.new.top
+        ≡ nested_top kind (map (still_held limit mark) slots.old.outer.items) (still_held limit mark slots.old.top) }
     ensures empty { slots.new.not_simple_keys ≡ empty_slots slots.new.outer.items }
     ensures awaited { slots.new.awaited ≡ step_of (lowest (slots.new.outer.items ++ slots.new.top ∷ [])) }
 {

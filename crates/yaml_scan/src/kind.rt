@@ -77,8 +77,8 @@ pub(crate) fn is_opener(kind: yaml_lexeme_kind_t) -> bool
     )
 }
 
-/// Whether a key is allowed after it. `margin`: it was read at depth 0. `none`: it completed nothing. `passed_break`: it is
-/// a plain scalar, and a break is in the separator after it.
+/// Whether a key is allowed after it. `margin`: it was read at depth 0. `none`: it completed nothing. `passed_break`:
+/// it is a plain scalar, and a break is in the separator after it.
 pub(crate) fn is_allowed_after(
     kind: yaml_lexeme_kind_t,
     margin: bool,

@@ -1,10 +1,19 @@
 //! What holds of the layout: each law is the contract of a function that does nothing.
-ghost use Rattle.yaml_scan.specs.Laws.{DepthGoesOn, CandidatesGoOn, CandidatesAreNested, AllowedGoesOn, ColumnsGoOn, ColumnsFall, LevelIsFirst, LevelStays, OfflineGoesOn, CandidateStandsThere, NeverRevised, FewWait, FewWaitOneStepOn, AllIsHandedOut, LexemesComeInOrder, EndsNeverOutnumber, AsManyEnds, CutIsLongest, CutIsHistory, CutIsShort, StepsBeginCut, CutIsOnly};
+ghost use Rattle.yaml_scan.specs.Laws.{DepthGoesOn, CandidatesGoOn, CandidatesAreNested, AllowedGoesOn, ColumnsGoOn};
+ghost use Rattle.yaml_scan.specs.Laws.{ColumnsFall, LevelIsFirst, LevelStays, OfflineGoesOn, CandidateStandsThere};
+ghost use Rattle.yaml_scan.specs.Laws.{NeverRevised, FewWait, FewWaitOneStepOn, AllIsHandedOut, LexemesComeInOrder};
+ghost use Rattle.yaml_scan.specs.Laws.{EndsNeverOutnumber, AsManyEnds, CutIsLongest, CutIsHistory, CutIsShort};
+ghost use Rattle.yaml_scan.specs.Laws.{StepsBeginCut, CutIsOnly};
 ghost use Rattle.yaml_scan.specs.TokenLaws.{TokensStandInOrder, KeysAreFollowed, FourTokensAStep};
-ghost use Rattle.yaml_scan.specs.SessionLaws.{CourseIsHistory, EndsOrFaults, RefusedHasFault, AcceptedIsCut, FrontIsCut, TakenAreBeginning, PeeksChangeNothing, NoneIsStuck, PaceSettles, PaceIsLeast, FewStepsQueued, NearStepIsRefused, FarStepIsItself, CourseIsRun};
+ghost use Rattle.yaml_scan.specs.SessionLaws.{CourseIsHistory, EndsOrFaults, RefusedHasFault, AcceptedIsCut};
+ghost use Rattle.yaml_scan.specs.SessionLaws.{FrontIsCut, TakenAreBeginning, PeeksChangeNothing, NoneIsStuck};
+ghost use Rattle.yaml_scan.specs.SessionLaws.{PaceSettles, PaceIsLeast, FewStepsQueued, NearStepIsRefused};
+ghost use Rattle.yaml_scan.specs.SessionLaws.{FarStepIsItself, CourseIsRun};
 ghost use Rattle.yaml_scan.specs.AnswerLaws.{AnswersStandInOrder, AnswersEndFewer, AnswersEndAll, AnswersFollowKeys};
-ghost use Rattle.yaml_scan.specs.Locality.{StepIsLocal, TokensBeforeRefusal, FaultBeforeRefusal, TextsAreLocal, TextsKeepOrder};
-ghost use Rattle.yaml_scan.specs.Inputs.{InputsKeepOrder, AllStandInOrder, AllEndFewer, AllEndAll, AllFollowKeys, LateFaults};
+ghost use Rattle.yaml_scan.specs.Locality.{StepIsLocal, TokensBeforeRefusal, FaultBeforeRefusal, TextsAreLocal};
+ghost use Rattle.yaml_scan.specs.Locality.{TextsKeepOrder};
+ghost use Rattle.yaml_scan.specs.Inputs.{InputsKeepOrder, AllStandInOrder, AllEndFewer, AllEndAll, AllFollowKeys};
+ghost use Rattle.yaml_scan.specs.Inputs.{LateFaults};
 ghost use Rattle.yaml_scan.specs.Words.{AllHaveLines, SessionsHaveLines};
 ghost use Rattle.yaml_scan.specs.CountedMarks.{AnswersAreCounted, SessionsAreCounted, ReachIsCounted};
 ghost use Rattle.yaml_scan.specs.ReadingOn.{AllIsTold, RestIsTold, ScansReadOn, FaultIsToldOnce, RunsFaultOnce};
@@ -85,11 +94,11 @@ pub fn tokens_are_few()
     ensures { FourTokensAStep }
 {}
 
-/// The steps of an input are a history, and end with the stream end or with a fault. An accepted input has the cut of its
-/// text, and a refused one a beginning of what its front alone would have.
+/// The steps of an input are a history, and end with the stream end or with a fault. An accepted input has the cut of
+/// its text, and a refused one a beginning of what its front alone would have.
 ///
-/// A step near the end of a refused front ends with the reader's fault, so the fault of a refused input is the reader's, or
-/// that of an earlier step.
+/// A step near the end of a refused front ends with the reader's fault, so the fault of a refused input is the
+/// reader's, or that of an earlier step.
 pub fn course_of_an_input()
     ensures history { CourseIsHistory }
     ensures ends { EndsOrFaults }
@@ -148,24 +157,24 @@ pub fn laws_of_any_input()
     ensures late { LateFaults }
 {}
 
-/// Every token and every fault that is returned can be put in words: the encoding of a stream and the style of a scalar are
-/// known, and a fault is of kind memory, or of kind reader or scanner with a problem text.
+/// Every token and every fault that is returned can be put in words: the encoding of a stream and the style of a scalar
+/// are known, and a fault is of kind memory, or of kind reader or scanner with a problem text.
 pub fn answers_have_lines()
     ensures inputs { AllHaveLines }
     ensures sessions { SessionsHaveLines }
 {}
 
-/// Every mark that is handed out is counted from the front of the text, so none is between CR and LF. The one exception is
-/// the mark of the end of a stream, which is moved to the start of the next line if its column is not 0: a stream end has it,
-/// and so have the block ends and the missing `:` found there.
+/// Every mark that is handed out is counted from the front of the text, so none is between CR and LF. The one exception
+/// is the mark of the end of a stream, which is moved to the start of the next line if its column is not 0: a stream
+/// end has it, and so have the block ends and the missing `:` found there.
 pub fn marks_are_counted()
     ensures inputs { AnswersAreCounted }
     ensures sessions { SessionsAreCounted }
     ensures reach { ReachIsCounted }
 {}
 
-/// More scans than there are tokens left take all of these in order, then return the fault once, if there is one, and then
-/// empty tokens.
+/// More scans than there are tokens left take all of these in order, then return the fault once, if there is one, and
+/// then empty tokens.
 pub fn reading_on()
     ensures all { AllIsTold }
     ensures rest { RestIsTold }

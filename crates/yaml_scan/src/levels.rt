@@ -1,5 +1,6 @@
 //! Indentation levels: the columns of the block collections that are open (YAML 1.1, 6.1 Indentation Spaces).
-ghost use Rattle.std.specs.Prelude.{◌≡◌, ◌+◌, ◌-◌, ◌<◌, ◌≤◌, ◌&&◌, ◌++◌, ◌∷◌, [], true, false, not, reverse, map, filter, length, vec_len, nat_lt, None, Some, if◌then◌else◌};
+ghost use Rattle.std.specs.Prelude.{◌≡◌, ◌+◌, ◌-◌, ◌<◌, ◌≤◌, ◌&&◌, ◌++◌, ◌∷◌, [], true, false, not, reverse, map};
+ghost use Rattle.std.specs.Prelude.{filter, length, vec_len, nat_lt, None, Some, if◌then◌else◌};
 ghost use Rattle.std.specs.Vec.{vec_capacity};
 ghost use Rattle.std.specs.VecDeque.{deque_capacity};
 ghost use Rattle.yaml_scan.specs.declared.queue.block_t.TheVariants.{NONE};
@@ -63,7 +64,9 @@ pub(crate) fn close_levels(
 ) -> closed_t
     requires { IsFalling (reverse levels.old.items) }
     ensures levels { reverse levels.new.items ≡ filter (stays in_flow kind start) (reverse levels.old.items) }
-    ensures ends { ends_at result.early front ++ ends_at result.ends start ≡ map (λ c. BlockEnd (end_at kind front start c)) (filter (λ c. not (stays in_flow kind start c)) (reverse levels.old.items)) }
+    ensures ends { ends_at result.early front ++ ends_at result.ends start
+        ≡ map (λ c. BlockEnd (end_at kind front start c)) (filter (λ c.
+        not (stays in_flow kind start c)) (reverse levels.old.items)) }
     ensures none { is_stream_end kind ≡ false → result.early ≡ 0 }
     ensures len { vec_len levels.new ≤ vec_len levels.old }
     ensures capacity { vec_capacity levels.new ≡ vec_capacity levels.old }
@@ -143,8 +146,12 @@ fn complete(layout: &mut layout_t, margin: bool, held: held_t)
     requires falls { IsFalling (reverse layout.old.levels.items) }
     requires fits { Fitting (Some held) layout.old.queue.done layout.old.queue.groups.items }
     requires room { vec_len layout.old.levels < vec_capacity layout.old.levels }
-    ensures levels { reverse layout.new.levels.items ≡ (if is_new margin held.start.column (reverse layout.old.levels.items) then held.start.column ∷ [] else []) ++ reverse layout.old.levels.items }
-    ensures groups { layout.new.queue.groups.items ≡ completed_in margin (Some held) (reverse layout.old.levels.items) layout.old.queue.done layout.old.queue.groups.items }
+    ensures levels { reverse layout.new.levels.items
+        ≡ (if is_new margin held.start.column (reverse layout.old.levels.items) then held.start.column ∷ [] else [])
+        ++ reverse layout.old.levels.items }
+    ensures groups { layout.new.queue.groups.items
+        ≡ completed_in margin (Some held) (reverse layout.old.levels.items) layout.old.queue.done
+        layout.old.queue.groups.items }
     ensures rest { KeepsRest layout.old.queue layout.new.queue }
 {
     let opens = is_new_level(&layout.levels, margin, held.start.column);
@@ -194,8 +201,11 @@ pub(crate) fn put_key(
     requires falls { IsFalling (reverse layout.old.levels.items) }
     requires fits { Fitting completed layout.old.queue.done layout.old.queue.groups.items }
     requires room { vec_len layout.old.levels < vec_capacity layout.old.levels }
-    ensures levels { reverse layout.new.levels.items ≡ opened margin completed kind start (reverse layout.old.levels.items) }
-    ensures groups { layout.new.queue.groups.items ≡ completed_in margin completed (reverse layout.old.levels.items) layout.old.queue.done layout.old.queue.groups.items }
+    ensures levels { reverse layout.new.levels.items
+        ≡ opened margin completed kind start (reverse layout.old.levels.items) }
+    ensures groups { layout.new.queue.groups.items
+        ≡ completed_in margin completed (reverse layout.old.levels.items) layout.old.queue.done
+        layout.old.queue.groups.items }
     ensures opens { result ≡ opened_by margin completed kind start.column (reverse layout.old.levels.items) }
     ensures rest { KeepsRest layout.old.queue layout.new.queue }
 {
@@ -217,7 +227,8 @@ pub(crate) fn put_group(
     token: yaml_token_t,
 )
     requires { length queue.old.groups.items < deque_capacity queue.old.groups }
-    ensures groups { queue.new.groups.items ≡ queue.old.groups.items ++ record { ends = closed.ends; opens = opens; key = false; token = token } ∷ [] }
+    ensures groups { queue.new.groups.items
+        ≡ queue.old.groups.items ++ record { ends = closed.ends; opens = opens; key = false; token = token } ∷ [] }
     ensures done { queue.new.done ≡ queue.old.done }
     ensures early { queue.new.early ≡ closed.early }
     ensures front { queue.new.front ≡ front }

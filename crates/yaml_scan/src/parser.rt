@@ -8,8 +8,10 @@ ghost use Rattle.yaml_text.specs.Decode.{refusal_seen};
 ghost use Rattle.yaml_scan.specs.Offline.{before, queued};
 ghost use Rattle.yaml_scan.specs.Session.{new_session, session_queued, session_reach};
 ghost use Rattle.yaml_scan.specs.Scanning.{Runs, IsOpen, history};
-ghost use Rattle.yaml_scan.specs.Ready.{IsNew, IsReady, IsSettled, IsStopped, IsShort, IsEnded, Pops, Begins, IsStarted, IsShown};
-ghost use Rattle.yaml_scan.specs.Parser.{Scans, token_shown, Shows, behind, IsThere, IsRefusedEarly, input_read, told, answered, Peeks, AnswersPeek, told_copied, shown, course_read};
+ghost use Rattle.yaml_scan.specs.Ready.{IsNew, IsReady, IsSettled, IsStopped, IsShort, IsEnded, Pops, Begins};
+ghost use Rattle.yaml_scan.specs.Ready.{IsStarted, IsShown};
+ghost use Rattle.yaml_scan.specs.Parser.{Scans, token_shown, Shows, behind, IsThere, IsRefusedEarly, input_read, told};
+ghost use Rattle.yaml_scan.specs.Parser.{answered, Peeks, AnswersPeek, told_copied, shown, course_read};
 ghost use Rattle.yaml_scan.specs.CallMarks.{IsCountedIn, ReachesTo};
 ghost use Rattle.yaml_scan.specs.Token.{is_last_type, type_of};
 ghost use Rattle.yaml_scan.specs.Near.{near_fault};
@@ -130,7 +132,10 @@ fn begin<'a>(
     kept: &mut yaml_fault_t,
 ) -> Result<(), stop_t>
     requires { IsNew scanner.old }
-    ensures { MatchResult result (λ _. Begins setting input.now scanner.old scanner.new) (λ s. (IsShort setting input.now scanner.old (fault_at s kept.new) ⊎ IsEnded setting input.now scanner.old scanner.new (fault_at s kept.new)) × IsStopped setting input.now scanner.old scanner.new) }
+    ensures { MatchResult result (λ _. Begins setting input.now scanner.old scanner.new) (λ s.
+        (IsShort setting input.now scanner.old (fault_at s kept.new)
+        ⊎ IsEnded setting input.now scanner.old scanner.new (fault_at s kept.new))
+        × IsStopped setting input.now scanner.old scanner.new) }
 {
     let (text, refusal) = match yaml_decode_front(alloc, input, setting) {
         Ok(front) => front,
@@ -162,7 +167,10 @@ fn start<'a>(
     kept: &mut yaml_fault_t,
 ) -> Result<(), stop_t>
     requires { IsReady setting input.now scanner.old }
-    ensures { MatchResult result (λ _. IsStarted setting input.now scanner.old scanner.new) (λ s. (IsShort setting input.now scanner.old (fault_at s kept.new) ⊎ IsEnded setting input.now scanner.old scanner.new (fault_at s kept.new)) × IsStopped setting input.now scanner.old scanner.new) }
+    ensures { MatchResult result (λ _. IsStarted setting input.now scanner.old scanner.new) (λ s.
+        (IsShort setting input.now scanner.old (fault_at s kept.new)
+        ⊎ IsEnded setting input.now scanner.old scanner.new (fault_at s kept.new))
+        × IsStopped setting input.now scanner.old scanner.new) }
 {
     if scanner.made > 0 {
         return Ok(());
@@ -179,7 +187,10 @@ fn settle<'a>(
     kept: &mut yaml_fault_t,
 ) -> Result<(), stop_t>
     requires { IsReady setting input.now scanner.old }
-    ensures { MatchResult result (λ _. IsSettled setting input.now scanner.old scanner.new) (λ s. (IsShort setting input.now scanner.old (fault_at s kept.new) ⊎ IsEnded setting input.now scanner.old scanner.new (fault_at s kept.new)) × IsStopped setting input.now scanner.old scanner.new) }
+    ensures { MatchResult result (λ _. IsSettled setting input.now scanner.old scanner.new) (λ s.
+        (IsShort setting input.now scanner.old (fault_at s kept.new)
+        ⊎ IsEnded setting input.now scanner.old scanner.new (fault_at s kept.new))
+        × IsStopped setting input.now scanner.old scanner.new) }
 {
     start(alloc, scanner, input, setting, kept)?;
     settle_head(alloc, scanner, kept)
@@ -196,7 +207,10 @@ fn look<'a>(
 ) -> Result<(), stop_t>
     requires ready { IsReady setting input.now scanner.old }
     requires shown { peeked ≡ true → IsShown setting input.now scanner.old }
-    ensures { MatchResult result (λ _. IsSettled setting input.now scanner.old scanner.new) (λ s. (IsShort setting input.now scanner.old (fault_at s kept.new) ⊎ IsEnded setting input.now scanner.old scanner.new (fault_at s kept.new)) × IsStopped setting input.now scanner.old scanner.new × (peeked ≡ false)) }
+    ensures { MatchResult result (λ _. IsSettled setting input.now scanner.old scanner.new) (λ s.
+        (IsShort setting input.now scanner.old (fault_at s kept.new)
+        ⊎ IsEnded setting input.now scanner.old scanner.new (fault_at s kept.new))
+        × IsStopped setting input.now scanner.old scanner.new × (peeked ≡ false)) }
 {
     if peeked {
         return Ok(());
@@ -222,7 +236,11 @@ pub(crate) fn is_stream_end(token: &yaml_token_t) -> bool
 
 /// Goes on after a token that was taken: with the stream end the session is over.
 fn pass(session: &mut session_t, token: &yaml_token_t)
-    ensures { session.new ≡ record { peeked = false; over = is_last_type (type_of (data_of token.now.token_data)); fault = session.old.fault } }
+    ensures { session.new ≡ record {
+      peeked = false;
+      over = is_last_type (type_of (data_of token.now.token_data));
+      fault = session.old.fault;
+    } }
 {
     session.peeked = false;
     session.over = is_stream_end(token);
@@ -338,13 +356,16 @@ fn take_shown(parser: &mut yaml_parser_t) -> yaml_token_t
 /// Takes the next token. After the stream end, and after a fault, it is the empty one.
 ///
 /// # Errors
-/// The fault that ends the session, once, from the scan or peek that finds it: of kind reader if the input is no text there,
-/// of kind scanner if no token can be read, of kind memory if a request for memory was refused. No memory is needed if the
-/// token was peeked or the session is over, nor if the input is in UTF-8 and its reader's fault comes before the first step.
+/// The fault that ends the session, once, from the scan or peek that finds it: of kind reader if the input is no text
+/// there, of kind scanner if no token can be read, of kind memory if a request for memory was refused. No memory is
+/// needed if the token was peeked or the session is over, nor if the input is in UTF-8 and its reader's fault comes
+/// before the first step.
 pub fn yaml_parser_scan(parser: &mut yaml_parser_t) -> Result<yaml_token_t, yaml_fault_t>
     ensures answers { Scans parser.old result parser.new }
-    ensures bare { IsThere parser.old → (told result ≡ answered parser.old SCAN) × (parser.new ≡ behind parser.old SCAN) }
-    ensures early { IsRefusedEarly (input_read parser.old) → (told result ≡ answered parser.old SCAN) × (parser.new ≡ behind parser.old SCAN) }
+    ensures bare { IsThere parser.old → (told result ≡ answered parser.old SCAN)
+        × (parser.new ≡ behind parser.old SCAN) }
+    ensures early { IsRefusedEarly (input_read parser.old)
+        → (told result ≡ answered parser.old SCAN) × (parser.new ≡ behind parser.old SCAN) }
     ensures local { IsAnsweredAlike parser.old SCAN (told result) }
     ensures marks { IsCountedIn parser.old (told result) }
 {
@@ -380,7 +401,8 @@ pub fn yaml_parser_skip(parser: &mut yaml_parser_t)
     let _ = take_shown(parser);
 }
 
-/// Shows the next token, which the next scan or skip takes. After the stream end, and after a fault, it is the empty one.
+/// Shows the next token, which the next scan or skip takes. After the stream end, and after a fault, it is the empty
+/// one.
 ///
 /// # Errors
 /// The same as of [`yaml_parser_scan`].
@@ -417,8 +439,8 @@ pub fn yaml_parser_fault<'s>(parser: &'s yaml_parser_t<'_>) -> Option<&'s yaml_f
     parser.session.fault.as_ref()
 }
 
-/// How many steps have a token that was made and not taken: at most one more than the key limit. STREAM-START is a step, and
-/// each lexeme is one, with the keys and the starts and ends of blocks that were put in for it.
+/// How many steps have a token that was made and not taken: at most one more than the key limit. STREAM-START is a
+/// step, and each lexeme is one, with the keys and the starts and ends of blocks that were put in for it.
 pub fn yaml_parser_queued(parser: &yaml_parser_t) -> u64
     ensures steps { result ≡ session_queued (course_read parser.now) parser.now.session }
     ensures few { result ≤ parser.now.limit + 1 }
@@ -426,8 +448,8 @@ pub fn yaml_parser_queued(parser: &yaml_parser_t) -> u64
     parser.scanner.made - parser.scanner.layout.queue.done
 }
 
-/// How far the last step without a fault was read: bytes of the text in UTF-8, lines and characters, all from 0. It is zero
-/// before any step.
+/// How far the last step without a fault was read: bytes of the text in UTF-8, lines and characters, all from 0. It is
+/// zero before any step.
 pub fn yaml_parser_mark(parser: &yaml_parser_t) -> yaml_mark_t
     ensures reach { result ≡ session_reach (course_read parser.now) parser.now.session }
     ensures marks { ReachesTo parser.now result }

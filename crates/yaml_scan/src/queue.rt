@@ -1,12 +1,14 @@
 //! The queue: of each step, in order, what it hands out that was not taken.
-ghost use Rattle.std.specs.Prelude.{◌≡◌, ◌+◌, ◌-◌, ◌<◌, ◌++◌, ◌∷◌, [], ◌&&◌, nat_eq, nat_lt, length, take, drop, OnOk, List, ◌^◌};
+ghost use Rattle.std.specs.Prelude.{◌≡◌, ◌+◌, ◌-◌, ◌<◌, ◌++◌, ◌∷◌, [], ◌&&◌, nat_eq, nat_lt, length, take, drop, OnOk};
+ghost use Rattle.std.specs.Prelude.{List, ◌^◌};
 ghost use Rattle.std.specs.VecDeque.{deque_capacity};
 ghost use Rattle.yaml_text.specs.declared.types.yaml_encoding_t.{yaml_encoding_t};
 ghost use Rattle.yaml_text.specs.Token.{data_of, token_of};
 ghost use Rattle.yaml_text.specs.declared.types.yaml_encoding_t.{yaml_encoding_t};
 ghost use Rattle.yaml_text.specs.declared.types.yaml_mark_t.{yaml_mark_t};
 ghost use Rattle.yaml_scan.specs.Token.{at_mark};
-ghost use Rattle.yaml_scan.specs.Groups.{IsQueue, IsLead, Takes, DropsLead, keyed_at, leads, pending, begins_with_end, mark_next, lead_tokens};
+ghost use Rattle.yaml_scan.specs.Groups.{IsQueue, IsLead, Takes, DropsLead, keyed_at, leads, pending, begins_with_end};
+ghost use Rattle.yaml_scan.specs.Groups.{mark_next, lead_tokens};
 ghost use Rattle.yaml_scan.specs.Offline.{Token, handed_out};
 ghost use Rattle.yaml_scan.specs.Offline.Token.{StreamStart};
 
@@ -22,8 +24,8 @@ pub(crate) enum block_t {
     MAPPING,
 }
 
-/// What a step hands out: block ends, the start of a block collection and a key, all at the start of its token, and then its
-/// token.
+/// What a step hands out: block ends, the start of a block collection and a key, all at the start of its token, and
+/// then its token.
 #[derive(Drop)]
 pub(crate) struct group_t {
     pub ends: usize,
@@ -61,7 +63,8 @@ pub(crate) fn put_stream_start(
 ) -> Result<(), AllocError>
     requires empty { queue.old.groups.items ≡ [] }
     requires none { queue.old.early ≡ 0 }
-    ensures queue { OnOk result (IsQueue encoding queue.new.early queue.new.front queue.new.groups.items (StreamStart ∷ [])) }
+    ensures queue { OnOk result (IsQueue encoding queue.new.early queue.new.front queue.new.groups.items (StreamStart
+        ∷ [])) }
     ensures long { OnOk result (length queue.new.groups.items ≡ 1) }
     ensures early { queue.new.early ≡ queue.old.early }
     ensures done { queue.new.done ≡ queue.old.done }
@@ -159,7 +162,8 @@ fn drop_lead_of(head: &mut group_t)
 
 /// What is handed out next, before the token of the head.
 fn next_lead(queue: &queue_t) -> lead_t
-    ensures { lead_tokens result (mark_next queue.now.early queue.now.front queue.now.groups.items) ≡ take 1 (pending queue.now.early queue.now.front queue.now.groups.items) }
+    ensures { lead_tokens result (mark_next queue.now.early queue.now.front queue.now.groups.items)
+        ≡ take 1 (pending queue.now.early queue.now.front queue.now.groups.items) }
 {
     if is_early(queue) {
         return lead_t::END;
@@ -222,7 +226,9 @@ fn drop_lead(queue: &mut queue_t)
 pub(crate) fn take_next(queue: &mut queue_t) -> yaml_token_t
     requires some { 0 < length queue.old.groups.items }
     requires few { queue.old.done + 1 < 2 ^ 64 }
-    ensures { (e : yaml_encoding_t) (xs : List Token) → IsQueue e queue.old.early queue.old.front queue.old.groups.items xs → Takes e queue.old queue.new (token_of result) xs }
+    ensures { (e : yaml_encoding_t) (xs : List Token)
+        → IsQueue e queue.old.early queue.old.front queue.old.groups.items xs
+        → Takes e queue.old queue.new (token_of result) xs }
 {
     if has_lead(queue) {
         let token = lead(queue);

@@ -1,5 +1,6 @@
 //! The running scanner: as many steps are made as the next token needs.
-ghost use Rattle.std.specs.Prelude.{◌≡◌, ◌⊎◌, ℕ, ◌+◌, ◌-◌, ◌<◌, ◌≤◌, ◌^◌, ◌&&◌, not, nat_lt, nat_eq, length, true, false, MatchResult};
+ghost use Rattle.std.specs.Prelude.{◌≡◌, ◌⊎◌, ℕ, ◌+◌, ◌-◌, ◌<◌, ◌≤◌, ◌^◌, ◌&&◌, not, nat_lt, nat_eq, length, true};
+ghost use Rattle.std.specs.Prelude.{false, MatchResult};
 ghost use Rattle.yaml_text.specs.Decode.{refusal_seen};
 ghost use Rattle.yaml_text.specs.Fault.{fault_of, memory_fault};
 ghost use Rattle.yaml_scan.specs.Near.{near_fault, instead};
@@ -7,7 +8,8 @@ ghost use Rattle.yaml_scan.specs.Groups.{begins_with_end, pending};
 ghost use Rattle.yaml_scan.specs.Offline.{before};
 ghost use Rattle.yaml_scan.specs.Order.{ended};
 ghost use Rattle.yaml_scan.specs.Stop.{fault_at};
-ghost use Rattle.yaml_scan.specs.Scanning.{Runs, Advances, Offends, Steps, IsLast, Stays, IsOpen, Settles, Fails, Stops, history};
+ghost use Rattle.yaml_scan.specs.Scanning.{Runs, Advances, Offends, Steps, IsLast, Stays, IsOpen, Settles, Fails};
+ghost use Rattle.yaml_scan.specs.Scanning.{Stops, history};
 
 use crate::fault::{fault_at, stop_t};
 use crate::queue::has_ends;
@@ -18,7 +20,9 @@ use yaml_text::{yaml_error_type_t, yaml_fault_t, yaml_mark_t, yaml_token_t};
 /// Whether the head of the queue is the token of the lowest candidate.
 fn is_awaited(scanner: &scanner_t) -> bool
     requires { scanner.now.layout.queue.done + 1 < 2 ^ 64 }
-    ensures { result ≡ (nat_eq scanner.now.slots.awaited (scanner.now.layout.queue.done + 1) && not (begins_with_end (pending scanner.now.layout.queue.early scanner.now.layout.queue.front scanner.now.layout.queue.groups.items))) }
+    ensures { result ≡ (nat_eq scanner.now.slots.awaited (scanner.now.layout.queue.done + 1)
+        && not (begins_with_end (pending scanner.now.layout.queue.early scanner.now.layout.queue.front
+        scanner.now.layout.queue.groups.items))) }
 {
     scanner.slots.awaited == scanner.layout.queue.done + 1 && !has_ends(&scanner.layout.queue)
 }
@@ -62,7 +66,9 @@ fn near_problem(refusal: &Option<yaml_fault_t>, near: u64, fault: yaml_fault_t) 
 fn step(alloc: Global, scanner: &mut scanner_t, kept: &mut yaml_fault_t) -> Result<(), stop_t>
     requires runs { Runs scanner.old }
     requires running { ended (history scanner.old) ≡ false }
-    ensures { MatchResult result (λ _. Advances (history scanner.old) scanner.old scanner.new) (λ s. ((fault_at s kept.new ≡ memory_fault) ⊎ Offends (history scanner.old) scanner.old (fault_at s kept.new)) × Stays scanner.old scanner.new) }
+    ensures { MatchResult result (λ _. Advances (history scanner.old) scanner.old scanner.new) (λ s.
+        ((fault_at s kept.new ≡ memory_fault) ⊎ Offends (history scanner.old) scanner.old (fault_at s kept.new))
+        × Stays scanner.old scanner.new) }
 {
     let met = meet(scanner, kept)?;
     lay(alloc, scanner, met, kept)
@@ -72,7 +78,9 @@ fn step(alloc: Global, scanner: &mut scanner_t, kept: &mut yaml_fault_t) -> Resu
 fn advance(alloc: Global, scanner: &mut scanner_t, kept: &mut yaml_fault_t) -> Result<(), stop_t>
     requires runs { Runs scanner.old }
     requires running { ended (history scanner.old) ≡ false }
-    ensures { MatchResult result (λ _. Steps scanner.old scanner.new) (λ s. ((fault_at s kept.new ≡ memory_fault) ⊎ IsLast scanner.old (fault_at s kept.new)) × Stays scanner.old scanner.new) }
+    ensures { MatchResult result (λ _. Steps scanner.old scanner.new) (λ s.
+        ((fault_at s kept.new ≡ memory_fault) ⊎ IsLast scanner.old (fault_at s kept.new))
+        × Stays scanner.old scanner.new) }
 {
     let reach = scanner.reach;
     match step(alloc, scanner, kept) {
@@ -103,7 +111,9 @@ pub(crate) fn settle_head(
 ) -> Result<(), stop_t>
     requires runs { Runs scanner.old }
     requires not_ended { IsOpen scanner.old }
-    ensures { MatchResult result (λ _. Settles scanner.old scanner.new) (λ s. ((fault_at s kept.new ≡ memory_fault) ⊎ Fails scanner.old scanner.new (fault_at s kept.new)) × Stops scanner.old scanner.new) }
+    ensures { MatchResult result (λ _. Settles scanner.old scanner.new) (λ s.
+        ((fault_at s kept.new ≡ memory_fault) ⊎ Fails scanner.old scanner.new (fault_at s kept.new))
+        × Stops scanner.old scanner.new) }
 {
     'steps: while !is_settled(scanner) {
         advance(alloc, scanner, kept)?;

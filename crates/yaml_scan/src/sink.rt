@@ -35,7 +35,10 @@ fn scan_rest<S: yaml_token_sink_t>(
     sink: &mut S,
 ) -> Result<Option<yaml_fault_t>, AllocError>
     requires { parser.old.session ≡ new_session }
-    ensures given { IfOk result (λ fault. IsGivenAll (λ tokens. S.took sink.old tokens sink.new) parser.old.limit parser.old.setting parser.old.input (option_map fault_of fault)) }
+    ensures given { IfOk result (λ fault.
+        IsGivenAll (λ tokens.
+        S.took sink.old tokens sink.new) parser.old.limit parser.old.setting parser.old.input
+        (option_map fault_of fault)) }
     ensures refused { OnErr result S.may_refuse }
 {
     let mut last = false;
@@ -51,11 +54,11 @@ fn scan_rest<S: yaml_token_sink_t>(
     Ok(None)
 }
 
-/// Gives all tokens of an input to a sink, in order: to STREAM-END, or those before its fault, and returns the fault. The key
-/// limit is in bytes, from 1 to 65,536.
+/// Gives all tokens of an input to a sink, in order: to STREAM-END, or those before its fault, and returns the fault.
+/// The key limit is in bytes, from 1 to 65,536.
 ///
-/// If the scanner is refused memory, the fault is of kind memory, and the tokens are those that some of the steps settle,
-/// STREAM-END not among them.
+/// If the scanner is refused memory, the fault is of kind memory, and the tokens are those that some of the steps
+/// settle, STREAM-END not among them.
 ///
 /// # Errors
 /// `AllocError` if the sink found no memory for a token.
@@ -68,7 +71,8 @@ pub fn yaml_scan_to<S: yaml_token_sink_t>(
 ) -> Result<Option<yaml_fault_t>, AllocError>
     requires least { 1 ≤ limit }
     requires most { limit ≤ 65536 }
-    ensures given { IfOk result (λ fault. IsGivenAll (λ tokens. S.took sink.old tokens sink.new) limit setting input.now (option_map fault_of fault)) }
+    ensures given { IfOk result (λ fault.
+        IsGivenAll (λ tokens. S.took sink.old tokens sink.new) limit setting input.now (option_map fault_of fault)) }
     ensures refused { OnErr result S.may_refuse }
 {
     let mut parser = yaml_parser_t::with_key_limit(alloc, input, setting, limit);

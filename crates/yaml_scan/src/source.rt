@@ -22,7 +22,8 @@ pub(crate) fn gap_end(
     allowed: bool,
 ) -> yaml_mark_t
     requires { (p : ℕ) × IsMarkOf text.now.chars at p }
-    ensures { (p : ℕ) → IsMarkOf text.now.chars at p → IsMarkOf text.now.chars result ((source_of text.now.chars).gap in_flow allowed p) }
+    ensures { (p : ℕ) → IsMarkOf text.now.chars at p
+        → IsMarkOf text.now.chars result ((source_of text.now.chars).gap in_flow allowed p) }
 {
     yaml_gap(text, at, in_flow, allowed).0
 }
@@ -50,9 +51,12 @@ pub(crate) fn read_lexeme(
     depth: usize,
     level: Option<u64>,
 ) -> Result<yaml_lexeme_t, stop_t>
-    requires place { (p : ℕ) × IsMarkOf text.now.chars at p × ((source_of text.now.chars).kind (nat_lt 0 depth) p ≡ Some kind) }
+    requires place { (p : ℕ) × IsMarkOf text.now.chars at p
+        × ((source_of text.now.chars).kind (nat_lt 0 depth) p ≡ Some kind) }
     requires level { IfSome level (λ l. l ≤ length text.now.chars) }
-    ensures { (p : ℕ) → IsMarkOf text.now.chars at p → MatchResult result (λ l. IsRead text.now.chars kind depth level p (lexeme_of l)) (λ s. (fault_at s kept.new ≡ memory_fault) ⊎ IsOffence text.now.chars kind depth level p (fault_at s kept.new)) }
+    ensures { (p : ℕ) → IsMarkOf text.now.chars at p
+        → MatchResult result (λ l. IsRead text.now.chars kind depth level p (lexeme_of l)) (λ s.
+        (fault_at s kept.new ≡ memory_fault) ⊎ IsOffence text.now.chars kind depth level p (fault_at s kept.new)) }
 {
     let context = yaml_context_t {
         depth: depth as u64,

@@ -1,12 +1,15 @@
 //! The steps of a text: the next lexeme, and what the layout makes of it.
-ghost use Rattle.std.specs.Prelude.{◌≡◌, ◌⊎◌, ℕ, ◌+◌, ◌-◌, ◌<◌, ◌≤◌, ◌^◌, ◌&&◌, ◌||◌, not, nat_lt, nat_eq, length, List, [], ◌∷◌, ◌++◌, vec_len, reverse, map, true, false, Option, Some, None, option_map, IfOk, OnOk, OnErr, MatchResult, if◌then◌else◌};
+ghost use Rattle.std.specs.Prelude.{◌≡◌, ◌⊎◌, ℕ, ◌+◌, ◌-◌, ◌<◌, ◌≤◌, ◌^◌, ◌&&◌, ◌||◌, not, nat_lt, nat_eq, length};
+ghost use Rattle.std.specs.Prelude.{List, [], ◌∷◌, ◌++◌, vec_len, reverse, map, true, false, Option, Some, None};
+ghost use Rattle.std.specs.Prelude.{option_map, IfOk, OnOk, OnErr, MatchResult, if◌then◌else◌};
 ghost use Rattle.yaml_text.specs.Fault.{memory_fault, scanner_fault};
 ghost use Rattle.yaml_scan.specs.Stop.{fault_at};
 ghost use Rattle.yaml_text.specs.Token.{data_of, token_of};
 ghost use Rattle.yaml_scan.specs.Fault.{no_token, in_next_token};
 ghost use Rattle.yaml_scan.specs.Laid.{Laid, allowed};
 ghost use Rattle.yaml_scan.specs.Order.{ended};
-ghost use Rattle.yaml_scan.specs.Slots.{needed, lost_held, still_held, root_of, slot_behind, nested_outer, nested_top, empty_slots, lowest, step_of, AreNested};
+ghost use Rattle.yaml_scan.specs.Slots.{needed, lost_held, still_held, root_of, slot_behind, nested_outer, nested_top};
+ghost use Rattle.yaml_scan.specs.Slots.{empty_slots, lowest, step_of, AreNested};
 ghost use Rattle.std.specs.Vec.{vec_capacity};
 ghost use Rattle.yaml_scan.specs.Step.{problem_of, replaces, step};
 ghost use Rattle.yaml_scan.specs.Moves.{IsLost, IsRefused};
@@ -77,7 +80,8 @@ fn expect_kind(
     kind: Option<yaml_lexeme_kind_t>,
     front: yaml_mark_t,
 ) -> Result<yaml_lexeme_kind_t, stop_t>
-    ensures { MatchResult result (λ k. kind ≡ Some k) (λ s. (kind ≡ None) × (fault_at s kept.new ≡ scanner_fault no_token front (Some in_next_token) front)) }
+    ensures { MatchResult result (λ k. kind ≡ Some k) (λ s. (kind ≡ None)
+        × (fault_at s kept.new ≡ scanner_fault no_token front (Some in_next_token) front)) }
 {
     match kind {
         Some(kind) => Ok(kind),
@@ -116,7 +120,9 @@ fn refuse_kind(
     none: bool,
     front: yaml_mark_t,
 ) -> Result<(), stop_t>
-    ensures { MatchResult result (λ _. IsRefused (if margin && not allowed then problem_of kind none else None) front None) (λ s. IsRefused (if margin && not allowed then problem_of kind none else None) front (Some (fault_at s kept.new))) }
+    ensures { MatchResult result (λ _. IsRefused (if margin && not allowed then problem_of kind none
+        else None) front None) (λ s. IsRefused (if margin && not allowed then problem_of kind none
+        else None) front (Some (fault_at s kept.new))) }
 {
     if margin && !allowed {
         match problem(kind, none) {
@@ -158,7 +164,8 @@ pub(crate) fn meet(scanner: &scanner_t, kept: &mut yaml_fault_t) -> Result<met_t
     requires holds { Holds before (scanner.now.made + 1) scanner.now }
     requires running { ended before ≡ false }
     requires small { length scanner.now.text.chars < 2 ^ 63 }
-    ensures { MatchResult result (λ m. IsMet before scanner.now m) (λ s. Offends before scanner.now (fault_at s kept.new)) }
+    ensures { MatchResult result (λ m. IsMet before scanner.now m) (λ s.
+        Offends before scanner.now (fault_at s kept.new)) }
 {
     let margin = scanner.slots.outer.is_empty();
     let front = gap_end(&scanner.text, scanner.reach, !margin, scanner.allowed);
@@ -200,9 +207,17 @@ fn keep_candidates(
     requires empty { slots.old.not_simple_keys ≡ empty_slots slots.old.outer.items }
     requires nested { AreNested slots.old.outer.items }
     requires room { vec_len slots.old.outer < vec_capacity slots.old.outer }
-    ensures lost { MatchResult result (λ _. lost_held limit mark (root_of slots.old.outer.items (slot_behind met.kind met.allowed new slots.old.top)) ≡ None) (λ s. IsLost (lost_held limit mark (root_of slots.old.outer.items (slot_behind met.kind met.allowed new slots.old.top))) mark (fault_at s kept.new)) }
-    ensures outer { OnOk result (slots.new.outer.items ≡ nested_outer met.kind (map (still_held limit mark) slots.old.outer.items) (still_held limit mark (slot_behind met.kind met.allowed new slots.old.top))) }
-    ensures top { OnOk result (slots.new.top ≡ nested_top met.kind (map (still_held limit mark) slots.old.outer.items) (still_held limit mark (slot_behind met.kind met.allowed new slots.old.top))) }
+    ensures lost { MatchResult result (λ _.
+        lost_held limit mark (root_of slots.old.outer.items (slot_behind met.kind met.allowed new slots.old.top))
+        ≡ None) (λ s.
+        IsLost (lost_held limit mark (root_of slots.old.outer.items
+        (slot_behind met.kind met.allowed new slots.old.top))) mark (fault_at s kept.new)) }
+    ensures outer { OnOk result (slots.new.outer.items
+        ≡ nested_outer met.kind (map (still_held limit mark) slots.old.outer.items)
+        (still_held limit mark (slot_behind met.kind met.allowed new slots.old.top))) }
+    ensures top { OnOk result (slots.new.top
+        ≡ nested_top met.kind (map (still_held limit mark) slots.old.outer.items)
+        (still_held limit mark (slot_behind met.kind met.allowed new slots.old.top))) }
     ensures empty { OnOk result (slots.new.not_simple_keys ≡ empty_slots slots.new.outer.items) }
     ensures awaited { OnOk result (slots.new.awaited ≡ step_of (lowest (slots.new.outer.items ++ slots.new.top ∷ []))) }
 {
@@ -218,7 +233,11 @@ fn keep_candidates(
 
 /// The token of a lexeme that starts at a mark.
 fn token_of(start: yaml_mark_t, x: yaml_lexeme_t) -> yaml_token_t
-    ensures { token_of result ≡ record { token_data = data_of x.token_data; start_mark = start; end_mark = x.end_mark } }
+    ensures { token_of result ≡ record {
+      token_data = data_of x.token_data;
+      start_mark = start;
+      end_mark = x.end_mark;
+    } }
 {
     yaml_token_t {
         token_data: x.token_data,
@@ -240,7 +259,9 @@ pub(crate) fn lay(
     requires small { length scanner.old.text.chars < 2 ^ 63 }
     requires few_steps { scanner.old.made + 1 < 2 ^ 64 }
     requires met { IsMet before scanner.old met }
-    ensures { MatchResult result (λ _. Advances before scanner.old scanner.new) (λ s. ((fault_at s kept.new ≡ memory_fault) ⊎ Offends before scanner.old (fault_at s kept.new)) × Stays scanner.old scanner.new) }
+    ensures { MatchResult result (λ _. Advances before scanner.old scanner.new) (λ s.
+        ((fault_at s kept.new ≡ memory_fault) ⊎ Offends before scanner.old (fault_at s kept.new))
+        × Stays scanner.old scanner.new) }
 {
     let margin = scanner.slots.outer.is_empty();
     let kind = met.kind;
