@@ -16,20 +16,27 @@ use Rattle.yaml_scan.specs.Kind.{Kind, is_candidate_kind, is_stream_end}
 use Rattle.yaml_scan.specs.Lexeme.{Lexeme}
 use Rattle.yaml_scan.specs.Source.{Source, Reading, Offence}
 use Rattle.yaml_scan.specs.SourceOf.{source_of, reading}
-use Rattle.yaml_scan.specs.TextReads.{IsRead, IsOffence}
-use Rattle.yaml_scan.specs.Laid.{Laid, candidate, depth, live, reach, completed_by, is_none, allowed, allowed_behind, allows}
-use Rattle.yaml_scan.specs.Levels.{AllLess, IsFalling, laid, is_required, stays, open_columns, kept_columns, level, greatest_level, greater_of}
+use Rattle.yaml_scan.specs.inside.TextReads.{IsRead, IsOffence}
+use Rattle.yaml_scan.specs.Laid.{Laid, reach, is_none}
+use Rattle.yaml_scan.specs.Keys.{candidate, live, completed_by}
+use Rattle.yaml_scan.specs.Depth.{depth}
+use Rattle.yaml_scan.specs.Allowed.{allowed, allowed_behind, allows}
+use Rattle.yaml_scan.specs.Levels.{AllLess, IsFalling, laid, is_required, stays, open_columns, kept_columns, level}
+use Rattle.yaml_scan.specs.Levels.{greatest_level, greater_of}
 use Rattle.yaml_scan.specs.Order.{IsHistory, IsNotBefore, Follows, ended}
-use Rattle.yaml_scan.specs.Offline.{end_at, offline, before}
+use Rattle.yaml_scan.specs.Offline.{end_at, offline}
+use Rattle.yaml_scan.specs.Settled.{before}
 use Rattle.yaml_scan.specs.Offline.Token.{BlockEnd}
-use Rattle.yaml_scan.specs.Queue.{opened, is_new}
-use Rattle.yaml_scan.specs.Slots.{Held, held, held_of, still_held, lost_held, outer_to, root_of, slot_behind, completed_held, nested_outer, nested_top, is_margin_level}
-use Rattle.yaml_scan.specs.Step.{Outcome, step, read_step, after_read, unless, stale, required, lost, start_at, lexeme_of, front_of, place_behind}
+use Rattle.yaml_scan.specs.inside.Queue.{opened, is_new}
+use Rattle.yaml_scan.specs.inside.Slots.{Held, held, held_of, still_held, lost_held, outer_to, root_of, slot_behind}
+use Rattle.yaml_scan.specs.inside.Slots.{completed_held, nested_outer, nested_top, is_margin_level}
+use Rattle.yaml_scan.specs.Step.{Outcome, step, read_step, after_read, unless, stale, required, lost, start_at}
+use Rattle.yaml_scan.specs.Step.{lexeme_of, front_of, place_behind}
 use Rattle.yaml_scan.specs.Step.Outcome.{Reads}
 use Rattle.yaml_scan.specs.Cut.{IsReadInOrder}
-use Rattle.yaml_scan.specs.Moves.{IsLost}
-use Rattle.yaml_scan.specs.Groups.{IsQueue, Fitting, ends_at, completed_in, opened_by}
-use Rattle.yaml_scan.specs.Scanning.{Holds, IsMet, Offends}
+use Rattle.yaml_scan.specs.inside.Moves.{IsLost}
+use Rattle.yaml_scan.specs.inside.Groups.{IsQueue, Fitting, ends_at, completed_in, opened_by}
+use Rattle.yaml_scan.specs.inside.Scanning.{Holds, IsMet, Offends}
 use Rattle.yaml_scan.proofs.Histories.{IsNotBefore-trans, to_start, to_reach, completion_is}
 use Rattle.yaml_scan.proofs.Stable.{start_in}
 use Rattle.yaml_scan.proofs.Candidates.{candidate-other, candidate-saved, candidate-kept, candidate-cleared, candidate_split}

@@ -15,7 +15,9 @@ use Rattle.yaml_scan.specs.Begins.{Begins}
 use Rattle.yaml_scan.specs.Offline.{Token, handed_out}
 use Rattle.yaml_scan.specs.Answers.{Input, Course, course, tokens_of, answers}
 use Rattle.yaml_scan.specs.Inputs.{decoded_input, answers_to}
-use Rattle.yaml_scan.specs.Session.{Session, Call, Answer, settled, settled_tokens, all_steps, pace, new_session, is_last, next_token, why, scan_answer, after_scan, paced, took, after, after_all}
+use Rattle.yaml_scan.specs.Session.{Session, Call, Answer, settled_tokens, all_steps, new_session, is_last, next_token}
+use Rattle.yaml_scan.specs.Session.{why, scan_answer, after_scan, paced, took, after, after_all}
+use Rattle.yaml_scan.specs.Settled.{settled, pace}
 use Rattle.yaml_scan.specs.Session.Call.{SCAN}
 use Rattle.yaml_scan.specs.Session.Answer.{TOKEN, FAULT}
 use Rattle.yaml_scan.specs.Parser.{Parser, WantsMemory, Calls, Scans, answered, behind, course_read, input_read}

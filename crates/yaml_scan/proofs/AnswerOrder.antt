@@ -11,16 +11,20 @@ use Rattle.yaml_scan.specs.Lexeme.{Lexeme}
 use Rattle.yaml_scan.specs.Token.{yaml_token_t, type_of, is_end_type, is_start_type, is_key_type}
 use Rattle.yaml_scan.specs.Laid.{Laid}
 use Rattle.yaml_scan.specs.Levels.{opens, is_completed}
-use Rattle.yaml_scan.specs.Offline.{Token, handed_out, block_ends, end_mark, inserted, group, groups, offline, before}
+use Rattle.yaml_scan.specs.Offline.{Token, handed_out, block_ends, end_mark, inserted, group, groups, offline}
+use Rattle.yaml_scan.specs.Settled.{before}
 use Rattle.yaml_scan.specs.Offline.Token.{StreamStart, BlockEnd, BlockSequenceStart, BlockMappingStart, InsertedKey, OfLexeme}
 use Rattle.yaml_scan.specs.Order.{IsHistory}
 use Rattle.yaml_scan.specs.Begins.{Begins}
 use Rattle.yaml_scan.specs.Step.{Outcome}
 use Rattle.yaml_scan.specs.Cut.{SaysKind, IsRun, KeepsOrder}
-use Rattle.yaml_scan.specs.Answers.{Input, Course, course, course_from, tokens_of, starts_near, next, answers}
+use Rattle.yaml_scan.specs.Answers.{Input, Course, course, course_from, tokens_of, next, answers}
+use Rattle.yaml_scan.specs.Near.{starts_near}
 use Rattle.yaml_scan.specs.Laws.{is_block_end, is_block_start, ends_in, starts_in}
 use Rattle.yaml_scan.specs.TokenLaws.{start_of, end_of, AreInOrder, is_value_near, HasValue, KeysHaveValues}
-use Rattle.yaml_scan.specs.AnswerLaws.{StandInOrder, AnswersStandInOrder, ends_among, starts_among, AnswersEndFewer, AnswersEndAll, same_mark, is_put_in, is_near_value, AreFollowed, AnswersFollowKeys}
+use Rattle.yaml_scan.specs.AnswerLaws.{StandInOrder, AnswersStandInOrder, ends_among, starts_among, AnswersEndFewer}
+use Rattle.yaml_scan.specs.AnswerLaws.{AnswersEndAll, same_mark, is_put_in, is_near_value, AreFollowed}
+use Rattle.yaml_scan.specs.AnswerLaws.{AnswersFollowKeys}
 use Rattle.yaml_scan.proofs.KindTests.{key_not_end}
 use Rattle.yaml_scan.proofs.Extend.{before-offline}
 use Rattle.yaml_scan.proofs.GoOn.{ends_never_outnumber, as_many}

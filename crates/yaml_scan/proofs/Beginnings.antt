@@ -11,20 +11,24 @@ use Rattle.yaml_text.specs.Decode.{front, refusal, refusal_seen, encoding_of}
 use Rattle.yaml_lexeme.specs.Place.{IsMarkOf, skip}
 use Rattle.yaml_scan.specs.declared.step.scanner_t.{scanner_t}
 use Rattle.yaml_scan.specs.SourceOf.{source_of}
-use Rattle.yaml_scan.specs.Laid.{Laid, reach, candidate, depth}
+use Rattle.yaml_scan.specs.Laid.{Laid, reach}
+use Rattle.yaml_scan.specs.Keys.{candidate}
+use Rattle.yaml_scan.specs.Depth.{depth}
 use Rattle.yaml_scan.specs.Levels.{open_columns}
-use Rattle.yaml_scan.specs.Slots.{held, outer_to}
+use Rattle.yaml_scan.specs.inside.Slots.{held, outer_to}
 use Rattle.yaml_scan.specs.Step.{stale, required}
-use Rattle.yaml_scan.specs.Offline.{Token, before, offline, groups, waiting, up_to}
+use Rattle.yaml_scan.specs.Offline.{Token, offline, groups}
+use Rattle.yaml_scan.specs.Settled.{before, waiting, up_to}
 use Rattle.yaml_scan.specs.Offline.Token.{StreamStart}
 use Rattle.yaml_scan.specs.Cut.{oldest}
-use Rattle.yaml_scan.specs.Answers.{course, starts_near}
-use Rattle.yaml_scan.specs.Near.{near_fault}
-use Rattle.yaml_scan.specs.Groups.{IsQueue}
-use Rattle.yaml_scan.specs.Session.{first_steps, pace}
+use Rattle.yaml_scan.specs.Answers.{course}
+use Rattle.yaml_scan.specs.Near.{starts_near}
+use Rattle.yaml_scan.specs.inside.NearFault.{near_fault}
+use Rattle.yaml_scan.specs.inside.Groups.{IsQueue}
+use Rattle.yaml_scan.specs.Settled.{first_steps, pace}
 use Rattle.yaml_scan.specs.Inputs.{decoded_input}
-use Rattle.yaml_scan.specs.Scanning.{Holds, Runs, IsNearFrom, history, course_of, input_of}
-use Rattle.yaml_scan.specs.Ready.{IsNew, Begins, IsStopped, IsEnded, course_in}
+use Rattle.yaml_scan.specs.inside.Scanning.{Holds, Runs, IsNearFrom, history, course_of, input_of}
+use Rattle.yaml_scan.specs.inside.Ready.{IsNew, Begins, IsStopped, IsEnded, course_in}
 
 oldest_none : (H : List Laid) → oldest 0 H ≡ []
 oldest_none H = drop_all (length H - 0) H (omega arith)

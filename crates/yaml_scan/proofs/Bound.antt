@@ -2,8 +2,10 @@
 use Rattle.std.proofs.Common.{◌≡◌, ℕ, ◌+◌, ◌≤◌, ◌<◌, Bool, true, false, List, [], ◌∷◌, ◌++◌, length, length-append, Option, Some, None, refl, ap, sym, subst, arith, eqb, leb, leb-true, le-ltb, ltb, append_assoc}
 use Rattle.std.specs.Prelude.{if◌then◌else◌}
 use Rattle.std.proofs.lemmas.Bool.{and_parts}
-use Rattle.yaml_scan.specs.Offline.{is_current, queued, Token, groups, block_ends, waiting, before}
-use Rattle.yaml_scan.specs.Laid.{Laid, live, reach}
+use Rattle.yaml_scan.specs.Settled.{is_current, queued, waiting, before}
+use Rattle.yaml_scan.specs.Offline.{Token, groups, block_ends}
+use Rattle.yaml_scan.specs.Laid.{Laid, reach}
+use Rattle.yaml_scan.specs.Keys.{live}
 use Rattle.yaml_scan.specs.Order.{ended, IsHistory}
 use Rattle.yaml_scan.proofs.Histories.{to_start, byte_taken}
 use Rattle.yaml_scan.specs.Begins.{Begins}

@@ -11,7 +11,8 @@ use Rattle.yaml_scan.specs.Session.{Answer as says}
 use Rattle.yaml_scan.specs.Parser.{Parser, Calls, course_read}
 use Rattle.yaml_scan.specs.Calls.{Seen, seen, idle, answered_all, Runs}
 use Rattle.yaml_scan.specs.Calls.Seen.{FAULT}
-use Rattle.yaml_scan.specs.CountedMarks.{TokensAreCounted, FaultIsCounted, AnswerIsCounted, AllAreCounted, text_of_input}
+use Rattle.yaml_scan.specs.CountedMarks.{TokensAreCounted, FaultIsCounted, AnswerIsCounted, AllAreCounted}
+use Rattle.yaml_scan.specs.CountedMarks.{text_of_input}
 use Rattle.yaml_scan.specs.CallMarks.{text_read, IsCountedIn, ReachesTo, SeenIsCounted, SeenAreCounted, AllIsCounted}
 use Rattle.yaml_scan.specs.Session.{session_reach}
 use Rattle.yaml_scan.proofs.CountedMarks.{start_counted}

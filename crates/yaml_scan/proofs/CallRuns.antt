@@ -9,7 +9,8 @@ use Rattle.yaml_scan.specs.Session.Call.{SCAN, PEEK, SKIP}
 use Rattle.yaml_scan.specs.Parser.{Parser, IsRefusedEarly, WantsMemory, answered, behind, course_read, input_read}
 use Rattle.yaml_scan.specs.declared.calls.yaml_call_t.{yaml_call_t}
 use Rattle.yaml_scan.specs.declared.calls.yaml_answer_t.{yaml_answer_t}
-use Rattle.yaml_scan.specs.Calls.{call_of, Seen, seen, seen_of, Sees, behind_all, answered_all, idle, RunsOut, Runs, PutsAnswers, PutsSession}
+use Rattle.yaml_scan.specs.Calls.{call_of, Seen, seen, seen_of, Sees, behind_all, answered_all, idle, RunsOut, Runs}
+use Rattle.yaml_scan.specs.Calls.{PutsAnswers, PutsSession}
 use Rattle.yaml_scan.specs.Calls.Seen.{FAULT}
 use Rattle.yaml_scan.proofs.Scans.{wants_late}
 

@@ -3,7 +3,8 @@ use Rattle.std.proofs.Common.{◌≡◌, ℕ, ◌+◌, ◌&&◌, Bool, true, fal
 use Rattle.std.specs.Prelude.{◌⊎◌}
 use Rattle.std.proofs.lemmas.Bool.{cases_Bool, eqb-false}
 use Rattle.yaml_scan.specs.Kind.{is_flow_start}
-use Rattle.yaml_scan.specs.Laid.{Laid, candidate, enters, settles, is_candidate}
+use Rattle.yaml_scan.specs.Laid.{Laid}
+use Rattle.yaml_scan.specs.Keys.{candidate, enters, settles, is_candidate}
 
 -- the candidate of depth k after i
 -- a flow start read at k - 1 gives depth k no candidate

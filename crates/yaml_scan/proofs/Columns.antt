@@ -7,9 +7,12 @@ use Rattle.std.proofs.lemmas.List.Elements.{filter-append}
 use Rattle.yaml_scan.specs.Kind.{is_value, closes_all}
 use Rattle.yaml_scan.specs.Lexeme.{Lexeme}
 use Rattle.yaml_text.specs.declared.types.yaml_mark_t.{yaml_mark_t}
-use Rattle.yaml_scan.specs.Laid.{Laid, column, depth, live, reach, is_candidate}
+use Rattle.yaml_scan.specs.Laid.{Laid, column, reach}
+use Rattle.yaml_scan.specs.Depth.{depth}
+use Rattle.yaml_scan.specs.Keys.{live, is_candidate}
 use Rattle.yaml_scan.specs.Order.{IsHistory, IsNotBefore}
-use Rattle.yaml_scan.specs.Levels.{is_opener, is_above, is_completed, opens, still_open, keeps, open_columns, kept_columns}
+use Rattle.yaml_scan.specs.Levels.{is_opener, is_above, is_completed, opens, still_open, keeps, open_columns}
+use Rattle.yaml_scan.specs.Levels.{kept_columns}
 use Rattle.yaml_scan.proofs.KindTests.{candidate_not_closer, value_not_closer, value_opens_nothing}
 use Rattle.yaml_scan.proofs.Candidates.{candidate_split, IsSaved, IsKept, AllKept}
 use Rattle.yaml_scan.proofs.Histories.{to_start, to_reach, start_to_reach, IsNotBefore-trans, IsHistory-older, number_at, depth_at, completed_is, IsCompletion}

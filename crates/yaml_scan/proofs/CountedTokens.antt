@@ -15,14 +15,18 @@ use Rattle.yaml_scan.specs.Levels.{opens, is_above, is_completed}
 use Rattle.yaml_scan.specs.Order.{IsHistory, ended}
 use Rattle.yaml_scan.specs.Fault.{Fault}
 use Rattle.yaml_scan.specs.Token.{type_of, empty, zero_mark, is_last_type}
-use Rattle.yaml_scan.specs.Offline.{Token, handed_out, before, offline, groups, group, block_ends, inserted, end_mark}
+use Rattle.yaml_scan.specs.Offline.{Token, handed_out, offline, groups, group, block_ends, inserted, end_mark}
+use Rattle.yaml_scan.specs.Settled.{before}
 use Rattle.yaml_scan.specs.Offline.Token.{StreamStart, BlockEnd, BlockSequenceStart, BlockMappingStart, InsertedKey, OfLexeme}
 use Rattle.yaml_scan.specs.Answers.{Input, Course, course, tokens_of, answers}
 use Rattle.yaml_scan.specs.Inputs.{decoded_input, answers_to}
-use Rattle.yaml_scan.specs.Session.{Session, Call, session, first_steps, next_token, answer, after, scan_answer, peek_answer, why}
+use Rattle.yaml_scan.specs.Session.{Session, Call, session, next_token, answer, after, scan_answer, peek_answer, why}
+use Rattle.yaml_scan.specs.Settled.{first_steps}
 use Rattle.yaml_scan.specs.Session.Call.{SCAN, PEEK, SKIP}
 use Rattle.yaml_scan.specs.Session.Answer.{TOKEN, PEEKED, SKIPPED, NOTHING}
-use Rattle.yaml_scan.specs.CountedMarks.{IsCounted, IsStreamEnd, HasMark, TokenIsCounted, TokensAreCounted, FaultIsCounted, AnswersAreCounted, AnswerIsCounted, AllAreCounted, SessionsAreCounted, ReachIsCounted}
+use Rattle.yaml_scan.specs.CountedMarks.{IsCounted, IsStreamEnd, HasMark, TokenIsCounted, TokensAreCounted}
+use Rattle.yaml_scan.specs.CountedMarks.{FaultIsCounted, AnswersAreCounted, AnswerIsCounted, AllAreCounted}
+use Rattle.yaml_scan.specs.CountedMarks.{SessionsAreCounted, ReachIsCounted}
 use Rattle.yaml_scan.proofs.AnswerOrder.{Fits, TokenFits, TokensFit, fit_course}
 use Rattle.yaml_scan.proofs.Columns.{completed_self, opens_self, opens_itself}
 use Rattle.yaml_scan.proofs.Courses.{course_is_history}

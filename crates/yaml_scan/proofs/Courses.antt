@@ -5,7 +5,8 @@ use Rattle.std.proofs.lemmas.Bool.{cases_Bool, cases_lt, cond_both, false≢true
 use Rattle.yaml_scan.specs.Lexeme.{Lexeme}
 use Rattle.yaml_scan.specs.Laid.{Laid}
 use Rattle.yaml_scan.specs.Levels.{laid}
-use Rattle.yaml_scan.specs.Offline.{Token, group, groups, offline, before, block_ends, inserted}
+use Rattle.yaml_scan.specs.Offline.{Token, group, groups, offline, block_ends, inserted}
+use Rattle.yaml_scan.specs.Settled.{before}
 use Rattle.yaml_scan.specs.Offline.Token.{OfLexeme}
 use Rattle.yaml_scan.specs.Order.{IsHistory, ended}
 use Rattle.yaml_scan.specs.Fault.{Fault}
@@ -14,11 +15,14 @@ use Rattle.yaml_scan.specs.Source.{Offence}
 use Rattle.yaml_scan.specs.Step.{Outcome, step}
 use Rattle.yaml_scan.specs.Step.Outcome.{Reads, Faults}
 use Rattle.yaml_scan.specs.Cut.{Cut, cut, cut_from, cut_on, oldest, IsRun, EndsWith, KeepsOrder}
-use Rattle.yaml_scan.specs.Answers.{Input, Course, next, unless_near, is_near, place_of, starts_near, course, course_from, tokens_of}
-use Rattle.yaml_scan.specs.Session.{Call, Session, new_session, next_token, is_last, after_scan, after_peek, after_skip, after, after_all}
+use Rattle.yaml_scan.specs.Answers.{Input, Course, next, course, course_from, tokens_of}
+use Rattle.yaml_scan.specs.Near.{unless_near, is_near, place_of, starts_near}
+use Rattle.yaml_scan.specs.Session.{Call, Session, new_session, next_token, is_last, after_scan, after_peek, after_skip}
+use Rattle.yaml_scan.specs.Session.{after, after_all}
 use Rattle.yaml_scan.specs.Session.Call.{SCAN, PEEK, SKIP}
 use Rattle.yaml_scan.specs.Laws.{StepsBeginCut, CutIsOnly}
-use Rattle.yaml_scan.specs.SessionLaws.{CourseIsHistory, EndsOrFaults, NearStepIsRefused, FarStepIsItself, CourseIsRun, FaultOfRefused, RefusedHasFault, AcceptedIsCut, FrontIsCut, NoneIsStuck}
+use Rattle.yaml_scan.specs.SessionLaws.{CourseIsHistory, EndsOrFaults, NearStepIsRefused, FarStepIsItself, CourseIsRun}
+use Rattle.yaml_scan.specs.SessionLaws.{FaultOfRefused, RefusedHasFault, AcceptedIsCut, FrontIsCut, NoneIsStuck}
 use Rattle.yaml_scan.specs.SessionLaws.FaultOfRefused.{at_once, near, far}
 use Rattle.yaml_scan.proofs.Cuts.{IsOrderly, orderly, IsHistory-from_run, cut_of, cut_is_longest}
 use Rattle.yaml_scan.proofs.Extend.{before-before}

@@ -5,11 +5,14 @@ use Rattle.std.proofs.lemmas.Bool.{cases_Bool}
 use Rattle.yaml_text.specs.declared.types.yaml_mark_t.{yaml_mark_t}
 use Rattle.yaml_scan.specs.Kind.{Kind, is_stream_end}
 use Rattle.yaml_scan.specs.Lexeme.{Lexeme}
-use Rattle.yaml_scan.specs.Laid.{Laid, reach, depth, allowed_behind}
+use Rattle.yaml_scan.specs.Laid.{Laid, reach}
+use Rattle.yaml_scan.specs.Depth.{depth}
+use Rattle.yaml_scan.specs.Allowed.{allowed_behind}
 use Rattle.yaml_scan.specs.Levels.{laid, level}
 use Rattle.yaml_scan.specs.Order.{Follows, ended, IsHistory}
 use Rattle.yaml_scan.specs.Source.{Source, Reading, Offence}
-use Rattle.yaml_scan.specs.Step.{Outcome, place_behind, step, kind_step, read_step, after_read, unless, refuse, stale, refused, clears, start_at, lexeme_of, front_of}
+use Rattle.yaml_scan.specs.Step.{Outcome, place_behind, step, kind_step, read_step, after_read, unless, refuse, stale}
+use Rattle.yaml_scan.specs.Step.{refused, clears, start_at, lexeme_of, front_of}
 use Rattle.yaml_scan.specs.Laws.{CutIsLongest, CutIsHistory, CutIsShort}
 use Rattle.yaml_scan.specs.Step.Outcome.{Reads, Faults}
 use Rattle.yaml_scan.specs.Cut.{SaysKind, Cut, cut, cut_from, cut_on, IsRun, EndsWith, KeepsOrder}

@@ -4,7 +4,8 @@ use Rattle.std.specs.Prelude.{◌≢◌, slice_get, is_some}
 use Rattle.std.proofs.lemmas.Bool.{cases_Bool, cases_eq, cases_lt, false≢true, and_parts, and_from}
 use Rattle.yaml_text.specs.declared.types.yaml_mark_t.{yaml_mark_t}
 use Rattle.yaml_scan.specs.Kind.{Kind, is_flow_start, is_flow_end}
-use Rattle.yaml_scan.specs.Slots.{Held, is_live, still_held, empty_slots, lowest, AreEmptyBelow, AreNested, nested_outer}
+use Rattle.yaml_scan.specs.inside.Slots.{Held, is_live, still_held, empty_slots, lowest, AreEmptyBelow, AreNested}
+use Rattle.yaml_scan.specs.inside.Slots.{nested_outer}
 
 none_some : {X : Type 0} (h : Held) → Some None ≡ Some (Some h) → X
 none_some h e = cc

@@ -2,8 +2,10 @@
 use Rattle.std.proofs.Common.{◌≡◌, ℕ, ◌≤◌, Bool, true, List, [], ◌∷◌, ◌++◌, length, length-append, filter, Option, Some, None, refl, ap, sym, ◌∙◌, subst, arith, eq-eqb, eqb-true, inl, inr}
 use Rattle.std.specs.Prelude.{option_map}
 use Rattle.std.proofs.lemmas.Bool.{and_parts, and_from, false≢true}
-use Rattle.yaml_scan.specs.Offline.{groups, block_ends, offline, is_current, waiting, before, up_to}
-use Rattle.yaml_scan.specs.Laid.{Laid, candidate, live, reach, names}
+use Rattle.yaml_scan.specs.Offline.{groups, block_ends, offline}
+use Rattle.yaml_scan.specs.Settled.{is_current, waiting, before, up_to}
+use Rattle.yaml_scan.specs.Laid.{Laid, reach, names}
+use Rattle.yaml_scan.specs.Keys.{candidate, live}
 use Rattle.yaml_scan.specs.Order.{IsHistory}
 use Rattle.yaml_scan.proofs.Candidates.{candidate-is}
 use Rattle.yaml_scan.proofs.Histories.{to_start, to_reach, IsHistory-older, number_at, live_earlier, IsNotBefore-trans}

@@ -4,8 +4,11 @@ use Rattle.std.specs.Prelude.{if◌then◌else◌, nat_eq}
 use Rattle.std.proofs.lemmas.Bool.{cases_Bool, and_parts, false≢true, leb-true, le-leb, lt-ltb, or_right}
 use Rattle.yaml_scan.specs.Kind.{is_value, closes_all}
 use Rattle.yaml_scan.specs.Lexeme.{Lexeme}
-use Rattle.yaml_scan.specs.Levels.{AllLess, IsFalling, is_opener, is_above, keeps, open_columns, kept_columns, level, greatest_level, greater_of}
-use Rattle.yaml_scan.specs.Laid.{Laid, column, depth, is_candidate}
+use Rattle.yaml_scan.specs.Levels.{AllLess, IsFalling, is_opener, is_above, keeps, open_columns, kept_columns, level}
+use Rattle.yaml_scan.specs.Levels.{greatest_level, greater_of}
+use Rattle.yaml_scan.specs.Laid.{Laid, column}
+use Rattle.yaml_scan.specs.Depth.{depth}
+use Rattle.yaml_scan.specs.Keys.{is_candidate}
 use Rattle.yaml_scan.specs.Order.{IsHistory}
 use Rattle.yaml_scan.proofs.KindTests.{value_not_candidate, value_not_closer}
 use Rattle.yaml_scan.proofs.Candidates.{candidate_split, IsSaved, IsKept, AllKept}

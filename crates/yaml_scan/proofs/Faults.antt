@@ -8,7 +8,8 @@ use Rattle.yaml_scan.specs.Fault.{Fault, memory_fault}
 use Rattle.yaml_scan.specs.Offline.{Token}
 use Rattle.yaml_scan.specs.Answers.{Course, course}
 use Rattle.yaml_scan.specs.Inputs.{decoded_input}
-use Rattle.yaml_scan.specs.Session.{Session, Call, session, after_all, answer, after, next_token, finished, why, scan_answer, peek_answer, after_scan, after_peek, after_skip}
+use Rattle.yaml_scan.specs.Session.{Session, Call, session, after_all, answer, after, next_token, finished, why}
+use Rattle.yaml_scan.specs.Session.{scan_answer, peek_answer, after_scan, after_peek, after_skip}
 use Rattle.yaml_scan.specs.Session.Call.{SCAN, PEEK, SKIP}
 use Rattle.yaml_scan.specs.Session.Answer.{TOKEN, PEEKED, SKIPPED, NOTHING}
 use Rattle.yaml_scan.specs.Parser.{course_read, input_read}

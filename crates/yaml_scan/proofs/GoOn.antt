@@ -4,13 +4,20 @@ use Rattle.std.specs.Prelude.{if◌then◌else◌, option_map, nat_eq}
 use Rattle.std.proofs.lemmas.Bool.{cases_Bool, false≢true}
 use Rattle.std.proofs.lemmas.List.{take_at, drop_at}
 use Rattle.yaml_scan.specs.Kind.{is_flow_start, is_flow_end}
-use Rattle.yaml_scan.specs.Laid.{Laid, depth, allowed, candidate, is_candidate, enters, completed_by}
+use Rattle.yaml_scan.specs.Laid.{Laid}
+use Rattle.yaml_scan.specs.Depth.{depth}
+use Rattle.yaml_scan.specs.Allowed.{allowed}
+use Rattle.yaml_scan.specs.Keys.{candidate, is_candidate, enters, completed_by}
 use Rattle.yaml_scan.specs.Levels.{open_columns, kept_columns, level, greatest_level, keeps, IsFalling}
-use Rattle.yaml_scan.specs.Offline.{Token, group, groups, offline, up_to, block_ends}
+use Rattle.yaml_scan.specs.Offline.{Token, group, groups, offline, block_ends}
+use Rattle.yaml_scan.specs.Settled.{up_to}
 use Rattle.yaml_scan.specs.Offline.Token.{OfLexeme}
 use Rattle.yaml_scan.specs.Order.{IsHistory, ended}
-use Rattle.yaml_scan.specs.Queue.{put_in}
-use Rattle.yaml_scan.specs.Laws.{DepthGoesOn, CandidatesGoOn, CandidatesAreNested, AllowedGoesOn, new_column, ColumnsGoOn, ColumnsFall, first_of, LevelIsFirst, LevelStays, key_tokens, with_key, OfflineGoesOn, CandidateStandsThere, NeverRevised, FewWait, FewWaitOneStepOn, AllIsHandedOut, LexemesComeInOrder, EndsNeverOutnumber, AsManyEnds}
+use Rattle.yaml_scan.specs.inside.Queue.{put_in}
+use Rattle.yaml_scan.specs.Laws.{DepthGoesOn, CandidatesGoOn, CandidatesAreNested, AllowedGoesOn, new_column}
+use Rattle.yaml_scan.specs.Laws.{ColumnsGoOn, ColumnsFall, first_of, LevelIsFirst, LevelStays, key_tokens, with_key}
+use Rattle.yaml_scan.specs.Laws.{OfflineGoesOn, CandidateStandsThere, NeverRevised, FewWait, FewWaitOneStepOn}
+use Rattle.yaml_scan.specs.Laws.{AllIsHandedOut, LexemesComeInOrder, EndsNeverOutnumber, AsManyEnds}
 use Rattle.yaml_scan.proofs.KindTests.{flow_kinds, end_no_start, end_no_end}
 use Rattle.yaml_scan.proofs.DepthMore.{depth-start, depth-end, depth-same}
 use Rattle.yaml_scan.proofs.Candidates.{candidate-entered, candidate-other, candidate-saved, candidate-kept, candidate-cleared, candidate_split}

@@ -2,9 +2,11 @@
 use Rattle.std.proofs.Common.{◌≡◌, ℕ, ◌≤◌, Bool, true, false, List, ◌∷◌, Option, Some, None, refl, ap, sym, ◌∙◌, arith, eqb, inl, inr}
 use Rattle.std.specs.Prelude.{if◌then◌else◌, option_map}
 use Rattle.std.proofs.lemmas.Bool.{cases_Bool, cases_eq}
-use Rattle.yaml_scan.specs.Laid.{Laid, candidate, depth, live, reach, only_live, is_candidate, enters}
+use Rattle.yaml_scan.specs.Laid.{Laid, reach}
+use Rattle.yaml_scan.specs.Keys.{candidate, live, only_live, is_candidate, enters}
+use Rattle.yaml_scan.specs.Depth.{depth}
 use Rattle.yaml_scan.specs.Order.{IsHistory}
-use Rattle.yaml_scan.specs.Slots.{held, held_of, still_held}
+use Rattle.yaml_scan.specs.inside.Slots.{held, held_of, still_held}
 use Rattle.yaml_scan.proofs.Candidates.{candidate-entered, candidate-other, candidate-saved, candidate-kept, candidate-cleared, candidate_split}
 use Rattle.yaml_scan.proofs.Histories.{to_start, to_reach, completed_is, live_earlier, IsNotBefore-trans}
 use Rattle.yaml_scan.proofs.Stable.{start_in}

@@ -4,9 +4,11 @@ use Rattle.std.specs.Prelude.{◌⊎◌, slice_get, option_map}
 use Rattle.std.proofs.lemmas.Bool.{cases_Bool, cases_eq, and_parts}
 use Rattle.std.proofs.lemmas.Option.{slice_get_within}
 use Rattle.yaml_text.specs.declared.types.yaml_mark_t.{yaml_mark_t}
-use Rattle.yaml_scan.specs.Laid.{Laid, candidate, depth, live, reach, only_live}
-use Rattle.yaml_scan.specs.Slots.{Held, held, held_of, outer_to, lowest, AreNested}
-use Rattle.yaml_scan.specs.Offline.{up_to}
+use Rattle.yaml_scan.specs.Laid.{Laid, reach}
+use Rattle.yaml_scan.specs.Keys.{candidate, live, only_live}
+use Rattle.yaml_scan.specs.Depth.{depth}
+use Rattle.yaml_scan.specs.inside.Slots.{Held, held, held_of, outer_to, lowest, AreNested}
+use Rattle.yaml_scan.specs.Settled.{up_to}
 use Rattle.yaml_scan.specs.Order.{IsHistory, IsNotBefore}
 use Rattle.yaml_scan.proofs.Candidates.{candidate_split}
 use Rattle.yaml_scan.proofs.Histories.{IsHistory-older, IsNotBefore-trans, to_start}

@@ -5,7 +5,10 @@ use Rattle.std.proofs.lemmas.Bool.{cases_Bool, and_parts, and_from}
 use Rattle.yaml_scan.specs.Kind.{is_value, is_stream_end}
 use Rattle.yaml_scan.specs.Lexeme.{Lexeme}
 use Rattle.yaml_text.specs.declared.types.yaml_mark_t.{yaml_mark_t}
-use Rattle.yaml_scan.specs.Laid.{Laid, candidate, depth, allowed, completed_by, only_live, live, reach}
+use Rattle.yaml_scan.specs.Laid.{Laid, reach}
+use Rattle.yaml_scan.specs.Keys.{candidate, completed_by, only_live, live}
+use Rattle.yaml_scan.specs.Depth.{depth}
+use Rattle.yaml_scan.specs.Allowed.{allowed}
 use Rattle.yaml_scan.specs.Levels.{laid, level, open_columns, keeps}
 use Rattle.yaml_scan.specs.Order.{IsNotBefore, Follows, IsHistory}
 use Rattle.yaml_scan.proofs.Candidates.{none_is_not, some_is}

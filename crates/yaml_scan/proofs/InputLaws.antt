@@ -12,7 +12,8 @@ use Rattle.yaml_scan.specs.Begins.{Begins}
 use Rattle.yaml_scan.specs.SourceOf.{source_of}
 use Rattle.yaml_scan.specs.Answers.{Input, course, answers, tokens_of}
 use Rattle.yaml_scan.specs.Locality.{SameBelow, AgreesWith}
-use Rattle.yaml_scan.specs.Inputs.{decoded_input, answers_to, InputsKeepOrder, AllStandInOrder, AllEndFewer, AllEndAll, AllFollowKeys, GoesOn, LateFaults}
+use Rattle.yaml_scan.specs.Inputs.{decoded_input, answers_to, InputsKeepOrder, AllStandInOrder, AllEndFewer, AllEndAll}
+use Rattle.yaml_scan.specs.Inputs.{AllFollowKeys, GoesOn, LateFaults}
 use Rattle.yaml_scan.proofs.SourceOrder.{texts_keep_order}
 use Rattle.yaml_scan.proofs.SourceLocal.{texts_are_local}
 use Rattle.yaml_scan.proofs.AnswerOrder.{answers_stand_in_order, answers_end_fewer, answers_end_all, answers_follow_keys}

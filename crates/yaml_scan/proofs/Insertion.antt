@@ -2,10 +2,13 @@
 use Rattle.std.proofs.Common.{◌≡◌, ℕ, ◌≤◌, ◌<◌, ◌&&◌, Bool, true, false, List, [], ◌∷◌, ◌++◌, length, length-append, Option, Some, None, refl, ap, sym, ◌∙◌, subst, arith, eqb, eq-eqb, ne_eqb, eqb-true, inl, inr, append_assoc, append-nil}
 use Rattle.std.specs.Prelude.{nat_eq}
 use Rattle.std.proofs.lemmas.Bool.{false≢true, or_from}
-use Rattle.yaml_scan.specs.Offline.{Token, inserted, group, groups, block_ends, block_start, offline, up_to}
+use Rattle.yaml_scan.specs.Offline.{Token, inserted, group, groups, block_ends, block_start, offline}
+use Rattle.yaml_scan.specs.Settled.{up_to}
 use Rattle.yaml_scan.specs.Offline.Token.{BlockMappingStart, OfLexeme}
 use Rattle.yaml_scan.specs.Laws.{key_tokens}
-use Rattle.yaml_scan.specs.Laid.{is_none, Laid, column, candidate, depth, names, is_candidate}
+use Rattle.yaml_scan.specs.Laid.{is_none, Laid, column, names}
+use Rattle.yaml_scan.specs.Keys.{candidate, is_candidate}
+use Rattle.yaml_scan.specs.Depth.{depth}
 use Rattle.yaml_scan.specs.Order.{IsHistory}
 use Rattle.yaml_scan.specs.Levels.{is_opener, is_above, is_completed, opens}
 use Rattle.yaml_scan.proofs.KindTests.{value_not_candidate, candidate_opens_nothing, candidate_not_entry}

@@ -6,12 +6,12 @@ use Rattle.yaml_scan.specs.declared.step.scanner_t.{scanner_t}
 use Rattle.yaml_scan.specs.Token.{yaml_token_t}
 use Rattle.yaml_scan.specs.Laid.{Laid, reach}
 use Rattle.yaml_scan.specs.Order.{IsHistory}
-use Rattle.yaml_scan.specs.Offline.{before, queued}
+use Rattle.yaml_scan.specs.Settled.{before, queued}
 use Rattle.yaml_scan.specs.Answers.{Course}
-use Rattle.yaml_scan.specs.Session.{pace, first_steps}
+use Rattle.yaml_scan.specs.Settled.{pace, first_steps}
 use Rattle.yaml_scan.specs.Inputs.{decoded_input}
-use Rattle.yaml_scan.specs.Scanning.{history}
-use Rattle.yaml_scan.specs.Ready.{IsIn, IsReady, IsSettled, IsStopped, Pops, course_in}
+use Rattle.yaml_scan.specs.inside.Scanning.{history}
+use Rattle.yaml_scan.specs.inside.Ready.{IsIn, IsReady, IsSettled, IsStopped, Pops, course_in}
 use Rattle.yaml_scan.proofs.Courses.{course_is_history}
 use Rattle.yaml_scan.proofs.InputLaws.{inputs_keep_order}
 use Rattle.yaml_scan.proofs.Pacing.{at_most}

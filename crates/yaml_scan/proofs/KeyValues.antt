@@ -5,9 +5,12 @@ use Rattle.std.specs.List.{list_any}
 use Rattle.std.proofs.lemmas.Bool.{cases_Bool, cases_lt, and_from, and_parts, or_left, or_right, false≢true}
 use Rattle.yaml_scan.specs.Kind.{is_block_entry}
 use Rattle.yaml_scan.specs.Lexeme.{Lexeme}
-use Rattle.yaml_scan.specs.Laid.{Laid, column, candidate, depth, live, reach}
+use Rattle.yaml_scan.specs.Laid.{Laid, column, reach}
+use Rattle.yaml_scan.specs.Keys.{candidate, live}
+use Rattle.yaml_scan.specs.Depth.{depth}
 use Rattle.yaml_scan.specs.Levels.{opens, is_completed, is_above}
-use Rattle.yaml_scan.specs.Offline.{Token, block_ends, end_mark, inserted, group, groups, offline, before, waiting, is_current}
+use Rattle.yaml_scan.specs.Offline.{Token, block_ends, end_mark, inserted, group, groups, offline}
+use Rattle.yaml_scan.specs.Settled.{before, waiting, is_current}
 use Rattle.yaml_scan.specs.Offline.Token.{StreamStart, BlockEnd, BlockSequenceStart, BlockMappingStart, InsertedKey, OfLexeme}
 use Rattle.yaml_scan.specs.Order.{IsHistory}
 use Rattle.yaml_scan.specs.Laws.{key_tokens}

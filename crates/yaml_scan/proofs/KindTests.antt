@@ -1,6 +1,7 @@
 -- What the tests of kinds have to do with one another.
 use Rattle.std.proofs.Common.{◌≡◌, Bool, true, false, arith}
-use Rattle.yaml_scan.specs.Kind.{Kind, is_key, is_value, is_stream_end, is_block_entry, is_candidate_kind, is_flow_start, is_flow_end, closes_all}
+use Rattle.yaml_scan.specs.Kind.{Kind, is_key, is_value, is_stream_end, is_block_entry, is_candidate_kind}
+use Rattle.yaml_scan.specs.Kind.{is_flow_start, is_flow_end, closes_all}
 use Rattle.yaml_scan.specs.Levels.{opens_level}
 
 pub value_not_candidate : (k : Kind) → is_value k ≡ true → is_candidate_kind k ≡ false

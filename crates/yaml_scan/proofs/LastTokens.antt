@@ -7,11 +7,13 @@ use Rattle.yaml_scan.specs.Lexeme.{Lexeme}
 use Rattle.yaml_scan.specs.Laid.{Laid}
 use Rattle.yaml_scan.specs.Levels.{opens, is_completed}
 use Rattle.yaml_scan.specs.Order.{ended, IsHistory}
-use Rattle.yaml_scan.specs.Offline.{Token, before, offline, groups, group, block_ends, inserted, end_mark}
+use Rattle.yaml_scan.specs.Offline.{Token, offline, groups, group, block_ends, inserted, end_mark}
+use Rattle.yaml_scan.specs.Settled.{before}
 use Rattle.yaml_scan.specs.Offline.Token.{BlockEnd, BlockSequenceStart, BlockMappingStart, InsertedKey, OfLexeme}
 use Rattle.yaml_scan.specs.Source.{Offence}
 use Rattle.yaml_scan.specs.Cut.{EndsWith, KeepsOrder}
-use Rattle.yaml_scan.specs.Answers.{Input, course, course_from, tokens_of, starts_near, next}
+use Rattle.yaml_scan.specs.Answers.{Input, course, course_from, tokens_of, next}
+use Rattle.yaml_scan.specs.Near.{starts_near}
 use Rattle.yaml_scan.specs.Session.{is_last}
 use Rattle.yaml_scan.proofs.Extend.{before-offline}
 use Rattle.yaml_scan.proofs.GoOn.{all_is_handed_out}

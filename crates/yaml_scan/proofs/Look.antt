@@ -4,8 +4,11 @@ use Rattle.std.specs.Prelude.{if◌then◌else◌, option_map}
 use Rattle.std.proofs.lemmas.Bool.{cases_Bool}
 use Rattle.yaml_scan.specs.Kind.{Kind, is_value}
 use Rattle.yaml_text.specs.declared.types.yaml_mark_t.{yaml_mark_t}
-use Rattle.yaml_scan.specs.Slots.{Held, held, held_of, still_held, lost_held, needed, outer_to, root_of, completed_held}
-use Rattle.yaml_scan.specs.Laid.{Laid, candidate, depth, live, reach, only_live, completed_by}
+use Rattle.yaml_scan.specs.inside.Slots.{Held, held, held_of, still_held, lost_held, needed, outer_to, root_of}
+use Rattle.yaml_scan.specs.inside.Slots.{completed_held}
+use Rattle.yaml_scan.specs.Laid.{Laid, reach}
+use Rattle.yaml_scan.specs.Keys.{candidate, live, only_live, completed_by}
+use Rattle.yaml_scan.specs.Depth.{depth}
 use Rattle.yaml_scan.specs.Order.{IsHistory, IsNotBefore}
 use Rattle.yaml_scan.specs.Levels.{is_required}
 use Rattle.yaml_scan.specs.Step.{Outcome, unless, stale, required, only_stale, only_required, lost}

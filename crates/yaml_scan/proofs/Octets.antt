@@ -15,9 +15,9 @@ use Rattle.yaml_text.proofs.Spelling.{two, three, four, char_range}
 use Rattle.yaml_text.proofs.Places.{AreChars-parts}
 use Rattle.yaml_lexeme.specs.Place.{skip, skip_from, mark_behind, ends_line, width}
 use Rattle.yaml_scan.specs.SourceOf.{source_of}
-use Rattle.yaml_scan.specs.Answers.{is_near}
-use Rattle.yaml_scan.specs.Near.{starts}
-use Rattle.yaml_scan.specs.Scanning.{IsNearFrom}
+use Rattle.yaml_scan.specs.Near.{is_near}
+use Rattle.yaml_scan.specs.inside.NearFault.{starts}
+use Rattle.yaml_scan.specs.inside.Scanning.{IsNearFrom}
 
 lead : (b : ℕ) → (b < 128) ⊎ (192 ≤ b) → continues b ≡ false
 lead b (inl l) = grind (arith, nat_tests)

@@ -5,22 +5,29 @@ use Rattle.std.proofs.lemmas.Bool.{cases_Bool, cases_eq}
 use Rattle.std.proofs.lemmas.List.{take_at, map-append, drop-append-le}
 use Rattle.yaml_scan.specs.Kind.{Kind, is_block_entry, is_candidate_kind, is_flow_start, is_flow_end}
 use Rattle.yaml_text.specs.declared.types.yaml_mark_t.{yaml_mark_t}
-use Rattle.yaml_scan.specs.Slots.{Held, held, held_of, still_held, outer_to, slot_behind, nested_outer, nested_top, or_top, is_margin_level}
+use Rattle.yaml_scan.specs.inside.Slots.{Held, held, held_of, still_held, outer_to, slot_behind, nested_outer}
+use Rattle.yaml_scan.specs.inside.Slots.{nested_top, or_top, is_margin_level}
 use Rattle.yaml_scan.specs.Token.{yaml_token_t}
 use Rattle.yaml_scan.specs.Lexeme.{Lexeme}
-use Rattle.yaml_scan.specs.Offline.{Token, end_at, start_token, block_ends, group, inserted, offline, before, up_to}
+use Rattle.yaml_scan.specs.Offline.{Token, end_at, start_token, block_ends, group, inserted, offline}
+use Rattle.yaml_scan.specs.Settled.{before, up_to}
 use Rattle.yaml_scan.specs.Offline.Token.{BlockEnd, BlockSequenceStart, BlockMappingStart, InsertedKey, OfLexeme}
-use Rattle.yaml_scan.specs.Laid.{Laid, depth, live, reach, completed_by, is_none, allowed, allowed_behind, allows, column, is_candidate, enters}
-use Rattle.yaml_scan.specs.Levels.{laid, is_required, stays, open_columns, kept_columns, level, greatest_level, is_above, opens_level}
+use Rattle.yaml_scan.specs.Laid.{Laid, reach, is_none, column}
+use Rattle.yaml_scan.specs.Depth.{depth}
+use Rattle.yaml_scan.specs.Keys.{live, completed_by, is_candidate, enters}
+use Rattle.yaml_scan.specs.Allowed.{allowed, allowed_behind, allows}
+use Rattle.yaml_scan.specs.Levels.{laid, is_required, stays, open_columns, kept_columns, level, greatest_level}
+use Rattle.yaml_scan.specs.Levels.{is_above, opens_level}
 use Rattle.yaml_scan.specs.Order.{IsHistory}
 use Rattle.yaml_text.specs.declared.types.yaml_encoding_t.{yaml_encoding_t}
 use Rattle.yaml_scan.specs.declared.queue.block_t.{block_t}
 use Rattle.yaml_scan.specs.declared.queue.block_t.TheVariants.{NONE, SEQUENCE, MAPPING}
 use Rattle.yaml_scan.specs.declared.queue.group_t.{group_t}
 use Rattle.yaml_text.specs.Token.{token_of}
-use Rattle.yaml_scan.specs.Queue.{is_new, key_at, opened}
+use Rattle.yaml_scan.specs.inside.Queue.{is_new, key_at, opened}
 use Rattle.yaml_scan.specs.Laws.{key_tokens}
-use Rattle.yaml_scan.specs.Groups.{IsQueue, Fitting, ends_at, start_at, start_of, leads, keyed_at, completed_in, opened_by}
+use Rattle.yaml_scan.specs.inside.Groups.{IsQueue, Fitting, ends_at, start_at, start_of, leads, keyed_at, completed_in}
+use Rattle.yaml_scan.specs.inside.Groups.{opened_by}
 use Rattle.yaml_scan.proofs.Queues.{put_behind}
 use Rattle.yaml_scan.proofs.Standing.{Stands, stands, count, taken_count, key_put}
 use Rattle.yaml_scan.proofs.Histories.{to_start, laid_completed, completion_is, IsCompletion, live_earlier}

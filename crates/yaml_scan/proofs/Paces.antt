@@ -5,12 +5,14 @@ use Rattle.yaml_text.specs.Fault.{Fault}
 use Rattle.yaml_scan.specs.declared.step.scanner_t.{scanner_t}
 use Rattle.yaml_scan.specs.Laid.{Laid, reach}
 use Rattle.yaml_scan.specs.Order.{ended}
-use Rattle.yaml_scan.specs.Offline.{before, offline}
+use Rattle.yaml_scan.specs.Settled.{before}
+use Rattle.yaml_scan.specs.Offline.{offline}
 use Rattle.yaml_scan.specs.Step.{Outcome}
 use Rattle.yaml_scan.specs.Cut.{oldest, IsRun}
 use Rattle.yaml_scan.specs.Answers.{Course, next}
-use Rattle.yaml_scan.specs.Session.{steps_for, pace}
-use Rattle.yaml_scan.specs.Scanning.{Runs, Steps, IsLast, Stays, Same, IsOpen, Fails, Stops, history, course_of, input_of}
+use Rattle.yaml_scan.specs.Settled.{steps_for, pace}
+use Rattle.yaml_scan.specs.inside.Scanning.{Runs, Steps, IsLast, Stays, Same, IsOpen, Fails, Stops, history, course_of}
+use Rattle.yaml_scan.specs.inside.Scanning.{input_of}
 use Rattle.yaml_scan.proofs.GoOn.{all_is_handed_out}
 use Rattle.yaml_scan.proofs.Next.{oldest_all, oldest_tail}
 use Rattle.yaml_scan.proofs.Pacing.{enough, needs_more}

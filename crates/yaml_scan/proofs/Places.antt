@@ -19,7 +19,7 @@ use Rattle.yaml_scan.proofs.Octets.{short}
 use Rattle.yaml_lexeme.proofs.Orders.{gap_order}
 use Rattle.yaml_scan.specs.Kind.{Kind}
 use Rattle.yaml_scan.specs.SourceOf.{source_of, count_to, reading, reading_of}
-use Rattle.yaml_scan.specs.TextReads.{IsRead, IsOffence}
+use Rattle.yaml_scan.specs.inside.TextReads.{IsRead, IsOffence}
 
 -- a place further on is the place after so many characters
 pub record IsPlaceOf (cs : List ℕ) (p : ℕ) (q : Place) : Type 0 where

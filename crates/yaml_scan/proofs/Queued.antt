@@ -3,11 +3,14 @@ use Rattle.std.proofs.Common.{◌≡◌, ℕ, ◌-◌, ◌≤◌, ◌<◌, true,
 use Rattle.std.specs.Prelude.{◌≢◌, option_map}
 use Rattle.std.proofs.lemmas.Bool.{cases_lt, and_parts, and_from}
 use Rattle.std.proofs.lemmas.List.{drop-append-le, take_at, drop_at}
-use Rattle.yaml_scan.specs.Offline.{Token, group, block_ends, offline, waiting, before, up_to, is_current}
+use Rattle.yaml_scan.specs.Offline.{Token, group, block_ends, offline}
+use Rattle.yaml_scan.specs.Settled.{waiting, before, up_to, is_current}
 use Rattle.yaml_scan.specs.Offline.Token.{OfLexeme}
-use Rattle.yaml_scan.specs.Queue.{put_in}
+use Rattle.yaml_scan.specs.inside.Queue.{put_in}
 use Rattle.yaml_scan.specs.Laws.{key_tokens}
-use Rattle.yaml_scan.specs.Laid.{Laid, candidate, depth, live, reach, names}
+use Rattle.yaml_scan.specs.Laid.{Laid, reach, names}
+use Rattle.yaml_scan.specs.Keys.{candidate, live}
+use Rattle.yaml_scan.specs.Depth.{depth}
 use Rattle.yaml_scan.specs.Order.{IsHistory}
 use Rattle.yaml_scan.proofs.Candidates.{candidate_split}
 use Rattle.yaml_scan.proofs.Histories.{IsHistory-older}

@@ -13,7 +13,8 @@ use Rattle.yaml_scan.specs.Token.{yaml_token_t}
 use Rattle.yaml_scan.specs.Offline.{Token, handed_out}
 use Rattle.yaml_scan.specs.Offline.Token.{InsertedKey}
 use Rattle.yaml_scan.specs.Laws.{is_of_lexeme}
-use Rattle.yaml_scan.specs.Groups.{IsQueue, IsLead, Takes, DropsLead, ends_at, start_at, leads, early_before, pending, begins_with_end, keyed, keyed_at}
+use Rattle.yaml_scan.specs.inside.Groups.{IsQueue, IsLead, Takes, DropsLead, ends_at, start_at, leads, early_before}
+use Rattle.yaml_scan.specs.inside.Groups.{pending, begins_with_end, keyed, keyed_at}
 
 -- WHAT IS NEXT
 some_more : (n : ℕ) → nat_lt 0 (suc n) ≡ true

@@ -12,13 +12,15 @@ use Rattle.yaml_scan.specs.Offline.{Token, handed_out}
 use Rattle.yaml_scan.specs.Cut.{KeepsOrder}
 use Rattle.yaml_scan.specs.Answers.{Input, Course, Answers, course, tokens_of, answers}
 use Rattle.yaml_scan.specs.Inputs.{decoded_input, answers_to}
-use Rattle.yaml_scan.specs.Session.{Session, Call, Answer, new_session, session, after_all, after, next_token, is_last, took, paced, finished, why, scan_answer, after_scan}
+use Rattle.yaml_scan.specs.Session.{Session, Call, Answer, new_session, session, after_all, after, next_token, is_last}
+use Rattle.yaml_scan.specs.Session.{took, paced, finished, why, scan_answer, after_scan}
 use Rattle.yaml_scan.specs.Session.Call.{SCAN, SKIP}
 use Rattle.yaml_scan.specs.Session.Answer.{TOKEN, FAULT}
 use Rattle.yaml_scan.specs.Parser.{Parser, WantsMemory, Scans, told, answered, behind, course_read, input_read}
 use Rattle.yaml_scan.specs.Calls.{Seen, seen, seen_of, answered_all, idle, Runs, RunsOut, PutsAnswers}
 use Rattle.yaml_scan.specs.Calls.{Seen as sight}
-use Rattle.yaml_scan.specs.ReadingOn.{scans, fault_told, all_told, left_to, AllIsTold, RestIsTold, ReadsOn, ScansInTurn, ScansReadOn}
+use Rattle.yaml_scan.specs.ReadingOn.{scans, fault_told, all_told, left_to, AllIsTold, RestIsTold, ReadsOn, ScansInTurn}
+use Rattle.yaml_scan.specs.ReadingOn.{ScansReadOn}
 use Rattle.yaml_scan.proofs.InputLaws.{inputs_keep_order}
 use Rattle.yaml_scan.proofs.LastTokens.{stream_end_is_last}
 

@@ -12,13 +12,17 @@ use Rattle.yaml_scan.specs.Kind.{Kind}
 use Rattle.yaml_scan.specs.Fault.{no_token, in_next_token}
 use Rattle.yaml_scan.specs.Source.{Source, Offence}
 use Rattle.yaml_scan.specs.SourceOf.{source_of}
-use Rattle.yaml_scan.specs.Slots.{Held, held, held_of, lost_held, needed, root_of, completed_held}
-use Rattle.yaml_scan.specs.Laid.{Laid, depth, reach, only_live, completed_by, is_none, allowed, allowed_behind}
+use Rattle.yaml_scan.specs.inside.Slots.{Held, held, held_of, lost_held, needed, root_of, completed_held}
+use Rattle.yaml_scan.specs.Laid.{Laid, reach, is_none}
+use Rattle.yaml_scan.specs.Depth.{depth}
+use Rattle.yaml_scan.specs.Keys.{only_live, completed_by}
+use Rattle.yaml_scan.specs.Allowed.{allowed, allowed_behind}
 use Rattle.yaml_scan.specs.Order.{IsNotBefore, ended}
-use Rattle.yaml_scan.specs.Step.{Outcome, step, kind_step, read_step, unless, refuse, stale, required, refused, clears, lost, no_kind, not_allowed, problem_of, replaces, start_at, front_of, place_behind}
+use Rattle.yaml_scan.specs.Step.{Outcome, step, kind_step, read_step, unless, refuse, stale, required, refused, clears}
+use Rattle.yaml_scan.specs.Step.{lost, no_kind, not_allowed, problem_of, replaces, start_at, front_of, place_behind}
 use Rattle.yaml_scan.specs.Step.Outcome.{Faults}
-use Rattle.yaml_scan.specs.Moves.{IsLost, IsRefused}
-use Rattle.yaml_scan.specs.Scanning.{Holds, Offends}
+use Rattle.yaml_scan.specs.inside.Moves.{IsLost, IsRefused}
+use Rattle.yaml_scan.specs.inside.Scanning.{Holds, Offends}
 use Rattle.yaml_scan.proofs.Look.{completed_later, needed_later, lost_later, root_is, outer_length, kept_row, lost_row}
 use Rattle.yaml_scan.proofs.TextOrder.{text_order}
 

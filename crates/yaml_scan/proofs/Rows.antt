@@ -11,12 +11,16 @@ use Rattle.yaml_lexeme.specs.declared.kind.yaml_lexeme_kind_t.TheVariants.{STREA
 use Rattle.yaml_scan.specs.Token.{yaml_token_t, unnamed_yaml_token_t_data, zero_mark, at_mark, empty}
 use Rattle.yaml_scan.specs.Fault.{Fault, scanner_fault}
 use Rattle.yaml_scan.specs.Source.{Source, Reading, Offence}
-use Rattle.yaml_scan.specs.Laid.{depth, allowed, candidate, completed_by}
+use Rattle.yaml_scan.specs.Depth.{depth}
+use Rattle.yaml_scan.specs.Allowed.{allowed}
+use Rattle.yaml_scan.specs.Keys.{candidate, completed_by}
 use Rattle.yaml_scan.specs.Levels.{is_completed, opens, still_open, open_columns, kept_columns, level, laid}
-use Rattle.yaml_scan.specs.Offline.{block_ends, inserted, group, groups, offline, is_current, waiting, up_to, before, queued}
+use Rattle.yaml_scan.specs.Offline.{block_ends, inserted, group, groups, offline}
+use Rattle.yaml_scan.specs.Settled.{is_current, waiting, up_to, before, queued}
 use Rattle.yaml_scan.specs.Step.{required, stale, refused, clears, read_step, step, end_of}
 use Rattle.yaml_scan.specs.Answers.{Answers, next, course, answers}
-use Rattle.yaml_scan.specs.Session.{Call, Answer, new_session, steps_for, pace, session, after_all, session_queued, session_reach}
+use Rattle.yaml_scan.specs.Session.{Call, Answer, new_session, session, after_all, session_queued, session_reach}
+use Rattle.yaml_scan.specs.Settled.{steps_for, pace}
 use Rattle.yaml_scan.specs.Session.Call.{SCAN, PEEK, SKIP}
 use Rattle.yaml_scan.specs.Session.Answer.{TOKEN, PEEKED, SKIPPED, NOTHING, FAULT}
 

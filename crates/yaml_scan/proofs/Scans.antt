@@ -9,16 +9,21 @@ use Rattle.yaml_scan.specs.declared.step.scanner_t.{scanner_t}
 use Rattle.yaml_scan.specs.Token.{yaml_token_t, empty, is_last_type, type_of}
 use Rattle.yaml_scan.specs.Laid.{Laid, reach}
 use Rattle.yaml_scan.specs.Order.{ended}
-use Rattle.yaml_scan.specs.Offline.{Token, before, offline, groups, group, block_ends, inserted, handed_out}
+use Rattle.yaml_scan.specs.Offline.{Token, offline, groups, group, block_ends, inserted, handed_out}
+use Rattle.yaml_scan.specs.Settled.{before}
 use Rattle.yaml_scan.specs.Offline.Token.{StreamStart, BlockEnd, BlockSequenceStart, BlockMappingStart, InsertedKey, OfLexeme}
-use Rattle.yaml_scan.specs.Answers.{Input, Course, course, starts_near, tokens_of}
-use Rattle.yaml_scan.specs.Session.{Session, Call, Answer, pace, all_steps, first_steps, next_token, is_last, after, answer, took, paced, looked, finished, why, scan_answer, peek_answer, after_scan, after_peek, after_skip}
+use Rattle.yaml_scan.specs.Answers.{Input, Course, course, tokens_of}
+use Rattle.yaml_scan.specs.Near.{starts_near}
+use Rattle.yaml_scan.specs.Session.{Session, Call, Answer, all_steps, next_token, is_last, after, answer, took, paced}
+use Rattle.yaml_scan.specs.Session.{looked, finished, why, scan_answer, peek_answer, after_scan, after_peek, after_skip}
+use Rattle.yaml_scan.specs.Settled.{pace, first_steps}
 use Rattle.yaml_scan.specs.Session.Call.{SCAN, PEEK, SKIP}
 use Rattle.yaml_scan.specs.Session.Answer.{TOKEN, PEEKED, FAULT}
 use Rattle.yaml_scan.specs.Inputs.{decoded_input}
-use Rattle.yaml_scan.specs.Scanning.{IsOpen, history, course_of, input_of}
-use Rattle.yaml_scan.specs.Ready.{IsIn, IsShown, IsSettled, IsStopped, IsShort, IsEnded, Pops, course_in}
-use Rattle.yaml_scan.specs.Parser.{Parser, Calls, Scans, Shows, IsThere, IsRefusedEarly, WantsMemory, answered, behind, course_read, input_read, token_shown, token_or_empty}
+use Rattle.yaml_scan.specs.inside.Scanning.{IsOpen, history, course_of, input_of}
+use Rattle.yaml_scan.specs.inside.Ready.{IsIn, IsShown, IsSettled, IsStopped, IsShort, IsEnded, Pops, course_in}
+use Rattle.yaml_scan.specs.Parser.{Parser, Calls, Scans, Shows, IsThere, IsRefusedEarly, WantsMemory, answered, behind}
+use Rattle.yaml_scan.specs.Parser.{course_read, input_read, token_shown, token_or_empty}
 use Rattle.yaml_scan.proofs.AnswerOrder.{TokenFits, TokensFit, AllFit, course_fits, fit_before}
 use Rattle.yaml_scan.proofs.GoOn.{all_is_handed_out}
 use Rattle.yaml_scan.proofs.Paces.{enough_made}
@@ -162,7 +167,7 @@ unfolding pace
 shown_settled setting input s k =
     let e = enough_made s k.stands.runs k.settled in
     let c = course_is setting input s k.stands.reads in
-    let d = ap (λ (x : Course). Rattle.yaml_scan.specs.Session.steps_for s.limit x.read s.taken) c in
+    let d = ap (λ (x : Course). Rattle.yaml_scan.specs.Settled.steps_for s.limit x.read s.taken) c in
     record { stands = k.stands; still_open = k.still_open; settled = k.settled; made = omega arith; limit = refl; taken = refl; done = refl }
 
 tokens_begun : (limit : ℕ) (c : Course) → c.begun ≡ true → tokens_of limit c ≡ before limit c.read

@@ -2,9 +2,12 @@
 use Rattle.std.proofs.Common.{◌≡◌, ℕ, ◌+◌, ◌-◌, ◌≤◌, ◌<◌, not, ◌&&◌, Bool, true, false, List, length, Some, None, refl, ap, sym, ◌∙◌, arith, inl, inr, ltb, eqb, lt-ltb, le-ltb, eq-eqb, ne_eqb}
 use Rattle.std.specs.Prelude.{◌⊎◌}
 use Rattle.std.proofs.lemmas.Bool.{cases_eq, cases_lt}
-use Rattle.yaml_scan.specs.Slots.{Held, held, held_of, outer_to, step_of, lowest}
-use Rattle.yaml_scan.specs.Offline.{up_to, offline, before}
-use Rattle.yaml_scan.specs.Laid.{Laid, candidate, depth, live, reach}
+use Rattle.yaml_scan.specs.inside.Slots.{Held, held, held_of, outer_to, step_of, lowest}
+use Rattle.yaml_scan.specs.Settled.{up_to, before}
+use Rattle.yaml_scan.specs.Offline.{offline}
+use Rattle.yaml_scan.specs.Laid.{Laid, reach}
+use Rattle.yaml_scan.specs.Keys.{candidate, live}
+use Rattle.yaml_scan.specs.Depth.{depth}
 use Rattle.yaml_scan.specs.Order.{IsHistory}
 use Rattle.yaml_scan.proofs.Bound.{length-begins}
 use Rattle.yaml_scan.proofs.Extend.{before-offline}

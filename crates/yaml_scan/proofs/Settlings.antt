@@ -5,12 +5,13 @@ use Rattle.yaml_text.specs.declared.types.yaml_encoding_t.{yaml_encoding_t}
 use Rattle.yaml_text.specs.Fault.{Fault}
 use Rattle.yaml_scan.specs.declared.step.scanner_t.{scanner_t}
 use Rattle.yaml_scan.specs.Laid.{Laid, reach}
-use Rattle.yaml_scan.specs.Offline.{before}
+use Rattle.yaml_scan.specs.Settled.{before}
 use Rattle.yaml_scan.specs.Answers.{Input, Course, course, tokens_of}
-use Rattle.yaml_scan.specs.Session.{settled, steps_for, pace, all_steps, first_steps}
+use Rattle.yaml_scan.specs.Settled.{settled, steps_for, pace, first_steps}
+use Rattle.yaml_scan.specs.Session.{all_steps}
 use Rattle.yaml_scan.specs.Inputs.{decoded_input}
-use Rattle.yaml_scan.specs.Scanning.{Settles, Fails, Stops, Same, history, course_of, input_of}
-use Rattle.yaml_scan.specs.Ready.{IsNew, IsReady, Begins, IsStarted, IsSettled, IsStopped, IsEnded, course_in}
+use Rattle.yaml_scan.specs.inside.Scanning.{Settles, Fails, Stops, Same, history, course_of, input_of}
+use Rattle.yaml_scan.specs.inside.Ready.{IsNew, IsReady, Begins, IsStarted, IsSettled, IsStopped, IsEnded, course_in}
 use Rattle.yaml_scan.proofs.Paces.{open_too}
 
 one_step : (limit : ℕ) (H : List Laid) (t : ℕ) → 1 ≤ steps_for limit H t

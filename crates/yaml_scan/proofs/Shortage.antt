@@ -6,12 +6,14 @@ use Rattle.yaml_text.specs.declared.types.yaml_encoding_t.{yaml_encoding_t}
 use Rattle.yaml_scan.specs.Laid.{Laid}
 use Rattle.yaml_scan.specs.Order.{IsHistory}
 use Rattle.yaml_scan.specs.Begins.{Begins}
-use Rattle.yaml_scan.specs.Offline.{Token, before, handed_out}
+use Rattle.yaml_scan.specs.Offline.{Token, handed_out}
+use Rattle.yaml_scan.specs.Settled.{before}
 use Rattle.yaml_scan.specs.Cut.{oldest, KeepsOrder}
 use Rattle.yaml_scan.specs.Answers.{Input, Course, course, tokens_of}
 use Rattle.yaml_scan.specs.AnswerLaws.{AreFollowed}
 use Rattle.yaml_scan.specs.TokenLaws.{KeysHaveValues}
-use Rattle.yaml_scan.specs.Session.{settled, pace, all_steps, first_steps, settled_tokens}
+use Rattle.yaml_scan.specs.Settled.{settled, pace, first_steps}
+use Rattle.yaml_scan.specs.Session.{all_steps, settled_tokens}
 use Rattle.yaml_scan.proofs.AnswerOrder.{TokensFit, fit_front, fit_course, followed}
 use Rattle.yaml_scan.proofs.Courses.{course_is_history}
 use Rattle.yaml_scan.proofs.Extend.{before-before}

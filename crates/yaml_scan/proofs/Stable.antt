@@ -2,10 +2,13 @@
 use Rattle.std.proofs.Common.{◌≡◌, ℕ, ◌≤◌, ◌&&◌, Bool, true, false, List, [], ◌∷◌, ◌++◌, length, length-append, filter, Option, Some, None, refl, ap, sym, ◌∙◌, subst, arith, eqb, eq-eqb, ne_eqb, ltb, lt-ltb, le-ltb, inl, inr, append_assoc, append-nil}
 use Rattle.std.specs.Prelude.{option_map}
 use Rattle.std.proofs.lemmas.Bool.{cases_Bool, and_from}
-use Rattle.yaml_scan.specs.Offline.{inserted, group, groups, block_ends, is_current, last_of, or_else, up_to}
+use Rattle.yaml_scan.specs.Offline.{inserted, group, groups, block_ends}
+use Rattle.yaml_scan.specs.Settled.{is_current, last_of, or_else, up_to}
 use Rattle.yaml_scan.specs.Offline.Token.{OfLexeme}
 use Rattle.yaml_scan.specs.Begins.{Begins}
-use Rattle.yaml_scan.specs.Laid.{Laid, candidate, depth, live, reach, names}
+use Rattle.yaml_scan.specs.Laid.{Laid, reach, names}
+use Rattle.yaml_scan.specs.Keys.{candidate, live}
+use Rattle.yaml_scan.specs.Depth.{depth}
 use Rattle.yaml_scan.specs.Levels.{is_completed, opens}
 use Rattle.yaml_scan.specs.Order.{IsHistory, IsNotBefore}
 use Rattle.yaml_scan.proofs.Candidates.{none_is_not, some_is, candidate_split}

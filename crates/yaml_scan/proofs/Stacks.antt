@@ -4,7 +4,7 @@ use Rattle.std.proofs.lemmas.Bool.{cases_Bool, and_parts, and_from, leb-true}
 use Rattle.yaml_text.specs.declared.types.yaml_mark_t.{yaml_mark_t}
 use Rattle.yaml_scan.specs.Kind.{Kind, is_stream_end, closes_all}
 use Rattle.yaml_scan.specs.Levels.{IsFalling, AllLess, stays}
-use Rattle.yaml_scan.specs.Groups.{closing, ends_at}
+use Rattle.yaml_scan.specs.inside.Groups.{closing, ends_at}
 use Rattle.yaml_scan.specs.Offline.{Token, end_at}
 use Rattle.yaml_scan.specs.Offline.Token.{BlockEnd}
 use Rattle.std.specs.Prelude.{◌&&◌, nat_lt, if◌then◌else◌}

@@ -9,15 +9,19 @@ use Rattle.yaml_text.specs.declared.types.yaml_mark_t.{yaml_mark_t}
 use Rattle.yaml_scan.specs.declared.queue.block_t.{block_t}
 use Rattle.yaml_scan.specs.declared.queue.block_t.TheVariants.{NONE, SEQUENCE, MAPPING}
 use Rattle.yaml_scan.specs.declared.queue.group_t.{group_t}
-use Rattle.yaml_scan.specs.Laid.{Laid, candidate}
+use Rattle.yaml_scan.specs.Laid.{Laid}
+use Rattle.yaml_scan.specs.Keys.{candidate}
 use Rattle.yaml_scan.specs.Levels.{opens, is_completed}
 use Rattle.yaml_scan.specs.Lexeme.{Lexeme}
 use Rattle.yaml_scan.specs.Laws.{is_of_lexeme, is_block_end}
 use Rattle.yaml_scan.specs.Order.{IsHistory}
-use Rattle.yaml_scan.specs.Offline.{Token, end_mark, group, groups, inserted, block_ends, block_start, offline, up_to, handed_out}
+use Rattle.yaml_scan.specs.Offline.{Token, end_mark, group, groups, inserted, block_ends, block_start, offline}
+use Rattle.yaml_scan.specs.Offline.{handed_out}
+use Rattle.yaml_scan.specs.Settled.{up_to}
 use Rattle.yaml_scan.specs.Offline.Token.{StreamStart, BlockEnd, BlockSequenceStart, BlockMappingStart, InsertedKey, OfLexeme}
-use Rattle.yaml_scan.specs.Queue.{key_at}
-use Rattle.yaml_scan.specs.Groups.{IsQueue, ends_at, start_at, leads, early_before, pending, begins_with_end, keyed, keyed_at}
+use Rattle.yaml_scan.specs.inside.Queue.{key_at}
+use Rattle.yaml_scan.specs.inside.Groups.{IsQueue, ends_at, start_at, leads, early_before, pending, begins_with_end}
+use Rattle.yaml_scan.specs.inside.Groups.{keyed, keyed_at}
 use Rattle.yaml_scan.proofs.Candidates.{IsCandidateOf, candidate_split}
 use Rattle.yaml_scan.proofs.Insertion.{groups_from, groups_was, candidate_not_completed}
 use Rattle.yaml_scan.proofs.Stable.{number_in, up_to-split}

@@ -15,9 +15,11 @@ use Rattle.yaml_scan.specs.Order.{IsHistory, ended}
 use Rattle.yaml_scan.specs.Step.{Outcome}
 use Rattle.yaml_scan.specs.Step.Outcome.{Reads, Faults}
 use Rattle.yaml_scan.specs.Cut.{Cut, cut_from, oldest, IsRun, EndsWith}
-use Rattle.yaml_scan.specs.Answers.{Course, course, course_from, next, unless_near, is_near, place_of, starts_near}
-use Rattle.yaml_scan.specs.Near.{near_fault, or_fault, if_scanner, instead}
-use Rattle.yaml_scan.specs.Scanning.{Holds, Advances, Offends, Runs, Steps, IsLast, Same, IsNearFrom, history, course_of, input_of}
+use Rattle.yaml_scan.specs.Answers.{Course, course, course_from, next}
+use Rattle.yaml_scan.specs.Near.{unless_near, is_near, place_of, starts_near}
+use Rattle.yaml_scan.specs.inside.NearFault.{near_fault, or_fault, if_scanner, instead}
+use Rattle.yaml_scan.specs.inside.Scanning.{Holds, Advances, Offends, Runs, Steps, IsLast, Same, IsNearFrom, history}
+use Rattle.yaml_scan.specs.inside.Scanning.{course_of, input_of}
 use Rattle.yaml_scan.proofs.Cuts.{IsHistory-from_run, run_short}
 use Rattle.yaml_scan.proofs.Courses.{next_orderly, steps_are}
 use Rattle.yaml_scan.proofs.Next.{oldest-next, oldest-fault, oldest_all}

@@ -4,11 +4,12 @@ use Rattle.yaml_scan.specs.declared.step.scanner_t.{scanner_t}
 use Rattle.yaml_scan.specs.Token.{yaml_token_t}
 use Rattle.yaml_scan.specs.Laid.{Laid}
 use Rattle.yaml_scan.specs.Order.{IsHistory}
-use Rattle.yaml_scan.specs.Offline.{Token, before, offline}
-use Rattle.yaml_scan.specs.Groups.{IsQueue, Takes}
-use Rattle.yaml_scan.specs.Scanning.{Holds, Runs, history, course_of}
+use Rattle.yaml_scan.specs.Offline.{Token, offline}
+use Rattle.yaml_scan.specs.Settled.{before}
+use Rattle.yaml_scan.specs.inside.Groups.{IsQueue, Takes}
+use Rattle.yaml_scan.specs.inside.Scanning.{Holds, Runs, history, course_of}
 use Rattle.yaml_scan.specs.Answers.{Course}
-use Rattle.yaml_scan.specs.Ready.{Pops}
+use Rattle.yaml_scan.specs.inside.Ready.{Pops}
 use Rattle.yaml_scan.proofs.Bound.{length-begins}
 use Rattle.yaml_scan.proofs.Extend.{before-before, before-offline}
 use Rattle.yaml_scan.proofs.Pacing.{split}

@@ -26,22 +26,27 @@ use Rattle.yaml_scan.specs.Kind.{Kind, is_block_entry}
 use Rattle.yaml_scan.specs.Lexeme.{Lexeme}
 use Rattle.yaml_scan.specs.Token.{empty, type_of}
 use Rattle.yaml_scan.specs.Fault.{Fault}
-use Rattle.yaml_scan.specs.Laid.{Laid, depth}
+use Rattle.yaml_scan.specs.Laid.{Laid}
+use Rattle.yaml_scan.specs.Depth.{depth}
 use Rattle.yaml_scan.specs.Levels.{laid, level, opens, is_completed}
 use Rattle.yaml_scan.specs.Order.{ended}
-use Rattle.yaml_scan.specs.Offline.{Token, handed_out, block_ends, end_mark, inserted, group, groups, offline, up_to, waiting, before}
+use Rattle.yaml_scan.specs.Offline.{Token, handed_out, block_ends, end_mark, inserted, group, groups, offline}
+use Rattle.yaml_scan.specs.Settled.{up_to, waiting, before}
 use Rattle.yaml_scan.specs.Offline.Token.{StreamStart, BlockEnd, BlockSequenceStart, BlockMappingStart, InsertedKey, OfLexeme}
 use Rattle.yaml_scan.specs.Source.{Source, Reading, Offence}
 use Rattle.yaml_scan.specs.SourceOf.{source_of, reading_of}
-use Rattle.yaml_scan.specs.Step.{Outcome, step, kind_step, read_step, after_read, unless, refuse, stale, refused, clears, start_at, front_of, lexeme_of}
+use Rattle.yaml_scan.specs.Step.{Outcome, step, kind_step, read_step, after_read, unless, refuse, stale, refused}
+use Rattle.yaml_scan.specs.Step.{clears, start_at, front_of, lexeme_of}
 use Rattle.yaml_scan.specs.Step.Outcome.{Reads, Faults}
 use Rattle.yaml_scan.specs.Cut.{Cut, cut_from, cut_on}
-use Rattle.yaml_scan.specs.Answers.{Input, Course, course, course_from, tokens_of, starts_near, is_near, place_of, unless_near, next, answers}
+use Rattle.yaml_scan.specs.Answers.{Input, Course, course, course_from, tokens_of, next, answers}
+use Rattle.yaml_scan.specs.Near.{starts_near, is_near, place_of, unless_near}
 use Rattle.yaml_scan.specs.Inputs.{decoded_input, answers_to}
 use Rattle.yaml_scan.specs.Session.{Session, Call, session, answer, scan_answer, peek_answer, after, next_token, why}
 use Rattle.yaml_scan.specs.Session.Call.{SCAN, PEEK, SKIP}
 use Rattle.yaml_scan.specs.Session.Answer.{TOKEN, PEEKED, SKIPPED, NOTHING}
-use Rattle.yaml_scan.specs.Words.{HasWords, HasLine, HaveWords, AllHaveLines, AnswerHasLine, AnswersHaveLines, SessionsHaveLines}
+use Rattle.yaml_scan.specs.Words.{HasWords, HasLine, HaveWords, AllHaveLines, AnswerHasLine, AnswersHaveLines}
+use Rattle.yaml_scan.specs.Words.{SessionsHaveLines}
 use Rattle.yaml_scan.proofs.LexemeReads.{is_tag_type, is_directive_type, tag_gives, directive_gives}
 
 -- LEXEMES

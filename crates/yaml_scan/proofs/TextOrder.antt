@@ -11,7 +11,7 @@ use Rattle.yaml_lexeme.proofs.Places.{length_skip}
 use Rattle.yaml_scan.specs.Kind.{Kind, is_stream_end}
 use Rattle.yaml_scan.specs.Source.{Reading, Offence}
 use Rattle.yaml_scan.specs.SourceOf.{source_of, count_to}
-use Rattle.yaml_scan.specs.TextReads.{IsProblem}
+use Rattle.yaml_scan.specs.inside.TextReads.{IsProblem}
 use Rattle.yaml_scan.specs.Cut.{KeepsOrder}
 use Rattle.yaml_scan.proofs.SourceOrder.{texts_keep_order, problem_at}
 

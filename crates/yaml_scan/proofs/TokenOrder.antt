@@ -6,7 +6,8 @@ use Rattle.yaml_scan.specs.Kind.{is_stream_end, is_block_entry}
 use Rattle.yaml_scan.specs.Lexeme.{Lexeme}
 use Rattle.yaml_scan.specs.Laid.{Laid, reach}
 use Rattle.yaml_scan.specs.Levels.{opens, is_completed}
-use Rattle.yaml_scan.specs.Offline.{Token, block_ends, block_start, end_mark, inserted, group, groups, offline, before}
+use Rattle.yaml_scan.specs.Offline.{Token, block_ends, block_start, end_mark, inserted, group, groups, offline}
+use Rattle.yaml_scan.specs.Settled.{before}
 use Rattle.yaml_scan.specs.Offline.Token.{BlockEnd, BlockSequenceStart, BlockMappingStart, InsertedKey, OfLexeme}
 use Rattle.yaml_scan.specs.Order.{Follows, IsHistory}
 use Rattle.yaml_scan.specs.TokenLaws.{end_of, AreInOrder, TokensStandInOrder}

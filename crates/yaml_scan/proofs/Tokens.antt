@@ -9,7 +9,8 @@ use Rattle.yaml_scan.specs.Lexeme.{Lexeme}
 use Rattle.yaml_scan.specs.Offline.{Token, inserted, group, groups, block_ends, block_start, end_mark, offline}
 use Rattle.yaml_scan.specs.Offline.Token.{StreamStart, BlockEnd, BlockSequenceStart, BlockMappingStart, InsertedKey, OfLexeme}
 use Rattle.yaml_scan.specs.Laws.{is_of_lexeme, is_block_end, is_block_start, ends_in, starts_in, key_tokens}
-use Rattle.yaml_scan.specs.Laid.{is_none, Laid, column, depth}
+use Rattle.yaml_scan.specs.Laid.{is_none, Laid, column}
+use Rattle.yaml_scan.specs.Depth.{depth}
 use Rattle.yaml_scan.specs.Order.{IsHistory}
 use Rattle.yaml_scan.specs.Levels.{opens, is_completed, open_columns, kept_columns, keeps, is_opener, is_above}
 use Rattle.yaml_scan.proofs.KindTests.{end_not_value, end_closes, end_opens_nothing}

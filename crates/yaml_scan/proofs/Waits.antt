@@ -9,11 +9,12 @@ use Rattle.yaml_scan.specs.Laid.{Laid}
 use Rattle.yaml_scan.specs.Laws.{is_of_lexeme}
 use Rattle.yaml_scan.specs.Begins.{Begins}
 use Rattle.yaml_scan.specs.Order.{IsHistory}
-use Rattle.yaml_scan.specs.Offline.{Token, before, offline, groups, queued}
+use Rattle.yaml_scan.specs.Offline.{Token, offline, groups}
+use Rattle.yaml_scan.specs.Settled.{before, queued}
 use Rattle.yaml_scan.specs.Offline.Token.{OfLexeme}
 use Rattle.yaml_scan.specs.Cut.{oldest}
-use Rattle.yaml_scan.specs.Session.{steps_for, pace, first_steps}
-use Rattle.yaml_scan.specs.Scanning.{Runs, history}
+use Rattle.yaml_scan.specs.Settled.{steps_for, pace, first_steps}
+use Rattle.yaml_scan.specs.inside.Scanning.{Runs, history}
 use Rattle.yaml_scan.proofs.Bound.{queued_few}
 use Rattle.yaml_scan.proofs.Count.{queued-count}
 use Rattle.yaml_scan.proofs.Extend.{before-before, before-offline}

@@ -4,9 +4,12 @@ use Rattle.std.specs.Prelude.{◌⊎◌}
 use Rattle.std.proofs.lemmas.Bool.{cases_Bool, cases_eq, cases_order, and_parts, and_from, eqb-false, false≢true}
 use Rattle.yaml_scan.specs.Kind.{is_stream_end, is_flow_start, is_flow_end}
 use Rattle.yaml_text.specs.declared.types.yaml_mark_t.{yaml_mark_t}
-use Rattle.yaml_scan.specs.Laid.{Laid, candidate, depth, live, reach, enters, is_candidate}
+use Rattle.yaml_scan.specs.Laid.{Laid, reach}
+use Rattle.yaml_scan.specs.Keys.{candidate, live, enters, is_candidate}
+use Rattle.yaml_scan.specs.Depth.{depth}
 use Rattle.yaml_scan.specs.Order.{ended, IsHistory, IsNotBefore}
-use Rattle.yaml_scan.specs.Offline.{offline, waiting, before, is_current, last_of}
+use Rattle.yaml_scan.specs.Offline.{offline}
+use Rattle.yaml_scan.specs.Settled.{waiting, before, is_current, last_of}
 use Rattle.yaml_scan.proofs.DepthMore.{depth-start, depth-end, depth-same}
 use Rattle.yaml_scan.proofs.KindTests.{end_not_candidate, flow_kinds, flow_end_not_candidate}
 use Rattle.yaml_scan.proofs.Candidates.{candidate-is, candidate_split, AllKept, candidate-entered, candidate-other, candidate-cleared}

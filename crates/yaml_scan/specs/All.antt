@@ -6,7 +6,7 @@ use Rattle.yaml_text.specs.declared.types.yaml_encoding_t.TheVariants.{YAML_UTF8
 use Rattle.yaml_scan.specs.Token.{yaml_token_t, is_last_type, type_of}
 use Rattle.yaml_scan.specs.Fault.{Fault, memory_fault}
 use Rattle.yaml_scan.specs.Begins.{Begins}
-use Rattle.yaml_scan.specs.Laid.{depth}
+use Rattle.yaml_scan.specs.Depth.{depth}
 use Rattle.yaml_scan.specs.Offline.{handed_out}
 use Rattle.yaml_scan.specs.Answers.{Answers, Course, course}
 use Rattle.yaml_scan.specs.Session.{all_steps, settled_tokens}

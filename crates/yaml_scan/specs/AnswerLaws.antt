@@ -4,7 +4,7 @@ use Rattle.std.specs.Prelude.{None}
 use Rattle.std.specs.List.{list_any}
 use Rattle.yaml_text.specs.declared.types.yaml_mark_t.{yaml_mark_t}
 use Rattle.yaml_scan.specs.Token.{yaml_token_t, type_of, is_end_type, is_start_type, is_key_type, is_value_type}
-use Rattle.yaml_scan.specs.Laid.{depth}
+use Rattle.yaml_scan.specs.Depth.{depth}
 use Rattle.yaml_scan.specs.Cut.{KeepsOrder}
 use Rattle.yaml_scan.specs.Answers.{Input, course, answers}
 

@@ -1,15 +1,15 @@
 -- The answers to a decoded input: a list of tokens, and perhaps a fault.
-use Rattle.std.specs.Prelude.{ℕ, ◌+◌, Bool, true, false, List, [], map, nat_lt, Option, Some, None, option_map}
-use Rattle.std.specs.Prelude.{if◌then◌else◌}
+use Rattle.std.specs.Prelude.{ℕ, ◌+◌, Bool, true, false, List, [], map, Option, option_map, if◌then◌else◌}
 use Rattle.yaml_text.specs.declared.types.yaml_encoding_t.{yaml_encoding_t}
 use Rattle.yaml_scan.specs.Token.{yaml_token_t}
 use Rattle.yaml_scan.specs.Laid.{Laid}
-use Rattle.yaml_scan.specs.Offline.{Token, before, handed_out}
+use Rattle.yaml_scan.specs.Offline.{Token, handed_out}
+use Rattle.yaml_scan.specs.Settled.{before}
 use Rattle.yaml_scan.specs.Fault.{Fault}
 use Rattle.yaml_scan.specs.Source.{Source}
 use Rattle.yaml_scan.specs.Step.{Outcome, step}
-use Rattle.yaml_scan.specs.Step.Outcome.{Reads, Faults}
 use Rattle.yaml_scan.specs.Cut.{Cut, cut_from}
+use Rattle.yaml_scan.specs.Near.{unless_near, starts_near}
 
 -- the text that the input spells, or its longest front that is text, and then the reader's fault after it
 pub record Input : Type 0 where
@@ -17,27 +17,8 @@ pub record Input : Type 0 where
   pub source : Source
   pub refusal : Option Fault
 
--- fewer than eight characters follow a place
-abbrev pub is_near : ℕ → ℕ → Bool
-is_near size p = nat_lt size (p + 8)
-
--- the place of a step: of its reach, or of its problem
-abbrev pub place_of : Outcome → ℕ
-place_of (Reads x) = x.place
-place_of (Faults o) = o.place
-
--- near the end of a refused text the reader's fault comes instead of a step
-abbrev pub unless_near : ℕ → Option Fault → Outcome → Outcome
-unless_near size None o = o
-unless_near size (Some f) o = if is_near size (place_of o) then Faults (record { fault = f; place = size }) else o
-
 unfoldable pub next : Input → ℕ → List Laid → Outcome
 next input limit H = unless_near input.source.size input.refusal (step input.source limit H)
-
--- STREAM-START is a step at place 0
-abbrev pub starts_near : ℕ → Option Fault → Bool
-starts_near size None = false
-starts_near size (Some f) = is_near size 0
 
 -- the steps before the fault: STREAM-START, if that is one, and lexemes; and the fault
 pub record Course : Type 0 where

@@ -10,9 +10,8 @@ use Rattle.yaml_scan.specs.declared.calls.yaml_answer_t.{yaml_answer_t}
 use Rattle.yaml_scan.specs.declared.calls.yaml_answer_t.TheVariants as coded
 use Rattle.yaml_scan.specs.Token.{yaml_token_t, empty, type_of}
 use Rattle.yaml_scan.specs.Fault.{Fault, memory_fault}
-use Rattle.yaml_scan.specs.Session.{Call, Answer, session, after_all}
+use Rattle.yaml_scan.specs.Session.{Call, Answer, session, after_all, Answer as says}
 use Rattle.yaml_scan.specs.Session.Call.{SCAN, PEEK, SKIP}
-use Rattle.yaml_scan.specs.Session.{Answer as says}
 use Rattle.yaml_scan.specs.Parser.{Parser, WantsMemory, answered, behind, course_read, input_read}
 
 -- what can be seen of an answer: of a peeked token the type and the marks

@@ -4,15 +4,18 @@ use Rattle.std.specs.Prelude.{reverse, filter, take, length, nat_eq, nat_lt, sli
 use Rattle.std.specs.Prelude.{if◌then◌else◌}
 use Rattle.yaml_text.specs.declared.types.yaml_mark_t.{yaml_mark_t}
 use Rattle.yaml_scan.specs.Kind.{Kind, is_flow_start, is_flow_end}
-use Rattle.yaml_scan.specs.Laid.{Laid, column, is_none, depth, allowed, allows, candidate, is_candidate, enters}
-use Rattle.yaml_scan.specs.Laid.{completed_by}
+use Rattle.yaml_scan.specs.Laid.{Laid, column, is_none}
+use Rattle.yaml_scan.specs.Depth.{depth}
+use Rattle.yaml_scan.specs.Allowed.{allowed, allows}
+use Rattle.yaml_scan.specs.Keys.{candidate, is_candidate, enters, completed_by}
 use Rattle.yaml_scan.specs.Levels.{is_above, is_opener, open_columns, kept_columns, level, IsFalling}
-use Rattle.yaml_scan.specs.Offline.{Token, group, offline, waiting, before, up_to, queued}
+use Rattle.yaml_scan.specs.Offline.{Token, group, offline}
+use Rattle.yaml_scan.specs.Settled.{waiting, before, up_to, queued}
 use Rattle.yaml_scan.specs.Offline.Token.{StreamStart, BlockEnd, BlockSequenceStart, BlockMappingStart, InsertedKey}
 use Rattle.yaml_scan.specs.Offline.Token.{OfLexeme}
 use Rattle.yaml_scan.specs.Order.{IsHistory, ended}
 use Rattle.yaml_scan.specs.Begins.{Begins}
-use Rattle.yaml_scan.specs.Queue.{put_in}
+use Rattle.yaml_scan.specs.inside.Queue.{put_in}
 use Rattle.yaml_scan.specs.Source.{Source, Offence}
 use Rattle.yaml_scan.specs.Step.{step}
 use Rattle.yaml_scan.specs.Cut.{cut, IsRun, EndsWith, KeepsOrder}

@@ -9,7 +9,8 @@ use Rattle.yaml_scan.specs.Source.{Source, Reading, Offence}
 use Rattle.yaml_scan.specs.SourceOf.{source_of}
 use Rattle.yaml_scan.specs.Step.{step, place_behind}
 use Rattle.yaml_scan.specs.Cut.{KeepsOrder}
-use Rattle.yaml_scan.specs.Answers.{Input, place_of, course, tokens_of}
+use Rattle.yaml_scan.specs.Answers.{Input, course, tokens_of}
+use Rattle.yaml_scan.specs.Near.{place_of}
 
 -- the place where reading ended, or was refused
 abbrev pub place_read : Result Reading Offence → ℕ

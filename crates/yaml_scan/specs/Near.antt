@@ -1,26 +1,24 @@
--- The reader's fault instead of a step.
-use Rattle.std.specs.Prelude.{ℕ, nat_le, not, List, length, filter, Option, None, Some, if◌then◌else◌}
-use Rattle.yaml_text.specs.declared.types.yaml_error_type_t.{yaml_error_type_t}
-use Rattle.yaml_text.specs.declared.types.yaml_error_type_t.TheVariants.{YAML_SCANNER_ERROR}
-use Rattle.yaml_text.specs.Fault.{Fault}
-use Rattle.yaml_text.specs.Utf8.{continues}
+-- The reader's fault near the end: in a refused input it comes instead of the first step that is near the end of the front.
+use Rattle.std.specs.Prelude.{ℕ, ◌+◌, Bool, false, nat_lt, Option, Some, None, if◌then◌else◌}
+use Rattle.yaml_scan.specs.Fault.{Fault}
+use Rattle.yaml_scan.specs.Step.{Outcome}
+use Rattle.yaml_scan.specs.Step.Outcome.{Reads, Faults}
 
--- the reader's fault, if steps are near from index near on
-abbrev pub near_fault : ℕ → ℕ → Option Fault → Option Fault
-near_fault near index None = None
-near_fault near index (Some f) = if nat_le near index then Some f else None
+-- fewer than eight characters follow a place
+abbrev pub is_near : ℕ → ℕ → Bool
+is_near size p = nat_lt size (p + 8)
 
-abbrev pub or_fault : Fault → Option Fault → Fault
-or_fault f None = f
-or_fault f (Some g) = g
+-- the place of a step: of its reach, or of its problem
+abbrev pub place_of : Outcome → ℕ
+place_of (Reads x) = x.place
+place_of (Faults o) = o.place
 
-abbrev pub if_scanner : yaml_error_type_t → Option Fault → Option Fault
-if_scanner YAML_SCANNER_ERROR o = o
-if_scanner _ o = None
+-- near the end of a refused text the reader's fault comes instead of a step
+abbrev pub unless_near : ℕ → Option Fault → Outcome → Outcome
+unless_near size None o = o
+unless_near size (Some f) o = if is_near size (place_of o) then Faults (record { fault = f; place = size }) else o
 
-abbrev pub instead : ℕ → Option Fault → Fault → Fault
-instead near refusal f = or_fault f (if_scanner f.error (near_fault near f.problem_mark.index refusal))
-
--- how many characters begin in bytes of UTF-8
-abbrev pub starts : List ℕ → ℕ
-starts bytes = length (filter (λ b. not (continues b)) bytes)
+-- STREAM-START is a step at place 0
+abbrev pub starts_near : ℕ → Option Fault → Bool
+starts_near size None = false
+starts_near size (Some f) = is_near size 0

@@ -1,14 +1,13 @@
 -- The offline list: the tokens of a finished list of lexemes, with the keys and the starts and ends of blocks that the
 -- layout inserts.
-use Rattle.std.specs.Prelude.{ℕ, ◌+◌, Bool, ◌&&◌, length, List, [], ◌∷◌, ◌++◌, map, filter, nat_lt, Option, Some, None}
-use Rattle.std.specs.Prelude.{option_map, if◌then◌else◌}
+use Rattle.std.specs.Prelude.{ℕ, ◌+◌, ◌&&◌, List, [], ◌∷◌, ◌++◌, map, nat_lt, if◌then◌else◌}
 use Rattle.yaml_text.specs.declared.types.yaml_mark_t.{yaml_mark_t}
 use Rattle.yaml_text.specs.declared.types.yaml_encoding_t.{yaml_encoding_t}
 use Rattle.yaml_scan.specs.Kind.{Kind, is_stream_end, is_block_entry}
 use Rattle.yaml_scan.specs.Lexeme.{Lexeme}
 use Rattle.yaml_scan.specs.Token.{yaml_token_t, zero_mark, at_mark}
 use Rattle.yaml_text.specs.Token.{TokenData as told}
-use Rattle.yaml_scan.specs.Laid.{Laid, names, reach, candidate, live}
+use Rattle.yaml_scan.specs.Laid.{Laid}
 use Rattle.yaml_scan.specs.Levels.{opens, is_completed}
 
 -- where a token comes from
@@ -62,35 +61,3 @@ groups H (i ∷ early) = groups H early ++ group H i
 
 unfoldable pub offline : List Laid → List Token
 offline H = groups H H
-
--- WHAT IS HANDED OUT
--- i is the candidate of its depth in H
-unfoldable pub is_current : List Laid → Laid → Bool
-is_current H i = names i.number (option_map (λ c. c.number) (candidate H i.depth))
-
-abbrev pub or_else : Option Laid → Laid → Laid
-or_else None i = i
-or_else (Some l) i = l
-
-abbrev pub last_of : List Laid → Option Laid
-last_of [] = None
-last_of (i ∷ H) = Some (or_else (last_of H) i)
-
--- the earliest candidate of H, of any depth, that is live at the mark up to which H was read
-unfoldable pub waiting : ℕ → List Laid → Option Laid
-waiting limit H = last_of (filter (λ i. is_current H i && live limit i (reach H)) H)
-
--- the offline list up to, and without, the token of one of its lexemes, or all of it
-unfoldable pub up_to : List Laid → Option Laid → List Token
-up_to H None = offline H
-up_to H (Some i) = groups H (filter (λ j. nat_lt j.number i.number) H) ++ block_ends i
-
--- the offline list up to, and without, the token of the earliest live candidate: what no further lexeme revises
-unfoldable pub before : ℕ → List Laid → List Token
-before limit H = up_to H (waiting limit H)
-
--- how many of the earliest steps, STREAM-START and some lexemes of H, have a token of their group at place t of the
--- offline list or after it
-unfoldable pub queued : List Laid → ℕ → List Laid → ℕ
-queued H t [] = if nat_lt t (length (groups H [])) then 1 else 0
-queued H t (i ∷ early) = (if nat_lt t (length (groups H (i ∷ early))) then 1 else 0) + queued H t early

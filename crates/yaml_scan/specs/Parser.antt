@@ -10,9 +10,11 @@ use Rattle.yaml_text.specs.Fault.{Fault, fault_of, memory_fault}
 use Rattle.yaml_text.specs.Token.{token_of}
 use Rattle.yaml_scan.specs.Token.{yaml_token_t, empty}
 use Rattle.yaml_scan.specs.Offline.{Token, handed_out}
-use Rattle.yaml_scan.specs.Answers.{Input, Course, course, starts_near}
+use Rattle.yaml_scan.specs.Answers.{Input, Course, course}
+use Rattle.yaml_scan.specs.Near.{starts_near}
 use Rattle.yaml_scan.specs.Inputs.{decoded_input}
-use Rattle.yaml_scan.specs.Session.{Session, Call, Answer, settled, pace, next_token, after, answer}
+use Rattle.yaml_scan.specs.Session.{Session, Call, Answer, next_token, after, answer}
+use Rattle.yaml_scan.specs.Settled.{settled, pace}
 use Rattle.yaml_scan.specs.Session.Call.{SCAN, PEEK}
 use Rattle.yaml_scan.specs.Session.Answer.{TOKEN, PEEKED, FAULT}
 

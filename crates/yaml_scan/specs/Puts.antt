@@ -1,6 +1,6 @@
 -- What the answers that a list of calls appends say, and which of them other inputs get as well.
-use Rattle.std.specs.Prelude.{◌≡◌, ◌⊎◌, ℕ, ◌+◌, ◌<◌, true, false, Option, None, Some, IfSome}
-use Rattle.std.specs.Prelude.{List, [], ◌∷◌, ◌++◌, map, take, drop, replicate, length}
+use Rattle.std.specs.Prelude.{◌≡◌, ◌⊎◌, ℕ, ◌+◌, ◌<◌, true, false, Option, None, Some, IfSome, List, [], ◌∷◌, ◌++◌, map}
+use Rattle.std.specs.Prelude.{take, drop, replicate, length}
 use Rattle.yaml_text.specs.declared.types.yaml_encoding_t.{yaml_encoding_t}
 use Rattle.yaml_scan.specs.declared.calls.yaml_answer_t.{yaml_answer_t}
 use Rattle.yaml_scan.specs.Token.{yaml_token_t, empty}
@@ -11,9 +11,8 @@ use Rattle.yaml_scan.specs.Inputs.{answers_to, GoesOn}
 use Rattle.yaml_scan.specs.Session.{Call, Answer, next_token}
 use Rattle.yaml_scan.specs.Parser.{Parser, answered, course_read}
 use Rattle.yaml_scan.specs.Session.Answer.{FAULT}
-use Rattle.yaml_scan.specs.Calls.{Seen, seen, seen_of, answered_all, idle}
+use Rattle.yaml_scan.specs.Calls.{Seen, seen, seen_of, answered_all, idle, Seen as sight}
 use Rattle.yaml_scan.specs.Calls.Seen.{TOKEN, PEEKED, SKIPPED, NOTHING}
-use Rattle.yaml_scan.specs.Calls.{Seen as sight}
 
 -- this holds of the answers that were appended to the old ones
 pub record Puts (Holds : List Seen → Type 0) (old new : List yaml_answer_t) : Type 0 where

@@ -13,8 +13,7 @@ use Rattle.yaml_scan.specs.Session.{Session, Call, Answer, new_session, session}
 use Rattle.yaml_scan.specs.Session.Call.{SCAN}
 use Rattle.yaml_scan.specs.Session.Answer.{TOKEN, FAULT}
 use Rattle.yaml_scan.specs.Parser.{Parser, Scans, told}
-use Rattle.yaml_scan.specs.Calls.{Seen, seen, seen_of, Runs, RunsOut}
-use Rattle.yaml_scan.specs.Calls.{Seen as sight}
+use Rattle.yaml_scan.specs.Calls.{Seen, seen, seen_of, Runs, RunsOut, Seen as sight}
 
 -- n scans
 abbrev pub scans : ℕ → List Call

@@ -1,16 +1,16 @@
 -- A session: scan, peek and skip, one after the other, on the course of an input.
-use Rattle.std.specs.Prelude.{ℕ, ◌+◌, ◌-◌, Bool, true, false, ◌&&◌, List, [], ◌∷◌, length, max, nat_eq, nat_lt}
-use Rattle.std.specs.Prelude.{slice_get, Option, Some, None, if◌then◌else◌}
+use Rattle.std.specs.Prelude.{ℕ, ◌+◌, Bool, true, false, List, [], ◌∷◌, length, nat_eq, nat_lt, slice_get, Option, Some}
+use Rattle.std.specs.Prelude.{None, if◌then◌else◌}
 use Rattle.yaml_text.specs.declared.types.yaml_mark_t.{yaml_mark_t}
 use Rattle.yaml_text.specs.declared.types.yaml_encoding_t.{yaml_encoding_t}
 use Rattle.yaml_scan.specs.Kind.{is_stream_end}
 use Rattle.yaml_scan.specs.Token.{yaml_token_t, empty}
-use Rattle.yaml_scan.specs.Laid.{Laid, reach}
-use Rattle.yaml_scan.specs.Offline.{Token, before, queued, handed_out}
+use Rattle.yaml_scan.specs.Laid.{reach}
+use Rattle.yaml_scan.specs.Offline.{Token, handed_out}
+use Rattle.yaml_scan.specs.Settled.{before, queued, first_steps, pace}
 use Rattle.yaml_scan.specs.Offline.Token.{StreamStart, BlockEnd, BlockSequenceStart, BlockMappingStart, InsertedKey}
 use Rattle.yaml_scan.specs.Offline.Token.{OfLexeme}
 use Rattle.yaml_scan.specs.Fault.{Fault}
-use Rattle.yaml_scan.specs.Cut.{oldest}
 use Rattle.yaml_scan.specs.Answers.{Course, tokens_of}
 
 pub data Call : Type 0 where
@@ -38,27 +38,9 @@ pub record Session : Type 0 where
 abbrev pub new_session : Session
 new_session = record { taken = 0; steps = 0; peeked = false; over = false; fault = None }
 
--- THE PACE
--- the lexemes of the first s steps, of which one is STREAM-START
-abbrev pub first_steps : ℕ → List Laid → List Laid
-first_steps s H = oldest (s - 1) H
-
--- token t is settled after s steps of H
-abbrev pub settled : ℕ → List Laid → ℕ → ℕ → Bool
-settled limit H t s = nat_lt 0 s && nat_lt t (length (before limit (first_steps s H)))
-
 -- the tokens that are settled after s steps
 abbrev pub settled_tokens : ℕ → Course → ℕ → List Token
 settled_tokens limit c s = if nat_lt 0 s then before limit (first_steps s c.read) else []
-
--- the least number of steps of H after which token t is settled
-unfoldable pub steps_for : ℕ → List Laid → ℕ → ℕ
-steps_for limit [] t = 1
-steps_for limit (i ∷ H) t = if nat_lt t (length (before limit H)) then steps_for limit H t else length H + 2
-
--- how many steps are made once token t is requested, if s were made
-unfoldable pub pace : ℕ → List Laid → ℕ → ℕ → ℕ
-pace limit H t s = max s (steps_for limit H t)
 
 -- how many steps there are
 abbrev pub all_steps : Course → ℕ

@@ -3,7 +3,8 @@ use Rattle.std.specs.Prelude.{◌≡◌, ℕ, ◌+◌, ◌≤◌, ◌<◌, Bool,
 use Rattle.std.specs.Prelude.{None, option_map, if◌then◌else◌}
 use Rattle.std.specs.Option.{option_to_list}
 use Rattle.yaml_scan.specs.Laid.{Laid}
-use Rattle.yaml_scan.specs.Offline.{Token, offline, before}
+use Rattle.yaml_scan.specs.Offline.{Token, offline}
+use Rattle.yaml_scan.specs.Settled.{before, settled, pace}
 use Rattle.yaml_scan.specs.Order.{IsHistory, ended}
 use Rattle.yaml_scan.specs.Fault.{Fault}
 use Rattle.yaml_scan.specs.Begins.{Begins}
@@ -11,9 +12,9 @@ use Rattle.yaml_scan.specs.Source.{Offence}
 use Rattle.yaml_scan.specs.Step.{step}
 use Rattle.yaml_scan.specs.Step.Outcome.{Faults}
 use Rattle.yaml_scan.specs.Cut.{cut, IsRun, KeepsOrder}
-use Rattle.yaml_scan.specs.Answers.{Input, Course, place_of, next, course, tokens_of}
-use Rattle.yaml_scan.specs.Session.{Call, Session, new_session, settled, pace, next_token, after, after_all}
-use Rattle.yaml_scan.specs.Session.{session_queued}
+use Rattle.yaml_scan.specs.Answers.{Input, Course, next, course, tokens_of}
+use Rattle.yaml_scan.specs.Near.{place_of}
+use Rattle.yaml_scan.specs.Session.{Call, Session, new_session, next_token, after, after_all, session_queued}
 use Rattle.yaml_scan.specs.Session.Call.{SCAN, PEEK, SKIP}
 
 -- THE COURSE OF AN INPUT

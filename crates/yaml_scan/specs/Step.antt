@@ -4,8 +4,10 @@ use Rattle.std.specs.Prelude.{Ok, Err, if◌then◌else◌}
 use Rattle.yaml_text.specs.declared.types.yaml_mark_t.{yaml_mark_t}
 use Rattle.yaml_scan.specs.Kind.{Kind, is_stream_end, is_block_entry, is_key, is_value, is_candidate_kind}
 use Rattle.yaml_scan.specs.Lexeme.{Lexeme}
-use Rattle.yaml_scan.specs.Laid.{Laid, is_none, depth, candidate, live, only_live, allowed, allowed_behind}
-use Rattle.yaml_scan.specs.Laid.{completed_by}
+use Rattle.yaml_scan.specs.Laid.{Laid, is_none}
+use Rattle.yaml_scan.specs.Depth.{depth}
+use Rattle.yaml_scan.specs.Keys.{candidate, live, only_live, completed_by}
+use Rattle.yaml_scan.specs.Allowed.{allowed, allowed_behind}
 use Rattle.yaml_scan.specs.Levels.{level, laid, is_required}
 use Rattle.yaml_scan.specs.Fault.{scanner_fault, no_token, no_colon, entry_not_allowed, key_not_allowed}
 use Rattle.yaml_scan.specs.Fault.{value_not_allowed, in_next_token, in_simple_key}

@@ -3,7 +3,7 @@ ghost use Rattle.std.specs.Prelude.{◌≡◌};
 ghost use Rattle.std.specs.Option.{option_copied};
 ghost use Rattle.yaml_text.specs.Fault.{fault_of, memory_fault, scanner_fault};
 ghost use Rattle.yaml_scan.specs.declared.fault.stop_t.TheVariants.{MEMORY};
-ghost use Rattle.yaml_scan.specs.Stop.{fault_at};
+ghost use Rattle.yaml_scan.specs.inside.Stop.{fault_at};
 
 use std::alloc::AllocError;
 use yaml_text::{yaml_error_type_t, yaml_fault_t, yaml_mark_t};

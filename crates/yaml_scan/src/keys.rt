@@ -3,9 +3,10 @@
 ghost use Rattle.std.specs.Prelude.{◌≡◌, ◌+◌, ◌-◌, ◌<◌, ◌&&◌, ◌++◌, ◌∷◌, [], not, List, Option, None, map, vec_len};
 ghost use Rattle.std.specs.Prelude.{if◌then◌else◌};
 ghost use Rattle.std.specs.Vec.{vec_capacity};
-ghost use Rattle.yaml_scan.specs.Slots.{is_live, still_held, lost_held, needed, slot_behind, root_of, step_of};
-ghost use Rattle.yaml_scan.specs.Slots.{completed_held, nested_outer, nested_top, empty_slots, lowest, AreEmptyBelow};
-ghost use Rattle.yaml_scan.specs.Slots.{AreNested};
+ghost use Rattle.yaml_scan.specs.inside.Slots.{is_live, still_held, lost_held, needed, slot_behind, root_of, step_of};
+ghost use Rattle.yaml_scan.specs.inside.Slots.{completed_held, nested_outer, nested_top, empty_slots, lowest};
+ghost use Rattle.yaml_scan.specs.inside.Slots.{AreEmptyBelow};
+ghost use Rattle.yaml_scan.specs.inside.Slots.{AreNested};
 
 use crate::kind::{is_candidate, is_colon, is_flow_end, is_flow_start};
 use yaml_lexeme::yaml_lexeme_kind_t;

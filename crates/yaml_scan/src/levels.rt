@@ -8,9 +8,10 @@ ghost use Rattle.yaml_scan.specs.Kind.{is_stream_end};
 ghost use Rattle.yaml_scan.specs.Levels.{stays, is_above, greatest_level, opens_level, IsFalling};
 ghost use Rattle.yaml_scan.specs.Offline.{end_at};
 ghost use Rattle.yaml_scan.specs.Offline.Token.{BlockEnd};
-ghost use Rattle.yaml_scan.specs.Queue.{is_new, opened};
-ghost use Rattle.yaml_scan.specs.Groups.{ends_at, closing, completed_in, opened_by, start_of, Fitting, KeepsRest};
-ghost use Rattle.yaml_scan.specs.Slots.{is_margin_level};
+ghost use Rattle.yaml_scan.specs.inside.Queue.{is_new, opened};
+ghost use Rattle.yaml_scan.specs.inside.Groups.{ends_at, closing, completed_in, opened_by, start_of, Fitting};
+ghost use Rattle.yaml_scan.specs.inside.Groups.{KeepsRest};
+ghost use Rattle.yaml_scan.specs.inside.Slots.{is_margin_level};
 
 use crate::keys::held_t;
 use crate::kind::{is_last, is_opener, stays_open};

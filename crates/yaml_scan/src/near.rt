@@ -2,7 +2,7 @@
 ghost use Rattle.std.specs.Prelude.{◌≡◌, ◌+◌, ◌<◌, ◌≤◌, ◌^◌, length, List, ℕ};
 ghost use Rattle.yaml_text.specs.Chars.{AreChars, utf8};
 ghost use Rattle.yaml_text.specs.Utf8.{continues};
-ghost use Rattle.yaml_scan.specs.Scanning.{IsNearFrom};
+ghost use Rattle.yaml_scan.specs.inside.Scanning.{IsNearFrom};
 
 /// Whether a byte of UTF-8 continues a character.
 fn continues(byte: u8) -> bool

@@ -5,20 +5,20 @@ ghost use Rattle.yaml_text.specs.Fault.{Fault, fault_of, zero_mark};
 ghost use Rattle.yaml_text.specs.Token.{data_of, token_of};
 ghost use Rattle.yaml_text.specs.declared.types.yaml_encoding_t.TheVariants.{YAML_UTF8_ENCODING};
 ghost use Rattle.yaml_text.specs.Decode.{refusal_seen};
-ghost use Rattle.yaml_scan.specs.Offline.{before, queued};
+ghost use Rattle.yaml_scan.specs.Settled.{before, queued};
 ghost use Rattle.yaml_scan.specs.Session.{new_session, session_queued, session_reach};
-ghost use Rattle.yaml_scan.specs.Scanning.{Runs, IsOpen, history};
-ghost use Rattle.yaml_scan.specs.Ready.{IsNew, IsReady, IsSettled, IsStopped, IsShort, IsEnded, Pops, Begins};
-ghost use Rattle.yaml_scan.specs.Ready.{IsStarted, IsShown};
+ghost use Rattle.yaml_scan.specs.inside.Scanning.{Runs, IsOpen, history};
+ghost use Rattle.yaml_scan.specs.inside.Ready.{IsNew, IsReady, IsSettled, IsStopped, IsShort, IsEnded, Pops, Begins};
+ghost use Rattle.yaml_scan.specs.inside.Ready.{IsStarted, IsShown};
 ghost use Rattle.yaml_scan.specs.Parser.{Scans, token_shown, Shows, behind, IsThere, IsRefusedEarly, input_read, told};
 ghost use Rattle.yaml_scan.specs.Parser.{answered, Peeks, AnswersPeek, told_copied, shown, course_read};
 ghost use Rattle.yaml_scan.specs.CallMarks.{IsCountedIn, ReachesTo};
 ghost use Rattle.yaml_scan.specs.Token.{is_last_type, type_of};
-ghost use Rattle.yaml_scan.specs.Near.{near_fault};
+ghost use Rattle.yaml_scan.specs.inside.NearFault.{near_fault};
 ghost use Rattle.yaml_scan.specs.Session.Call.{SKIP, SCAN, PEEK};
 ghost use Rattle.yaml_scan.specs.Peek.{OnceLetGo};
 ghost use Rattle.yaml_scan.specs.Puts.{HasNext, IsAnsweredAlike};
-ghost use Rattle.yaml_scan.specs.Stop.{fault_at};
+ghost use Rattle.yaml_scan.specs.inside.Stop.{fault_at};
 
 use crate::fault::{fault_at, make_memory_fault, stop_t};
 use crate::keys::slots_t;
@@ -63,7 +63,7 @@ pub struct yaml_parser_t<'a> {
 
 impl<'a> Model for yaml_parser_t<'a> {
     ghost use Rattle.yaml_scan.specs.Parser.{Parser};
-    ghost use Rattle.yaml_scan.specs.Ready.{parser_of, Sound};
+    ghost use Rattle.yaml_scan.specs.inside.Ready.{parser_of, Sound};
 
     ghost Value = { Parser };
 

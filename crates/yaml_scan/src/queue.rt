@@ -7,8 +7,9 @@ ghost use Rattle.yaml_text.specs.Token.{data_of, token_of};
 ghost use Rattle.yaml_text.specs.declared.types.yaml_encoding_t.{yaml_encoding_t};
 ghost use Rattle.yaml_text.specs.declared.types.yaml_mark_t.{yaml_mark_t};
 ghost use Rattle.yaml_scan.specs.Token.{at_mark};
-ghost use Rattle.yaml_scan.specs.Groups.{IsQueue, IsLead, Takes, DropsLead, keyed_at, leads, pending, begins_with_end};
-ghost use Rattle.yaml_scan.specs.Groups.{mark_next, lead_tokens};
+ghost use Rattle.yaml_scan.specs.inside.Groups.{IsQueue, IsLead, Takes, DropsLead, keyed_at, leads, pending};
+ghost use Rattle.yaml_scan.specs.inside.Groups.{begins_with_end};
+ghost use Rattle.yaml_scan.specs.inside.Groups.{mark_next, lead_tokens};
 ghost use Rattle.yaml_scan.specs.Offline.{Token, handed_out};
 ghost use Rattle.yaml_scan.specs.Offline.Token.{StreamStart};
 

@@ -3,13 +3,14 @@ ghost use Rattle.std.specs.Prelude.{◌≡◌, ◌⊎◌, ℕ, ◌+◌, ◌-◌,
 ghost use Rattle.std.specs.Prelude.{false, MatchResult};
 ghost use Rattle.yaml_text.specs.Decode.{refusal_seen};
 ghost use Rattle.yaml_text.specs.Fault.{fault_of, memory_fault};
-ghost use Rattle.yaml_scan.specs.Near.{near_fault, instead};
-ghost use Rattle.yaml_scan.specs.Groups.{begins_with_end, pending};
-ghost use Rattle.yaml_scan.specs.Offline.{before};
+ghost use Rattle.yaml_scan.specs.inside.NearFault.{near_fault, instead};
+ghost use Rattle.yaml_scan.specs.inside.Groups.{begins_with_end, pending};
+ghost use Rattle.yaml_scan.specs.Settled.{before};
 ghost use Rattle.yaml_scan.specs.Order.{ended};
-ghost use Rattle.yaml_scan.specs.Stop.{fault_at};
-ghost use Rattle.yaml_scan.specs.Scanning.{Runs, Advances, Offends, Steps, IsLast, Stays, IsOpen, Settles, Fails};
-ghost use Rattle.yaml_scan.specs.Scanning.{Stops, history};
+ghost use Rattle.yaml_scan.specs.inside.Stop.{fault_at};
+ghost use Rattle.yaml_scan.specs.inside.Scanning.{Runs, Advances, Offends, Steps, IsLast, Stays, IsOpen, Settles};
+ghost use Rattle.yaml_scan.specs.inside.Scanning.{Fails};
+ghost use Rattle.yaml_scan.specs.inside.Scanning.{Stops, history};
 
 use crate::fault::{fault_at, stop_t};
 use crate::queue::has_ends;

@@ -1,11 +1,11 @@
 //! What is read of a text, place by place.
 ghost use Rattle.std.specs.Prelude.{◌≡◌, ℕ, ◌≤◌, ◌⊎◌, Some, Ok, Err, length, nat_lt, IfSome, MatchResult};
 ghost use Rattle.yaml_text.specs.Fault.{memory_fault};
-ghost use Rattle.yaml_scan.specs.Stop.{fault_at};
+ghost use Rattle.yaml_scan.specs.inside.Stop.{fault_at};
 ghost use Rattle.yaml_lexeme.specs.Lexeme.{lexeme_of};
 ghost use Rattle.yaml_lexeme.specs.Place.{IsMarkOf};
 ghost use Rattle.yaml_scan.specs.SourceOf.{source_of};
-ghost use Rattle.yaml_scan.specs.TextReads.{IsRead, IsOffence};
+ghost use Rattle.yaml_scan.specs.inside.TextReads.{IsRead, IsOffence};
 
 use crate::fault::stop_t;
 use std::alloc::Global;

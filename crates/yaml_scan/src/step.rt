@@ -3,17 +3,19 @@ ghost use Rattle.std.specs.Prelude.{◌≡◌, ◌⊎◌, ℕ, ◌+◌, ◌-◌,
 ghost use Rattle.std.specs.Prelude.{List, [], ◌∷◌, ◌++◌, vec_len, reverse, map, true, false, Option, Some, None};
 ghost use Rattle.std.specs.Prelude.{option_map, IfOk, OnOk, OnErr, MatchResult, if◌then◌else◌};
 ghost use Rattle.yaml_text.specs.Fault.{memory_fault, scanner_fault};
-ghost use Rattle.yaml_scan.specs.Stop.{fault_at};
+ghost use Rattle.yaml_scan.specs.inside.Stop.{fault_at};
 ghost use Rattle.yaml_text.specs.Token.{data_of, token_of};
 ghost use Rattle.yaml_scan.specs.Fault.{no_token, in_next_token};
-ghost use Rattle.yaml_scan.specs.Laid.{Laid, allowed};
+ghost use Rattle.yaml_scan.specs.Laid.{Laid};
+ghost use Rattle.yaml_scan.specs.Allowed.{allowed};
 ghost use Rattle.yaml_scan.specs.Order.{ended};
-ghost use Rattle.yaml_scan.specs.Slots.{needed, lost_held, still_held, root_of, slot_behind, nested_outer, nested_top};
-ghost use Rattle.yaml_scan.specs.Slots.{empty_slots, lowest, step_of, AreNested};
+ghost use Rattle.yaml_scan.specs.inside.Slots.{needed, lost_held, still_held, root_of, slot_behind, nested_outer};
+ghost use Rattle.yaml_scan.specs.inside.Slots.{nested_top};
+ghost use Rattle.yaml_scan.specs.inside.Slots.{empty_slots, lowest, step_of, AreNested};
 ghost use Rattle.std.specs.Vec.{vec_capacity};
 ghost use Rattle.yaml_scan.specs.Step.{problem_of, replaces, step};
-ghost use Rattle.yaml_scan.specs.Moves.{IsLost, IsRefused};
-ghost use Rattle.yaml_scan.specs.Scanning.{Holds, IsMet, Advances, Offends, Stays, text_of};
+ghost use Rattle.yaml_scan.specs.inside.Moves.{IsLost, IsRefused};
+ghost use Rattle.yaml_scan.specs.inside.Scanning.{Holds, IsMet, Advances, Offends, Stays, text_of};
 ghost use Rattle.std.specs.Option.{option_copied};
 
 use crate::fault::{keep_fault, stop_t};

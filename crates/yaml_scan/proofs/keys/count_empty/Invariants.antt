@@ -1,5 +1,5 @@
 use Rattle.std.proofs.Common.{◌-◌, length}
-use Rattle.yaml_scan.specs.Slots.{AreEmptyBelow}
+use Rattle.yaml_scan.specs.inside.Slots.{AreEmptyBelow}
 use Rattle.yaml_scan.proofs.keys.count_empty.Given as goal
 
 abbrev pub invariant-loop-empty : goal.invariant-loop-empty

@@ -1,7 +1,7 @@
 use Rattle.std.proofs.Common.{◌≡◌, ℕ, ◌-◌, map, length, vec_len, Some}
 use Rattle.std.specs.Prelude.{slice_get}
 use Rattle.std.specs.Vec.{vec_capacity}
-use Rattle.yaml_scan.specs.Slots.{Held, still_held, AreEmptyBelow}
+use Rattle.yaml_scan.specs.inside.Slots.{Held, still_held, AreEmptyBelow}
 use Rattle.yaml_scan.proofs.keys.give_up_stale.Given as goal
 
 abbrev pub invariant-loop-empty : goal.invariant-loop-empty

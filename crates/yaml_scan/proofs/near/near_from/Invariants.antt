@@ -1,5 +1,5 @@
 use Rattle.std.proofs.Common.{◌≡◌, ℕ, ◌≤◌, ◌<◌, length, drop}
-use Rattle.yaml_scan.specs.Near.{starts}
+use Rattle.yaml_scan.specs.inside.NearFault.{starts}
 use Rattle.yaml_scan.proofs.near.near_from.Given as goal
 
 abbrev pub invariant-back : goal.invariant-back

@@ -3,7 +3,7 @@ use Rattle.std.proofs.lemmas.Bool.{false≢true}
 use Rattle.std.proofs.lemmas.Result.{err_from_is_err_and}
 use Rattle.yaml_text.specs.declared.types.yaml_encoding_t.{yaml_encoding_t}
 use Rattle.yaml_scan.specs.Offline.Token.{StreamStart}
-use Rattle.yaml_scan.specs.Groups.{IsQueue}
+use Rattle.yaml_scan.specs.inside.Groups.{IsQueue}
 use Rattle.yaml_text.specs.Fault.{fault_of}
 use Rattle.yaml_text.specs.Decode.{refusal_seen}
 use Rattle.yaml_scan.proofs.Octets.{short}

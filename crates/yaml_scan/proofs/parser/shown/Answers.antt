@@ -2,9 +2,9 @@ use Rattle.std.proofs.Common.{◌<◌, ◌≤◌, drop, length, sym, ◌∙◌, 
 use Rattle.std.specs.Prelude.{option_map}
 use Rattle.yaml_text.specs.Fault.{fault_of}
 use Rattle.yaml_text.specs.Token.{token_of}
-use Rattle.yaml_scan.specs.Groups.{pending}
+use Rattle.yaml_scan.specs.inside.Groups.{pending}
 use Rattle.yaml_scan.specs.Offline.{offline}
-use Rattle.yaml_scan.specs.Scanning.{history}
+use Rattle.yaml_scan.specs.inside.Scanning.{history}
 use Rattle.yaml_scan.proofs.Queues.{lead_first, token_first}
 use Rattle.yaml_scan.proofs.Takings.{groups_some}
 use Rattle.yaml_scan.proofs.Scans.{head_shown}

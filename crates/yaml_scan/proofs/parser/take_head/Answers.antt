@@ -1,7 +1,7 @@
 use Rattle.std.proofs.Common.{refl, arith, drop}
 use Rattle.yaml_text.specs.Token.{token_of}
 use Rattle.yaml_scan.specs.Offline.{offline}
-use Rattle.yaml_scan.specs.Scanning.{history}
+use Rattle.yaml_scan.specs.inside.Scanning.{history}
 use Rattle.yaml_scan.proofs.Stepped.{few_taken}
 use Rattle.yaml_scan.proofs.Takings.{groups_some, few_done, pops}
 use Rattle.yaml_scan.proofs.parser.take_head.Goals as goal

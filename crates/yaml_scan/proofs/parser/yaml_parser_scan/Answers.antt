@@ -6,7 +6,7 @@ use Rattle.yaml_text.specs.Token.{token_of}
 use Rattle.yaml_scan.specs.Token.{yaml_token_t, is_last_type, type_of}
 use Rattle.yaml_scan.specs.Session.Answer.{TOKEN}
 use Rattle.yaml_scan.specs.Parser.{Parser, Calls, Scans, told}
-use Rattle.yaml_scan.specs.Ready.{parser_of, IsShown, IsShort, IsEnded}
+use Rattle.yaml_scan.specs.inside.Ready.{parser_of, IsShown, IsShort, IsEnded}
 use Rattle.yaml_scan.specs.Session.Call.{SCAN}
 use Rattle.yaml_scan.proofs.CallMarks.{call_is_counted}
 use Rattle.yaml_scan.proofs.Alike.{scanned_alike}

@@ -1,6 +1,6 @@
 use Rattle.std.proofs.Common.{◌∙◌, refl, sym, subst, inl, inr, arith, None}
 use Rattle.yaml_text.specs.Fault.{Fault, fault_of}
-use Rattle.yaml_scan.specs.Scanning.{Offends, history}
+use Rattle.yaml_scan.specs.inside.Scanning.{Offends, history}
 use Rattle.yaml_text.specs.Decode.{refusal_seen}
 use Rattle.yaml_scan.proofs.Stepped.{near_last, stepped, problem_last, memory_stays, few_made, near_moved, instead_moved}
 use Rattle.yaml_scan.proofs.run.advance.Goals as goal

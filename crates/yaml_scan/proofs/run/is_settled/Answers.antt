@@ -1,8 +1,8 @@
 use Rattle.std.proofs.Common.{◌≡◌, ℕ, List, Option, true, false, not, length, deque_len, ap, sym, ◌∙◌, arith}
 use Rattle.std.specs.Prelude.{nat_eq}
-use Rattle.yaml_scan.specs.Slots.{Held, step_of, lowest}
-use Rattle.yaml_scan.specs.Groups.{pending, begins_with_end}
-use Rattle.yaml_scan.specs.Scanning.{history}
+use Rattle.yaml_scan.specs.inside.Slots.{Held, step_of, lowest}
+use Rattle.yaml_scan.specs.inside.Groups.{pending, begins_with_end}
+use Rattle.yaml_scan.specs.inside.Scanning.{history}
 use Rattle.yaml_scan.proofs.Stepped.{few_made, history_length}
 use Rattle.yaml_scan.proofs.Standing.{head_awaited, none_left}
 use Rattle.yaml_scan.proofs.Settled.{settled_test}

@@ -1,8 +1,8 @@
 use Rattle.std.proofs.Common.{◌<◌, ◌∙◌, sym, ap, refl, length, arith, inl, inr, ltb-true, ltb-false}
 use Rattle.std.proofs.lemmas.Result.{err_from_is_err_and}
-use Rattle.yaml_scan.specs.Offline.{before}
+use Rattle.yaml_scan.specs.Settled.{before}
 use Rattle.yaml_scan.specs.Answers.{Course}
-use Rattle.yaml_scan.specs.Scanning.{history}
+use Rattle.yaml_scan.specs.inside.Scanning.{history}
 use Rattle.yaml_scan.proofs.Stepped.{same_trans, course_same}
 use Rattle.yaml_scan.proofs.Paces.{still_running, open_too, fails, made_is, one_more, stops, least_pace}
 use Rattle.yaml_scan.proofs.run.settle_head.Goals as goal

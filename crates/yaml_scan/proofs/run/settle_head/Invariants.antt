@@ -1,6 +1,6 @@
 use Rattle.std.proofs.Common.{◌≤◌, ◌+◌, ◌-◌, length}
-use Rattle.yaml_scan.specs.Session.{pace}
-use Rattle.yaml_scan.specs.Scanning.{Runs, Same, course_of}
+use Rattle.yaml_scan.specs.Settled.{pace}
+use Rattle.yaml_scan.specs.inside.Scanning.{Runs, Same, course_of}
 use Rattle.yaml_scan.proofs.run.settle_head.Given as goal
 
 abbrev pub invariant-steps : goal.invariant-steps

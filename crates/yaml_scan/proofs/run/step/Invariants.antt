@@ -1,4 +1,4 @@
-use Rattle.yaml_scan.specs.Scanning.{history}
+use Rattle.yaml_scan.specs.inside.Scanning.{history}
 use Rattle.yaml_scan.proofs.run.step.Given as goal
 
 abbrev pub ghost-meet : goal.ghost-meet

@@ -5,8 +5,8 @@ use Rattle.yaml_scan.specs.declared.queue.group_t.{group_t}
 use Rattle.yaml_scan.specs.Levels.{greatest_level, stays}
 use Rattle.yaml_scan.specs.Offline.{end_at}
 use Rattle.yaml_scan.specs.Offline.Token.{BlockEnd}
-use Rattle.yaml_scan.specs.Groups.{Fitting, completed_in}
-use Rattle.yaml_scan.specs.Slots.{Held, AreNested}
+use Rattle.yaml_scan.specs.inside.Groups.{Fitting, completed_in}
+use Rattle.yaml_scan.specs.inside.Slots.{Held, AreNested}
 use Rattle.yaml_lexeme.specs.Lexeme.{lexeme_of}
 use Rattle.yaml_scan.specs.SourceOf.{source_of}
 use Rattle.yaml_scan.specs.Step.{front_of}

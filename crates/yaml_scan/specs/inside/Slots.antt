@@ -3,7 +3,8 @@ use Rattle.std.specs.Prelude.{◌≡◌, ◌≢◌, ℕ, zero, suc, ◌+◌, ◌
 use Rattle.std.specs.Prelude.{◌∷◌, ◌++◌, length, nat_eq, nat_le, Option, Some, None, option_map, if◌then◌else◌}
 use Rattle.yaml_text.specs.declared.types.yaml_mark_t.{yaml_mark_t}
 use Rattle.yaml_scan.specs.Kind.{Kind, is_flow_start, is_flow_end, is_value, is_candidate_kind}
-use Rattle.yaml_scan.specs.Laid.{Laid, names, candidate, reach, only_live}
+use Rattle.yaml_scan.specs.Laid.{Laid, names, reach}
+use Rattle.yaml_scan.specs.Keys.{candidate, only_live}
 use Rattle.yaml_scan.specs.Levels.{is_required}
 -- what is kept of a candidate: the number of its step, its start, and whether it is required
 pub use Rattle.yaml_scan.specs.declared.keys.held_t.{held_t as Held}

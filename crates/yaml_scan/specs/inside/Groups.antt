@@ -17,8 +17,8 @@ use Rattle.yaml_scan.specs.Levels.{stays, opens_level}
 use Rattle.yaml_scan.specs.Offline.{Token, handed_out}
 use Rattle.yaml_scan.specs.Offline.Token.{BlockEnd, BlockSequenceStart, BlockMappingStart, InsertedKey}
 use Rattle.yaml_scan.specs.Laws.{is_of_lexeme, is_block_end}
-use Rattle.yaml_scan.specs.Queue.{is_new}
-use Rattle.yaml_scan.specs.Slots.{Held}
+use Rattle.yaml_scan.specs.inside.Queue.{is_new}
+use Rattle.yaml_scan.specs.inside.Slots.{Held}
 
 -- n block ends of one mark
 abbrev pub ends_at : ℕ → yaml_mark_t → List Token

@@ -5,7 +5,7 @@ use Rattle.yaml_scan.specs.Kind.{Kind}
 use Rattle.yaml_scan.specs.Offline.{Token}
 use Rattle.yaml_scan.specs.Offline.Token.{BlockMappingStart, InsertedKey}
 use Rattle.yaml_scan.specs.Levels.{is_above, greatest_level, opens_level}
-use Rattle.yaml_scan.specs.Slots.{Held}
+use Rattle.yaml_scan.specs.inside.Slots.{Held}
 
 -- tokens inserted at place n of a list
 abbrev pub put_in : ℕ → List Token → List Token → List Token

@@ -10,18 +10,21 @@ use Rattle.yaml_scan.specs.declared.step.met_t.{met_t}
 use Rattle.yaml_scan.specs.Lexeme.{Lexeme}
 use Rattle.yaml_scan.specs.Source.{Source, Offence}
 use Rattle.yaml_scan.specs.SourceOf.{source_of}
-use Rattle.yaml_scan.specs.TextReads.{IsProblem}
-use Rattle.yaml_scan.specs.Laid.{Laid, reach, depth, allowed, allowed_behind}
+use Rattle.yaml_scan.specs.inside.TextReads.{IsProblem}
+use Rattle.yaml_scan.specs.Laid.{Laid, reach}
+use Rattle.yaml_scan.specs.Depth.{depth}
+use Rattle.yaml_scan.specs.Allowed.{allowed, allowed_behind}
 use Rattle.yaml_scan.specs.Levels.{AllLess, laid, open_columns}
 use Rattle.yaml_scan.specs.Order.{IsHistory, ended}
-use Rattle.yaml_scan.specs.Offline.{offline, before}
-use Rattle.yaml_scan.specs.Slots.{held, outer_to, empty_slots, lowest, step_of}
-use Rattle.yaml_scan.specs.Groups.{IsQueue}
+use Rattle.yaml_scan.specs.Offline.{offline}
+use Rattle.yaml_scan.specs.Settled.{before, pace}
+use Rattle.yaml_scan.specs.inside.Slots.{held, outer_to, empty_slots, lowest, step_of}
+use Rattle.yaml_scan.specs.inside.Groups.{IsQueue}
 use Rattle.yaml_scan.specs.Step.{step, read_step, stale, place_behind, front_of}
 use Rattle.yaml_scan.specs.Step.Outcome.{Reads, Faults}
 use Rattle.yaml_scan.specs.Cut.{oldest}
-use Rattle.yaml_scan.specs.Answers.{Input, Course, course, is_near}
-use Rattle.yaml_scan.specs.Session.{pace}
+use Rattle.yaml_scan.specs.Answers.{Input, Course, course}
+use Rattle.yaml_scan.specs.Near.{is_near}
 
 -- what it scans
 abbrev pub text_of : scanner_t → Source

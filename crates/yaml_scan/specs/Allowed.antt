@@ -1,0 +1,20 @@
+-- Whether a key is allowed at a lexeme.
+use Rattle.std.specs.Prelude.{ℕ, Bool, true, ◌&&◌, ◌||◌, List, [], ◌∷◌, nat_eq, nat_lt}
+use Rattle.yaml_text.specs.declared.types.yaml_mark_t.{yaml_mark_t}
+use Rattle.yaml_scan.specs.Kind.{Kind, is_key, is_value, is_plain, invites_key}
+use Rattle.yaml_scan.specs.Laid.{Laid, is_none, reach}
+use Rattle.yaml_scan.specs.Depth.{depth}
+
+-- after a lexeme of kind k, read at depth d; none: it completed nothing
+abbrev pub allows : Kind → ℕ → Bool → Bool → Bool
+allows k d none passed_break = invites_key k
+    || ((nat_eq d 0 && (is_key k || (is_value k && none))) || (is_plain k && passed_break))
+
+-- by the last lexeme, and at the start of the stream
+abbrev pub allowed_behind : List Laid → Bool
+allowed_behind [] = true
+allowed_behind (i ∷ H) = allows i.lexeme.kind i.depth (is_none i.completed) i.lexeme.passed_break
+
+-- by the last lexeme, or at depth 0 by a break in the gap, which ends at g
+unfoldable pub allowed : List Laid → yaml_mark_t → Bool
+allowed H g = allowed_behind H || (nat_eq (depth H) 0 && nat_lt (reach H).line g.line)

@@ -1,0 +1,26 @@
+-- The reader's fault instead of a scanner's, by the index from which on a step is near.
+use Rattle.std.specs.Prelude.{ℕ, nat_le, not, List, length, filter, Option, None, Some, if◌then◌else◌}
+use Rattle.yaml_text.specs.declared.types.yaml_error_type_t.{yaml_error_type_t}
+use Rattle.yaml_text.specs.declared.types.yaml_error_type_t.TheVariants.{YAML_SCANNER_ERROR}
+use Rattle.yaml_text.specs.Fault.{Fault}
+use Rattle.yaml_text.specs.Utf8.{continues}
+
+-- the reader's fault, if steps are near from index near on
+abbrev pub near_fault : ℕ → ℕ → Option Fault → Option Fault
+near_fault near index None = None
+near_fault near index (Some f) = if nat_le near index then Some f else None
+
+abbrev pub or_fault : Fault → Option Fault → Fault
+or_fault f None = f
+or_fault f (Some g) = g
+
+abbrev pub if_scanner : yaml_error_type_t → Option Fault → Option Fault
+if_scanner YAML_SCANNER_ERROR o = o
+if_scanner _ o = None
+
+abbrev pub instead : ℕ → Option Fault → Fault → Fault
+instead near refusal f = or_fault f (if_scanner f.error (near_fault near f.problem_mark.index refusal))
+
+-- how many characters begin in bytes of UTF-8
+abbrev pub starts : List ℕ → ℕ
+starts bytes = length (filter (λ b. not (continues b)) bytes)
