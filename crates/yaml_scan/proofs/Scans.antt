@@ -379,8 +379,11 @@ module _ (setting : yaml_encoding_t) (input : List ℕ) (s t : scanner_t) (peeke
   show_fault (inl m) n = inr (ap FAULT m.fault, wants m n)
   show_fault (inr e) n = inl (fault_told e, fault_left e)
 
+  pub show_fault_on : (q : Parser) → q ≡ open_parser → IsShort setting input s (fault_of f) ⊎ IsEnded setting input s t (fault_of f) → peeked ≡ false → Calls PEEK q (FAULT (fault_of f)) stopped
+  show_fault_on q r e n = subst (λ (x : Parser). Calls PEEK x (FAULT (fault_of f)) stopped) (sym r) (show_fault e n)
+
   pub show_fault_of : (q : Parser) → q ≡ open_parser → IsShort setting input s (fault_of f) ⊎ IsEnded setting input s t (fault_of f) → peeked ≡ false → Shows q false stopped
-  show_fault_of q r e n = (fault_of f, refl, subst (λ (x : Parser). Calls PEEK x (FAULT (fault_of f)) stopped) (sym r) (show_fault e n))
+  show_fault_of q r e n = (fault_of f, refl, show_fault_on q r e n)
 
 pub open_session : (p : Parser) → p.session.over ≡ false → p ≡ record { input = p.input; setting = p.setting; limit = p.limit; session = record { taken = p.session.taken; steps = p.session.steps; peeked = p.session.peeked; over = false; fault = p.session.fault } }
 open_session p o = λ k. record { input = p.input; setting = p.setting; limit = p.limit; session = record { taken = p.session.taken; steps = p.session.steps; peeked = p.session.peeked; over = o k; fault = p.session.fault } }

@@ -10,7 +10,7 @@ use Rattle.yaml_scan.specs.inside.Ready.{parser_of, IsShown, IsShort, IsEnded}
 use Rattle.yaml_scan.specs.Session.Call.{SCAN}
 use Rattle.yaml_scan.proofs.CallMarks.{call_is_counted}
 use Rattle.yaml_scan.proofs.Alike.{scanned_alike}
-use Rattle.yaml_scan.proofs.Scans.{show_token, show_fault_of, open_session, shown_settled, stands_u, open_u, last_is, take_told_of, take_left_of, scan_over, scan_shown, scan_not_shown, bare, early}
+use Rattle.yaml_scan.proofs.Scans.{show_token, show_fault_on, open_session, shown_settled, stands_u, open_u, last_is, take_told_of, take_left_of, scan_over, scan_shown, scan_not_shown, bare, early}
 use Rattle.yaml_scan.proofs.Keeps.{stands_ready, keeps_settled, keeps_stopped, keeps_taken, reach_in, reach_stopped}
 use Rattle.yaml_scan.proofs.Waits.{done_is}
 use Rattle.yaml_scan.proofs.parser.yaml_parser_scan.Goals as goal
@@ -67,8 +67,8 @@ returns-in-Err c = let i = c.parser.inside in let f = c.in-Err.ensures in let t 
     let e : c.args.parser.now ≡ parser_of i = sym c.parser.view_is in
     let o = sym (ap (λ (p : Parser). p.session.over) c.parser.view_is) ∙ c.if-parser.false in
     let r : Parser = record { input = i.input.now; setting = i.setting; limit = t.limit; session = record { taken = t.taken; steps = t.made; peeked = false; over = true; fault = Some (fault_of w) } } in
-    let s = show_fault_of i.setting i.input.now i.scanner t i.session.peeked (option_map fault_of i.session.fault) w f.1 c.args.parser.now (e ∙ open_session (parser_of i) c.if-parser.false) (subst (λ (x : Fault). IsShort i.setting i.input.now i.scanner x ⊎ IsEnded i.setting i.input.now i.scanner t x) (sym c.fault_at-fault.ensures) f.0) f.2 in
-    let a : Scans c.args.parser.now (Err w) r = scan_not_shown c.args.parser.now r o w s.2 in
+    let s = show_fault_on i.setting i.input.now i.scanner t i.session.peeked (option_map fault_of i.session.fault) w f.1 c.args.parser.now (e ∙ open_session (parser_of i) c.if-parser.false) (subst (λ (x : Fault). IsShort i.setting i.input.now i.scanner x ⊎ IsEnded i.setting i.input.now i.scanner t x) (sym c.fault_at-fault.ensures) f.0) f.2 in
+    let a : Scans c.args.parser.now (Err w) r = scan_not_shown c.args.parser.now r o w s in
     rw c.end.ensures (record { answers = a; bare = bare SCAN c.args.parser.now (told (Err w)) r a; early = early SCAN c.args.parser.now (told (Err w)) r a; local = scanned_alike c.args.parser.now (told (Err w)) r a; marks = call_is_counted SCAN c.args.parser.now (told (Err w)) r a })
 
 pub returns-then-parser-clause-local : goal.returns-then-parser-clause-local
