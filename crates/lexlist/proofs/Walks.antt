@@ -12,7 +12,7 @@ use Rattle.yaml_lexeme.specs.Place.{Place, place_at, IsMarkOf}
 use Rattle.yaml_lexeme.specs.Reading.{Read}
 use Rattle.yaml_lexeme.proofs.LexOrder.{lexeme_spans}
 use Rattle.yaml_scan.specs.SourceOf.{count_to}
-use Rattle.yaml_scan.proofs.Places.{ahead_place}
+use Rattle.yaml_scan.proofs.Texts.TextPlaces.{ahead_place}
 
 abbrev ok : yaml_lexeme_t → Result yaml_lexeme_t Fault
 ok a = Ok a

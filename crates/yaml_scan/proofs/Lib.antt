@@ -1,69 +1,20 @@
-pub mod KindTests
-pub mod DepthMore
-pub mod Candidates
-pub mod Histories
-pub mod Stable
-pub mod Extend
-pub mod Bound
-pub mod Insertion
-pub mod Columns
-pub mod Falling
-pub mod Whole
-pub mod Tokens
-pub mod Queued
-pub mod Count
-pub mod GoOn
-pub mod HeldMore
-pub mod Closing
-pub mod Settled
-pub mod EmptySlots
-pub mod HeldOrder
-pub mod Cuts
-pub mod Next
-pub mod TokenOrder
-pub mod KeyValues
-pub mod Sizes
-pub mod Pacing
-pub mod Sessions
-pub mod Courses
-pub mod Rows
-pub mod Look
-pub mod Onward
-pub mod AnswerOrder
-pub mod Local
-pub mod Queues
-pub mod Stacks
-pub mod Standing
-pub mod Places
-pub mod TextOrder
-pub mod Refusals
-pub mod Advances
-pub mod Stepped
-pub mod Paces
-pub mod LexemeReads
-pub mod SourceOrder
-pub mod SourceLocal
-pub mod InputLaws
-pub mod Octets
-pub mod Takings
-pub mod Waits
-pub mod Beginnings
-pub mod Shortage
-pub mod Settlings
-pub mod Scans
-pub mod Keeps
-pub mod LastTokens
-pub mod AllScanned
-pub mod AllLaws
-pub mod CallRuns
-pub mod Telling
-pub mod AllTold
-pub mod CallsTold
+-- What holds along a list of lexemes, with one lexeme more.
+pub mod History
+-- The offline list: what one lexeme more changes, and the order of its tokens.
+pub mod TokenList
+-- Steps and courses: the steps of an input, how many a token needs, and what is returned.
+pub mod Course
+-- Sessions: what lists of calls take and return.
+pub mod SessionCalls
+-- Reading of texts: places, order, and what a step does not depend on.
+pub mod Texts
+-- Marks are those that are counted from the front of the text.
 pub mod CountedMarks
-pub mod CountedSteps
-pub mod CountedTokens
-pub mod CallMarks
-pub mod ReadsOn
-pub mod Faults
-pub mod Taken
-pub mod Alike
+-- One step of the running scanner is the step of the definitions.
+pub mod RunningStep
+-- The queue of the running scanner holds the groups that were not taken.
+pub mod RunningQueue
+-- The calls of the running scanner are those of the session.
+pub mod RunningCalls
+-- Worked inputs, which are computed.
+mod Examples

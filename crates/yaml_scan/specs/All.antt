@@ -7,7 +7,7 @@ use Rattle.yaml_scan.specs.Token.{yaml_token_t, is_last_type, type_of}
 use Rattle.yaml_scan.specs.Fault.{Fault, memory_fault}
 use Rattle.yaml_scan.specs.Begins.{Begins}
 use Rattle.yaml_scan.specs.Depth.{depth}
-use Rattle.yaml_scan.specs.Offline.{handed_out}
+use Rattle.yaml_scan.specs.Groups.{handed_out}
 use Rattle.yaml_scan.specs.Answers.{Answers, Course, course}
 use Rattle.yaml_scan.specs.Session.{all_steps, settled_tokens}
 use Rattle.yaml_scan.specs.Inputs.{decoded_input, answers_to}

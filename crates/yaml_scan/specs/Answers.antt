@@ -3,7 +3,7 @@ use Rattle.std.specs.Prelude.{ℕ, ◌+◌, Bool, true, false, List, [], map, Op
 use Rattle.yaml_text.specs.declared.types.yaml_encoding_t.{yaml_encoding_t}
 use Rattle.yaml_scan.specs.Token.{yaml_token_t}
 use Rattle.yaml_scan.specs.Laid.{Laid}
-use Rattle.yaml_scan.specs.Offline.{Token, handed_out}
+use Rattle.yaml_scan.specs.Groups.{Token, handed_out}
 use Rattle.yaml_scan.specs.Settled.{before}
 use Rattle.yaml_scan.specs.Fault.{Fault}
 use Rattle.yaml_scan.specs.Source.{Source}

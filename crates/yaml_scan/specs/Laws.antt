@@ -9,13 +9,12 @@ use Rattle.yaml_scan.specs.Depth.{depth}
 use Rattle.yaml_scan.specs.Allowed.{allowed, allows}
 use Rattle.yaml_scan.specs.Keys.{candidate, is_candidate, enters, completed_by}
 use Rattle.yaml_scan.specs.Levels.{is_above, is_opener, open_columns, kept_columns, level, IsFalling}
-use Rattle.yaml_scan.specs.Offline.{Token, group, offline}
+use Rattle.yaml_scan.specs.Groups.{Token, group, offline, put_in}
 use Rattle.yaml_scan.specs.Settled.{waiting, before, up_to, queued}
-use Rattle.yaml_scan.specs.Offline.Token.{StreamStart, BlockEnd, BlockSequenceStart, BlockMappingStart, InsertedKey}
-use Rattle.yaml_scan.specs.Offline.Token.{OfLexeme}
+use Rattle.yaml_scan.specs.Groups.Token.{StreamStart, BlockEnd, BlockSequenceStart, BlockMappingStart, InsertedKey}
+use Rattle.yaml_scan.specs.Groups.Token.{OfLexeme}
 use Rattle.yaml_scan.specs.Order.{IsHistory, ended}
 use Rattle.yaml_scan.specs.Begins.{Begins}
-use Rattle.yaml_scan.specs.inside.Queue.{put_in}
 use Rattle.yaml_scan.specs.Source.{Source, Offence}
 use Rattle.yaml_scan.specs.Step.{step}
 use Rattle.yaml_scan.specs.Cut.{cut, IsRun, EndsWith, KeepsOrder}

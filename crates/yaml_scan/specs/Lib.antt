@@ -7,7 +7,7 @@ pub mod Allowed
 pub mod Keys
 pub mod Levels
 pub mod Begins
-pub mod Offline
+pub mod Groups
 pub mod Order
 pub mod Fault
 pub mod Source

@@ -9,7 +9,7 @@ use Rattle.yaml_text.specs.declared.token.yaml_token_t.{yaml_token_t as code_tok
 use Rattle.yaml_text.specs.Fault.{Fault, fault_of, memory_fault}
 use Rattle.yaml_text.specs.Token.{token_of}
 use Rattle.yaml_scan.specs.Token.{yaml_token_t, empty}
-use Rattle.yaml_scan.specs.Offline.{Token, handed_out}
+use Rattle.yaml_scan.specs.Groups.{Token, handed_out}
 use Rattle.yaml_scan.specs.Answers.{Input, Course, course}
 use Rattle.yaml_scan.specs.Near.{starts_near}
 use Rattle.yaml_scan.specs.Inputs.{decoded_input}

@@ -5,7 +5,7 @@ use Rattle.yaml_text.specs.declared.types.yaml_encoding_t.{yaml_encoding_t}
 use Rattle.yaml_scan.specs.declared.calls.yaml_answer_t.{yaml_answer_t}
 use Rattle.yaml_scan.specs.Token.{yaml_token_t, empty}
 use Rattle.yaml_scan.specs.Fault.{Fault, memory_fault}
-use Rattle.yaml_scan.specs.Offline.{Token}
+use Rattle.yaml_scan.specs.Groups.{Token}
 use Rattle.yaml_scan.specs.Begins.{Begins}
 use Rattle.yaml_scan.specs.Inputs.{answers_to, GoesOn}
 use Rattle.yaml_scan.specs.Session.{Call, Answer, next_token}

@@ -6,10 +6,10 @@ use Rattle.yaml_text.specs.declared.types.yaml_encoding_t.{yaml_encoding_t}
 use Rattle.yaml_scan.specs.Kind.{is_stream_end}
 use Rattle.yaml_scan.specs.Token.{yaml_token_t, empty}
 use Rattle.yaml_scan.specs.Laid.{reach}
-use Rattle.yaml_scan.specs.Offline.{Token, handed_out}
+use Rattle.yaml_scan.specs.Groups.{Token, handed_out}
 use Rattle.yaml_scan.specs.Settled.{before, queued, first_steps, pace}
-use Rattle.yaml_scan.specs.Offline.Token.{StreamStart, BlockEnd, BlockSequenceStart, BlockMappingStart, InsertedKey}
-use Rattle.yaml_scan.specs.Offline.Token.{OfLexeme}
+use Rattle.yaml_scan.specs.Groups.Token.{StreamStart, BlockEnd, BlockSequenceStart, BlockMappingStart, InsertedKey}
+use Rattle.yaml_scan.specs.Groups.Token.{OfLexeme}
 use Rattle.yaml_scan.specs.Fault.{Fault}
 use Rattle.yaml_scan.specs.Answers.{Course, tokens_of}
 

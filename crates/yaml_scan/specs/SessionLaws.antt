@@ -3,7 +3,7 @@ use Rattle.std.specs.Prelude.{◌≡◌, ℕ, ◌+◌, ◌≤◌, ◌<◌, Bool,
 use Rattle.std.specs.Prelude.{None, option_map, if◌then◌else◌}
 use Rattle.std.specs.Option.{option_to_list}
 use Rattle.yaml_scan.specs.Laid.{Laid}
-use Rattle.yaml_scan.specs.Offline.{Token, offline}
+use Rattle.yaml_scan.specs.Groups.{Token, offline}
 use Rattle.yaml_scan.specs.Settled.{before, settled, pace}
 use Rattle.yaml_scan.specs.Order.{IsHistory, ended}
 use Rattle.yaml_scan.specs.Fault.{Fault}

@@ -1,10 +1,10 @@
 -- The running code: what a scanner, its queue and its slots hold. No contract of a public call needs these.
 pub mod Slots
-pub mod Queue
+pub mod Opened
 pub mod TextReads
 pub mod Stop
-pub mod Groups
-pub mod Moves
+pub mod Queue
+pub mod StepFaults
 pub mod NearFault
 pub mod Scanning
 pub mod Ready

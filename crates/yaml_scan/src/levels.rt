@@ -3,19 +3,19 @@ ghost use Rattle.std.specs.Prelude.{◌≡◌, ◌+◌, ◌-◌, ◌<◌, ◌≤
 ghost use Rattle.std.specs.Prelude.{filter, length, vec_len, nat_lt, None, Some, if◌then◌else◌};
 ghost use Rattle.std.specs.Vec.{vec_capacity};
 ghost use Rattle.std.specs.VecDeque.{deque_capacity};
-ghost use Rattle.yaml_scan.specs.declared.queue.block_t.TheVariants.{NONE};
+ghost use Rattle.yaml_scan.specs.declared.groups.block_t.TheVariants.{NONE};
 ghost use Rattle.yaml_scan.specs.Kind.{is_stream_end};
 ghost use Rattle.yaml_scan.specs.Levels.{stays, is_above, greatest_level, opens_level, IsFalling};
-ghost use Rattle.yaml_scan.specs.Offline.{end_at};
-ghost use Rattle.yaml_scan.specs.Offline.Token.{BlockEnd};
-ghost use Rattle.yaml_scan.specs.inside.Queue.{is_new, opened};
-ghost use Rattle.yaml_scan.specs.inside.Groups.{ends_at, closing, completed_in, opened_by, start_of, Fitting};
-ghost use Rattle.yaml_scan.specs.inside.Groups.{KeepsRest};
+ghost use Rattle.yaml_scan.specs.Groups.{end_at};
+ghost use Rattle.yaml_scan.specs.Groups.Token.{BlockEnd};
+ghost use Rattle.yaml_scan.specs.inside.Opened.{is_new, opened};
+ghost use Rattle.yaml_scan.specs.inside.Queue.{ends_at, closing, completed_in, opened_by, start_of, Fitting};
+ghost use Rattle.yaml_scan.specs.inside.Queue.{KeepsRest};
 ghost use Rattle.yaml_scan.specs.inside.Slots.{is_margin_level};
 
+use crate::groups::{block_t, group_t, mark_key, queue_t};
 use crate::keys::held_t;
 use crate::kind::{is_last, is_opener, stays_open};
-use crate::queue::{block_t, group_t, mark_key, queue_t};
 use yaml_lexeme::yaml_lexeme_kind_t;
 use yaml_text::{yaml_mark_t, yaml_token_t};
 
@@ -86,7 +86,7 @@ pub(crate) fn close_levels(
 }
 
 /// The greatest of the open levels.
-#[tactic(auto, using(crate::proofs::Closing::last_level))]
+#[tactic(auto, using(crate::proofs::RunningStep::LevelStack::last_level))]
 pub(crate) fn top_level(levels: &[u64]) -> Option<u64>
     requires { IsFalling (reverse levels.now) }
     ensures { result ≡ greatest_level (reverse levels.now) }

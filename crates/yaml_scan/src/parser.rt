@@ -21,11 +21,11 @@ ghost use Rattle.yaml_scan.specs.Puts.{HasNext, IsAnsweredAlike};
 ghost use Rattle.yaml_scan.specs.inside.Stop.{fault_at};
 
 use crate::fault::{fault_at, make_memory_fault, stop_t};
+use crate::groups::{has_lead, lead, put_stream_start, queue_t, take_next};
 use crate::keys::slots_t;
 use crate::levels::layout_t;
 use crate::near::near_from;
-use crate::queue::{has_lead, lead, put_stream_start, queue_t, take_next};
-use crate::run::settle_head;
+use crate::settled::settle_head;
 use crate::step::scanner_t;
 use std::alloc::Global;
 use std::collections::VecDeque;

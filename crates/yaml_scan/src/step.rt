@@ -14,7 +14,7 @@ ghost use Rattle.yaml_scan.specs.inside.Slots.{nested_top};
 ghost use Rattle.yaml_scan.specs.inside.Slots.{empty_slots, lowest, step_of, AreNested};
 ghost use Rattle.std.specs.Vec.{vec_capacity};
 ghost use Rattle.yaml_scan.specs.Step.{problem_of, replaces, step};
-ghost use Rattle.yaml_scan.specs.inside.Moves.{IsLost, IsRefused};
+ghost use Rattle.yaml_scan.specs.inside.StepFaults.{IsLost, IsRefused};
 ghost use Rattle.yaml_scan.specs.inside.Scanning.{Holds, IsMet, Advances, Offends, Stays, text_of};
 ghost use Rattle.std.specs.Option.{option_copied};
 

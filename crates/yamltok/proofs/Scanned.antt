@@ -5,8 +5,8 @@ use Rattle.yaml_text.specs.declared.types.yaml_encoding_t.{yaml_encoding_t}
 use Rattle.yaml_text.specs.Fault.{Fault}
 use Rattle.yaml_scan.specs.Sink.{IsGivenAll}
 use Rattle.yaml_scan.specs.Words.{HasLine}
-use Rattle.yaml_scan.proofs.AllLaws.{reads_early}
-use Rattle.yaml_scan.proofs.AllTold.{reads_have_lines}
+use Rattle.yaml_scan.proofs.SessionCalls.ListLaws.{reads_early}
+use Rattle.yaml_scan.proofs.SessionCalls.ListWords.{reads_have_lines}
 use Rattle.yamltok.specs.Listing.{token_lines, fault_lines}
 use Rattle.yamltok.specs.Run.{ListsScan}
 

@@ -9,14 +9,14 @@ use Rattle.yaml_scan.specs.declared.parser.yaml_parser_t.TheInside.{Inside}
 use Rattle.yaml_text.specs.Token.{token_of}
 use Rattle.yaml_scan.specs.Laid.{reach}
 use Rattle.yaml_scan.specs.Token.{yaml_token_t, empty}
-use Rattle.yaml_scan.specs.Offline.{Token, handed_out}
+use Rattle.yaml_scan.specs.Groups.{Token, handed_out}
 use Rattle.yaml_scan.specs.Settled.{before, settled, pace, first_steps}
 use Rattle.yaml_scan.specs.Answers.{Course, course, tokens_of}
 use Rattle.yaml_scan.specs.Session.{all_steps, session_queued}
 use Rattle.yaml_scan.specs.Inputs.{decoded_input}
 use Rattle.yaml_scan.specs.inside.Scanning.{Runs, IsOpen, history, course_of, input_of}
 use Rattle.yaml_scan.specs.Parser.{Parser}
-use Rattle.yaml_scan.specs.inside.Groups.{IsLead}
+use Rattle.yaml_scan.specs.inside.Queue.{IsLead}
 
 -- nothing was read yet
 pub record IsNew (s : scanner_t) : Type 0 where

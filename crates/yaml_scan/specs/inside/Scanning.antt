@@ -16,10 +16,10 @@ use Rattle.yaml_scan.specs.Depth.{depth}
 use Rattle.yaml_scan.specs.Allowed.{allowed, allowed_behind}
 use Rattle.yaml_scan.specs.Levels.{AllLess, laid, open_columns}
 use Rattle.yaml_scan.specs.Order.{IsHistory, ended}
-use Rattle.yaml_scan.specs.Offline.{offline}
+use Rattle.yaml_scan.specs.Groups.{offline}
 use Rattle.yaml_scan.specs.Settled.{before, pace}
 use Rattle.yaml_scan.specs.inside.Slots.{held, outer_to, empty_slots, lowest, step_of}
-use Rattle.yaml_scan.specs.inside.Groups.{IsQueue}
+use Rattle.yaml_scan.specs.inside.Queue.{IsQueue}
 use Rattle.yaml_scan.specs.Step.{step, read_step, stale, place_behind, front_of}
 use Rattle.yaml_scan.specs.Step.Outcome.{Reads, Faults}
 use Rattle.yaml_scan.specs.Cut.{oldest}

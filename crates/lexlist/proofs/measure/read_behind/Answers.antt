@@ -3,7 +3,7 @@ use Rattle.yaml_text.specs.declared.types.yaml_mark_t.{yaml_mark_t}
 use Rattle.yaml_lexeme.specs.Lexeme.{lexeme_of}
 use Rattle.yaml_lexeme.specs.Order.{is_stream_end}
 use Rattle.yaml_lexeme.specs.Place.{IsMarkOf}
-use Rattle.yaml_scan.proofs.Places.{gap_ends}
+use Rattle.yaml_scan.proofs.Texts.TextPlaces.{gap_ends}
 use Rattle.lexlist.proofs.Walks.{reaches}
 use Rattle.lexlist.proofs.measure.read_behind.Goals as goal
 

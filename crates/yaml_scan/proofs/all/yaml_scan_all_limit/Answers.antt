@@ -4,10 +4,10 @@ use Rattle.yaml_text.specs.Token.{token_of}
 use Rattle.yaml_text.specs.Fault.{fault_of}
 use Rattle.yaml_scan.specs.Token.{yaml_token_t}
 use Rattle.yaml_scan.specs.All.{ReadsAll}
-use Rattle.yaml_scan.proofs.Alike.{reads_alike}
-use Rattle.yaml_scan.proofs.AllLaws.{reads_in_order, reads_ends, reads_all_ends, reads_keys, reads_early}
-use Rattle.yaml_scan.proofs.AllTold.{reads_have_lines}
-use Rattle.yaml_scan.proofs.CallMarks.{reads_are_counted}
+use Rattle.yaml_scan.proofs.Texts.AnswerLocality.{reads_alike}
+use Rattle.yaml_scan.proofs.SessionCalls.ListLaws.{reads_in_order, reads_ends, reads_all_ends, reads_keys, reads_early}
+use Rattle.yaml_scan.proofs.SessionCalls.ListWords.{reads_have_lines}
+use Rattle.yaml_scan.proofs.CountedMarks.CallMarks.{reads_are_counted}
 use Rattle.yaml_scan.proofs.all.yaml_scan_all_limit.Goals as goal
 
 -- what the new parser's tokens are

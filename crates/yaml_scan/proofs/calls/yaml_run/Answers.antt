@@ -5,13 +5,13 @@ use Rattle.yaml_scan.specs.CallWords.{SeenHaveLines}
 use Rattle.yaml_scan.specs.ReadingOn.{HaveOneFault}
 use Rattle.yaml_scan.specs.Puts.{TakesNext, AreAnsweredAlike}
 use Rattle.yaml_scan.specs.CallMarks.{text_read, SeenAreCounted}
-use Rattle.yaml_scan.proofs.CallMarks.{runs_are_counted}
-use Rattle.yaml_scan.proofs.Alike.{runs_alike}
-use Rattle.yaml_scan.proofs.CallRuns.{puts_session}
-use Rattle.yaml_scan.proofs.CallsTold.{run_has_lines}
-use Rattle.yaml_scan.proofs.Faults.{runs_fault_once}
-use Rattle.yaml_scan.proofs.ReadsOn.{reads_on}
-use Rattle.yaml_scan.proofs.Taken.{puts, takes_next}
+use Rattle.yaml_scan.proofs.CountedMarks.CallMarks.{runs_are_counted}
+use Rattle.yaml_scan.proofs.Texts.AnswerLocality.{runs_alike}
+use Rattle.yaml_scan.proofs.SessionCalls.CallsInTurn.{puts_session}
+use Rattle.yaml_scan.proofs.SessionCalls.CallWords.{run_has_lines}
+use Rattle.yaml_scan.proofs.SessionCalls.OneFault.{runs_fault_once}
+use Rattle.yaml_scan.proofs.SessionCalls.ReadingOn.{reads_on}
+use Rattle.yaml_scan.proofs.SessionCalls.TokensTaken.{puts, takes_next}
 use Rattle.yaml_scan.proofs.calls.yaml_run.Goals as goal
 
 pub returns-clause-early : goal.returns-clause-early

@@ -2,7 +2,7 @@ use Rattle.std.proofs.Common.{◌≡◌, ℕ, ◌<◌, length, Some, ap, sym, �
 use Rattle.std.specs.Prelude.{slice_get, is_some}
 use Rattle.std.proofs.lemmas.Option.{slice_get_read}
 use Rattle.yaml_scan.specs.inside.Slots.{AreEmptyBelow}
-use Rattle.yaml_scan.proofs.EmptySlots.{below_empty, empty_all, none_at, set_swept, set_empty, set_held, swept_to, swept_all}
+use Rattle.yaml_scan.proofs.RunningQueue.EmptySlots.{below_empty, empty_all, none_at, set_swept, set_empty, set_held, swept_to, swept_all}
 use Rattle.yaml_scan.proofs.keys.give_up_stale.Goals as goal
 
 pub loop-empty-init : goal.loop-empty-init

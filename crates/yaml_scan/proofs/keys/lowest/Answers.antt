@@ -2,7 +2,7 @@ use Rattle.std.proofs.Common.{◌≡◌, ℕ, ◌∷◌, [], List, length, Some,
 use Rattle.std.specs.Prelude.{slice_get, Option}
 use Rattle.std.proofs.lemmas.Option.{slice_get_read, slice_get_past}
 use Rattle.yaml_scan.specs.inside.Slots.{Held}
-use Rattle.yaml_scan.proofs.EmptySlots.{lowest_there, lowest_behind}
+use Rattle.yaml_scan.proofs.RunningQueue.EmptySlots.{lowest_there, lowest_behind}
 use Rattle.yaml_scan.proofs.keys.lowest.Goals as goal
 
 pub returns-in-Some : goal.returns-in-Some

@@ -1,7 +1,7 @@
 use Rattle.std.proofs.Common.{ℕ, List, subst, sym, ◌∙◌}
 use Rattle.std.specs.Prelude.{Option}
 use Rattle.yaml_scan.specs.inside.Slots.{Held, AreEmptyBelow, nested_outer}
-use Rattle.yaml_scan.proofs.EmptySlots.{nested_empty}
+use Rattle.yaml_scan.proofs.RunningQueue.EmptySlots.{nested_empty}
 use Rattle.yaml_scan.proofs.keys.move_slots.Goals as goal
 
 pub count_empty-slots-requires : goal.count_empty-slots-requires

@@ -1,4 +1,4 @@
-use Rattle.yaml_scan.proofs.GoOn as laws
+use Rattle.yaml_scan.proofs.TokenList.OneLexemeMore as laws
 use Rattle.yaml_scan.proofs.laws.all_is_handed_out.Goals as goal
 
 pub returns : goal.returns

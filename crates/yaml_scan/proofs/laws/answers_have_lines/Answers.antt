@@ -1,4 +1,4 @@
-use Rattle.yaml_scan.proofs.Telling as laws
+use Rattle.yaml_scan.proofs.SessionCalls.AnswerWords as laws
 use Rattle.yaml_scan.proofs.laws.answers_have_lines.Goals as goal
 
 pub returns : goal.returns

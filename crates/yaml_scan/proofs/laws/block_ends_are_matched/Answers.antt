@@ -1,5 +1,5 @@
-use Rattle.yaml_scan.proofs.GoOn.{ends_never_outnumber, as_many}
-use Rattle.yaml_scan.proofs.AnswerOrder.{answers_end_fewer, answers_end_all}
+use Rattle.yaml_scan.proofs.TokenList.OneLexemeMore.{ends_never_outnumber, as_many}
+use Rattle.yaml_scan.proofs.Course.AnswerOrder.{answers_end_fewer, answers_end_all}
 use Rattle.yaml_scan.proofs.laws.block_ends_are_matched.Goals as goal
 
 pub returns : goal.returns

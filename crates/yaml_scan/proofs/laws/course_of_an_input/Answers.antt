@@ -1,4 +1,4 @@
-use Rattle.yaml_scan.proofs.Courses as laws
+use Rattle.yaml_scan.proofs.Course.CourseSteps as laws
 use Rattle.yaml_scan.proofs.laws.course_of_an_input.Goals as goal
 
 pub returns : goal.returns

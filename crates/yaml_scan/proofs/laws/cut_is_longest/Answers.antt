@@ -1,5 +1,5 @@
-use Rattle.yaml_scan.proofs.Cuts as laws
-use Rattle.yaml_scan.proofs.Courses as courses
+use Rattle.yaml_scan.proofs.Course.LongestCut as laws
+use Rattle.yaml_scan.proofs.Course.CourseSteps as courses
 use Rattle.yaml_scan.proofs.laws.cut_is_longest.Goals as goal
 
 pub returns : goal.returns

@@ -1,4 +1,4 @@
-use Rattle.yaml_scan.proofs.Faults as laws
+use Rattle.yaml_scan.proofs.SessionCalls.OneFault as laws
 use Rattle.yaml_scan.proofs.laws.fault_is_told_once.Goals as goal
 
 pub returns : goal.returns

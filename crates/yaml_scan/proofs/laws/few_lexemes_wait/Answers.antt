@@ -1,4 +1,4 @@
-use Rattle.yaml_scan.proofs.GoOn.{few_wait, few_wait_one_step_on}
+use Rattle.yaml_scan.proofs.TokenList.OneLexemeMore.{few_wait, few_wait_one_step_on}
 use Rattle.yaml_scan.proofs.laws.few_lexemes_wait.Goals as goal
 
 pub returns : goal.returns

@@ -1,5 +1,5 @@
-use Rattle.yaml_scan.proofs.KeyValues as laws
-use Rattle.yaml_scan.proofs.AnswerOrder as answers
+use Rattle.yaml_scan.proofs.TokenList.KeyValues as laws
+use Rattle.yaml_scan.proofs.Course.AnswerOrder as answers
 use Rattle.yaml_scan.proofs.laws.keys_are_followed.Goals as goal
 
 pub returns : goal.returns

@@ -1,4 +1,4 @@
-use Rattle.yaml_scan.proofs.InputLaws as laws
+use Rattle.yaml_scan.proofs.Course.InputLaws as laws
 use Rattle.yaml_scan.proofs.laws.laws_of_any_input.Goals as goal
 
 pub returns : goal.returns

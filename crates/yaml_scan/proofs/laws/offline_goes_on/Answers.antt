@@ -1,4 +1,4 @@
-use Rattle.yaml_scan.proofs.GoOn.{offline_goes_on, candidate_stands_there}
+use Rattle.yaml_scan.proofs.TokenList.OneLexemeMore.{offline_goes_on, candidate_stands_there}
 use Rattle.yaml_scan.proofs.laws.offline_goes_on.Goals as goal
 
 pub returns : goal.returns

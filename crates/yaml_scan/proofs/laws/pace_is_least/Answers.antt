@@ -1,4 +1,4 @@
-use Rattle.yaml_scan.proofs.Pacing as laws
+use Rattle.yaml_scan.proofs.Course.StepsNeeded as laws
 use Rattle.yaml_scan.proofs.laws.pace_is_least.Goals as goal
 
 pub returns : goal.returns

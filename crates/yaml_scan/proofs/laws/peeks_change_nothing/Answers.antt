@@ -1,4 +1,4 @@
-use Rattle.yaml_scan.proofs.Sessions as laws
+use Rattle.yaml_scan.proofs.SessionCalls.SessionTokens as laws
 use Rattle.yaml_scan.proofs.laws.peeks_change_nothing.Goals as goal
 
 pub returns : goal.returns

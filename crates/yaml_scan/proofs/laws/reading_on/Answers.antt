@@ -1,4 +1,4 @@
-use Rattle.yaml_scan.proofs.ReadsOn as laws
+use Rattle.yaml_scan.proofs.SessionCalls.ReadingOn as laws
 use Rattle.yaml_scan.proofs.laws.reading_on.Goals as goal
 
 pub returns : goal.returns

@@ -1,5 +1,5 @@
-use Rattle.yaml_scan.proofs.Local as laws
-use Rattle.yaml_scan.proofs.SourceLocal as texts
+use Rattle.yaml_scan.proofs.Texts.StepLocality as laws
+use Rattle.yaml_scan.proofs.Texts.SourceLocality as texts
 use Rattle.yaml_scan.proofs.laws.step_is_local.Goals as goal
 
 pub returns : goal.returns

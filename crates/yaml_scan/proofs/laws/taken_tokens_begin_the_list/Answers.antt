@@ -1,5 +1,5 @@
-use Rattle.yaml_scan.proofs.Sessions as sessions
-use Rattle.yaml_scan.proofs.Courses as courses
+use Rattle.yaml_scan.proofs.SessionCalls.SessionTokens as sessions
+use Rattle.yaml_scan.proofs.Course.CourseSteps as courses
 use Rattle.yaml_scan.proofs.laws.taken_tokens_begin_the_list.Goals as goal
 
 pub returns : goal.returns

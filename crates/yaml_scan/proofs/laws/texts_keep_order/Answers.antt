@@ -1,4 +1,4 @@
-use Rattle.yaml_scan.proofs.SourceOrder as laws
+use Rattle.yaml_scan.proofs.Texts.SourceOrder as laws
 use Rattle.yaml_scan.proofs.laws.texts_keep_order.Goals as goal
 
 pub returns : goal.returns

@@ -1,4 +1,4 @@
-use Rattle.yaml_scan.proofs.Sizes as laws
+use Rattle.yaml_scan.proofs.TokenList.GroupSizes as laws
 use Rattle.yaml_scan.proofs.laws.tokens_are_few.Goals as goal
 
 pub returns : goal.returns

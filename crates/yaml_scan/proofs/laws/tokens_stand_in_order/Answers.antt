@@ -1,5 +1,5 @@
-use Rattle.yaml_scan.proofs.TokenOrder as laws
-use Rattle.yaml_scan.proofs.AnswerOrder as answers
+use Rattle.yaml_scan.proofs.TokenList.TokenOrder as laws
+use Rattle.yaml_scan.proofs.Course.AnswerOrder as answers
 use Rattle.yaml_scan.proofs.laws.tokens_stand_in_order.Goals as goal
 
 pub returns : goal.returns

@@ -1,7 +1,7 @@
 use Rattle.std.proofs.Common.{◌≡◌, ℕ, List, None, reverse, filter, length, not, sym, ap, ◌∙◌, arith}
 use Rattle.yaml_scan.specs.Levels.{stays}
-use Rattle.yaml_scan.specs.inside.Groups.{closing}
-use Rattle.yaml_scan.proofs.Stacks.{is_early, all_kept, none_closed, ends_split, none_early, filter_falls}
+use Rattle.yaml_scan.specs.inside.Queue.{closing}
+use Rattle.yaml_scan.proofs.RunningStep.LevelStack.{is_early, all_kept, none_closed, ends_split, none_early, filter_falls}
 use Rattle.yaml_scan.proofs.levels.close_levels.Goals as goal
 
 pub returns-clause-levels : goal.returns-clause-levels

@@ -1,6 +1,6 @@
 use Rattle.std.proofs.Common.{List, length, refl, ap, ◌∙◌}
-use Rattle.yaml_scan.specs.declared.queue.group_t.{group_t}
-use Rattle.yaml_scan.proofs.Queues.{keyed_length}
+use Rattle.yaml_scan.specs.declared.groups.group_t.{group_t}
+use Rattle.yaml_scan.proofs.RunningQueue.QueueGroups.{keyed_length}
 use Rattle.yaml_scan.proofs.levels.complete.Goals as goal
 
 pub returns-clause-rest : goal.returns-clause-rest

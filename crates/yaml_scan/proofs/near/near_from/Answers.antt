@@ -1,6 +1,6 @@
 use Rattle.std.proofs.Common.{◌≡◌, ℕ, drop, ap, ◌∙◌, arith}
 use Rattle.yaml_scan.specs.inside.NearFault.{starts}
-use Rattle.yaml_scan.proofs.Octets.{near_all, near_behind}
+use Rattle.yaml_scan.proofs.Texts.NearByBytes.{near_all, near_behind}
 use Rattle.yaml_scan.proofs.near.near_from.Goals.{then-back-test+else-left-lt8, else-back-test}
 use Rattle.yaml_scan.proofs.near.near_from.Goals as goal
 

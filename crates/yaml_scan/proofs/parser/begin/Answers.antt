@@ -2,12 +2,12 @@ use Rattle.std.proofs.Common.{refl, sym, ap, ◌∙◌, inl, inr, arith, subst, 
 use Rattle.std.proofs.lemmas.Bool.{false≢true}
 use Rattle.std.proofs.lemmas.Result.{err_from_is_err_and}
 use Rattle.yaml_text.specs.declared.types.yaml_encoding_t.{yaml_encoding_t}
-use Rattle.yaml_scan.specs.Offline.Token.{StreamStart}
-use Rattle.yaml_scan.specs.inside.Groups.{IsQueue}
+use Rattle.yaml_scan.specs.Groups.Token.{StreamStart}
+use Rattle.yaml_scan.specs.inside.Queue.{IsQueue}
 use Rattle.yaml_text.specs.Fault.{fault_of}
 use Rattle.yaml_text.specs.Decode.{refusal_seen}
-use Rattle.yaml_scan.proofs.Octets.{short}
-use Rattle.yaml_scan.proofs.Beginnings.{new_stopped, new_ended, begins, begun_in, encoding_in}
+use Rattle.yaml_scan.proofs.Texts.NearByBytes.{short}
+use Rattle.yaml_scan.proofs.RunningStep.FirstStep.{new_stopped, new_ended, begins, begun_in, encoding_in}
 use Rattle.yaml_scan.proofs.parser.begin.Goals as goal
 
 pub returns-in-Some : goal.returns-in-Some

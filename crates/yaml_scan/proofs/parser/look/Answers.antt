@@ -1,4 +1,4 @@
-use Rattle.yaml_scan.proofs.Scans.{shown_settled}
+use Rattle.yaml_scan.proofs.RunningCalls.CallAnswers.{shown_settled}
 use Rattle.yaml_scan.proofs.parser.look.Goals as goal
 
 pub returns-then-peeked : goal.returns-then-peeked

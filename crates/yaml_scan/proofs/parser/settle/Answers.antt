@@ -2,7 +2,7 @@ use Rattle.std.proofs.Common.{Result, Ok, Err, inl, inr}
 use Rattle.std.proofs.lemmas.Result.{err_from_is_err_and}
 use Rattle.std.specs.Prelude.{MatchResult}
 use Rattle.yaml_scan.specs.declared.fault.stop_t.{stop_t}
-use Rattle.yaml_scan.proofs.Settlings.{settled_in, stopped_in, ended_in, begun_is}
+use Rattle.yaml_scan.proofs.RunningCalls.ToNextToken.{settled_in, stopped_in, ended_in, begun_is}
 use Rattle.yaml_scan.proofs.parser.settle.Goals as goal
 
 -- what follows in both cases

@@ -3,8 +3,8 @@ use Rattle.std.specs.Prelude.{◌⊎◌, option_map}
 use Rattle.std.proofs.lemmas.Bool.{false≢true}
 use Rattle.yaml_text.specs.Fault.{Fault, fault_of}
 use Rattle.yaml_scan.specs.inside.Ready.{parser_of, IsShort, IsEnded}
-use Rattle.yaml_scan.proofs.Scans.{show_token, show_fault_of, open_session}
-use Rattle.yaml_scan.proofs.Keeps.{stands_ready, keeps_settled, keeps_stopped, reach_in, reach_stopped}
+use Rattle.yaml_scan.proofs.RunningCalls.CallAnswers.{show_token, show_fault_of, open_session}
+use Rattle.yaml_scan.proofs.RunningCalls.ParserInvariant.{stands_ready, keeps_settled, keeps_stopped, reach_in, reach_stopped}
 use Rattle.yaml_scan.proofs.parser.show.Goals as goal
 
 pub invariant_of-parser : goal.invariant_of-parser

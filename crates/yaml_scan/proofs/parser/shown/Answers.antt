@@ -2,12 +2,12 @@ use Rattle.std.proofs.Common.{◌<◌, ◌≤◌, drop, length, sym, ◌∙◌, 
 use Rattle.std.specs.Prelude.{option_map}
 use Rattle.yaml_text.specs.Fault.{fault_of}
 use Rattle.yaml_text.specs.Token.{token_of}
-use Rattle.yaml_scan.specs.inside.Groups.{pending}
-use Rattle.yaml_scan.specs.Offline.{offline}
+use Rattle.yaml_scan.specs.inside.Queue.{pending}
+use Rattle.yaml_scan.specs.Groups.{offline}
 use Rattle.yaml_scan.specs.inside.Scanning.{history}
-use Rattle.yaml_scan.proofs.Queues.{lead_first, token_first}
-use Rattle.yaml_scan.proofs.Takings.{groups_some}
-use Rattle.yaml_scan.proofs.Scans.{head_shown}
+use Rattle.yaml_scan.proofs.RunningQueue.QueueGroups.{lead_first, token_first}
+use Rattle.yaml_scan.proofs.RunningCalls.TakingHead.{groups_some}
+use Rattle.yaml_scan.proofs.RunningCalls.CallAnswers.{head_shown}
 use Rattle.yaml_scan.proofs.parser.shown.Goals as goal
 
 pub unwrap-requires : goal.unwrap-requires

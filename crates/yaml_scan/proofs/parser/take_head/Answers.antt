@@ -1,9 +1,9 @@
 use Rattle.std.proofs.Common.{refl, arith, drop}
 use Rattle.yaml_text.specs.Token.{token_of}
-use Rattle.yaml_scan.specs.Offline.{offline}
+use Rattle.yaml_scan.specs.Groups.{offline}
 use Rattle.yaml_scan.specs.inside.Scanning.{history}
-use Rattle.yaml_scan.proofs.Stepped.{few_taken}
-use Rattle.yaml_scan.proofs.Takings.{groups_some, few_done, pops}
+use Rattle.yaml_scan.proofs.RunningCalls.NextOfInput.{few_taken}
+use Rattle.yaml_scan.proofs.RunningCalls.TakingHead.{groups_some, few_done, pops}
 use Rattle.yaml_scan.proofs.parser.take_head.Goals as goal
 
 pub overflow_add-scanner : goal.overflow_add-scanner

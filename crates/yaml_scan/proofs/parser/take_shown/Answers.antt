@@ -6,9 +6,9 @@ use Rattle.yaml_text.specs.Token.{token_of}
 use Rattle.yaml_scan.specs.Token.{is_last_type, type_of}
 use Rattle.yaml_scan.specs.Parser.{Parser}
 use Rattle.yaml_scan.specs.inside.Ready.{parser_of}
-use Rattle.yaml_scan.proofs.Scans.{shown_settled, stands_u, open_u, last_is, take_told_of, take_left_of, shown_session}
-use Rattle.yaml_scan.proofs.Keeps.{keeps_taken, reach_in}
-use Rattle.yaml_scan.proofs.Waits.{done_is}
+use Rattle.yaml_scan.proofs.RunningCalls.CallAnswers.{shown_settled, stands_u, open_u, last_is, take_told_of, take_left_of, shown_session}
+use Rattle.yaml_scan.proofs.RunningCalls.ParserInvariant.{keeps_taken, reach_in}
+use Rattle.yaml_scan.proofs.RunningQueue.StepsWaiting.{done_is}
 use Rattle.yaml_scan.proofs.parser.take_shown.Goals as goal
 
 pub invariant_of-parser : goal.invariant_of-parser

@@ -3,7 +3,7 @@ use Rattle.yaml_scan.specs.declared.parser.yaml_parser_t.TheInside.{Inside}
 use Rattle.yaml_scan.specs.Parser.{Parser, course_read}
 use Rattle.yaml_scan.specs.inside.Ready.{Sound, parser_of}
 use Rattle.yaml_scan.specs.Puts.{HasNext}
-use Rattle.yaml_scan.proofs.Scans.{shown_settled, token_some}
+use Rattle.yaml_scan.proofs.RunningCalls.CallAnswers.{shown_settled, token_some}
 use Rattle.yaml_scan.proofs.parser.yaml_parser_has_token.Goals as goal
 
 has_next : (i : Inside) → Sound i → HasNext (parser_of i)

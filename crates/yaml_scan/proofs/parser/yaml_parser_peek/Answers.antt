@@ -6,9 +6,9 @@ use Rattle.yaml_scan.specs.Session.Call.{PEEK}
 use Rattle.yaml_scan.specs.Session.Answer.{PEEKED, FAULT}
 use Rattle.yaml_text.specs.Fault.{fault_of}
 use Rattle.yaml_text.specs.Token.{token_of}
-use Rattle.yaml_scan.proofs.CallMarks.{call_is_counted}
-use Rattle.yaml_scan.proofs.Alike.{peeked_alike}
-use Rattle.yaml_scan.proofs.Scans.{fault_shown, bare, early}
+use Rattle.yaml_scan.proofs.CountedMarks.CallMarks.{call_is_counted}
+use Rattle.yaml_scan.proofs.Texts.AnswerLocality.{peeked_alike}
+use Rattle.yaml_scan.proofs.RunningCalls.CallAnswers.{fault_shown, bare, early}
 use Rattle.yaml_scan.proofs.parser.yaml_parser_peek.Goals as goal
 
 answers_peek : (p : Parser) (a : Answer) (q : Parser) → Calls PEEK p a q → AnswersPeek p a

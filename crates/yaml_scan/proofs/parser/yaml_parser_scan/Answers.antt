@@ -8,11 +8,11 @@ use Rattle.yaml_scan.specs.Session.Answer.{TOKEN}
 use Rattle.yaml_scan.specs.Parser.{Parser, Calls, Scans, told}
 use Rattle.yaml_scan.specs.inside.Ready.{parser_of, IsShown, IsShort, IsEnded}
 use Rattle.yaml_scan.specs.Session.Call.{SCAN}
-use Rattle.yaml_scan.proofs.CallMarks.{call_is_counted}
-use Rattle.yaml_scan.proofs.Alike.{scanned_alike}
-use Rattle.yaml_scan.proofs.Scans.{show_token, show_fault_on, open_session, shown_settled, stands_u, open_u, last_is, take_told_of, take_left_of, scan_over, scan_shown, scan_not_shown, bare, early}
-use Rattle.yaml_scan.proofs.Keeps.{stands_ready, keeps_settled, keeps_stopped, keeps_taken, reach_in, reach_stopped}
-use Rattle.yaml_scan.proofs.Waits.{done_is}
+use Rattle.yaml_scan.proofs.CountedMarks.CallMarks.{call_is_counted}
+use Rattle.yaml_scan.proofs.Texts.AnswerLocality.{scanned_alike}
+use Rattle.yaml_scan.proofs.RunningCalls.CallAnswers.{show_token, show_fault_on, open_session, shown_settled, stands_u, open_u, last_is, take_told_of, take_left_of, scan_over, scan_shown, scan_not_shown, bare, early}
+use Rattle.yaml_scan.proofs.RunningCalls.ParserInvariant.{stands_ready, keeps_settled, keeps_stopped, keeps_taken, reach_in, reach_stopped}
+use Rattle.yaml_scan.proofs.RunningQueue.StepsWaiting.{done_is}
 use Rattle.yaml_scan.proofs.parser.yaml_parser_scan.Goals as goal
 
 pub invariant_of-parser : goal.invariant_of-parser

@@ -1,7 +1,7 @@
 use Rattle.std.proofs.Common.{Bool, [], ◌∷◌, ◌++◌, refl, subst}
 use Rattle.yaml_text.specs.Token.{token_of}
-use Rattle.yaml_scan.proofs.AllScanned.{HasScanned, has_begun, scans_on, scans_fault, scans_end, fewer_left}
-use Rattle.yaml_scan.proofs.CallsTold.{scan_has_words}
+use Rattle.yaml_scan.proofs.RunningCalls.ScansToTheEnd.{HasScanned, has_begun, scans_on, scans_fault, scans_end, fewer_left}
+use Rattle.yaml_scan.proofs.SessionCalls.CallWords.{scan_has_words}
 use Rattle.yaml_scan.proofs.sink.scan_rest.Goals as goal
 
 pub tokens-init : goal.tokens-init

@@ -2,7 +2,7 @@ use Rattle.std.proofs.Common.{◌-◌, List, length}
 use Rattle.yaml_scan.specs.Token.{yaml_token_t}
 use Rattle.yaml_scan.specs.Answers.{tokens_of}
 use Rattle.yaml_scan.specs.Parser.{course_read}
-use Rattle.yaml_scan.proofs.AllScanned.{HasScanned}
+use Rattle.yaml_scan.proofs.RunningCalls.ScansToTheEnd.{HasScanned}
 use Rattle.yaml_scan.proofs.sink.scan_rest.Given as goal
 
 abbrev pub invariant-tokens : goal.invariant-tokens

@@ -1,4 +1,4 @@
-use Rattle.yaml_scan.proofs.Places.{gap_ends}
+use Rattle.yaml_scan.proofs.Texts.TextPlaces.{gap_ends}
 use Rattle.yaml_scan.proofs.source.gap_end.Goals as goal
 
 pub returns : goal.returns

@@ -1,6 +1,6 @@
 use Rattle.std.proofs.Common.{Ok, Err}
 use Rattle.yaml_scan.specs.SourceOf.{source_of}
-use Rattle.yaml_scan.proofs.Places.{read_is, level_bytes}
+use Rattle.yaml_scan.proofs.Texts.TextPlaces.{read_is, level_bytes}
 use Rattle.yaml_scan.proofs.source.read_lexeme.Goals as goal
 
 pub yaml_lexeme_at-requires-clause-place : goal.yaml_lexeme_at-requires-clause-place

@@ -1,19 +1,19 @@
 use Rattle.std.proofs.Common.{ℕ, ◌+◌, ◌++◌, ◌∷◌, [], not, false, List, Option, reverse, map, filter, length, length-append, subst, ap, ◌∙◌, refl, sym, inl, inr, arith}
 use Rattle.std.proofs.lemmas.Result.{err_from_is_err_and}
 use Rattle.yaml_text.specs.declared.types.yaml_mark_t.{yaml_mark_t}
-use Rattle.yaml_scan.specs.declared.queue.group_t.{group_t}
+use Rattle.yaml_scan.specs.declared.groups.group_t.{group_t}
 use Rattle.yaml_scan.specs.Levels.{greatest_level, stays}
-use Rattle.yaml_scan.specs.Offline.{end_at}
-use Rattle.yaml_scan.specs.Offline.Token.{BlockEnd}
-use Rattle.yaml_scan.specs.inside.Groups.{Fitting, completed_in}
+use Rattle.yaml_scan.specs.Groups.{end_at}
+use Rattle.yaml_scan.specs.Groups.Token.{BlockEnd}
+use Rattle.yaml_scan.specs.inside.Queue.{Fitting, completed_in}
 use Rattle.yaml_scan.specs.inside.Slots.{Held, AreNested}
 use Rattle.yaml_lexeme.specs.Lexeme.{lexeme_of}
 use Rattle.yaml_scan.specs.SourceOf.{source_of}
 use Rattle.yaml_scan.specs.Step.{front_of}
-use Rattle.yaml_scan.proofs.TextOrder.{text_sums}
-use Rattle.yaml_scan.proofs.Refusals.{mark_is}
-use Rattle.yaml_scan.proofs.Advances.{levels_fall, l_falls, level_within, kind_there, row_offence, history, place_within, index_is, place_then, fitting, levels_then, columns_then, queue_then, allowed_then, row_stale, step_reads, fresh_then, outer_then, top_then, taken_then, reach_then, number_then, early_then}
-use Rattle.yaml_scan.proofs.HeldOrder.{outer_nested}
+use Rattle.yaml_scan.proofs.Texts.TextOrder.{text_sums}
+use Rattle.yaml_scan.proofs.RunningStep.TestsBefore.{mark_is}
+use Rattle.yaml_scan.proofs.RunningStep.StepLaid.{levels_fall, l_falls, level_within, kind_there, row_offence, history, place_within, index_is, place_then, fitting, levels_then, columns_then, queue_then, allowed_then, row_stale, step_reads, fresh_then, outer_then, top_then, taken_then, reach_then, number_then, early_then}
+use Rattle.yaml_scan.proofs.RunningQueue.SlotOrder.{outer_nested}
 use Rattle.yaml_scan.proofs.step.lay.Goals as goal
 
 pub start_behind-start-requires : goal.start_behind-start-requires

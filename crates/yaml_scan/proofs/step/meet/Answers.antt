@@ -3,8 +3,8 @@ use Rattle.std.proofs.lemmas.Result.{err_from_is_err_and}
 use Rattle.yaml_text.specs.declared.types.yaml_mark_t.{yaml_mark_t}
 use Rattle.yaml_scan.specs.SourceOf.{source_of}
 use Rattle.yaml_scan.specs.Step.{place_behind, front_of}
-use Rattle.yaml_scan.proofs.TextOrder.{text_sums}
-use Rattle.yaml_scan.proofs.Refusals.{front_mark, mark_is, root_held, row_lost, row_no_kind, allowed_is, row_refused, row_clears, row_met, kind_is}
+use Rattle.yaml_scan.proofs.Texts.TextOrder.{text_sums}
+use Rattle.yaml_scan.proofs.RunningStep.TestsBefore.{front_mark, mark_is, root_held, row_lost, row_no_kind, allowed_is, row_refused, row_clears, row_met, kind_is}
 use Rattle.yaml_scan.proofs.step.meet.Goals as goal
 
 pub returns-in_err-refuse_lost : goal.returns-in_err-refuse_lost

@@ -1,0 +1,108 @@
+-- The head of the queue is the next token of the list, and taking it leaves the rest.
+use Rattle.std.proofs.Common.{◌≡◌, ℕ, zero, suc, ◌+◌, ◌-◌, ◌<◌, ◌^◌, List, [], ◌∷◌, ◌++◌, length, drop, slice_get, Some, refl, ap, sym, ◌∙◌, subst, arith}
+use Rattle.yaml_scan.specs.declared.step.scanner_t.{scanner_t}
+use Rattle.yaml_scan.specs.Token.{yaml_token_t}
+use Rattle.yaml_scan.specs.Laid.{Laid}
+use Rattle.yaml_scan.specs.Order.{IsHistory}
+use Rattle.yaml_scan.specs.Groups.{Token, offline}
+use Rattle.yaml_scan.specs.Settled.{before}
+use Rattle.yaml_scan.specs.inside.Queue.{IsQueue, Takes}
+use Rattle.yaml_scan.specs.inside.Scanning.{Holds, Runs, history, course_of}
+use Rattle.yaml_scan.specs.Answers.{Course}
+use Rattle.yaml_scan.specs.inside.Ready.{Pops}
+use Rattle.yaml_scan.proofs.TokenList.QueueBound.{length-begins}
+use Rattle.yaml_scan.proofs.TokenList.SettledStays.{before-before, before-offline}
+use Rattle.yaml_scan.proofs.Course.StepsNeeded.{split}
+use Rattle.yaml_scan.proofs.RunningQueue.CandidateGroup.{groups_count, drop_count, offline_whole}
+use Rattle.yaml_scan.proofs.RunningCalls.NextOfInput.{read_history, inside, history_length, few_made}
+
+get-append : (xs ys : List Token) (n : ℕ) → n < length xs → slice_get (xs ++ ys) n ≡ slice_get xs n
+get-append [] ys n l = absurd (omega arith)
+get-append (x ∷ xs) ys zero l = refl
+get-append (x ∷ xs) ys (suc n) l = get-append xs ys n (omega arith)
+
+get-drop : (xs : List Token) (n : ℕ) (x : Token) (r : List Token) → drop n xs ≡ x ∷ r → (slice_get xs n ≡ Some x) × (drop (n + 1) xs ≡ r)
+get-drop [] zero x r e = cc
+get-drop [] (suc n) x r e = cc
+get-drop (y ∷ xs) zero x r e = (cc, cc)
+get-drop (y ∷ xs) (suc n) x r e = let q = get-drop xs n x r e in let m : suc n + 1 ≡ suc (n + 1) = omega arith in (q.0, rw m q.1)
+
+-- what is settled stays: the token at a place of what the steps so far hand out
+head_same : (limit : ℕ) (W P Y : List Laid) (t : ℕ) → W ≡ Y ++ P → IsHistory limit W → IsHistory limit P → t < length (before limit P) → slice_get (offline P) t ≡ slice_get (before limit W) t
+head_same limit W P Y t e h g l =
+    let a = before-before limit Y P (subst (λ (X : List Laid). IsHistory limit X) e h) in
+    let b = before-offline limit P g in
+    let x : slice_get (offline P) t ≡ slice_get (before limit P) t = rw b.is (get-append (before limit P) b.rest t l) in
+    let y : slice_get (before limit (Y ++ P)) t ≡ slice_get (before limit P) t = rw a.is (get-append (before limit P) a.rest t l) in
+    x ∙ sym y ∙ ap (λ (X : List Laid). slice_get (before limit X) t) (sym e)
+
+module _ (s : scanner_t) (r : Runs s) (l : s.taken < length (before s.limit (history s))) where
+  pub groups_some : 0 < length s.layout.queue.groups.items
+  groups_some =
+      let b = length-begins _ _ (before-offline s.limit (history s) r.holds.is_history) in
+      let c = groups_count s.text.encoding s.layout.queue.early s.layout.queue.front s.layout.queue.groups.items (drop s.taken (offline (history s))) r.holds.queue in
+      let d = drop_count (offline (history s)) s.taken (offline_whole (history s)) (omega arith) in
+      omega arith
+
+  pub few_done : s.layout.queue.done + 1 < 2 ^ 64
+  few_done = let a = r.holds.count in let b = history_length s r in let c = few_made s r in omega arith
+
+  pub token_is : (first : Token) (rest : List Token) → drop s.taken (offline (history s)) ≡ first ∷ rest → slice_get (before s.limit (course_of s).read) s.taken ≡ Some first
+  unfolding history
+  token_is first rest e =
+      let z = split (course_of s).read (s.made - 1) (inside s r) in
+      sym (head_same s.limit (course_of s).read (history s) z.0 s.taken z.1 (read_history s r) r.holds.is_history l) ∙ (get-drop (offline (history s)) s.taken first rest e).0
+
+  module _ (u : scanner_t) (x : yaml_token_t) (K : Takes s.text.encoding s.layout.queue u.layout.queue x (drop s.taken (offline (history s)))) where
+    parts : (slice_get (offline (history s)) s.taken ≡ Some K.first) × (drop (s.taken + 1) (offline (history s)) ≡ K.rest)
+    parts = get-drop (offline (history s)) s.taken K.first K.rest K.is
+
+    module _ (H : u.text ≡ s.text) (J : u.refusal ≡ s.refusal) (N : u.near ≡ s.near) (L : u.limit ≡ s.limit) (V : u.layout.levels ≡ s.layout.levels) (O : u.slots ≡ s.slots) (A : u.allowed ≡ s.allowed) (R : u.reach ≡ s.reach) (M : u.made ≡ s.made) (T : u.taken ≡ s.taken + 1) where
+      course_same : course_of u ≡ course_of s
+      unfolding course_of
+      course_same = rw (H, J, L) refl
+
+      history_same : history u ≡ history s
+      unfolding history
+      history_same = rw (course_same, M) refl
+
+      held : Holds (history s) (u.made + 1) u
+      held = let g = r.holds in record {
+        text = rw H g.text;
+        is_history = subst (λ (k : ℕ). IsHistory k (history s)) (sym L) g.is_history;
+        number = (let n = g.number in omega (arith, M));
+        fresh = rw L g.fresh;
+        levels = rw V g.levels;
+        columns = rw H g.columns;
+        outer = rw (O, L) g.outer;
+        empty = rw O g.empty;
+        top = rw (O, L) g.top;
+        awaited = rw O g.awaited;
+        allowed = rw A g.allowed;
+        queue = rw (H, T) (subst (λ (z : List Token). IsQueue s.text.encoding u.layout.queue.early u.layout.queue.front u.layout.queue.groups.items z) (sym parts.1) K.queue);
+        count = (let a = K.count in let b = g.count in omega arith);
+        early = λ z. (let a = K.early in let b = g.early z in omega arith);
+        reach = rw R g.reach;
+        taken = rw (T, L) (omega (arith, l));
+        place = rw (H, R) g.place;
+      }
+
+      pub pops : Pops s u x
+      pops = record {
+        token = K.first;
+        is = token_is K.first K.rest K.is;
+        answer = K.told;
+        runs = record {
+          small = rw H r.small;
+          near = rw (H, N) r.near;
+          holds = subst (λ (Z : List Laid). Holds Z (u.made + 1) u) (sym history_same) held;
+          begun = rw M r.begun;
+          start = rw course_same r.start;
+          within = (let w = r.within in let c = ap (λ (x : Course). length x.read) course_same in omega (arith, M));
+        };
+        text = H;
+        refusal = J;
+        limit = L;
+        made = M;
+        taken = T;
+      }

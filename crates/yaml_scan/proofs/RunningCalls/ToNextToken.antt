@@ -1,0 +1,100 @@
+-- From a scanner that is ready to its next token.
+use Rattle.std.proofs.Common.{◌≡◌, ℕ, ◌+◌, ◌≤◌, ◌<◌, ◌&&◌, Bool, true, false, List, [], ◌∷◌, length, refl, ap, sym, ◌∙◌, arith, inl, inr, ltb, le-ltb}
+use Rattle.std.proofs.lemmas.Bool.{cases_Bool}
+use Rattle.yaml_text.specs.declared.types.yaml_encoding_t.{yaml_encoding_t}
+use Rattle.yaml_text.specs.Fault.{Fault}
+use Rattle.yaml_scan.specs.declared.step.scanner_t.{scanner_t}
+use Rattle.yaml_scan.specs.Laid.{Laid, reach}
+use Rattle.yaml_scan.specs.Settled.{before}
+use Rattle.yaml_scan.specs.Answers.{Input, Course, course, tokens_of}
+use Rattle.yaml_scan.specs.Settled.{settled, steps_for, pace, first_steps}
+use Rattle.yaml_scan.specs.Session.{all_steps}
+use Rattle.yaml_scan.specs.Inputs.{decoded_input}
+use Rattle.yaml_scan.specs.inside.Scanning.{Settles, Fails, Stops, Same, history, course_of, input_of}
+use Rattle.yaml_scan.specs.inside.Ready.{IsNew, IsReady, Begins, IsStarted, IsSettled, IsStopped, IsEnded, course_in}
+use Rattle.yaml_scan.proofs.RunningCalls.StepsMade.{open_too}
+
+one_step : (limit : ℕ) (H : List Laid) (t : ℕ) → 1 ≤ steps_for limit H t
+unfolding steps_for
+one_step limit [] t = omega arith
+one_step limit (i ∷ H) t = let r = one_step limit H t in elim (cases_Bool (ltb t (length (before limit H)))) [ inl q ↦ rw q r | inr q ↦ rw q (omega arith) ]
+
+both_false : (a b : Bool) → b ≡ false → (a && b) ≡ false
+both_false true b e = e
+both_false false b e = refl
+
+pub started_new : (setting : yaml_encoding_t) (input : List ℕ) (s t : scanner_t) → Begins setting input s t → s.made ≡ 0 → IsStarted setting input s t
+started_new setting input s t b z = let m = b.made in record { stands = b.stands; still_open = b.still_open; made = omega arith; limit = b.limit; taken = b.taken; done = b.done }
+
+pub started_before : (setting : yaml_encoding_t) (input : List ℕ) (s : scanner_t) → IsReady setting input s → 0 < s.made → IsStarted setting input s s
+started_before setting input s (inl n) z = let m = n.made in absurd (omega arith)
+started_before setting input s (inr r) z = record { stands = r.0; still_open = r.1; made = omega arith; limit = refl; taken = refl; done = refl }
+
+pub ready_new : (setting : yaml_encoding_t) (input : List ℕ) (s : scanner_t) → IsReady setting input s → s.made ≤ 0 → IsNew s
+ready_new setting input s (inl n) z = n
+ready_new setting input s (inr r) z = let b = r.0.runs.begun in absurd (omega arith)
+
+pub course_is : (setting : yaml_encoding_t) (input : List ℕ) (s : scanner_t) → input_of s ≡ decoded_input setting input → course_of s ≡ course_in s.limit setting input
+unfolding course_of
+course_is setting input s e = ap (λ (i : Input). course s.limit i) e
+
+module _ (setting : yaml_encoding_t) (input : List ℕ) (s t u : scanner_t) (b : IsStarted setting input s t) where
+  course_t : course_of t ≡ course_in s.limit setting input
+  course_t = course_is setting input t b.stands.reads ∙ ap (λ (n : ℕ). course_in n setting input) b.limit
+
+  pace_is : pace t.limit (course_of t).read t.taken t.made ≡ pace s.limit (course_in s.limit setting input).read s.taken s.made
+  unfolding pace
+  pace_is =
+      let e : steps_for t.limit (course_of t).read t.taken ≡ steps_for s.limit (course_in s.limit setting input).read s.taken = rw (course_t, b.limit, b.taken) refl in
+      let o = one_step s.limit (course_in s.limit setting input).read s.taken in
+      let m = b.made in omega arith
+
+  input_same : Same t u → input_of u ≡ input_of t
+  input_same e = rw (e.text, e.refusal) refl
+
+  pub settled_in : Settles t u → IsSettled setting input s u
+  settled_in k = record {
+    stands = record { runs = k.runs; reads = input_same k.same ∙ b.stands.reads };
+    still_open = open_too t u k.runs k.same b.still_open;
+    settled = k.settled;
+    made = k.made ∙ pace_is;
+    limit = (let e = k.same in e.limit ∙ b.limit);
+    taken = (let e = k.same in e.taken ∙ b.taken);
+    done = (let e = k.same in e.done ∙ b.done);
+  }
+
+  history_is : Same t u → reach (history u) ≡ reach (first_steps u.made (course_in s.limit setting input).read)
+  unfolding history
+  history_is e =
+      let c : course_of u ≡ course_in s.limit setting input = course_is setting input u (input_same e ∙ b.stands.reads) ∙ ap (λ (n : ℕ). course_in n setting input) (e.limit ∙ b.limit) in
+      ap (λ (x : Course). reach (first_steps u.made x.read)) c
+
+  unsettled_in : Stops t u → settled s.limit (course_in s.limit setting input).read s.taken u.made ≡ false
+  unfolding history
+  unsettled_in k =
+      let e = k.same in
+      let c : course_of u ≡ course_in s.limit setting input = course_is setting input u (input_same e ∙ b.stands.reads) ∙ ap (λ (n : ℕ). course_in n setting input) (e.limit ∙ b.limit) in
+      let v = ap (λ (x : Course). length (before u.limit (first_steps u.made x.read))) c in
+      let w = ap (λ (n : ℕ). length (before n (first_steps u.made (course_in s.limit setting input).read))) (e.limit ∙ b.limit) in
+      let x = e.taken ∙ b.taken in
+      let l = k.unsettled in
+      both_false _ _ (le-ltb s.taken (length (before s.limit (first_steps u.made (course_in s.limit setting input).read))) (omega arith))
+
+  pub stopped_in : Stops t u → IsStopped setting input s u
+  stopped_in k = let e = k.same in let p = pace_is in let m = b.made in let l = k.least in let n = k.most in record { limit = e.limit ∙ b.limit; taken = e.taken ∙ b.taken; done = e.done ∙ b.done; least = omega arith; most = omega arith; unsettled = unsettled_in k; reach = k.reach ∙ history_is e }
+
+  pub begun_is : (course_in s.limit setting input).begun ≡ true
+  begun_is = sym (ap (λ (c : Course). c.begun) course_t) ∙ b.stands.runs.start
+
+  tokens_is : (c : Course) → c.begun ≡ true → tokens_of s.limit c ≡ before s.limit c.read
+  tokens_is c e = rw e refl
+
+  steps_is : (c : Course) → c.begun ≡ true → all_steps c ≡ length c.read + 1
+  steps_is c e = rw e refl
+
+  pub ended_in : (f : Fault) → Fails t u f → IsEnded setting input s u f
+  ended_in f k = record {
+    none = (let a = ap (λ (x : List Rattle.yaml_scan.specs.Groups.Token). length x) (tokens_is (course_in s.limit setting input) begun_is) in let c = ap (λ (x : Course). length (before s.limit x.read)) course_t in let d = ap (λ (n : ℕ). length (before n (course_of t).read)) b.limit in let e = b.taken in let n = k.none in omega arith);
+    fault = sym (ap (λ (c : Course). c.fault) course_t) ∙ k.fault;
+    made = (let m = k.made in let c = ap (λ (x : Course). length x.read) course_t in let a = steps_is (course_in s.limit setting input) begun_is in omega arith);
+  }

@@ -1,0 +1,17 @@
+-- The queue of the running scanner holds the groups that were not taken.
+-- The queue in the words of the definitions: which tokens are in it, and which are settled.
+pub mod QueueTokens
+-- The queue with one group more, and with a candidate's group that becomes a key.
+pub mod QueueGroups
+-- Where in the queue the group of a candidate is.
+pub mod CandidateGroup
+-- Candidates of greater depths start later, and their tokens are further on.
+pub mod SlotOrder
+-- The lowest slots: those that are empty, and the first that is not.
+pub mod EmptySlots
+-- The head of the queue is the next token exactly if no candidate that is held is the head.
+pub mod HeadIsNext
+-- How many steps are queued can be counted in the queue, since each has one token of its own lexeme.
+pub mod StepsInQueue
+-- How many steps wait, as more steps are made and tokens are taken.
+pub mod StepsWaiting

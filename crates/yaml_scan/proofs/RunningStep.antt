@@ -1,0 +1,15 @@
+-- One step of the running scanner is the step of the definitions.
+-- The first step: what a new scanner holds.
+pub mod FirstStep
+-- What the scanner keeps of the candidates is what a step tests of them.
+pub mod SlotTests
+-- The tests of a step before its lexeme are those of the definition, from what the scanner computes.
+pub mod TestsBefore
+-- Closing levels: a stack whose top stays keeps all, and its last level is the greatest.
+pub mod LevelStack
+-- What the slot of each depth holds after one lexeme more.
+pub mod SlotsOneOn
+-- What the whole scanner holds after one lexeme more.
+pub mod ScannerOneOn
+-- The tests of a step after its lexeme, and that the lexeme is laid as the definition says.
+pub mod StepLaid

@@ -1,0 +1,19 @@
+-- Sessions: what lists of calls take and return.
+-- What calls take of the list, and how many steps are queued after them.
+pub mod SessionTokens
+-- A fault is returned once.
+pub mod OneFault
+-- More scans than there are tokens left return all that is left.
+pub mod ReadingOn
+-- What the answers to calls say of the tokens that were taken.
+pub mod TokensTaken
+-- The answers to calls that are made one after the other are those of the session.
+pub mod CallsInTurn
+-- Every token and every fault that is returned can be put in words.
+pub mod AnswerWords
+-- So can the answers to a list of calls.
+pub mod CallWords
+-- So can what one call for all tokens returns.
+pub mod ListWords
+-- The laws of tokens hold of what one call for all tokens returns.
+pub mod ListLaws

@@ -1,0 +1,238 @@
+-- More scans than there are tokens left return all that is left.
+use Rattle.std.proofs.Common.{◌≡◌, ℕ, zero, suc, ◌+◌, ◌-◌, ◌<◌, ◌≤◌, Bool, true, false, List, [], ◌∷◌, ◌++◌, map, take, drop, replicate, length, slice_get, Option, Some, None, ◌≢◌, refl, ap, sym, ◌∙◌, subst, arith, inl, inr}
+use Rattle.std.specs.Prelude.{◌⊎◌, Result, if◌then◌else◌}
+use Rattle.std.proofs.lemmas.Bool.{false≢true}
+use Rattle.yaml_text.specs.declared.types.yaml_encoding_t.{yaml_encoding_t}
+use Rattle.yaml_text.specs.declared.fault.yaml_fault_t.{yaml_fault_t}
+use Rattle.yaml_text.specs.declared.token.yaml_token_t.{yaml_token_t as code_token_t}
+use Rattle.yaml_scan.specs.declared.calls.yaml_answer_t.{yaml_answer_t}
+use Rattle.yaml_scan.specs.Token.{yaml_token_t, empty}
+use Rattle.yaml_scan.specs.Fault.{Fault, memory_fault}
+use Rattle.yaml_scan.specs.Groups.{Token, handed_out}
+use Rattle.yaml_scan.specs.Cut.{KeepsOrder}
+use Rattle.yaml_scan.specs.Answers.{Input, Course, Answers, course, tokens_of, answers}
+use Rattle.yaml_scan.specs.Inputs.{decoded_input, answers_to}
+use Rattle.yaml_scan.specs.Session.{Session, Call, Answer, new_session, session, after_all, after, next_token, is_last}
+use Rattle.yaml_scan.specs.Session.{took, paced, finished, why, scan_answer, after_scan}
+use Rattle.yaml_scan.specs.Session.Call.{SCAN, SKIP}
+use Rattle.yaml_scan.specs.Session.Answer.{TOKEN, FAULT}
+use Rattle.yaml_scan.specs.Parser.{Parser, WantsMemory, Scans, told, answered, behind, course_read, input_read}
+use Rattle.yaml_scan.specs.Calls.{Seen, seen, seen_of, answered_all, idle, Runs, RunsOut, PutsAnswers}
+use Rattle.yaml_scan.specs.Calls.{Seen as sight}
+use Rattle.yaml_scan.specs.ReadingOn.{scans, fault_told, all_told, left_to, AllIsTold, RestIsTold, ReadsOn, ScansInTurn}
+use Rattle.yaml_scan.specs.ReadingOn.{ScansReadOn}
+use Rattle.yaml_scan.proofs.Course.InputLaws.{inputs_keep_order}
+use Rattle.yaml_scan.proofs.Course.LastToken.{stream_end_is_last}
+
+if_true : {A : Type 0} (b : Bool) (x y : A) → b ≡ true → (if b then x else y) ≡ x
+if_true b x y e = rw e refl
+
+if_false : {A : Type 0} (b : Bool) (x y : A) → b ≡ false → (if b then x else y) ≡ y
+if_false b x y e = rw e refl
+
+pub drop_next : {A B : Type 0} (f : A → B) (xs : List A) (n : ℕ) (x : A) → slice_get xs n ≡ Some x → drop n (map f xs) ≡ f x ∷ drop (n + 1) (map f xs)
+drop_next f [] n x e = absurd (cc)
+drop_next f (y ∷ xs) zero x e = let q : y ≡ x = cc in rw q refl
+drop_next f (y ∷ xs) (suc n) x e = let m : suc n + 1 ≡ suc (n + 1) = omega arith in rw m (drop_next f xs n x e)
+
+drop_none : {A B : Type 0} (f : A → B) (xs : List A) (n : ℕ) → slice_get xs n ≡ None → drop n (map f xs) ≡ []
+drop_none f [] zero e = refl
+drop_none f [] (suc n) e = refl
+drop_none f (x ∷ xs) zero e = absurd (cc)
+drop_none f (x ∷ xs) (suc n) e = drop_none f xs n e
+
+drop_past : {A B : Type 0} (f : A → B) (xs : List A) (n : ℕ) → length xs ≤ n → drop n (map f xs) ≡ []
+drop_past f [] zero l = refl
+drop_past f [] (suc n) l = refl
+drop_past f (x ∷ xs) zero l = absurd (omega arith)
+drop_past f (x ∷ xs) (suc n) l = drop_past f xs n (omega arith)
+
+-- ONE SCAN MORE
+abbrev told_from : List yaml_token_t → Option Fault → ℕ → List Answer
+told_from tokens fault n = all_told (record { tokens = tokens; fault = fault }) n
+
+one_told : (t : yaml_token_t) (tokens : List yaml_token_t) (fault : Option Fault) (n : ℕ) → TOKEN t ∷ told_from tokens fault n ≡ told_from (t ∷ tokens) fault (suc n)
+one_told t tokens fault n =
+    let e : n - (length tokens) - (length (fault_told fault)) ≡ suc n - (suc (length tokens)) - (length (fault_told fault)) = omega arith in
+    ap (λ (k : ℕ). TOKEN t ∷ (map TOKEN tokens ++ (fault_told fault ++ replicate k (TOKEN empty)))) e
+
+none_told : (n : ℕ) → replicate n (TOKEN empty) ≡ told_from [] None n
+none_told n = let e : n ≡ n - 0 - 0 = omega arith in ap (λ (k : ℕ). replicate k (TOKEN empty)) e
+
+fault_first : (f : Fault) (n : ℕ) → FAULT f ∷ replicate n (TOKEN empty) ≡ told_from [] (Some f) (suc n)
+fault_first f n = let e : n ≡ suc n - 0 - 1 = omega arith in ap (λ (k : ℕ). FAULT f ∷ replicate k (TOKEN empty)) e
+
+module _ (limit : ℕ) (input : Input) (k : KeepsOrder input.source) where
+  abbrev E : yaml_encoding_t
+  E = input.encoding
+
+  abbrev C : Course
+  C = course limit input
+
+  abbrev T : List yaml_token_t
+  T = map (handed_out E) (tokens_of limit C)
+
+  told_over : (n : ℕ) (s : Session) → s.over ≡ true → session E limit C (scans n) s ≡ replicate n (TOKEN empty)
+  unfolding session
+  told_over zero s o = refl
+  told_over (suc n) s o =
+      ap (λ (z : Answer). z ∷ session E limit C (scans n) (after limit C SCAN s)) (if_true s.over (TOKEN empty) (scan_answer E C (next_token limit C s)) o)
+      ∙ ap (λ (z : Session). TOKEN empty ∷ session E limit C (scans n) z) (if_true s.over s (after_scan limit C s (next_token limit C s)) o)
+      ∙ ap (λ (z : List Answer). TOKEN empty ∷ z) (told_over n s o)
+
+  one_scan : (n : ℕ) (s : Session) (o : Option Token) → s.over ≡ false → next_token limit C s ≡ o → session E limit C (scans (suc n)) s ≡ scan_answer E C o ∷ session E limit C (scans n) (after_scan limit C s o)
+  unfolding session
+  one_scan n s o e q =
+      ap (λ (z : Answer). z ∷ session E limit C (scans n) (after limit C SCAN s)) (if_false s.over (TOKEN empty) (scan_answer E C (next_token limit C s)) e)
+      ∙ ap (λ (z : Session). scan_answer E C (next_token limit C s) ∷ session E limit C (scans n) z) (if_false s.over s (after_scan limit C s (next_token limit C s)) e)
+      ∙ ap (λ (z : Option Token). scan_answer E C z ∷ session E limit C (scans n) (after_scan limit C s z)) q
+
+  abbrev Later : ℕ → Type 0
+  Later n = (t : Session) → t.over ≡ false → length (drop t.taken T) < n → session E limit C (scans n) t ≡ told_from (drop t.taken T) C.fault n
+
+  told_open : (n : ℕ) (s : Session) → s.over ≡ false → length (drop s.taken T) < n → session E limit C (scans n) s ≡ told_from (drop s.taken T) C.fault n
+  told_open zero s o l = absurd (omega arith)
+  told_open (suc n) s o l = one_scan n s (next_token limit C s) o refl ∙ go (told_open n) (next_token limit C s) refl
+    where
+      at_end : (f : Option Fault) → C.fault ≡ f → why f ∷ replicate n (TOKEN empty) ≡ told_from [] f (suc n)
+      at_end None q = none_told (suc n)
+      at_end (Some f) q = fault_first f n
+
+      more : Later n → (x : Token) → next_token limit C s ≡ Some x → (b : Bool) → is_last x ≡ b → session E limit C (scans n) (took x (paced limit C s)) ≡ told_from (drop (s.taken + 1) T) C.fault n
+      more ih x q true e =
+          let z = stream_end_is_last limit input k s.taken x q e in
+          told_over n (took x (paced limit C s)) e ∙ none_told n ∙ ap (λ (f : Option Fault). told_from [] f n) (sym z.1)
+          ∙ ap (λ (ts : List yaml_token_t). told_from ts C.fault n) (sym (drop_past (handed_out E) (tokens_of limit C) (s.taken + 1) (let a = z.0 in omega arith)))
+      more ih x q false e =
+          let d = ap (λ (ts : List yaml_token_t). length ts) (drop_next (handed_out E) (tokens_of limit C) s.taken x q) in
+          ih (took x (paced limit C s)) e (omega arith)
+
+      go : Later n → (o : Option Token) → next_token limit C s ≡ o → scan_answer E C o ∷ session E limit C (scans n) (after_scan limit C s o) ≡ told_from (drop s.taken T) C.fault (suc n)
+      go ih None q =
+          ap (λ (z : List Answer). why C.fault ∷ z) (told_over n (finished C s) refl) ∙ at_end C.fault refl
+          ∙ ap (λ (ts : List yaml_token_t). told_from ts C.fault (suc n)) (sym (drop_none (handed_out E) (tokens_of limit C) s.taken q))
+      go ih (Some x) q =
+          ap (λ (z : List Answer). TOKEN (handed_out E x) ∷ z) (more ih x q (is_last x) refl) ∙ one_told (handed_out E x) (drop (s.taken + 1) T) C.fault n
+          ∙ ap (λ (ts : List yaml_token_t). told_from ts C.fault (suc n)) (sym (drop_next (handed_out E) (tokens_of limit C) s.taken x q))
+
+  abbrev left_if : Bool → ℕ → Answers
+  left_if true m = record { tokens = []; fault = None }
+  left_if false m = record { tokens = drop m T; fault = C.fault }
+
+  left_is : (b : Bool) (m : ℕ) → (if b then record { tokens = []; fault = None } else record { tokens = drop m T; fault = C.fault }) ≡ left_if b m
+  left_is true m = refl
+  left_is false m = refl
+
+  rest_told : (n : ℕ) (s : Session) → (b : Bool) → s.over ≡ b → length (left_if b s.taken).tokens < n → session E limit C (scans n) s ≡ all_told (left_if b s.taken) n
+  rest_told n s true e l = told_over n s e ∙ none_told n
+  rest_told n s false e l = told_open n s e l
+
+pub rest_is_told : RestIsTold
+unfolding answers_to answers
+rest_is_told limit setting input s n l =
+    let I = decoded_input setting input in
+    let k = inputs_keep_order setting input in
+    let e = left_is limit I k s.over s.taken in
+    let m : length (left_if limit I k s.over s.taken).tokens < n = subst (λ (a : Answers). length a.tokens < n) e l in
+    rest_told limit I k n s s.over refl m ∙ ap (λ (a : Answers). all_told a n) (sym e)
+
+pub all_is_told : AllIsTold
+unfolding answers_to answers
+all_is_told limit setting input n l = rest_is_told limit setting input new_session n l
+
+-- what is left to a parser
+rest_of : (p : Parser) (n : ℕ) → length (left_to p).tokens < n → answered_all p (scans n) ≡ all_told (left_to p) n
+unfolding course_read
+rest_of p n l = rest_is_told p.limit p.setting p.input p.session n l
+
+pub reads_on : (p : Parser) (calls : List Call) (old new : List yaml_answer_t) (q : Parser) → PutsAnswers p calls old new q → ReadsOn p calls old new q
+reads_on p calls old new q g n e l = record { more = g.more; is = g.is; told = go (subst (λ (z : List Call). Runs p z (map seen_of g.more) q) e g.runs) }
+  where
+    go : Runs p (scans n) (map seen_of g.more) q → (map seen_of g.more ≡ map seen (all_told (left_to p) n)) ⊎ RunsOut p (scans n) (map seen_of g.more) q
+    go (inl r) = inl (r.0 ∙ ap (λ (z : List Answer). map seen z) (rest_of p n l))
+    go (inr o) = inr o
+
+-- SCANS ONE AFTER THE OTHER
+idle_scans : (n : ℕ) → map seen (replicate n (TOKEN empty)) ≡ map idle (scans n)
+idle_scans zero = refl
+idle_scans (suc n) = ap (λ (z : List Seen). sight.TOKEN empty ∷ z) (idle_scans n)
+
+over_answer : (p : Parser) → p.session.over ≡ true → answered p SCAN ≡ TOKEN empty
+over_answer p o = if_true p.session.over (TOKEN empty) (scan_answer (input_read p).encoding (course_read p) (next_token p.limit (course_read p) p.session)) o
+
+over_left : (p : Parser) → p.session.over ≡ true → behind p SCAN ≡ p
+over_left p o = ap (λ (z : Session). record { input = p.input; setting = p.setting; limit = p.limit; session = z }) (if_true p.session.over p.session (after_scan p.limit (course_read p) p.session (next_token p.limit (course_read p) p.session)) o)
+
+-- if the session is over
+idle_chain : (results : List (Result code_token_t yaml_fault_t)) (p q : Parser) → p.session.over ≡ true → ScansInTurn p results q → (map told results ≡ replicate (length results) (TOKEN empty)) × (q ≡ p)
+idle_chain [] p q o e = (refl, e)
+idle_chain (a ∷ more) p q o (r, s, w) = go (λ e. idle_chain more r q e w) s
+  where
+    go : (r.session.over ≡ true → (map told more ≡ replicate (length more) (TOKEN empty)) × (q ≡ r)) → Scans p a r → (told a ∷ map told more ≡ TOKEN empty ∷ replicate (length more) (TOKEN empty)) × (q ≡ p)
+    go ih (inr m) = absurd (false≢true (sym m.1.was_open ∙ o))
+    go ih (inl m) = (let e : r ≡ p = m.1 ∙ over_left p o in
+        let z = ih (ap (λ (x : Parser). x.session.over) e ∙ o) in
+        (ap (λ (x : Answer). x ∷ map told more) (m.0 ∙ over_answer p o) ∙ ap (λ (x : List Answer). TOKEN empty ∷ x) z.0, z.1 ∙ e))
+
+-- a growth was refused further on
+out_later : (p : Parser) (calls : List Call) (all : List Seen) (q : Parser) → RunsOut (behind p SCAN) calls all q → RunsOut p (SCAN ∷ calls) (seen (answered p SCAN) ∷ all) q
+unfolding course_read session after_all
+out_later p calls all q o =
+    let m : suc o.n + 1 ≡ suc (o.n + 1) = omega arith in record {
+      n = suc o.n;
+      within = (let w = o.within in omega arith);
+      asks = o.asks;
+      wants = o.wants;
+      answers = ap (λ (z : List Seen). seen (answered p SCAN) ∷ z) o.answers
+          ∙ ap (λ (z : ℕ). seen (answered p SCAN) ∷ (map seen (answered_all (behind p SCAN) (take o.n calls)) ++ (sight.FAULT memory_fault ∷ map idle (drop z (SCAN ∷ calls))))) (sym m);
+    }
+
+-- or in the first
+out_first : (p : Parser) (calls : List Call) (all : List Seen) (q : Parser) → WantsMemory p q → all ≡ map idle calls → RunsOut p (SCAN ∷ calls) (sight.FAULT memory_fault ∷ all) q
+unfolding session after_all
+out_first p calls all q w e = record {
+  n = 0;
+  within = omega arith;
+  asks = λ k. no_skip k;
+  wants = w;
+  answers = ap (λ (z : List Seen). sight.FAULT memory_fault ∷ z) e;
+}
+  where
+    no_skip : Some SCAN ≢ Some SKIP
+    no_skip k = cc
+
+answered_later : (p : Parser) (n : ℕ) → answered p SCAN ∷ answered_all (behind p SCAN) (scans n) ≡ answered_all p (scans (suc n))
+unfolding course_read session
+answered_later p n = refl
+
+none_answered : (p : Parser) → [] ≡ answered_all p (scans 0)
+unfolding session
+none_answered p = refl
+
+abbrev Told : List (Result code_token_t yaml_fault_t) → Parser → Parser → Type 0
+Told more z q = (map told more ≡ answered_all z (scans (length more))) ⊎ RunsOut z (scans (length more)) (map seen (map told more)) q
+
+chain : (results : List (Result code_token_t yaml_fault_t)) (p q : Parser) → ScansInTurn p results q
+    → (map told results ≡ answered_all p (scans (length results))) ⊎ RunsOut p (scans (length results)) (map seen (map told results)) q
+chain [] p q e = inl (none_answered p)
+chain (a ∷ more) p q (r, s, w) = go (chain more r q w) s
+  where
+    on : told a ≡ answered p SCAN → Told more (behind p SCAN) q
+        → (told a ∷ map told more ≡ answered_all p (scans (suc (length more)))) ⊎ RunsOut p (scans (suc (length more))) (seen (told a) ∷ map seen (map told more)) q
+    on e (inl f) = inl (ap (λ (x : Answer). x ∷ map told more) e ∙ ap (λ (x : List Answer). answered p SCAN ∷ x) f ∙ answered_later p (length more))
+    on e (inr o) = inr (subst (λ (x : Answer). RunsOut p (scans (suc (length more))) (seen x ∷ map seen (map told more)) q) (sym e) (out_later p (scans (length more)) (map seen (map told more)) q o))
+
+    go : Told more r q → Scans p a r → (told a ∷ map told more ≡ answered_all p (scans (suc (length more)))) ⊎ RunsOut p (scans (suc (length more))) (seen (told a) ∷ map seen (map told more)) q
+    go t (inl m) = on m.0 (subst (λ (x : Parser). Told more x q) m.1 t)
+    go t (inr m) = (let z = idle_chain more r q m.1.over w in
+        let e = ap (λ (x : List Answer). map seen x) z.0 ∙ idle_scans (length more) in
+        inr (subst (λ (x : Answer). RunsOut p (scans (suc (length more))) (seen x ∷ map seen (map told more)) q) (sym m.0)
+        (out_first p (scans (length more)) (map seen (map told more)) q (subst (λ (x : Parser). WantsMemory p x) (sym z.1) m.1) e)))
+
+pub scans_read_on : ScansReadOn
+scans_read_on p results q w l = go (chain results p q w)
+  where
+    go : (map told results ≡ answered_all p (scans (length results))) ⊎ RunsOut p (scans (length results)) (map seen (map told results)) q
+        → (map told results ≡ all_told (left_to p) (length results)) ⊎ RunsOut p (scans (length results)) (map seen (map told results)) q
+    go (inl e) = inl (e ∙ rest_of p (length results) l)
+    go (inr o) = inr o

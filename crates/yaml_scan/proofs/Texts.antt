@@ -1,0 +1,17 @@
+-- Reading of texts: places, order, and what a step does not depend on.
+-- The places of a text, by how many characters are before them, and what is read there.
+pub mod TextPlaces
+-- How many characters are left after an index, by the bytes: which steps are near.
+pub mod NearByBytes
+-- Where reading a lexeme ends or is refused, and what the lexeme says.
+pub mod LexemeReads
+-- What is read of the characters of a text is in its order.
+pub mod SourceOrder
+-- The same for the running scanner: the marks of gaps, lexemes and problems of a text are in order.
+pub mod TextOrder
+-- What is read of texts that agree a little past its end is the same.
+pub mod SourceLocality
+-- So is a step, and what is handed out before a reader's fault.
+pub mod StepLocality
+-- The answers to a refused input are those to every accepted one that agrees with it up to the refused character.
+pub mod AnswerLocality

@@ -1,0 +1,123 @@
+//! The running scanner: as many steps are made as the next token needs.
+ghost use Rattle.std.specs.Prelude.{◌≡◌, ◌⊎◌, ℕ, ◌+◌, ◌-◌, ◌<◌, ◌≤◌, ◌^◌, ◌&&◌, not, nat_lt, nat_eq, length, true};
+ghost use Rattle.std.specs.Prelude.{false, MatchResult};
+ghost use Rattle.yaml_text.specs.Decode.{refusal_seen};
+ghost use Rattle.yaml_text.specs.Fault.{fault_of, memory_fault};
+ghost use Rattle.yaml_scan.specs.inside.NearFault.{near_fault, instead};
+ghost use Rattle.yaml_scan.specs.inside.Queue.{begins_with_end, pending};
+ghost use Rattle.yaml_scan.specs.Settled.{before};
+ghost use Rattle.yaml_scan.specs.Order.{ended};
+ghost use Rattle.yaml_scan.specs.inside.Stop.{fault_at};
+ghost use Rattle.yaml_scan.specs.inside.Scanning.{Runs, Advances, Offends, Steps, IsLast, Stays, IsOpen, Settles};
+ghost use Rattle.yaml_scan.specs.inside.Scanning.{Fails};
+ghost use Rattle.yaml_scan.specs.inside.Scanning.{Stops, history};
+
+use crate::fault::{fault_at, stop_t};
+use crate::groups::has_ends;
+use crate::step::{lay, meet, scanner_t};
+use std::alloc::Global;
+use yaml_text::{yaml_error_type_t, yaml_fault_t, yaml_mark_t, yaml_token_t};
+
+/// Whether the head of the queue is the token of the lowest candidate.
+fn is_awaited(scanner: &scanner_t) -> bool
+    requires { scanner.now.layout.queue.done + 1 < 2 ^ 64 }
+    ensures { result ≡ (nat_eq scanner.now.slots.awaited (scanner.now.layout.queue.done + 1)
+        && not (begins_with_end (pending scanner.now.layout.queue.early scanner.now.layout.queue.front
+        scanner.now.layout.queue.groups.items))) }
+{
+    scanner.slots.awaited == scanner.layout.queue.done + 1 && !has_ends(&scanner.layout.queue)
+}
+
+/// Whether the head of the queue is the next token.
+fn is_settled(scanner: &scanner_t) -> bool
+    requires { Runs scanner.now }
+    ensures { result ≡ nat_lt scanner.now.taken (length (before scanner.now.limit (history scanner.now))) }
+{
+    !scanner.layout.queue.groups.is_empty() && !is_awaited(scanner)
+}
+
+/// The reader's fault, if a step that read up to an index is near it.
+fn near_reading(refusal: &Option<yaml_fault_t>, near: u64, index: u64) -> Option<yaml_fault_t>
+    ensures { refusal_seen result ≡ near_fault near index (refusal_seen refusal.now) }
+{
+    match refusal {
+        Some(fault) => if near <= index { Some(*fault) } else { None },
+        None => None,
+    }
+}
+
+/// The reader's fault instead of a scanner's that is near it.
+fn near_problem(refusal: &Option<yaml_fault_t>, near: u64, fault: yaml_fault_t) -> yaml_fault_t
+    ensures { fault_of result ≡ instead near (refusal_seen refusal.now) (fault_of fault) }
+{
+    match fault.error {
+        yaml_error_type_t::YAML_SCANNER_ERROR => match near_reading(
+            refusal,
+            near,
+            fault.problem_mark.index,
+        ) {
+            Some(refused) => refused,
+            None => fault,
+        },
+        _ => fault,
+    }
+}
+
+/// Reads the next lexeme, and lays it.
+fn step(alloc: Global, scanner: &mut scanner_t, kept: &mut yaml_fault_t) -> Result<(), stop_t>
+    requires runs { Runs scanner.old }
+    requires running { ended (history scanner.old) ≡ false }
+    ensures { MatchResult result (λ _. Advances (history scanner.old) scanner.old scanner.new) (λ s.
+        ((fault_at s kept.new ≡ memory_fault) ⊎ Offends (history scanner.old) scanner.old (fault_at s kept.new))
+        × Stays scanner.old scanner.new) }
+{
+    let met = meet(scanner, kept)?;
+    lay(alloc, scanner, met, kept)
+}
+
+/// Makes a step, unless the reader's fault is near.
+fn advance(alloc: Global, scanner: &mut scanner_t, kept: &mut yaml_fault_t) -> Result<(), stop_t>
+    requires runs { Runs scanner.old }
+    requires running { ended (history scanner.old) ≡ false }
+    ensures { MatchResult result (λ _. Steps scanner.old scanner.new) (λ s.
+        ((fault_at s kept.new ≡ memory_fault) ⊎ IsLast scanner.old (fault_at s kept.new))
+        × Stays scanner.old scanner.new) }
+{
+    let reach = scanner.reach;
+    match step(alloc, scanner, kept) {
+        Ok(_) => match near_reading(&scanner.refusal, scanner.near, scanner.reach.index) {
+            Some(fault) => {
+                scanner.reach = reach;
+                *kept = fault;
+                Err(stop_t::FAULT)
+            }
+            None => {
+                scanner.made += 1;
+                Ok(())
+            }
+        },
+        Err(stop) => {
+            let fault = fault_at(stop, kept);
+            *kept = near_problem(&scanner.refusal, scanner.near, fault);
+            Err(stop_t::FAULT)
+        }
+    }
+}
+
+/// Makes steps until the head of the queue is the next token.
+pub(crate) fn settle_head(
+    alloc: Global,
+    scanner: &mut scanner_t,
+    kept: &mut yaml_fault_t,
+) -> Result<(), stop_t>
+    requires runs { Runs scanner.old }
+    requires not_ended { IsOpen scanner.old }
+    ensures { MatchResult result (λ _. Settles scanner.old scanner.new) (λ s.
+        ((fault_at s kept.new ≡ memory_fault) ⊎ Fails scanner.old scanner.new (fault_at s kept.new))
+        × Stops scanner.old scanner.new) }
+{
+    'steps: while !is_settled(scanner) {
+        advance(alloc, scanner, kept)?;
+    }
+    Ok(())
+}
