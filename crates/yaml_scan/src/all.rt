@@ -2,6 +2,7 @@
 ghost use Rattle.std.specs.Prelude.{◌≡◌, ◌≤◌, IfOk, [], map, option_map};
 ghost use Rattle.yaml_text.specs.Fault.{fault_of};
 ghost use Rattle.yaml_text.specs.Token.{token_of};
+ghost use Rattle.yaml_scan.specs.Keys.{key_limit, most_key_limit};
 ghost use Rattle.yaml_scan.specs.AnswerLaws.{StandInOrder, AreFollowed};
 ghost use Rattle.yaml_scan.specs.Inputs.{decoded_input, answers_to};
 ghost use Rattle.yaml_scan.specs.Puts.{AreReadAlike};
@@ -10,6 +11,7 @@ ghost use Rattle.yaml_scan.specs.Words.{HaveLines};
 ghost use Rattle.yaml_scan.specs.Parser.{IsRefusedEarly};
 ghost use Rattle.yaml_scan.specs.All.{AllOf, ReadsAll, EndNoMore, EndAll, depth_of};
 
+use crate::keys::KEY_LIMIT;
 use crate::sink::{yaml_scan_to, yaml_token_sink_t};
 use std::alloc::{AllocError, Global};
 use yaml_text::{yaml_encoding_t, yaml_fault_t, yaml_token_t};
@@ -53,21 +55,21 @@ pub fn yaml_scan_all(
     setting: yaml_encoding_t,
 ) -> Result<(Vec<yaml_token_t>, Option<yaml_fault_t>), AllocError>
     ensures answers { IfOk result (λ r.
-        ReadsAll 1024 setting input.now (map token_of r.0.items) (option_map fault_of r.1)) }
+        ReadsAll key_limit setting input.now (map token_of r.0.items) (option_map fault_of r.1)) }
     ensures early { IfOk result (λ r. IsRefusedEarly (decoded_input setting input.now)
-        → AllOf (answers_to 1024 setting input.now) (map token_of r.0.items) (option_map fault_of r.1)) }
+        → AllOf (answers_to key_limit setting input.now) (map token_of r.0.items) (option_map fault_of r.1)) }
     ensures order { IfOk result (λ r. StandInOrder 0 (map token_of r.0.items)) }
     ensures ends { IfOk result (λ r. EndNoMore (map token_of r.0.items)) }
     ensures ends_all { IfOk result (λ r.
-        EndAll (depth_of 1024 setting input.now) (map token_of r.0.items) (option_map fault_of r.1)) }
-    ensures keys { IfOk result (λ r. AreFollowed 1024 (map token_of r.0.items)) }
+        EndAll (depth_of key_limit setting input.now) (map token_of r.0.items) (option_map fault_of r.1)) }
+    ensures keys { IfOk result (λ r. AreFollowed key_limit (map token_of r.0.items)) }
     ensures lines { IfOk result (λ r. HaveLines (map token_of r.0.items) (option_map fault_of r.1)) }
     ensures local { IfOk result (λ r.
-        AreReadAlike 1024 setting input.now (map token_of r.0.items) (option_map fault_of r.1)) }
+        AreReadAlike key_limit setting input.now (map token_of r.0.items) (option_map fault_of r.1)) }
     ensures marks { IfOk result (λ r.
         AllIsCounted setting input.now (map token_of r.0.items) (option_map fault_of r.1)) }
 {
-    yaml_scan_all_limit(alloc, input, setting, 1024)
+    yaml_scan_all_limit(alloc, input, setting, KEY_LIMIT)
 }
 
 /// All tokens of an input, as [`yaml_scan_all`] returns them, with a key limit in bytes, from 1 to 65,536.
@@ -81,7 +83,7 @@ pub fn yaml_scan_all_limit(
     limit: u32,
 ) -> Result<(Vec<yaml_token_t>, Option<yaml_fault_t>), AllocError>
     requires least { 1 ≤ limit }
-    requires most { limit ≤ 65536 }
+    requires most { limit ≤ most_key_limit }
     ensures answers { IfOk result (λ r.
         ReadsAll limit setting input.now (map token_of r.0.items) (option_map fault_of r.1)) }
     ensures early { IfOk result (λ r. IsRefusedEarly (decoded_input setting input.now)

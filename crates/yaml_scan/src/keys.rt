@@ -8,9 +8,13 @@ ghost use Rattle.yaml_scan.specs.inside.Slots.{completed_held, nested_outer, nes
 ghost use Rattle.yaml_scan.specs.inside.Slots.{AreEmptyBelow};
 ghost use Rattle.yaml_scan.specs.inside.Slots.{AreNested};
 
-use crate::kind::{is_candidate, is_colon, is_flow_end, is_flow_start};
+use crate::depth::nest;
+use crate::kind::{is_candidate, is_colon};
 use yaml_lexeme::yaml_lexeme_kind_t;
 use yaml_text::yaml_mark_t;
+
+/// The key limit in bytes, if no other is set.
+pub(crate) const KEY_LIMIT: u32 = 1024;
 
 /// What is kept of a candidate: the number of its step, where it starts, and whether a `:` has to come.
 #[derive(Clone, Copy)]
@@ -173,23 +177,6 @@ fn give_up(slot: &mut Option<held_t>, limit: u64, mark: yaml_mark_t)
     if let Some(held) = *slot {
         if !is_still_live(limit, mark, held) {
             *slot = None;
-        }
-    }
-}
-
-/// Enters a depth, or gives one up. There is room for one.
-fn nest(slots: &mut slots_t, kind: yaml_lexeme_kind_t)
-    requires { vec_len slots.old.outer < vec_capacity slots.old.outer }
-    ensures outer { slots.new.outer.items ≡ nested_outer kind slots.old.outer.items slots.old.top }
-    ensures top { slots.new.top ≡ nested_top kind slots.old.outer.items slots.old.top }
-{
-    if is_flow_start(kind) {
-        slots.outer.push_reserved(slots.top);
-        slots.top = None;
-    } else if is_flow_end(kind) {
-        match slots.outer.pop() {
-            None => {}
-            Some(held) => slots.top = held,
         }
     }
 }

@@ -31,24 +31,6 @@ pub(crate) fn is_colon(kind: yaml_lexeme_kind_t) -> bool
     matches!(kind, yaml_lexeme_kind_t::VALUE)
 }
 
-pub(crate) fn is_flow_start(kind: yaml_lexeme_kind_t) -> bool
-    ensures { result ≡ kinds.is_flow_start kind }
-{
-    matches!(
-        kind,
-        yaml_lexeme_kind_t::FLOW_SEQUENCE_START | yaml_lexeme_kind_t::FLOW_MAPPING_START
-    )
-}
-
-pub(crate) fn is_flow_end(kind: yaml_lexeme_kind_t) -> bool
-    ensures { result ≡ kinds.is_flow_end kind }
-{
-    matches!(
-        kind,
-        yaml_lexeme_kind_t::FLOW_SEQUENCE_END | yaml_lexeme_kind_t::FLOW_MAPPING_END
-    )
-}
-
 pub(crate) fn is_last(kind: yaml_lexeme_kind_t) -> bool
     ensures { result ≡ is_stream_end kind }
 {
@@ -75,30 +57,6 @@ pub(crate) fn is_opener(kind: yaml_lexeme_kind_t) -> bool
         kind,
         yaml_lexeme_kind_t::BLOCK_ENTRY | yaml_lexeme_kind_t::KEY | yaml_lexeme_kind_t::VALUE
     )
-}
-
-/// Whether a key is allowed after it. `margin`: it was read at depth 0. `none`: it completed nothing. `passed_break`:
-/// it is a plain scalar, and a break is in the separator after it.
-pub(crate) fn is_allowed_after(
-    kind: yaml_lexeme_kind_t,
-    margin: bool,
-    none: bool,
-    passed_break: bool,
-) -> bool
-    ensures { (d : ℕ) → margin ≡ nat_eq d 0 → result ≡ allows kind d none passed_break }
-{
-    match kind {
-        yaml_lexeme_kind_t::FLOW_SEQUENCE_START
-        | yaml_lexeme_kind_t::FLOW_MAPPING_START
-        | yaml_lexeme_kind_t::FLOW_ENTRY
-        | yaml_lexeme_kind_t::BLOCK_ENTRY
-        | yaml_lexeme_kind_t::LITERAL
-        | yaml_lexeme_kind_t::FOLDED => true,
-        yaml_lexeme_kind_t::KEY => margin,
-        yaml_lexeme_kind_t::VALUE => margin && none,
-        yaml_lexeme_kind_t::PLAIN => passed_break,
-        _ => false,
-    }
 }
 
 /// Whether a column stays open at a lexeme that starts at a mark.

@@ -4,7 +4,9 @@
 mod all;
 #[cfg(test)]
 mod all_tests;
+mod allowed;
 mod calls;
+mod depth;
 mod fault;
 mod groups;
 mod keys;
@@ -13,6 +15,7 @@ pub mod laws;
 mod levels;
 mod near;
 mod parser;
+mod session;
 mod settled;
 mod sink;
 mod source;

@@ -5,6 +5,7 @@ ghost use Rattle.yaml_text.specs.Fault.{Fault, fault_of, zero_mark};
 ghost use Rattle.yaml_text.specs.Token.{data_of, token_of};
 ghost use Rattle.yaml_text.specs.declared.types.yaml_encoding_t.TheVariants.{YAML_UTF8_ENCODING};
 ghost use Rattle.yaml_text.specs.Decode.{refusal_seen};
+ghost use Rattle.yaml_scan.specs.Keys.{key_limit, most_key_limit};
 ghost use Rattle.yaml_scan.specs.Settled.{before, queued};
 ghost use Rattle.yaml_scan.specs.Session.{new_session, session_queued, session_reach};
 ghost use Rattle.yaml_scan.specs.inside.Scanning.{Runs, IsOpen, history};
@@ -22,9 +23,10 @@ ghost use Rattle.yaml_scan.specs.inside.Stop.{fault_at};
 
 use crate::fault::{fault_at, make_memory_fault, stop_t};
 use crate::groups::{has_lead, lead, put_stream_start, queue_t, take_next};
-use crate::keys::slots_t;
+use crate::keys::{KEY_LIMIT, slots_t};
 use crate::levels::layout_t;
-use crate::near::near_from;
+use crate::near::{near_from, near_start};
+use crate::session::{end, pass, session_t};
 use crate::settled::settle_head;
 use crate::step::scanner_t;
 use std::alloc::Global;
@@ -38,18 +40,9 @@ use yaml_text::{
 #[cfg(test)]
 mod tests;
 
-/// What the calls so far have come to.
-#[derive(Drop)]
-struct session_t {
-    peeked: bool,
-    over: bool,
-    fault: Option<yaml_fault_t>,
-}
-
 /// A parser of an input. Its tokens are taken one after the other.
 #[derive(Drop)]
 pub struct yaml_parser_t<'a> {
-    alloc: Global,
     input: &'a [u8],
     setting: yaml_encoding_t,
     scanner: scanner_t<'a>,
@@ -90,6 +83,7 @@ fn new_scanner<'a>(alloc: Global, limit: u64) -> scanner_t<'a>
         column: 0,
     };
     scanner_t {
+        alloc,
         text: empty_text(alloc),
         refusal: None,
         near: 0,
@@ -116,16 +110,8 @@ fn new_scanner<'a>(alloc: Global, limit: u64) -> scanner_t<'a>
     }
 }
 
-/// The reader's fault, if the first step is near it.
-fn near_start(refusal: Option<yaml_fault_t>, near: u64) -> Option<yaml_fault_t>
-    ensures { refusal_seen result ≡ near_fault near 0 (refusal_seen refusal) }
-{
-    if near == 0 { refusal } else { None }
-}
-
 /// Decodes the input, and makes the first step.
 fn begin<'a>(
-    alloc: Global,
     scanner: &mut scanner_t<'a>,
     input: &'a [u8],
     setting: yaml_encoding_t,
@@ -137,7 +123,7 @@ fn begin<'a>(
         ⊎ IsEnded setting input.now scanner.old scanner.new (fault_at s kept.new))
         × IsStopped setting input.now scanner.old scanner.new) }
 {
-    let (text, refusal) = match yaml_decode_front(alloc, input, setting) {
+    let (text, refusal) = match yaml_decode_front(scanner.alloc, input, setting) {
         Ok(front) => front,
         Err(fault) => {
             *kept = fault;
@@ -160,7 +146,6 @@ fn begin<'a>(
 
 /// Makes the first step, if it was not made.
 fn start<'a>(
-    alloc: Global,
     scanner: &mut scanner_t<'a>,
     input: &'a [u8],
     setting: yaml_encoding_t,
@@ -175,30 +160,11 @@ fn start<'a>(
     if scanner.made > 0 {
         return Ok(());
     }
-    begin(alloc, scanner, input, setting, kept)
+    begin(scanner, input, setting, kept)
 }
 
-/// Makes the steps that the next token needs.
+/// Makes the steps that the next token needs: none if it was peeked.
 fn settle<'a>(
-    alloc: Global,
-    scanner: &mut scanner_t<'a>,
-    input: &'a [u8],
-    setting: yaml_encoding_t,
-    kept: &mut yaml_fault_t,
-) -> Result<(), stop_t>
-    requires { IsReady setting input.now scanner.old }
-    ensures { MatchResult result (λ _. IsSettled setting input.now scanner.old scanner.new) (λ s.
-        (IsShort setting input.now scanner.old (fault_at s kept.new)
-        ⊎ IsEnded setting input.now scanner.old scanner.new (fault_at s kept.new))
-        × IsStopped setting input.now scanner.old scanner.new) }
-{
-    start(alloc, scanner, input, setting, kept)?;
-    settle_head(alloc, scanner, kept)
-}
-
-/// Makes the steps that the next token needs, unless it was peeked.
-fn look<'a>(
-    alloc: Global,
     scanner: &mut scanner_t<'a>,
     input: &'a [u8],
     setting: yaml_encoding_t,
@@ -207,15 +173,16 @@ fn look<'a>(
 ) -> Result<(), stop_t>
     requires ready { IsReady setting input.now scanner.old }
     requires shown { peeked ≡ true → IsShown setting input.now scanner.old }
-    ensures { MatchResult result (λ _. IsSettled setting input.now scanner.old scanner.new) (λ s.
-        (IsShort setting input.now scanner.old (fault_at s kept.new)
+    ensures { MatchResult result (λ _. IsSettled setting input.now scanner.old scanner.new)
+        (λ s. (IsShort setting input.now scanner.old (fault_at s kept.new)
         ⊎ IsEnded setting input.now scanner.old scanner.new (fault_at s kept.new))
         × IsStopped setting input.now scanner.old scanner.new × (peeked ≡ false)) }
 {
     if peeked {
         return Ok(());
     }
-    settle(alloc, scanner, input, setting, kept)
+    start(scanner, input, setting, kept)?;
+    settle_head(scanner, kept)
 }
 
 /// Takes the head of the queue.
@@ -228,39 +195,12 @@ fn take_head(scanner: &mut scanner_t) -> yaml_token_t
     take_next(&mut scanner.layout.queue)
 }
 
-pub(crate) fn is_stream_end(token: &yaml_token_t) -> bool
-    ensures { result ≡ is_last_type (type_of (data_of token.now.token_data)) }
-{
-    matches!(token.token_data, unnamed_yaml_token_t_data::STREAM_END)
-}
-
-/// Goes on after a token that was taken: with the stream end the session is over.
-fn pass(session: &mut session_t, token: &yaml_token_t)
-    ensures { session.new ≡ record {
-      peeked = false;
-      over = is_last_type (type_of (data_of token.now.token_data));
-      fault = session.old.fault;
-    } }
-{
-    session.peeked = false;
-    session.over = is_stream_end(token);
-}
-
-/// Ends the session with a fault.
-fn end(session: &mut session_t, fault: yaml_fault_t)
-    ensures { session.new ≡ record { peeked = false; over = true; fault = Some fault } }
-{
-    session.peeked = false;
-    session.over = true;
-    session.fault = Some(fault);
-}
-
 impl<'a> yaml_parser_t<'a> {
     /// A parser of the input, with a key limit of 1,024 bytes.
     pub fn new(alloc: Global, input: &'a [u8], setting: yaml_encoding_t) -> yaml_parser_t<'a>
-        ensures { result ≡ record { input = input.now; setting = setting; limit = 1024; session = new_session } }
+        ensures { result ≡ record { input = input.now; setting = setting; limit = key_limit; session = new_session } }
     {
-        yaml_parser_t::with_key_limit(alloc, input, setting, 1024)
+        yaml_parser_t::with_key_limit(alloc, input, setting, KEY_LIMIT)
     }
 
     /// A parser of the input, with a key limit in bytes, from 1 to 65,536.
@@ -271,11 +211,10 @@ impl<'a> yaml_parser_t<'a> {
         limit: u32,
     ) -> yaml_parser_t<'a>
         requires least { 1 ≤ limit }
-        requires most { limit ≤ 65536 }
+        requires most { limit ≤ most_key_limit }
         ensures { result ≡ record { input = input.now; setting = setting; limit = limit; session = new_session } }
     {
         yaml_parser_t {
-            alloc,
             input,
             setting,
             scanner: new_scanner(alloc, limit as u64),
@@ -311,8 +250,7 @@ pub(crate) fn show(parser: &mut yaml_parser_t) -> bool
     if parser.session.over {
         return true;
     }
-    match look(
-        parser.alloc,
+    match settle(
         &mut parser.scanner,
         parser.input,
         parser.setting,
@@ -372,8 +310,7 @@ pub fn yaml_parser_scan(parser: &mut yaml_parser_t) -> Result<yaml_token_t, yaml
     if parser.session.over {
         return Ok(yaml_token_t::empty());
     }
-    match look(
-        parser.alloc,
+    match settle(
         &mut parser.scanner,
         parser.input,
         parser.setting,

@@ -14,8 +14,8 @@ ghost use Rattle.yaml_scan.specs.inside.Scanning.{Stops, history};
 
 use crate::fault::{fault_at, stop_t};
 use crate::groups::has_ends;
+use crate::near::{near_problem, near_reading};
 use crate::step::{lay, meet, scanner_t};
-use std::alloc::Global;
 use yaml_text::{yaml_error_type_t, yaml_fault_t, yaml_mark_t, yaml_token_t};
 
 /// Whether the head of the queue is the token of the lowest candidate.
@@ -36,35 +36,8 @@ fn is_settled(scanner: &scanner_t) -> bool
     !scanner.layout.queue.groups.is_empty() && !is_awaited(scanner)
 }
 
-/// The reader's fault, if a step that read up to an index is near it.
-fn near_reading(refusal: &Option<yaml_fault_t>, near: u64, index: u64) -> Option<yaml_fault_t>
-    ensures { refusal_seen result ≡ near_fault near index (refusal_seen refusal.now) }
-{
-    match refusal {
-        Some(fault) => if near <= index { Some(*fault) } else { None },
-        None => None,
-    }
-}
-
-/// The reader's fault instead of a scanner's that is near it.
-fn near_problem(refusal: &Option<yaml_fault_t>, near: u64, fault: yaml_fault_t) -> yaml_fault_t
-    ensures { fault_of result ≡ instead near (refusal_seen refusal.now) (fault_of fault) }
-{
-    match fault.error {
-        yaml_error_type_t::YAML_SCANNER_ERROR => match near_reading(
-            refusal,
-            near,
-            fault.problem_mark.index,
-        ) {
-            Some(refused) => refused,
-            None => fault,
-        },
-        _ => fault,
-    }
-}
-
 /// Reads the next lexeme, and lays it.
-fn step(alloc: Global, scanner: &mut scanner_t, kept: &mut yaml_fault_t) -> Result<(), stop_t>
+fn step(scanner: &mut scanner_t, kept: &mut yaml_fault_t) -> Result<(), stop_t>
     requires runs { Runs scanner.old }
     requires running { ended (history scanner.old) ≡ false }
     ensures { MatchResult result (λ _. Advances (history scanner.old) scanner.old scanner.new) (λ s.
@@ -72,11 +45,11 @@ fn step(alloc: Global, scanner: &mut scanner_t, kept: &mut yaml_fault_t) -> Resu
         × Stays scanner.old scanner.new) }
 {
     let met = meet(scanner, kept)?;
-    lay(alloc, scanner, met, kept)
+    lay(scanner, met, kept)
 }
 
 /// Makes a step, unless the reader's fault is near.
-fn advance(alloc: Global, scanner: &mut scanner_t, kept: &mut yaml_fault_t) -> Result<(), stop_t>
+fn advance(scanner: &mut scanner_t, kept: &mut yaml_fault_t) -> Result<(), stop_t>
     requires runs { Runs scanner.old }
     requires running { ended (history scanner.old) ≡ false }
     ensures { MatchResult result (λ _. Steps scanner.old scanner.new) (λ s.
@@ -84,7 +57,7 @@ fn advance(alloc: Global, scanner: &mut scanner_t, kept: &mut yaml_fault_t) -> R
         × Stays scanner.old scanner.new) }
 {
     let reach = scanner.reach;
-    match step(alloc, scanner, kept) {
+    match step(scanner, kept) {
         Ok(_) => match near_reading(&scanner.refusal, scanner.near, scanner.reach.index) {
             Some(fault) => {
                 scanner.reach = reach;
@@ -105,11 +78,7 @@ fn advance(alloc: Global, scanner: &mut scanner_t, kept: &mut yaml_fault_t) -> R
 }
 
 /// Makes steps until the head of the queue is the next token.
-pub(crate) fn settle_head(
-    alloc: Global,
-    scanner: &mut scanner_t,
-    kept: &mut yaml_fault_t,
-) -> Result<(), stop_t>
+pub(crate) fn settle_head(scanner: &mut scanner_t, kept: &mut yaml_fault_t) -> Result<(), stop_t>
     requires runs { Runs scanner.old }
     requires not_ended { IsOpen scanner.old }
     ensures { MatchResult result (λ _. Settles scanner.old scanner.new) (λ s.
@@ -117,7 +86,7 @@ pub(crate) fn settle_head(
         × Stops scanner.old scanner.new) }
 {
     'steps: while !is_settled(scanner) {
-        advance(alloc, scanner, kept)?;
+        advance(scanner, kept)?;
     }
     Ok(())
 }

@@ -2,11 +2,13 @@
 ghost use Rattle.std.specs.Prelude.{◌≡◌, ◌++◌, ◌∷◌, ◌≤◌, [], List, IfOk, OnErr, OnOk, map, option_map};
 ghost use Rattle.yaml_text.specs.Fault.{fault_of};
 ghost use Rattle.yaml_text.specs.Token.{Token, token_of};
+ghost use Rattle.yaml_scan.specs.Keys.{most_key_limit};
 ghost use Rattle.yaml_scan.specs.Session.{new_session};
 ghost use Rattle.yaml_scan.specs.Sink.{IsGivenAll};
 ghost use Rattle.yaml_scan.specs.Words.{HasWords};
 
-use crate::parser::{is_stream_end, yaml_parser_scan, yaml_parser_t};
+use crate::parser::{yaml_parser_scan, yaml_parser_t};
+use crate::session::is_stream_end;
 use std::alloc::{AllocError, Global};
 use yaml_text::{yaml_encoding_t, yaml_fault_t, yaml_token_t};
 
@@ -70,7 +72,7 @@ pub fn yaml_scan_to<S: yaml_token_sink_t>(
     sink: &mut S,
 ) -> Result<Option<yaml_fault_t>, AllocError>
     requires least { 1 ≤ limit }
-    requires most { limit ≤ 65536 }
+    requires most { limit ≤ most_key_limit }
     ensures given { IfOk result (λ fault.
         IsGivenAll (λ tokens. S.took sink.old tokens sink.new) limit setting input.now (option_map fault_of fault)) }
     ensures refused { OnErr result S.may_refuse }

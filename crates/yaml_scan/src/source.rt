@@ -1,4 +1,4 @@
-//! What is read of a text, place by place.
+//! The readers of `yaml_lexeme`, with contracts over places instead of marks.
 ghost use Rattle.std.specs.Prelude.{◌≡◌, ℕ, ◌≤◌, ◌⊎◌, Some, Ok, Err, length, nat_lt, IfSome, MatchResult};
 ghost use Rattle.yaml_text.specs.Fault.{memory_fault};
 ghost use Rattle.yaml_scan.specs.inside.Stop.{fault_at};
@@ -8,6 +8,7 @@ ghost use Rattle.yaml_scan.specs.SourceOf.{source_of};
 ghost use Rattle.yaml_scan.specs.inside.TextReads.{IsRead, IsOffence};
 
 use crate::fault::stop_t;
+use crate::step::met_t;
 use std::alloc::Global;
 use yaml_lexeme::{
     yaml_context_t, yaml_gap, yaml_lexeme_at, yaml_lexeme_kind, yaml_lexeme_kind_t, yaml_lexeme_t,
@@ -41,28 +42,23 @@ pub(crate) fn kind_at(
     yaml_lexeme_kind(text, at, in_flow)
 }
 
-/// The lexeme of a kind at a mark, or the fault of its offence.
+/// The lexeme that was met, or the fault of its offence.
 pub(crate) fn read_lexeme(
     alloc: Global,
     kept: &mut yaml_fault_t,
     text: &yaml_text_t,
-    at: yaml_mark_t,
-    kind: yaml_lexeme_kind_t,
-    depth: usize,
-    level: Option<u64>,
+    met: met_t,
+    context: yaml_context_t,
 ) -> Result<yaml_lexeme_t, stop_t>
-    requires place { (p : ℕ) × IsMarkOf text.now.chars at p
-        × ((source_of text.now.chars).kind (nat_lt 0 depth) p ≡ Some kind) }
-    requires level { IfSome level (λ l. l ≤ length text.now.chars) }
-    ensures { (p : ℕ) → IsMarkOf text.now.chars at p
-        → MatchResult result (λ l. IsRead text.now.chars kind depth level p (lexeme_of l)) (λ s.
-        (fault_at s kept.new ≡ memory_fault) ⊎ IsOffence text.now.chars kind depth level p (fault_at s kept.new)) }
+    requires place { (p : ℕ) × IsMarkOf text.now.chars met.front p
+        × ((source_of text.now.chars).kind (nat_lt 0 context.depth) p ≡ Some met.kind) }
+    requires level { IfSome context.level (λ l. l ≤ length text.now.chars) }
+    ensures { (p : ℕ) → IsMarkOf text.now.chars met.front p
+        → MatchResult result (λ l. IsRead text.now.chars met.kind context.depth context.level p (lexeme_of l))
+        (λ s. (fault_at s kept.new ≡ memory_fault)
+        ⊎ IsOffence text.now.chars met.kind context.depth context.level p (fault_at s kept.new)) }
 {
-    let context = yaml_context_t {
-        depth: depth as u64,
-        level,
-    };
-    match yaml_lexeme_at(alloc, text, at, kind, context) {
+    match yaml_lexeme_at(alloc, text, met.front, met.kind, context) {
         Ok(lexeme) => Ok(lexeme),
         Err(fault) => {
             *kept = fault;

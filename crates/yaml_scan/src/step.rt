@@ -18,18 +18,20 @@ ghost use Rattle.yaml_scan.specs.inside.StepFaults.{IsLost, IsRefused};
 ghost use Rattle.yaml_scan.specs.inside.Scanning.{Holds, IsMet, Advances, Offends, Stays, text_of};
 ghost use Rattle.std.specs.Option.{option_copied};
 
+use crate::allowed::{is_allowed_after, is_key_allowed};
 use crate::fault::{keep_fault, stop_t};
 use crate::keys::{completed_by, held_t, lost_at, move_slots, needed_at, root, settle, slots_t};
-use crate::kind::{is_allowed_after, is_candidate, is_colon, start_behind};
+use crate::kind::{is_candidate, is_colon, start_behind};
 use crate::levels::{close_levels, is_level, layout_t, put_group, put_key, top_level};
 use crate::source::{gap_end, kind_at, read_lexeme};
 use std::alloc::Global;
-use yaml_lexeme::{yaml_lexeme_kind_t, yaml_lexeme_t};
+use yaml_lexeme::{yaml_context_t, yaml_lexeme_kind_t, yaml_lexeme_t};
 use yaml_text::{yaml_fault_t, yaml_mark_t, yaml_text_t, yaml_token_t};
 
 /// The running scanner of a text.
 #[derive(Drop)]
 pub(crate) struct scanner_t<'a> {
+    pub alloc: Global,
     pub text: yaml_text_t<'a>,
     /// The reader's fault after the text, if that is the front of a refused input.
     pub refusal: Option<yaml_fault_t>,
@@ -113,23 +115,17 @@ fn problem(kind: yaml_lexeme_kind_t, none: bool) -> Option<&'static str>
     }
 }
 
-/// Stops if the kind needs an allowed key and none is allowed.
-fn refuse_kind(
-    kept: &mut yaml_fault_t,
-    kind: yaml_lexeme_kind_t,
-    margin: bool,
-    allowed: bool,
-    none: bool,
-    front: yaml_mark_t,
-) -> Result<(), stop_t>
-    ensures { MatchResult result (λ _. IsRefused (if margin && not allowed then problem_of kind none
-        else None) front None) (λ s. IsRefused (if margin && not allowed then problem_of kind none
-        else None) front (Some (fault_at s kept.new))) }
+/// Stops if the kind needs an allowed key and none is allowed. `none`: it completes nothing.
+fn refuse_kind(kept: &mut yaml_fault_t, met: met_t, margin: bool, none: bool) -> Result<(), stop_t>
+    ensures { MatchResult result
+        (λ _. IsRefused (if margin && not met.allowed then problem_of met.kind none else None) met.front None)
+        (λ s. IsRefused (if margin && not met.allowed then problem_of met.kind none else None) met.front
+        (Some (fault_at s kept.new))) }
 {
-    if margin && !allowed {
-        match problem(kind, none) {
+    if margin && !met.allowed {
+        match problem(met.kind, none) {
             None => Ok(()),
-            Some(problem) => Err(keep_fault(kept, problem, front, None, front)),
+            Some(problem) => Err(keep_fault(kept, problem, met.front, None, met.front)),
         }
     } else {
         Ok(())
@@ -137,27 +133,14 @@ fn refuse_kind(
 }
 
 /// The required candidate that a lexeme would clear or replace.
-fn cleared(
-    kind: yaml_lexeme_kind_t,
-    allowed: bool,
-    margin: bool,
-    top: Option<held_t>,
-    limit: u64,
-    front: yaml_mark_t,
-) -> Option<held_t>
-    ensures { result ≡ (if replaces kind allowed && margin then needed limit front top else None) }
+fn cleared(met: met_t, margin: bool, top: Option<held_t>, limit: u64) -> Option<held_t>
+    ensures { result ≡ (if replaces met.kind met.allowed && margin then needed limit met.front top else None) }
 {
-    if !is_colon(kind) && (!is_candidate(kind) || allowed) && margin {
-        needed_at(top, limit, front)
+    if !is_colon(met.kind) && (!is_candidate(met.kind) || met.allowed) && margin {
+        needed_at(top, limit, met.front)
     } else {
         None
     }
-}
-
-fn is_key_allowed(allowed: bool, margin: bool, mark: yaml_mark_t, front: yaml_mark_t) -> bool
-    ensures { result ≡ (allowed || (margin && nat_lt mark.line front.line)) }
-{
-    allowed || (margin && mark.line < front.line)
 }
 
 /// Passes the gap, and finds the kind of the next lexeme. Stops if the kind is refused.
@@ -175,62 +158,52 @@ pub(crate) fn meet(scanner: &scanner_t, kept: &mut yaml_fault_t) -> Result<met_t
     refuse_lost(kept, lost_at(root, scanner.limit, front), front)?;
     let kind = expect_kind(kept, kind_at(&scanner.text, front, !margin), front)?;
     let allowed = is_key_allowed(scanner.allowed, margin, scanner.reach, front);
-    let completed = completed_by(kind, scanner.slots.top, scanner.limit, front);
-    refuse_kind(kept, kind, margin, allowed, completed.is_none(), front)?;
-    let start = start_behind(kind, front);
-    refuse_lost(
-        kept,
-        cleared(
-            kind,
-            allowed,
-            margin,
-            scanner.slots.top,
-            scanner.limit,
-            front,
-        ),
-        start,
-    )?;
-    Ok(met_t {
+    let met = met_t {
         kind,
         front,
         allowed,
-    })
+    };
+    let completed = completed_by(kind, scanner.slots.top, scanner.limit, front);
+    refuse_kind(kept, met, margin, completed.is_none())?;
+    let start = start_behind(kind, front);
+    refuse_lost(
+        kept,
+        cleared(met, margin, scanner.slots.top, scanner.limit),
+        start,
+    )?;
+    Ok(met)
 }
 
-/// Changes the candidates after a lexeme that was read to a mark. Stops if one is lost there. There is room for one.
+/// Changes the candidates after a lexeme that was read to a mark, or returns a required one that is stale there. There is
+/// room for one more depth.
 fn keep_candidates(
-    kept: &mut yaml_fault_t,
     slots: &mut slots_t,
     met: met_t,
     new: held_t,
     limit: u64,
     mark: yaml_mark_t,
-) -> Result<(), stop_t>
+) -> Option<held_t>
     requires empty { slots.old.not_simple_keys ≡ empty_slots slots.old.outer.items }
     requires nested { AreNested slots.old.outer.items }
     requires room { vec_len slots.old.outer < vec_capacity slots.old.outer }
-    ensures lost { MatchResult result (λ _.
-        lost_held limit mark (root_of slots.old.outer.items (slot_behind met.kind met.allowed new slots.old.top))
-        ≡ None) (λ s.
-        IsLost (lost_held limit mark (root_of slots.old.outer.items
-        (slot_behind met.kind met.allowed new slots.old.top))) mark (fault_at s kept.new)) }
-    ensures outer { OnOk result (slots.new.outer.items
-        ≡ nested_outer met.kind (map (still_held limit mark) slots.old.outer.items)
-        (still_held limit mark (slot_behind met.kind met.allowed new slots.old.top))) }
-    ensures top { OnOk result (slots.new.top
-        ≡ nested_top met.kind (map (still_held limit mark) slots.old.outer.items)
-        (still_held limit mark (slot_behind met.kind met.allowed new slots.old.top))) }
-    ensures empty { OnOk result (slots.new.not_simple_keys ≡ empty_slots slots.new.outer.items) }
-    ensures awaited { OnOk result (slots.new.awaited ≡ step_of (lowest (slots.new.outer.items ++ slots.new.top ∷ []))) }
+    ensures lost { result
+        ≡ lost_held limit mark (root_of slots.old.outer.items (slot_behind met.kind met.allowed new slots.old.top)) }
+    ensures outer { result ≡ None
+        → slots.new.outer.items ≡ nested_outer met.kind (map (still_held limit mark) slots.old.outer.items)
+        (still_held limit mark (slot_behind met.kind met.allowed new slots.old.top)) }
+    ensures top { result ≡ None
+        → slots.new.top ≡ nested_top met.kind (map (still_held limit mark) slots.old.outer.items)
+        (still_held limit mark (slot_behind met.kind met.allowed new slots.old.top)) }
+    ensures empty { result ≡ None → slots.new.not_simple_keys ≡ empty_slots slots.new.outer.items }
+    ensures awaited { result ≡ None
+        → slots.new.awaited ≡ step_of (lowest (slots.new.outer.items ++ slots.new.top ∷ [])) }
 {
     settle(&mut slots.top, met.kind, met.allowed, new);
-    refuse_lost(
-        kept,
-        lost_at(root(&slots.outer, slots.top), limit, mark),
-        mark,
-    )?;
-    move_slots(slots, met.kind, limit, mark);
-    Ok(())
+    let lost = lost_at(root(&slots.outer, slots.top), limit, mark);
+    if lost.is_none() {
+        move_slots(slots, met.kind, limit, mark);
+    }
+    lost
 }
 
 /// The token of a lexeme that starts at a mark.
@@ -250,7 +223,6 @@ fn token_of(start: yaml_mark_t, x: yaml_lexeme_t) -> yaml_token_t
 
 /// Reads the lexeme that was met, and changes levels, queue and candidates.
 pub(crate) fn lay(
-    alloc: Global,
     scanner: &mut scanner_t,
     met: met_t,
     kept: &mut yaml_fault_t,
@@ -273,8 +245,11 @@ pub(crate) fn lay(
     scanner.layout.queue.groups.reserve(1)?;
     let closed = close_levels(&mut scanner.layout.levels, !margin, kind, met.front, start);
     let level = top_level(&scanner.layout.levels);
-    let depth = scanner.slots.outer.len();
-    let x = read_lexeme(alloc, kept, &scanner.text, met.front, kind, depth, level)?;
+    let context = yaml_context_t {
+        depth: scanner.slots.outer.len() as u64,
+        level,
+    };
+    let x = read_lexeme(scanner.alloc, kept, &scanner.text, met, context)?;
     let new = held_t {
         step: scanner.made + 1,
         start,
@@ -283,7 +258,8 @@ pub(crate) fn lay(
     let reach = x.reach;
     let passed_break = x.passed_break;
     let completed = completed_by(kind, scanner.slots.top, scanner.limit, start);
-    keep_candidates(kept, &mut scanner.slots, met, new, scanner.limit, reach)?;
+    let lost = keep_candidates(&mut scanner.slots, met, new, scanner.limit, reach);
+    refuse_lost(kept, lost, reach)?;
     let opens = put_key(&mut scanner.layout, margin, completed, kind, start);
     put_group(
         &mut scanner.layout.queue,

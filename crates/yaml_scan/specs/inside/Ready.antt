@@ -7,6 +7,7 @@ use Rattle.yaml_text.specs.Fault.{Fault, memory_fault, zero_mark, fault_of}
 use Rattle.yaml_scan.specs.declared.step.scanner_t.{scanner_t}
 use Rattle.yaml_scan.specs.declared.parser.yaml_parser_t.TheInside.{Inside}
 use Rattle.yaml_text.specs.Token.{token_of}
+use Rattle.yaml_scan.specs.Keys.{most_key_limit}
 use Rattle.yaml_scan.specs.Laid.{reach}
 use Rattle.yaml_scan.specs.Token.{yaml_token_t, empty}
 use Rattle.yaml_scan.specs.Groups.{Token, handed_out}
@@ -118,7 +119,7 @@ pub record Sound (p : Inside) : Type 0 where
       ≡ reach (first_steps p.scanner.made (course_in p.scanner.limit p.setting p.input.now).read)
   pub empty : token_of p.empty ≡ empty
   pub lead : p.session.peeked ≡ true → IsLead p.scanner.text.encoding p.scanner.layout.queue (token_of p.lead)
-  pub limit : p.scanner.limit ≤ 65536
+  pub limit : p.scanner.limit ≤ most_key_limit
   pub queued : session_queued (course_in p.scanner.limit p.setting p.input.now) (parser_of p).session
       + p.scanner.layout.queue.done ≡ p.scanner.made
   pub few : session_queued (course_in p.scanner.limit p.setting p.input.now) (parser_of p).session ≤ p.scanner.limit + 1

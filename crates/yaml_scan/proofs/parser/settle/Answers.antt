@@ -3,6 +3,7 @@ use Rattle.std.proofs.lemmas.Result.{err_from_is_err_and}
 use Rattle.std.specs.Prelude.{MatchResult}
 use Rattle.yaml_scan.specs.declared.fault.stop_t.{stop_t}
 use Rattle.yaml_scan.proofs.RunningCalls.ToNextToken.{settled_in, stopped_in, ended_in, begun_is}
+use Rattle.yaml_scan.proofs.RunningCalls.CallAnswers.{shown_settled}
 use Rattle.yaml_scan.proofs.parser.settle.Goals as goal
 
 -- what follows in both cases
@@ -11,7 +12,7 @@ either_way (Ok _) A B P Q f g m = f m
 either_way (Err s) A B P Q f g m = g s m
 
 pub returns-in_err-start : goal.returns-in_err-start
-returns-in_err-start c = let p = err_from_is_err_and c.from_residual.result c.from_residual.ensures.1 in rw (p.1, p.2) c.in_err-start.ensures
+returns-in_err-start c = let p = err_from_is_err_and c.from_residual.result c.from_residual.ensures.1 in rw (p.1, p.2) (let e = c.in_err-start.ensures in (e.0, e.1, c.if-peeked.false))
 
 pub returns : goal.returns
 returns c = either_way c.settle_head.result _ _ _ _ (settled_in c.args.setting c.args.input.now c.args.scanner.now c.start.new.scanner c.settle_head.new.scanner c.in_ok-start.ensures) (λ s e. (
@@ -20,4 +21,8 @@ returns c = either_way c.settle_head.result _ _ _ _ (settled_in c.args.setting c
     | inr f ↦ inr (ended_in c.args.setting c.args.input.now c.args.scanner.now c.start.new.scanner c.settle_head.new.scanner c.in_ok-start.ensures _ f)
   ],
   stopped_in c.args.setting c.args.input.now c.args.scanner.now c.start.new.scanner c.settle_head.new.scanner c.in_ok-start.ensures e.1,
+  c.if-peeked.false,
 )) c.settle_head.ensures
+
+pub returns-then-peeked : goal.returns-then-peeked
+returns-then-peeked c = shown_settled c.args.setting c.args.input.now c.args.scanner.now (c.requires.shown c.if-peeked.true)

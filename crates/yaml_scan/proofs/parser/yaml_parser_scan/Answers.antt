@@ -17,7 +17,7 @@ use Rattle.yaml_scan.proofs.parser.yaml_parser_scan.Goals as goal
 
 pub invariant_of-parser : goal.invariant_of-parser
 invariant_of-parser c = let i = c.parser.inside in let v = c.parser.invariant in let g = c.in-Ok.ensures in
-    let t = c.look.new.scanner in let u = c.take_head-token.new.scanner in let x = token_of c.take_head-token.result in let p = c.take_head-token.ensures in
+    let t = c.settle.new.scanner in let u = c.take_head-token.new.scanner in let x = token_of c.take_head-token.result in let p = c.take_head-token.ensures in
     let h : IsShown i.setting i.input.now t = record { stands = g.stands; still_open = g.still_open; settled = g.settled } in
     let k = shown_settled i.setting i.input.now t h in
     let b = stands_u i.setting i.input.now t t u x k p in
@@ -36,12 +36,12 @@ invariant_of-parser c = let i = c.parser.inside in let v = c.parser.invariant in
 
 pub invariant_of-parser-in-Err : goal.invariant_of-parser-in-Err
 invariant_of-parser-in-Err c = let i = c.parser.inside in let v = c.parser.invariant in let k = c.in-Err.ensures.1 in
-    let w = keeps_stopped i.setting i.input.now i.scanner c.look.new.scanner k (stands_ready i.setting i.input.now i.scanner (v.ready c.if-parser.false)) i.scanner.layout.queue.done (record { queued = v.queued; few = v.few }) in
+    let w = keeps_stopped i.setting i.input.now i.scanner c.settle.new.scanner k (stands_ready i.setting i.input.now i.scanner (v.ready c.if-parser.false)) i.scanner.layout.queue.done (record { queued = v.queued; few = v.few }) in
     rw c.end.ensures (record {
       ready = λ n. absurd (false≢true (sym n));
       peeked = λ n. absurd (false≢true n);
       lead = λ n. absurd (false≢true n);
-      reach = reach_stopped i.setting i.input.now i.scanner c.look.new.scanner k;
+      reach = reach_stopped i.setting i.input.now i.scanner c.settle.new.scanner k;
       empty = v.empty;
       limit = (let a = v.limit in let b = k.limit in omega arith);
       queued = (let a = w.queued in let b = k.done in omega arith);
@@ -50,7 +50,7 @@ invariant_of-parser-in-Err c = let i = c.parser.inside in let v = c.parser.invar
 
 pub returns-in-Ok : goal.returns-in-Ok
 returns-in-Ok c = let i = c.parser.inside in let g = c.in-Ok.ensures in
-    let t = c.look.new.scanner in let u = c.take_head-token.new.scanner in let x = token_of c.take_head-token.result in let p = c.take_head-token.ensures in
+    let t = c.settle.new.scanner in let u = c.take_head-token.new.scanner in let x = token_of c.take_head-token.result in let p = c.take_head-token.ensures in
     let e : c.args.parser.now ≡ parser_of i = sym c.parser.view_is in
     let o = sym (ap (λ (p : Parser). p.session.over) c.parser.view_is) ∙ c.if-parser.false in
     let h : IsShown i.setting i.input.now t = record { stands = g.stands; still_open = g.still_open; settled = g.settled } in
@@ -63,7 +63,7 @@ returns-in-Ok c = let i = c.parser.inside in let g = c.in-Ok.ensures in
     rw c.pass.ensures (record { answers = a; bare = bare SCAN c.args.parser.now (TOKEN x) r a; early = early SCAN c.args.parser.now (TOKEN x) r a; local = scanned_alike c.args.parser.now (TOKEN x) r a; marks = call_is_counted SCAN c.args.parser.now (TOKEN x) r a })
 
 pub returns-in-Err : goal.returns-in-Err
-returns-in-Err c = let i = c.parser.inside in let f = c.in-Err.ensures in let t = c.look.new.scanner in let w = c.fault_at-fault.result in
+returns-in-Err c = let i = c.parser.inside in let f = c.in-Err.ensures in let t = c.settle.new.scanner in let w = c.fault_at-fault.result in
     let e : c.args.parser.now ≡ parser_of i = sym c.parser.view_is in
     let o = sym (ap (λ (p : Parser). p.session.over) c.parser.view_is) ∙ c.if-parser.false in
     let r : Parser = record { input = i.input.now; setting = i.setting; limit = t.limit; session = record { taken = t.taken; steps = t.made; peeked = false; over = true; fault = Some (fault_of w) } } in

@@ -8,10 +8,10 @@ unfolding source_of
 yaml_lexeme_at-requires-clause-place c = c.requires.place
 
 pub returns-in-Ok : goal.returns-in-Ok
-returns-in-Ok c = λ p i. read_is c.args.text.now.chars c.args.kind c.args.depth c.args.level p (Ok c.in-Ok.lexeme) (c.in-Ok.ensures.value p i)
+returns-in-Ok c = λ p i. read_is c.args.text.now.chars c.args.met.kind c.args.context.depth c.args.context.level p (Ok c.in-Ok.lexeme) (c.in-Ok.ensures.value p i)
 
 pub returns-in-Err : goal.returns-in-Err
-returns-in-Err c = λ p i. read_is c.args.text.now.chars c.args.kind c.args.depth c.args.level p (Err c.in-Err.fault) (c.in-Err.ensures.value p i)
+returns-in-Err c = λ p i. read_is c.args.text.now.chars c.args.met.kind c.args.context.depth c.args.context.level p (Err c.in-Err.fault) (c.in-Err.ensures.value p i)
 
 pub yaml_lexeme_at-requires-clause-level : goal.yaml_lexeme_at-requires-clause-level
-yaml_lexeme_at-requires-clause-level c = level_bytes c.args.text.now.chars c.args.level c.requires.level
+yaml_lexeme_at-requires-clause-level c = level_bytes c.args.text.now.chars c.args.context.level c.requires.level

@@ -1,0 +1,43 @@
+//! Flow depth: how many flow collections are open (YAML 1.1, chapter 10, Collection Styles).
+ghost use Rattle.std.specs.Prelude.{◌≡◌, ◌<◌, vec_len};
+ghost use Rattle.std.specs.Vec.{vec_capacity};
+ghost use Rattle.yaml_scan.specs.Kind as kinds;
+ghost use Rattle.yaml_scan.specs.inside.Slots.{nested_outer, nested_top};
+
+use crate::keys::slots_t;
+use yaml_lexeme::yaml_lexeme_kind_t;
+
+fn is_flow_start(kind: yaml_lexeme_kind_t) -> bool
+    ensures { result ≡ kinds.is_flow_start kind }
+{
+    matches!(
+        kind,
+        yaml_lexeme_kind_t::FLOW_SEQUENCE_START | yaml_lexeme_kind_t::FLOW_MAPPING_START
+    )
+}
+
+fn is_flow_end(kind: yaml_lexeme_kind_t) -> bool
+    ensures { result ≡ kinds.is_flow_end kind }
+{
+    matches!(
+        kind,
+        yaml_lexeme_kind_t::FLOW_SEQUENCE_END | yaml_lexeme_kind_t::FLOW_MAPPING_END
+    )
+}
+
+/// Enters a depth at a flow start, and leaves one at a flow end. There is room for one more.
+pub(crate) fn nest(slots: &mut slots_t, kind: yaml_lexeme_kind_t)
+    requires { vec_len slots.old.outer < vec_capacity slots.old.outer }
+    ensures outer { slots.new.outer.items ≡ nested_outer kind slots.old.outer.items slots.old.top }
+    ensures top { slots.new.top ≡ nested_top kind slots.old.outer.items slots.old.top }
+{
+    if is_flow_start(kind) {
+        slots.outer.push_reserved(slots.top);
+        slots.top = None;
+    } else if is_flow_end(kind) {
+        match slots.outer.pop() {
+            None => {}
+            Some(held) => slots.top = held,
+        }
+    }
+}

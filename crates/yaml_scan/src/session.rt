@@ -1,0 +1,44 @@
+//! A session: what the calls of a parser have done so far.
+ghost use Rattle.std.specs.Prelude.{◌≡◌, Some, true, false};
+ghost use Rattle.yaml_text.specs.Token.{data_of};
+ghost use Rattle.yaml_scan.specs.Token.{is_last_type, type_of};
+
+use yaml_text::{unnamed_yaml_token_t_data, yaml_fault_t, yaml_token_t};
+
+/// What the calls so far have come to.
+#[derive(Drop)]
+pub(crate) struct session_t {
+    /// Whether the next token was peeked.
+    pub peeked: bool,
+    pub over: bool,
+    /// The fault that ended it.
+    pub fault: Option<yaml_fault_t>,
+}
+
+/// Whether a token is the stream end.
+pub(crate) fn is_stream_end(token: &yaml_token_t) -> bool
+    ensures { result ≡ is_last_type (type_of (data_of token.now.token_data)) }
+{
+    matches!(token.token_data, unnamed_yaml_token_t_data::STREAM_END)
+}
+
+/// Goes on after a token that was taken: with the stream end the session is over.
+pub(crate) fn pass(session: &mut session_t, token: &yaml_token_t)
+    ensures { session.new ≡ record {
+      peeked = false;
+      over = is_last_type (type_of (data_of token.now.token_data));
+      fault = session.old.fault;
+    } }
+{
+    session.peeked = false;
+    session.over = is_stream_end(token);
+}
+
+/// Ends the session with a fault.
+pub(crate) fn end(session: &mut session_t, fault: yaml_fault_t)
+    ensures { session.new ≡ record { peeked = false; over = true; fault = Some fault } }
+{
+    session.peeked = false;
+    session.over = true;
+    session.fault = Some(fault);
+}
