@@ -2,8 +2,8 @@
 use Rattle.std.specs.Prelude.{ℕ, List, [], ◌∷◌, ◌⊎◌, Option, IfSome}
 use Rattle.yaml_text.specs.declared.types.yaml_encoding_t.{yaml_encoding_t}
 use Rattle.yaml_text.specs.declared.types.yaml_mark_t.{yaml_mark_t}
-use Rattle.yaml_scan.specs.Calls.{Seen}
-use Rattle.yaml_scan.specs.Calls.Seen.{TOKEN, PEEKED, SKIPPED, NOTHING, FAULT}
+use Rattle.yaml_scan.specs.Seen.{Seen}
+use Rattle.yaml_scan.specs.Seen.Seen.{TOKEN, PEEKED, SKIPPED, NOTHING, FAULT}
 use Rattle.yaml_scan.specs.CountedMarks.{IsCounted, IsStreamEnd, HasMark, TokenIsCounted, TokensAreCounted}
 use Rattle.yaml_scan.specs.CountedMarks.{FaultIsCounted, AnswerIsCounted, text_of_input}
 use Rattle.yaml_scan.specs.Fault.{Fault}

@@ -1,8 +1,8 @@
 -- The answers to a list of calls can be put in words.
 use Rattle.std.specs.Prelude.{List, [], ◌∷◌}
 use Rattle.yaml_scan.specs.Words.{HasWords, HasLine}
-use Rattle.yaml_scan.specs.Calls.{Seen}
-use Rattle.yaml_scan.specs.Calls.Seen.{TOKEN, PEEKED, SKIPPED, NOTHING, FAULT}
+use Rattle.yaml_scan.specs.Seen.{Seen}
+use Rattle.yaml_scan.specs.Seen.Seen.{TOKEN, PEEKED, SKIPPED, NOTHING, FAULT}
 
 -- what is seen of an answer
 abbrev pub SeenHasLine : Seen → Type 0

@@ -27,7 +27,8 @@ pub mod Locality
 pub mod Inputs
 pub mod All
 pub mod Sink
-pub mod Calls
+pub mod Seen
+pub mod Headline
 pub mod Words
 pub mod CallWords
 pub mod CountedMarks

@@ -1,12 +1,11 @@
 -- A parser, as its calls see it.
-use Rattle.std.specs.Prelude.{◌≡◌, ◌⊎◌, ℕ, ◌≤◌, Bool, false, true, List, Option, None, Some, Result, Ok, Err}
-use Rattle.std.specs.Prelude.{if◌then◌else◌}
+use Rattle.std.specs.Prelude.{◌≡◌, ◌⊎◌, ℕ, true, List, Option, None, Some, Result, Ok, Err, if◌then◌else◌}
 use denote.Ref.{Bor}
 use Rattle.yaml_text.specs.declared.types.yaml_encoding_t.{yaml_encoding_t}
 use Rattle.yaml_text.specs.declared.types.yaml_encoding_t.TheVariants.{YAML_UTF8_ENCODING}
 use Rattle.yaml_text.specs.declared.fault.yaml_fault_t.{yaml_fault_t}
 use Rattle.yaml_text.specs.declared.token.yaml_token_t.{yaml_token_t as code_token_t}
-use Rattle.yaml_text.specs.Fault.{Fault, fault_of, memory_fault}
+use Rattle.yaml_text.specs.Fault.{fault_of}
 use Rattle.yaml_text.specs.Token.{token_of}
 use Rattle.yaml_scan.specs.Token.{yaml_token_t, empty}
 use Rattle.yaml_scan.specs.Groups.{Token, handed_out}
@@ -14,8 +13,6 @@ use Rattle.yaml_scan.specs.Answers.{Input, Course, course}
 use Rattle.yaml_scan.specs.Near.{starts_near}
 use Rattle.yaml_scan.specs.Inputs.{decoded_input}
 use Rattle.yaml_scan.specs.Session.{Session, Call, Answer, next_token, after, answer}
-use Rattle.yaml_scan.specs.Settled.{settled, pace}
-use Rattle.yaml_scan.specs.Session.Call.{SCAN, PEEK}
 use Rattle.yaml_scan.specs.Session.Answer.{TOKEN, PEEKED, FAULT}
 
 pub record Parser : Type 0 where
@@ -47,34 +44,10 @@ behind p call = record {
 abbrev pub answered : Parser → Call → Answer
 answered p call = answer (input_read p).encoding p.limit (course_read p) call p.session
 
--- memory was refused in a call: the session is over, the tokens taken stay taken, no more steps were made than the next
--- token needs, and it needs one more
-pub record WantsMemory (p q : Parser) : Type 0 where
-  pub input : q.input ≡ p.input
-  pub setting : q.setting ≡ p.setting
-  pub limit : q.limit ≡ p.limit
-  pub taken : q.session.taken ≡ p.session.taken
-  pub least : p.session.steps ≤ q.session.steps
-  pub most : q.session.steps ≤ pace p.limit (course_read p).read p.session.taken p.session.steps
-  pub unsettled : settled p.limit (course_read p).read p.session.taken q.session.steps ≡ false
-  pub peeked : q.session.peeked ≡ false
-  pub over : q.session.over ≡ true
-  pub fault : q.session.fault ≡ Some memory_fault
-  -- memory was needed for decoding UTF-16, or in the first step or after it: not if the reader's fault comes instead of
-  -- the first
-  pub in_utf8 : (input_read p).encoding ≡ YAML_UTF8_ENCODING → (course_read p).begun ≡ true
-  -- none was needed if the answer was there already
-  pub was_open : p.session.over ≡ false
-  pub was_not_peeked : p.session.peeked ≡ false
-
 -- a token or a fault of the code, as an answer
 abbrev pub told : Result code_token_t yaml_fault_t → Answer
 told (Ok token) = TOKEN (token_of token)
 told (Err fault) = FAULT (fault_of fault)
-
--- The answer to a call is the session's and it leaves what the session leaves, or it is a fault of kind memory.
-abbrev pub Calls : Call → Parser → Answer → Parser → Type 0
-Calls call p a q = ((a ≡ answered p call) × (q ≡ behind p call)) ⊎ ((a ≡ FAULT memory_fault) × WantsMemory p q)
 
 -- the next token is there already: it was peeked, or the session is over and there is none
 abbrev pub IsThere : Parser → Type 0
@@ -84,20 +57,10 @@ IsThere p = (p.session.peeked ≡ true) ⊎ (p.session.over ≡ true)
 abbrev pub IsRefusedEarly : Input → Type 0
 IsRefusedEarly input = (input.encoding ≡ YAML_UTF8_ENCODING) × (starts_near input.source.size input.refusal ≡ true)
 
-abbrev pub Scans : Parser → Result code_token_t yaml_fault_t → Parser → Type 0
-Scans p result q = Calls SCAN p (told result) q
-
 -- a token that is shown or a fault, as an answer
 abbrev pub shown : Result code_token_t yaml_fault_t → Answer
 shown (Ok token) = PEEKED (token_of token)
 shown (Err fault) = FAULT (fault_of fault)
-
-abbrev pub Peeks : Parser → Result code_token_t yaml_fault_t → Parser → Type 0
-Peeks p result q = Calls PEEK p (shown result) q
-
--- the answer to a peek, also while the shown token is held
-abbrev pub AnswersPeek : Parser → Answer → Type 0
-AnswersPeek p a = (a ≡ answered p PEEK) ⊎ (a ≡ FAULT memory_fault)
 
 -- the token behind the reference, or the fault
 abbrev pub told_copied : Result (Bor code_token_t) yaml_fault_t → Result code_token_t yaml_fault_t
@@ -113,8 +76,3 @@ token_or_empty e (Some x) = handed_out e x
 abbrev pub token_shown : Parser → yaml_token_t
 token_shown p = if p.session.peeked
     then token_or_empty (input_read p).encoding (next_token p.limit (course_read p) p.session) else empty
-
--- a peek, by what the parser has after it: a token that is shown, or the fault that ended the session
-abbrev pub Shows : Parser → Bool → Parser → Type 0
-Shows p true q = Calls PEEK p (PEEKED (token_shown q)) q
-Shows p false q = (f : Fault) × (q.session.fault ≡ Some f) × Calls PEEK p (FAULT f) q

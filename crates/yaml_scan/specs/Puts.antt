@@ -11,8 +11,9 @@ use Rattle.yaml_scan.specs.Inputs.{answers_to, GoesOn}
 use Rattle.yaml_scan.specs.Session.{Call, Answer, next_token}
 use Rattle.yaml_scan.specs.Parser.{Parser, answered, course_read}
 use Rattle.yaml_scan.specs.Session.Answer.{FAULT}
-use Rattle.yaml_scan.specs.Calls.{Seen, seen, seen_of, answered_all, idle, Seen as sight}
-use Rattle.yaml_scan.specs.Calls.Seen.{TOKEN, PEEKED, SKIPPED, NOTHING}
+use Rattle.yaml_scan.specs.Seen.{Seen, seen, seen_of, idle, Seen as sight}
+use Rattle.yaml_scan.specs.Headline.{answered_all}
+use Rattle.yaml_scan.specs.Seen.Seen.{TOKEN, PEEKED, SKIPPED, NOTHING}
 
 -- this holds of the answers that were appended to the old ones
 pub record Puts (Holds : List Seen → Type 0) (old new : List yaml_answer_t) : Type 0 where

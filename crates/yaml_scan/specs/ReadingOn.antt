@@ -12,8 +12,9 @@ use Rattle.yaml_scan.specs.Inputs.{decoded_input, answers_to}
 use Rattle.yaml_scan.specs.Session.{Session, Call, Answer, new_session, session}
 use Rattle.yaml_scan.specs.Session.Call.{SCAN}
 use Rattle.yaml_scan.specs.Session.Answer.{TOKEN, FAULT}
-use Rattle.yaml_scan.specs.Parser.{Parser, Scans, told}
-use Rattle.yaml_scan.specs.Calls.{Seen, seen, seen_of, Runs, RunsOut, Seen as sight}
+use Rattle.yaml_scan.specs.Parser.{Parser, told}
+use Rattle.yaml_scan.specs.Headline.{Calls, Runs, RunsOut}
+use Rattle.yaml_scan.specs.Seen.{Seen, seen, seen_of, Seen as sight}
 
 -- n scans
 abbrev pub scans : ℕ → List Call
@@ -71,7 +72,7 @@ ReadsOn p calls old new q = (n : ℕ) → calls ≡ scans n → length (left_to 
 -- scans one after the other, each of the parser that the one before it left
 abbrev pub ScansInTurn : Parser → List (Result code_token_t yaml_fault_t) → Parser → Type 0
 ScansInTurn p [] q = q ≡ p
-ScansInTurn p (result ∷ more) q = (r : Parser) × Scans p result r × ScansInTurn r more q
+ScansInTurn p (result ∷ more) q = (r : Parser) × Calls SCAN p (told result) r × ScansInTurn r more q
 
 -- more of them than there are tokens left return all that is left, or a growth was refused in one of them
 abbrev pub ScansReadOn : Type 0

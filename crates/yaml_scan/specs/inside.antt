@@ -8,3 +8,4 @@ pub mod StepFaults
 pub mod NearFault
 pub mod Scanning
 pub mod Ready
+pub mod Shown

@@ -10,7 +10,9 @@ ghost use Rattle.yaml_scan.specs.CallWords.{SeenHaveLines};
 ghost use Rattle.yaml_scan.specs.ReadingOn.{ReadsOn, HaveOneFault};
 ghost use Rattle.yaml_scan.specs.Puts.{Puts, TakesNext, HasNext, AreAnsweredAlike};
 ghost use Rattle.yaml_scan.specs.CallMarks.{text_read, SeenAreCounted};
-ghost use Rattle.yaml_scan.specs.Calls.{Sees, seen_of, call_of, PutsAnswers, PutsSession, seen};
+ghost use Rattle.yaml_scan.specs.inside.Shown.{IsSeen};
+ghost use Rattle.yaml_scan.specs.Seen.{seen_of, call_of, seen};
+ghost use Rattle.yaml_scan.specs.Headline.{PutsAnswers, PutsSession};
 ghost use Rattle.yaml_scan.specs.Session.Answer.{PEEKED};
 
 use crate::parser::{
@@ -40,7 +42,7 @@ pub enum yaml_answer_t {
 }
 
 fn answer_scan(parser: &mut yaml_parser_t) -> yaml_answer_t
-    ensures { Sees SCAN parser.old (seen_of result) parser.new }
+    ensures { IsSeen SCAN parser.old (seen_of result) parser.new }
 {
     match yaml_parser_scan(parser) {
         Ok(token) => yaml_answer_t::TOKEN(token),
@@ -56,7 +58,7 @@ fn peeked(token: &yaml_token_t) -> yaml_answer_t
 }
 
 fn answer_peek(parser: &mut yaml_parser_t) -> yaml_answer_t
-    ensures { Sees PEEK parser.old (seen_of result) parser.new }
+    ensures { IsSeen PEEK parser.old (seen_of result) parser.new }
 {
     match yaml_parser_peek(parser) {
         Ok(token) => peeked(token),
@@ -65,7 +67,7 @@ fn answer_peek(parser: &mut yaml_parser_t) -> yaml_answer_t
 }
 
 fn answer_skip(parser: &mut yaml_parser_t) -> yaml_answer_t
-    ensures { Sees SKIP parser.old (seen_of result) parser.new }
+    ensures { IsSeen SKIP parser.old (seen_of result) parser.new }
 {
     if !yaml_parser_has_token(parser) {
         return yaml_answer_t::NOTHING;
@@ -75,7 +77,7 @@ fn answer_skip(parser: &mut yaml_parser_t) -> yaml_answer_t
 }
 
 fn answer_call(parser: &mut yaml_parser_t, call: yaml_call_t) -> yaml_answer_t
-    ensures { Sees (call_of call) parser.old (seen_of result) parser.new }
+    ensures { IsSeen (call_of call) parser.old (seen_of result) parser.new }
 {
     match call {
         yaml_call_t::SCAN => answer_scan(parser),

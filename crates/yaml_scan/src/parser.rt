@@ -11,8 +11,11 @@ ghost use Rattle.yaml_scan.specs.Session.{new_session, session_queued, session_r
 ghost use Rattle.yaml_scan.specs.inside.Scanning.{Runs, IsOpen, history};
 ghost use Rattle.yaml_scan.specs.inside.Ready.{IsNew, IsReady, IsSettled, IsStopped, IsShort, IsEnded, Pops, Begins};
 ghost use Rattle.yaml_scan.specs.inside.Ready.{IsStarted, IsShown};
-ghost use Rattle.yaml_scan.specs.Parser.{Scans, token_shown, Shows, behind, IsThere, IsRefusedEarly, input_read, told};
-ghost use Rattle.yaml_scan.specs.Parser.{answered, Peeks, AnswersPeek, told_copied, shown, course_read};
+ghost use Rattle.yaml_scan.specs.Headline.{Calls};
+ghost use Rattle.yaml_scan.specs.Headline.{Calls};
+ghost use Rattle.yaml_scan.specs.Parser.{Parser, told, token_shown, behind, IsThere, IsRefusedEarly, input_read};
+ghost use Rattle.yaml_scan.specs.inside.Shown.{Shows};
+ghost use Rattle.yaml_scan.specs.Parser.{answered, told_copied, shown, course_read};
 ghost use Rattle.yaml_scan.specs.CallMarks.{IsCountedIn, ReachesTo};
 ghost use Rattle.yaml_scan.specs.Token.{is_last_type, type_of};
 ghost use Rattle.yaml_scan.specs.inside.NearFault.{near_fault};
@@ -299,7 +302,7 @@ fn take_shown(parser: &mut yaml_parser_t) -> yaml_token_t
 /// needed if the token was peeked or the session is over, nor if the input is in UTF-8 and its reader's fault comes
 /// before the first step.
 pub fn yaml_parser_scan(parser: &mut yaml_parser_t) -> Result<yaml_token_t, yaml_fault_t>
-    ensures answers { Scans parser.old result parser.new }
+    ensures answers { Calls SCAN parser.old (told result) parser.new }
     ensures bare { IsThere parser.old → (told result ≡ answered parser.old SCAN)
         × (parser.new ≡ behind parser.old SCAN) }
     ensures early { IsRefusedEarly (input_read parser.old)
@@ -346,8 +349,8 @@ pub fn yaml_parser_skip(parser: &mut yaml_parser_t)
 pub fn yaml_parser_peek<'s>(
     parser: &'s mut yaml_parser_t<'_>,
 ) -> Result<&'s yaml_token_t, yaml_fault_t>
-    ensures* answers { sem 𝓛 (OnceLetGo parser.entry (λ q. Peeks parser.old (told_copied result) q)) }
-    ensures shows { AnswersPeek parser.old (shown (told_copied result)) }
+    ensures* answers { sem 𝓛 (OnceLetGo parser.entry (λ q. Calls PEEK parser.old (shown (told_copied result)) q)) }
+    ensures shows { (q : Parser) × Calls PEEK parser.old (shown (told_copied result)) q }
     ensures bare { IsThere parser.old → shown (told_copied result) ≡ answered parser.old PEEK }
     ensures early { IsRefusedEarly (input_read parser.old) → shown (told_copied result) ≡ answered parser.old PEEK }
     ensures local { IsAnsweredAlike parser.old PEEK (shown (told_copied result)) }

@@ -2,7 +2,7 @@
 use Rattle.std.proofs.Common.{ℕ, zero, suc, ◌<◌, List, [], ◌∷◌, map, length, get_or, arith}
 use Rattle.yaml_text.specs.Token.{Token as yaml_token_t}
 use Rattle.yaml_scan.specs.Words.{HasWords, HaveWords}
-use Rattle.yaml_scan.specs.Calls.{Seen}
+use Rattle.yaml_scan.specs.Seen.{Seen}
 use Rattle.yaml_scan.specs.CallWords.{SeenHasLine, SeenHaveLines}
 
 pub words_at : {X : Type 0} (f : X → yaml_token_t) (ts : List X) (i : ℕ) (d : X) → HaveWords (map f ts) → i < length ts → HasWords (f (get_or ts i d)).token_data

@@ -20,8 +20,8 @@ use Rattle.yaml_text.specs.Chars.{utf8}
 use Rattle.yaml_text.specs.Mark.{mark_of}
 use Rattle.yaml_text.specs.Text.{Text}
 use Rattle.yaml_text.specs.Fault.{Fault}
-use Rattle.yaml_scan.specs.Calls.{Seen}
-use Rattle.yaml_scan.specs.Calls.Seen.{TOKEN, PEEKED, SKIPPED, NOTHING, FAULT}
+use Rattle.yaml_scan.specs.Seen.{Seen}
+use Rattle.yaml_scan.specs.Seen.Seen.{TOKEN, PEEKED, SKIPPED, NOTHING, FAULT}
 
 -- a line of these parts, with a space between each two
 abbrev pub line_by : {X : Type 0} → (X → List ℕ) → List X → List ℕ

@@ -16,7 +16,8 @@ use Rattle.yaml_scan.specs.Session.{Call, new_session}
 use Rattle.yaml_scan.specs.Inputs.{decoded_input, answers_to}
 use Rattle.yaml_scan.specs.Parser.{Parser, IsRefusedEarly}
 use Rattle.yaml_scan.specs.All.{AllOf, ReadsAll}
-use Rattle.yaml_scan.specs.Calls.{Seen, Runs, call_of}
+use Rattle.yaml_scan.specs.Seen.{Seen, call_of}
+use Rattle.yaml_scan.specs.Headline.{Runs}
 use Rattle.yamltok.specs.Args.{is_right}
 use Rattle.yamltok.specs.Listing.{decode_line, token_lines, fault_lines, answer_lines, is_fault}
 

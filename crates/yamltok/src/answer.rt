@@ -3,7 +3,7 @@ ghost use Rattle.std.specs.Prelude.{◌≡◌, ◌++◌, true, map, is_some, IfO
 ghost use Rattle.yaml_text.specs.Fault.{fault_of};
 ghost use Rattle.yaml_text.specs.Token.{token_of};
 ghost use Rattle.yaml_scan.specs.Words.{HaveLines};
-ghost use Rattle.yaml_scan.specs.Calls.{call_of, seen_of};
+ghost use Rattle.yaml_scan.specs.Seen.{call_of, seen_of};
 ghost use Rattle.yaml_scan.specs.CallWords.{SeenHaveLines};
 ghost use Rattle.std.specs.List.{list_any};
 ghost use Rattle.yamltok.specs.Args.{is_limit, is_right};

@@ -9,7 +9,7 @@ ghost use Rattle.yaml_text.specs.Fault.{fault_of};
 ghost use Rattle.yaml_text.specs.Mark.{mark_of};
 ghost use Rattle.yaml_text.specs.Token.{data_of, token_of};
 ghost use Rattle.yaml_scan.specs.Words.{HasLine, HasWords};
-ghost use Rattle.yaml_scan.specs.Calls.{seen_of};
+ghost use Rattle.yaml_scan.specs.Seen.{seen_of};
 ghost use Rattle.yaml_scan.specs.CallWords.{SeenHasLine, SeenHaveLines};
 ghost use Rattle.yamltok.specs.Put.{Puts, spaced};
 ghost use Rattle.yamltok.specs.Listing.{parted, encoding_word, bytes_text, type_name, style_word, head_parts, data_parts};

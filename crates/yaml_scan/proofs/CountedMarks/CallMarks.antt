@@ -8,9 +8,10 @@ use Rattle.yaml_scan.specs.All.{ReadsAll}
 use Rattle.yaml_scan.specs.Session.{Call, Answer, session}
 use Rattle.yaml_scan.specs.Session.Call.{SCAN, PEEK, SKIP}
 use Rattle.yaml_scan.specs.Session.{Answer as says}
-use Rattle.yaml_scan.specs.Parser.{Parser, Calls, course_read}
-use Rattle.yaml_scan.specs.Calls.{Seen, seen, idle, answered_all, Runs}
-use Rattle.yaml_scan.specs.Calls.Seen.{FAULT}
+use Rattle.yaml_scan.specs.Parser.{Parser, course_read}
+use Rattle.yaml_scan.specs.Headline.{Calls, answered_all, Runs}
+use Rattle.yaml_scan.specs.Seen.{Seen, seen, idle}
+use Rattle.yaml_scan.specs.Seen.Seen.{FAULT}
 use Rattle.yaml_scan.specs.CountedMarks.{TokensAreCounted, FaultIsCounted, AnswerIsCounted, AllAreCounted}
 use Rattle.yaml_scan.specs.CountedMarks.{text_of_input}
 use Rattle.yaml_scan.specs.CallMarks.{text_read, IsCountedIn, ReachesTo, SeenIsCounted, SeenAreCounted, AllIsCounted}

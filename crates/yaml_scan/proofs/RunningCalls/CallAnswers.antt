@@ -22,7 +22,9 @@ use Rattle.yaml_scan.specs.Session.Answer.{TOKEN, PEEKED, FAULT}
 use Rattle.yaml_scan.specs.Inputs.{decoded_input}
 use Rattle.yaml_scan.specs.inside.Scanning.{IsOpen, history, course_of, input_of}
 use Rattle.yaml_scan.specs.inside.Ready.{IsIn, IsShown, IsSettled, IsStopped, IsShort, IsEnded, Pops, course_in}
-use Rattle.yaml_scan.specs.Parser.{Parser, Calls, Scans, Shows, IsThere, IsRefusedEarly, WantsMemory, answered, behind}
+use Rattle.yaml_scan.specs.Parser.{Parser, told, IsThere, IsRefusedEarly, answered, behind}
+use Rattle.yaml_scan.specs.Headline.{Calls, WantsMemory}
+use Rattle.yaml_scan.specs.inside.Shown.{Shows}
 use Rattle.yaml_scan.specs.Parser.{course_read, input_read, token_shown, token_or_empty}
 use Rattle.yaml_scan.proofs.Course.AnswerOrder.{TokenFits, TokensFit, AllFit, course_fits, fit_before}
 use Rattle.yaml_scan.proofs.TokenList.OneLexemeMore.{all_is_handed_out}
@@ -331,8 +333,8 @@ module _ (p q : Parser) (o : p.session.over ≡ false) where
       (left_peek ∙ ap (λ (z : Option Token). after_peek p.limit (course_read p) p.session z) n
       ∙ sym (left_scan ∙ ap (λ (z : Option Token). after_scan p.limit (course_read p) p.session z) n))
 
-  pub scan_not_shown : (f : yaml_fault_t) → Calls PEEK p (FAULT (fault_of f)) q → Scans p (Err f) q
-  scan_not_shown f (inr a) = inr a
+  pub scan_not_shown : (f : yaml_fault_t) → Calls PEEK p (FAULT (fault_of f)) q → Calls SCAN p (told (Err f)) q
+  scan_not_shown f (inr a) = inr (a.0, a.1, λ e. absurd (cc))
   scan_not_shown f (inl a) = (let n = no_token (input_read p).encoding (course_read p) next (fault_of f) (a.0 ∙ open_peek) in inl (a.0 ∙ same_answer n, a.1 ∙ same_left n))
 
 some_fault : (a b : Fault) → Some a ≡ Some b → a ≡ b
@@ -376,7 +378,7 @@ module _ (setting : yaml_encoding_t) (input : List ℕ) (s t : scanner_t) (peeke
   wants m n = record { input = refl; setting = refl; limit = z.limit; taken = z.taken; least = z.least; most = z.most; unsettled = z.unsettled; peeked = refl; over = refl; fault = ap Some m.fault; in_utf8 = m.in_utf8; was_open = refl; was_not_peeked = n }
 
   pub show_fault : IsShort setting input s (fault_of f) ⊎ IsEnded setting input s t (fault_of f) → peeked ≡ false → Calls PEEK open_parser (FAULT (fault_of f)) stopped
-  show_fault (inl m) n = inr (ap FAULT m.fault, wants m n)
+  show_fault (inl m) n = inr (ap FAULT m.fault, wants m n, λ e. absurd (cc))
   show_fault (inr e) n = inl (fault_told e, fault_left e)
 
   pub show_fault_on : (q : Parser) → q ≡ open_parser → IsShort setting input s (fault_of f) ⊎ IsEnded setting input s t (fault_of f) → peeked ≡ false → Calls PEEK q (FAULT (fault_of f)) stopped

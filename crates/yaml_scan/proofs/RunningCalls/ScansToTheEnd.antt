@@ -20,7 +20,8 @@ use Rattle.yaml_scan.specs.Session.{why, scan_answer, after_scan, paced, took, a
 use Rattle.yaml_scan.specs.Settled.{settled, pace}
 use Rattle.yaml_scan.specs.Session.Call.{SCAN}
 use Rattle.yaml_scan.specs.Session.Answer.{TOKEN, FAULT}
-use Rattle.yaml_scan.specs.Parser.{Parser, WantsMemory, Calls, Scans, answered, behind, course_read, input_read}
+use Rattle.yaml_scan.specs.Parser.{Parser, told, answered, behind, course_read, input_read}
+use Rattle.yaml_scan.specs.Headline.{WantsMemory, Calls}
 use Rattle.yaml_scan.specs.All.{AllOf, AreSettled, ReadsAll}
 use Rattle.yaml_scan.proofs.Course.AnswerOrder.{fit_course}
 use Rattle.yaml_scan.proofs.Course.CourseSteps.{none_is_stuck}
@@ -234,7 +235,7 @@ module _ (limit : ℕ) (setting : yaml_encoding_t) (input : List ℕ) where
         unsettled = sym (ap (λ (c : Course). settled q.limit c.read S.taken r.session.steps) course_same ∙ ap (λ (n : ℕ). settled n C.read S.taken r.session.steps) h.limit_is) ∙ w.unsettled
 
     -- a fault
-    pub scans_fault : (f : yaml_fault_t) (r : Parser) → Scans q (Err f) r → ReadsAll limit setting input tokens (Some (fault_of f))
+    pub scans_fault : (f : yaml_fault_t) (r : Parser) → Calls SCAN q (told (Err f)) r → ReadsAll limit setting input tokens (Some (fault_of f))
     unfolding answers_to answers
     scans_fault f r (inr w) = inr (scans_short r w.1, ap Some (fault_same (fault_of f) memory_fault w.0))
     scans_fault f r (inl w) = inl (go (next_token limit C S) refl (w.0 ∙ answer_same))

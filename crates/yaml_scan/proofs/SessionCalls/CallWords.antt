@@ -4,11 +4,12 @@ use Rattle.yaml_scan.specs.Fault.{Fault, memory_fault}
 use Rattle.yaml_scan.specs.Session.{Call, Answer, session}
 use Rattle.yaml_scan.specs.Session.Call.{SCAN, PEEK, SKIP}
 use Rattle.yaml_scan.specs.Session.{Answer as says}
-use Rattle.yaml_scan.specs.Parser.{Parser, Calls, course_read}
+use Rattle.yaml_scan.specs.Parser.{Parser, course_read}
+use Rattle.yaml_scan.specs.Headline.{Calls, answered_all, Runs}
 use Rattle.yaml_scan.specs.Token.{yaml_token_t}
 use Rattle.yaml_scan.specs.Words.{HasWords, AnswerHasLine, AnswersHaveLines}
-use Rattle.yaml_scan.specs.Calls.{Seen, seen, idle, answered_all, Runs}
-use Rattle.yaml_scan.specs.Calls.Seen.{FAULT}
+use Rattle.yaml_scan.specs.Seen.{Seen, seen, idle}
+use Rattle.yaml_scan.specs.Seen.Seen.{FAULT}
 use Rattle.yaml_scan.specs.CallWords.{SeenHasLine, SeenHaveLines}
 use Rattle.yaml_scan.proofs.SessionCalls.AnswerWords.{sessions_have_lines}
 

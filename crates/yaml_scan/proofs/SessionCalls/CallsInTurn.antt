@@ -1,17 +1,18 @@
 -- The answers to calls that are made one after the other are those of the session.
-use Rattle.std.proofs.Common.{◌≡◌, ℕ, zero, suc, ◌+◌, ◌<◌, ◌≤◌, true, false, List, [], ◌∷◌, ◌++◌, map, take, drop, length, slice_get, get_or, Some, ◌≢◌, refl, ap, sym, ◌∙◌, subst, arith, inl, inr, append_assoc, length-append}
+use Rattle.std.proofs.Common.{◌⊎◌, ◌≡◌, ℕ, zero, suc, ◌+◌, ◌<◌, ◌≤◌, true, false, List, [], ◌∷◌, ◌++◌, map, take, drop, length, slice_get, get_or, Some, ◌≢◌, refl, ap, sym, ◌∙◌, subst, arith, inl, inr, append_assoc, length-append}
 use Rattle.std.proofs.lemmas.Bool.{false≢true}
 use Rattle.yaml_text.specs.declared.types.yaml_encoding_t.{yaml_encoding_t}
 use Rattle.yaml_scan.specs.Fault.{memory_fault}
 use Rattle.yaml_scan.specs.Answers.{Course}
 use Rattle.yaml_scan.specs.Session.{Session, Call, Answer, answer, after, session, after_all}
 use Rattle.yaml_scan.specs.Session.Call.{SCAN, PEEK, SKIP}
-use Rattle.yaml_scan.specs.Parser.{Parser, IsRefusedEarly, WantsMemory, answered, behind, course_read, input_read}
+use Rattle.yaml_scan.specs.Parser.{Parser, IsRefusedEarly, answered, behind, course_read, input_read}
+use Rattle.yaml_scan.specs.Headline.{WantsMemory, behind_all, answered_all, RunsOut, Runs, PutsAnswers, PutsSession}
 use Rattle.yaml_scan.specs.declared.calls.yaml_call_t.{yaml_call_t}
 use Rattle.yaml_scan.specs.declared.calls.yaml_answer_t.{yaml_answer_t}
-use Rattle.yaml_scan.specs.Calls.{call_of, Seen, seen, seen_of, Sees, behind_all, answered_all, idle, RunsOut, Runs}
-use Rattle.yaml_scan.specs.Calls.{PutsAnswers, PutsSession}
-use Rattle.yaml_scan.specs.Calls.Seen.{FAULT}
+use Rattle.yaml_scan.specs.Seen.{call_of, Seen, seen, seen_of, idle}
+use Rattle.yaml_scan.specs.inside.Shown.{IsSeen}
+use Rattle.yaml_scan.specs.Seen.Seen.{FAULT}
 use Rattle.yaml_scan.proofs.RunningCalls.CallAnswers.{wants_late}
 
 -- LISTS
@@ -79,6 +80,13 @@ idle_left q SCAN o p = rw o refl
 idle_left q PEEK o p = rw o refl
 idle_left q SKIP o p = rw p refl
 
+abbrev SeenOf : Call → Parser → Seen → Parser → Type 0
+SeenOf call p s q = ((s ≡ seen (answered p call)) × (q ≡ behind p call)) ⊎ ((s ≡ FAULT memory_fault) × WantsMemory p q × (call ≢ SKIP))
+
+seen_so : (call : Call) (p : Parser) (s : Seen) (q : Parser) → IsSeen call p s q → SeenOf call p s q
+seen_so call p s q (a, e, inl r) = inl (e ∙ ap seen r.0, r.1)
+seen_so call p s q (a, e, inr r) = inr (e ∙ ap seen r.0, r.1, r.2)
+
 module _ (p : Parser) (calls : List Call) (call : Call) (answers : List Seen) (q : Parser) (a : Seen) (r : Parser) where
   goes_on : (answers ≡ map seen (answered_all p calls)) × (q ≡ behind_all p calls) → (a ≡ seen (answered q call)) × (r ≡ behind q call) → Runs p (calls ++ call ∷ []) (answers ++ a ∷ []) r
   goes_on g s = inl (
@@ -99,7 +107,7 @@ module _ (p : Parser) (calls : List Call) (call : Call) (answers : List Seen) (q
   }
 
   -- after a refused growth
-  stays_out : RunsOut p calls answers q → Sees call q a r → RunsOut p (calls ++ call ∷ []) (answers ++ a ∷ []) r
+  stays_out : RunsOut p calls answers q → SeenOf call q a r → RunsOut p (calls ++ call ∷ []) (answers ++ a ∷ []) r
   stays_out g (inr w) = absurd (false≢true (sym w.1.was_open ∙ g.wants.over))
   stays_out g (inl s) =
       let n = g.n in
@@ -118,10 +126,13 @@ module _ (p : Parser) (calls : List Call) (call : Call) (answers : List Seen) (q
             ∙ ap (λ (z : List Call). map seen (answered_all p z) ++ (FAULT memory_fault ∷ map idle (drop (n + 1) (calls ++ call ∷ [])))) (sym t);
       }
 
-  pub one_more : Runs p calls answers q → Sees call q a r → Runs p (calls ++ call ∷ []) (answers ++ a ∷ []) r
-  one_more (inl g) (inl s) = goes_on g s
-  one_more (inl g) (inr w) = inr (runs_out g w)
-  one_more (inr g) s = inr (stays_out g s)
+  one_on : Runs p calls answers q → SeenOf call q a r → Runs p (calls ++ call ∷ []) (answers ++ a ∷ []) r
+  one_on (inl g) (inl s) = goes_on g s
+  one_on (inl g) (inr w) = inr (runs_out g w)
+  one_on (inr g) s = inr (stays_out g s)
+
+  pub one_more : Runs p calls answers q → IsSeen call q a r → Runs p (calls ++ call ∷ []) (answers ++ a ∷ []) r
+  one_more g s = one_on g (seen_so call q a r s)
 
 pub none_yet : (p : Parser) → Runs p [] [] p
 unfolding session after_all
@@ -134,7 +145,7 @@ nothing_more {A = A} (x ∷ xs) = ap (λ (z : List A). x ∷ z) (nothing_more xs
 pub none_put : (p : Parser) (old : List yaml_answer_t) → PutsAnswers p [] old old p
 none_put p old = record { more = []; is = nothing_more old; runs = none_yet p }
 
-pub one_put : (p : Parser) (calls : List Call) (call : Call) (old out : List yaml_answer_t) (q : Parser) (answer : yaml_answer_t) (r : Parser) → PutsAnswers p calls old out q → Sees call q (seen_of answer) r
+pub one_put : (p : Parser) (calls : List Call) (call : Call) (old out : List yaml_answer_t) (q : Parser) (answer : yaml_answer_t) (r : Parser) → PutsAnswers p calls old out q → IsSeen call q (seen_of answer) r
     → PutsAnswers p (calls ++ call ∷ []) old (out ++ answer ∷ []) r
 one_put p calls call old out q answer r g s = record {
   more = g.more ++ answer ∷ [];

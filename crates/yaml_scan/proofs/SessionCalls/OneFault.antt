@@ -13,8 +13,8 @@ use Rattle.yaml_scan.specs.Session.{scan_answer, peek_answer, after_scan, after_
 use Rattle.yaml_scan.specs.Session.Call.{SCAN, PEEK, SKIP}
 use Rattle.yaml_scan.specs.Session.Answer.{TOKEN, PEEKED, SKIPPED, NOTHING}
 use Rattle.yaml_scan.specs.Parser.{course_read, input_read}
-use Rattle.yaml_scan.specs.Calls.{Seen, seen, answered_all, idle, Runs}
-use Rattle.yaml_scan.specs.Calls.{Seen as sight}
+use Rattle.yaml_scan.specs.Seen.{Seen, seen, idle, Seen as sight}
+use Rattle.yaml_scan.specs.Headline.{answered_all, Runs}
 use Rattle.yaml_scan.specs.ReadingOn.{is_fault, HaveOneFault, FaultIsToldOnce, RunsFaultOnce}
 
 abbrev faults_in : List Seen → ℕ

@@ -16,9 +16,9 @@ use Rattle.yaml_scan.specs.Session.{Session, Call, Answer, new_session, session,
 use Rattle.yaml_scan.specs.Session.{took, paced, finished, why, scan_answer, after_scan}
 use Rattle.yaml_scan.specs.Session.Call.{SCAN, SKIP}
 use Rattle.yaml_scan.specs.Session.Answer.{TOKEN, FAULT}
-use Rattle.yaml_scan.specs.Parser.{Parser, WantsMemory, Scans, told, answered, behind, course_read, input_read}
-use Rattle.yaml_scan.specs.Calls.{Seen, seen, seen_of, answered_all, idle, Runs, RunsOut, PutsAnswers}
-use Rattle.yaml_scan.specs.Calls.{Seen as sight}
+use Rattle.yaml_scan.specs.Parser.{Parser, told, answered, behind, course_read, input_read}
+use Rattle.yaml_scan.specs.Headline.{WantsMemory, Calls, answered_all, Runs, RunsOut, PutsAnswers}
+use Rattle.yaml_scan.specs.Seen.{Seen, seen, seen_of, idle, Seen as sight}
 use Rattle.yaml_scan.specs.ReadingOn.{scans, fault_told, all_told, left_to, AllIsTold, RestIsTold, ReadsOn, ScansInTurn}
 use Rattle.yaml_scan.specs.ReadingOn.{ScansReadOn}
 use Rattle.yaml_scan.proofs.Course.InputLaws.{inputs_keep_order}
@@ -168,7 +168,7 @@ idle_chain : (results : List (Result code_token_t yaml_fault_t)) (p q : Parser) 
 idle_chain [] p q o e = (refl, e)
 idle_chain (a ∷ more) p q o (r, s, w) = go (λ e. idle_chain more r q e w) s
   where
-    go : (r.session.over ≡ true → (map told more ≡ replicate (length more) (TOKEN empty)) × (q ≡ r)) → Scans p a r → (told a ∷ map told more ≡ TOKEN empty ∷ replicate (length more) (TOKEN empty)) × (q ≡ p)
+    go : (r.session.over ≡ true → (map told more ≡ replicate (length more) (TOKEN empty)) × (q ≡ r)) → Calls SCAN p (told a) r → (told a ∷ map told more ≡ TOKEN empty ∷ replicate (length more) (TOKEN empty)) × (q ≡ p)
     go ih (inr m) = absurd (false≢true (sym m.1.was_open ∙ o))
     go ih (inl m) = (let e : r ≡ p = m.1 ∙ over_left p o in
         let z = ih (ap (λ (x : Parser). x.session.over) e ∙ o) in
@@ -222,7 +222,7 @@ chain (a ∷ more) p q (r, s, w) = go (chain more r q w) s
     on e (inl f) = inl (ap (λ (x : Answer). x ∷ map told more) e ∙ ap (λ (x : List Answer). answered p SCAN ∷ x) f ∙ answered_later p (length more))
     on e (inr o) = inr (subst (λ (x : Answer). RunsOut p (scans (suc (length more))) (seen x ∷ map seen (map told more)) q) (sym e) (out_later p (scans (length more)) (map seen (map told more)) q o))
 
-    go : Told more r q → Scans p a r → (told a ∷ map told more ≡ answered_all p (scans (suc (length more)))) ⊎ RunsOut p (scans (suc (length more))) (seen (told a) ∷ map seen (map told more)) q
+    go : Told more r q → Calls SCAN p (told a) r → (told a ∷ map told more ≡ answered_all p (scans (suc (length more)))) ⊎ RunsOut p (scans (suc (length more))) (seen (told a) ∷ map seen (map told more)) q
     go t (inl m) = on m.0 (subst (λ (x : Parser). Told more x q) m.1 t)
     go t (inr m) = (let z = idle_chain more r q m.1.over w in
         let e = ap (λ (x : List Answer). map seen x) z.0 ∙ idle_scans (length more) in

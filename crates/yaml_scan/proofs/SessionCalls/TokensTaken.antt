@@ -14,8 +14,9 @@ use Rattle.yaml_scan.specs.Session.{looked, finished, why, scan_answer, peek_ans
 use Rattle.yaml_scan.specs.Session.Call.{SCAN, PEEK, SKIP}
 use Rattle.yaml_scan.specs.Session.{Answer as says}
 use Rattle.yaml_scan.specs.Parser.{Parser, course_read, input_read}
-use Rattle.yaml_scan.specs.Calls.{Seen, seen, seen_of, answered_all, behind_all, idle, Runs, PutsAnswers}
-use Rattle.yaml_scan.specs.Calls.Seen.{TOKEN, PEEKED, SKIPPED, NOTHING, FAULT}
+use Rattle.yaml_scan.specs.Seen.{Seen, seen, seen_of, idle}
+use Rattle.yaml_scan.specs.Headline.{answered_all, behind_all, Runs, PutsAnswers}
+use Rattle.yaml_scan.specs.Seen.Seen.{TOKEN, PEEKED, SKIPPED, NOTHING, FAULT}
 use Rattle.yaml_scan.specs.Puts.{Puts, taken_told, AreTold, TakesOn, TakesNext, HasNext}
 use Rattle.yaml_scan.proofs.SessionCalls.ReadingOn.{drop_next}
 

@@ -15,9 +15,9 @@ use Rattle.yaml_scan.specs.Session.Call.{SCAN, PEEK, SKIP}
 use Rattle.yaml_scan.specs.Session.Answer.{TOKEN, PEEKED, SKIPPED, NOTHING, FAULT}
 use Rattle.yaml_scan.specs.SessionLaws.{FaultOfRefused}
 use Rattle.yaml_scan.specs.SessionLaws.FaultOfRefused.{at_once, near, far}
-use Rattle.yaml_scan.specs.Parser.{Parser, Calls, answered, course_read}
-use Rattle.yaml_scan.specs.Calls.{Seen, seen, answered_all, idle, Runs}
-use Rattle.yaml_scan.specs.Calls.{Seen as sight}
+use Rattle.yaml_scan.specs.Parser.{Parser, answered, course_read}
+use Rattle.yaml_scan.specs.Headline.{Calls, answered_all, Runs}
+use Rattle.yaml_scan.specs.Seen.{Seen, seen, idle, Seen as sight}
 use Rattle.yaml_scan.specs.All.{ReadsAll}
 use Rattle.yaml_scan.specs.Puts.{HasNext, of_input, IsAnsweredAlike, StopsWith, AreAnsweredAlike, AreReadAlike}
 use Rattle.yaml_scan.proofs.Course.CourseSteps.{refused_has_fault}

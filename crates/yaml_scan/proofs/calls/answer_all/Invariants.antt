@@ -1,7 +1,8 @@
 use Rattle.std.proofs.Common.{◌+◌, ◌≤◌, map, take, length}
 use Rattle.std.specs.Prelude.{vec_len}
 use Rattle.std.specs.Vec.{vec_capacity}
-use Rattle.yaml_scan.specs.Calls.{call_of, PutsAnswers}
+use Rattle.yaml_scan.specs.Seen.{call_of}
+use Rattle.yaml_scan.specs.Headline.{PutsAnswers}
 use Rattle.yaml_scan.proofs.calls.answer_all.Given as goal
 
 abbrev pub invariant-loop-call : goal.invariant-loop-call

@@ -5,7 +5,8 @@ use Rattle.yaml_text.specs.Fault.{Fault, fault_of}
 use Rattle.yaml_text.specs.Token.{token_of}
 use Rattle.yaml_scan.specs.Token.{yaml_token_t, is_last_type, type_of}
 use Rattle.yaml_scan.specs.Session.Answer.{TOKEN}
-use Rattle.yaml_scan.specs.Parser.{Parser, Calls, Scans, told}
+use Rattle.yaml_scan.specs.Parser.{Parser, told}
+use Rattle.yaml_scan.specs.Headline.{Calls}
 use Rattle.yaml_scan.specs.inside.Ready.{parser_of, IsShown, IsShort, IsEnded}
 use Rattle.yaml_scan.specs.Session.Call.{SCAN}
 use Rattle.yaml_scan.proofs.CountedMarks.CallMarks.{call_is_counted}
@@ -68,7 +69,7 @@ returns-in-Err c = let i = c.parser.inside in let f = c.in-Err.ensures in let t 
     let o = sym (ap (λ (p : Parser). p.session.over) c.parser.view_is) ∙ c.if-parser.false in
     let r : Parser = record { input = i.input.now; setting = i.setting; limit = t.limit; session = record { taken = t.taken; steps = t.made; peeked = false; over = true; fault = Some (fault_of w) } } in
     let s = show_fault_on i.setting i.input.now i.scanner t i.session.peeked (option_map fault_of i.session.fault) w f.1 c.args.parser.now (e ∙ open_session (parser_of i) c.if-parser.false) (subst (λ (x : Fault). IsShort i.setting i.input.now i.scanner x ⊎ IsEnded i.setting i.input.now i.scanner t x) (sym c.fault_at-fault.ensures) f.0) f.2 in
-    let a : Scans c.args.parser.now (Err w) r = scan_not_shown c.args.parser.now r o w s in
+    let a : Calls SCAN c.args.parser.now (told (Err w)) r = scan_not_shown c.args.parser.now r o w s in
     rw c.end.ensures (record { answers = a; bare = bare SCAN c.args.parser.now (told (Err w)) r a; early = early SCAN c.args.parser.now (told (Err w)) r a; local = scanned_alike c.args.parser.now (told (Err w)) r a; marks = call_is_counted SCAN c.args.parser.now (told (Err w)) r a })
 
 pub returns-then-parser-clause-local : goal.returns-then-parser-clause-local

@@ -1,6 +1,6 @@
 use Rattle.std.proofs.Common.{sym, subst, arith}
 use Rattle.yaml_scan.specs.declared.calls.yaml_answer_t.{yaml_answer_t}
-use Rattle.yaml_scan.specs.Calls.{seen_of}
+use Rattle.yaml_scan.specs.Seen.{seen_of}
 use Rattle.yaml_scan.specs.CallWords.{SeenHasLine}
 use Rattle.yamltok.proofs.Wording.{line_at}
 use Rattle.yamltok.proofs.listing.list_answers.Goals as goal

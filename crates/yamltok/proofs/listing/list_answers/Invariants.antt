@@ -1,5 +1,5 @@
 use Rattle.std.proofs.Common.{◌≡◌, ◌++◌, map, take}
-use Rattle.yaml_scan.specs.Calls.{seen_of}
+use Rattle.yaml_scan.specs.Seen.{seen_of}
 use Rattle.yamltok.specs.Listing.{answer_lines}
 use Rattle.yamltok.proofs.listing.list_answers.Given as goal
 

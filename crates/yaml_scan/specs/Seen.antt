@@ -1,0 +1,49 @@
+-- What can be seen of the answers to lists of calls.
+use Rattle.yaml_text.specs.declared.types.yaml_mark_t.{yaml_mark_t}
+use Rattle.yaml_text.specs.declared.types.yaml_token_type_t.{yaml_token_type_t}
+use Rattle.yaml_text.specs.Fault.{fault_of}
+use Rattle.yaml_text.specs.Token.{token_of}
+use Rattle.yaml_scan.specs.declared.calls.yaml_call_t.{yaml_call_t}
+use Rattle.yaml_scan.specs.declared.calls.yaml_call_t.TheVariants as code
+use Rattle.yaml_scan.specs.declared.calls.yaml_answer_t.{yaml_answer_t}
+use Rattle.yaml_scan.specs.declared.calls.yaml_answer_t.TheVariants as coded
+use Rattle.yaml_scan.specs.Token.{yaml_token_t, empty, type_of}
+use Rattle.yaml_scan.specs.Fault.{Fault}
+use Rattle.yaml_scan.specs.Session.{Call, Answer, Answer as says}
+use Rattle.yaml_scan.specs.Session.Call.{SCAN, PEEK, SKIP}
+
+-- what can be seen of an answer: of a peeked token the type and the marks
+pub data Seen : Type 0 where
+  TOKEN : yaml_token_t → Seen
+  PEEKED : yaml_token_type_t → yaml_mark_t → yaml_mark_t → Seen
+  SKIPPED : Seen
+  NOTHING : Seen
+  FAULT : Fault → Seen
+
+-- of a session's answer
+abbrev pub seen : Answer → Seen
+seen (says.TOKEN x) = TOKEN x
+seen (says.PEEKED x) = PEEKED (type_of x.token_data) x.start_mark x.end_mark
+seen says.SKIPPED = SKIPPED
+seen says.NOTHING = NOTHING
+seen (says.FAULT f) = FAULT f
+
+-- of the code's
+abbrev pub seen_of : yaml_answer_t → Seen
+seen_of (coded.TOKEN x) = TOKEN (token_of x)
+seen_of (coded.PEEKED type start end) = PEEKED type start end
+seen_of coded.SKIPPED = SKIPPED
+seen_of coded.NOTHING = NOTHING
+seen_of (coded.FAULT f) = FAULT (fault_of f)
+
+-- the code's calls
+abbrev pub call_of : yaml_call_t → Call
+call_of code.SCAN = SCAN
+call_of code.PEEK = PEEK
+call_of code.SKIP = SKIP
+
+-- the answer to a call if the session is over
+abbrev pub idle : Call → Seen
+idle SCAN = TOKEN empty
+idle PEEK = PEEKED (type_of empty.token_data) empty.start_mark empty.end_mark
+idle SKIP = NOTHING

@@ -1,0 +1,18 @@
+-- Calls, as functions of the parser return them.
+use Rattle.std.specs.Prelude.{◌≡◌, Bool, true, false, Some}
+use Rattle.yaml_scan.specs.Fault.{Fault}
+use Rattle.yaml_scan.specs.Session.{Call, Answer}
+use Rattle.yaml_scan.specs.Session.Call.{PEEK}
+use Rattle.yaml_scan.specs.Session.Answer.{PEEKED, FAULT}
+use Rattle.yaml_scan.specs.Parser.{Parser, token_shown}
+use Rattle.yaml_scan.specs.Headline.{Calls}
+use Rattle.yaml_scan.specs.Seen.{Seen, seen}
+
+-- a peek, by what the parser has after it: a token that is shown, or the fault that ended the session
+abbrev pub Shows : Parser → Bool → Parser → Type 0
+Shows p true q = Calls PEEK p (PEEKED (token_shown q)) q
+Shows p false q = (f : Fault) × (q.session.fault ≡ Some f) × Calls PEEK p (FAULT f) q
+
+-- what is seen of the answer to a call
+abbrev pub IsSeen : Call → Parser → Seen → Parser → Type 0
+IsSeen call p s q = (a : Answer) × (s ≡ seen a) × Calls call p a q
