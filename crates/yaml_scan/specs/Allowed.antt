@@ -11,10 +11,10 @@ allows k d none passed_break = invites_key k
     || ((nat_eq d 0 && (is_key k || (is_value k && none))) || (is_plain k && passed_break))
 
 -- by the last lexeme, and at the start of the stream
-abbrev pub allowed_behind : List Laid → Bool
-allowed_behind [] = true
-allowed_behind (i ∷ H) = allows i.lexeme.kind i.depth (is_none i.completed) i.lexeme.passed_break
+abbrev pub allowed_after : List Laid → Bool
+allowed_after [] = true
+allowed_after (i ∷ H) = allows i.lexeme.kind i.depth (is_none i.completed) i.lexeme.passed_break
 
 -- by the last lexeme, or at depth 0 by a break in the gap, which ends at g
 unfoldable pub allowed : List Laid → yaml_mark_t → Bool
-allowed H g = allowed_behind H || (nat_eq (depth H) 0 && nat_lt (reach H).line g.line)
+allowed H g = allowed_after H || (nat_eq (depth H) 0 && nat_lt (reach H).line g.line)

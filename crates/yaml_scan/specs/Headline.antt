@@ -11,7 +11,7 @@ use Rattle.yaml_scan.specs.Fault.{memory_fault}
 use Rattle.yaml_scan.specs.Settled.{settled, pace}
 use Rattle.yaml_scan.specs.Session.{Call, Answer, session, after_all, Answer as says}
 use Rattle.yaml_scan.specs.Session.Call.{SKIP}
-use Rattle.yaml_scan.specs.Parser.{Parser, input_read, course_read, behind, answered}
+use Rattle.yaml_scan.specs.Parser.{Parser, input_read, course_read, after_call, answered}
 use Rattle.yaml_scan.specs.Seen.{Seen, seen, seen_of, idle}
 use Rattle.yaml_scan.specs.Seen.Seen.{FAULT}
 
@@ -38,13 +38,13 @@ pub record WantsMemory (p q : Parser) : Type 0 where
 
 -- The answer to a call is the session's, and it leaves what the session leaves; or memory was refused, but not in a skip.
 abbrev pub Calls : Call → Parser → Answer → Parser → Type 0
-Calls call p a q = ((a ≡ answered p call) × (q ≡ behind p call))
+Calls call p a q = ((a ≡ answered p call) × (q ≡ after_call p call))
     ⊎ ((a ≡ says.FAULT memory_fault) × WantsMemory p q × (call ≢ SKIP))
 
 -- A LIST OF CALLS
 -- the parser after a list of calls
-abbrev pub behind_all : Parser → List Call → Parser
-behind_all p calls = record {
+abbrev pub after_calls : Parser → List Call → Parser
+after_calls p calls = record {
   input = p.input;
   setting = p.setting;
   limit = p.limit;
@@ -62,12 +62,12 @@ pub record RunsOut (p : Parser) (calls : List Call) (all : List Seen) (q : Parse
   pub within : n < length calls
   -- a skip needs no memory
   pub asks : slice_get calls n ≢ Some SKIP
-  pub wants : WantsMemory (behind_all p (take n calls)) q
+  pub wants : WantsMemory (after_calls p (take n calls)) q
   pub answers : all ≡ map seen (answered_all p (take n calls)) ++ (FAULT memory_fault ∷ map idle (drop (n + 1) calls))
 
 -- the answers to calls are the session's, or a growth was refused in one of them
 abbrev pub Runs : Parser → List Call → List Seen → Parser → Type 0
-Runs p calls answers q = ((answers ≡ map seen (answered_all p calls)) × (q ≡ behind_all p calls))
+Runs p calls answers q = ((answers ≡ map seen (answered_all p calls)) × (q ≡ after_calls p calls))
     ⊎ RunsOut p calls answers q
 
 -- their answers are appended to others
@@ -81,4 +81,4 @@ pub record PutsSession (p : Parser) (calls : List Call) (old new : List yaml_ans
   pub more : List yaml_answer_t
   pub is : new ≡ old ++ more
   pub answers : map seen_of more ≡ map seen (answered_all p calls)
-  pub left : q ≡ behind_all p calls
+  pub left : q ≡ after_calls p calls

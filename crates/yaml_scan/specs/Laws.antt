@@ -28,12 +28,12 @@ abbrev pub DepthGoesOn : Type 0
 DepthGoesOn = (i : Laid) (H : List Laid) → depth (i ∷ H) ≡ nested i.lexeme.kind (depth H)
 
 -- the candidate of depth k after i, from the one before it
-abbrev pub candidate_behind : Laid → ℕ → Option Laid → Option Laid
-candidate_behind i k old = if enters k i then None else if not (nat_eq i.depth k) then old else if not (is_candidate i)
+abbrev pub candidate_after : Laid → ℕ → Option Laid → Option Laid
+candidate_after i k old = if enters k i then None else if not (nat_eq i.depth k) then old else if not (is_candidate i)
     then None else if i.key_allowed then Some i else old
 
 abbrev pub CandidatesGoOn : Type 0
-CandidatesGoOn = (i : Laid) (H : List Laid) (k : ℕ) → candidate (i ∷ H) k ≡ candidate_behind i k (candidate H k)
+CandidatesGoOn = (i : Laid) (H : List Laid) (k : ℕ) → candidate (i ∷ H) k ≡ candidate_after i k (candidate H k)
 
 -- no depth above the present one has a candidate, and a deeper one is further on
 abbrev pub CandidatesAreNested : Type 0

@@ -7,7 +7,7 @@ use Rattle.yaml_scan.specs.Fault.{Fault}
 use Rattle.yaml_scan.specs.Begins.{Begins}
 use Rattle.yaml_scan.specs.Source.{Source, Reading, Offence}
 use Rattle.yaml_scan.specs.SourceOf.{source_of}
-use Rattle.yaml_scan.specs.Step.{step, place_behind}
+use Rattle.yaml_scan.specs.Step.{step, place_after}
 use Rattle.yaml_scan.specs.Cut.{KeepsOrder}
 use Rattle.yaml_scan.specs.Answers.{Input, course, tokens_of}
 use Rattle.yaml_scan.specs.Near.{place_of}
@@ -28,7 +28,7 @@ pub record ReadsSame (r : ℕ) (S T : Source) : Type 0 where
 
 -- a step that has its reach or its problem at place r at most is the same in both
 abbrev pub StepIsLocal : Type 0
-StepIsLocal = (S T : Source) (limit : ℕ) (H : List Laid) (r : ℕ) → KeepsOrder S → place_behind H ≤ S.size
+StepIsLocal = (S T : Source) (limit : ℕ) (H : List Laid) (r : ℕ) → KeepsOrder S → place_after H ≤ S.size
     → ReadsSame r S T → place_of (step S limit H) ≤ r
     → step T limit H ≡ step S limit H
 

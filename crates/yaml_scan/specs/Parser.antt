@@ -32,8 +32,8 @@ unfoldable pub course_read : Parser → Course
 course_read p = course p.limit (input_read p)
 
 -- the parser after a call
-abbrev pub behind : Parser → Call → Parser
-behind p call = record {
+abbrev pub after_call : Parser → Call → Parser
+after_call p call = record {
   input = p.input;
   setting = p.setting;
   limit = p.limit;
@@ -62,7 +62,7 @@ abbrev pub shown : Result code_token_t yaml_fault_t → Answer
 shown (Ok token) = PEEKED (token_of token)
 shown (Err fault) = FAULT (fault_of fault)
 
--- the token behind the reference, or the fault
+-- the token after the reference, or the fault
 abbrev pub told_copied : Result (Bor code_token_t) yaml_fault_t → Result code_token_t yaml_fault_t
 told_copied (Ok token) = Ok token.now
 told_copied (Err fault) = Err fault

@@ -7,7 +7,7 @@ use Rattle.yaml_scan.specs.Lexeme.{Lexeme}
 use Rattle.yaml_scan.specs.Laid.{Laid, is_none}
 use Rattle.yaml_scan.specs.Depth.{depth}
 use Rattle.yaml_scan.specs.Keys.{candidate, live, only_live, completed_by}
-use Rattle.yaml_scan.specs.Allowed.{allowed, allowed_behind}
+use Rattle.yaml_scan.specs.Allowed.{allowed, allowed_after}
 use Rattle.yaml_scan.specs.Levels.{level, laid, is_required}
 use Rattle.yaml_scan.specs.Fault.{scanner_fault, no_token, no_colon, entry_not_allowed, key_not_allowed}
 use Rattle.yaml_scan.specs.Fault.{value_not_allowed, in_next_token, in_simple_key}
@@ -18,9 +18,9 @@ pub data Outcome : Type 0 where
   Faults : Offence → Outcome
 
 -- the place up to which H was read
-abbrev pub place_behind : List Laid → ℕ
-place_behind [] = 0
-place_behind (i ∷ H) = i.lexeme.place
+abbrev pub place_after : List Laid → ℕ
+place_after [] = 0
+place_after (i ∷ H) = i.lexeme.place
 
 -- THE REQUIRED CANDIDATE
 abbrev pub only_required : Option Laid → Option Laid
@@ -117,7 +117,7 @@ gap_step S limit H p = unless (stale limit H (S.mark p)) (S.mark p) p
 
 -- the place where the gap after H ends
 abbrev pub front_of : Source → List Laid → ℕ
-front_of S H = S.gap (nat_lt 0 (depth H)) (allowed_behind H) (place_behind H)
+front_of S H = S.gap (nat_lt 0 (depth H)) (allowed_after H) (place_after H)
 
 -- The first that fits: a stale required candidate, no kind, a kind that is not allowed, a required candidate that would
 -- be cleared, an offence, a required candidate that is stale at the reach; else the lexeme.

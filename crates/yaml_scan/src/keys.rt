@@ -3,7 +3,7 @@
 ghost use Rattle.std.specs.Prelude.{◌≡◌, ◌+◌, ◌-◌, ◌<◌, ◌&&◌, ◌++◌, ◌∷◌, [], not, List, Option, None, map, vec_len};
 ghost use Rattle.std.specs.Prelude.{if◌then◌else◌};
 ghost use Rattle.std.specs.Vec.{vec_capacity};
-ghost use Rattle.yaml_scan.specs.inside.Slots.{is_live, still_held, lost_held, needed, slot_behind, root_of, step_of};
+ghost use Rattle.yaml_scan.specs.inside.Slots.{is_live, still_held, lost_held, needed, slot_after, root_of, step_of};
 ghost use Rattle.yaml_scan.specs.inside.Slots.{completed_held, nested_outer, nested_top, empty_slots, lowest};
 ghost use Rattle.yaml_scan.specs.inside.Slots.{AreEmptyBelow};
 ghost use Rattle.yaml_scan.specs.inside.Slots.{AreNested};
@@ -145,7 +145,7 @@ pub(crate) fn settle(
     allowed: bool,
     new: held_t,
 )
-    ensures { slot.new ≡ slot_behind kind allowed new slot.old }
+    ensures { slot.new ≡ slot_after kind allowed new slot.old }
 {
     if !is_candidate(kind) {
         *slot = None;

@@ -87,7 +87,7 @@ fn end_mark(front: yaml_mark_t) -> yaml_mark_t
 }
 
 /// Where a lexeme starts after a gap.
-pub(crate) fn start_behind(kind: yaml_lexeme_kind_t, front: yaml_mark_t) -> yaml_mark_t
+pub(crate) fn start_after(kind: yaml_lexeme_kind_t, front: yaml_mark_t) -> yaml_mark_t
     requires { front.line + 1 < 2 ^ 64 }
     ensures { result ≡ start_at kind front }
 {

@@ -13,7 +13,7 @@ ghost use Rattle.yaml_scan.specs.inside.Ready.{IsNew, IsReady, IsSettled, IsStop
 ghost use Rattle.yaml_scan.specs.inside.Ready.{IsStarted, IsShown};
 ghost use Rattle.yaml_scan.specs.Headline.{Calls};
 ghost use Rattle.yaml_scan.specs.Headline.{Calls};
-ghost use Rattle.yaml_scan.specs.Parser.{Parser, told, token_shown, behind, IsThere, IsRefusedEarly, input_read};
+ghost use Rattle.yaml_scan.specs.Parser.{Parser, told, token_shown, after_call, IsThere, IsRefusedEarly, input_read};
 ghost use Rattle.yaml_scan.specs.inside.Shown.{Shows};
 ghost use Rattle.yaml_scan.specs.Parser.{answered, told_copied, shown, course_read};
 ghost use Rattle.yaml_scan.specs.CallMarks.{IsCountedIn, ReachesTo};
@@ -287,7 +287,7 @@ fn last_fault(parser: &yaml_parser_t) -> yaml_fault_t
 fn take_shown(parser: &mut yaml_parser_t) -> yaml_token_t
     requires { parser.old.session.peeked ≡ true }
     ensures token { token_of result ≡ token_shown parser.old }
-    ensures left { parser.new ≡ behind parser.old SKIP }
+    ensures left { parser.new ≡ after_call parser.old SKIP }
 {
     let token = take_head(&mut parser.scanner);
     pass(&mut parser.session, &token);
@@ -304,9 +304,9 @@ fn take_shown(parser: &mut yaml_parser_t) -> yaml_token_t
 pub fn yaml_parser_scan(parser: &mut yaml_parser_t) -> Result<yaml_token_t, yaml_fault_t>
     ensures answers { Calls SCAN parser.old (told result) parser.new }
     ensures bare { IsThere parser.old → (told result ≡ answered parser.old SCAN)
-        × (parser.new ≡ behind parser.old SCAN) }
+        × (parser.new ≡ after_call parser.old SCAN) }
     ensures early { IsRefusedEarly (input_read parser.old)
-        → (told result ≡ answered parser.old SCAN) × (parser.new ≡ behind parser.old SCAN) }
+        → (told result ≡ answered parser.old SCAN) × (parser.new ≡ after_call parser.old SCAN) }
     ensures local { IsAnsweredAlike parser.old SCAN (told result) }
     ensures marks { IsCountedIn parser.old (told result) }
 {
@@ -336,7 +336,7 @@ pub fn yaml_parser_scan(parser: &mut yaml_parser_t) -> Result<yaml_token_t, yaml
 /// Takes the token that was peeked, and drops it. It needs no memory.
 pub fn yaml_parser_skip(parser: &mut yaml_parser_t)
     requires { parser.old.session.peeked ≡ true }
-    ensures { parser.new ≡ behind parser.old SKIP }
+    ensures { parser.new ≡ after_call parser.old SKIP }
 {
     let _ = take_shown(parser);
 }

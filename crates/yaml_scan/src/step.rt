@@ -9,7 +9,7 @@ ghost use Rattle.yaml_scan.specs.Fault.{no_token, in_next_token};
 ghost use Rattle.yaml_scan.specs.Laid.{Laid};
 ghost use Rattle.yaml_scan.specs.Allowed.{allowed};
 ghost use Rattle.yaml_scan.specs.Order.{ended};
-ghost use Rattle.yaml_scan.specs.inside.Slots.{needed, lost_held, still_held, root_of, slot_behind, nested_outer};
+ghost use Rattle.yaml_scan.specs.inside.Slots.{needed, lost_held, still_held, root_of, slot_after, nested_outer};
 ghost use Rattle.yaml_scan.specs.inside.Slots.{nested_top};
 ghost use Rattle.yaml_scan.specs.inside.Slots.{empty_slots, lowest, step_of, AreNested};
 ghost use Rattle.std.specs.Vec.{vec_capacity};
@@ -21,7 +21,7 @@ ghost use Rattle.std.specs.Option.{option_copied};
 use crate::allowed::{is_allowed_after, is_key_allowed};
 use crate::fault::{keep_fault, stop_t};
 use crate::keys::{completed_by, held_t, lost_at, move_slots, needed_at, root, settle, slots_t};
-use crate::kind::{is_candidate, is_colon, start_behind};
+use crate::kind::{is_candidate, is_colon, start_after};
 use crate::levels::{close_levels, is_level, layout_t, put_group, put_key, top_level};
 use crate::source::{gap_end, kind_at, read_lexeme};
 use std::alloc::Global;
@@ -165,7 +165,7 @@ pub(crate) fn meet(scanner: &scanner_t, kept: &mut yaml_fault_t) -> Result<met_t
     };
     let completed = completed_by(kind, scanner.slots.top, scanner.limit, front);
     refuse_kind(kept, met, margin, completed.is_none())?;
-    let start = start_behind(kind, front);
+    let start = start_after(kind, front);
     refuse_lost(
         kept,
         cleared(met, margin, scanner.slots.top, scanner.limit),
@@ -187,13 +187,13 @@ fn keep_candidates(
     requires nested { AreNested slots.old.outer.items }
     requires room { vec_len slots.old.outer < vec_capacity slots.old.outer }
     ensures lost { result
-        ≡ lost_held limit mark (root_of slots.old.outer.items (slot_behind met.kind met.allowed new slots.old.top)) }
+        ≡ lost_held limit mark (root_of slots.old.outer.items (slot_after met.kind met.allowed new slots.old.top)) }
     ensures outer { result ≡ None
         → slots.new.outer.items ≡ nested_outer met.kind (map (still_held limit mark) slots.old.outer.items)
-        (still_held limit mark (slot_behind met.kind met.allowed new slots.old.top)) }
+        (still_held limit mark (slot_after met.kind met.allowed new slots.old.top)) }
     ensures top { result ≡ None
         → slots.new.top ≡ nested_top met.kind (map (still_held limit mark) slots.old.outer.items)
-        (still_held limit mark (slot_behind met.kind met.allowed new slots.old.top)) }
+        (still_held limit mark (slot_after met.kind met.allowed new slots.old.top)) }
     ensures empty { result ≡ None → slots.new.not_simple_keys ≡ empty_slots slots.new.outer.items }
     ensures awaited { result ≡ None
         → slots.new.awaited ≡ step_of (lowest (slots.new.outer.items ++ slots.new.top ∷ [])) }
@@ -239,7 +239,7 @@ pub(crate) fn lay(
 {
     let margin = scanner.slots.outer.is_empty();
     let kind = met.kind;
-    let start = start_behind(kind, met.front);
+    let start = start_after(kind, met.front);
     scanner.slots.outer.reserve(1)?;
     scanner.layout.levels.reserve(1)?;
     scanner.layout.queue.groups.reserve(1)?;

@@ -8,12 +8,12 @@ use Rattle.yaml_scan.specs.Lexeme.{Lexeme}
 use Rattle.yaml_scan.specs.Laid.{Laid}
 use Rattle.yaml_scan.specs.Keys.{candidate, live, only_live}
 use Rattle.yaml_scan.specs.Depth.{depth}
-use Rattle.yaml_scan.specs.Allowed.{allowed, allowed_behind}
+use Rattle.yaml_scan.specs.Allowed.{allowed, allowed_after}
 use Rattle.yaml_scan.specs.Levels.{level, laid, is_required}
 use Rattle.yaml_scan.specs.Order.{ended}
 use Rattle.yaml_scan.specs.Fault.{Fault}
 use Rattle.yaml_scan.specs.Source.{Source, Reading, Offence}
-use Rattle.yaml_scan.specs.Step.{Outcome, step, kind_step, read_step, after_read, front_of, place_behind, unless}
+use Rattle.yaml_scan.specs.Step.{Outcome, step, kind_step, read_step, after_read, front_of, place_after, unless}
 use Rattle.yaml_scan.specs.Step.{refuse, stale, only_stale, required, only_required, clears, replaces, refused}
 use Rattle.yaml_scan.specs.Step.{start_at, end_of, lexeme_of}
 use Rattle.yaml_scan.specs.Step.Outcome.{Reads, Faults}
@@ -157,17 +157,17 @@ module _ (cs : List ℕ) where
         refuse_marked (refused limit H k g) g p (unless (clears limit H k g) (start_at k g) p (read_step S limit H k p)) (s.mark p w)
         (unless_marked (clears limit H k g) (start_at k g) p (read_step S limit H k p) (clears_counts limit H k g a) (start_marked k p w h) r)
 
-    behind_whole : ended H ≡ false → Whole cs (place_behind H)
-    behind_whole e = go H a e
+    after_whole : ended H ≡ false → Whole cs (place_after H)
+    after_whole e = go H a e
       where
-        go : (G : List Laid) → AllMarked G → ended G ≡ false → Whole cs (place_behind G)
+        go : (G : List Laid) → AllMarked G → ended G ≡ false → Whole cs (place_after G)
         go [] m e = s.zero
         go (i ∷ G) m e = (m.0.other e).3
 
     step_marked : ended H ≡ false → OutcomeMarked (step S limit H)
     unfolding step
     step_marked e =
-        let w = s.gap (nat_lt 0 (depth H)) (allowed_behind H) (place_behind H) (behind_whole e) in
+        let w = s.gap (nat_lt 0 (depth H)) (allowed_after H) (place_after H) (after_whole e) in
         let p = front_of S H in
         let k = S.kind (nat_lt 0 (depth H)) p in
         unless_marked (stale limit H (S.mark p)) (S.mark p) p (kind_step S limit H p k) (stale_counts limit H (S.mark p) a) (inl (s.mark p w)) (kind_marked p k w refl)

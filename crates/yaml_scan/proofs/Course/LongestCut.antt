@@ -7,11 +7,11 @@ use Rattle.yaml_scan.specs.Kind.{Kind, is_stream_end}
 use Rattle.yaml_scan.specs.Lexeme.{Lexeme}
 use Rattle.yaml_scan.specs.Laid.{Laid, reach}
 use Rattle.yaml_scan.specs.Depth.{depth}
-use Rattle.yaml_scan.specs.Allowed.{allowed_behind}
+use Rattle.yaml_scan.specs.Allowed.{allowed_after}
 use Rattle.yaml_scan.specs.Levels.{laid, level}
 use Rattle.yaml_scan.specs.Order.{Follows, ended, IsHistory}
 use Rattle.yaml_scan.specs.Source.{Source, Reading, Offence}
-use Rattle.yaml_scan.specs.Step.{Outcome, place_behind, step, kind_step, read_step, after_read, unless, refuse, stale}
+use Rattle.yaml_scan.specs.Step.{Outcome, place_after, step, kind_step, read_step, after_read, unless, refuse, stale}
 use Rattle.yaml_scan.specs.Step.{refused, clears, start_at, lexeme_of, front_of}
 use Rattle.yaml_scan.specs.Laws.{CutIsLongest, CutIsHistory, CutIsShort}
 use Rattle.yaml_scan.specs.Step.Outcome.{Reads, Faults}
@@ -71,22 +71,22 @@ pub record IsNext (so_far : yaml_mark_t) (place size : ℕ) (x : Lexeme) : Type 
 
 -- the steps of a text are in order
 abbrev pub IsOrderly : (List Laid → Outcome) → ℕ → ℕ → Type 0
-IsOrderly step limit size = (H : List Laid) (x : Lexeme) → IsRun step limit H → ended H ≡ false → step H ≡ Reads x → IsNext (reach H) (place_behind H) size x
+IsOrderly step limit size = (H : List Laid) (x : Lexeme) → IsRun step limit H → ended H ≡ false → step H ≡ Reads x → IsNext (reach H) (place_after H) size x
 
 -- where a text was read to
 record IsReadTo (S : Source) (H : List Laid) : Type 0 where
-  mark : reach H ≡ S.mark (place_behind H)
-  within : place_behind H ≤ S.size
+  mark : reach H ≡ S.mark (place_after H)
+  within : place_after H ≤ S.size
 
 module _ (S : Source) (k : KeepsOrder S) (limit : ℕ) where
-  orderly_at : (H : List Laid) (x : Lexeme) → IsReadTo S H → step S limit H ≡ Reads x → IsNext (reach H) (place_behind H) S.size x × (is_stream_end x.kind ≡ false → x.reach ≡ S.mark x.place)
+  orderly_at : (H : List Laid) (x : Lexeme) → IsReadTo S H → step S limit H ≡ Reads x → IsNext (reach H) (place_after H) S.size x × (is_stream_end x.kind ≡ false → x.reach ≡ S.mark x.place)
   orderly_at H x a e =
       let s = step_is S limit H x e in
-      let g = k.gap_within (nat_lt 0 (depth H)) (allowed_behind H) (place_behind H) a.within in
-      let m = k.gap_marks (nat_lt 0 (depth H)) (allowed_behind H) (place_behind H) a.within in
+      let g = k.gap_within (nat_lt 0 (depth H)) (allowed_after H) (place_after H) a.within in
+      let m = k.gap_marks (nat_lt 0 (depth H)) (allowed_after H) (place_after H) a.within in
       let r = k.reads s.kind (depth H) (level H s.kind (start_at s.kind (S.mark (front_of S H)))) (front_of S H) s.reading g.1 s.kind_is s.reading_is in
       let f = r.follows in
-      let w : IsNext (reach H) (place_behind H) S.size (lexeme_of s.kind (S.mark (front_of S H)) s.reading) × (is_stream_end s.kind ≡ false → s.reading.reach ≡ S.mark s.reading.place) = (
+      let w : IsNext (reach H) (place_after H) S.size (lexeme_of s.kind (S.mark (front_of S H)) s.reading) × (is_stream_end s.kind ≡ false → s.reading.reach ≡ S.mark s.reading.place) = (
         record {
           follows = record { front = rw a.mark m; start = f.start; at_once = f.at_once; end = f.end; reach = f.reach; takes_a_byte = f.takes_a_byte; takes_a_column = f.takes_a_column; ends_at_margin = f.ends_at_margin };
           says = r.says;
@@ -96,7 +96,7 @@ module _ (S : Source) (k : KeepsOrder S) (limit : ℕ) where
         },
         r.reach,
       ) in
-      subst (λ (y : Lexeme). IsNext (reach H) (place_behind H) S.size y × (is_stream_end y.kind ≡ false → y.reach ≡ S.mark y.place)) (sym s.lexeme_is) w
+      subst (λ (y : Lexeme). IsNext (reach H) (place_after H) S.size y × (is_stream_end y.kind ≡ false → y.reach ≡ S.mark y.place)) (sym s.lexeme_is) w
 
   read_to : (H : List Laid) → IsRun (step S limit) limit H → ended H ≡ false → IsReadTo S H
   read_to [] r e = record { mark = sym k.begins; within = omega arith }
@@ -121,16 +121,16 @@ module _ (step : List Laid → Outcome) (limit size : ℕ) (k : IsOrderly step l
   unfolding laid
   laid_ended H x = refl
 
-  laid_at : (H : List Laid) (x : Lexeme) → place_behind (laid limit H x ∷ H) ≡ x.place
+  laid_at : (H : List Laid) (x : Lexeme) → place_after (laid limit H x ∷ H) ≡ x.place
   unfolding laid
   laid_at H x = refl
 
-  pub run_at : (H : List Laid) → IsRun step limit H → place_behind H ≤ size
+  pub run_at : (H : List Laid) → IsRun step limit H → place_after H ≤ size
   run_at [] r = omega arith
   run_at (i ∷ H) r = (k H i.lexeme r.2 r.3 r.1).within
 
   -- what the next step leaves to read
-  less : (n : ℕ) (H : List Laid) (x : Lexeme) → IsRun step limit H → ended H ≡ false → step H ≡ Reads x → size < suc n + place_behind H → ended (laid limit H x ∷ H) ≡ false → size < n + place_behind (laid limit H x ∷ H)
+  less : (n : ℕ) (H : List Laid) (x : Lexeme) → IsRun step limit H → ended H ≡ false → step H ≡ Reads x → size < suc n + place_after H → ended (laid limit H x ∷ H) ≡ false → size < n + place_after (laid limit H x ∷ H)
   less n H x r d s l e =
       let f = k H x r d s in
       let g : is_stream_end x.kind ≡ false = sym (laid_ended H x) ∙ e in
@@ -146,7 +146,7 @@ module _ (step : List Laid → Outcome) (limit size : ℕ) (k : IsOrderly step l
   on_is n H r e next (Faults f) q = (r, (e, q))
   on_is n H r e next (Reads x) q = next x q
 
-  pub cut_is : (n : ℕ) (H : List Laid) → IsRun step limit H → (ended H ≡ false → size < n + place_behind H) → IsCut (cut_from step n limit H)
+  pub cut_is : (n : ℕ) (H : List Laid) → IsRun step limit H → (ended H ≡ false → size < n + place_after H) → IsCut (cut_from step n limit H)
   cut_is zero H r l = elim (cases_Bool (ended H)) [
     | inl e ↦ (r, e)
     | inr e ↦ (let a = l e in let b = run_at H r in absurd (omega arith))
@@ -161,7 +161,7 @@ module _ (step : List Laid → Outcome) (limit size : ℕ) (k : IsOrderly step l
   cut_of = cut_is (size + 1) [] tt (λ e. omega arith)
 
   -- each lexeme but the stream end takes a character
-  run_length : (H : List Laid) → IsRun step limit H → ended H ≡ false → length H ≤ place_behind H
+  run_length : (H : List Laid) → IsRun step limit H → ended H ≡ false → length H ≤ place_after H
   run_length [] r e = omega arith
   run_length (i ∷ H) r e = let a = run_length H r.2 r.3 in let b = (k H i.lexeme r.2 r.3 r.1).takes_a_character e in omega arith
 

@@ -40,11 +40,11 @@ data Entry : Type 0 where
   Offends : ℕ → ℕ → Kind → List ℕ → ℕ → List ℕ → Entry
   Empty : ℕ → ℕ → Entry
 
-abbrev behind : Entry → ℕ
-behind (Lexed q p k d e r b) = q
-behind (Ends q p) = q
-behind (Offends q p k problem at context) = q
-behind (Empty q p) = q
+abbrev after_call : Entry → ℕ
+after_call (Lexed q p k d e r b) = q
+after_call (Ends q p) = q
+after_call (Offends q p k problem at context) = q
+after_call (Empty q p) = q
 
 abbrev front : Entry → ℕ
 front (Lexed q p k d e r b) = p
@@ -66,7 +66,7 @@ read_of starts (Empty q p) = Err (record { fault = scanner_fault [] zero_mark No
 
 abbrev gap_from : List Entry → ℕ → ℕ
 gap_from [] q = q
-gap_from (e ∷ es) q = if nat_eq (behind e) q then front e else gap_from es q
+gap_from (e ∷ es) q = if nat_eq (after_call e) q then front e else gap_from es q
 
 abbrev kind_from : List Entry → ℕ → Option Kind
 kind_from [] p = None
@@ -570,7 +570,7 @@ unfolding scan
 later_candidate_of_a_depth = refl
 
 -- `a: 1\nb: 2\n`, and then the byte FF
-refused_behind_a_mapping : scan 1024 10 (5 ∷ 10 ∷ []) (Some (reader_says 10 255 (codes "invalid leading UTF-8 octet")))
+refused_after_a_mapping : scan 1024 10 (5 ∷ 10 ∷ []) (Some (reader_says 10 255 (codes "invalid leading UTF-8 octet")))
     (Lexed 0 0 PLAIN (token.SCALAR (97 ∷ []) YAML_PLAIN_SCALAR_STYLE) 1 1 false
     ∷ Lexed 1 1 VALUE token.VALUE 2 2 false
     ∷ Lexed 2 3 PLAIN (token.SCALAR (49 ∷ []) YAML_PLAIN_SCALAR_STYLE) 4 5 true
@@ -587,7 +587,7 @@ refused_behind_a_mapping : scan 1024 10 (5 ∷ 10 ∷ []) (Some (reader_says 10 
       fault = (Some (reader_says 10 255 (codes "invalid leading UTF-8 octet")));
     }
 unfolding scan
-refused_behind_a_mapping = refl
+refused_after_a_mapping = refl
 
 -- `a: b: cdefgh`, and then the byte FF
 scanner_fault_in_time : scan 1024 12 [] (Some (reader_says 12 255 (codes "invalid leading UTF-8 octet")))

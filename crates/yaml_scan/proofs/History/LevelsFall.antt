@@ -59,16 +59,16 @@ unfolding kept_columns
 kept_columns-all H x ls c e a k = rw e (filter_all (λ l. keeps (depth H) x.kind x.start l) c ls a k)
 
 -- between a candidate of depth 0 and the end of its line the open columns stay as they were at it
-pub open_columns-behind : (limit : ℕ) (N : List Laid) (c : Laid) (O : List Laid) → IsHistory limit (N ++ c ∷ O) → IsSaved 0 c → AllKept 0 N → AllRight (column c) N
+pub open_columns-after : (limit : ℕ) (N : List Laid) (c : Laid) (O : List Laid) → IsHistory limit (N ++ c ∷ O) → IsSaved 0 c → AllKept 0 N → AllRight (column c) N
     → open_columns (N ++ c ∷ O) ≡ kept_columns O c.lexeme.kind c.lexeme.start
-open_columns-behind limit [] c O h s k r =
+open_columns-after limit [] c O h s k r =
     let e : c.completed ≡ None = candidate_completes_nothing limit c O h s.candidate in
     let o : opens_itself c ≡ false = opens_itself_kept' c s.candidate in
     open_columns-none limit c O h e ∙ (rw o refl)
   where
     opens_itself_kept' : (n : Laid) → is_candidate n ≡ true → opens_itself n ≡ false
     opens_itself_kept' n k = rw (candidate_not_opener n k) (and_false (nat_eq n.depth 0) (is_above (column n) n.level))
-open_columns-behind limit (n ∷ N) c O h s k r = go (open_columns-behind limit N c O h.2 s k.1 r.1) n.completed refl
+open_columns-after limit (n ∷ N) c O h s k r = go (open_columns-after limit N c O h.2 s k.1 r.1) n.completed refl
   where
     d : n.depth ≡ depth (N ++ c ∷ O)
     d = depth_at limit [] n (N ++ c ∷ O) h
@@ -95,16 +95,16 @@ open_columns-behind limit (n ∷ N) c O h s k r = go (open_columns-behind limit 
         deep v q = false≢true (sym (value_not_candidate n.lexeme.kind v) ∙ k.0.candidate q)
 
 -- what is open when the candidate is completed is what was open at the candidate
-open_behind : (limit : ℕ) (i : Laid) (N : List Laid) (c : Laid) (O : List Laid) → IsHistory limit (i ∷ (N ++ c ∷ O)) → IsCompletion limit (N ++ c ∷ O) i.lexeme c → IsSaved 0 c → AllKept 0 N
+open_after : (limit : ℕ) (i : Laid) (N : List Laid) (c : Laid) (O : List Laid) → IsHistory limit (i ∷ (N ++ c ∷ O)) → IsCompletion limit (N ++ c ∷ O) i.lexeme c → IsSaved 0 c → AllKept 0 N
     → kept_columns (N ++ c ∷ O) i.lexeme.kind i.lexeme.start ≡ kept_columns O c.lexeme.kind c.lexeme.start
-open_behind limit i N c O h r s k =
+open_after limit i N c O h r s k =
     let e : i.lexeme.start.line ≡ c.lexeme.start.line = eqb-true _ _ (and_parts _ _ r.live).0 in
     let a : AllRight (column c) N = right_of limit N c O i.lexeme.start h.2 (to_start h.1) e in
     let x = IsNotBefore-trans _ _ _ (start_to_reach limit N c O h.2) (to_start h.1) in
     let y : column c ≤ column i = x.column (sym e) in
     let z : depth O ≡ 0 = sym (depth_at limit N c O h.2) ∙ s.depth in
     let f : closes_all i.lexeme.kind ≡ false = value_not_closer i.lexeme.kind r.value in
-    kept_columns-all (N ++ c ∷ O) i.lexeme (kept_columns O c.lexeme.kind c.lexeme.start) (column c) (open_columns-behind limit N c O h.2 s k a) (open_at_le O c.lexeme z)
+    kept_columns-all (N ++ c ∷ O) i.lexeme (kept_columns O c.lexeme.kind c.lexeme.start) (column c) (open_columns-after limit N c O h.2 s k a) (open_at_le O c.lexeme z)
     (λ l b. let g : (not (closes_all i.lexeme.kind) && leb l (column i)) ≡ true = rw f (le-leb _ _ (le_trans b y)) in or_right _ _ g)
 
 -- and it is all that is open
@@ -113,7 +113,7 @@ pub open_whole : (limit : ℕ) (i : Laid) (N : List Laid) (c : Laid) (O : List L
 open_whole limit i N c O h r s k =
     let e : i.lexeme.start.line ≡ c.lexeme.start.line = eqb-true _ _ (and_parts _ _ r.live).0 in
     let a : AllRight (column c) N = right_of limit N c O i.lexeme.start h.2 (to_start h.1) e in
-    open_behind limit i N c O h r s k ∙ sym (open_columns-behind limit N c O h.2 s k a)
+    open_after limit i N c O h r s k ∙ sym (open_columns-after limit N c O h.2 s k a)
 
 pub kept_columns-whole : (limit : ℕ) (i : Laid) (H : List Laid) (c : Laid) → IsHistory limit (i ∷ H) → IsCompletion limit H i.lexeme c → c.depth ≡ 0 → kept_columns H i.lexeme.kind i.lexeme.start ≡ open_columns H
 kept_columns-whole limit i H c h r z =
@@ -126,7 +126,7 @@ kept_columns-whole limit i H c h r z =
 pub kept_columns-candidate : (limit : ℕ) (i : Laid) (H N : List Laid) (c : Laid) (O : List Laid) → H ≡ N ++ c ∷ O → IsHistory limit (i ∷ H) → IsCompletion limit H i.lexeme c → IsSaved 0 c → AllKept 0 N
     → kept_columns H i.lexeme.kind i.lexeme.start ≡ kept_columns O c.lexeme.kind c.lexeme.start
 kept_columns-candidate limit i H N c O q h r s k =
-    subst (λ (X : List Laid). IsHistory limit (i ∷ X) → IsCompletion limit X i.lexeme c → kept_columns X i.lexeme.kind i.lexeme.start ≡ kept_columns O c.lexeme.kind c.lexeme.start) (sym q) (λ hh rr. open_behind limit i N c O hh rr s k) h r
+    subst (λ (X : List Laid). IsHistory limit (i ∷ X) → IsCompletion limit X i.lexeme c → kept_columns X i.lexeme.kind i.lexeme.start ≡ kept_columns O c.lexeme.kind c.lexeme.start) (sym q) (λ hh rr. open_after limit i N c O hh rr s k) h r
 
 level_at : (limit : ℕ) (N : List Laid) (c : Laid) (O : List Laid) → IsHistory limit (N ++ c ∷ O) → c.level ≡ greatest_level (kept_columns O c.lexeme.kind c.lexeme.start)
 unfolding level

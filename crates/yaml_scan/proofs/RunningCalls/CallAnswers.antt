@@ -22,7 +22,7 @@ use Rattle.yaml_scan.specs.Session.Answer.{TOKEN, PEEKED, FAULT}
 use Rattle.yaml_scan.specs.Inputs.{decoded_input}
 use Rattle.yaml_scan.specs.inside.Scanning.{IsOpen, history, course_of, input_of}
 use Rattle.yaml_scan.specs.inside.Ready.{IsIn, IsShown, IsSettled, IsStopped, IsShort, IsEnded, Pops, course_in}
-use Rattle.yaml_scan.specs.Parser.{Parser, told, IsThere, IsRefusedEarly, answered, behind}
+use Rattle.yaml_scan.specs.Parser.{Parser, told, IsThere, IsRefusedEarly, answered, after_call}
 use Rattle.yaml_scan.specs.Headline.{Calls, WantsMemory}
 use Rattle.yaml_scan.specs.inside.Shown.{Shows}
 use Rattle.yaml_scan.specs.Parser.{course_read, input_read, token_shown, token_or_empty}
@@ -151,7 +151,7 @@ module _ (setting : yaml_encoding_t) (input : List ℕ) (s t u : scanner_t) (x :
     unfolding course_read
     take_told = token_told ∙ sym (ap (λ (o : Option Token). token_or_empty (decoded_input setting input).encoding o) token_next)
 
-    pub take_left : (o : Bool) → o ≡ is_last_type (type_of x.token_data) → record { input = input; setting = setting; limit = u.limit; session = record { taken = u.taken; steps = u.made; peeked = false; over = o; fault = fault } } ≡ behind P SKIP
+    pub take_left : (o : Bool) → o ≡ is_last_type (type_of x.token_data) → record { input = input; setting = setting; limit = u.limit; session = record { taken = u.taken; steps = u.made; peeked = false; over = o; fault = fault } } ≡ after_call P SKIP
     unfolding course_read
     take_left o e =
         same_parser input setting u.limit s.limit u.taken (s.taken + 1) u.made s.made o (is_last p.token) fault (p.limit ∙ k.limit) (let a = p.taken in let b = k.taken in omega arith) (p.made ∙ m) (e ∙ last_is)
@@ -160,8 +160,8 @@ module _ (setting : yaml_encoding_t) (input : List ℕ) (s t u : scanner_t) (x :
     pub take_told_of : (q : Parser) → q ≡ P → x ≡ token_shown q
     take_told_of q r = take_told ∙ ap token_shown (sym r)
 
-    pub take_left_of : (q : Parser) → q ≡ P → (o : Bool) → o ≡ is_last_type (type_of x.token_data) → record { input = input; setting = setting; limit = u.limit; session = record { taken = u.taken; steps = u.made; peeked = false; over = o; fault = fault } } ≡ behind q SKIP
-    take_left_of q r o e = take_left o e ∙ ap (λ (z : Parser). behind z SKIP) (sym r)
+    pub take_left_of : (q : Parser) → q ≡ P → (o : Bool) → o ≡ is_last_type (type_of x.token_data) → record { input = input; setting = setting; limit = u.limit; session = record { taken = u.taken; steps = u.made; peeked = false; over = o; fault = fault } } ≡ after_call q SKIP
+    take_left_of q r o e = take_left o e ∙ ap (λ (z : Parser). after_call z SKIP) (sym r)
 
 -- the next token was shown: no step is made for it
 pub shown_settled : (setting : yaml_encoding_t) (input : List ℕ) (s : scanner_t) → IsShown setting input s → IsSettled setting input s s
@@ -217,7 +217,7 @@ module _ (setting : yaml_encoding_t) (input : List ℕ) (s t : scanner_t) (k : I
         let q : Parser = record { input = input; setting = setting; limit = l'; session = record { taken = n'; steps = m'; peeked = true; over = false; fault = fault } } in p ≡ q
     same_shown l l' n n' m m' a b c = λ i. record { input = input; setting = setting; limit = a i; session = record { taken = b i; steps = c i; peeked = true; over = false; fault = fault } }
 
-    show_left : now_shown ≡ behind O PEEK
+    show_left : now_shown ≡ after_call O PEEK
     unfolding course_read
     show_left = same_shown t.limit s.limit t.taken s.taken t.made (pace s.limit D.read s.taken s.made) k.limit k.taken k.made
         ∙ ap (λ (z : Session). record { input = input; setting = setting; limit = s.limit; session = z }) (sym (ap (λ (z : Option Token). after_peek s.limit D opened z) token_some.1))
@@ -311,15 +311,15 @@ module _ (p q : Parser) (o : p.session.over ≡ false) where
       ap (λ (z : Parser). z.session.peeked) a.1 ∙ ap (λ (z : Session). z.peeked) (left_peek ∙ ap (λ (n : Option Token). after_peek p.limit (course_read p) p.session n) y.1)
   is_peeked (inr a) = absurd (let n = a.0 in cc)
 
-  taken_behind : (y : Token) → next ≡ Some y → behind (behind p PEEK) SKIP ≡ behind p SCAN
+  taken_after : (y : Token) → next ≡ Some y → after_call (after_call p PEEK) SKIP ≡ after_call p SCAN
   unfolding course_read
-  taken_behind y n = ap (λ (z : Session). record { input = p.input; setting = p.setting; limit = p.limit; session = z }) (take_after_peek p.limit (course_read p) p.session y o n)
+  taken_after y n = ap (λ (z : Session). record { input = p.input; setting = p.setting; limit = p.limit; session = z }) (take_after_peek p.limit (course_read p) p.session y o n)
 
-  pub scan_shown : (x : yaml_token_t) (r : Parser) → Shows p true q → x ≡ token_shown q → r ≡ behind q SKIP → Calls SCAN p (TOKEN x) r
+  pub scan_shown : (x : yaml_token_t) (r : Parser) → Shows p true q → x ≡ token_shown q → r ≡ after_call q SKIP → Calls SCAN p (TOKEN x) r
   scan_shown x r (inl a) e f = (let y = shown_token (token_shown q) a.0 in
       inl (
         ap TOKEN (e ∙ y.2) ∙ sym (open_scan ∙ ap (λ (n : Option Token). scan_answer (input_read p).encoding (course_read p) n) y.1),
-        f ∙ ap (λ (z : Parser). behind z SKIP) a.1 ∙ taken_behind y.0 y.1,
+        f ∙ ap (λ (z : Parser). after_call z SKIP) a.1 ∙ taken_after y.0 y.1,
       ))
   scan_shown x r (inr a) e f = absurd (let n = a.0 in cc)
 
@@ -328,7 +328,7 @@ module _ (p q : Parser) (o : p.session.over ≡ false) where
   same_answer n = open_peek ∙ ap (λ (z : Option Token). peek_answer (input_read p).encoding (course_read p) z) n
       ∙ sym (open_scan ∙ ap (λ (z : Option Token). scan_answer (input_read p).encoding (course_read p) z) n)
 
-  same_left : next ≡ None → behind p PEEK ≡ behind p SCAN
+  same_left : next ≡ None → after_call p PEEK ≡ after_call p SCAN
   same_left n = ap (λ (z : Session). record { input = p.input; setting = p.setting; limit = p.limit; session = z })
       (left_peek ∙ ap (λ (z : Option Token). after_peek p.limit (course_read p) p.session z) n
       ∙ sym (left_scan ∙ ap (λ (z : Option Token). after_scan p.limit (course_read p) p.session z) n))
@@ -367,7 +367,7 @@ module _ (setting : yaml_encoding_t) (input : List ℕ) (s t : scanner_t) (peeke
     unfolding course_read
     fault_told = ap why (sym e.fault) ∙ sym (ap (λ (o : Option Token). peek_answer (decoded_input setting input).encoding (course_in s.limit setting input) o) none_next)
 
-    fault_left : stopped ≡ behind open_parser PEEK
+    fault_left : stopped ≡ after_call open_parser PEEK
     unfolding course_read
     fault_left =
         same_stopped input setting t.limit s.limit t.taken s.taken t.made (all_steps (course_in s.limit setting input)) (Some (fault_of f)) (course_in s.limit setting input).fault z.limit z.taken e.made (sym e.fault)
@@ -394,7 +394,7 @@ pub shown_session : (p : Parser) → p.session.over ≡ false → p.session.peek
 shown_session p o k = λ i. record { input = p.input; setting = p.setting; limit = p.limit; session = record { taken = p.session.taken; steps = p.session.steps; peeked = k i; over = o i; fault = p.session.fault } }
 
 -- no memory is taken for what is there
-pub bare : (call : Call) (p : Parser) (a : Answer) (q : Parser) → Calls call p a q → IsThere p → (a ≡ answered p call) × (q ≡ behind p call)
+pub bare : (call : Call) (p : Parser) (a : Answer) (q : Parser) → Calls call p a q → IsThere p → (a ≡ answered p call) × (q ≡ after_call p call)
 bare call p a q (inl r) t = r
 bare call p a q (inr r) (inl t) = absurd (let w = r.1 in false≢true (sym w.was_not_peeked ∙ t))
 bare call p a q (inr r) (inr t) = absurd (let w = r.1 in false≢true (sym w.was_open ∙ t))
@@ -408,6 +408,6 @@ pub wants_late : (p q : Parser) → WantsMemory p q → IsRefusedEarly (input_re
 unfolding course_read
 wants_late p q w e = false≢true (sym (not_begun p.limit (input_read p) e.1) ∙ w.in_utf8 e.0)
 
-pub early : (call : Call) (p : Parser) (a : Answer) (q : Parser) → Calls call p a q → IsRefusedEarly (input_read p) → (a ≡ answered p call) × (q ≡ behind p call)
+pub early : (call : Call) (p : Parser) (a : Answer) (q : Parser) → Calls call p a q → IsRefusedEarly (input_read p) → (a ≡ answered p call) × (q ≡ after_call p call)
 early call p a q (inl r) e = r
 early call p a q (inr r) e = absurd (wants_late p q r.1 e)

@@ -20,7 +20,7 @@ use Rattle.yaml_scan.specs.Session.{why, scan_answer, after_scan, paced, took, a
 use Rattle.yaml_scan.specs.Settled.{settled, pace}
 use Rattle.yaml_scan.specs.Session.Call.{SCAN}
 use Rattle.yaml_scan.specs.Session.Answer.{TOKEN, FAULT}
-use Rattle.yaml_scan.specs.Parser.{Parser, told, answered, behind, course_read, input_read}
+use Rattle.yaml_scan.specs.Parser.{Parser, told, answered, after_call, course_read, input_read}
 use Rattle.yaml_scan.specs.Headline.{WantsMemory, Calls}
 use Rattle.yaml_scan.specs.All.{AllOf, AreSettled, ReadsAll}
 use Rattle.yaml_scan.proofs.Course.AnswerOrder.{fit_course}
@@ -145,7 +145,7 @@ module _ (limit : ℕ) (setting : yaml_encoding_t) (input : List ℕ) where
     answer_same = if_open S.over _ _ h.over ∙ ap (λ (i : Input). scan_answer i.encoding (course_read q) (next_token q.limit (course_read q) S)) input_same
         ∙ ap (λ (c : Course). scan_answer I.encoding c (next_token q.limit c S)) course_same ∙ ap (λ (n : ℕ). scan_answer I.encoding C (next_token n C S)) h.limit_is
 
-    left_same : (behind q SCAN).session ≡ after_scan limit C S (next_token limit C S)
+    left_same : (after_call q SCAN).session ≡ after_scan limit C S (next_token limit C S)
     left_same = if_open S.over _ _ h.over ∙ ap (λ (c : Course). after_scan q.limit c S (next_token q.limit c S)) course_same ∙ ap (λ (n : ℕ). after_scan n C S (next_token n C S)) h.limit_is
 
     stuck : next_token limit C S ≡ None → (f : Fault) × (C.fault ≡ Some f)
@@ -163,7 +163,7 @@ module _ (limit : ℕ) (setting : yaml_encoding_t) (input : List ℕ) where
       token : Token
       next : next_token limit C S ≡ Some token
       is : x ≡ handed_out I.encoding token
-      left : r ≡ behind q SCAN
+      left : r ≡ after_call q SCAN
 
     next_is : (x : yaml_token_t) (r : Parser) → Calls SCAN q (TOKEN x) r → IsNextToken x r
     next_is x r (inr w) = absurd (no_fault x memory_fault w.0)

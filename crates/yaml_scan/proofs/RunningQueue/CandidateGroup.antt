@@ -186,7 +186,7 @@ unfolding offline
 offline_whole H = groups_whole H H
 
 -- WHERE A CANDIDATE STANDS
--- behind t tokens of the list: whole groups, block ends of its own, and its token
+-- after t tokens of the list: whole groups, block ends of its own, and its token
 pub record Stands (H : List Laid) (t : ℕ) (c : Laid) (front rest : List Token) : Type 0 where
   pub whole : List Token
   pub ends : List Token

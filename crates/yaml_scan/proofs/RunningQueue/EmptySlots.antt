@@ -78,14 +78,14 @@ lowest-next [] (Some g) e = refl
 lowest-next (None ∷ hs) o e = lowest-next hs o e
 lowest-next (Some g ∷ hs) o e = cc
 
--- where one more slot stands behind them
+-- where one more slot stands after them
 pub lowest_there : (hs gs : List (Option Held)) (o : Option Held) → slice_get hs (empty_slots hs) ≡ Some o → o ≡ lowest (hs ++ gs)
 lowest_there [] gs o e = cc
 lowest_there (None ∷ hs) gs o e = lowest_there hs gs o e
 lowest_there (Some h ∷ hs) gs o e = cc
 
-pub lowest_behind : (hs : List (Option Held)) (o : Option Held) → slice_get hs (empty_slots hs) ≡ None → o ≡ lowest (hs ++ o ∷ [])
-lowest_behind hs o e = sym (lowest-next hs o (lowest_none hs e))
+pub lowest_after : (hs : List (Option Held)) (o : Option Held) → slice_get hs (empty_slots hs) ≡ None → o ≡ lowest (hs ++ o ∷ [])
+lowest_after hs o e = sym (lowest-next hs o (lowest_none hs e))
 
 -- GIVING UP
 set_same : (hs : List (Option Held)) (n : ℕ) (o : Option Held) → n < length hs → slice_get (set hs n o) n ≡ Some o

@@ -196,22 +196,22 @@ token_first e q xs y i l g n = go q.groups.items refl i
 
 -- PUTTING
 -- one group more, where no block ends of the front wait
-pub put_behind : (e : yaml_encoding_t) (f m : yaml_mark_t) (n : ℕ) (ys : List group_t) (q : List Token) (y : group_t) (x : Token) → IsQueue e 0 f ys q → token_of y.token ≡ handed_out e x → is_of_lexeme x ≡ true
+pub put_after : (e : yaml_encoding_t) (f m : yaml_mark_t) (n : ℕ) (ys : List group_t) (q : List Token) (y : group_t) (x : Token) → IsQueue e 0 f ys q → token_of y.token ≡ handed_out e x → is_of_lexeme x ≡ true
     → IsQueue e n m (ys ++ y ∷ []) (q ++ ((ends_at n m ++ leads y) ++ x ∷ []))
-put_behind e f m n [] q y x i t l = rw i (x, [], refl, t, l, refl)
-put_behind e f m n (z ∷ ys) q y x i t l = (
+put_after e f m n [] q y x i t l = rw i (x, [], refl, t, l, refl)
+put_after e f m n (z ∷ ys) q y x i t l = (
   i.0,
   i.1 ++ ((ends_at n m ++ leads y) ++ x ∷ []),
-  ap (λ (r : List Token). r ++ ((ends_at n m ++ leads y) ++ x ∷ [])) i.2 ∙ (rw (front_of ys, behind_of ys) (append_assoc (leads z) (i.0 ∷ i.1) _)),
+  ap (λ (r : List Token). r ++ ((ends_at n m ++ leads y) ++ x ∷ [])) i.2 ∙ (rw (front_of ys, after_of ys) (append_assoc (leads z) (i.0 ∷ i.1) _)),
   i.3,
   i.4,
-  put_behind e f m n ys i.1 y x i.5 t l,
+  put_after e f m n ys i.1 y x i.5 t l,
 )
   where
     front_of : (ys : List group_t) → early_before 0 f ys ≡ []
     front_of [] = refl
     front_of (w ∷ ys) = refl
 
-    behind_of : (ys : List group_t) → early_before n m (ys ++ y ∷ []) ≡ []
-    behind_of [] = refl
-    behind_of (w ∷ ys) = refl
+    after_of : (ys : List group_t) → early_before n m (ys ++ y ∷ []) ≡ []
+    after_of [] = refl
+    after_of (w ∷ ys) = refl

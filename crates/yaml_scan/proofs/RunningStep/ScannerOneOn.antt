@@ -5,7 +5,7 @@ use Rattle.std.proofs.lemmas.Bool.{cases_Bool, cases_eq}
 use Rattle.std.proofs.lemmas.List.{take_at, map-append, drop-append-le}
 use Rattle.yaml_scan.specs.Kind.{Kind, is_block_entry, is_candidate_kind, is_flow_start, is_flow_end}
 use Rattle.yaml_text.specs.declared.types.yaml_mark_t.{yaml_mark_t}
-use Rattle.yaml_scan.specs.inside.Slots.{Held, held, held_of, still_held, outer_to, slot_behind, nested_outer}
+use Rattle.yaml_scan.specs.inside.Slots.{Held, held, held_of, still_held, outer_to, slot_after, nested_outer}
 use Rattle.yaml_scan.specs.inside.Slots.{nested_top, or_top, is_margin_level}
 use Rattle.yaml_scan.specs.Token.{yaml_token_t}
 use Rattle.yaml_scan.specs.Lexeme.{Lexeme}
@@ -15,7 +15,7 @@ use Rattle.yaml_scan.specs.Groups.Token.{BlockEnd, BlockSequenceStart, BlockMapp
 use Rattle.yaml_scan.specs.Laid.{Laid, reach, is_none, column}
 use Rattle.yaml_scan.specs.Depth.{depth}
 use Rattle.yaml_scan.specs.Keys.{live, completed_by, is_candidate, enters}
-use Rattle.yaml_scan.specs.Allowed.{allowed, allowed_behind, allows}
+use Rattle.yaml_scan.specs.Allowed.{allowed, allowed_after, allows}
 use Rattle.yaml_scan.specs.Levels.{laid, is_required, stays, open_columns, kept_columns, level, greatest_level}
 use Rattle.yaml_scan.specs.Levels.{is_above, opens_level}
 use Rattle.yaml_scan.specs.Order.{IsHistory}
@@ -28,7 +28,7 @@ use Rattle.yaml_scan.specs.inside.Opened.{is_new, key_at, opened}
 use Rattle.yaml_scan.specs.Laws.{key_tokens}
 use Rattle.yaml_scan.specs.inside.Queue.{IsQueue, Fitting, ends_at, start_at, start_of, leads, keyed_at, completed_in}
 use Rattle.yaml_scan.specs.inside.Queue.{opened_by}
-use Rattle.yaml_scan.proofs.RunningQueue.QueueGroups.{put_behind}
+use Rattle.yaml_scan.proofs.RunningQueue.QueueGroups.{put_after}
 use Rattle.yaml_scan.proofs.RunningQueue.CandidateGroup.{Stands, stands, count, taken_count, key_put}
 use Rattle.yaml_scan.proofs.History.HistoryOrder.{to_start, laid_completed, completion_is, IsCompletion, live_earlier}
 use Rattle.yaml_scan.proofs.History.KindTests.{flow_kinds}
@@ -229,7 +229,7 @@ module _ (limit : ℕ) (H : List Laid) (x : Lexeme) (h : IsHistory limit (laid l
     leads_are o O = rw (K, O, S) (ap (λ (l : List Token). ends_at n f ++ (ends_at y.ends x.start ++ l)) (append-nil (start_at o x.start)) ∙ sym (append_assoc (ends_at n f) (ends_at y.ends x.start) (start_at o x.start)) ∙ ap (λ (l : List Token). l ++ start_at o x.start) E)
 
     put_here : (zs : List group_t) (q : List Token) (o : block_t) → IsQueue e 0 m zs q → y.opens ≡ o → IsQueue e n f (zs ++ y ∷ []) (q ++ ((block_ends (laid limit H x) ++ start_at o x.start) ++ OfLexeme x ∷ []))
-    put_here zs q o R O = subst (λ (l : List Token). IsQueue e n f (zs ++ y ∷ []) (q ++ (l ++ OfLexeme x ∷ []))) (leads_are o O) (put_behind e m f n zs q y (OfLexeme x) R Y refl)
+    put_here zs q o R O = subst (λ (l : List Token). IsQueue e n f (zs ++ y ∷ []) (q ++ (l ++ OfLexeme x ∷ []))) (leads_are o O) (put_after e m f n zs q y (OfLexeme x) R Y refl)
 
     pub queue_more : y.opens ≡ opened_by (nat_eq (depth H) 0) (option_map held_of (completed_by limit H x.kind x.start)) x.kind x.start.column (kept_columns H x.kind x.start)
         → IsQueue e n f (completed_in (nat_eq (depth H) 0) (option_map held_of (completed_by limit H x.kind x.start)) (kept_columns H x.kind x.start) d ys ++ y ∷ []) (drop t (offline (laid limit H x ∷ H)))
@@ -252,7 +252,7 @@ module _ (limit : ℕ) (H : List Laid) (x : Lexeme) (h : IsHistory limit (laid l
   pub taken_more : (t : ℕ) → t ≤ length (before limit H) → t ≤ length (before limit (laid limit H x ∷ H))
   taken_more t l = let b = before-before limit (laid limit H x ∷ []) H h in let w = length-begins _ _ b in omega arith
 
-  pub allowed_more : (none : Bool) → none ≡ is_none (completed_by limit H x.kind x.start) → allows x.kind (depth H) none x.passed_break ≡ allowed_behind (laid limit H x ∷ H)
+  pub allowed_more : (none : Bool) → none ≡ is_none (completed_by limit H x.kind x.start) → allows x.kind (depth H) none x.passed_break ≡ allowed_after (laid limit H x ∷ H)
   unfolding laid
   allowed_more none e = ap (λ (b : Bool). allows x.kind (depth H) b x.passed_break) (e ∙ sym (none_number (completed_by limit H x.kind x.start)))
 
@@ -306,7 +306,7 @@ module _ (limit : ℕ) (H : List Laid) (x : Lexeme) (h : IsHistory limit (laid l
   new_is new e = e
 
   module _ (a : Bool) (A : a ≡ allowed H x.front) (new : Held) (N : new ≡ held_of (laid limit H x)) where
-    pub top_swept : still_held limit x.reach (slot_behind x.kind a new (held limit H (depth H))) ≡ held limit (laid limit H x ∷ H) (depth H)
+    pub top_swept : still_held limit x.reach (slot_after x.kind a new (held limit H (depth H))) ≡ held limit (laid limit H x ∷ H) (depth H)
     top_swept = elim (cases_Bool (is_candidate_kind x.kind)) [
       | inl c ↦ elim (cases_Bool a) [
         | inl b ↦ (let s = held-saved limit (laid limit H x) H (depth H) (enters_below (depth H) (omega arith)) at_depth (candidate_is ∙ c) (allowed_of ∙ sym A ∙ b) in

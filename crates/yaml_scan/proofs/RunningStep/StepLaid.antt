@@ -20,7 +20,7 @@ use Rattle.yaml_scan.specs.inside.TextReads.{IsRead, IsOffence}
 use Rattle.yaml_scan.specs.Laid.{Laid, reach, is_none}
 use Rattle.yaml_scan.specs.Keys.{candidate, live, completed_by}
 use Rattle.yaml_scan.specs.Depth.{depth}
-use Rattle.yaml_scan.specs.Allowed.{allowed, allowed_behind, allows}
+use Rattle.yaml_scan.specs.Allowed.{allowed, allowed_after, allows}
 use Rattle.yaml_scan.specs.Levels.{AllLess, IsFalling, laid, is_required, stays, open_columns, kept_columns, level}
 use Rattle.yaml_scan.specs.Levels.{greatest_level, greater_of}
 use Rattle.yaml_scan.specs.Order.{IsHistory, IsNotBefore, Follows, ended}
@@ -28,10 +28,10 @@ use Rattle.yaml_scan.specs.Groups.{end_at, offline}
 use Rattle.yaml_scan.specs.Settled.{before}
 use Rattle.yaml_scan.specs.Groups.Token.{BlockEnd}
 use Rattle.yaml_scan.specs.inside.Opened.{opened, is_new}
-use Rattle.yaml_scan.specs.inside.Slots.{Held, held, held_of, still_held, lost_held, outer_to, root_of, slot_behind}
+use Rattle.yaml_scan.specs.inside.Slots.{Held, held, held_of, still_held, lost_held, outer_to, root_of, slot_after}
 use Rattle.yaml_scan.specs.inside.Slots.{completed_held, nested_outer, nested_top, is_margin_level}
 use Rattle.yaml_scan.specs.Step.{Outcome, step, read_step, after_read, unless, stale, required, lost, start_at}
-use Rattle.yaml_scan.specs.Step.{lexeme_of, front_of, place_behind}
+use Rattle.yaml_scan.specs.Step.{lexeme_of, front_of, place_after}
 use Rattle.yaml_scan.specs.Step.Outcome.{Reads}
 use Rattle.yaml_scan.specs.Cut.{IsReadInOrder}
 use Rattle.yaml_scan.specs.inside.StepFaults.{IsLost}
@@ -90,7 +90,7 @@ module _ (limit : ℕ) (H : List Laid) (x : Lexeme) (h : IsHistory limit (laid l
 
   module _ (a : Bool) (A : a ≡ allowed H x.front) where
     abbrev settled_root : Option Held
-    settled_root = root_of (outer_to limit H (depth H)) (slot_behind x.kind a (held_of (laid limit H x)) (held limit H (depth H)))
+    settled_root = root_of (outer_to limit H (depth H)) (slot_after x.kind a (held_of (laid limit H x)) (held limit H (depth H)))
 
     pub root_agrees : Agrees (lost_held limit x.reach settled_root) (stale limit (laid limit H x ∷ H) x.reach)
     root_agrees = elim (cases_eq (depth H) 0) [
@@ -100,7 +100,7 @@ module _ (limit : ℕ) (H : List Laid) (x : Lexeme) (h : IsHistory limit (laid l
           agrees_map held_of (λ c. refl) _ _ (rw w (same_root e)))
       | inl z ↦ (let d : eqb (laid limit H x).depth 0 ≡ true = eq-eqb _ _ (eqb-true _ _ (at_depth limit H x h) ∙ z) in
           let o : outer_to limit H (depth H) ≡ [] = rw z refl in
-          let u : settled_root ≡ slot_behind x.kind a (held_of (laid limit H x)) (held limit H 0) = rw (o, z) refl in
+          let u : settled_root ≡ slot_after x.kind a (held_of (laid limit H x)) (held limit H 0) = rw (o, z) refl in
           elim (cases_Bool (is_candidate_kind x.kind)) [
             | inl c ↦ elim (cases_Bool a) [
               | inl b ↦ (let e : candidate (laid limit H x ∷ H) 0 ≡ Some (laid limit H x) = candidate-saved (laid limit H x) H 0 (enters_below limit H x h 0 (omega arith)) d (candidate_is limit H x h ∙ c) (allowed_of limit H x h ∙ sym A ∙ b) in
@@ -256,7 +256,7 @@ module _ (H : List Laid) (N : ℕ) (s : scanner_t) (r : Holds H N s) (running : 
         pub index_is : b.reach.index ≡ (S.mark read.0).index
         index_is = text_reach s.text.chars r.text m.kind n level' P R front_within kind_there read.1
 
-        laid_place : place_behind (laid s.limit H X ∷ H) ≡ read.0
+        laid_place : place_after (laid s.limit H X ∷ H) ≡ read.0
         unfolding laid
         laid_place = refl
 
@@ -268,7 +268,7 @@ module _ (H : List Laid) (N : ℕ) (s : scanner_t) (r : Holds H N s) (running : 
         unfolding source_of
         reach_of q e = e
 
-        pub place_then : ended (laid s.limit H X ∷ H) ≡ false → IsMarkOf s.text.chars b.reach (place_behind (laid s.limit H X ∷ H))
+        pub place_then : ended (laid s.limit H X ∷ H) ≡ false → IsMarkOf s.text.chars b.reach (place_after (laid s.limit H X ∷ H))
         place_then e = rw laid_place record { within = place_within; mark_is = reach_of read.0 (in_order.reach (sym laid_ended ∙ e)) }
 
         step_kept : step S s.limit H ≡ unless (stale s.limit (laid s.limit H X ∷ H) b.reach) b.reach read.0 (Reads X)
@@ -301,12 +301,12 @@ module _ (H : List Laid) (N : ℕ) (s : scanner_t) (r : Holds H N s) (running : 
               ∙ ap (λ (z : List ℕ). map (λ z. BlockEnd (end_at m.kind m.front start z)) (filter (λ z. not (stays (nat_lt 0 (depth H)) m.kind start z)) z)) r.levels ∙ ends_are s.limit H X history)
               Y K (O ∙ (rw (margin_is H N s r running margin M, c_is, l_is) refl))))
 
-          pub allowed_then : (none : Bool) → is_some c ≡ not none → (a : Bool) → ((d : ℕ) → margin ≡ nat_eq d 0 → a ≡ allows X.kind d none X.passed_break) → a ≡ allowed_behind (laid s.limit H X ∷ H)
+          pub allowed_then : (none : Bool) → is_some c ≡ not none → (a : Bool) → ((d : ℕ) → margin ≡ nat_eq d 0 → a ≡ allows X.kind d none X.passed_break) → a ≡ allowed_after (laid s.limit H X ∷ H)
           allowed_then none V a e = e (depth H) (margin_is H N s r running margin M) ∙ allowed_more s.limit H X history none (is_none_some c none V ∙ ap (λ (z : Option Held). is_none z) c_is ∙ is_none_map (completed_by s.limit H X.kind X.start))
 
           -- the slots
           module _ (new : Held) (NA : new.step ≡ N) (NS : new.start ≡ start) (NR : new.required ≡ is_margin_level margin level' start.column)
-              (a : Bool) (A : a ≡ allowed H m.front) (top' : Option Held) (T : top' ≡ slot_behind m.kind a new s.slots.top) where
+              (a : Bool) (A : a ≡ allowed H m.front) (top' : Option Held) (T : top' ≡ slot_after m.kind a new s.slots.top) where
             required_then : new.required ≡ is_margin_level (nat_eq (depth H) 0) (greatest_level (kept_columns H m.kind start)) start.column
             required_then = NR ∙ (rw (margin_is H N s r running margin M, LV, l_is) refl)
 
@@ -315,7 +315,7 @@ module _ (H : List Laid) (N : ℕ) (s : scanner_t) (r : Holds H N s) (running : 
 
             root_then : (root : Option Held) (o : List (Option Held)) → o ≡ s.slots.outer.items → root ≡ root_of o top' → root ≡ settled_root s.limit H X history r.fresh a A
             root_then root o O e = e ∙ ap (λ (z : List (Option Held)). root_of z top') (O ∙ r.outer) ∙ ap (λ (z : Option Held). root_of (outer_to s.limit H (depth H)) z)
-                (T ∙ ap (λ (z : Held). slot_behind m.kind a z s.slots.top) new_laid ∙ ap (λ (z : Option Held). slot_behind m.kind a (held_of (laid s.limit H X)) z) r.top)
+                (T ∙ ap (λ (z : Held). slot_after m.kind a z s.slots.top) new_laid ∙ ap (λ (z : Option Held). slot_after m.kind a (held_of (laid s.limit H X)) z) r.top)
 
             module _ (root : Option Held) (o : List (Option Held)) (O : o ≡ s.slots.outer.items) (ROOT : root ≡ root_of o top') (lost' : Option Held) (LO : lost' ≡ lost_held s.limit b.reach root) where
               agree : Agrees s.limit H X history r.fresh lost' (stale s.limit (laid s.limit H X ∷ H) b.reach)
@@ -340,7 +340,7 @@ module _ (H : List Laid) (N : ℕ) (s : scanner_t) (r : Holds H N s) (running : 
             swept = rw r.outer (outer_swept s.limit H X history (depth H) (omega arith))
 
             swept_top : still_held s.limit b.reach top' ≡ held s.limit (laid s.limit H X ∷ H) (depth H)
-            swept_top = ap (λ (z : Option Held). still_held s.limit b.reach z) (T ∙ ap (λ (z : Option Held). slot_behind m.kind a new z) r.top) ∙ top_swept s.limit H X history a A new new_laid
+            swept_top = ap (λ (z : Option Held). still_held s.limit b.reach z) (T ∙ ap (λ (z : Option Held). slot_after m.kind a new z) r.top) ∙ top_swept s.limit H X history a A new new_laid
 
             pub outer_then : (o os : List (Option Held)) → os ≡ s.slots.outer.items → o ≡ nested_outer m.kind (map (still_held s.limit b.reach) os) (still_held s.limit b.reach top') → o ≡ outer_to s.limit (laid s.limit H X ∷ H) (depth (laid s.limit H X ∷ H))
             outer_then o os O e = e ∙ (rw (O, swept, swept_top) (nested_outer_is s.limit H X history))

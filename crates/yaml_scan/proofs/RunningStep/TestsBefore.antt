@@ -16,10 +16,10 @@ use Rattle.yaml_scan.specs.inside.Slots.{Held, held, held_of, lost_held, needed,
 use Rattle.yaml_scan.specs.Laid.{Laid, reach, is_none}
 use Rattle.yaml_scan.specs.Depth.{depth}
 use Rattle.yaml_scan.specs.Keys.{only_live, completed_by}
-use Rattle.yaml_scan.specs.Allowed.{allowed, allowed_behind}
+use Rattle.yaml_scan.specs.Allowed.{allowed, allowed_after}
 use Rattle.yaml_scan.specs.Order.{IsNotBefore, ended}
 use Rattle.yaml_scan.specs.Step.{Outcome, step, kind_step, read_step, unless, refuse, stale, required, refused, clears}
-use Rattle.yaml_scan.specs.Step.{lost, no_kind, not_allowed, problem_of, replaces, start_at, front_of, place_behind}
+use Rattle.yaml_scan.specs.Step.{lost, no_kind, not_allowed, problem_of, replaces, start_at, front_of, place_after}
 use Rattle.yaml_scan.specs.Step.Outcome.{Faults}
 use Rattle.yaml_scan.specs.inside.StepFaults.{IsLost, IsRefused}
 use Rattle.yaml_scan.specs.inside.Scanning.{Holds, Offends}
@@ -77,19 +77,19 @@ module _ (H : List Laid) (n : ℕ) (s : scanner_t) (r : Holds H n s) (running : 
   P = front_of S H
 
   -- where the gap ends
-  pub front_mark : (g : yaml_mark_t) → IsMarkOf s.text.chars g (S.gap (not margin) s.allowed (place_behind H)) → IsMarkOf s.text.chars g P
-  front_mark g i = subst (λ (f : Bool). IsMarkOf s.text.chars g (S.gap f (allowed_behind H) (place_behind H))) flow_is (subst (λ (a : Bool). IsMarkOf s.text.chars g (S.gap (not margin) a (place_behind H))) r.allowed i)
+  pub front_mark : (g : yaml_mark_t) → IsMarkOf s.text.chars g (S.gap (not margin) s.allowed (place_after H)) → IsMarkOf s.text.chars g P
+  front_mark g i = subst (λ (f : Bool). IsMarkOf s.text.chars g (S.gap f (allowed_after H) (place_after H))) flow_is (subst (λ (a : Bool). IsMarkOf s.text.chars g (S.gap (not margin) a (place_after H))) r.allowed i)
 
   module _ (g : yaml_mark_t) (G : IsMarkOf s.text.chars g P) where
     pub mark_is : g ≡ S.mark P
     unfolding source_of
     mark_is = G.mark_is
 
-    reach_is : reach H ≡ S.mark (place_behind H)
+    reach_is : reach H ≡ S.mark (place_after H)
     unfolding source_of
     reach_is = sym r.reach ∙ (r.place running).mark_is
 
-    within_text : place_behind H ≤ S.size
+    within_text : place_after H ≤ S.size
     unfolding source_of
     within_text = (r.place running).within
 
@@ -98,7 +98,7 @@ module _ (H : List Laid) (n : ℕ) (s : scanner_t) (r : Holds H n s) (running : 
     size_is = refl
 
     pub later : IsNotBefore (reach H) g
-    later = rw (reach_is, mark_is) ((text_order s.text.chars r.text).gap_marks (nat_lt 0 (depth H)) (allowed_behind H) (place_behind H) within_text)
+    later = rw (reach_is, mark_is) ((text_order s.text.chars r.text).gap_marks (nat_lt 0 (depth H)) (allowed_after H) (place_after H) within_text)
 
     abbrev kind_from : yaml_mark_t → Option Kind → Outcome
     kind_from m None = Faults (no_kind m P)

@@ -6,8 +6,8 @@ use Rattle.yaml_scan.specs.Fault.{memory_fault}
 use Rattle.yaml_scan.specs.Answers.{Course}
 use Rattle.yaml_scan.specs.Session.{Session, Call, Answer, answer, after, session, after_all}
 use Rattle.yaml_scan.specs.Session.Call.{SCAN, PEEK, SKIP}
-use Rattle.yaml_scan.specs.Parser.{Parser, IsRefusedEarly, answered, behind, course_read, input_read}
-use Rattle.yaml_scan.specs.Headline.{WantsMemory, behind_all, answered_all, RunsOut, Runs, PutsAnswers, PutsSession}
+use Rattle.yaml_scan.specs.Parser.{Parser, IsRefusedEarly, answered, after_call, course_read, input_read}
+use Rattle.yaml_scan.specs.Headline.{WantsMemory, after_calls, answered_all, RunsOut, Runs, PutsAnswers, PutsSession}
 use Rattle.yaml_scan.specs.declared.calls.yaml_call_t.{yaml_call_t}
 use Rattle.yaml_scan.specs.declared.calls.yaml_answer_t.{yaml_answer_t}
 use Rattle.yaml_scan.specs.Seen.{call_of, Seen, seen, seen_of, idle}
@@ -61,13 +61,13 @@ unfolding after_all
 after_more limit c [] call s = refl
 after_more limit c (k ∷ calls) call s = after_more limit c calls call (after limit c k s)
 
-answered_more : (p : Parser) (calls : List Call) (call : Call) → answered_all p (calls ++ call ∷ []) ≡ answered_all p calls ++ answered (behind_all p calls) call ∷ []
+answered_more : (p : Parser) (calls : List Call) (call : Call) → answered_all p (calls ++ call ∷ []) ≡ answered_all p calls ++ answered (after_calls p calls) call ∷ []
 unfolding course_read
 answered_more p calls call = session_more (input_read p).encoding p.limit (course_read p) calls call p.session
 
-behind_more : (p : Parser) (calls : List Call) (call : Call) → behind (behind_all p calls) call ≡ behind_all p (calls ++ call ∷ [])
+after_more_calls : (p : Parser) (calls : List Call) (call : Call) → after_call (after_calls p calls) call ≡ after_calls p (calls ++ call ∷ [])
 unfolding course_read
-behind_more p calls call = ap (λ (z : Session). record { input = p.input; setting = p.setting; limit = p.limit; session = z }) (sym (after_more p.limit (course_read p) calls call p.session))
+after_more_calls p calls call = ap (λ (z : Session). record { input = p.input; setting = p.setting; limit = p.limit; session = z }) (sym (after_more p.limit (course_read p) calls call p.session))
 
 -- if the session is over, the answer to a call is idle, and the call changes nothing
 idle_answer : (q : Parser) (call : Call) → q.session.over ≡ true → q.session.peeked ≡ false → seen (answered q call) ≡ idle call
@@ -75,32 +75,32 @@ idle_answer q SCAN o p = rw o refl
 idle_answer q PEEK o p = rw o refl
 idle_answer q SKIP o p = rw p refl
 
-idle_left : (q : Parser) (call : Call) → q.session.over ≡ true → q.session.peeked ≡ false → behind q call ≡ q
+idle_left : (q : Parser) (call : Call) → q.session.over ≡ true → q.session.peeked ≡ false → after_call q call ≡ q
 idle_left q SCAN o p = rw o refl
 idle_left q PEEK o p = rw o refl
 idle_left q SKIP o p = rw p refl
 
 abbrev SeenOf : Call → Parser → Seen → Parser → Type 0
-SeenOf call p s q = ((s ≡ seen (answered p call)) × (q ≡ behind p call)) ⊎ ((s ≡ FAULT memory_fault) × WantsMemory p q × (call ≢ SKIP))
+SeenOf call p s q = ((s ≡ seen (answered p call)) × (q ≡ after_call p call)) ⊎ ((s ≡ FAULT memory_fault) × WantsMemory p q × (call ≢ SKIP))
 
 seen_so : (call : Call) (p : Parser) (s : Seen) (q : Parser) → IsSeen call p s q → SeenOf call p s q
 seen_so call p s q (a, e, inl r) = inl (e ∙ ap seen r.0, r.1)
 seen_so call p s q (a, e, inr r) = inr (e ∙ ap seen r.0, r.1, r.2)
 
 module _ (p : Parser) (calls : List Call) (call : Call) (answers : List Seen) (q : Parser) (a : Seen) (r : Parser) where
-  goes_on : (answers ≡ map seen (answered_all p calls)) × (q ≡ behind_all p calls) → (a ≡ seen (answered q call)) × (r ≡ behind q call) → Runs p (calls ++ call ∷ []) (answers ++ a ∷ []) r
+  goes_on : (answers ≡ map seen (answered_all p calls)) × (q ≡ after_calls p calls) → (a ≡ seen (answered q call)) × (r ≡ after_call q call) → Runs p (calls ++ call ∷ []) (answers ++ a ∷ []) r
   goes_on g s = inl (
     ap (λ (z : List Seen). z ++ a ∷ []) g.0 ∙ ap (λ (z : Seen). map seen (answered_all p calls) ++ z ∷ []) (s.0 ∙ ap (λ (z : Parser). seen (answered z call)) g.1)
-        ∙ sym (map_more seen (answered_all p calls) (answered (behind_all p calls) call)) ∙ ap (λ (z : List Answer). map seen z) (sym (answered_more p calls call)),
-    s.1 ∙ ap (λ (z : Parser). behind z call) g.1 ∙ behind_more p calls call,
+        ∙ sym (map_more seen (answered_all p calls) (answered (after_calls p calls) call)) ∙ ap (λ (z : List Answer). map seen z) (sym (answered_more p calls call)),
+    s.1 ∙ ap (λ (z : Parser). after_call z call) g.1 ∙ after_more_calls p calls call,
   )
 
-  runs_out : (answers ≡ map seen (answered_all p calls)) × (q ≡ behind_all p calls) → (a ≡ FAULT memory_fault) × WantsMemory q r × (call ≢ SKIP) → RunsOut p (calls ++ call ∷ []) (answers ++ a ∷ []) r
+  runs_out : (answers ≡ map seen (answered_all p calls)) × (q ≡ after_calls p calls) → (a ≡ FAULT memory_fault) × WantsMemory q r × (call ≢ SKIP) → RunsOut p (calls ++ call ∷ []) (answers ++ a ∷ []) r
   runs_out g w = record {
     n = length calls;
     within = (let l = length-append calls (call ∷ []) in omega arith);
     asks = λ k. w.2 (one_call call SKIP (sym (get_last calls call) ∙ k));
-    wants = subst (λ (z : Parser). WantsMemory z r) (g.1 ∙ ap (λ (z : List Call). behind_all p z) (sym (take_whole calls call))) w.1;
+    wants = subst (λ (z : Parser). WantsMemory z r) (g.1 ∙ ap (λ (z : List Call). after_calls p z) (sym (take_whole calls call))) w.1;
     answers = ap (λ (z : List Seen). z ++ a ∷ []) g.0 ∙ ap (λ (z : Seen). map seen (answered_all p calls) ++ z ∷ []) w.0
         ∙ sym (ap (λ (z : List Call). map seen (answered_all p z) ++ (FAULT memory_fault ∷ map idle (drop (length calls + 1) (calls ++ call ∷ [])))) (take_whole calls call)
         ∙ ap (λ (z : List Call). map seen (answered_all p calls) ++ (FAULT memory_fault ∷ map idle z)) (drop_whole calls call));
@@ -119,7 +119,7 @@ module _ (p : Parser) (calls : List Call) (call : Call) (answers : List Seen) (q
         n = n;
         within = (let z = length-append calls (call ∷ []) in omega arith);
         asks = λ k. g.asks (sym (get_front n calls call (omega arith)) ∙ k);
-        wants = subst (λ (z : List Call). WantsMemory (behind_all p z) r) (sym t) (subst (λ (z : Parser). WantsMemory (behind_all p (take n calls)) z) (sym left) g.wants);
+        wants = subst (λ (z : List Call). WantsMemory (after_calls p z) r) (sym t) (subst (λ (z : Parser). WantsMemory (after_calls p (take n calls)) z) (sym left) g.wants);
         answers = ap (λ (z : List Seen). z ++ a ∷ []) g.answers ∙ append_assoc (map seen (answered_all p (take n calls))) (FAULT memory_fault ∷ map idle (drop (n + 1) calls)) (a ∷ [])
             ∙ ap (λ (z : Seen). map seen (answered_all p (take n calls)) ++ (FAULT memory_fault ∷ (map idle (drop (n + 1) calls) ++ z ∷ []))) says
             ∙ ap (λ (z : List Seen). map seen (answered_all p (take n calls)) ++ (FAULT memory_fault ∷ z)) (sym (ap (λ (z : List Call). map idle z) d ∙ map_more idle (drop (n + 1) calls) call))
@@ -159,7 +159,7 @@ puts_session p calls old out q g e = go g.runs
   where
     go : Runs p calls (map seen_of g.more) q → PutsSession p calls old out q
     go (inl s) = record { more = g.more; is = g.is; answers = s.0; left = s.1 }
-    go (inr o) = absurd (wants_late (behind_all p (take o.n calls)) q o.wants e)
+    go (inr o) = absurd (wants_late (after_calls p (take o.n calls)) q o.wants e)
 
 -- the code's calls, one by one
 pub called_more : (xs : List yaml_call_t) (n : ℕ) (d : yaml_call_t) → n < length xs → map call_of (take (n + 1) xs) ≡ map call_of (take n xs) ++ call_of (get_or xs n d) ∷ []

@@ -16,7 +16,7 @@ use Rattle.yaml_scan.specs.Session.{Session, Call, Answer, new_session, session,
 use Rattle.yaml_scan.specs.Session.{took, paced, finished, why, scan_answer, after_scan}
 use Rattle.yaml_scan.specs.Session.Call.{SCAN, SKIP}
 use Rattle.yaml_scan.specs.Session.Answer.{TOKEN, FAULT}
-use Rattle.yaml_scan.specs.Parser.{Parser, told, answered, behind, course_read, input_read}
+use Rattle.yaml_scan.specs.Parser.{Parser, told, answered, after_call, course_read, input_read}
 use Rattle.yaml_scan.specs.Headline.{WantsMemory, Calls, answered_all, Runs, RunsOut, PutsAnswers}
 use Rattle.yaml_scan.specs.Seen.{Seen, seen, seen_of, idle, Seen as sight}
 use Rattle.yaml_scan.specs.ReadingOn.{scans, fault_told, all_told, left_to, AllIsTold, RestIsTold, ReadsOn, ScansInTurn}
@@ -160,7 +160,7 @@ idle_scans (suc n) = ap (λ (z : List Seen). sight.TOKEN empty ∷ z) (idle_scan
 over_answer : (p : Parser) → p.session.over ≡ true → answered p SCAN ≡ TOKEN empty
 over_answer p o = if_true p.session.over (TOKEN empty) (scan_answer (input_read p).encoding (course_read p) (next_token p.limit (course_read p) p.session)) o
 
-over_left : (p : Parser) → p.session.over ≡ true → behind p SCAN ≡ p
+over_left : (p : Parser) → p.session.over ≡ true → after_call p SCAN ≡ p
 over_left p o = ap (λ (z : Session). record { input = p.input; setting = p.setting; limit = p.limit; session = z }) (if_true p.session.over p.session (after_scan p.limit (course_read p) p.session (next_token p.limit (course_read p) p.session)) o)
 
 -- if the session is over
@@ -175,7 +175,7 @@ idle_chain (a ∷ more) p q o (r, s, w) = go (λ e. idle_chain more r q e w) s
         (ap (λ (x : Answer). x ∷ map told more) (m.0 ∙ over_answer p o) ∙ ap (λ (x : List Answer). TOKEN empty ∷ x) z.0, z.1 ∙ e))
 
 -- a growth was refused further on
-out_later : (p : Parser) (calls : List Call) (all : List Seen) (q : Parser) → RunsOut (behind p SCAN) calls all q → RunsOut p (SCAN ∷ calls) (seen (answered p SCAN) ∷ all) q
+out_later : (p : Parser) (calls : List Call) (all : List Seen) (q : Parser) → RunsOut (after_call p SCAN) calls all q → RunsOut p (SCAN ∷ calls) (seen (answered p SCAN) ∷ all) q
 unfolding course_read session after_all
 out_later p calls all q o =
     let m : suc o.n + 1 ≡ suc (o.n + 1) = omega arith in record {
@@ -184,7 +184,7 @@ out_later p calls all q o =
       asks = o.asks;
       wants = o.wants;
       answers = ap (λ (z : List Seen). seen (answered p SCAN) ∷ z) o.answers
-          ∙ ap (λ (z : ℕ). seen (answered p SCAN) ∷ (map seen (answered_all (behind p SCAN) (take o.n calls)) ++ (sight.FAULT memory_fault ∷ map idle (drop z (SCAN ∷ calls))))) (sym m);
+          ∙ ap (λ (z : ℕ). seen (answered p SCAN) ∷ (map seen (answered_all (after_call p SCAN) (take o.n calls)) ++ (sight.FAULT memory_fault ∷ map idle (drop z (SCAN ∷ calls))))) (sym m);
     }
 
 -- or in the first
@@ -201,7 +201,7 @@ out_first p calls all q w e = record {
     no_skip : Some SCAN ≢ Some SKIP
     no_skip k = cc
 
-answered_later : (p : Parser) (n : ℕ) → answered p SCAN ∷ answered_all (behind p SCAN) (scans n) ≡ answered_all p (scans (suc n))
+answered_later : (p : Parser) (n : ℕ) → answered p SCAN ∷ answered_all (after_call p SCAN) (scans n) ≡ answered_all p (scans (suc n))
 unfolding course_read session
 answered_later p n = refl
 
@@ -217,7 +217,7 @@ chain : (results : List (Result code_token_t yaml_fault_t)) (p q : Parser) → S
 chain [] p q e = inl (none_answered p)
 chain (a ∷ more) p q (r, s, w) = go (chain more r q w) s
   where
-    on : told a ≡ answered p SCAN → Told more (behind p SCAN) q
+    on : told a ≡ answered p SCAN → Told more (after_call p SCAN) q
         → (told a ∷ map told more ≡ answered_all p (scans (suc (length more)))) ⊎ RunsOut p (scans (suc (length more))) (seen (told a) ∷ map seen (map told more)) q
     on e (inl f) = inl (ap (λ (x : Answer). x ∷ map told more) e ∙ ap (λ (x : List Answer). answered p SCAN ∷ x) f ∙ answered_later p (length more))
     on e (inr o) = inr (subst (λ (x : Answer). RunsOut p (scans (suc (length more))) (seen x ∷ map seen (map told more)) q) (sym e) (out_later p (scans (length more)) (map seen (map told more)) q o))

@@ -15,7 +15,7 @@ use Rattle.yaml_scan.specs.Session.Call.{SCAN, PEEK, SKIP}
 use Rattle.yaml_scan.specs.Session.{Answer as says}
 use Rattle.yaml_scan.specs.Parser.{Parser, course_read, input_read}
 use Rattle.yaml_scan.specs.Seen.{Seen, seen, seen_of, idle}
-use Rattle.yaml_scan.specs.Headline.{answered_all, behind_all, Runs, PutsAnswers}
+use Rattle.yaml_scan.specs.Headline.{answered_all, after_calls, Runs, PutsAnswers}
 use Rattle.yaml_scan.specs.Seen.Seen.{TOKEN, PEEKED, SKIPPED, NOTHING, FAULT}
 use Rattle.yaml_scan.specs.Puts.{Puts, taken_told, AreTold, TakesOn, TakesNext, HasNext}
 use Rattle.yaml_scan.proofs.SessionCalls.ReadingOn.{drop_next}
@@ -200,7 +200,7 @@ takes_no_more tokens n m a b k g f = record {
       ∙ assoc g.says (replicate g.idle (Some empty)) (replicate k (Some empty)) ∙ ap (λ (z : List (Option yaml_token_t)). g.says ++ z) (replicates g.idle k);
 }
 
-session_takes : (p : Parser) (calls : List Call) → HasNext p → TakesOn (answers_to p.limit p.setting p.input).tokens p.session.taken (map seen (answered_all p calls)) (behind_all p calls).session.taken
+session_takes : (p : Parser) (calls : List Call) → HasNext p → TakesOn (answers_to p.limit p.setting p.input).tokens p.session.taken (map seen (answered_all p calls)) (after_calls p calls).session.taken
 unfolding answers_to answers course_read
 session_takes p calls h = takes (input_read p).encoding p.limit (course_read p) calls p.session h
 
@@ -209,7 +209,7 @@ takes_next p calls answers q h (inl r) =
     subst (λ (z : List Seen). TakesNext p z q) (sym r.0) (subst (λ (z : Parser). TakesNext p (map seen (answered_all p calls)) z) (sym r.1) (session_takes p calls h))
 takes_next p calls answers q h (inr o) =
     let k = idle_told (drop (o.n + 1) calls) in
-    let g = takes_no_more (answers_to p.limit p.setting p.input).tokens p.session.taken (behind_all p (take o.n calls)).session.taken (map seen (answered_all p (take o.n calls))) (FAULT memory_fault ∷ map idle (drop (o.n + 1) calls)) k.0 (session_takes p (take o.n calls) h) k.1 in
+    let g = takes_no_more (answers_to p.limit p.setting p.input).tokens p.session.taken (after_calls p (take o.n calls)).session.taken (map seen (answered_all p (take o.n calls))) (FAULT memory_fault ∷ map idle (drop (o.n + 1) calls)) k.0 (session_takes p (take o.n calls) h) k.1 in
     subst (λ (z : List Seen). TakesNext p z q) (sym o.answers)
     (subst (λ (z : ℕ). TakesOn (answers_to p.limit p.setting p.input).tokens p.session.taken (map seen (answered_all p (take o.n calls)) ++ (FAULT memory_fault ∷ map idle (drop (o.n + 1) calls))) z) (sym o.wants.taken) g)
 

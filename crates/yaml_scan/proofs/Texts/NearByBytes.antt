@@ -134,8 +134,8 @@ near_all cs bytes a e l = λ p w.
     let d = starts_drop bytes 0 ((source_of cs).mark p).index (omega arith) in
     ((λ h. near_yes (length cs) p (omega arith) w), (λ h. absurd (omega arith)))
 
-pub near_behind : (cs bytes : List ℕ) (at : ℕ) → AreChars cs → bytes ≡ utf8 cs → starts (drop at bytes) ≡ 8 → ((j : ℕ) → at < j → starts (drop j bytes) < 8) → IsNearFrom cs (at + 1)
-near_behind cs bytes at a e s f = λ p w.
+pub near_after : (cs bytes : List ℕ) (at : ℕ) → AreChars cs → bytes ≡ utf8 cs → starts (drop at bytes) ≡ 8 → ((j : ℕ) → at < j → starts (drop j bytes) < 8) → IsNearFrom cs (at + 1)
+near_after cs bytes at a e s f = λ p w.
     let i = left_is cs p a in
     let j = ap (λ (b : List ℕ). starts (drop ((source_of cs).mark p).index b)) e in
     ((λ h. let g = f ((source_of cs).mark p).index (omega arith) in near_yes (length cs) p (omega arith) w), (λ h. let d = starts_drop bytes ((source_of cs).mark p).index at (omega arith) in near_no (length cs) p (omega arith)))

@@ -6,7 +6,7 @@ use Rattle.yaml_text.specs.declared.types.yaml_mark_t.{yaml_mark_t}
 use Rattle.yaml_scan.specs.Kind.{Kind, is_stream_end}
 use Rattle.yaml_scan.specs.Laid.{Laid}
 use Rattle.yaml_scan.specs.Depth.{depth}
-use Rattle.yaml_scan.specs.Allowed.{allowed_behind}
+use Rattle.yaml_scan.specs.Allowed.{allowed_after}
 use Rattle.yaml_scan.specs.Levels.{laid, level}
 use Rattle.yaml_scan.specs.Settled.{before}
 use Rattle.yaml_scan.specs.Order.{IsHistory}
@@ -14,7 +14,7 @@ use Rattle.yaml_scan.specs.Fault.{Fault}
 use Rattle.yaml_scan.specs.Begins.{Begins}
 use Rattle.yaml_scan.specs.Source.{Source, Reading, Offence}
 use Rattle.yaml_scan.specs.Step.{Outcome, step, gap_step, kind_step, read_step, after_read, unless, refuse, stale}
-use Rattle.yaml_scan.specs.Step.{refused, clears, start_at, lexeme_of, place_behind, front_of}
+use Rattle.yaml_scan.specs.Step.{refused, clears, start_at, lexeme_of, place_after, front_of}
 use Rattle.yaml_scan.specs.Step.Outcome.{Reads, Faults}
 use Rattle.yaml_scan.specs.Cut.{cut, IsRun, EndsWith, KeepsOrder}
 use Rattle.yaml_scan.specs.Answers.{Input, Course, next, course, course_from, tokens_of}
@@ -51,9 +51,9 @@ after_place limit H k g (Ok b) = cases (stale limit (laid limit H (lexeme_of k g
     cases None = refl
     cases (Some i) = refl
 
-module _ (S : Source) (limit : ℕ) (H : List Laid) (k : KeepsOrder S) (w : place_behind H ≤ S.size) where
+module _ (S : Source) (limit : ℕ) (H : List Laid) (k : KeepsOrder S) (w : place_after H ≤ S.size) where
   p_within : front_of S H ≤ S.size
-  p_within = (k.gap_within (nat_lt 0 (depth H)) (allowed_behind H) (place_behind H) w).1
+  p_within = (k.gap_within (nat_lt 0 (depth H)) (allowed_after H) (place_after H) w).1
 
   -- nothing is found before the gap's end
   read_from : (j : Kind) → S.kind (nat_lt 0 (depth H)) (front_of S H) ≡ Some j → (x : Result Reading Offence)
@@ -83,7 +83,7 @@ module _ (S : Source) (limit : ℕ) (H : List Laid) (k : KeepsOrder S) (w : plac
 
   module _ (T : Source) (r : ℕ) (e : ReadsSame r S T) (l : place_of (step S limit H) ≤ r) where
     front_same : front_of T H ≡ front_of S H
-    front_same = let f = step_from in e.gaps (nat_lt 0 (depth H)) (allowed_behind H) (place_behind H) (omega arith)
+    front_same = let f = step_from in e.gaps (nat_lt 0 (depth H)) (allowed_after H) (place_after H) (omega arith)
 
     mark_same : T.mark (front_of S H) ≡ S.mark (front_of S H)
     mark_same = let f = step_from in e.marks (front_of S H) (omega arith)
@@ -135,7 +135,7 @@ module _ (limit : ℕ) (a b : Input) (refusal : Fault) (j : KeepsOrder a.source)
   unfolding next
   next_is H = ap (λ (o : Option Fault). unless_near a.source.size o (step a.source limit H)) g.refused
 
-  within : (H : List Laid) → IsRun (next a limit) limit H → place_behind H ≤ a.source.size
+  within : (H : List Laid) → IsRun (next a limit) limit H → place_after H ≤ a.source.size
   within H r = run_at (step a.source limit) limit a.source.size (orderly a.source j limit) H (run_of_text limit a H r)
 
   -- in time both have the same step

@@ -24,7 +24,7 @@ use Rattle.yaml_scan.specs.inside.TextReads.{IsRead, IsOffence}
 -- a place further on is the place after so many characters
 pub record IsPlaceOf (cs : List ℕ) (p : ℕ) (q : Place) : Type 0 where
   pub is : q ≡ place_at cs (count_to (length cs) q)
-  pub behind : p ≤ count_to (length cs) q
+  pub after_call : p ≤ count_to (length cs) q
   pub within : count_to (length cs) q ≤ length cs
 
 pub ahead_place : (cs : List ℕ) (p n : ℕ) (q : Place) → p ≤ length cs → IsAhead n (place_at cs p) q → IsPlaceOf cs (p + n) q
@@ -36,11 +36,11 @@ ahead_place cs p n q l a =
     let t = length_skip (p + a.count) (start cs) in
     let z : length q.rest ≡ length cs - (p + a.count) = ap (λ (x : Place). length x.rest) e ∙ t in
     let c : count_to (length cs) q ≡ p + a.count = omega arith in
-    record { is = e ∙ ap (place_at cs) (sym c); behind = omega (arith, a.least); within = omega arith }
+    record { is = e ∙ ap (place_at cs) (sym c); after_call = omega (arith, a.least); within = omega arith }
 
 pub gap_is : (cs : List ℕ) (flow allowed : Bool) (p : ℕ) → p ≤ length cs → IsPlaceOf cs p (gap flow allowed (place_at cs p)).0
 gap_is cs flow allowed p l = let a = ahead_place cs p 0 (gap flow allowed (place_at cs p)).0 l (gap_order flow allowed (place_at cs p)).0 in
-    record { is = a.is; behind = (let b = a.behind in omega arith); within = a.within }
+    record { is = a.is; after_call = (let b = a.after_call in omega arith); within = a.within }
 
 pub gap_ends : (cs : List ℕ) (flow allowed : Bool) (p : ℕ) (at m : yaml_mark_t) → IsMarkOf cs at p → m ≡ (gap flow allowed (place_at cs p)).0.mark → IsMarkOf cs m ((source_of cs).gap flow allowed p)
 unfolding source_of

@@ -82,7 +82,7 @@ keyed_at n opens [] = []
 keyed_at zero opens (y ∷ ys) = keyed opens y ∷ ys
 keyed_at (suc n) opens (y ∷ ys) = y ∷ keyed_at n opens ys
 
--- the groups behind a lexeme that completes the candidate that is held, where d groups were taken
+-- the groups after a lexeme that completes the candidate that is held, where d groups were taken
 abbrev pub completed_in : Bool → Option Held → List ℕ → ℕ → List group_t → List group_t
 completed_in margin None cs d ys = ys
 completed_in margin (Some h) cs d ys = keyed_at (h.step - 1 - d) (is_new margin h.start.column cs) ys

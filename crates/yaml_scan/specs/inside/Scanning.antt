@@ -1,4 +1,4 @@
--- What a running scanner holds behind the lexemes H.
+-- What a running scanner holds after the lexemes H.
 use Rattle.std.specs.Prelude.{◌≡◌, ℕ, ◌+◌, ◌-◌, ◌≤◌, ◌<◌, ◌^◌, true, false, List, [], ◌∷◌, ◌++◌, reverse, drop, length}
 use Rattle.std.specs.Prelude.{None, Some, nat_lt}
 use Rattle.yaml_text.specs.Fault.{Fault}
@@ -13,14 +13,14 @@ use Rattle.yaml_scan.specs.SourceOf.{source_of}
 use Rattle.yaml_scan.specs.inside.TextReads.{IsProblem}
 use Rattle.yaml_scan.specs.Laid.{Laid, reach}
 use Rattle.yaml_scan.specs.Depth.{depth}
-use Rattle.yaml_scan.specs.Allowed.{allowed, allowed_behind}
+use Rattle.yaml_scan.specs.Allowed.{allowed, allowed_after}
 use Rattle.yaml_scan.specs.Levels.{AllLess, laid, open_columns}
 use Rattle.yaml_scan.specs.Order.{IsHistory, ended}
 use Rattle.yaml_scan.specs.Groups.{offline}
 use Rattle.yaml_scan.specs.Settled.{before, pace}
 use Rattle.yaml_scan.specs.inside.Slots.{held, outer_to, empty_slots, lowest, step_of}
 use Rattle.yaml_scan.specs.inside.Queue.{IsQueue}
-use Rattle.yaml_scan.specs.Step.{step, read_step, stale, place_behind, front_of}
+use Rattle.yaml_scan.specs.Step.{step, read_step, stale, place_after, front_of}
 use Rattle.yaml_scan.specs.Step.Outcome.{Reads, Faults}
 use Rattle.yaml_scan.specs.Cut.{oldest}
 use Rattle.yaml_scan.specs.Answers.{Input, Course, course}
@@ -51,14 +51,14 @@ pub record Holds (H : List Laid) (n : ℕ) (s : scanner_t) : Type 0 where
   pub empty : s.slots.not_simple_keys ≡ empty_slots s.slots.outer.items
   pub top : s.slots.top ≡ held s.limit H (depth H)
   pub awaited : s.slots.awaited ≡ step_of (lowest (s.slots.outer.items ++ s.slots.top ∷ []))
-  pub allowed : s.allowed ≡ allowed_behind H
+  pub allowed : s.allowed ≡ allowed_after H
   pub queue : IsQueue s.text.encoding s.layout.queue.early s.layout.queue.front s.layout.queue.groups.items
       (drop s.taken (offline H))
   pub count : s.layout.queue.done + length s.layout.queue.groups.items ≡ length H + 1
   pub early : ended H ≡ false → s.layout.queue.early ≡ 0
   pub reach : s.reach ≡ reach H
   pub taken : s.taken ≤ length (before s.limit H)
-  pub place : ended H ≡ false → IsMarkOf s.text.chars s.reach (place_behind H)
+  pub place : ended H ≡ false → IsMarkOf s.text.chars s.reach (place_after H)
 
 -- the kind of lexeme that was found after the gap
 pub record IsMet (H : List Laid) (s : scanner_t) (m : met_t) : Type 0 where

@@ -9,7 +9,7 @@ use Rattle.yaml_scan.specs.Levels.{is_required}
 -- what is kept of a candidate: the number of its step, its start, and whether it is required
 pub use Rattle.yaml_scan.specs.declared.keys.held_t.{held_t as Held}
 
--- the first lexeme is step 2, behind STREAM-START
+-- the first lexeme is step 2, after STREAM-START
 abbrev pub held_of : Laid → Held
 held_of c = record { step = c.number + 2; start = c.lexeme.start; required = is_required c }
 
@@ -41,8 +41,8 @@ outer_to limit H zero = []
 outer_to limit H (suc m) = outer_to limit H m ++ held limit H m ∷ []
 
 -- what is in a slot after a lexeme of kind k read at its depth
-abbrev pub slot_behind : Kind → Bool → Held → Option Held → Option Held
-slot_behind k allowed new old = if is_candidate_kind k then (if allowed then Some new else old) else None
+abbrev pub slot_after : Kind → Bool → Held → Option Held → Option Held
+slot_after k allowed new old = if is_candidate_kind k then (if allowed then Some new else old) else None
 
 -- the candidate of depth 0, by the slots
 abbrev pub root_of : List (Option Held) → Option Held → Option Held

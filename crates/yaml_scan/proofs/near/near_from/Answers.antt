@@ -1,6 +1,6 @@
 use Rattle.std.proofs.Common.{◌≡◌, ℕ, drop, ap, ◌∙◌, arith}
 use Rattle.yaml_scan.specs.inside.NearFault.{starts}
-use Rattle.yaml_scan.proofs.Texts.NearByBytes.{near_all, near_behind}
+use Rattle.yaml_scan.proofs.Texts.NearByBytes.{near_all, near_after}
 use Rattle.yaml_scan.proofs.near.near_from.Goals.{then-back-test+else-left-lt8, else-back-test}
 use Rattle.yaml_scan.proofs.near.near_from.Goals as goal
 
@@ -12,4 +12,4 @@ returns-then-left-lt8-2-clause-near c = λ cs a e.
     let t = c.if-left-lt8-2.true in near_all cs c.args.bytes.now a e (omega arith)
 
 pub returns-else-left-lt8-2-clause-near : goal.returns-else-left-lt8-2-clause-near
-returns-else-left-lt8-2-clause-near c = λ cs a e. near_behind cs c.args.bytes.now c.back.at a e (let f = c.back.invariant.few in let i = c.back.invariant.count in let g = c.if-left-lt8-2.false in i ∙ (omega arith)) c.back.invariant.fewer
+returns-else-left-lt8-2-clause-near c = λ cs a e. near_after cs c.args.bytes.now c.back.at a e (let f = c.back.invariant.few in let i = c.back.invariant.count in let g = c.if-left-lt8-2.false in i ∙ (omega arith)) c.back.invariant.fewer
