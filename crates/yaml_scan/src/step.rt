@@ -9,13 +9,13 @@ ghost use Rattle.yaml_scan.specs.Fault.{no_token, in_next_token};
 ghost use Rattle.yaml_scan.specs.Laid.{Laid};
 ghost use Rattle.yaml_scan.specs.Allowed.{allowed};
 ghost use Rattle.yaml_scan.specs.Order.{ended};
-ghost use Rattle.yaml_scan.specs.inside.Slots.{needed, lost_held, still_held, root_of, slot_after, nested_outer};
+ghost use Rattle.yaml_scan.specs.inside.Slots.{is_margin_level, needed, lost_held, still_held, root_of, slot_after, nested_outer};
 ghost use Rattle.yaml_scan.specs.inside.Slots.{nested_top};
 ghost use Rattle.yaml_scan.specs.inside.Slots.{empty_slots, lowest, step_of, AreNested};
 ghost use Rattle.std.specs.Vec.{vec_capacity};
 ghost use Rattle.yaml_scan.specs.Step.{problem_of, replaces, step};
 ghost use Rattle.yaml_scan.specs.inside.StepFaults.{IsLost, IsRefused};
-ghost use Rattle.yaml_scan.specs.inside.Scanning.{Holds, IsMet, Advances, Offends, Stays, text_of};
+ghost use Rattle.yaml_scan.specs.inside.Scanning.{CanLay, Holds, IsMet, Advances, Offends, Stays, text_of};
 ghost use Rattle.std.specs.Option.{option_copied};
 
 use crate::allowed::{is_allowed_after, is_key_allowed};
@@ -221,6 +221,17 @@ fn token_of(start: yaml_mark_t, x: yaml_lexeme_t) -> yaml_token_t
     }
 }
 
+/// What is kept of a lexeme of this step that starts at a mark, if it is a candidate.
+fn new_candidate(step: u64, start: yaml_mark_t, margin: bool, level: Option<u64>) -> held_t
+    ensures { result ≡ record { step = step; start = start; required = is_margin_level margin level start.column } }
+{
+    held_t {
+        step,
+        start,
+        required: is_level(margin, level, start.column),
+    }
+}
+
 /// Reads the lexeme that was met, and changes levels, queue and candidates.
 pub(crate) fn lay(
     scanner: &mut scanner_t,
@@ -228,11 +239,7 @@ pub(crate) fn lay(
     kept: &mut yaml_fault_t,
 ) -> Result<(), stop_t>
     ghost before: { List Laid }
-    requires holds { Holds before (scanner.old.made + 1) scanner.old }
-    requires running { ended before ≡ false }
-    requires small { length scanner.old.text.chars < 2 ^ 63 }
-    requires few_steps { scanner.old.made + 1 < 2 ^ 64 }
-    requires met { IsMet before scanner.old met }
+    requires { CanLay before scanner.old met }
     ensures { MatchResult result (λ _. Advances before scanner.old scanner.new) (λ s.
         ((fault_at s kept.new ≡ memory_fault) ⊎ Offends before scanner.old (fault_at s kept.new))
         × Stays scanner.old scanner.new) }
@@ -250,24 +257,15 @@ pub(crate) fn lay(
         level,
     };
     let x = read_lexeme(scanner.alloc, kept, &scanner.text, met, context)?;
-    let new = held_t {
-        step: scanner.made + 1,
-        start,
-        required: is_level(margin, level, start.column),
-    };
+    let new = new_candidate(scanner.made + 1, start, margin, level);
     let reach = x.reach;
     let passed_break = x.passed_break;
     let completed = completed_by(kind, scanner.slots.top, scanner.limit, start);
     let lost = keep_candidates(&mut scanner.slots, met, new, scanner.limit, reach);
     refuse_lost(kept, lost, reach)?;
     let opens = put_key(&mut scanner.layout, margin, completed, kind, start);
-    put_group(
-        &mut scanner.layout.queue,
-        closed,
-        met.front,
-        opens,
-        token_of(start, x),
-    );
+    let token = token_of(start, x);
+    put_group(&mut scanner.layout.queue, closed, met.front, opens, token);
     scanner.allowed = is_allowed_after(kind, margin, completed.is_none(), passed_break);
     scanner.reach = reach;
     Ok(())

@@ -67,6 +67,14 @@ pub record IsMet (H : List Laid) (s : scanner_t) (m : met_t) : Type 0 where
   pub kind : (text_of s).kind (nat_lt 0 (depth H)) (front_of (text_of s) H) ≡ Some m.kind
   pub step : step (text_of s) s.limit H ≡ read_step (text_of s) s.limit H m.kind (front_of (text_of s) H)
 
+-- a lexeme that was met can be read and laid
+pub record CanLay (H : List Laid) (s : scanner_t) (m : met_t) : Type 0 where
+  pub holds : Holds H (s.made + 1) s
+  pub running : ended H ≡ false
+  pub small : length s.text.chars < 2 ^ 63
+  pub few_steps : s.made + 1 < 2 ^ 64
+  pub met : IsMet H s m
+
 -- what a step does not change
 pub record Same (s t : scanner_t) : Type 0 where
   pub text : t.text ≡ s.text
