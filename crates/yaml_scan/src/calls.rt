@@ -25,19 +25,26 @@ use yaml_text::{yaml_fault_t, yaml_mark_t, yaml_token_t, yaml_token_type_t};
 /// A call of a parser.
 #[derive(Copy, Clone, PartialEq, Eq)]
 pub enum yaml_call_t {
+    /// Takes the next token, as [`yaml_parser_scan`] does.
     SCAN,
+    /// Shows the next token, as [`yaml_parser_peek`] does.
     PEEK,
+    /// Drops the token that was peeked, as [`yaml_parser_skip`] does; does nothing if none was.
     SKIP,
 }
 
-/// The answer to a call: the token that a scan took; the type, start and end of the token that a peek showed; that a
-/// token was skipped; that there was none to skip; or the fault.
+/// The answer to a call.
 #[derive(Drop, PartialEq, Eq)]
 pub enum yaml_answer_t {
+    /// The token that a scan took, or the empty one after the end of the session.
     TOKEN(yaml_token_t),
+    /// The type, the start and the end of the token that a peek showed.
     PEEKED(yaml_token_type_t, yaml_mark_t, yaml_mark_t),
+    /// The token that was peeked is skipped.
     SKIPPED,
+    /// No token was peeked, so there was nothing to skip.
     NOTHING,
+    /// The fault that ends the session, from the scan or peek that finds it.
     FAULT(yaml_fault_t),
 }
 

@@ -1,4 +1,5 @@
 use super::*;
+use std::process::Abort;
 use std::test::Fail;
 use yaml_text::{
     yaml_encoding_t, yaml_error_type_t, yaml_fault_t, yaml_mark_t, yaml_token_t, yaml_token_type_t,
@@ -18,20 +19,90 @@ fn type_peeked(parser: &mut yaml_parser_t) -> Result<yaml_token_type_t, Fail> {
     }
 }
 
-#[test]
-fn first_tokens(rt: HostRuntime) -> Result<(), Fail> {
+/// Asserts the types of the first tokens of an input.
+fn expect_types(
+    rt: &(impl Abort + AllocGlobal),
+    input: &[u8],
+    types: &[yaml_token_type_t],
+) -> Result<(), Fail> {
     let any = yaml_encoding_t::YAML_ANY_ENCODING;
-    let mut parser = yaml_parser_t::new(rt.alloc(), b"a: 1", any);
-    let token = scanned(&mut parser)?;
-    assert_eq!(rt; token.type_(), yaml_token_type_t::YAML_STREAM_START_TOKEN);
-    let token = scanned(&mut parser)?;
-    assert_eq!(rt;
-        token.type_(),
-        yaml_token_type_t::YAML_BLOCK_MAPPING_START_TOKEN
-    );
-    let token = scanned(&mut parser)?;
-    assert_eq!(rt; token.type_(), yaml_token_type_t::YAML_KEY_TOKEN);
+    let mut parser = yaml_parser_t::new(rt.alloc(), input, any);
+    for want in types {
+        let token = scanned(&mut parser)?;
+        assert_eq!(rt; token.type_(), *want);
+    }
     Ok(())
+}
+
+#[test]
+fn groups_of_a_mapping(rt: HostRuntime) -> Result<(), Fail> {
+    let types = [
+        yaml_token_type_t::YAML_STREAM_START_TOKEN,
+        yaml_token_type_t::YAML_BLOCK_MAPPING_START_TOKEN,
+        yaml_token_type_t::YAML_KEY_TOKEN,
+        yaml_token_type_t::YAML_SCALAR_TOKEN,
+        yaml_token_type_t::YAML_VALUE_TOKEN,
+        yaml_token_type_t::YAML_SCALAR_TOKEN,
+        yaml_token_type_t::YAML_BLOCK_END_TOKEN,
+        yaml_token_type_t::YAML_STREAM_END_TOKEN,
+    ];
+    expect_types(&rt, b"a: 1", &types)
+}
+
+/// A flow end that closes nothing leaves the depth at 0, so the level of the block ends with the stream.
+#[test]
+fn depth_is_never_below_zero(rt: HostRuntime) -> Result<(), Fail> {
+    let types = [
+        yaml_token_type_t::YAML_STREAM_START_TOKEN,
+        yaml_token_type_t::YAML_BLOCK_SEQUENCE_START_TOKEN,
+        yaml_token_type_t::YAML_BLOCK_ENTRY_TOKEN,
+        yaml_token_type_t::YAML_FLOW_SEQUENCE_END_TOKEN,
+        yaml_token_type_t::YAML_FLOW_SEQUENCE_END_TOKEN,
+        yaml_token_type_t::YAML_BLOCK_END_TOKEN,
+        yaml_token_type_t::YAML_STREAM_END_TOKEN,
+    ];
+    expect_types(&rt, b"- ]]", &types)
+}
+
+/// A key is allowed after `-` and `?`, so blocks begin on their lines.
+#[test]
+fn allowed_keys_after_indicators(rt: HostRuntime) -> Result<(), Fail> {
+    let types = [
+        yaml_token_type_t::YAML_STREAM_START_TOKEN,
+        yaml_token_type_t::YAML_BLOCK_SEQUENCE_START_TOKEN,
+        yaml_token_type_t::YAML_BLOCK_ENTRY_TOKEN,
+        yaml_token_type_t::YAML_BLOCK_MAPPING_START_TOKEN,
+        yaml_token_type_t::YAML_KEY_TOKEN,
+        yaml_token_type_t::YAML_SCALAR_TOKEN,
+        yaml_token_type_t::YAML_BLOCK_END_TOKEN,
+        yaml_token_type_t::YAML_BLOCK_END_TOKEN,
+        yaml_token_type_t::YAML_STREAM_END_TOKEN,
+    ];
+    expect_types(&rt, b"- ? a", &types)
+}
+
+#[test]
+fn levels_close_at_a_lesser_column(rt: HostRuntime) -> Result<(), Fail> {
+    let types = [
+        yaml_token_type_t::YAML_STREAM_START_TOKEN,
+        yaml_token_type_t::YAML_BLOCK_MAPPING_START_TOKEN,
+        yaml_token_type_t::YAML_KEY_TOKEN,
+        yaml_token_type_t::YAML_SCALAR_TOKEN,
+        yaml_token_type_t::YAML_VALUE_TOKEN,
+        yaml_token_type_t::YAML_BLOCK_MAPPING_START_TOKEN,
+        yaml_token_type_t::YAML_KEY_TOKEN,
+        yaml_token_type_t::YAML_SCALAR_TOKEN,
+        yaml_token_type_t::YAML_VALUE_TOKEN,
+        yaml_token_type_t::YAML_SCALAR_TOKEN,
+        yaml_token_type_t::YAML_BLOCK_END_TOKEN,
+        yaml_token_type_t::YAML_KEY_TOKEN,
+        yaml_token_type_t::YAML_SCALAR_TOKEN,
+        yaml_token_type_t::YAML_VALUE_TOKEN,
+        yaml_token_type_t::YAML_SCALAR_TOKEN,
+        yaml_token_type_t::YAML_BLOCK_END_TOKEN,
+        yaml_token_type_t::YAML_STREAM_END_TOKEN,
+    ];
+    expect_types(&rt, b"a:\n  b: 1\nc: 2", &types)
 }
 
 /// The type of the token that a scan takes (`s`) or a peek shows (`p`); a skip (`k`) has none.
@@ -49,7 +120,7 @@ fn called(parser: &mut yaml_parser_t, call: u8) -> Result<yaml_token_type_t, Fai
 }
 
 #[test]
-fn peeks_and_skips(rt: HostRuntime) -> Result<(), Fail> {
+fn session_of_peeks_and_skips(rt: HostRuntime) -> Result<(), Fail> {
     let any = yaml_encoding_t::YAML_ANY_ENCODING;
     let mut parser = yaml_parser_t::new(rt.alloc(), b"[a]", any);
     for (call, want) in [
@@ -73,7 +144,7 @@ fn peeks_and_skips(rt: HostRuntime) -> Result<(), Fail> {
 
 /// How many steps are queued, and how far the text was read, after each call.
 #[test]
-fn steps_are_made_as_they_are_asked_for(rt: HostRuntime) -> Result<(), Fail> {
+fn settled_tokens_need_few_steps(rt: HostRuntime) -> Result<(), Fail> {
     let any = yaml_encoding_t::YAML_ANY_ENCODING;
     let mut parser = yaml_parser_t::new(rt.alloc(), b"&a b: c", any);
     let front = yaml_mark_t {
@@ -111,7 +182,7 @@ fn steps_are_made_as_they_are_asked_for(rt: HostRuntime) -> Result<(), Fail> {
 }
 
 #[test]
-fn a_candidate_keeps_tokens_in_the_queue(rt: HostRuntime) -> Result<(), Fail> {
+fn keys_keep_tokens_in_the_queue(rt: HostRuntime) -> Result<(), Fail> {
     let any = yaml_encoding_t::YAML_ANY_ENCODING;
     let mut input = Vec::new(rt.alloc());
     for _ in 0..1026 {
@@ -130,7 +201,7 @@ fn a_candidate_keeps_tokens_in_the_queue(rt: HostRuntime) -> Result<(), Fail> {
 
 /// The fault of a refused text. That no memory is taken for it is seen by `tests/sessions.py`.
 #[test]
-fn a_refused_text(rt: HostRuntime) -> Result<(), Fail> {
+fn near_the_end_of_a_refused_text(rt: HostRuntime) -> Result<(), Fail> {
     let any = yaml_encoding_t::YAML_ANY_ENCODING;
     let mut parser = yaml_parser_t::new(rt.alloc(), b"a\xFF", any);
     let start = yaml_mark_t {
@@ -153,7 +224,7 @@ fn a_refused_text(rt: HostRuntime) -> Result<(), Fail> {
 }
 
 #[test]
-fn a_fault_is_answered_once(rt: HostRuntime) -> Result<(), Fail> {
+fn session_ends_with_one_fault(rt: HostRuntime) -> Result<(), Fail> {
     let any = yaml_encoding_t::YAML_ANY_ENCODING;
     let mut parser = yaml_parser_t::new(rt.alloc(), b"a: b: c", any);
     for _ in 0..6 {
