@@ -13,8 +13,8 @@ use Rattle.yaml_lexeme.specs.Locality.{reach}
 use Rattle.yaml_lexeme.specs.Place.{Place, place_at}
 use Rattle.yaml_lexeme.specs.Reading.{Found, Read}
 use Rattle.yaml_lexeme.specs.Whole as whole
-use Rattle.yaml_lexeme.proofs.CountLaws.{places_counted}
-use Rattle.yaml_lexeme.proofs.WholeLaws.{gap_is_whole, reach_is_whole, lexeme_is_counted, problem_is_counted}
+use Rattle.yaml_lexeme.proofs.CountedMarks.CountedPlaces.{places_counted}
+use Rattle.yaml_lexeme.proofs.CountedMarks.WholeLexemes.{gap_is_whole, reach_is_whole, lexeme_is_counted, problem_is_counted}
 use Rattle.yaml_scan.specs.Kind.{Kind, is_stream_end}
 use Rattle.yaml_scan.specs.Source.{Source, Reading, Offence}
 use Rattle.yaml_scan.specs.SourceOf.{source_of, count_to, reading, offence, reading_of}

@@ -23,14 +23,15 @@ use Rattle.yaml_lexeme.specs.Tag.{tag, angled, handled, lone}
 use Rattle.yaml_lexeme.specs.Directive.{directive, named, version_at, tag_directive_at, number, handle_at}
 use Rattle.yaml_lexeme.specs.Lex.{lex, in_flow, least, whole_of, scalar_to, directive_to, quoted_as, stream_end}
 use Rattle.yaml_lexeme.specs.Locality.{reach}
-use Rattle.yaml_lexeme.proofs.Places.{skip_none}
-use Rattle.yaml_lexeme.proofs.Local.{EndsAt}
-use Rattle.yaml_lexeme.proofs.Like.{IsLike, agree_self, like_of}
-use Rattle.yaml_lexeme.proofs.BlockLocal.{block_like}
-use Rattle.yaml_lexeme.proofs.BodyLocal.{quoted_local}
-use Rattle.yaml_lexeme.proofs.DirectivesLocal.{directive_like}
-use Rattle.yaml_lexeme.proofs.NamesLocal.{name_like, tag_like}
-use Rattle.yaml_lexeme.proofs.PlainLocal.{plain_like}
+use Rattle.yaml_lexeme.proofs.Places.PlaceMoves.{skip_none}
+use Rattle.yaml_lexeme.proofs.Locality.LocalReaders.{EndsAt}
+use Rattle.yaml_lexeme.proofs.Locality.ComposedReaders.{IsLike, agree_self, like_of}
+use Rattle.yaml_lexeme.proofs.Locality.BlockLocality.{block_like}
+use Rattle.yaml_lexeme.proofs.Locality.QuotedLocality.{quoted_local}
+use Rattle.yaml_lexeme.proofs.Locality.DirectiveLocality.{directive_like}
+use Rattle.yaml_lexeme.proofs.Locality.NameLocality.{name_like}
+use Rattle.yaml_lexeme.proofs.Locality.TagLocality.{tag_like}
+use Rattle.yaml_lexeme.proofs.Locality.PlainLocality.{plain_like}
 use Rattle.yaml_scan.specs.Kind.{Kind}
 use Rattle.yaml_scan.specs.Token.{type_of, is_end_type, is_start_type, is_key_type, is_value_type, is_last_type}
 use Rattle.yaml_scan.specs.Cut.{SaysKind}

@@ -12,11 +12,11 @@ use Rattle.yaml_lexeme.specs.Answers.{Answers}
 use Rattle.yaml_lexeme.specs.Reading as lexemes
 use Rattle.yaml_lexeme.specs.Gap.{gap}
 use Rattle.yaml_lexeme.specs.Lex.{lex, lexeme_at, answer}
-use Rattle.yaml_lexeme.proofs.Places.{skip_skip, length_skip}
+use Rattle.yaml_lexeme.proofs.Places.PlaceMoves.{skip_skip, length_skip}
 use Rattle.std.specs.Option.{IfSome}
 use Rattle.yaml_text.specs.Chars.{utf8}
 use Rattle.yaml_scan.proofs.Octets.{short}
-use Rattle.yaml_lexeme.proofs.Orders.{gap_order}
+use Rattle.yaml_lexeme.proofs.MarkOrder.SmallReadersAhead.{gap_order}
 use Rattle.yaml_scan.specs.Kind.{Kind}
 use Rattle.yaml_scan.specs.SourceOf.{source_of, count_to, reading, reading_of}
 use Rattle.yaml_scan.specs.TextReads.{IsRead, IsOffence}

@@ -9,7 +9,7 @@ use Rattle.yaml_text.specs.declared.types.yaml_scalar_style_t.TheVariants.{YAML_
 use Rattle.yaml_text.specs.Token.{TokenData as unnamed_yaml_token_t_data}
 use Rattle.yaml_text.specs.Token.{TokenData as token}
 use Rattle.yaml_text.specs.Decode.{front, front_len, encoding_of, refusal, refusal_of}
-use Rattle.yaml_text.proofs.Decodings.{not_any}
+use Rattle.yaml_text.proofs.Decodings.DecodeResults.{not_any}
 use Rattle.yaml_lexeme.specs.declared.kind.yaml_lexeme_kind_t.TheVariants as kind
 use Rattle.yaml_lexeme.specs.declared.lex.yaml_context_t.{yaml_context_t}
 use Rattle.yaml_lexeme.specs.Lexeme.{Lexeme as yaml_lexeme_t}

@@ -1,7 +1,7 @@
 use Rattle.std.proofs.Common.{◌≡◌, ◌<◌, true, false, length, refl, sym, ap, ◌∙◌}
 use Rattle.std.proofs.lemmas.Result.{err_from_is_err_and}
 use Rattle.yaml_text.specs.declared.types.yaml_mark_t.{yaml_mark_t}
-use Rattle.yaml_lexeme.proofs.Blocks.{Blocking, header_refused, start_refused, leading_refused, blocks_begin, blocks_more, blocks_all, blocks_refused}
+use Rattle.yaml_lexeme.proofs.Readers.BlockLines.{Blocking, header_refused, start_refused, leading_refused, blocks_begin, blocks_more, blocks_all, blocks_refused}
 use Rattle.yaml_lexeme.specs.Block.{header_at, block_indent, is_text}
 use Rattle.yaml_lexeme.specs.Place.{first, skip}
 use Rattle.yaml_lexeme.specs.Reading.{found}

@@ -1,5 +1,5 @@
 use Rattle.std.proofs.Common.{length}
-use Rattle.yaml_lexeme.proofs.Blocks.{Blocking}
+use Rattle.yaml_lexeme.proofs.Readers.BlockLines.{Blocking}
 use Rattle.yaml_lexeme.proofs.block.take_block.Given as goal
 
 abbrev pub invariant-lines : goal.invariant-lines

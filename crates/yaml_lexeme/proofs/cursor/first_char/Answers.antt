@@ -1,6 +1,6 @@
 use Rattle.std.proofs.Common.{arith, ◌∙◌, ap, sym, get_or, ℕ, List}
 use Rattle.std.proofs.lemmas.Grind.{common_steps}
-use Rattle.yaml_lexeme.proofs.Heads.{ascii_head, none_left}
+use Rattle.yaml_lexeme.proofs.Places.FirstCharacters.{ascii_head, none_left}
 use Rattle.yaml_lexeme.proofs.cursor.first_char.Goals as goal
 
 pub returns-then-is_empty : goal.returns-then-is_empty

@@ -2,7 +2,7 @@ use Rattle.std.proofs.Common.{◌<◌, length, ◌∙◌, ap, sym, subst, arith}
 use Rattle.std.specs.Str.{chars}
 use Rattle.yaml_text.specs.Chars.{IsText}
 use Rattle.std.proofs.lemmas.Grind.{common_steps}
-use Rattle.yaml_lexeme.proofs.Heads.{past_ascii, none_past}
+use Rattle.yaml_lexeme.proofs.Places.FirstCharacters.{past_ascii, none_past}
 use Rattle.yaml_lexeme.proofs.cursor.past_char.Goals as goal
 
 pub returns-then-is_empty-clause-rest : goal.returns-then-is_empty-clause-rest

@@ -2,7 +2,7 @@ use Rattle.std.proofs.Common.{◌∙◌, ap, sym, subst, arith}
 use Rattle.std.specs.Str.{chars}
 use Rattle.yaml_text.specs.Chars.{IsText}
 use Rattle.std.proofs.lemmas.Grind.{common_steps}
-use Rattle.yaml_lexeme.proofs.Heads.{past}
+use Rattle.yaml_lexeme.proofs.Places.FirstCharacters.{past}
 use Rattle.yaml_lexeme.proofs.cursor.past_wide.Goals as goal
 
 pub returns-clause-text : goal.returns-clause-text

@@ -2,7 +2,7 @@ use Rattle.std.proofs.Common.{◌∙◌, sym, subst, arith, get_or}
 use Rattle.std.specs.Str.{chars}
 use Rattle.std.specs.Char.{InScalarRange}
 use Rattle.std.proofs.lemmas.Str.{len_utf8_bounds}
-use Rattle.yaml_lexeme.proofs.Heads.{head, code_is, scalar_range}
+use Rattle.yaml_lexeme.proofs.Places.FirstCharacters.{head, code_is, scalar_range}
 use Rattle.yaml_lexeme.proofs.cursor.wide_char.Goals as goal
 
 pub code_of-requires-clause-some : goal.code_of-requires-clause-some

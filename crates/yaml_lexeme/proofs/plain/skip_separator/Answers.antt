@@ -1,6 +1,6 @@
 use Rattle.std.proofs.Common.{◌≡◌, ◌||◌, true, false, refl, ap, length, arith}
-use Rattle.yaml_lexeme.proofs.Places.{behind_more, length_one, length_skip}
-use Rattle.yaml_lexeme.proofs.Plains.{Passes, passes_more, passes_spaces, passes_none, passes_all, takes_found}
+use Rattle.yaml_lexeme.proofs.Places.PlaceMoves.{behind_more, length_one, length_skip}
+use Rattle.yaml_lexeme.proofs.Readers.PlainLinks.{Passes, passes_more, passes_spaces, passes_none, passes_all, takes_found}
 use Rattle.yaml_lexeme.specs.Classes.{is_white}
 use Rattle.yaml_lexeme.specs.Fold.{fold}
 use Rattle.yaml_lexeme.specs.Place.{Place, first, run, run_len, behind}

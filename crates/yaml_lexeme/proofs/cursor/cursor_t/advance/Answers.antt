@@ -2,9 +2,9 @@ use Rattle.std.proofs.Common.{◌<◌, ◌≤◌, ◌∙◌, length, arith, ap, 
 use Rattle.std.proofs.lemmas.Grind.{common_steps}
 use Rattle.std.proofs.lemmas.List.{length-drop}
 use Rattle.yaml_lexeme.specs.Place.{Place, skip}
-use Rattle.yaml_lexeme.proofs.Places.{stays}
-use Rattle.yaml_lexeme.proofs.Cursors.{ascii_moves, line_feed_moves}
-use Rattle.yaml_lexeme.proofs.Heads.{head, none_left}
+use Rattle.yaml_lexeme.proofs.Places.PlaceMoves.{stays}
+use Rattle.yaml_lexeme.proofs.Places.CursorMoves.{ascii_moves, line_feed_moves}
+use Rattle.yaml_lexeme.proofs.Places.FirstCharacters.{head, none_left}
 use Rattle.yaml_lexeme.proofs.cursor.cursor_t.advance.Goals as goal
 
 pub returns-then-is_empty : goal.returns-then-is_empty

@@ -1,10 +1,10 @@
 use Rattle.std.proofs.Common.{◌∙◌, length, arith, ap, ℕ}
 use Rattle.std.specs.Char.{len_utf8}
 use Rattle.yaml_lexeme.specs.Place.{Place, mark_behind}
-use Rattle.yaml_lexeme.proofs.Places.{moved}
+use Rattle.yaml_lexeme.proofs.Places.PlaceMoves.{moved}
 use Rattle.yaml_text.specs.declared.types.yaml_mark_t.{yaml_mark_t}
-use Rattle.yaml_lexeme.proofs.Cursors.{index_behind}
-use Rattle.yaml_lexeme.proofs.Heads.{head, some_bytes, shrinks}
+use Rattle.yaml_lexeme.proofs.Places.CursorMoves.{index_behind}
+use Rattle.yaml_lexeme.proofs.Places.FirstCharacters.{head, some_bytes, shrinks}
 use Rattle.yaml_lexeme.proofs.cursor.cursor_t.advance_far.Goals as goal
 
 pub returns : goal.returns

@@ -1,6 +1,6 @@
 use Rattle.std.proofs.Common.{ap, length, rules, ◌<◌, ◌^◌, arith}
 use Rattle.std.proofs.lemmas.List.{length-drop}
-use Rattle.yaml_lexeme.proofs.Cursors.{finds}
+use Rattle.yaml_lexeme.proofs.Places.CursorMoves.{finds}
 use Rattle.yaml_lexeme.proofs.cursor.cursor_t.at.Goals as goal
 
 pub rest-requires : goal.rest-requires

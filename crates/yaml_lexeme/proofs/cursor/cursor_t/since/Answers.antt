@@ -1,7 +1,7 @@
 use Rattle.std.proofs.Common.{◌≡◌, ◌∙◌, sym, ap}
 use Rattle.yaml_text.specs.Chars.{utf8}
 use Rattle.yaml_lexeme.specs.Place.{Place}
-use Rattle.yaml_lexeme.proofs.Cursors.{skip_bytes}
+use Rattle.yaml_lexeme.proofs.Places.CursorMoves.{skip_bytes}
 use Rattle.yaml_lexeme.proofs.cursor.cursor_t.since.Goals as goal
 
 pub overflow_sub-start-inside : goal.overflow_sub-start-inside

@@ -1,5 +1,5 @@
 use Rattle.std.proofs.Common.{◌≡◌, ◌-◌, sym, ◌∙◌, arith}
-use Rattle.yaml_lexeme.proofs.Places.{skip_step, skip_none}
+use Rattle.yaml_lexeme.proofs.Places.PlaceMoves.{skip_step, skip_none}
 use Rattle.yaml_lexeme.proofs.cursor.cursor_t.skip.Goals as goal
 
 pub count-preserved : goal.count-preserved

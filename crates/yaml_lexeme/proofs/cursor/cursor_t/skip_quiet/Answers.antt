@@ -2,8 +2,8 @@ use Rattle.std.proofs.Common.{◌∙◌, ap, arith, length}
 use Rattle.std.proofs.lemmas.List.{length-drop}
 use Rattle.yaml_lexeme.specs.Place.{Place, behind}
 use Rattle.yaml_lexeme.specs.Runs.{class_test, begins}
-use Rattle.yaml_lexeme.proofs.Counts.{count_small}
-use Rattle.yaml_lexeme.proofs.Cursors.{QuietMove, quiet_moves}
+use Rattle.yaml_lexeme.proofs.ManyBytes.CharacterCounts.{count_small}
+use Rattle.yaml_lexeme.proofs.Places.CursorMoves.{QuietMove, quiet_moves}
 use Rattle.yaml_lexeme.proofs.cursor.cursor_t.skip_quiet.Goals as goal
 use Rattle.yaml_lexeme.proofs.cursor.cursor_t.skip_quiet.Goals.{After-quiet_len-n}
 

@@ -3,7 +3,7 @@ use Rattle.std.proofs.lemmas.List.{length-drop}
 use Rattle.yaml_lexeme.specs.Place.{run_len, skip}
 use Rattle.yaml_lexeme.specs.Runs.{class_test}
 use Rattle.yaml_lexeme.specs.declared.runs.class_t.TheVariants.{SPACE}
-use Rattle.yaml_lexeme.proofs.Cursors.{SpaceMove, space_moves}
+use Rattle.yaml_lexeme.proofs.Places.CursorMoves.{SpaceMove, space_moves}
 use Rattle.yaml_lexeme.proofs.cursor.cursor_t.skip_spaces.Goals as goal
 use Rattle.yaml_lexeme.proofs.cursor.cursor_t.skip_spaces.Goals.{After-min-n}
 
