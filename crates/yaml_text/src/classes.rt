@@ -1,12 +1,16 @@
-//! The classes of characters, as tests of the bytes of `s` at the index `at`, in bytes from 0. At or past the end a byte reads
-//! as 0.
+//! The classes of characters, as tests of the bytes of `s` at the index `at`, in bytes from 0. At or past the
+//! end a byte reads as 0.
 //!
-//! Each class has two clauses: which bytes it holds for, on any bytes and at any index; and which characters it holds for, at
-//! the start of a character of valid UTF-8 or at the end, where the end counts as character 0.
+//! Each class has two clauses: which bytes it holds for, on any bytes and at any index; and which characters
+//! it holds for, at the start of a character of valid UTF-8 or at the end, where the end counts as character
+//! 0.
 ghost use Rattle.std.specs.Prelude.{ℕ, ◌≡◌, ◌+◌, ◌-◌, ◌<◌, ◌≤◌, ◌||◌, true, pos, List, slice_index};
 ghost use Rattle.std.specs.Char.{len_utf8};
 ghost use Rattle.yaml_text.specs.Utf8.{width_of};
-ghost use Rattle.yaml_text.specs.Classes.{is_digit, is_hex, is_alpha, is_ascii, is_printable, is_z, is_bom, is_space, is_tab, is_blank, is_break, is_crlf, is_breakz, is_blankz, hex_value, is_break_at, is_bom_at, is_printable_at, is_crlf_at, is_breakz_at, is_blankz_at, Stands};
+ghost use Rattle.yaml_text.specs.Classes.{is_digit, is_hex, is_alpha, is_ascii, is_printable, is_z, is_bom};
+ghost use Rattle.yaml_text.specs.Classes.{is_space, is_tab, is_blank, is_break, is_crlf, is_breakz, is_blankz};
+ghost use Rattle.yaml_text.specs.Classes.{hex_value, is_break_at, is_bom_at, is_printable_at, is_crlf_at};
+ghost use Rattle.yaml_text.specs.Classes.{is_breakz_at, is_blankz_at, Stands};
 
 #[inline(always)]
 fn byte_at(s: &[u8], at: usize) -> u8
@@ -239,7 +243,8 @@ pub fn IS_BREAK(s: &[u8], at: usize) -> bool
 #[tactic(auto, using(crate::proofs::Characters::ClassTables::crlf_law))]
 pub fn IS_CRLF(s: &[u8], at: usize) -> bool
     ensures bytes { result ≡ is_crlf_at s.now at }
-    ensures character { (left : List ℕ) → Stands s.now at left → result ≡ is_crlf (slice_index left 0) (slice_index left 1) }
+    ensures character { (left : List ℕ) → Stands s.now at left
+        → result ≡ is_crlf (slice_index left 0) (slice_index left 1) }
 {
     crlf_at(s, at)
 }

@@ -8,8 +8,8 @@ use thiserror::Error;
 
 /// Why an input was refused, and where.
 ///
-/// A fault of kind memory has no problem, no context and only zeros. A fault of kind reader has a problem, its offset and
-/// a value. A fault of kind scanner has a problem and its mark, and mostly a context and its mark.
+/// A fault of kind memory has no problem, no context and only zeros. A fault of kind reader has a problem, its
+/// offset and a value. A fault of kind scanner has a problem and its mark, and mostly a context and its mark.
 #[derive(Clone, Copy, Debug, PartialEq, Eq, Error)]
 #[error("YAML {error} fault")]
 pub struct yaml_fault_t {

@@ -4,7 +4,8 @@ ghost use Rattle.yaml_text.specs.Fault.{zero_mark};
 
 use crate::types::{yaml_encoding_t, yaml_mark_t, yaml_scalar_style_t, yaml_token_type_t};
 
-/// What a token says: one variant for each type. Texts are bytes: UTF-8, except what a tag or a `%TAG` directive writes by `%`.
+/// What a token says: one variant for each type. Texts are bytes: UTF-8, except what a tag or a `%TAG`
+/// directive writes by `%`.
 #[derive(Drop, PartialEq, Eq)]
 pub enum unnamed_yaml_token_t_data {
     NO_TOKEN,
