@@ -116,7 +116,7 @@ fn take_words(
 }
 
 fn is_bad_tab(cursor: &cursor_t, broken: bool, least: u64) -> bool
-    ensures { result ≡ spec.is_tab least broken cursor.now }
+    ensures { result ≡ spec.is_bad_tab least broken cursor.now }
 {
     check_at!(cursor, '\t', 0) && broken && cursor.mark().column < least
 }

@@ -18,7 +18,8 @@ use Rattle.yaml_lexeme.specs.Directive.{directive}
 use Rattle.yaml_lexeme.specs.Escape.{backslash, escape, hex_escape, simple_at, hex_len, simple_escape, is_scalar}
 use Rattle.yaml_lexeme.specs.Kind.{is_marker}
 use Rattle.yaml_lexeme.specs.Place.{Place, first, peek, skip, mark_behind, run, run_len, behind, break_len}
-use Rattle.yaml_lexeme.specs.Plain.{is_chunk, is_bad_colon, chunk_len, chunk, tab_from, untabbed, separator, is_over, link, plain}
+use Rattle.yaml_lexeme.proofs.Readers.PlainLinks.{tab_from, separator_is}
+use Rattle.yaml_lexeme.specs.Plain.{is_chunk, is_bad_colon, chunk_len, chunk, untabbed, separator, is_over, link, plain}
 use Rattle.yaml_lexeme.specs.Quoted.{quote, unmarked, body_part, spelled, quoted}
 use Rattle.yaml_lexeme.specs.Reading.{Found, Read, Part, go_on, at_most, many}
 use Rattle.yaml_text.specs.Classes.{is_alpha, is_digit, is_hex, is_break, is_z, is_crlf}
@@ -192,8 +193,7 @@ untabbed_clears None value p q t a = ok_holds a
 untabbed_clears (Some t) value p q h a = refuse_holds (record { count = h.count; within = h.within; is = h.is; whole = tab_whole h.count p.rest h.tab })
 
 separator_clears : (least : ℕ) (p : Place) → Clears p (separator least p)
-unfolding separator
-separator_clears least p = untabbed_clears (tab_from least false p.mark p.rest) _ p (behind is_white p) (tab_at least false p.mark p.rest) (clear_run is_white p sure_white)
+separator_clears least p = rw (separator_is least p) (untabbed_clears (tab_from least false p.mark p.rest) _ p (behind is_white p) (tab_at least false p.mark p.rest) (clear_run is_white p sure_white))
 
 link_clears : (flow : Bool) (least : ℕ) (p : Place) → PartClears p (link flow least p)
 unfolding link

@@ -11,7 +11,7 @@ use Rattle.yaml_lexeme.proofs.Locality.AgreeingPlaces.{Agree}
 use Rattle.yaml_lexeme.proofs.Parts.ReadResults.{end_or}
 use Rattle.yaml_lexeme.specs.Locality.{move}
 use Rattle.yaml_lexeme.specs.Place.{Place, first, peek, skip, run, run_len, behind}
-use Rattle.yaml_lexeme.specs.Plain.{is_tab, is_bad_colon, is_chunk, chunk_len, chunk, untabbed}
+use Rattle.yaml_lexeme.specs.Plain.{is_bad_tab, is_bad_colon, is_chunk, chunk_len, chunk, untabbed}
 use Rattle.yaml_lexeme.specs.Reading.{Found, Read, found, refuse, ◌>>=◌}
 use Rattle.yaml_lexeme.specs.declared.problem.problem_t.TheVariants.{COLON_IN_FLOW, TAB_IN_PLAIN}
 use Rattle.yaml_text.specs.Classes.{is_break}
@@ -70,7 +70,7 @@ pass : ℕ → ℕ → Bool → Place → Read (List ℕ)
 pass zero least broken p = found [] p
 pass (suc f) least broken p =
     if not (is_white (first p)) then found [] p
-    else if is_tab least broken p then refuse TAB_IN_PLAIN p
+    else if is_bad_tab least broken p then refuse TAB_IN_PLAIN p
     else pass f least (broken || is_break (first p)) (skip 1 p)
 
 pass_like : (f least : ℕ) (broken : Bool) → IsLike (pass f least broken)
@@ -78,7 +78,7 @@ unfolding pass
 pass_like zero least broken n p q a = found_here
 pass_like (suc f) least broken n p q a =
     like_if (not (is_white (first p))) (not (is_white (first q))) (λ h. rw (a.same 0 (omega arith)) refl) found_here
-    (like_if (is_tab least broken p) (is_tab least broken q) (λ h. rw (a.mark, a.same 0 (omega arith)) refl) refuse_here
+    (like_if (is_bad_tab least broken p) (is_bad_tab least broken q) (λ h. rw (a.mark, a.same 0 (omega arith)) refl) refuse_here
     (like_same (λ h. ap (λ (c : ℕ). pass f least (broken || is_break c) (skip 1 q)) (sym (a.same 0 (omega arith))))
     (like_on (pass f least (broken || is_break (first p))) (pass_like f least (broken || is_break (first p))) n 1 p q (skip 1 p) (skip 1 q) a refl (λ h. refl))))
 
@@ -88,7 +88,7 @@ pass_is zero least broken p h = absurd (omega arith)
 pass_is (suc f) least broken p h =
     elim (cases_Bool (is_white (first p))) [
       | inl space ↦
-          elim (cases_Bool (is_tab least broken p)) [
+          elim (cases_Bool (is_bad_tab least broken p)) [
             | inl tab ↦ rw (space, tab, tab_here least broken p space tab) refl
             | inr fine ↦
                 let t = behind_more is_white p space refl in

@@ -7,7 +7,7 @@ use Rattle.yaml_lexeme.proofs.Locality.PlainChunkLocality.{chunk_like, sep_run, 
 use Rattle.yaml_lexeme.proofs.Locality.ComposedReaders.{Like, IsLike, found_here, like_if, like_bind, like_map}
 use Rattle.yaml_lexeme.proofs.Locality.LookaheadLists.{Next, go, stop, join, finish, finish_like}
 use Rattle.yaml_lexeme.proofs.Places.PlaceMoves.{skip_none, behind_none}
-use Rattle.yaml_lexeme.proofs.Readers.PlainLinks.{tab_at, link_shortens, behind_gap, tail_of}
+use Rattle.yaml_lexeme.proofs.Readers.PlainLinks.{tab_at, separator_is, link_shortens, behind_gap, tail_of}
 use Rattle.yaml_lexeme.proofs.Readers.FoldSeparators.{run_none}
 use Rattle.yaml_lexeme.specs.Classes.{is_white}
 use Rattle.yaml_lexeme.specs.Fold.{fold}
@@ -97,10 +97,10 @@ by_tab (Some t) flow least m cs e = refl
 
 -- a turn is a link, or what is read after the last
 turn_is : (flow : Bool) (least : ℕ) (p : Place) → turn flow least p ≡ join (link flow least p) (trailing p)
-unfolding link separator sep_run
+unfolding link sep_run
 turn_is flow least p =
     elim (cases_Bool (is_white (first p))) [
-      | inl space ↦ rw space (by_tab (tab_at least false p) flow least p.mark (run is_white p) (behind is_white p))
+      | inl space ↦ rw (space, separator_is least p) (by_tab (tab_at least false p) flow least p.mark (run is_white p) (behind is_white p))
       | inr other ↦ rw (other, behind_none is_white p other, run_none is_white p other) refl
     ]
 

@@ -15,7 +15,7 @@ use Rattle.yaml_lexeme.specs.Fold.{fold}
 use Rattle.yaml_lexeme.specs.Kind.{is_marker}
 use Rattle.yaml_lexeme.specs.Parts.{Piece, texts, values, IsLongest, QuotedParts, QuotedIsParts, QuotedIsRefused, plain_scalar, PlainParts, PlainIsParts, ChunkRefused, LinksRefused, PlainIsRefused, ChunkIsLongest, LinkParts, LinkIsLongest, SeparatorEnds, LinkIsOver}
 use Rattle.yaml_lexeme.specs.Place.{Place, first, peek, skip, run, behind}
-use Rattle.yaml_lexeme.specs.Plain.{is_bad_colon, is_chunk, chunk_len, chunk, tab_from, untabbed, separator, is_over, link, plain}
+use Rattle.yaml_lexeme.specs.Plain.{is_bad_colon, is_chunk, chunk_len, chunk, bad_tab, untabbed, separator, is_over, link, plain}
 use Rattle.yaml_lexeme.specs.Quoted.{quote, body_part, quoted}
 use Rattle.yaml_lexeme.specs.Reading.{Offence, Found, Read, found, refuse, ◌>>=◌, Part, part, over, many}
 use Rattle.yaml_lexeme.proofs.LongestLists.LongestParts.{Advances, split, many_longest, many_refused, found_of, refused_of}
@@ -171,7 +171,7 @@ unfolding link separator
 link_from flow least p f h =
     let end = behind is_white p in
     let h1 = not_over (not (is_white (first p))) _ f h in
-    let h2 = no_tab (tab_from least false p.mark p.rest) (fold (run is_white p)) end _ f h1.1 in
+    let h2 = no_tab (bad_tab least p) (fold (run is_white p)) end _ f h1.1 in
     let h3 = not_over (is_over flow least end) _ f h2.1 in
     let t = by_chunk flow (fold (run is_white p)) end f (chunk flow end) refl h3.1 in
     record {
@@ -232,7 +232,7 @@ over_from flow least p h =
       | inl none ↦ inl (is_not (is_white (first p)) none)
       | inr h1 ↦
           let end = behind is_white p in
-          let h2 = tab_or (tab_from least false p.mark p.rest) (fold (run is_white p)) end _ h1 in
+          let h2 = tab_or (bad_tab least p) (fold (run is_white p)) end _ h1 in
           inr (record {
             separator = h2.0;
             ends = elim (over_or (is_over flow least end) _ h2.1) [

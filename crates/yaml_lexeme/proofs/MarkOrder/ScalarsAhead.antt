@@ -17,7 +17,7 @@ use Rattle.yaml_lexeme.specs.Gap.{after_comment}
 use Rattle.yaml_lexeme.specs.Kind.{is_marker}
 use Rattle.yaml_lexeme.specs.Order.{IsAhead, Spans}
 use Rattle.yaml_lexeme.specs.Place.{Place, first, peek, skip, run, behind, break_len}
-use Rattle.yaml_lexeme.specs.Plain.{is_chunk, is_bad_colon, chunk_len, chunk, tab_from, untabbed, separator, is_over, link, plain}
+use Rattle.yaml_lexeme.specs.Plain.{is_chunk, is_bad_colon, chunk_len, chunk, bad_tab, untabbed, separator, is_over, link, plain}
 use Rattle.yaml_lexeme.specs.Quoted.{quote, unmarked, body_part, quoted}
 use Rattle.yaml_lexeme.specs.Reading.{Read, ◌>>=◌, Part, part, over, many, with_front, go_on}
 use Rattle.yaml_lexeme.specs.Lexeme.{Directive as directive_t}
@@ -85,7 +85,7 @@ untabbed_goes (Some t) value p q a = refuse_goes
 
 separator_goes : (least : ℕ) (p : Place) → is_white (first p) ≡ true → Goes 1 p (separator least p)
 unfolding separator
-separator_goes least p h = untabbed_goes (tab_from least false p.mark p.rest) _ p (behind is_white p) (behind_some is_white p h refl)
+separator_goes least p h = untabbed_goes (bad_tab least p) _ p (behind is_white p) (behind_some is_white p h refl)
 
 pub link_goes : (flow : Bool) (least : ℕ) (p : Place) → PartGoes 1 p (link flow least p)
 unfolding link

@@ -17,7 +17,7 @@ use Rattle.yaml_lexeme.specs.declared.problem.refusal_t.TheVariants as errors
 use Rattle.yaml_lexeme.proofs.Parts.PartByPart.{joined, many_turn, reads_all, reads_none, no_front}
 use Rattle.yaml_lexeme.proofs.Readers.QuotedRuns.{fold_none, no_breaks, column_behind, no_marker, space_first, stop_le, first_one}
 use Rattle.yaml_lexeme.proofs.Places.PlaceMoves.{skip_none, skip_skip, length_skip, behind_more, behind_none, rest_skip, solid}
-use Rattle.yaml_lexeme.proofs.Readers.PlainLinks.{chunk_more, chunk_stop, chunk_there, Gap, at_gap, Passes, passes_more, passes_spaces, passes_all, passed, same_none, link_shortens, tail_all, tail_none, scalar_at, plain_is, after_head}
+use Rattle.yaml_lexeme.proofs.Readers.PlainLinks.{tab_from, separator_is, chunk_more, chunk_stop, chunk_there, Gap, at_gap, Passes, passes_more, passes_spaces, passes_all, passed, same_none, link_shortens, tail_all, tail_none, scalar_at, plain_is, after_head}
 use Rattle.yaml_lexeme.proofs.ManyBytes.TrimmedLists.{trims_at}
 use Rattle.yaml_lexeme.specs.Classes.{is_white}
 use Rattle.yaml_lexeme.specs.Fold.{fold}
@@ -25,7 +25,7 @@ use Rattle.yaml_lexeme.specs.Gives.{Refuses, TakesPart}
 use Rattle.yaml_lexeme.specs.Kind.{is_marker}
 use Rattle.yaml_lexeme.specs.Place.{Place, first, peek, skip, run, run_len, behind, width}
 use Rattle.yaml_lexeme.specs.declared.runs.class_t.TheVariants.{SPACE}
-use Rattle.yaml_lexeme.specs.Plain.{is_tab, tab_from, untabbed, is_bad_colon, is_chunk, chunk, separator, is_over, link, plain}
+use Rattle.yaml_lexeme.specs.Plain.{is_bad_tab, untabbed, is_bad_colon, is_chunk, chunk, separator, is_over, link, plain}
 use Rattle.yaml_lexeme.specs.Reading.{Offence, Read, found, refuse, Part, part, over, many, with_front, go_on, ◌>>=◌}
 use Rattle.yaml_lexeme.specs.Runs.{class_test, trim, Stands}
 use Rattle.yaml_lexeme.specs.Words.{links, words, plain_of, Goes}
@@ -98,10 +98,6 @@ tab_none least m (c ∷ cs) h =
           rw (w, and_right (c == 0x09) false refl, b) (tab_none least m' cs (λ i l. h (suc i) (omega (arith, k))))
       | inr o ↦ rw o refl
     ]
-
-separator_is : (least : ℕ) (p : Place) → separator least p ≡ untabbed (tab_from least false p.mark p.rest) (fold (run is_white p)) (behind is_white p)
-unfolding separator
-separator_is least p = refl
 
 -- a line at p goes on at any column after its first character
 abbrev pub GoesFar : Bool → ℕ → Place → Type 0
@@ -308,7 +304,7 @@ links_end flow least p out h = links_over flow least p p out (same_none (link fl
 pub over_below : (flow : Bool) (least : ℕ) (p q : Place) → flow ≡ false → first p ≡ 10 → q ≡ behind (class_test SPACE) (skip 1 p) → is_white (first q) ≡ false → q.mark.column < least → (link flow least p ≡ over) × (q ≡ behind is_white p)
 over_below flow least p q block feed e stop low =
     let w : is_white (first p) ≡ true = rw feed refl in
-    let fine : is_tab least false p ≡ false = rw feed refl in
+    let fine : is_bad_tab least false p ≡ false = rw feed refl in
     let broken = false || is_break (first p) in
     let next = passes_spaces least broken (skip 1 p) p (passes_more least false p p w fine (record { tab = refl; end = refl })) in
     let t = passes_all least broken q p stop (subst (λ (r : Place). Passes least broken r p) (sym e) next) in

@@ -1,8 +1,8 @@
 -- Chunks, separators and ends of plain scalars are read a character at a time.
-use Rattle.std.proofs.Common.{◌≡◌, ℕ, zero, suc, ◌+◌, ◌<◌, ◌≤◌, Bool, true, false, cond, not, ◌==◌, ◌&&◌, ◌||◌, if◌then◌else◌, inl, inr, List, [], ◌∷◌, ◌++◌, length, take, slice_index, Option, Some, None, Ok, Err, refl, sym, ap, ◌∙◌, subst, arith}
+use Rattle.std.proofs.Common.{◌≡◌, ℕ, zero, suc, ◌+◌, ◌<◌, ◌≤◌, Bool, true, false, cond, not, ◌==◌, ◌&&◌, ◌||◌, if◌then◌else◌, inl, inr, List, [], ◌∷◌, ◌++◌, length, take, drop, slice_index, Option, Some, None, Ok, Err, refl, sym, ap, ◌∙◌, subst, arith}
 use Rattle.std.proofs.lemmas.Bool.{cases_Bool}
 use Rattle.std.proofs.lemmas.Bool.Decides.{nat_tests}
-use Rattle.std.specs.List.{flat_map, list_any}
+use Rattle.std.specs.List.{flat_map, list_any, find, prefix_len, range_with_len}
 use Rattle.yaml_text.specs.declared.types.yaml_mark_t.{yaml_mark_t}
 use Rattle.yaml_lexeme.specs.declared.problem.refusal_t.{refusal_t}
 use Rattle.yaml_lexeme.specs.declared.problem.refusal_t.TheVariants as errors
@@ -10,18 +10,18 @@ use Rattle.yaml_lexeme.specs.declared.problem.problem_t.{problem_t}
 use Rattle.yaml_lexeme.specs.Lexeme.{Scalar as scalar_t}
 use Rattle.yaml_lexeme.specs.declared.problem.problem_t.TheVariants.{COLON_IN_FLOW, TAB_IN_PLAIN}
 use Rattle.yaml_lexeme.proofs.Parts.PartByPart.{IsShorter, Shortens, joined}
-use Rattle.yaml_lexeme.proofs.Places.PlaceMoves.{length_skip, length_one, is_there, behind_more, behind_none, blank_white}
+use Rattle.yaml_lexeme.proofs.Places.PlaceMoves.{length_skip, length_one, is_there, behind_more, behind_none, blank_white, first_on, rest_skip, skip_none, skip_skip}
 use Rattle.yaml_lexeme.proofs.Readers.FoldSeparators.{run_more, run_none, behind_blanks, stopped as run_stopped}
 use Rattle.yaml_lexeme.proofs.Parts.ReadResults.{value_or, end_or}
 use Rattle.yaml_lexeme.specs.Classes.{is_white, ends}
 use Rattle.yaml_lexeme.specs.Fold.{fold}
 use Rattle.yaml_lexeme.specs.Gives.{Refuses, TakesPart, TakesRead}
 use Rattle.yaml_lexeme.specs.Place.{Place, first, peek, skip, skip_from, run, run_len, behind, mark_behind}
-use Rattle.yaml_lexeme.specs.Plain.{is_tab, is_flow_indicator, is_bad_colon, is_chunk, chunk_len, chunk, tab_from, untabbed, separator, is_over, link, plain}
+use Rattle.yaml_lexeme.specs.Plain.{is_bad_tab, has_bad_tab, bad_tab, is_flow_indicator, is_bad_colon, is_chunk, chunk_len, chunk, untabbed, separator, is_over, link, plain}
 use Rattle.yaml_lexeme.specs.Reading.{Read, found, Part, part, refuse, over, many, with_front, ◌>>=◌}
 use Rattle.yaml_text.specs.Chars.{utf8}
 use Rattle.yaml_text.specs.Classes.{is_break, is_blank}
-use Rattle.std.specs.Prelude.{nat_lt}
+use Rattle.std.specs.Prelude.{nat_lt, option_map}
 use Rattle.yaml_lexeme.specs.declared.runs.class_t.TheVariants.{SPACE}
 use Rattle.yaml_lexeme.specs.Runs.{class_test}
 
@@ -59,36 +59,96 @@ chunk_char flow c next h = grind (arith, nat_tests)
 pub chunk_there : (flow : Bool) (p : Place) → is_chunk flow (first p) (peek p 1) ≡ true → 0 < length p.rest
 chunk_there flow p h = is_there p 0 (chunk_char flow (first p) (peek p 1) h)
 
--- a place's tab is found
+-- the first tab in indentation, looked for a character at a time
+abbrev pub tab_from : ℕ → Bool → yaml_mark_t → List ℕ → Option Place
+tab_from least broken m [] = None
+tab_from least broken m (c ∷ cs) =
+    if not (is_white c) then None
+    else if (c == 0x09 && broken) && nat_lt m.column least then Some (record { mark = m; rest = c ∷ cs })
+    else tab_from least (broken || is_break c) (mark_behind m c (slice_index cs 0)) cs
+
+-- the same from a place on
 abbrev pub tab_at : ℕ → Bool → Place → Option Place
 tab_at least broken p = tab_from least broken p.mark p.rest
 
-tab_step : (least : ℕ) (broken : Bool) (m : yaml_mark_t) (cs : List ℕ) → let p : Place = record { mark = m; rest = cs } in is_white (first p) ≡ true → is_tab least broken p ≡ false
+tab_step : (least : ℕ) (broken : Bool) (m : yaml_mark_t) (cs : List ℕ) → let p : Place = record { mark = m; rest = cs } in is_white (first p) ≡ true → is_bad_tab least broken p ≡ false
     → tab_at least broken p ≡ tab_at least (broken || is_break (first p)) (skip 1 p)
 unfolding skip
 tab_step least broken m [] h t = absurd cc
 tab_step least broken m (c ∷ cs) h t = rw (h, t) refl
 
-pub tab_more : (least : ℕ) (broken : Bool) (p : Place) → is_white (first p) ≡ true → is_tab least broken p ≡ false → tab_at least broken p ≡ tab_at least (broken || is_break (first p)) (skip 1 p)
+pub tab_more : (least : ℕ) (broken : Bool) (p : Place) → is_white (first p) ≡ true → is_bad_tab least broken p ≡ false → tab_at least broken p ≡ tab_at least (broken || is_break (first p)) (skip 1 p)
 tab_more least broken p h t = tab_step least broken p.mark p.rest h t
 
-tab_found : (least : ℕ) (broken : Bool) (m : yaml_mark_t) (cs : List ℕ) → let p : Place = record { mark = m; rest = cs } in is_white (first p) ≡ true → is_tab least broken p ≡ true → tab_at least broken p ≡ Some p
+tab_found : (least : ℕ) (broken : Bool) (m : yaml_mark_t) (cs : List ℕ) → let p : Place = record { mark = m; rest = cs } in is_white (first p) ≡ true → is_bad_tab least broken p ≡ true → tab_at least broken p ≡ Some p
 tab_found least broken m [] h t = absurd cc
 tab_found least broken m (c ∷ cs) h t = rw (h, t) refl
 
-pub tab_here : (least : ℕ) (broken : Bool) (p : Place) → is_white (first p) ≡ true → is_tab least broken p ≡ true → tab_at least broken p ≡ Some p
+pub tab_here : (least : ℕ) (broken : Bool) (p : Place) → is_white (first p) ≡ true → is_bad_tab least broken p ≡ true → tab_at least broken p ≡ Some p
 tab_here least broken p h t = tab_found least broken p.mark p.rest h t
 
 pub tab_over : (least : ℕ) (broken : Bool) (m : yaml_mark_t) (cs : List ℕ) → is_white (slice_index cs 0) ≡ false → tab_from least broken m cs ≡ None
 tab_over least broken m [] h = refl
 tab_over least broken m (c ∷ cs) h = rw h refl
 
+no_white : (cs : List ℕ) → prefix_len is_white cs ≡ 0 → is_white (slice_index cs 0) ≡ false
+no_white [] e = refl
+no_white (c ∷ cs) e =
+    elim (cases_Bool (is_white c)) [
+      | inl y ↦ let k : prefix_len is_white (c ∷ cs) ≡ 1 + prefix_len is_white cs = rw y refl in absurd (omega (arith, e, k))
+      | inr n ↦ n
+    ]
+
+one_white : (cs : List ℕ) (n : ℕ) → prefix_len is_white cs ≡ suc n → (is_white (slice_index cs 0) ≡ true) × (prefix_len is_white (drop 1 cs) ≡ n)
+one_white [] n e = absurd (omega (arith, e))
+one_white (c ∷ cs) n e =
+    elim (cases_Bool (is_white c)) [
+      | inl y ↦ let k : prefix_len is_white (c ∷ cs) ≡ 1 + prefix_len is_white cs = rw y refl in (y, omega (arith, e, k))
+      | inr o ↦ let k : prefix_len is_white (c ∷ cs) ≡ 0 = rw o refl in absurd (omega (arith, e, k))
+    ]
+
+or_assoc : (a b c : Bool) → (a || (b || c)) ≡ ((a || b) || c)
+or_assoc true b c = refl
+or_assoc false b c = refl
+
+one_or : (b : Bool) → (b || false) ≡ (false || b)
+one_or true = refl
+one_or false = refl
+
+any_more : (k : ℕ) (cs : List ℕ) → list_any is_break (take (suc k) cs) ≡ (list_any is_break (take k cs) || is_break (slice_index cs k))
+any_more zero [] = refl
+any_more zero (c ∷ cs) = one_or (is_break c)
+any_more (suc k) [] = refl
+any_more (suc k) (c ∷ cs) = ap (λ b. is_break c || b) (any_more k cs) ∙ or_assoc (is_break c) (list_any is_break (take k cs)) (is_break (slice_index cs k))
+
+find_from : (least : ℕ) (p : Place) (n k : ℕ) → run_len is_white (skip k p) ≡ n → tab_at least (list_any is_break (take k p.rest)) (skip k p) ≡ option_map (λ i. skip i p) (find (has_bad_tab least p) (range_with_len k n))
+find_from least p zero k e = let q = skip k p in tab_over least (list_any is_break (take k p.rest)) q.mark q.rest (no_white q.rest e)
+find_from least p (suc n) k e =
+    let q = skip k p in
+    let b = list_any is_break (take k p.rest) in
+    let w = one_white q.rest n e in
+    elim (cases_Bool (is_bad_tab least b q)) [
+      | inl t ↦ tab_here least b q w.0 t ∙ rw t refl
+      | inr f ↦
+          let on : suc k ≡ k + 1 = omega arith in
+          let there : skip 1 q ≡ skip (k + 1) p = skip_skip k 1 p in
+          let broken : list_any is_break (take (k + 1) p.rest) ≡ (b || is_break (first q)) =
+              ap (λ (i : ℕ). list_any is_break (take i p.rest)) (sym on) ∙ any_more k p.rest ∙ ap (λ (c : ℕ). b || is_break c) (sym (first_on k p)) in
+          let len : run_len is_white (skip (k + 1) p) ≡ n = ap (λ (x : Place). run_len is_white x) (sym there) ∙ ap (prefix_len is_white) (rest_skip 1 q) ∙ w.1 in
+          tab_more least b q w.0 f ∙ ap (λ o. tab_at least o (skip 1 q)) (sym broken) ∙ ap (tab_at least (list_any is_break (take (k + 1) p.rest))) there
+          ∙ find_from least p n (k + 1) len ∙ rw f refl
+    ]
+
+-- it is the first one of the separator
+pub tab_is : (least : ℕ) (p : Place) → bad_tab least p ≡ tab_at least false p
+tab_is least p = sym (ap (tab_at least false) (sym (skip_none p)) ∙ find_from least p (run_len is_white p) 0 (ap (run_len is_white) (skip_none p)))
+
 -- a separator is being passed
 pub record Passes (least : ℕ) (broken : Bool) (p start : Place) : Type 0 where
   pub tab : tab_at least broken p ≡ tab_at least false start
   pub end : behind is_white p ≡ behind is_white start
 
-pub passes_more : (least : ℕ) (broken : Bool) (p start : Place) → is_white (first p) ≡ true → is_tab least broken p ≡ false → Passes least broken p start → Passes least (broken || is_break (first p)) (skip 1 p) start
+pub passes_more : (least : ℕ) (broken : Bool) (p start : Place) → is_white (first p) ≡ true → is_bad_tab least broken p ≡ false → Passes least broken p start → Passes least (broken || is_break (first p)) (skip 1 p) start
 passes_more least broken p start h t s = record { tab = sym (tab_more least broken p h t) ∙ s.tab; end = sym (behind_more is_white p h refl).1 ∙ s.end }
 
 space_is : (c : ℕ) → class_test SPACE c ≡ true → (is_white c ≡ true) × ((c == 0x09) ≡ false) × (is_break c ≡ false)
@@ -101,7 +161,7 @@ or_none false = refl
 one_space : (least : ℕ) (broken : Bool) (p start : Place) → class_test SPACE (first p) ≡ true → Passes least broken p start → Passes least broken (skip 1 p) start
 one_space least broken p start h s =
     let c = space_is (first p) h in
-    let fine : is_tab least broken p ≡ false = ap (λ b. (b && broken) && nat_lt p.mark.column least) c.1 in
+    let fine : is_bad_tab least broken p ≡ false = ap (λ b. (b && broken) && nat_lt p.mark.column least) c.1 in
     let next = passes_more least broken p start c.0 fine s in
     let same : (broken || is_break (first p)) ≡ broken = ap (λ b. broken || b) c.2 ∙ or_none broken in
     subst (λ b. Passes least b (skip 1 p) start) same next
@@ -125,14 +185,17 @@ spaces_from least broken (suc fuel) p start l s =
 pub passes_spaces : (least : ℕ) (broken : Bool) (p start : Place) → Passes least broken p start → Passes least broken (behind (class_test SPACE) p) start
 passes_spaces least broken p start s = spaces_from least broken (length p.rest) p start (omega arith) s
 
-pub passes_none : (least : ℕ) (broken : Bool) (p start : Place) → is_white (first p) ≡ true → is_tab least broken p ≡ true → Passes least broken p start → separator least start ≡ refuse TAB_IN_PLAIN p
+-- a separator, by that search
+pub separator_is : (least : ℕ) (p : Place) → separator least p ≡ untabbed (tab_at least false p) (fold (run is_white p)) (behind is_white p)
 unfolding separator
-passes_none least broken p start h t s = ap (λ o. untabbed o (fold (run is_white start)) (behind is_white start)) (sym s.tab ∙ tab_here least broken p h t)
+separator_is least p = ap (λ o. untabbed o (fold (run is_white p)) (behind is_white p)) (tab_is least p)
+
+pub passes_none : (least : ℕ) (broken : Bool) (p start : Place) → is_white (first p) ≡ true → is_bad_tab least broken p ≡ true → Passes least broken p start → separator least start ≡ refuse TAB_IN_PLAIN p
+passes_none least broken p start h t s = separator_is least start ∙ ap (λ o. untabbed o (fold (run is_white start)) (behind is_white start)) (sym s.tab ∙ tab_here least broken p h t)
 
 pub passes_all : (least : ℕ) (broken : Bool) (p start : Place) → is_white (first p) ≡ false → Passes least broken p start → (separator least start ≡ found (fold (run is_white start)) (behind is_white start)) × (p ≡ behind is_white start)
-unfolding separator
 passes_all least broken p start h s =
-    (ap (λ o. untabbed o (fold (run is_white start)) (behind is_white start)) (sym s.tab ∙ tab_over least broken p.mark p.rest h), sym (behind_none is_white p h) ∙ s.end)
+    (separator_is least start ∙ ap (λ o. untabbed o (fold (run is_white start)) (behind is_white start)) (sym s.tab ∙ tab_over least broken p.mark p.rest h), sym (behind_none is_white p h) ∙ s.end)
 
 pub takes_found : (read : Read (List ℕ)) (value : List ℕ) (p q : Place) → (read ≡ found value q) × (p ≡ q) → TakesRead (λ run. []) read [] [] p
 takes_found read value p q h = rw (h.0) (refl, h.1)
@@ -169,7 +232,7 @@ gap_by (Some t) value end q h = absurd h
 -- what passing a separator said
 pub gap_is : (least : ℕ) (p q : Place) → TakesRead (λ run. []) (separator least p) [] [] q → (separator least p ≡ found (fold (run is_white p)) q) × (q ≡ behind is_white p)
 unfolding separator
-gap_is least p q h = gap_by (tab_at least false p) (fold (run is_white p)) (behind is_white p) q h
+gap_is least p q h = gap_by (bad_tab least p) (fold (run is_white p)) (behind is_white p) q h
 
 pub link_refused : (error : refusal_t) (flow : Bool) (least : ℕ) (p q : Place) → is_white (first p) ≡ true → Refuses error q (separator least p) → Refuses error q (link flow least p)
 link_refused errors.MEMORY flow least p q h e = tt
@@ -241,10 +304,6 @@ chunk_near flow p q h =
 shorter_tab : (o : Option Place) (flow : Bool) (least : ℕ) (gap : List ℕ) (p q : Place) → length q.rest < length p.rest → IsShorter p (untabbed o gap q >>= λ g. behind_gap flow least g.value g.end)
 shorter_tab None flow least gap p q h = shorter_gap (is_over flow least q) (chunk flow q) gap p (chunk_near flow p q h)
 shorter_tab (Some t) flow least gap p q h = tt
-
-separator_is : (least : ℕ) (p : Place) → separator least p ≡ untabbed (tab_at least false p) (fold (run is_white p)) (behind is_white p)
-unfolding separator
-separator_is least p = refl
 
 -- each link takes a character or more
 pub link_shortens : (flow : Bool) (least : ℕ) → Shortens (link flow least)
