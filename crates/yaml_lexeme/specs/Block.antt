@@ -159,26 +159,38 @@ abbrev pub block_value : Bool → chomp_t → List ℕ → List Line → List �
 block_value folded chomp leading [] = only_breaks chomp leading
 block_value folded chomp leading (l ∷ ls) = leading ++ l.text ++ behind_line folded chomp l ls
 
--- Without a digit the greatest of 1, `least` and the columns that spaces reach on the leading empty lines and the line
--- after them. A digit counts from the greatest open level, which is `least` - 1, or from 0 if none is open.
-abbrev pub block_indent : ℕ → Option ℕ → ℕ → ℕ → ℕ
-block_indent least (Some d) leading column = (least - 1) + d
-block_indent least None leading column = max (max 1 least) (max leading column)
+-- the greatest open level, or 0 if none is open
+abbrev pub base : Option ℕ → ℕ
+base None = 0
+base (Some level) = level
 
-abbrev pub leading_limit : ℕ → Option ℕ → Option ℕ
-leading_limit least None = None
-leading_limit least (Some d) = Some ((least - 1) + d)
+-- the least column above the greatest open level, or 0 if none is open
+abbrev pub above : Option ℕ → ℕ
+above None = 0
+above (Some level) = level + 1
+
+-- the column that a digit sets for the text lines: so many after the greatest open level, or after 0 if none is open
+abbrev pub set_indent : Option ℕ → Option ℕ → Option ℕ
+set_indent level None = None
+set_indent level (Some d) = Some (base level + d)
+
+-- The column of the text lines: the one that is set. If none is, the greatest of 1, the least column above the open
+-- level, and the columns that spaces reach on the leading empty lines and on the line after them.
+abbrev pub block_indent : Option ℕ → Option ℕ → ℕ → ℕ → ℕ
+block_indent level (Some set) leading next = set
+block_indent level None leading next = max (max 1 (above level)) (max leading next)
 
 abbrev pub end_of : yaml_mark_t → List Line → yaml_mark_t
 end_of m [] = m
 end_of m (l ∷ ls) = end_of l.end ls
 
--- header, leading empty lines, text lines; at `|` or `>`
-unfoldable pub block : Bool → ℕ → Place → Read scalar_t
-block folded least p = do
+-- Header, leading empty lines, text lines; at `|` or `>`. The level is the greatest one that is open.
+unfoldable pub block : Bool → Option ℕ → Place → Read scalar_t
+block folded level p = do
   header ← header_at (skip 1 p)
   start ← after_line header.end
-  leading ← blank_lines (leading_limit least header.value.digit) start
-  lines ← many (text_line (block_indent least header.value.digit leading.value.column leading.end.mark.column)) leading.end
+  let set = set_indent level header.value.digit
+  leading ← blank_lines set start
+  lines ← many (text_line (block_indent level set leading.value.column leading.end.mark.column)) leading.end
   let value = utf8 (block_value folded header.value.chomp leading.value.breaks lines.value)
   found (record { value = value; end = end_of leading.value.end lines.value; passed_break = false }) lines.end

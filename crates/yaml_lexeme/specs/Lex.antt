@@ -16,7 +16,7 @@ use Rattle.yaml_lexeme.specs.Place.{Place, skip}
 use Rattle.yaml_lexeme.specs.Reading.{Read, found, ◌>>=◌}
 use Rattle.yaml_lexeme.specs.Quoted.{quoted}
 use Rattle.yaml_lexeme.specs.Plain.{plain}
-use Rattle.yaml_lexeme.specs.Block.{block}
+use Rattle.yaml_lexeme.specs.Block.{above, block}
 use Rattle.yaml_lexeme.specs.Name.{name}
 use Rattle.yaml_lexeme.specs.Tag.{tag}
 use Rattle.yaml_lexeme.specs.Directive.{directive}
@@ -24,10 +24,6 @@ use Rattle.yaml_lexeme.specs.Texts.{problem_text, context_text}
 
 abbrev pub in_flow : yaml_context_t → Bool
 in_flow context = nat_lt 0 context.depth
-
-abbrev pub above : Option ℕ → ℕ
-above None = 0
-above (Some level) = level + 1
 
 -- the least column of a line that goes on: the greatest open level + 1, or 0 if none is open
 abbrev pub least : yaml_context_t → ℕ
@@ -112,8 +108,8 @@ lex kind.VALUE context p = characters token.VALUE 1 p
 lex kind.ALIAS context p = whole token.ALIAS p (name p)
 lex kind.ANCHOR context p = whole token.ANCHOR p (name p)
 lex kind.TAG context p = whole (λ t. t) p (tag (in_flow context) p)
-lex kind.LITERAL context p = scalar YAML_LITERAL_SCALAR_STYLE p (block false (least context) p)
-lex kind.FOLDED context p = scalar YAML_FOLDED_SCALAR_STYLE p (block true (least context) p)
+lex kind.LITERAL context p = scalar YAML_LITERAL_SCALAR_STYLE p (block false context.level p)
+lex kind.FOLDED context p = scalar YAML_FOLDED_SCALAR_STYLE p (block true context.level p)
 lex kind.SINGLE_QUOTED context p = whole (quoted_as YAML_SINGLE_QUOTED_SCALAR_STYLE) p (quoted true p)
 lex kind.DOUBLE_QUOTED context p = whole (quoted_as YAML_DOUBLE_QUOTED_SCALAR_STYLE) p (quoted false p)
 lex kind.PLAIN context p = scalar YAML_PLAIN_SCALAR_STYLE p (plain (in_flow context) (least context) p)

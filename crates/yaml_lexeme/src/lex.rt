@@ -20,7 +20,7 @@ ghost use Rattle.yaml_lexeme.specs.Answers.{Answers};
 ghost use Rattle.yaml_lexeme.specs.Lexeme.{lexeme_of, scalar_of, directive_of};
 ghost use Rattle.yaml_text.specs.Token.{data_of};
 
-use crate::block::take_block;
+use crate::block::{above, take_block};
 use crate::cursor::cursor_t;
 use crate::directive::{directive_t, take_directive};
 use crate::fault::{make_memory_fault, make_scanner_fault};
@@ -159,10 +159,7 @@ fn least(context: yaml_context_t) -> u64
     requires { spec.least context < 2 ^ 64 }
     ensures { result ≡ spec.least context }
 {
-    match context.level {
-        None => 0,
-        Some(level) => level + 1,
-    }
+    above(context.level)
 }
 
 fn directive(start: yaml_mark_t, directive: directive_t, reach: yaml_mark_t) -> yaml_lexeme_t
@@ -259,10 +256,10 @@ fn take_block_scalar(
     context: yaml_context_t,
 ) -> Result<yaml_lexeme_t, refusal_t>
     requires { spec.least context + 10 < 2 ^ 64 }
-    ensures { Gives lexeme_of result cursor.new (spec.scalar (spec.block_style folded) cursor.old (blocks.block folded (spec.least context) cursor.old)) }
+    ensures { Gives lexeme_of result cursor.new (spec.scalar (spec.block_style folded) cursor.old (blocks.block folded context.level cursor.old)) }
 {
     let start = cursor.mark();
-    let s = take_block(alloc, cursor, folded, least(context))?;
+    let s = take_block(alloc, cursor, folded, context.level)?;
     Ok(scalar(block_style(folded), start, s, cursor.mark()))
 }
 

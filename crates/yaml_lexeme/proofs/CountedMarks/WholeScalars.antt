@@ -12,7 +12,7 @@ use Rattle.yaml_lexeme.proofs.CountedMarks.WholePlaces.{parts, Clear, clear_here
 use Rattle.yaml_lexeme.proofs.CountedMarks.WholeSmallReaders.{Held, Holds, ok_holds, refuse_holds, if_holds, bind_holds, from_holds, Clears, PartClears, ClearsTo, then_clears, then_to, many_clears, sure_white, sure_in_line, sure_alpha, is_not, named_clears, line_end_clears}
 use Rattle.yaml_lexeme.proofs.Parts.PartByPart.{many_turn}
 use Rattle.yaml_lexeme.proofs.MarkOrder.ScalarsAhead.{body_goes}
-use Rattle.yaml_lexeme.specs.Block.{is_sign, digit_at, header_at, is_indenting, indent_len, after_indent, blank_line, Blanks, blank_lines, Line, line_at, is_text, text_line, end_of, block, block_indent, leading_limit}
+use Rattle.yaml_lexeme.specs.Block.{is_sign, digit_at, header_at, is_indenting, indent_len, after_indent, blank_line, Blanks, blank_lines, Line, line_at, is_text, text_line, end_of, block, block_indent, set_indent}
 use Rattle.yaml_lexeme.specs.Classes.{ends, is_white, is_in_line}
 use Rattle.yaml_lexeme.specs.Directive.{directive}
 use Rattle.yaml_lexeme.specs.Escape.{backslash, escape, hex_escape, simple_at, hex_len, simple_escape, is_scalar}
@@ -308,11 +308,11 @@ lines_marks zero indent start m p h a = ok_holds (h, a)
 lines_marks (suc n) indent start m p h a =
     bind_holds (from_holds {R = LineEnd p} a (text_marks indent p) (λ x b. b)) (λ o e. lines_turn (at_most (text_line indent) n) start m p o h a e (λ l x i b. lines_marks n indent start l.end x i b))
 
-pub block_marks : (folded : Bool) (least : ℕ) (p : Place) → (first p == 0x0D) ≡ false → Marks (λ (s : scalar_t). s.end) p (block folded least p)
+pub block_marks : (folded : Bool) (level : Option ℕ) (p : Place) → (first p == 0x0D) ≡ false → Marks (λ (s : scalar_t). s.end) p (block folded level p)
 unfolding block
-block_marks folded least p h =
+block_marks folded level p h =
     bind_holds (then_clears (clear_one p h) (header_clears (skip 1 p))) (λ header a.
     bind_holds (then_to a (line_end_clears header.end)) (λ start b.
-    bind_holds (then_marks (λ (b : Blanks). b.end) b (blanks_marks (leading_limit least header.value.digit) start)) (λ leading c.
-    let indent = block_indent least header.value.digit leading.value.column leading.end.mark.column in
+    bind_holds (then_marks (λ (b : Blanks). b.end) b (blanks_marks (set_indent level header.value.digit) start)) (λ leading c.
+    let indent = block_indent level (set_indent level header.value.digit) leading.value.column leading.end.mark.column in
     bind_holds (lines_marks (length leading.end.rest + 1) indent p leading.value.end leading.end c.0 c.1) (λ lines d. ok_holds d))))

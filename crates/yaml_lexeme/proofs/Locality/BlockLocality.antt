@@ -7,7 +7,7 @@ use Rattle.yaml_lexeme.proofs.Locality.ComposedReaders.{Like, IsLike, IsPartLike
 use Rattle.yaml_lexeme.proofs.Locality.LocalReaders.{agree_less, run_same}
 use Rattle.yaml_lexeme.proofs.Locality.LookaheadLists.{Next, go, stop, join, finish, finish_like}
 use Rattle.yaml_lexeme.proofs.MarkOrder.ScalarsAhead.{blank_shortens, text_shortens}
-use Rattle.yaml_lexeme.specs.Block.{is_sign, sign_of, digit_at, header_at, after_line, is_indenting, indent_len, after_indent, Blank, blank_line, Blanks, blanks_of, blank_lines, Line, break_at, line_at, is_text, text_line, block_value, end_of, block_indent, leading_limit, block}
+use Rattle.yaml_lexeme.specs.Block.{is_sign, sign_of, digit_at, header_at, after_line, is_indenting, indent_len, after_indent, Blank, blank_line, Blanks, blanks_of, blank_lines, Line, break_at, line_at, is_text, text_line, block_value, end_of, block_indent, set_indent, block}
 use Rattle.yaml_lexeme.specs.Classes.{is_in_line}
 use Rattle.yaml_lexeme.specs.Fold.{written}
 use Rattle.yaml_lexeme.proofs.Locality.AgreeingPlaces.{Agree}
@@ -161,30 +161,30 @@ header_like n p q a =
     (like_found 1 refl (λ h. refl) (λ h. ap (λ (c : ℕ). signed c x.value) (sym (b.same 0 (omega arith))))) found_here))
 
 -- after the leading empty lines
-abbrev block_end : Bool → header_t → ℕ → Found Blanks → Read scalar_t
-block_end folded header least leading =
-    many (text_line (block_indent least header.digit leading.value.column leading.end.mark.column)) leading.end >>= λ lines.
+abbrev block_end : Bool → header_t → Option ℕ → Found Blanks → Read scalar_t
+block_end folded header level leading =
+    many (text_line (block_indent level (set_indent level header.digit) leading.value.column leading.end.mark.column)) leading.end >>= λ lines.
     found (record { value = utf8 (block_value folded header.chomp leading.value.breaks lines.value); end = end_of leading.value.end lines.value; passed_break = false }) lines.end
 
 abbrev block_value_of : Bool → header_t → Blanks → List Line → scalar_t
 block_value_of folded header leading lines = record { value = utf8 (block_value folded header.chomp leading.breaks lines); end = end_of leading.end lines; passed_break = false }
 
 -- after the header's line
-abbrev block_lines : Bool → ℕ → header_t → Place → Read scalar_t
-block_lines folded least header start = blank_lines (leading_limit least header.digit) start >>= λ leading. block_end folded header least leading
+abbrev block_lines : Bool → Option ℕ → header_t → Place → Read scalar_t
+block_lines folded level header start = blank_lines (set_indent level header.digit) start >>= λ leading. block_end folded header level leading
 
-end_like : (folded : Bool) (header : header_t) (least column : ℕ) (leading : Blanks) (n : ℕ) (p q : Place) → Agree n p q → p.mark.column ≡ column
-    → Like n p q (many (text_line (block_indent least header.digit leading.column column)) p >>= λ lines. found (block_value_of folded header leading lines.value) lines.end)
-    (many (text_line (block_indent least header.digit leading.column column)) q >>= λ lines. found (block_value_of folded header leading lines.value) lines.end)
-end_like folded header least column leading n p q a e =
-    let indent = block_indent least header.digit leading.column column in
+end_like : (folded : Bool) (header : header_t) (level : Option ℕ) (column : ℕ) (leading : Blanks) (n : ℕ) (p q : Place) → Agree n p q → p.mark.column ≡ column
+    → Like n p q (many (text_line (block_indent level (set_indent level header.digit) leading.column column)) p >>= λ lines. found (block_value_of folded header leading lines.value) lines.end)
+    (many (text_line (block_indent level (set_indent level header.digit) leading.column column)) q >>= λ lines. found (block_value_of folded header leading lines.value) lines.end)
+end_like folded header level column leading n p q a e =
+    let indent = block_indent level (set_indent level header.digit) leading.column column in
     like_map (block_value_of folded header leading) (many_like (text_line indent) (text_shortens indent) (text_like indent) n p q a)
 
-block_lines_like : (folded : Bool) (least : ℕ) (header : header_t) → IsLike (block_lines folded least header)
-block_lines_like folded least header n p q a =
-    like_bind _ _ a (lines_like (leading_limit least header.digit) n p q a) (λ x z m b.
-    subst (λ (k : yaml_mark_t). Like {A = scalar_t} m x.end z (block_end folded header least x) (many (text_line (block_indent least header.digit x.value.column k.column)) z >>= λ lines. found (block_value_of folded header x.value lines.value) lines.end)) b.mark
-    (end_like folded header least x.end.mark.column x.value m x.end z b refl))
+block_lines_like : (folded : Bool) (level : Option ℕ) (header : header_t) → IsLike (block_lines folded level header)
+block_lines_like folded level header n p q a =
+    like_bind _ _ a (lines_like (set_indent level header.digit) n p q a) (λ x z m b.
+    subst (λ (k : yaml_mark_t). Like {A = scalar_t} m x.end z (block_end folded header level x) (many (text_line (block_indent level (set_indent level header.digit) x.value.column k.column)) z >>= λ lines. found (block_value_of folded header x.value lines.value) lines.end)) b.mark
+    (end_like folded header level x.end.mark.column x.value m x.end z b refl))
 
 abbrev as_read : Result Place Offence → Read ℕ
 as_read r = r >>= λ next. found {A = ℕ} 0 next
@@ -193,22 +193,22 @@ rest_is : {A : Type 0} (r : Result Place Offence) (f : Place → Read A) → (r 
 rest_is (Ok p) f = refl
 rest_is (Err e) f = refl
 
-abbrev block_header : Bool → ℕ → Place → Read scalar_t
-block_header folded least p = header_at p >>= λ header. as_read (after_line header.end) >>= λ start. block_lines folded least header.value start.end
+abbrev block_header : Bool → Option ℕ → Place → Read scalar_t
+block_header folded level p = header_at p >>= λ header. as_read (after_line header.end) >>= λ start. block_lines folded level header.value start.end
 
-block_from : (folded : Bool) (least : ℕ) (r : Read header_t) → (r >>= λ header. after_line header.end >>= λ start. block_lines folded least header.value start) ≡ (r >>= λ header. as_read (after_line header.end) >>= λ start. block_lines folded least header.value start.end)
-block_from folded least (Ok header) = rest_is (after_line header.end) (block_lines folded least header.value)
-block_from folded least (Err e) = refl
+block_from : (folded : Bool) (level : Option ℕ) (r : Read header_t) → (r >>= λ header. after_line header.end >>= λ start. block_lines folded level header.value start) ≡ (r >>= λ header. as_read (after_line header.end) >>= λ start. block_lines folded level header.value start.end)
+block_from folded level (Ok header) = rest_is (after_line header.end) (block_lines folded level header.value)
+block_from folded level (Err e) = refl
 
-block_is : (folded : Bool) (least : ℕ) (p : Place) → block folded least p ≡ block_header folded least (skip 1 p)
+block_is : (folded : Bool) (level : Option ℕ) (p : Place) → block folded level p ≡ block_header folded level (skip 1 p)
 unfolding block
-block_is folded least p = block_from folded least (header_at (skip 1 p))
+block_is folded level p = block_from folded level (header_at (skip 1 p))
 
-block_header_like : (folded : Bool) (least : ℕ) → IsLike (block_header folded least)
-block_header_like folded least n p q a =
+block_header_like : (folded : Bool) (level : Option ℕ) → IsLike (block_header folded level)
+block_header_like folded level n p q a =
     like_bind _ _ a (header_like n p q a) (λ x z m b.
-    like_bind _ _ b (line_like {A = ℕ} 0 m x.end z b) (λ y w i c. block_lines_like folded least x.value i y.end w c))
+    like_bind _ _ b (line_like {A = ℕ} 0 m x.end z b) (λ y w i c. block_lines_like folded level x.value i y.end w c))
 
-pub block_like : (folded : Bool) (least : ℕ) → IsLike (block folded least)
-block_like folded least n p q a =
-    rw (block_is folded least p, block_is folded least q) (like_on (block_header folded least) (block_header_like folded least) n 1 p q (skip 1 p) (skip 1 q) a refl (λ h. refl))
+pub block_like : (folded : Bool) (level : Option ℕ) → IsLike (block folded level)
+block_like folded level n p q a =
+    rw (block_is folded level p, block_is folded level q) (like_on (block_header folded level) (block_header_like folded level) n 1 p q (skip 1 p) (skip 1 q) a refl (λ h. refl))

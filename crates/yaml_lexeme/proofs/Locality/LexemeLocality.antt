@@ -74,8 +74,8 @@ lex_like kind.ANCHOR c n p q a = whole_like token.ANCHOR name name_like n p q a
 lex_like kind.TAG c n p q a = whole_like (λ t. t) (tag (in_flow c)) (tag_like (in_flow c)) n p q a
 lex_like kind.SINGLE_QUOTED c n p q a = whole_like (quoted_as YAML_SINGLE_QUOTED_SCALAR_STYLE) (quoted true) (like_of (quoted true) (quoted_local true)) n p q a
 lex_like kind.DOUBLE_QUOTED c n p q a = whole_like (quoted_as YAML_DOUBLE_QUOTED_SCALAR_STYLE) (quoted false) (like_of (quoted false) (quoted_local false)) n p q a
-lex_like kind.LITERAL c n p q a = scalar_like YAML_LITERAL_SCALAR_STYLE (block false (least c)) (block_like false (least c)) n p q a
-lex_like kind.FOLDED c n p q a = scalar_like YAML_FOLDED_SCALAR_STYLE (block true (least c)) (block_like true (least c)) n p q a
+lex_like kind.LITERAL c n p q a = scalar_like YAML_LITERAL_SCALAR_STYLE (block false c.level) (block_like false c.level) n p q a
+lex_like kind.FOLDED c n p q a = scalar_like YAML_FOLDED_SCALAR_STYLE (block true c.level) (block_like true c.level) n p q a
 lex_like kind.PLAIN c n p q a = scalar_like YAML_PLAIN_SCALAR_STYLE (plain (in_flow c) (least c)) (plain_like (in_flow c) (least c)) n p q a
 
 pub lex_local_to : (k : yaml_lexeme_kind_t) (c : yaml_context_t) → IsLocalTo (lex k c)

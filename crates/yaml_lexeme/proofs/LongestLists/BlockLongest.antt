@@ -8,7 +8,7 @@ use Rattle.yaml_lexeme.proofs.MarkOrder.ScalarsAhead.{blank_goes, line_spans, li
 use Rattle.yaml_lexeme.proofs.Readers.UriOctets.{uri_ahead}
 use Rattle.yaml_lexeme.proofs.Parts.ReadResults.{value_or, end_or, offence_or, both}
 use Rattle.yaml_lexeme.proofs.Readers.BlockLines.{after_blanks, blanks_is, tail_of, after_leading, after_start, after_header, block_is}
-use Rattle.yaml_lexeme.specs.Block.{Blank, Blanks, Line, header_at, after_line, after_indent, blank_line, blank_lines, blanks_of, leading_limit, text_line, block}
+use Rattle.yaml_lexeme.specs.Block.{Blank, Blanks, Line, header_at, after_line, after_indent, blank_line, blank_lines, blanks_of, set_indent, text_line, block}
 use Rattle.yaml_lexeme.specs.Parts.{Piece, values, IsLongest, UriParts, UriIsParts, UriIsRefused, BlankParts, BlanksAreLines, BlockParts, BlockIsLines, indent_of, block_scalar}
 use Rattle.yaml_lexeme.specs.Place.{Place, skip}
 use Rattle.yaml_lexeme.specs.Reading.{Offence, Found, Read, found, ◌>>=◌, over, many}
@@ -50,11 +50,11 @@ blanks_lines limit p f = (λ h. blanks_from limit p f (many (blank_line limit) p
 line_advances : (indent : ℕ) → Advances (text_line indent)
 line_advances indent p = (line_goes_of p (text_line indent p) (line_spans indent p)).goes
 
-module _ (folded : Bool) (least : ℕ) (p : Place) (f : Found scalar_t) where
-  lines_from : (header : Found header_t) (start : Place) (leading : Found Blanks) → header_at (skip 1 p) ≡ Ok header → after_line header.end ≡ Ok start → blank_lines (leading_limit least header.value.digit) start ≡ Ok leading
-      → (r : Read (List Line)) → many (text_line (indent_of least header.value leading)) leading.end ≡ r → tail_of folded header.value.chomp leading.value r ≡ Ok f → BlockParts folded least p f
+module _ (folded : Bool) (level : Option ℕ) (p : Place) (f : Found scalar_t) where
+  lines_from : (header : Found header_t) (start : Place) (leading : Found Blanks) → header_at (skip 1 p) ≡ Ok header → after_line header.end ≡ Ok start → blank_lines (set_indent level header.value.digit) start ≡ Ok leading
+      → (r : Read (List Line)) → many (text_line (indent_of level header.value leading)) leading.end ≡ r → tail_of folded header.value.chomp leading.value r ≡ Ok f → BlockParts folded level p f
   lines_from header start leading eh es el (Ok b) e h =
-      let l = many_longest (text_line (indent_of least header.value leading)) (line_advances (indent_of least header.value leading)) leading.end b e in
+      let l = many_longest (text_line (indent_of level header.value leading)) (line_advances (indent_of level header.value leading)) leading.end b e in
       record {
         header = header;
         start = start;
@@ -63,29 +63,29 @@ module _ (folded : Bool) (least : ℕ) (p : Place) (f : Found scalar_t) where
         header_is = eh;
         start_is = es;
         leading_is = el;
-        longest = subst (λ (x : Place). IsLongest (text_line (indent_of least header.value leading)) leading.end l.pieces x over) (ap (end_or b.end) h) l.is;
+        longest = subst (λ (x : Place). IsLongest (text_line (indent_of level header.value leading)) leading.end l.pieces x over) (ap (end_or b.end) h) l.is;
         value = sym (ap (value_or (block_scalar folded header.value.chomp leading.value b.value)) h) ∙ ap (λ (vs : List Line). block_scalar folded header.value.chomp leading.value vs) l.values_are;
       }
   lines_from header start leading eh es el (Err o) e h = absurd cc
 
-  leading_from : (header : Found header_t) (start : Place) → header_at (skip 1 p) ≡ Ok header → after_line header.end ≡ Ok start → (r : Read Blanks) → blank_lines (leading_limit least header.value.digit) start ≡ r
-      → after_leading folded least header.value r ≡ Ok f → BlockParts folded least p f
-  leading_from header start eh es (Ok leading) e h = lines_from header start leading eh es e (many (text_line (indent_of least header.value leading)) leading.end) refl h
+  leading_from : (header : Found header_t) (start : Place) → header_at (skip 1 p) ≡ Ok header → after_line header.end ≡ Ok start → (r : Read Blanks) → blank_lines (set_indent level header.value.digit) start ≡ r
+      → after_leading folded level header.value r ≡ Ok f → BlockParts folded level p f
+  leading_from header start eh es (Ok leading) e h = lines_from header start leading eh es e (many (text_line (indent_of level header.value leading)) leading.end) refl h
   leading_from header start eh es (Err o) e h = absurd cc
 
-  start_from : (header : Found header_t) → header_at (skip 1 p) ≡ Ok header → (r : Result Place Offence) → after_line header.end ≡ r → after_start folded least header.value r ≡ Ok f → BlockParts folded least p f
-  start_from header eh (Ok start) e h = leading_from header start eh e (blank_lines (leading_limit least header.value.digit) start) refl h
+  start_from : (header : Found header_t) → header_at (skip 1 p) ≡ Ok header → (r : Result Place Offence) → after_line header.end ≡ r → after_start folded level header.value r ≡ Ok f → BlockParts folded level p f
+  start_from header eh (Ok start) e h = leading_from header start eh e (blank_lines (set_indent level header.value.digit) start) refl h
   start_from header eh (Err o) e h = absurd cc
 
-  header_from : (r : Read header_t) → header_at (skip 1 p) ≡ r → after_header folded least r ≡ Ok f → BlockParts folded least p f
+  header_from : (r : Read header_t) → header_at (skip 1 p) ≡ r → after_header folded level r ≡ Ok f → BlockParts folded level p f
   header_from (Ok header) e h = start_from header e (after_line header.end) refl h
   header_from (Err o) e h = absurd cc
 
-  block_to : BlockParts folded least p f → block folded least p ≡ Ok f
+  block_to : BlockParts folded level p f → block folded level p ≡ Ok f
   block_to q =
-      block_is folded least p ∙ ap (after_header folded least) q.header_is ∙ ap (after_start folded least q.header.value) q.start_is ∙ ap (after_leading folded least q.header.value) q.leading_is
-      ∙ ap (tail_of folded q.header.value.chomp q.leading.value) (found_of (text_line (indent_of least q.header.value q.leading)) (line_advances (indent_of least q.header.value q.leading)) q.leading.end q.lines f.end q.longest)
+      block_is folded level p ∙ ap (after_header folded level) q.header_is ∙ ap (after_start folded level q.header.value) q.start_is ∙ ap (after_leading folded level q.header.value) q.leading_is
+      ∙ ap (tail_of folded q.header.value.chomp q.leading.value) (found_of (text_line (indent_of level q.header.value q.leading)) (line_advances (indent_of level q.header.value q.leading)) q.leading.end q.lines f.end q.longest)
       ∙ both f (block_scalar folded q.header.value.chomp q.leading.value (values q.lines)) f.end q.value refl
 
 pub block_lines : BlockIsLines
-block_lines folded least p f = (λ h. header_from folded least p f (header_at (skip 1 p)) refl (sym (block_is folded least p) ∙ h), block_to folded least p f)
+block_lines folded level p f = (λ h. header_from folded level p f (header_at (skip 1 p)) refl (sym (block_is folded level p) ∙ h), block_to folded level p f)

@@ -8,7 +8,7 @@ use Rattle.yaml_lexeme.proofs.MarkOrder.ScalarsAhead.{blank_goes, line_spans, li
 use Rattle.yaml_lexeme.proofs.Readers.UriOctets.{uri_ahead}
 use Rattle.yaml_lexeme.proofs.Parts.ReadResults.{value_or, end_or, offence_or, both}
 use Rattle.yaml_lexeme.proofs.Readers.BlockLines.{after_blanks, blanks_is, tail_of, after_leading, after_start, after_header, block_is}
-use Rattle.yaml_lexeme.specs.Block.{Blank, Blanks, Line, header_at, after_line, after_indent, blank_line, blank_lines, blanks_of, leading_limit, text_line, block}
+use Rattle.yaml_lexeme.specs.Block.{Blank, Blanks, Line, header_at, after_line, after_indent, blank_line, blank_lines, blanks_of, text_line, block}
 use Rattle.yaml_lexeme.specs.Parts.{Piece, values, IsLongest, UriParts, UriIsParts, UriIsRefused, BlankParts, BlanksAreLines, BlockParts, BlockIsLines, indent_of, block_scalar}
 use Rattle.yaml_lexeme.specs.Place.{Place, skip}
 use Rattle.yaml_lexeme.specs.Reading.{Offence, Found, Read, found, ◌>>=◌, over, many}

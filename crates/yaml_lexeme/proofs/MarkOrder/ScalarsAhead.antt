@@ -9,7 +9,7 @@ use Rattle.yaml_lexeme.proofs.Parts.PartByPart.{many_turn, Shortens}
 use Rattle.yaml_lexeme.proofs.MarkOrder.SmallReadersAhead.{comment_ahead, on, next, named_goes}
 use Rattle.yaml_lexeme.proofs.Places.PlaceMoves.{is_there, break_within, behind_more, behind_none, some_char, in_or_break, is_break_len}
 use Rattle.yaml_lexeme.proofs.Readers.PlainLinks.{chunk_more, chunk_there}
-use Rattle.yaml_lexeme.specs.Block.{is_sign, digit_at, header_at, after_line, is_indenting, indent_len, after_indent, blank_line, Blanks, blank_lines, Line, line_at, is_text, text_line, end_of, block, block_indent, leading_limit}
+use Rattle.yaml_lexeme.specs.Block.{is_sign, digit_at, header_at, after_line, is_indenting, indent_len, after_indent, blank_line, Blanks, blank_lines, Line, line_at, is_text, text_line, end_of, block, block_indent, set_indent}
 use Rattle.yaml_lexeme.specs.Classes.{ends, is_white, is_in_line}
 use Rattle.yaml_lexeme.specs.Directive.{directive}
 use Rattle.yaml_lexeme.specs.Escape.{escape, hex_escape, simple_at, hex_len, simple_escape, is_scalar}
@@ -220,13 +220,13 @@ lines_within (suc k) n indent start m p h s =
 lines_span : (n indent : ℕ) (start : Place) (m : yaml_mark_t) (p : Place) → Spans n start m p → Span (end_of m) n start (many (text_line indent) p)
 lines_span n indent start m p s = lines_within (length p.rest + 1) n indent start m p (omega arith) s
 
-pub block_span : (folded : Bool) (least : ℕ) (p : Place) → 0 < length p.rest → Span (λ (s : scalar_t). s.end) 1 p (block folded least p)
+pub block_span : (folded : Bool) (level : Option ℕ) (p : Place) → 0 < length p.rest → Span (λ (s : scalar_t). s.end) 1 p (block folded level p)
 unfolding block
-block_span folded least p h =
+block_span folded level p h =
     bind_span 1 (then_goes 1 0 (ahead_skip 1 p (omega arith)) (header_goes (skip 1 p))) (λ header a.
     to_span 1 a (line_end_goes header.end) (λ start b c.
-    span_span 1 (then_span 1 0 (blank_lines (leading_limit least header.value.digit) start) b (blanks_span (leading_limit least header.value.digit) start)) (λ leading s.
-    span_span 1 (lines_span 1 (block_indent least header.value.digit leading.value.column leading.end.mark.column) p leading.value.end leading.end s) (λ lines t. found_span t))))
+    span_span 1 (then_span 1 0 (blank_lines (set_indent level header.value.digit) start) b (blanks_span (set_indent level header.value.digit) start)) (λ leading s.
+    span_span 1 (lines_span 1 (block_indent level (set_indent level header.value.digit) leading.value.column leading.end.mark.column) p leading.value.end leading.end s) (λ lines t. found_span t))))
 
 -- empty lines and text lines take a character or more
 pub blank_shortens : (limit : Option ℕ) → Shortens (blank_line limit)

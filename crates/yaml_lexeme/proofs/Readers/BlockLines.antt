@@ -14,7 +14,7 @@ use Rattle.yaml_lexeme.proofs.Places.PlaceMoves.{length_skip, break_within}
 use Rattle.yaml_lexeme.proofs.Readers.FoldSeparators.{run_more, run_none, encode_some}
 use Rattle.yaml_lexeme.proofs.MarkOrder.ScalarsAhead.{blank_shortens, text_shortens}
 use Rattle.yaml_lexeme.proofs.Parts.ReadResults.{value_or, end_or}
-use Rattle.yaml_lexeme.specs.Block.{is_indenting, indent_len, after_indent, Blank, blank_line, Blanks, blanks_of, blank_lines, Line, break_at, line_at, is_text, text_line, header_at, after_line, leading_limit, block_indent, between, chomped, behind_line, block_value, end_of as end_of_lines, block, or_none, or_space, is_line_feed, is_more_indented}
+use Rattle.yaml_lexeme.specs.Block.{is_indenting, indent_len, after_indent, Blank, blank_line, Blanks, blanks_of, blank_lines, Line, break_at, line_at, is_text, text_line, header_at, after_line, set_indent, block_indent, between, chomped, behind_line, block_value, end_of as end_of_lines, block, or_none, or_space, is_line_feed, is_more_indented}
 use Rattle.yaml_lexeme.specs.Classes.{is_in_line}
 use Rattle.yaml_lexeme.specs.Fold.{written}
 use Rattle.yaml_lexeme.specs.Gives.{Refuses}
@@ -267,15 +267,15 @@ read_blank indent p q l (Ok b) e = let same : run is_in_line p ≡ l.text = ap t
 read_blank indent p q l (Err o) e = absurd cc
 
 -- Lines are being read: what that makes is what the scalar is.
-pub record Blocking (folded : Bool) (least : ℕ) (start : Place) (chomp : chomp_t) (indent : ℕ) (p : Place) (out : List ℕ) (tail : tail_t) : Type 0 where
+pub record Blocking (folded : Bool) (level : Option ℕ) (start : Place) (chomp : chomp_t) (indent : ℕ) (p : Place) (out : List ℕ) (tail : tail_t) : Type 0 where
   pub last : Line
   pub keeps : Keeps tail last
-  pub so_far : finish chomp (gather (add_line folded) (out, last) (many (text_line indent) p)) ≡ block folded least start
+  pub so_far : finish chomp (gather (add_line folded) (out, last) (many (text_line indent) p)) ≡ block folded level start
 
-pub blocks_more : (folded : Bool) (least : ℕ) (start : Place) (chomp : chomp_t) (indent : ℕ) (p q : Place) (out mid new : List ℕ) (tail next : tail_t) (blank : Bool)
-    → is_text indent p ≡ true → Blocking folded least start chomp indent p out tail → blank ≡ is_blank (first p) → mid ≡ out ++ between_tail folded tail blank → TakesLine (Ok next) mid new q (line_at indent p)
-    → (length q.rest < length p.rest) × Blocking folded least start chomp indent q new next
-blocks_more folded least start chomp indent p q out mid new tail next blank h b c m t =
+pub blocks_more : (folded : Bool) (level : Option ℕ) (start : Place) (chomp : chomp_t) (indent : ℕ) (p q : Place) (out mid new : List ℕ) (tail next : tail_t) (blank : Bool)
+    → is_text indent p ≡ true → Blocking folded level start chomp indent p out tail → blank ≡ is_blank (first p) → mid ≡ out ++ between_tail folded tail blank → TakesLine (Ok next) mid new q (line_at indent p)
+    → (length q.rest < length p.rest) × Blocking folded level start chomp indent q new next
+blocks_more folded level start chomp indent p q out mid new tail next blank h b c m t =
     let (l, read, keeps, value) = line_from next mid new q (line_at indent p) t in
     let more : is_more_indented l ≡ is_blank (first p) = read_blank indent p q l (blank_lines (Some indent) (line_end p)) (sym (line_is indent p) ∙ read) in
     let f : Found Line = record { value = l; end = q } in
@@ -284,12 +284,12 @@ blocks_more folded least start chomp indent p q out mid new tail next blank h b 
     let g = gathers_more (add_line folded) (text_line indent) (text_shortens indent) p s f (gather (add_line folded) s (many (text_line indent) p)) one refl in
     let between' : mid ≡ out ++ utf8 (between folded b.last l) = m ∙ ap (λ (xs : List ℕ). out ++ xs) (between_bytes folded tail b.last l blank b.keeps (c ∙ sym more)) in
     let value' : new ≡ out ++ utf8 (between folded b.last l) ++ utf8 l.text = value ∙ ap (λ (xs : List ℕ). xs ++ utf8 l.text) between' in
-    (g.0, record { last = l; keeps = keeps; so_far = subst (λ (xs : List ℕ). finish chomp (gather (add_line folded) (xs, l) (many (text_line indent) q)) ≡ block folded least start) (sym value') (ap (finish chomp) g.1 ∙ b.so_far) })
+    (g.0, record { last = l; keeps = keeps; so_far = subst (λ (xs : List ℕ). finish chomp (gather (add_line folded) (xs, l) (many (text_line indent) q)) ≡ block folded level start) (sym value') (ap (finish chomp) g.1 ∙ b.so_far) })
 
-pub blocks_all : (folded : Bool) (least : ℕ) (start : Place) (chomp : chomp_t) (indent : ℕ) (p : Place) (out new : List ℕ) (tail : tail_t)
-    → is_text indent p ≡ false → Blocking folded least start chomp indent p out tail → new ≡ out ++ chomped_tail chomp tail
-    → block folded least start ≡ found (record { value = new; end = tail.end; passed_break = false }) p
-blocks_all folded least start chomp indent p out new tail h b e =
+pub blocks_all : (folded : Bool) (level : Option ℕ) (start : Place) (chomp : chomp_t) (indent : ℕ) (p : Place) (out new : List ℕ) (tail : tail_t)
+    → is_text indent p ≡ false → Blocking folded level start chomp indent p out tail → new ≡ out ++ chomped_tail chomp tail
+    → block folded level start ≡ found (record { value = new; end = tail.end; passed_break = false }) p
+blocks_all folded level start chomp indent p out new tail h b e =
     let s : Lines = (out, b.last) in
     let all = gathers_all (add_line folded) (text_line indent) (text_shortens indent) p s (gather (add_line folded) s (many (text_line indent) p)) (text_none indent p h) refl in
     let value : new ≡ out ++ utf8 (chomped chomp b.last) = e ∙ ap (λ (xs : List ℕ). out ++ xs) (chomped_bytes chomp tail b.last b.keeps) in
@@ -306,53 +306,53 @@ tail_is folded chomp b (Ok r) =
     let value = t.0 ∙ ap utf8 (first_of folded chomp b.breaks b.end r.value) in
     rw (value, t.1) refl
 
-abbrev pub after_leading : Bool → ℕ → header_t → Read Blanks → Read scalar_t
-after_leading folded least h r = r >>= λ leading. tail_of folded h.chomp leading.value (many (text_line (block_indent least h.digit leading.value.column leading.end.mark.column)) leading.end)
+abbrev pub after_leading : Bool → Option ℕ → header_t → Read Blanks → Read scalar_t
+after_leading folded level h r = r >>= λ leading. tail_of folded h.chomp leading.value (many (text_line (block_indent level (set_indent level h.digit) leading.value.column leading.end.mark.column)) leading.end)
 
-abbrev pub after_start : Bool → ℕ → header_t → Result Place Offence → Read scalar_t
-after_start folded least h r = r >>= λ start. after_leading folded least h (blank_lines (leading_limit least h.digit) start)
+abbrev pub after_start : Bool → Option ℕ → header_t → Result Place Offence → Read scalar_t
+after_start folded level h r = r >>= λ start. after_leading folded level h (blank_lines (set_indent level h.digit) start)
 
-abbrev pub after_header : Bool → ℕ → Read header_t → Read scalar_t
-after_header folded least r = r >>= λ header. after_start folded least header.value (after_line header.end)
+abbrev pub after_header : Bool → Option ℕ → Read header_t → Read scalar_t
+after_header folded level r = r >>= λ header. after_start folded level header.value (after_line header.end)
 
-pub block_is : (folded : Bool) (least : ℕ) (p : Place) → block folded least p ≡ after_header folded least (header_at (skip 1 p))
+pub block_is : (folded : Bool) (level : Option ℕ) (p : Place) → block folded level p ≡ after_header folded level (header_at (skip 1 p))
 unfolding block
-block_is folded least p = refl
+block_is folded level p = refl
 
-pub header_refused : (error : refusal_t) (folded : Bool) (least : ℕ) (p q : Place) → Refuses error q (header_at (skip 1 p)) → Refuses error q (block folded least p)
-header_refused errors.MEMORY folded least p q h = tt
-header_refused (errors.OFFENCE problem) folded least p q h = block_is folded least p ∙ ap (after_header folded least) h
+pub header_refused : (error : refusal_t) (folded : Bool) (level : Option ℕ) (p q : Place) → Refuses error q (header_at (skip 1 p)) → Refuses error q (block folded level p)
+header_refused errors.MEMORY folded level p q h = tt
+header_refused (errors.OFFENCE problem) folded level p q h = block_is folded level p ∙ ap (after_header folded level) h
 
-pub start_refused : (error : refusal_t) (folded : Bool) (least : ℕ) (p q : Place) (header : header_t) (a : Place) → header_at (skip 1 p) ≡ found header a → Refuses error q (after_line a) → Refuses error q (block folded least p)
-start_refused errors.MEMORY folded least p q header a e h = tt
-start_refused (errors.OFFENCE problem) folded least p q header a e h = block_is folded least p ∙ ap (after_header folded least) e ∙ ap (after_start folded least header) h
+pub start_refused : (error : refusal_t) (folded : Bool) (level : Option ℕ) (p q : Place) (header : header_t) (a : Place) → header_at (skip 1 p) ≡ found header a → Refuses error q (after_line a) → Refuses error q (block folded level p)
+start_refused errors.MEMORY folded level p q header a e h = tt
+start_refused (errors.OFFENCE problem) folded level p q header a e h = block_is folded level p ∙ ap (after_header folded level) e ∙ ap (after_start folded level header) h
 
-pub leading_refused : (error : refusal_t) (folded : Bool) (least : ℕ) (p q : Place) (header : header_t) (a b : Place) → header_at (skip 1 p) ≡ found header a → after_line a ≡ Ok b
-    → Refuses error q (blank_lines (leading_limit least header.digit) b) → Refuses error q (block folded least p)
-leading_refused errors.MEMORY folded least p q header a b e f h = tt
-leading_refused (errors.OFFENCE problem) folded least p q header a b e f h =
-    block_is folded least p ∙ ap (after_header folded least) e ∙ ap (after_start folded least header) f ∙ ap (after_leading folded least header) h
+pub leading_refused : (error : refusal_t) (folded : Bool) (level : Option ℕ) (p q : Place) (header : header_t) (a b : Place) → header_at (skip 1 p) ≡ found header a → after_line a ≡ Ok b
+    → Refuses error q (blank_lines (set_indent level header.digit) b) → Refuses error q (block folded level p)
+leading_refused errors.MEMORY folded level p q header a b e f h = tt
+leading_refused (errors.OFFENCE problem) folded level p q header a b e f h =
+    block_is folded level p ∙ ap (after_header folded level) e ∙ ap (after_start folded level header) f ∙ ap (after_leading folded level header) h
 
-pub blocks_begin : (folded : Bool) (least : ℕ) (p : Place) (header : header_t) (a b q : Place) (column indent : ℕ) (tail : tail_t) → header_at (skip 1 p) ≡ found header a → after_line a ≡ Ok b
-    → TakesBlanks (Ok (record { column = column; end = tail.end })) [] tail.empties.items q (blank_lines (leading_limit least header.digit) b)
-    → tail.lead ≡ None → tail.indented ≡ false → indent ≡ block_indent least header.digit column q.mark.column → Blocking folded least p header.chomp indent q [] tail
-blocks_begin folded least p header a b q column indent tail e f t l i n =
-    let (leading, read, wide, breaks, end) = blanks_from column tail.end [] tail.empties.items q (blank_lines (leading_limit least header.digit) b) t in
-    let here : block folded least p ≡ tail_of folded header.chomp leading (many (text_line (block_indent least header.digit leading.column q.mark.column)) q) =
-    block_is folded least p ∙ ap (after_header folded least) e ∙ ap (after_start folded least header) f ∙ ap (after_leading folded least header) read in
-    let same : indent ≡ block_indent least header.digit leading.column q.mark.column = n ∙ ap (λ (k : ℕ). block_indent least header.digit k q.mark.column) wide in
+pub blocks_begin : (folded : Bool) (level : Option ℕ) (p : Place) (header : header_t) (a b q : Place) (column indent : ℕ) (tail : tail_t) → header_at (skip 1 p) ≡ found header a → after_line a ≡ Ok b
+    → TakesBlanks (Ok (record { column = column; end = tail.end })) [] tail.empties.items q (blank_lines (set_indent level header.digit) b)
+    → tail.lead ≡ None → tail.indented ≡ false → indent ≡ block_indent level (set_indent level header.digit) column q.mark.column → Blocking folded level p header.chomp indent q [] tail
+blocks_begin folded level p header a b q column indent tail e f t l i n =
+    let (leading, read, wide, breaks, end) = blanks_from column tail.end [] tail.empties.items q (blank_lines (set_indent level header.digit) b) t in
+    let here : block folded level p ≡ tail_of folded header.chomp leading (many (text_line (block_indent level (set_indent level header.digit) leading.column q.mark.column)) q) =
+    block_is folded level p ∙ ap (after_header folded level) e ∙ ap (after_start folded level header) f ∙ ap (after_leading folded level header) read in
+    let same : indent ≡ block_indent level (set_indent level header.digit) leading.column q.mark.column = n ∙ ap (λ (k : ℕ). block_indent level (set_indent level header.digit) k q.mark.column) wide in
     let zero = before_lines leading.breaks leading.end in
     record {
       last = zero;
       keeps = record { lead = l; empties = breaks; indented = i; end = end };
-      so_far = rw same (tail_is folded header.chomp leading (many (text_line (block_indent least header.digit leading.column q.mark.column)) q) ∙ sym here);
+      so_far = rw same (tail_is folded header.chomp leading (many (text_line (block_indent level (set_indent level header.digit) leading.column q.mark.column)) q) ∙ sym here);
     }
 
 -- a line could not be taken
-pub blocks_refused : (error : refusal_t) (folded : Bool) (least : ℕ) (start : Place) (chomp : chomp_t) (indent : ℕ) (p q : Place) (out : List ℕ) (tail : tail_t)
-    → is_text indent p ≡ true → Blocking folded least start chomp indent p out tail → Refuses error q (line_at indent p) → Refuses error q (block folded least start)
-blocks_refused errors.MEMORY folded least start chomp indent p q out tail h b e = tt
-blocks_refused (errors.OFFENCE problem) folded least start chomp indent p q out tail h b e =
+pub blocks_refused : (error : refusal_t) (folded : Bool) (level : Option ℕ) (start : Place) (chomp : chomp_t) (indent : ℕ) (p q : Place) (out : List ℕ) (tail : tail_t)
+    → is_text indent p ≡ true → Blocking folded level start chomp indent p out tail → Refuses error q (line_at indent p) → Refuses error q (block folded level start)
+blocks_refused errors.MEMORY folded level start chomp indent p q out tail h b e = tt
+blocks_refused (errors.OFFENCE problem) folded level start chomp indent p q out tail h b e =
     let s : Lines = (out, b.last) in
     let o : Offence = record { problem = problem; at = q } in
     let one : text_line indent p ≡ Err o = text_is indent p h ∙ ap (λ (r : Read Line). r >>= λ l. part l.value l.end) e in
