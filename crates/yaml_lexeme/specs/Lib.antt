@@ -6,6 +6,7 @@ pub mod GapText
 pub mod Kind
 pub mod Fold
 pub mod Lexeme
+pub mod StreamEnd
 pub mod Escape
 pub mod Quoted
 pub mod Plain

@@ -11,11 +11,13 @@ mod gap;
 mod kind;
 pub mod laws;
 mod lex;
+mod lexeme;
 mod name;
 mod plain;
 mod problem;
 mod quoted;
 mod runs;
+mod stream_end;
 mod tag;
 #[cfg(test)]
 mod tests;
@@ -24,4 +26,5 @@ mod uri;
 
 pub use gap::yaml_gap;
 pub use kind::{yaml_lexeme_kind, yaml_lexeme_kind_t};
-pub use lex::{yaml_context_t, yaml_lexeme_at, yaml_lexeme_t};
+pub use lex::{yaml_context_t, yaml_lexeme_at};
+pub use lexeme::yaml_lexeme_t;

@@ -8,7 +8,8 @@ use Rattle.yaml_text.specs.declared.types.yaml_mark_t.{yaml_mark_t}
 use Rattle.yaml_lexeme.specs.declared.kind.yaml_lexeme_kind_t.TheVariants.{STREAM_END}
 use Rattle.yaml_lexeme.specs.declared.lex.yaml_context_t.{yaml_context_t}
 use Rattle.yaml_lexeme.specs.Lexeme.{Lexeme as yaml_lexeme_t}
-use Rattle.yaml_lexeme.specs.Lex.{lex, stream_end}
+use Rattle.yaml_lexeme.specs.Lex.{lex}
+use Rattle.yaml_lexeme.specs.StreamEnd.{stream_end}
 use Rattle.yaml_lexeme.specs.Locality.{reach}
 use Rattle.yaml_lexeme.specs.Place.{Place, place_at}
 use Rattle.yaml_lexeme.specs.Reading.{Found, Read}

@@ -21,7 +21,8 @@ use Rattle.yaml_lexeme.specs.Quoted.{quoted}
 use Rattle.yaml_lexeme.specs.Name.{name}
 use Rattle.yaml_lexeme.specs.Tag.{tag}
 use Rattle.yaml_lexeme.specs.Directive.{directive}
-use Rattle.yaml_lexeme.specs.Lex.{lex, in_flow, least, whole_of, scalar_to, directive_to, quoted_as}
+use Rattle.yaml_lexeme.specs.Lex.{lex, in_flow, least, quoted_as}
+use Rattle.yaml_lexeme.specs.Lexeme.{whole_of, scalar_to, directive_to}
 use Rattle.yaml_scan.specs.Kind.{Kind, is_block_entry}
 use Rattle.yaml_scan.specs.Lexeme.{Lexeme}
 use Rattle.yaml_scan.specs.Token.{empty, type_of}

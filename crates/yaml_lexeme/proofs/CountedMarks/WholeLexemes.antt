@@ -7,7 +7,7 @@ use Rattle.yaml_lexeme.specs.declared.kind.yaml_lexeme_kind_t.TheVariants as kin
 use Rattle.yaml_text.specs.Token.{TokenData as token}
 use Rattle.yaml_lexeme.specs.declared.kind.yaml_lexeme_kind_t.{yaml_lexeme_kind_t}
 use Rattle.yaml_lexeme.specs.declared.lex.yaml_context_t.{yaml_context_t}
-use Rattle.yaml_lexeme.specs.Lexeme.{Lexeme as yaml_lexeme_t}
+use Rattle.yaml_lexeme.specs.Lexeme.{Lexeme as yaml_lexeme_t, lexeme, whole, scalar_to, directive_to}
 use Rattle.yaml_lexeme.specs.Lexeme.{Directive as directive_t}
 use Rattle.yaml_lexeme.specs.Lexeme.{Scalar as scalar_t}
 use Rattle.yaml_text.specs.Token.{TokenData as unnamed_yaml_token_t_data}
@@ -24,13 +24,13 @@ use Rattle.yaml_lexeme.specs.Classes.{ends}
 use Rattle.yaml_lexeme.specs.Directive.{directive}
 use Rattle.yaml_lexeme.specs.Gap.{gap}
 use Rattle.yaml_lexeme.specs.Kind.{is_marker_of, starts_plain, kind_at}
-use Rattle.yaml_lexeme.specs.Lex.{whole, scalar, characters, ended, lex, in_flow, least, quoted_as, len_of}
+use Rattle.yaml_lexeme.specs.Lex.{lex, in_flow, least, says_of, quoted_as, len_of}
 use Rattle.yaml_lexeme.specs.Locality.{reach}
 use Rattle.yaml_lexeme.specs.Name.{name}
 use Rattle.yaml_lexeme.specs.Place.{Place, start, place_at, first, peek, skip}
 use Rattle.yaml_lexeme.specs.Plain.{plain}
 use Rattle.yaml_lexeme.specs.Quoted.{quoted}
-use Rattle.yaml_lexeme.specs.Reading.{Found, Read}
+use Rattle.yaml_lexeme.specs.Reading.{Found, Read, found}
 use Rattle.yaml_lexeme.specs.Tag.{tag}
 use Rattle.yaml_lexeme.specs.Whole.{IsWhole, GapIsWhole, ReachIsWhole, EndIsWhole, IsCounted, GapIsCounted, LexemeIsCounted, ProblemIsCounted}
 use Rattle.yaml_text.specs.Chars.{utf8}
@@ -103,32 +103,32 @@ marker_end flow k p t h =
 abbrev Lexeme : Place → Found yaml_lexeme_t → Type 0
 Lexeme p f = (f.value.start_mark ≡ p.mark) × (f.value.reach ≡ f.end.mark) × HasMark p f.value.end_mark × Clear p f.end
 
-whole_holds : {A : Type 0} (says : A → unnamed_yaml_token_t_data) (p : Place) (r : Read A) → Clears p r → Holds (Lexeme p) p (whole says p r)
+whole_holds : {A : Type 0} (says : A → unnamed_yaml_token_t_data) (p : Place) (r : Read A) → Clears p r → Holds (Lexeme p) p (lexeme (whole says) p r)
 whole_holds says p r h = bind_holds h (λ x a. ok_holds (refl, refl, mark_here a, a))
 
-scalar_holds : (style : yaml_scalar_style_t) (p : Place) (r : Read scalar_t) → Marks (λ (s : scalar_t). s.end) p r → Holds (Lexeme p) p (scalar style p r)
+scalar_holds : (style : yaml_scalar_style_t) (p : Place) (r : Read scalar_t) → Marks (λ (s : scalar_t). s.end) p r → Holds (Lexeme p) p (lexeme (scalar_to style) p r)
 scalar_holds style p r h = bind_holds h (λ x a. ok_holds (refl, refl, a.0, a.1))
 
-ended_holds : (p : Place) (r : Read directive_t) → Marks (λ (d : directive_t). d.end) p r → Holds (Lexeme p) p (ended p r)
+ended_holds : (p : Place) (r : Read directive_t) → Marks (λ (d : directive_t). d.end) p r → Holds (Lexeme p) p (lexeme directive_to p r)
 ended_holds p r h = bind_holds h (λ x a. ok_holds (refl, refl, a.0, a.1))
 
-some_hold : (says : unnamed_yaml_token_t_data) (n : ℕ) (p : Place) → Clear p (skip n p) → Holds (Lexeme p) p (characters says n p)
-some_hold says n p a = ok_holds (refl, refl, mark_here a, a)
+some_hold : (k : yaml_lexeme_kind_t) (n : ℕ) (p : Place) → Clear p (skip n p) → Holds (Lexeme p) p (lexeme (whole says_of) p (found k (skip n p)))
+some_hold k n p a = ok_holds (refl, refl, mark_here a, a)
 
 lexeme_holds : (k : yaml_lexeme_kind_t) (c : yaml_context_t) (p : Place) → kind_at (in_flow c) p ≡ Some k → (k ≡ kind.STREAM_END → ⊥) → (first p == 0x0D) ≡ false → Holds (Lexeme p) p (lex k c p)
 unfolding lex
 lexeme_holds kind.STREAM_END c p h other t = absurd (other refl)
 lexeme_holds kind.DIRECTIVE c p h other t = ended_holds p (directive p) (directive_marks p t)
-lexeme_holds kind.DOCUMENT_START c p h other t = some_hold token.DOCUMENT_START 3 p (clear_behind 2 p (marker_end (in_flow c) kind.DOCUMENT_START p refl h))
-lexeme_holds kind.DOCUMENT_END c p h other t = some_hold token.DOCUMENT_END 3 p (clear_behind 2 p (marker_end (in_flow c) kind.DOCUMENT_END p refl h))
-lexeme_holds kind.FLOW_SEQUENCE_START c p h other t = some_hold token.FLOW_SEQUENCE_START 1 p (clear_one p t)
-lexeme_holds kind.FLOW_MAPPING_START c p h other t = some_hold token.FLOW_MAPPING_START 1 p (clear_one p t)
-lexeme_holds kind.FLOW_SEQUENCE_END c p h other t = some_hold token.FLOW_SEQUENCE_END 1 p (clear_one p t)
-lexeme_holds kind.FLOW_MAPPING_END c p h other t = some_hold token.FLOW_MAPPING_END 1 p (clear_one p t)
-lexeme_holds kind.FLOW_ENTRY c p h other t = some_hold token.FLOW_ENTRY 1 p (clear_one p t)
-lexeme_holds kind.BLOCK_ENTRY c p h other t = some_hold token.BLOCK_ENTRY 1 p (clear_one p t)
-lexeme_holds kind.KEY c p h other t = some_hold token.KEY 1 p (clear_one p t)
-lexeme_holds kind.VALUE c p h other t = some_hold token.VALUE 1 p (clear_one p t)
+lexeme_holds kind.DOCUMENT_START c p h other t = some_hold kind.DOCUMENT_START 3 p (clear_behind 2 p (marker_end (in_flow c) kind.DOCUMENT_START p refl h))
+lexeme_holds kind.DOCUMENT_END c p h other t = some_hold kind.DOCUMENT_END 3 p (clear_behind 2 p (marker_end (in_flow c) kind.DOCUMENT_END p refl h))
+lexeme_holds kind.FLOW_SEQUENCE_START c p h other t = some_hold kind.FLOW_SEQUENCE_START 1 p (clear_one p t)
+lexeme_holds kind.FLOW_MAPPING_START c p h other t = some_hold kind.FLOW_MAPPING_START 1 p (clear_one p t)
+lexeme_holds kind.FLOW_SEQUENCE_END c p h other t = some_hold kind.FLOW_SEQUENCE_END 1 p (clear_one p t)
+lexeme_holds kind.FLOW_MAPPING_END c p h other t = some_hold kind.FLOW_MAPPING_END 1 p (clear_one p t)
+lexeme_holds kind.FLOW_ENTRY c p h other t = some_hold kind.FLOW_ENTRY 1 p (clear_one p t)
+lexeme_holds kind.BLOCK_ENTRY c p h other t = some_hold kind.BLOCK_ENTRY 1 p (clear_one p t)
+lexeme_holds kind.KEY c p h other t = some_hold kind.KEY 1 p (clear_one p t)
+lexeme_holds kind.VALUE c p h other t = some_hold kind.VALUE 1 p (clear_one p t)
 lexeme_holds kind.ALIAS c p h other t = whole_holds token.ALIAS p (name p) (name_clears p t)
 lexeme_holds kind.ANCHOR c p h other t = whole_holds token.ANCHOR p (name p) (name_clears p t)
 lexeme_holds kind.TAG c p h other t = whole_holds (λ t. t) p (tag (in_flow c) p) (tag_clears (in_flow c) p t)

@@ -13,18 +13,19 @@ use Rattle.yaml_lexeme.specs.Classes.{ends}
 use Rattle.yaml_lexeme.specs.Directive.{directive}
 use Rattle.yaml_lexeme.specs.Gap.{gap}
 use Rattle.yaml_lexeme.specs.Kind.{is_marker_of, is_indicator, starts_plain, kind_at}
-use Rattle.yaml_lexeme.specs.Lex.{whole, scalar, characters, ended, stream_end, lex, in_flow, least, quoted_as}
+use Rattle.yaml_lexeme.specs.Lex.{lex, in_flow, least, says_of, quoted_as}
+use Rattle.yaml_lexeme.specs.StreamEnd.{stream_end}
 use Rattle.yaml_lexeme.specs.Name.{name}
 use Rattle.yaml_lexeme.specs.Order.{IsAfter, Spans, LexemeSpans, LexemeOrder, StreamEndOrder, is_stream_end, Follows, LexemeFollows}
 use Rattle.yaml_lexeme.specs.Place.{Place, first, peek, skip}
 use Rattle.yaml_lexeme.specs.Plain.{is_chunk, plain}
 use Rattle.yaml_lexeme.specs.Quoted.{quoted}
-use Rattle.yaml_lexeme.specs.Reading.{Found, Read}
+use Rattle.yaml_lexeme.specs.Reading.{Found, Read, found}
 use Rattle.yaml_lexeme.specs.Tag.{tag}
 use Rattle.yaml_lexeme.specs.Lexeme.{Directive as directive_t}
 use Rattle.yaml_lexeme.specs.declared.kind.yaml_lexeme_kind_t.{yaml_lexeme_kind_t}
 use Rattle.yaml_lexeme.specs.declared.lex.yaml_context_t.{yaml_context_t}
-use Rattle.yaml_lexeme.specs.Lexeme.{Lexeme as yaml_lexeme_t}
+use Rattle.yaml_lexeme.specs.Lexeme.{Lexeme as yaml_lexeme_t, lexeme, whole, scalar_to, directive_to}
 use Rattle.yaml_lexeme.specs.Lexeme.{Scalar as scalar_t}
 use Rattle.yaml_text.specs.Classes.{is_z}
 use Rattle.yaml_text.specs.Token.{TokenData as unnamed_yaml_token_t_data}
@@ -91,35 +92,35 @@ abbrev Stands : Place → Read yaml_lexeme_t → Type 0
 Stands p (Ok f) = (f.value.start_mark ≡ p.mark) × (f.value.reach ≡ f.end.mark) × Spans 1 p f.value.end_mark f.end
 Stands p (Err e) = Unit {0}
 
-whole_stands : {A : Type 0} → (says : A → unnamed_yaml_token_t_data) (p : Place) (r : Read A) → Goes 1 p r → Stands p (whole says p r)
+whole_stands : {A : Type 0} → (says : A → unnamed_yaml_token_t_data) (p : Place) (r : Read A) → Goes 1 p r → Stands p (lexeme (whole says) p r)
 whole_stands says p (Ok f) h = (refl, refl, record { behind = f.end; is = refl; taken = h.goes; read = ahead_here f.end })
 whole_stands says p (Err e) h = tt
 
-scalar_stands : (style : yaml_scalar_style_t) (p : Place) (r : Read scalar_t) → Span (λ (s : scalar_t). s.end) 1 p r → Stands p (scalar style p r)
+scalar_stands : (style : yaml_scalar_style_t) (p : Place) (r : Read scalar_t) → Span (λ (s : scalar_t). s.end) 1 p r → Stands p (lexeme (scalar_to style) p r)
 scalar_stands style p (Ok f) h = (refl, refl, h.span)
 scalar_stands style p (Err e) h = tt
 
-ended_stands : (p : Place) (r : Read directive_t) → Span (λ (d : directive_t). d.end) 1 p r → Stands p (ended p r)
+ended_stands : (p : Place) (r : Read directive_t) → Span (λ (d : directive_t). d.end) 1 p r → Stands p (lexeme directive_to p r)
 ended_stands p (Ok f) h = (refl, refl, h.span)
 ended_stands p (Err e) h = tt
 
-some_stand : (says : unnamed_yaml_token_t_data) (n : ℕ) (p : Place) → 1 ≤ n → 0 < length p.rest → Stands p (characters says n p)
-some_stand says n p l h = (refl, refl, record { behind = skip n p; is = refl; taken = ahead_some 1 n p l (omega arith); read = ahead_here (skip n p) })
+some_stand : (k : yaml_lexeme_kind_t) (n : ℕ) (p : Place) → 1 ≤ n → 0 < length p.rest → Stands p (lexeme (whole says_of) p (found k (skip n p)))
+some_stand k n p l h = (refl, refl, record { behind = skip n p; is = refl; taken = ahead_some 1 n p l (omega arith); read = ahead_here (skip n p) })
 
 stands : (k : yaml_lexeme_kind_t) (c : yaml_context_t) (p : Place) → kind_at (in_flow c) p ≡ Some k → (k ≡ kind.STREAM_END → ⊥) → 0 < length p.rest → Stands p (lex k c p)
 unfolding lex
 stands kind.STREAM_END c p h other t = absurd (other refl)
 stands kind.DIRECTIVE c p h other t = ended_stands p (directive p) (directive_span p t)
-stands kind.DOCUMENT_START c p h other t = some_stand token.DOCUMENT_START 3 p (omega arith) t
-stands kind.DOCUMENT_END c p h other t = some_stand token.DOCUMENT_END 3 p (omega arith) t
-stands kind.FLOW_SEQUENCE_START c p h other t = some_stand token.FLOW_SEQUENCE_START 1 p (omega arith) t
-stands kind.FLOW_MAPPING_START c p h other t = some_stand token.FLOW_MAPPING_START 1 p (omega arith) t
-stands kind.FLOW_SEQUENCE_END c p h other t = some_stand token.FLOW_SEQUENCE_END 1 p (omega arith) t
-stands kind.FLOW_MAPPING_END c p h other t = some_stand token.FLOW_MAPPING_END 1 p (omega arith) t
-stands kind.FLOW_ENTRY c p h other t = some_stand token.FLOW_ENTRY 1 p (omega arith) t
-stands kind.BLOCK_ENTRY c p h other t = some_stand token.BLOCK_ENTRY 1 p (omega arith) t
-stands kind.KEY c p h other t = some_stand token.KEY 1 p (omega arith) t
-stands kind.VALUE c p h other t = some_stand token.VALUE 1 p (omega arith) t
+stands kind.DOCUMENT_START c p h other t = some_stand kind.DOCUMENT_START 3 p (omega arith) t
+stands kind.DOCUMENT_END c p h other t = some_stand kind.DOCUMENT_END 3 p (omega arith) t
+stands kind.FLOW_SEQUENCE_START c p h other t = some_stand kind.FLOW_SEQUENCE_START 1 p (omega arith) t
+stands kind.FLOW_MAPPING_START c p h other t = some_stand kind.FLOW_MAPPING_START 1 p (omega arith) t
+stands kind.FLOW_SEQUENCE_END c p h other t = some_stand kind.FLOW_SEQUENCE_END 1 p (omega arith) t
+stands kind.FLOW_MAPPING_END c p h other t = some_stand kind.FLOW_MAPPING_END 1 p (omega arith) t
+stands kind.FLOW_ENTRY c p h other t = some_stand kind.FLOW_ENTRY 1 p (omega arith) t
+stands kind.BLOCK_ENTRY c p h other t = some_stand kind.BLOCK_ENTRY 1 p (omega arith) t
+stands kind.KEY c p h other t = some_stand kind.KEY 1 p (omega arith) t
+stands kind.VALUE c p h other t = some_stand kind.VALUE 1 p (omega arith) t
 stands kind.ALIAS c p h other t = whole_stands token.ALIAS p (name p) (name_goes p t)
 stands kind.ANCHOR c p h other t = whole_stands token.ANCHOR p (name p) (name_goes p t)
 stands kind.TAG c p h other t = whole_stands (λ t. t) p (tag (in_flow c) p) (tag_goes (in_flow c) p t)

@@ -133,7 +133,7 @@ find_from least p (suc n) k e =
           let on : suc k ≡ k + 1 = omega arith in
           let there : skip 1 q ≡ skip (k + 1) p = skip_skip k 1 p in
           let broken : list_any is_break (take (k + 1) p.rest) ≡ (b || is_break (first q)) =
-              ap (λ (i : ℕ). list_any is_break (take i p.rest)) (sym on) ∙ any_more k p.rest ∙ ap (λ (c : ℕ). b || is_break c) (sym (first_on k p)) in
+          ap (λ (i : ℕ). list_any is_break (take i p.rest)) (sym on) ∙ any_more k p.rest ∙ ap (λ (c : ℕ). b || is_break c) (sym (first_on k p)) in
           let len : run_len is_white (skip (k + 1) p) ≡ n = ap (λ (x : Place). run_len is_white x) (sym there) ∙ ap (prefix_len is_white) (rest_skip 1 q) ∙ w.1 in
           tab_more least b q w.0 f ∙ ap (λ o. tab_at least o (skip 1 q)) (sym broken) ∙ ap (tab_at least (list_any is_break (take (k + 1) p.rest))) there
           ∙ find_from least p n (k + 1) len ∙ rw f refl
