@@ -1,5 +1,6 @@
 -- Literal and folded scalars (YAML 1.1, 9.2 Block Scalar Header, 9.3 Block Scalar Styles and 6.1 Indentation Spaces).
-use Rattle.std.specs.Prelude.{ℕ, ◌+◌, ◌-◌, min, max, Bool, true, false, not, ◌&&◌, ◌||◌, ◌==◌, nat_lt, if◌then◌else◌, List, [], ◌∷◌, ◌++◌, map, slice_index, Option, Some, None, is_some, Result, Ok}
+use Rattle.std.specs.Prelude.{ℕ, ◌+◌, ◌-◌, min, max, Bool, true, false, not, ◌&&◌, ◌||◌, ◌==◌, nat_lt, if◌then◌else◌}
+use Rattle.std.specs.Prelude.{List, [], ◌∷◌, ◌++◌, map, slice_index, Option, Some, None, is_some, Result, Ok}
 use Rattle.std.specs.List.{fold as fold_list}
 use Rattle.yaml_text.specs.declared.types.yaml_mark_t.{yaml_mark_t}
 use Rattle.yaml_text.specs.Chars.{utf8}
@@ -8,7 +9,8 @@ use Rattle.yaml_lexeme.specs.declared.block.chomp_t.{chomp_t}
 use Rattle.yaml_lexeme.specs.declared.block.chomp_t.TheVariants.{STRIP, CLIP, KEEP}
 use Rattle.yaml_lexeme.specs.declared.block.header_t.{header_t}
 use Rattle.yaml_lexeme.specs.Lexeme.{Scalar as scalar_t}
-use Rattle.yaml_lexeme.specs.declared.problem.problem_t.TheVariants.{NO_COMMENT_OR_BREAK, INDICATOR_ZERO, TAB_IN_INDENTATION}
+use Rattle.yaml_lexeme.specs.declared.problem.problem_t.TheVariants.{NO_COMMENT_OR_BREAK, INDICATOR_ZERO}
+use Rattle.yaml_lexeme.specs.declared.problem.problem_t.TheVariants.{TAB_IN_INDENTATION}
 use Rattle.yaml_lexeme.specs.Classes.{is_in_line, line_feed}
 use Rattle.yaml_lexeme.specs.Place.{Place, first, skip, run, run_len, behind, break_len}
 use Rattle.yaml_lexeme.specs.Gap.{after_comment}
@@ -29,13 +31,16 @@ digit_at p =
     else if first p == 0x30 then refuse INDICATOR_ZERO p
     else found (Some (first p - 0x30)) (skip 1 p)
 
+abbrev pub header_of : chomp_t → Option ℕ → header_t
+header_of chomp digit = record { chomp = chomp; digit = digit }
+
 -- after `|` or `>`: a sign and a digit in either order, each optional
 unfoldable pub header_at : Place → Read header_t
 header_at p =
-    if is_sign (first p) then (digit_at (skip 1 p) >>= λ d. found (record { chomp = sign_of (first p); digit = d.value }) d.end)
+    if is_sign (first p) then (digit_at (skip 1 p) >>= λ d. found (header_of (sign_of (first p)) d.value) d.end)
     else digit_at p >>= λ d.
-    if is_some d.value && is_sign (first d.end) then found (record { chomp = sign_of (first d.end); digit = d.value }) (skip 1 d.end)
-    else found (record { chomp = CLIP; digit = d.value }) d.end
+    if is_some d.value && is_sign (first d.end) then found (header_of (sign_of (first d.end)) d.value) (skip 1 d.end)
+    else found (header_of CLIP d.value) d.end
 
 -- after blanks, a comment and a break, or at the end of the text
 unfoldable pub after_line : Place → Result Place Offence
@@ -68,9 +73,13 @@ pub record Blank : Type 0 where
   pub column : ℕ
   pub break : ℕ
 
+-- the one whose break is at q
+abbrev pub blank_of : Place → Blank
+blank_of q = record { column = q.mark.column; break = written (first q) }
+
 unfoldable pub blank_line : Option ℕ → Place → Part Blank
 blank_line limit p = after_indent limit p >>= λ q.
-    if nat_lt 0 (break_len q) then part (record { column = q.mark.column; break = written (first q) }) (skip (break_len q) q) else over
+    if nat_lt 0 (break_len q) then part (blank_of q) (skip (break_len q) q) else over
 
 -- empty lines: the greatest column that spaces reach on them, their breaks, and the mark after them
 pub record Blanks : Type 0 where
@@ -106,7 +115,12 @@ unfoldable pub line_at : ℕ → Place → Read Line
 line_at indent p =
     let q = behind is_in_line p in
     blank_lines (Some indent) (skip (break_len q) q) >>= λ blanks.
-    found (record { text = run is_in_line p; break = break_at q; empties = blanks.value.breaks; end = blanks.value.end }) blanks.end
+    found (record {
+      text = run is_in_line p;
+      break = break_at q;
+      empties = blanks.value.breaks;
+      end = blanks.value.end;
+    }) blanks.end
 
 -- a text line is here, after its indentation
 abbrev pub is_text : ℕ → Place → Bool

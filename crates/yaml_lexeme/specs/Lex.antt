@@ -1,7 +1,12 @@
 -- Lexemes of every kind.
-use Rattle.std.specs.Prelude.{ℕ, ◌+◌, Bool, true, false, ◌==◌, nat_lt, if◌then◌else◌, List, Option, Some, None, Result, Ok, Err}
+use Rattle.std.specs.Prelude.{ℕ, ◌+◌, Bool, true, false, ◌==◌, nat_lt, if◌then◌else◌, List, Option, Some, None}
+use Rattle.std.specs.Prelude.{Result, Ok, Err}
 use Rattle.yaml_text.specs.declared.types.yaml_scalar_style_t.{yaml_scalar_style_t}
-use Rattle.yaml_text.specs.declared.types.yaml_scalar_style_t.TheVariants.{YAML_PLAIN_SCALAR_STYLE, YAML_SINGLE_QUOTED_SCALAR_STYLE, YAML_DOUBLE_QUOTED_SCALAR_STYLE, YAML_LITERAL_SCALAR_STYLE, YAML_FOLDED_SCALAR_STYLE}
+use Rattle.yaml_text.specs.declared.types.yaml_scalar_style_t.TheVariants.{YAML_PLAIN_SCALAR_STYLE}
+use Rattle.yaml_text.specs.declared.types.yaml_scalar_style_t.TheVariants.{YAML_SINGLE_QUOTED_SCALAR_STYLE}
+use Rattle.yaml_text.specs.declared.types.yaml_scalar_style_t.TheVariants.{YAML_DOUBLE_QUOTED_SCALAR_STYLE}
+use Rattle.yaml_text.specs.declared.types.yaml_scalar_style_t.TheVariants.{YAML_LITERAL_SCALAR_STYLE}
+use Rattle.yaml_text.specs.declared.types.yaml_scalar_style_t.TheVariants.{YAML_FOLDED_SCALAR_STYLE}
 use Rattle.yaml_text.specs.Token.{TokenData as unnamed_yaml_token_t_data}
 use Rattle.yaml_text.specs.Token.{TokenData as token}
 use Rattle.yaml_text.specs.Fault.{Fault, scanner_fault}

@@ -1,5 +1,6 @@
 -- Plain scalars (YAML 1.1, 9.1.3 Plain).
-use Rattle.std.specs.Prelude.{ℕ, ◌+◌, Bool, false, not, ◌&&◌, ◌||◌, ◌==◌, nat_lt, if◌then◌else◌, List, [], ◌∷◌, ◌++◌, length, take, slice_index, codes, Option, Some, None, option_map}
+use Rattle.std.specs.Prelude.{ℕ, ◌+◌, Bool, false, not, ◌&&◌, ◌||◌, ◌==◌, nat_lt, if◌then◌else◌, List, [], ◌∷◌, ◌++◌}
+use Rattle.std.specs.Prelude.{length, take, slice_index, codes, Option, Some, None, option_map}
 use Rattle.std.specs.List.{list_any, flat_map, find, range_with_len}
 use Rattle.yaml_text.specs.Chars.{utf8}
 use Rattle.yaml_text.specs.Classes.{is_break}
@@ -75,5 +76,8 @@ unfoldable pub plain : Bool → ℕ → Place → Read scalar_t
 plain flow least p = do
   head ← chunk flow p
   links ← many (link flow least) head.end
-  let value = utf8 head.value ++ flat_map utf8 links.value
-  found (record { value = value; end = links.end.mark; passed_break = list_any is_break (run is_white links.end) }) (behind is_white links.end)
+  found (record {
+    value = utf8 head.value ++ flat_map utf8 links.value;
+    end = links.end.mark;
+    passed_break = list_any is_break (run is_white links.end);
+  }) (behind is_white links.end)

@@ -41,6 +41,14 @@ abbrev pub is_anchor : yaml_lexeme_kind_t → Bool
 is_anchor kind.ANCHOR = true
 is_anchor k = false
 
+-- the first text in a directive, the second in another lexeme
+abbrev pub in_directive : yaml_lexeme_kind_t → List ℕ → List ℕ → List ℕ
+in_directive k there elsewhere = if is_directive k then there else elsewhere
+
+-- a uri in the prefix of a directive, or in a tag
+abbrev pub uri_context : yaml_lexeme_kind_t → List ℕ
+uri_context k = in_directive k (codes "while parsing a %TAG directive") (codes "while parsing a tag")
+
 -- what was being read, by the kind of the lexeme and its problem
 unfoldable pub context_text : yaml_lexeme_kind_t → problem_t → List ℕ
 context_text k problem.UNKNOWN_DIRECTIVE = codes "while scanning a directive"
@@ -62,10 +70,13 @@ context_text k problem.NO_HEX_DIGIT = codes "while parsing a quoted scalar"
 context_text k problem.NO_SCALAR_VALUE = codes "while parsing a quoted scalar"
 context_text k problem.COLON_IN_FLOW = codes "while scanning a plain scalar"
 context_text k problem.TAB_IN_PLAIN = codes "while scanning a plain scalar"
-context_text k problem.NO_NAME = if is_anchor k then codes "while scanning an anchor" else codes "while scanning an alias"
-context_text k problem.NO_BLANK_OR_BREAK = if is_directive k then codes "while scanning a %TAG directive" else codes "while scanning a tag"
-context_text k problem.NO_COMMENT_OR_BREAK = if is_directive k then codes "while scanning a directive" else codes "while scanning a block scalar"
-context_text k problem.NO_URI = if is_directive k then codes "while parsing a %TAG directive" else codes "while parsing a tag"
-context_text k problem.NO_OCTET = if is_directive k then codes "while parsing a %TAG directive" else codes "while parsing a tag"
-context_text k problem.BAD_LEAD_OCTET = if is_directive k then codes "while parsing a %TAG directive" else codes "while parsing a tag"
-context_text k problem.BAD_NEXT_OCTET = if is_directive k then codes "while parsing a %TAG directive" else codes "while parsing a tag"
+context_text k problem.NO_NAME =
+    if is_anchor k then codes "while scanning an anchor" else codes "while scanning an alias"
+context_text k problem.NO_BLANK_OR_BREAK =
+    in_directive k (codes "while scanning a %TAG directive") (codes "while scanning a tag")
+context_text k problem.NO_COMMENT_OR_BREAK =
+    in_directive k (codes "while scanning a directive") (codes "while scanning a block scalar")
+context_text k problem.NO_URI = uri_context k
+context_text k problem.NO_OCTET = uri_context k
+context_text k problem.BAD_LEAD_OCTET = uri_context k
+context_text k problem.BAD_NEXT_OCTET = uri_context k

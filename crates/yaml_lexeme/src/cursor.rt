@@ -5,7 +5,8 @@ ghost use Rattle.yaml_text.specs.Chars.{IsText, AreChars, utf8};
 ghost use Rattle.yaml_text.specs.Classes as classes;
 ghost use Rattle.yaml_text.specs.Utf8.{value_of};
 ghost use Rattle.yaml_lexeme.specs.Classes as sets;
-ghost use Rattle.yaml_lexeme.specs.Place.{peek, first, place_at, IsMarkOf, skip, mark_behind, width, behind, run, run_len, break_len};
+ghost use Rattle.yaml_lexeme.specs.Place.{peek, first, place_at, IsMarkOf, skip, mark_behind, width, behind, run};
+ghost use Rattle.yaml_lexeme.specs.Place.{run_len, break_len};
 ghost use Rattle.yaml_lexeme.specs.declared.runs.class_t.TheVariants.{SPACE};
 ghost use Rattle.yaml_lexeme.specs.Runs.{class_test, is_line, Stands};
 
@@ -47,7 +48,9 @@ impl<'a> Model for cursor_t<'a> {
 
     ghost view = { λ c. record { mark = c.mark; rest = chars c.bytes.now } };
 
-    ghost invariant = { λ c. IsText c.bytes.now × (c.mark.index + length c.bytes.now < 2 ^ 64) × (c.mark.line + c.mark.column ≤ c.mark.index) };
+    ghost invariant = { λ c. IsText c.bytes.now
+        × (c.mark.index + length c.bytes.now < 2 ^ 64)
+        × (c.mark.line + c.mark.column ≤ c.mark.index) };
 }
 
 /// A line break.
@@ -384,7 +387,8 @@ impl<'a> cursor_t<'a> {
         front(start, start.len() - left.len())
     }
 
-    /// Takes characters of a class of a line, up to a byte at which their run may end, except the blanks before that byte.
+    /// Takes characters of a class of a line, up to a byte at which their run may end, except the blanks
+    /// before that byte.
     #[inline(always)]
     pub fn skip_solid(&mut self, class: class_t)
         requires { is_line class ≡ true }

@@ -148,9 +148,10 @@ fn kind_at(cursor: &cursor_t, in_flow: bool) -> Option<yaml_lexeme_kind_t>
 /// The kind of the lexeme at a place, or `None` if no token can start there (YAML 1.1, 5.3 Indicator Characters and 7.2
 /// Document Boundary Markers).
 ///
-/// `at` must be the mark of a place of this text: what `yaml_mark_at` returns for it, the mark after a gap of it, or the reach
-/// of a lexeme of it other than the stream end. At a place with a gap that is not empty, the kind is that for the gap's first
-/// character. `in_flow` says whether the flow depth is above 0. No memory is taken.
+/// `at` must be the mark of a place of this text: what `yaml_mark_at` returns for it, the mark after a gap of
+/// it, or the reach of a lexeme of it other than the stream end. At a place with a gap that is not empty, the
+/// kind is that for the gap's first character. `in_flow` says whether the flow depth is above 0. No memory is
+/// taken.
 #[inline(always)]
 pub fn yaml_lexeme_kind(
     text: &yaml_text_t,

@@ -90,7 +90,8 @@ fn take_characters(
     cursor: &mut cursor_t,
     kind: yaml_lexeme_kind_t,
 ) -> Result<yaml_lexeme_t, refusal_t>
-    ensures value { Gives lexeme_of result cursor.new (lexeme (whole spec.says_of) cursor.old (found kind (skip (spec.len_of kind) cursor.old))) }
+    ensures value { Gives lexeme_of result cursor.new
+        (lexeme (whole spec.says_of) cursor.old (found kind (skip (spec.len_of kind) cursor.old))) }
     ensures taken { IsOk result }
 {
     let start = cursor.mark();
@@ -116,7 +117,8 @@ fn take_named(
     cursor: &mut cursor_t,
     anchor: bool,
 ) -> Result<yaml_lexeme_t, refusal_t>
-    ensures { Gives lexeme_of result cursor.new (lexeme (whole (spec.named anchor)) cursor.old (names.name cursor.old)) }
+    ensures { Gives lexeme_of result cursor.new
+        (lexeme (whole (spec.named anchor)) cursor.old (names.name cursor.old)) }
 {
     let start = cursor.mark();
     let value = take_name(alloc, cursor)?;
@@ -130,7 +132,8 @@ fn take_whole_tag(
     cursor: &mut cursor_t,
     context: yaml_context_t,
 ) -> Result<yaml_lexeme_t, refusal_t>
-    ensures { Gives lexeme_of result cursor.new (lexeme (whole (λ t. t)) cursor.old (tags.tag (spec.in_flow context) cursor.old)) }
+    ensures { Gives lexeme_of result cursor.new
+        (lexeme (whole (λ t. t)) cursor.old (tags.tag (spec.in_flow context) cursor.old)) }
 {
     let start = cursor.mark();
     let says = take_tag(alloc, cursor, context.depth > 0)?;
@@ -166,7 +169,8 @@ fn take_block_scalar(
     context: yaml_context_t,
 ) -> Result<yaml_lexeme_t, refusal_t>
     requires { spec.least context + 10 < 2 ^ 64 }
-    ensures { Gives lexeme_of result cursor.new (lexeme (scalar_to (spec.block_style folded)) cursor.old (blocks.block folded context.level cursor.old)) }
+    ensures { Gives lexeme_of result cursor.new
+        (lexeme (scalar_to (spec.block_style folded)) cursor.old (blocks.block folded context.level cursor.old)) }
 {
     let start = cursor.mark();
     let s = take_block(alloc, cursor, folded, context.level)?;
@@ -197,7 +201,8 @@ fn take_quoted_scalar(
     cursor: &mut cursor_t,
     single: bool,
 ) -> Result<yaml_lexeme_t, refusal_t>
-    ensures { Gives lexeme_of result cursor.new (lexeme (whole (spec.quoted_as (spec.quoted_style single))) cursor.old (quotes.quoted single cursor.old)) }
+    ensures { Gives lexeme_of result cursor.new
+        (lexeme (whole (spec.quoted_as (spec.quoted_style single))) cursor.old (quotes.quoted single cursor.old)) }
 {
     let start = cursor.mark();
     let value = take_quoted(alloc, cursor, single)?;
@@ -212,7 +217,9 @@ fn take_plain_scalar(
     context: yaml_context_t,
 ) -> Result<yaml_lexeme_t, refusal_t>
     requires { spec.least context + 10 < 2 ^ 64 }
-    ensures { Gives lexeme_of result cursor.new (lexeme (scalar_to YAML_PLAIN_SCALAR_STYLE) cursor.old (plains.plain (spec.in_flow context) (spec.least context) cursor.old)) }
+    ensures { Gives lexeme_of result cursor.new
+        (lexeme (scalar_to YAML_PLAIN_SCALAR_STYLE) cursor.old
+        (plains.plain (spec.in_flow context) (spec.least context) cursor.old)) }
 {
     let start = cursor.mark();
     let s = take_plain(alloc, cursor, context.depth > 0, least(context))?;
@@ -268,7 +275,8 @@ fn make_fault(
     start: yaml_mark_t,
     there: yaml_mark_t,
 ) -> yaml_fault_t
-    ensures { fault_of result ≡ scanner_fault (texts.problem_text problem) there (Some (texts.context_text kind problem)) start }
+    ensures { fault_of result
+        ≡ scanner_fault (texts.problem_text problem) there (Some (texts.context_text kind problem)) start }
 {
     make_scanner_fault(
         problem_text(problem),
@@ -305,8 +313,9 @@ fn make_fault(
 ///   (at the backslash), a digit that is not hexadecimal, and digits that spell no character (both at the first digit);
 /// - a plain scalar: in flow a `:` before `?` or a flow indicator, and a tab in the indentation of a line that goes on.
 ///
-/// A fault of kind memory may come instead of the lexeme or its offence, for a growth that was refused. The contract does
-/// not say that one was. It never comes for stream ends, document markers and lexemes of one character.
+/// A fault of kind memory may come instead of the lexeme or its offence, for a growth that was refused. The
+/// contract does not say that one was. It never comes for stream ends, document markers and lexemes of one
+/// character.
 #[inline(always)]
 pub fn yaml_lexeme_at(
     alloc: Global,
@@ -315,9 +324,11 @@ pub fn yaml_lexeme_at(
     kind: yaml_lexeme_kind_t,
     context: yaml_context_t,
 ) -> Result<yaml_lexeme_t, yaml_fault_t>
-    requires place { (n : ℕ) × IsMarkOf text.now.chars at n × (kinds.kind_at (spec.in_flow context) (place_at text.now.chars n) ≡ Some kind) }
+    requires place { (n : ℕ) × IsMarkOf text.now.chars at n
+        × (kinds.kind_at (spec.in_flow context) (place_at text.now.chars n) ≡ Some kind) }
     requires level { IfSome context.level (λ l. l ≤ length (utf8 text.now.chars)) }
-    ensures value { (n : ℕ) → IsMarkOf text.now.chars at n → Answers lexeme_of result (spec.lexeme_at kind context (place_at text.now.chars n)) }
+    ensures value { (n : ℕ) → IsMarkOf text.now.chars at n
+        → Answers lexeme_of result (spec.lexeme_at kind context (place_at text.now.chars n)) }
     ensures bare { spec.is_bare kind ≡ true → IsOk result }
 {
     let mut cursor = cursor_t::at(text, at);

@@ -12,8 +12,8 @@ use yaml_text::{unnamed_yaml_token_t_data, yaml_mark_t, yaml_scalar_style_t};
 pub struct yaml_lexeme_t {
     /// What its token says: the token's type and the parts that tokens of this type have.
     pub token_data: unnamed_yaml_token_t_data,
-    /// The mark of its token's first character. A stream end has one mark three times: that of the text's end, or that of the
-    /// next line's start if the column of the text's end is not 0.
+    /// The mark of its token's first character. A stream end has one mark three times: that of the text's end,
+    /// or that of the next line's start if the column of the text's end is not 0.
     pub start_mark: yaml_mark_t,
     /// The mark after its token's last character. A plain scalar ends after its last chunk, a literal
     /// or folded one after the last break that was read or at the end of the text, a directive before the blanks

@@ -104,7 +104,9 @@ fn take_words(
     least: u64,
     out: &mut Vec<u8>,
 ) -> Result<(), refusal_t>
-    ensures value { Leaves result (with_front out.old.items (words in_flow least cursor.old)) (with_front out.new.items (links in_flow least cursor.new)) cursor.new }
+    ensures value { Leaves result
+        (with_front out.old.items (words in_flow least cursor.old))
+        (with_front out.new.items (links in_flow least cursor.new)) cursor.new }
     ensures shorter { OnOk result (length cursor.new.rest ≤ length cursor.old.rest) }
 {
     let piece = line_words(cursor, in_flow, least);
@@ -150,7 +152,9 @@ fn take_link(
     least: u64,
     out: &mut Vec<u8>,
 ) -> Result<bool, refusal_t>
-    ensures value { LeavesMore result (with_front out.old.items (links in_flow least cursor.old)) (with_front out.new.items (links in_flow least cursor.new)) out.new.items cursor.new }
+    ensures value { LeavesMore result
+        (with_front out.old.items (links in_flow least cursor.old))
+        (with_front out.new.items (links in_flow least cursor.new)) out.new.items cursor.new }
     ensures shorter { IfOk result (λ more. more ≡ true → length cursor.new.rest < length cursor.old.rest) }
 {
     if !is_at!(cursor, is_white, 0) {
@@ -174,8 +178,9 @@ fn take_link(
     Ok(true)
 }
 
-/// Takes the separator that is here, if a quick look shows that the scalar is over before it. Then it is empty, or is a line
-/// feed and spaces before a line that is not indented enough. Returns whether a break is in it.
+/// Takes the separator that is here, if a quick look shows that the scalar is over before it. Then it is
+/// empty, or is a line feed and spaces before a line that is not indented enough. Returns whether a break is
+/// in it.
 #[inline(always)]
 fn ends_at_once(cursor: &mut cursor_t, in_flow: bool, least: u64) -> Option<bool>
     ensures over { IfSome result (λ b. spec.link in_flow least cursor.old ≡ over) }
@@ -208,7 +213,8 @@ fn take_links(
     least: u64,
     mut out: Vec<u8>,
 ) -> Result<scalar_t, refusal_t>
-    ensures { (p : Place) → LeadsTo in_flow least p out.items cursor.old → Gives scalar_of result cursor.new (spec.plain in_flow least p) }
+    ensures { (p : Place) → LeadsTo in_flow least p out.items cursor.old
+        → Gives scalar_of result cursor.new (spec.plain in_flow least p) }
 {
     'links: while take_link(cursor, in_flow, least, &mut out)? {}
     let end = cursor.mark();

@@ -106,7 +106,8 @@ fn take_escape(cursor: &mut cursor_t, out: &mut Vec<u8>) -> Result<(), refusal_t
 /// Takes a character of a uri, or an escape, and appends it to `out`. The flag is false if the uri is over.
 #[tactic(auto, unfolding(crate::specs::Uri::uri_part))]
 fn take_uri_part(cursor: &mut cursor_t, listed: bool, out: &mut Vec<u8>) -> Result<bool, refusal_t>
-    ensures { Takes (λ cs. cs) result out.old.items out.new.items cursor.old cursor.new (spec.uri_part listed cursor.old) }
+    ensures { Takes (λ cs. cs) result out.old.items out.new.items cursor.old cursor.new
+        (spec.uri_part listed cursor.old) }
 {
     let c = cursor.peek(0);
     if c == '%' {

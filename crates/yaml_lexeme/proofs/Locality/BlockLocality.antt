@@ -7,7 +7,7 @@ use Rattle.yaml_lexeme.proofs.Locality.ComposedReaders.{Like, IsLike, IsPartLike
 use Rattle.yaml_lexeme.proofs.Locality.LocalReaders.{agree_less, run_same}
 use Rattle.yaml_lexeme.proofs.Locality.LookaheadLists.{Next, go, stop, join, finish, finish_like}
 use Rattle.yaml_lexeme.proofs.MarkOrder.ScalarsAhead.{blank_shortens, text_shortens}
-use Rattle.yaml_lexeme.specs.Block.{is_sign, sign_of, digit_at, header_at, after_line, is_indenting, indent_len, after_indent, Blank, blank_line, Blanks, blanks_of, blank_lines, Line, break_at, line_at, is_text, text_line, block_value, end_of, block_indent, set_indent, block}
+use Rattle.yaml_lexeme.specs.Block.{header_of, blank_of, is_sign, sign_of, digit_at, header_at, after_line, is_indenting, indent_len, after_indent, Blank, blank_line, Blanks, blanks_of, blank_lines, Line, break_at, line_at, is_text, text_line, block_value, end_of, block_indent, set_indent, block}
 use Rattle.yaml_lexeme.specs.Classes.{is_in_line}
 use Rattle.yaml_lexeme.specs.Fold.{written}
 use Rattle.yaml_lexeme.proofs.Locality.AgreeingPlaces.{Agree}
@@ -65,9 +65,6 @@ turn_then m q = if nat_lt 0 (break_len q) then found (go (record { column = q.ma
 
 abbrev turn : Option ℕ → Place → Read (Next Blank yaml_mark_t)
 turn limit p = indented limit p >>= λ x. turn_then p.mark x.end
-
-abbrev blank_of : Place → Blank
-blank_of q = record { column = q.mark.column; break = written (first q) }
 
 blank_same : (n : ℕ) (p q : Place) → Agree n p q → 8 ≤ n → blank_of q ≡ blank_of p
 blank_same n p q a h = rw (a.mark, a.same 0 (omega arith)) refl
@@ -148,7 +145,7 @@ digit_like n p q a =
     (like_found 1 refl (λ h. refl) (λ h. ap (λ (c : ℕ). Some (c - 0x30)) (sym (a.same 0 (omega arith))))))
 
 abbrev signed : ℕ → Option ℕ → header_t
-signed c d = record { chomp = sign_of c; digit = d }
+signed c d = header_of (sign_of c) d
 
 header_like : IsLike header_at
 unfolding header_at

@@ -11,17 +11,11 @@ use Rattle.yaml_lexeme.specs.Name.{is_behind_name, name}
 use Rattle.yaml_lexeme.specs.Place.{Place, first, peek, skip, run, behind}
 use Rattle.yaml_lexeme.specs.Reading.{Read, found, refuse, ◌>>=◌, with_front}
 use Rattle.yaml_lexeme.specs.Tag.{lone, angled, handled, tag}
-use Rattle.yaml_lexeme.specs.Uri.{octet, octet_width, is_bad_next, next_octets, is_uri, uri_escape, uri_part, uri, some_uri}
+use Rattle.yaml_lexeme.specs.Uri.{is_octet, octet_value, octet, octet_width, is_bad_next, next_octets, is_uri, uri_escape, uri_part, uri, some_uri}
 use Rattle.yaml_lexeme.specs.declared.problem.problem_t.TheVariants.{NO_OCTET, BAD_NEXT_OCTET, BAD_LEAD_OCTET, NO_NAME}
 use Rattle.yaml_text.specs.Classes.{is_alpha, is_hex}
 use Rattle.yaml_text.specs.Token.{TokenData as unnamed_yaml_token_t_data}
 use Rattle.yaml_text.specs.Token.TokenData.{TAG}
-
-abbrev is_octet : Place → Bool
-is_octet p = first p == 0x25 && (is_hex (peek p 1) && is_hex (peek p 2))
-
-abbrev octet_value : Place → ℕ
-octet_value p = digits_value 16 (peek p 1 ∷ peek p 2 ∷ [])
 
 next_by : (n : ℕ) (p : Place) → next_octets (suc n) p ≡ (if is_octet p then (if is_bad_next (octet_value p) then refuse BAD_NEXT_OCTET p else with_front (octet_value p ∷ []) (next_octets n (skip 3 p))) else refuse NO_OCTET p)
 unfolding next_octets octet
