@@ -6,5 +6,7 @@ pub mod ReadingAhead
 pub mod SmallReadersAhead
 -- Scalars and directives go ahead, and where their tokens end.
 pub mod ScalarsAhead
+-- A stream end is one mark, at column 0.
+pub mod StreamEndOrder
 -- The marks of every lexeme are in order.
 pub mod LexemeOrder

@@ -7,7 +7,8 @@ ghost use Rattle.yaml_lexeme.specs.Gives.{Gives, Moves};
 ghost use Rattle.yaml_lexeme.specs.Place.{skip, break_len};
 ghost use Rattle.yaml_lexeme.specs.Tails.{TakesBlanks, TakesLine, between_tail, chomped_tail};
 
-use crate::cursor::{check_at, cursor_t, is_at, is_blank, is_break};
+use crate::classes::{is_blank, is_break};
+use crate::cursor::{check_at, cursor_t, is_at};
 use crate::fold::{push_char, written};
 use crate::gap::skip_comment;
 use crate::plain::scalar_t;

@@ -2,15 +2,14 @@
 ghost use Rattle.std.specs.Prelude.{ℕ, min, ◌≡◌, ◌+◌, ◌-◌, ◌^◌, ◌<◌, ◌≤◌, length, slice_index, take, drop, false, true};
 ghost use Rattle.std.specs.Str.{chars};
 ghost use Rattle.yaml_text.specs.Chars.{IsText, AreChars, utf8};
-ghost use Rattle.yaml_text.specs.Classes as classes;
 ghost use Rattle.yaml_text.specs.Utf8.{value_of};
-ghost use Rattle.yaml_lexeme.specs.Classes as sets;
 ghost use Rattle.yaml_lexeme.specs.Place.{peek, first, place_at, IsMarkOf, skip, mark_behind, width, behind, run};
 ghost use Rattle.yaml_lexeme.specs.Place.{run_len, break_len};
 ghost use Rattle.yaml_lexeme.specs.declared.runs.class_t.TheVariants.{SPACE};
 ghost use Rattle.yaml_lexeme.specs.Runs.{class_test, is_line, Stands};
 
-use crate::runs::{class_t, quiet_len, spaces_len, trimmed};
+use crate::classes::is_break;
+use crate::runs::{class_t, is_in, quiet_len, spaces_len, trimmed};
 use std::marker::Model;
 use yaml_text::{WIDTH, yaml_mark_t, yaml_text_t};
 
@@ -51,70 +50,6 @@ impl<'a> Model for cursor_t<'a> {
     ghost invariant = { λ c. IsText c.bytes.now
         × (c.mark.index + length c.bytes.now < 2 ^ 64)
         × (c.mark.line + c.mark.column ≤ c.mark.index) };
-}
-
-/// A line break.
-pub(crate) fn is_break(c: char) -> bool
-    ensures { result ≡ classes.is_break c }
-{
-    matches!(c, '\n' | '\r' | '\u{85}' | '\u{2028}' | '\u{2029}')
-}
-
-/// A space or a tab.
-pub(crate) fn is_blank(c: char) -> bool
-    ensures { result ≡ classes.is_blank c }
-{
-    c == ' ' || c == '\t'
-}
-
-/// A blank or a break.
-pub(crate) fn is_white(c: char) -> bool
-    ensures { result ≡ sets.is_white c }
-{
-    is_blank(c) || is_break(c)
-}
-
-/// A blank, a break or the end.
-pub(crate) fn ends(c: char) -> bool
-    ensures { result ≡ sets.ends c }
-{
-    is_white(c) || c == '\0'
-}
-
-/// A letter, a digit, `_` or `-`.
-pub(crate) fn is_alpha(c: char) -> bool
-    ensures { result ≡ classes.is_alpha c }
-{
-    matches!(c, '0'..='9' | 'A'..='Z' | 'a'..='z' | '_' | '-')
-}
-
-fn is_in_line(c: char) -> bool
-    ensures { result ≡ sets.is_in_line c }
-{
-    !(is_break(c) || c == '\0')
-}
-
-#[inline(always)]
-fn is_in(class: class_t, c: char) -> bool
-    ensures { result ≡ class_test class c }
-{
-    match class {
-        class_t::BLANK => is_blank(c),
-        class_t::GAP_BLANK(tabs) => c == ' ' || c == '\t' && tabs,
-        class_t::SPACE => c == ' ',
-        class_t::BLANK_OR_BREAK => is_white(c),
-        class_t::ALPHA => is_alpha(c),
-        class_t::DIGIT => c.is_ascii_digit(),
-        class_t::IN_LINE => is_in_line(c),
-        class_t::DOUBLE => is_in_line(c) && !(c == '"' || c == '\\'),
-        class_t::SINGLE => is_in_line(c) && !(c == '\''),
-        class_t::PLAIN => is_in_line(c) && !(c == ':' || c == '#'),
-        class_t::FLOW => {
-            is_in_line(c)
-                && !((c == ':' || c == '#')
-                    || (c == ',' || ((c == '[' || c == ']') || (c == '{' || c == '}'))))
-        }
-    }
 }
 
 #[inline(always)]

@@ -2,6 +2,7 @@
 #![tactic(auto)]
 
 mod block;
+mod classes;
 mod cursor;
 mod directive;
 mod escape;

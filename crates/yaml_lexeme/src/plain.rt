@@ -11,7 +11,8 @@ ghost use Rattle.yaml_lexeme.specs.Lexeme.{scalar_of};
 ghost use Rattle.yaml_lexeme.specs.Reading.{with_front, over};
 ghost use Rattle.yaml_lexeme.specs.Words.{links, words, Goes, LeadsTo, Leaves, LeavesMore};
 
-use crate::cursor::{check_at, cursor_t, ends, is_at, is_break, is_white};
+use crate::classes::{ends, is_break, is_white};
+use crate::cursor::{check_at, cursor_t, is_at};
 use crate::fold::{push_char, push_separator};
 use crate::kind::is_marker;
 use crate::problem::{problem_t, refusal_t};

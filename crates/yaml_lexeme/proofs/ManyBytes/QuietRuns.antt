@@ -13,7 +13,7 @@ use Rattle.yaml_text.specs.Classes.{is_break}
 use Rattle.yaml_text.proofs.Characters.Utf8Spelling.{two, three, four, char_range}
 use Rattle.yaml_lexeme.specs.Place.{skip_from, mark_behind, width}
 use Rattle.yaml_lexeme.specs.declared.runs.class_t.{class_t}
-use Rattle.yaml_lexeme.specs.declared.runs.class_t.TheVariants.{BLANK, GAP_BLANK, SPACE, BLANK_OR_BREAK, ALPHA, DIGIT, IN_LINE, DOUBLE, SINGLE, PLAIN, FLOW}
+use Rattle.yaml_lexeme.specs.declared.runs.class_t.TheVariants.{BLANK, GAP_BLANK, SPACE, BLANK_OR_BREAK, ALPHA, IN_LINE, DOUBLE, SINGLE, PLAIN, FLOW}
 use Rattle.yaml_lexeme.specs.Runs.{is_quiet, class_test, begins, may_break, is_line}
 
 -- What bytes that are quiet for a test of characters must be: either all of them are ASCII, or all that continue a
@@ -30,7 +30,6 @@ low_or_high (GAP_BLANK tabs) = inl (λ b h. grind (arith, nat_tests))
 low_or_high SPACE = inl (λ b h. grind (arith, nat_tests))
 low_or_high BLANK_OR_BREAK = inl (λ b h. grind (arith, nat_tests))
 low_or_high ALPHA = inl (λ b h. grind (arith, nat_tests))
-low_or_high DIGIT = inl (λ b h. grind (arith, nat_tests))
 low_or_high IN_LINE = inr (λ b l h. grind (arith, nat_tests))
 low_or_high DOUBLE = inr (λ b l h. grind (arith, nat_tests))
 low_or_high SINGLE = inr (λ b l h. grind (arith, nat_tests))
@@ -98,7 +97,6 @@ passes_ascii (GAP_BLANK tabs) c s a h = (grind (arith, nat_tests), grind (arith,
 passes_ascii SPACE c s a h = (grind (arith, nat_tests), grind (arith, nat_tests))
 passes_ascii BLANK_OR_BREAK c s a h = (grind (arith, nat_tests), grind (arith, nat_tests))
 passes_ascii ALPHA c s a h = (grind (arith, nat_tests), grind (arith, nat_tests))
-passes_ascii DIGIT c s a h = (grind (arith, nat_tests), grind (arith, nat_tests))
 passes_ascii IN_LINE c s a h = (grind (arith, nat_tests), grind (arith, nat_tests))
 passes_ascii DOUBLE c s a h = (grind (arith, nat_tests), grind (arith, nat_tests))
 passes_ascii SINGLE c s a h = (grind (arith, nat_tests), grind (arith, nat_tests))
@@ -112,7 +110,6 @@ passes_high (GAP_BLANK tabs) c a l m h b = absurd (grind (arith, nat_tests))
 passes_high SPACE c a l m h b = absurd (grind (arith, nat_tests))
 passes_high BLANK_OR_BREAK c a l m h b = absurd (grind (arith, nat_tests))
 passes_high ALPHA c a l m h b = absurd (grind (arith, nat_tests))
-passes_high DIGIT c a l m h b = absurd (grind (arith, nat_tests))
 passes_high IN_LINE c a l m h b = (grind (arith, nat_tests), b)
 passes_high DOUBLE c a l m h b = (grind (arith, nat_tests), b)
 passes_high SINGLE c a l m h b = (grind (arith, nat_tests), b)
@@ -125,7 +122,6 @@ quiet_lead (GAP_BLANK tabs) b l h = absurd (grind (arith, nat_tests))
 quiet_lead SPACE b l h = absurd (grind (arith, nat_tests))
 quiet_lead BLANK_OR_BREAK b l h = absurd (grind (arith, nat_tests))
 quiet_lead ALPHA b l h = absurd (grind (arith, nat_tests))
-quiet_lead DIGIT b l h = absurd (grind (arith, nat_tests))
 quiet_lead IN_LINE b l h = grind (arith, nat_tests)
 quiet_lead DOUBLE b l h = grind (arith, nat_tests)
 quiet_lead SINGLE b l h = grind (arith, nat_tests)
@@ -280,7 +276,6 @@ quiet_begins (GAP_BLANK tabs) b n h = grind (arith, nat_tests)
 quiet_begins SPACE b n h = grind (arith, nat_tests)
 quiet_begins BLANK_OR_BREAK b n h = grind (arith, nat_tests)
 quiet_begins ALPHA b n h = grind (arith, nat_tests)
-quiet_begins DIGIT b n h = grind (arith, nat_tests)
 quiet_begins IN_LINE b n h = absurd cc
 quiet_begins DOUBLE b n h = absurd cc
 quiet_begins SINGLE b n h = absurd cc

@@ -14,7 +14,7 @@ use Rattle.yaml_text.specs.Classes.{is_blank, is_break}
 use Rattle.yaml_text.proofs.Decodings.DecodeFronts.{chars-utf8, IsText-utf8}
 use Rattle.yaml_text.proofs.Marks.MarkMoves.{AreChars-parts}
 use Rattle.yaml_lexeme.specs.declared.runs.class_t.{class_t}
-use Rattle.yaml_lexeme.specs.declared.runs.class_t.TheVariants.{BLANK, GAP_BLANK, SPACE, BLANK_OR_BREAK, ALPHA, DIGIT, IN_LINE, DOUBLE, SINGLE, PLAIN, FLOW}
+use Rattle.yaml_lexeme.specs.declared.runs.class_t.TheVariants.{BLANK, GAP_BLANK, SPACE, BLANK_OR_BREAK, ALPHA, IN_LINE, DOUBLE, SINGLE, PLAIN, FLOW}
 use Rattle.yaml_lexeme.specs.Place.{Place, skip_from, skip, mark_behind, width}
 use Rattle.yaml_lexeme.specs.Runs.{class_test, is_line, is_quiet, begins, trim, Stands}
 use Rattle.yaml_lexeme.proofs.ManyBytes.QuietRuns.{along, Over, over, count_chars}
@@ -27,7 +27,6 @@ in_line (GAP_BLANK tabs) c l h = absurd cc
 in_line SPACE c l h = absurd cc
 in_line BLANK_OR_BREAK c l h = absurd cc
 in_line ALPHA c l h = absurd cc
-in_line DIGIT c l h = absurd cc
 in_line IN_LINE c l h = grind (arith, nat_tests)
 in_line DOUBLE c l h = grind (arith, nat_tests)
 in_line SINGLE c l h = grind (arith, nat_tests)

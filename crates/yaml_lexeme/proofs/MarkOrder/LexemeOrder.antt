@@ -32,6 +32,7 @@ use Rattle.yaml_text.specs.Token.{TokenData as unnamed_yaml_token_t_data}
 use Rattle.yaml_text.specs.declared.types.yaml_mark_t.{yaml_mark_t}
 use Rattle.yaml_text.specs.declared.types.yaml_scalar_style_t.{yaml_scalar_style_t}
 use Rattle.yaml_text.specs.declared.types.yaml_scalar_style_t.TheVariants.{YAML_PLAIN_SCALAR_STYLE, YAML_SINGLE_QUOTED_SCALAR_STYLE, YAML_DOUBLE_QUOTED_SCALAR_STYLE, YAML_LITERAL_SCALAR_STYLE, YAML_FOLDED_SCALAR_STYLE}
+use Rattle.yaml_lexeme.proofs.MarkOrder.StreamEndOrder.{stream_end_order}
 
 end_kind : (flow : Bool) (p : Place) → is_z (first p) ≡ true → kind_at flow p ≡ Some kind.STREAM_END
 unfolding kind_at
@@ -139,25 +140,6 @@ in_order p l q s r t =
 
 pub lexeme_order : LexemeOrder
 lexeme_order k c p f h other e = let s = lexeme_spans k c p f h other e in in_order p f.value f.end s.0 s.1 s.2
-
--- a stream end at p
-abbrev Ends : Place → Read yaml_lexeme_t → Type 0
-Ends p (Ok f) = (f.value.end_mark ≡ f.value.start_mark) × (f.value.reach ≡ f.value.start_mark) × IsAfter 0 p.mark f.value.start_mark × (f.value.start_mark.column ≡ 0)
-Ends p (Err e) = Unit {0}
-
-end_after : (m : yaml_mark_t) → IsAfter 0 m (stream_end m) × ((stream_end m).column ≡ 0)
-end_after m =
-    elim (cases_Bool (m.column == 0)) [
-      | inl e ↦ rw e (record { index = omega arith; line = omega arith; column = λ e. omega arith }, grind (arith, nat_tests))
-      | inr e ↦ rw e (record { index = omega arith; line = omega arith; column = λ e. absurd (omega arith) }, refl)
-    ]
-
-end_ends : (c : yaml_context_t) (p : Place) → Ends p (lex kind.STREAM_END c p)
-unfolding lex
-end_ends c p = let e = end_after p.mark in (refl, refl, e.0, e.1)
-
-pub stream_end_order : StreamEndOrder
-stream_end_order c p f e = subst (λ (r : Read yaml_lexeme_t). Ends p r) e (end_ends c p)
 
 -- a lexeme after a gap that ends at p
 follows_other : (k : yaml_lexeme_kind_t) (c : yaml_context_t) (so_far : yaml_mark_t) (p : Place) (f : Found yaml_lexeme_t) → (k ≡ kind.STREAM_END → ⊥) → is_stream_end k ≡ false → IsAfter 0 so_far p.mark → kind_at (in_flow c) p ≡ Some k → lex k c p ≡ Ok f → Follows k so_far f.value

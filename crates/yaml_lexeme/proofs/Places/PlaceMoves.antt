@@ -6,7 +6,7 @@ use Rattle.std.proofs.lemmas.List.{get_or_past}
 use Rattle.std.specs.List.{prefix_len}
 use Rattle.yaml_text.specs.declared.types.yaml_mark_t.{yaml_mark_t}
 use Rattle.yaml_lexeme.specs.declared.runs.class_t.{class_t}
-use Rattle.yaml_lexeme.specs.declared.runs.class_t.TheVariants.{BLANK, GAP_BLANK, SPACE, BLANK_OR_BREAK, ALPHA, DIGIT, IN_LINE, DOUBLE, SINGLE, PLAIN, FLOW}
+use Rattle.yaml_lexeme.specs.declared.runs.class_t.TheVariants.{BLANK, GAP_BLANK, SPACE, BLANK_OR_BREAK, ALPHA, IN_LINE, DOUBLE, SINGLE, PLAIN, FLOW}
 use Rattle.yaml_lexeme.specs.Place.{Place, peek, first, mark_behind, skip_from, skip, behind, break_len}
 use Rattle.yaml_lexeme.specs.Runs.{class_test}
 use Rattle.yaml_lexeme.specs.Classes.{is_white, is_in_line}
@@ -105,7 +105,6 @@ class_end (GAP_BLANK tabs) = refl
 class_end SPACE = refl
 class_end BLANK_OR_BREAK = refl
 class_end ALPHA = refl
-class_end DIGIT = refl
 class_end IN_LINE = refl
 class_end DOUBLE = refl
 class_end SINGLE = refl

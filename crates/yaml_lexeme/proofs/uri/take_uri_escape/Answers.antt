@@ -3,7 +3,7 @@ use Rattle.std.proofs.lemmas.Bool.Decides.{nat_tests}
 use Rattle.std.proofs.lemmas.Result.{err_from_is_err_and}
 use Rattle.yaml_lexeme.proofs.Readers.UriOctets.{no_lead, bad_lead, escape_done}
 use Rattle.yaml_lexeme.specs.Uri.{octet_width}
-use Rattle.yaml_lexeme.proofs.uri.take_escape.Goals as goal
+use Rattle.yaml_lexeme.proofs.uri.take_uri_escape.Goals as goal
 
 pub returns-in_err-lead : goal.returns-in_err-lead
 returns-in_err-lead c =
