@@ -23,7 +23,7 @@ use Rattle.yaml_lexeme.specs.Block.{above, block}
 use Rattle.yaml_lexeme.specs.Name.{name}
 use Rattle.yaml_lexeme.specs.Tag.{tag}
 use Rattle.yaml_lexeme.specs.Directive.{directive}
-use Rattle.yaml_lexeme.specs.Texts.{problem_text, context_text}
+use Rattle.yaml_lexeme.specs.FaultTexts.{problem_text, context_text}
 
 abbrev pub in_flow : yaml_context_t → Bool
 in_flow context = nat_lt 0 context.depth

@@ -16,7 +16,7 @@ pub mod Uri
 pub mod Tag
 pub mod Directive
 pub mod Lex
-pub mod Texts
+pub mod FaultTexts
 pub mod Gives
 pub mod Words
 pub mod Tails

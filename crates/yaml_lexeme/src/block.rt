@@ -8,9 +8,9 @@ ghost use Rattle.yaml_lexeme.specs.Place.{skip, break_len};
 ghost use Rattle.yaml_lexeme.specs.Tails.{TakesBlanks, TakesLine, between_tail, chomped_tail};
 
 use crate::classes::{is_blank, is_break};
-use crate::cursor::{check_at, cursor_t, is_at};
 use crate::fold::{push_char, written};
 use crate::gap::skip_comment;
+use crate::place::{check_at, cursor_t, is_at};
 use crate::plain::scalar_t;
 use crate::problem::{problem_t, refusal_t};
 use crate::runs::class_t;

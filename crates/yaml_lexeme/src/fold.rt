@@ -5,7 +5,7 @@ ghost use Rattle.yaml_lexeme.specs.Classes as sets;
 ghost use Rattle.yaml_lexeme.specs.Place as place;
 ghost use Rattle.yaml_lexeme.specs.Fold as spec;
 
-use crate::cursor::cursor_t;
+use crate::place::cursor_t;
 use crate::runs::class_t;
 use std::alloc::AllocError;
 

@@ -4,7 +4,7 @@ ghost use Rattle.yaml_lexeme.specs.Place.{IsMarkOf, place_at, behind, peek};
 ghost use Rattle.yaml_lexeme.specs.Classes.{is_in_line};
 ghost use Rattle.yaml_lexeme.specs.Gap as spec;
 
-use crate::cursor::{check_at, cursor_t};
+use crate::place::{check_at, cursor_t};
 use crate::runs::class_t;
 use yaml_text::{yaml_mark_t, yaml_text_t};
 

@@ -4,7 +4,7 @@ ghost use Rattle.yaml_lexeme.specs.Place.{IsMarkOf, place_at};
 ghost use Rattle.yaml_lexeme.specs.Kind as spec;
 
 use crate::classes::ends;
-use crate::cursor::{check_at, cursor_t, is_at};
+use crate::place::{check_at, cursor_t, is_at};
 use yaml_text::{yaml_mark_t, yaml_text_t};
 
 /// What kind of lexeme is at a place. "Ends" means that a blank, a break or the end of the text follows.

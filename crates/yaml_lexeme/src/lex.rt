@@ -3,7 +3,7 @@ ghost use Rattle.std.specs.Prelude.{ℕ, ◌≡◌, ◌+◌, ◌<◌, ◌≤◌,
 ghost use Rattle.yaml_text.specs.Chars.{utf8};
 ghost use Rattle.yaml_text.specs.Fault.{fault_of, scanner_fault};
 ghost use Rattle.yaml_lexeme.specs.Kind as kinds;
-ghost use Rattle.yaml_lexeme.specs.Texts as texts;
+ghost use Rattle.yaml_lexeme.specs.FaultTexts as texts;
 ghost use Rattle.yaml_lexeme.specs.Lex as spec;
 ghost use Rattle.yaml_lexeme.specs.Block as blocks;
 ghost use Rattle.yaml_lexeme.specs.Directive as directives;
@@ -20,18 +20,18 @@ ghost use Rattle.yaml_lexeme.specs.Lexeme.{lexeme, lexeme_of, whole, scalar_to, 
 ghost use Rattle.yaml_text.specs.Token.{data_of};
 
 use crate::block::{above, take_block};
-use crate::cursor::cursor_t;
 use crate::directive::take_directive;
 use crate::fault::{make_memory_fault, make_scanner_fault};
+use crate::fault_texts::{context_text, problem_text};
 use crate::kind::yaml_lexeme_kind_t;
 use crate::lexeme::{directive_to, scalar_to, whole_of, yaml_lexeme_t};
 use crate::name::take_name;
+use crate::place::cursor_t;
 use crate::plain::take_plain;
 use crate::problem::{problem_t, refusal_t};
 use crate::quoted::take_quoted;
 use crate::stream_end::take_stream_end;
 use crate::tag::take_tag;
-use crate::texts::{context_text, problem_text};
 use std::alloc::Global;
 use yaml_text::{
     unnamed_yaml_token_t_data, yaml_fault_t, yaml_mark_t, yaml_scalar_style_t, yaml_text_t,

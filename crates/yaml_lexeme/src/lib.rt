@@ -3,10 +3,10 @@
 
 mod block;
 mod classes;
-mod cursor;
 mod directive;
 mod escape;
 mod fault;
+mod fault_texts;
 mod fold;
 mod gap;
 mod kind;
@@ -14,6 +14,7 @@ pub mod laws;
 mod lex;
 mod lexeme;
 mod name;
+mod place;
 mod plain;
 mod problem;
 mod quoted;
@@ -22,7 +23,6 @@ mod stream_end;
 mod tag;
 #[cfg(test)]
 mod tests;
-mod texts;
 mod uri;
 
 pub use gap::yaml_gap;

@@ -6,7 +6,7 @@ ghost use Rattle.yaml_lexeme.specs.Name as spec;
 ghost use Rattle.yaml_lexeme.specs.Gives.{Gives};
 
 use crate::classes::ends;
-use crate::cursor::{cursor_t, is_at};
+use crate::place::{cursor_t, is_at};
 use crate::problem::{problem_t, refusal_t};
 use crate::runs::class_t;
 use std::alloc::Global;

@@ -4,8 +4,8 @@ ghost use Rattle.yaml_lexeme.specs.StreamEnd as spec;
 ghost use Rattle.yaml_lexeme.specs.Lexeme.{lexeme_of};
 ghost use Rattle.yaml_lexeme.specs.Gives.{Gives};
 
-use crate::cursor::cursor_t;
 use crate::lexeme::{whole_of, yaml_lexeme_t};
+use crate::place::cursor_t;
 use crate::problem::refusal_t;
 use yaml_text::{unnamed_yaml_token_t_data, yaml_mark_t};
 

@@ -4,7 +4,7 @@ ghost use Rattle.yaml_lexeme.specs.Uri as spec;
 ghost use Rattle.yaml_lexeme.specs.Gives.{Gives, Takes, Appends, OctetIs};
 
 use crate::classes::is_alpha;
-use crate::cursor::{check_at, cursor_t};
+use crate::place::{check_at, cursor_t};
 use crate::problem::{problem_t, refusal_t};
 use std::alloc::{AllocError, Global};
 

@@ -19,7 +19,7 @@ use Rattle.yaml_lexeme.proofs.Locality.GapLocality.{gap_local_to}
 use Rattle.yaml_lexeme.proofs.Locality.KindLocality.{kind_local}
 use Rattle.yaml_lexeme.proofs.Locality.LexemeLocality.{lex_local_to}
 use Rattle.yaml_scan.proofs.LexemeReads.{lex_goes_on}
-use Rattle.yaml_lexeme.specs.Texts.{problem_text, context_text}
+use Rattle.yaml_lexeme.specs.FaultTexts.{problem_text, context_text}
 use Rattle.yaml_text.specs.Fault.{scanner_fault}
 use Rattle.yaml_scan.specs.Kind.{Kind}
 use Rattle.yaml_scan.specs.Source.{Source, Reading, Offence}

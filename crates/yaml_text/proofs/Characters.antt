@@ -1,5 +1,7 @@
 -- How characters are spelled, and their classes.
 
+-- A character of a text is a scalar value, and not 0.
+pub mod CharRanges
 -- The character that bytes of UTF-8 begin with: from a character to its octets, and back.
 pub mod Utf8Spelling
 -- The character that bytes of UTF-16 begin with: from a character to its units, and back.

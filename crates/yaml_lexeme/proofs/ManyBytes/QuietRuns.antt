@@ -10,7 +10,8 @@ use lib.Utf8.{encode, next}
 use Rattle.yaml_text.specs.declared.types.yaml_mark_t.{yaml_mark_t}
 use Rattle.yaml_text.specs.Chars.{AreChars, utf8}
 use Rattle.yaml_text.specs.Classes.{is_break}
-use Rattle.yaml_text.proofs.Characters.Utf8Spelling.{two, three, four, char_range}
+use Rattle.yaml_text.proofs.Characters.Utf8Spelling.{two, three, four}
+use Rattle.yaml_text.proofs.Characters.CharRanges.{char_range}
 use Rattle.yaml_lexeme.specs.Place.{skip_from, mark_behind, width}
 use Rattle.yaml_lexeme.specs.declared.runs.class_t.{class_t}
 use Rattle.yaml_lexeme.specs.declared.runs.class_t.TheVariants.{BLANK, GAP_BLANK, SPACE, BLANK_OR_BREAK, ALPHA, IN_LINE, DOUBLE, SINGLE, PLAIN, FLOW}

@@ -9,7 +9,8 @@ use Rattle.std.proofs.lemmas.Str.{length-encode, len_utf8_bounds}
 use lib.Utf8.{encode}
 use Rattle.yaml_text.specs.Chars.{AreChars, IsText, utf8}
 use Rattle.yaml_text.specs.Utf8.{width_of, value_of}
-use Rattle.yaml_text.proofs.Characters.Utf8Spelling.{char_range, stands}
+use Rattle.yaml_text.proofs.Characters.CharRanges.{char_range}
+use Rattle.yaml_text.proofs.Characters.Utf8Spelling.{stands}
 use Rattle.yaml_text.proofs.Decodings.DecodeFronts.{chars-utf8, IsText-utf8}
 use Rattle.yaml_text.proofs.Characters.ClassTables.{Leads, leads, low_same}
 

@@ -9,7 +9,8 @@ use Rattle.yaml_text.specs.Chars.{AreChars, utf8, is_char}
 use Rattle.std.specs.Char.{len_utf8}
 use Rattle.yaml_text.specs.Utf8.{width_of}
 use Rattle.yaml_text.specs.Classes.{Stands, is_digit, is_hex, is_alpha, is_ascii, is_z, is_space, is_tab, is_bom, is_bom_by, is_bom_at, is_breakz, is_breakz_at, is_blankz, is_blankz_at, is_break, is_break_by, is_break_at, is_blank, is_crlf, is_crlf_at, is_printable, is_printable_by, is_printable_at}
-use Rattle.yaml_text.proofs.Characters.Utf8Spelling.{two, three, four, char_range}
+use Rattle.yaml_text.proofs.Characters.Utf8Spelling.{two, three, four}
+use Rattle.yaml_text.proofs.Characters.CharRanges.{char_range}
 
 -- how the first three bytes follow from the first character, which is 0 at the end
 abbrev pub Leads : ℕ → ℕ → ℕ → ℕ → Type 0

@@ -10,7 +10,7 @@ use Rattle.std.proofs.lemmas.Grind.{flat_map-append}
 use Rattle.std.proofs.lemmas.Str.{encodes-append}
 use lib.Utf8.{encode}
 use Rattle.yaml_text.proofs.Decodings.DecodeFronts.{AreChars-append, chars-utf8, IsText-utf8, IsText-nil}
-use Rattle.yaml_text.proofs.Characters.Utf8Spelling.{char_range}
+use Rattle.yaml_text.proofs.Characters.CharRanges.{char_range}
 
 one_unit : (big : Bool) (c : ℕ) → c < 0x10000 → spelling16 big c ≡ unit big c
 unfolding spelling16

@@ -1,12 +1,13 @@
 -- The character that bytes of UTF-8 begin with: from a character to its octets, and back.
 use Rattle.std.proofs.Common.{◌≡◌, ℕ, ◌+◌, ◌*◌, ◌/◌, ◌%◌, ◌<◌, ◌≤◌, ◌⊎◌, true, List, [], ◌∷◌, ◌++◌, length, get_or, refl, sym, ap, ◌∙◌, subst, inl, inr, arith, lt-ltb, le-ltb}
 use Rattle.std.specs.Char.{len_utf8}
-use Rattle.std.proofs.lemmas.Bool.{cases_lt, and_parts, leb-true}
+use Rattle.std.proofs.lemmas.Bool.{cases_lt}
 use Rattle.std.proofs.lemmas.Bool.Decides.{nat_tests}
 use Rattle.std.proofs.lemmas.Str.{encode_ascii}
 use lib.Utf8.{encode, next}
 use Rattle.yaml_text.specs.declared.types.yaml_encoding_t.TheVariants.{YAML_UTF8_ENCODING}
-use Rattle.yaml_text.specs.Chars.{is_char, IsChar, is_within}
+use Rattle.yaml_text.specs.Chars.{is_char, IsChar}
+use Rattle.yaml_text.proofs.Characters.CharRanges.{char_range}
 use Rattle.yaml_text.specs.Decode.{Begins}
 use Rattle.yaml_text.specs.Utf8.{width_of, stray_at, value_of, least_of, is_scalar}
 
@@ -21,14 +22,6 @@ three c l h = rw (le-ltb c 128 (omega arith), le-ltb c 2048 l, lt-ltb c 65536 h)
 pub four : (c : ℕ) → 65536 ≤ c → encode c ≡ (240 + c / 262144) ∷ next (c / 4096) ∷ next (c / 64) ∷ next c ∷ []
 unfolding encode
 four c l = rw (le-ltb c 128 (omega arith), le-ltb c 2048 (omega arith), le-ltb c 65536 l)
-
-within : (lo hi c : ℕ) → is_within lo hi c ≡ true → (lo ≤ c) × (c ≤ hi)
-within lo hi c e = let p = and_parts _ _ e in (leb-true _ _ p.0, leb-true _ _ p.1)
-
--- a character is a scalar value, and no byte 0
-pub char_range : (c : ℕ) → is_char c ≡ true → (0 < c) × ((c < 0xD800) ⊎ ((0xE000 ≤ c) × (c < 0x110000)))
-unfolding is_char
-char_range c e = grind (arith, nat_tests)
 
 -- The bytes begin with a character.
 pub record Stands (bytes : List ℕ) (c : ℕ) : Type 0 where

@@ -10,7 +10,7 @@ use lib.Utf8.{encode, encodes, scalar, scalars}
 use Rattle.yaml_text.specs.declared.types.yaml_encoding_t.TheVariants.{YAML_UTF8_ENCODING}
 use Rattle.yaml_text.specs.Chars.{IsChar, AreChars, IsText, is_char, utf8}
 use Rattle.yaml_text.specs.Decode.{Begins, BeginsWithNone}
-use Rattle.yaml_text.proofs.Characters.Utf8Spelling.{char_range}
+use Rattle.yaml_text.proofs.Characters.CharRanges.{char_range}
 
 scalar_range : (c : ℕ) → (c < 0xD800) ⊎ ((0xE000 ≤ c) × (c < 0x110000)) → scalar c ≡ true
 scalar_range c h = grind (arith, nat_tests)

@@ -8,7 +8,8 @@ use Rattle.yaml_text.specs.declared.types.yaml_encoding_t.TheVariants.{YAML_ANY_
 use Rattle.yaml_text.specs.Chars.{IsChar, AreChars}
 use Rattle.yaml_text.specs.Utf8.{value_of, value8}
 use Rattle.yaml_text.specs.Decode.{spelling, spelled, Begins, BeginsWithNone, IsFront, value_in_front}
-use Rattle.yaml_text.proofs.Characters.Utf8Spelling.{Stands, stands, char_range}
+use Rattle.yaml_text.proofs.Characters.Utf8Spelling.{Stands, stands}
+use Rattle.yaml_text.proofs.Characters.CharRanges.{char_range}
 use Rattle.yaml_text.proofs.Characters.Utf16Spelling.{value16_is, some_units}
 
 value8_is : (bytes : List ℕ) (c : ℕ) → IsChar c → Begins YAML_UTF8_ENCODING c bytes → value8 bytes ≡ c

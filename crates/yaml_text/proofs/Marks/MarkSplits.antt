@@ -11,7 +11,8 @@ use Rattle.yaml_text.specs.Chars.{AreChars, IsText, utf8}
 use Rattle.yaml_text.specs.Utf8.{continues}
 use Rattle.yaml_text.specs.Classes.{is_crlf_at}
 use Rattle.yaml_text.specs.Mark.{cuts_break, breaks, column, IsMarkAt, place_at, IsPlaceAt, IsPlace, is_place_by}
-use Rattle.yaml_text.proofs.Characters.Utf8Spelling.{two, three, four, char_range}
+use Rattle.yaml_text.proofs.Characters.Utf8Spelling.{two, three, four}
+use Rattle.yaml_text.proofs.Characters.CharRanges.{char_range}
 use Rattle.yaml_text.proofs.Decodings.DecodeFronts.{chars-utf8, IsText-utf8, IsText-nil, scalars-AreChars}
 use Rattle.yaml_text.proofs.Marks.MarkMoves.{Goes, goes, AreChars-parts, Lands, same_at}
 use Rattle.yaml_text.specs.declared.types.yaml_mark_t.{yaml_mark_t}
