@@ -1,5 +1,5 @@
 -- Plain scalars (YAML 1.1, 9.1.3 Plain).
-use Rattle.std.specs.Prelude.{ℕ, ◌+◌, Bool, false, not, ◌&&◌, ◌||◌, ◌==◌, nat_lt, if◌then◌else◌, List, [], ◌∷◌, ◌++◌}
+use Rattle.std.specs.Prelude.{ℕ, ◌+◌, Bool, not, ◌&&◌, ◌||◌, ◌==◌, nat_lt, if◌then◌else◌, List, [], ◌∷◌, ◌++◌}
 use Rattle.std.specs.Prelude.{length, take, slice_index, codes, Option, Some, None, option_map}
 use Rattle.std.specs.List.{list_any, flat_map, find, range_with_len}
 use Rattle.yaml_text.specs.Chars.{utf8}

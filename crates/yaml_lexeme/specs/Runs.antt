@@ -2,7 +2,7 @@
 use Rattle.std.specs.Prelude.{ℕ, ◌≡◌, ◌≤◌, ◌/◌, Bool, true, false, not, ◌&&◌, ◌||◌, ◌==◌, if◌then◌else◌, List, []}
 use Rattle.std.specs.Prelude.{◌∷◌, length, take}
 use Rattle.std.specs.List.{list_all}
-use Rattle.yaml_text.specs.Classes.{is_blank, is_alpha, is_digit}
+use Rattle.yaml_text.specs.Classes.{is_blank, is_alpha}
 use Rattle.yaml_lexeme.specs.declared.runs.class_t.{class_t}
 use Rattle.yaml_lexeme.specs.declared.runs.class_t.TheVariants.{BLANK, GAP_BLANK, SPACE, BLANK_OR_BREAK, ALPHA}
 use Rattle.yaml_lexeme.specs.declared.runs.class_t.TheVariants.{IN_LINE, DOUBLE, SINGLE, PLAIN, FLOW}

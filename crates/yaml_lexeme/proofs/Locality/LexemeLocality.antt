@@ -1,12 +1,12 @@
 -- Lexemes of every kind are local, and their problems are ahead.
-use Rattle.std.proofs.Common.{ℕ, true, false, Ok, Err, refl, sym, ap, ◌∙◌, subst}
+use Rattle.std.proofs.Common.{ℕ, true, false, Ok, Err, sym, ap, ◌∙◌, subst}
 use Rattle.yaml_lexeme.specs.declared.kind.yaml_lexeme_kind_t.TheVariants as kind
 use Rattle.yaml_text.specs.Token.{TokenData as token}
 use Rattle.yaml_lexeme.proofs.MarkOrder.ReadingAhead.{ahead_any}
 use Rattle.yaml_lexeme.proofs.Locality.BlockLocality.{block_like}
 use Rattle.yaml_lexeme.proofs.Locality.QuotedLocality.{quoted_local}
 use Rattle.yaml_lexeme.proofs.Locality.DirectiveLocality.{directive_like}
-use Rattle.yaml_lexeme.proofs.Locality.ComposedReaders.{IsLike, agree_self, like_found, found_on, like_bind, like_of, like_law, like_to, agree_behind}
+use Rattle.yaml_lexeme.proofs.Locality.ComposedReaders.{IsLike, agree_self, like_found, found_on, like_bind, like_of, like_law, like_to}
 use Rattle.yaml_lexeme.proofs.Locality.LocalReaders.{EndsAt, IsLocalTo}
 use Rattle.yaml_lexeme.proofs.Locality.NameLocality.{name_like}
 use Rattle.yaml_lexeme.proofs.Locality.TagLocality.{tag_like}
@@ -27,10 +27,7 @@ use Rattle.yaml_lexeme.specs.Tag.{tag}
 use Rattle.yaml_lexeme.specs.declared.kind.yaml_lexeme_kind_t.{yaml_lexeme_kind_t}
 use Rattle.yaml_lexeme.specs.declared.lex.yaml_context_t.{yaml_context_t}
 use Rattle.yaml_lexeme.specs.Lexeme.{Lexeme as yaml_lexeme_t, lexeme, whole_of, whole, scalar_to, directive_to}
-use Rattle.yaml_lexeme.specs.Lexeme.{Scalar as scalar_t}
-use Rattle.yaml_text.specs.Token.{TokenData as unnamed_yaml_token_t_data}
 use Rattle.yaml_text.specs.declared.types.yaml_mark_t.{yaml_mark_t}
-use Rattle.yaml_text.specs.declared.types.yaml_scalar_style_t.{yaml_scalar_style_t}
 use Rattle.yaml_text.specs.declared.types.yaml_scalar_style_t.TheVariants.{YAML_PLAIN_SCALAR_STYLE, YAML_SINGLE_QUOTED_SCALAR_STYLE, YAML_DOUBLE_QUOTED_SCALAR_STYLE, YAML_LITERAL_SCALAR_STYLE, YAML_FOLDED_SCALAR_STYLE}
 
 -- a reader, and the lexeme that is made of it

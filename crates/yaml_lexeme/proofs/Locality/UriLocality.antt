@@ -1,21 +1,14 @@
 -- Octets, escapes and uris are local.
-use Rattle.std.proofs.Common.{◌≡◌, ℕ, zero, suc, ◌-◌, ◌≤◌, Bool, true, false, ◌==◌, ◌&&◌, ◌||◌, nat_lt, if◌then◌else◌, inl, inr, List, [], ◌∷◌, ◌++◌, length, codes, refl, sym, ap, arith}
+use Rattle.std.proofs.Common.{◌≡◌, ℕ, zero, suc, ◌-◌, ◌≤◌, Bool, ◌==◌, if◌then◌else◌, inl, inr, List, [], ◌∷◌, length, refl, sym, ap, arith}
 use Rattle.std.proofs.lemmas.Bool.{cases_Bool}
 use Rattle.std.specs.List.{concat}
-use Rattle.std.specs.Str.Parse.{digits_value}
-use Rattle.yaml_lexeme.proofs.Locality.ComposedReaders.{IsLike, IsPartLike, found_here, refuse_here, found_on, like_if, part_like_if, like_on, like_bind, like_run, like_same, like_map, like_part, part_on, over_here, many_like}
+use Rattle.yaml_lexeme.proofs.Locality.ComposedReaders.{IsLike, IsPartLike, found_here, refuse_here, like_if, part_like_if, like_on, like_bind, like_same, like_map, like_part, part_on, over_here, many_like}
 use Rattle.yaml_lexeme.proofs.Readers.UriOctets.{uri_shortens}
-use Rattle.yaml_lexeme.specs.Classes.{ends}
 use Rattle.yaml_lexeme.proofs.Locality.AgreeingPlaces.{Agree}
-use Rattle.yaml_lexeme.specs.Name.{is_behind_name, name}
-use Rattle.yaml_lexeme.specs.Place.{Place, first, peek, skip, run, behind}
-use Rattle.yaml_lexeme.specs.Reading.{Read, found, refuse, ◌>>=◌, with_front}
-use Rattle.yaml_lexeme.specs.Tag.{lone, angled, handled, tag}
+use Rattle.yaml_lexeme.specs.Place.{Place, first, skip}
+use Rattle.yaml_lexeme.specs.Reading.{refuse, with_front}
 use Rattle.yaml_lexeme.specs.Uri.{is_octet, octet_value, octet, octet_width, is_bad_next, next_octets, is_uri, uri_escape, uri_part, uri, some_uri}
-use Rattle.yaml_lexeme.specs.declared.problem.problem_t.TheVariants.{NO_OCTET, BAD_NEXT_OCTET, BAD_LEAD_OCTET, NO_NAME}
-use Rattle.yaml_text.specs.Classes.{is_alpha, is_hex}
-use Rattle.yaml_text.specs.Token.{TokenData as unnamed_yaml_token_t_data}
-use Rattle.yaml_text.specs.Token.TokenData.{TAG}
+use Rattle.yaml_lexeme.specs.declared.problem.problem_t.TheVariants.{NO_OCTET, BAD_NEXT_OCTET, BAD_LEAD_OCTET}
 
 next_by : (n : ℕ) (p : Place) → next_octets (suc n) p ≡ (if is_octet p then (if is_bad_next (octet_value p) then refuse BAD_NEXT_OCTET p else with_front (octet_value p ∷ []) (next_octets n (skip 3 p))) else refuse NO_OCTET p)
 unfolding next_octets octet

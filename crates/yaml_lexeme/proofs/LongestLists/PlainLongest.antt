@@ -1,30 +1,23 @@
 -- Plain scalars are their parts, and chunks and links are as long as possible.
-use Rattle.std.proofs.Common.{◌≡◌, ℕ, zero, suc, ◌+◌, ◌<◌, ◌≤◌, ◌⊎◌, Bool, true, false, not, ◌==◌, ◌&&◌, ◌||◌, if◌then◌else◌, inl, inr, List, [], ◌∷◌, ◌++◌, length, take, drop, slice_index, Option, Some, None, Ok, Err, refl, sym, ap, ◌∙◌, subst, arith, append_assoc, length-append}
-use Rattle.std.proofs.lemmas.Bool.{cases_Bool, and_parts, eqb-true, not-false}
+use Rattle.std.proofs.Common.{◌≡◌, ℕ, zero, suc, ◌+◌, ◌<◌, ◌≤◌, ◌⊎◌, Bool, true, false, not, ◌==◌, ◌&&◌, if◌then◌else◌, inl, inr, List, [], ◌∷◌, ◌++◌, length, take, drop, slice_index, Option, Some, None, Ok, Err, refl, sym, ap, ◌∙◌, subst, arith, append_assoc, length-append}
+use Rattle.std.proofs.lemmas.Bool.{cases_Bool, eqb-true, not-false}
 use Rattle.std.proofs.lemmas.Bool.Decides.{nat_tests}
 use Rattle.std.proofs.lemmas.List.{length-take-le}
-use Rattle.std.specs.List.{flat_map}
-use Rattle.yaml_text.specs.Chars.{utf8}
-use Rattle.yaml_text.specs.Classes.{is_break, is_z}
 use Rattle.yaml_lexeme.specs.Lexeme.{Scalar as scalar_t}
 use Rattle.yaml_lexeme.specs.declared.problem.problem_t.{problem_t}
-use Rattle.yaml_lexeme.specs.declared.problem.problem_t.TheVariants.{DOCUMENT_MARKER, COLON_IN_FLOW}
+use Rattle.yaml_lexeme.specs.declared.problem.problem_t.TheVariants.{COLON_IN_FLOW}
 use Rattle.yaml_lexeme.specs.Classes.{is_white}
-use Rattle.yaml_lexeme.specs.Escape.{backslash, escape}
 use Rattle.yaml_lexeme.specs.Fold.{fold}
-use Rattle.yaml_lexeme.specs.Kind.{is_marker}
-use Rattle.yaml_lexeme.specs.Parts.{Piece, texts, values, IsLongest, QuotedParts, QuotedIsParts, QuotedIsRefused, plain_scalar, PlainParts, PlainIsParts, ChunkRefused, LinksRefused, PlainIsRefused, ChunkIsLongest, LinkParts, LinkIsLongest, SeparatorEnds, LinkIsOver}
+use Rattle.yaml_lexeme.specs.Parts.{texts, values, plain_scalar, PlainParts, PlainIsParts, ChunkRefused, LinksRefused, PlainIsRefused, ChunkIsLongest, LinkParts, LinkIsLongest, SeparatorEnds, LinkIsOver}
 use Rattle.yaml_lexeme.specs.Place.{Place, first, peek, skip, run, behind}
 use Rattle.yaml_lexeme.specs.Plain.{is_bad_colon, is_chunk, chunk_len, chunk, bad_tab, untabbed, separator, is_over, link, plain}
-use Rattle.yaml_lexeme.specs.Quoted.{quote, body_part, quoted}
 use Rattle.yaml_lexeme.specs.Reading.{Offence, Found, Read, found, refuse, ◌>>=◌, Part, part, over, many}
 use Rattle.yaml_lexeme.proofs.LongestLists.LongestParts.{Advances, split, many_longest, many_refused, found_of, refused_of}
 use Rattle.yaml_lexeme.proofs.Places.PlaceMoves.{skip_none, rest_skip, peek_on}
 use Rattle.yaml_lexeme.proofs.Locality.PlainLocality.{unless_bad, chunk_within}
 use Rattle.yaml_lexeme.proofs.Readers.FoldSeparators.{stopped}
-use Rattle.yaml_lexeme.proofs.MarkOrder.ScalarsAhead.{body_goes, link_goes}
+use Rattle.yaml_lexeme.proofs.MarkOrder.ScalarsAhead.{link_goes}
 use Rattle.yaml_lexeme.proofs.Parts.ReadResults.{value_or, end_or, offence_or, both}
-use Rattle.yaml_lexeme.proofs.Readers.QuotedBody.{finish, quoted_is}
 use Rattle.yaml_lexeme.proofs.Readers.PlainLinks.{tail_of, after_head, plain_is}
 
 -- chunks

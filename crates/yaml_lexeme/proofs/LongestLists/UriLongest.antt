@@ -1,16 +1,11 @@
 -- Uris are the longest lists of characters and escapes.
-use Rattle.std.proofs.Common.{◌≡◌, ℕ, Bool, List, Option, Ok, Err, Result, refl, sym, ap, ◌∙◌, subst}
+use Rattle.std.proofs.Common.{◌≡◌, ℕ, Bool, List, Ok, Err, refl, sym, ap, ◌∙◌, subst}
 use Rattle.std.specs.List.{concat}
-use Rattle.yaml_lexeme.specs.declared.block.header_t.{header_t}
-use Rattle.yaml_lexeme.specs.Lexeme.{Scalar as scalar_t}
 use Rattle.yaml_lexeme.proofs.LongestLists.LongestParts.{Advances, many_longest, many_refused, found_of, refused_of}
-use Rattle.yaml_lexeme.proofs.MarkOrder.ScalarsAhead.{blank_goes, line_spans, line_goes_of}
 use Rattle.yaml_lexeme.proofs.Readers.UriOctets.{uri_ahead}
 use Rattle.yaml_lexeme.proofs.Parts.ReadResults.{value_or, end_or, offence_or, both}
-use Rattle.yaml_lexeme.proofs.Readers.BlockLines.{after_blanks, blanks_is, tail_of, after_leading, after_start, after_header, block_is}
-use Rattle.yaml_lexeme.specs.Block.{Blank, Blanks, Line, header_at, after_line, after_indent, blank_line, blank_lines, blanks_of, text_line, block}
-use Rattle.yaml_lexeme.specs.Parts.{Piece, values, IsLongest, UriParts, UriIsParts, UriIsRefused, BlankParts, BlanksAreLines, BlockParts, BlockIsLines, indent_of, block_scalar}
-use Rattle.yaml_lexeme.specs.Place.{Place, skip}
+use Rattle.yaml_lexeme.specs.Parts.{Piece, values, IsLongest, UriParts, UriIsParts, UriIsRefused}
+use Rattle.yaml_lexeme.specs.Place.{Place}
 use Rattle.yaml_lexeme.specs.Reading.{Offence, Found, Read, found, ◌>>=◌, over, many}
 use Rattle.yaml_lexeme.specs.Uri.{uri_part, uri}
 

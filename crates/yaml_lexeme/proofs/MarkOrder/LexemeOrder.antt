@@ -14,9 +14,8 @@ use Rattle.yaml_lexeme.specs.Directive.{directive}
 use Rattle.yaml_lexeme.specs.Gap.{gap}
 use Rattle.yaml_lexeme.specs.Kind.{is_marker_of, is_indicator, starts_plain, kind_at}
 use Rattle.yaml_lexeme.specs.Lex.{lex, in_flow, least, says_of, quoted_as}
-use Rattle.yaml_lexeme.specs.StreamEnd.{stream_end}
 use Rattle.yaml_lexeme.specs.Name.{name}
-use Rattle.yaml_lexeme.specs.Order.{IsAfter, Spans, LexemeSpans, LexemeOrder, StreamEndOrder, is_stream_end, Follows, LexemeFollows}
+use Rattle.yaml_lexeme.specs.Order.{IsAfter, Spans, LexemeSpans, LexemeOrder, is_stream_end, Follows, LexemeFollows}
 use Rattle.yaml_lexeme.specs.Place.{Place, first, peek, skip}
 use Rattle.yaml_lexeme.specs.Plain.{is_chunk, plain}
 use Rattle.yaml_lexeme.specs.Quoted.{quoted}

@@ -1,11 +1,10 @@
 -- The octets, escapes and characters of a uri are read one by one.
-use Rattle.std.proofs.Common.{◌≡◌, ℕ, zero, suc, ◌+◌, ◌-◌, ◌<◌, ◌≤◌, Bool, true, false, cond, ◌==◌, ◌&&◌, inl, inr, List, [], ◌∷◌, ◌++◌, length, take, Result, Ok, Err, refl, sym, ap, ◌∙◌, arith, append_assoc}
+use Rattle.std.proofs.Common.{◌≡◌, ℕ, zero, suc, ◌-◌, ◌<◌, ◌≤◌, Bool, true, false, cond, ◌==◌, ◌&&◌, inl, inr, List, [], ◌∷◌, ◌++◌, length, Result, Ok, Err, refl, sym, ap, ◌∙◌, arith, append_assoc}
 use Rattle.std.proofs.lemmas.Bool.{cases_Bool}
 use Rattle.std.proofs.lemmas.Bool.Decides.{nat_tests}
 use Rattle.std.proofs.lemmas.List.{append-nil}
 use Rattle.std.proofs.lemmas.List.Concat.{concat_is}
-use Rattle.std.proofs.lemmas.Str.{encode_ascii}
-use Rattle.std.specs.List.{prefix_len, concat}
+use Rattle.std.specs.List.{concat}
 use Rattle.std.specs.Str.Parse.{digits_value}
 use Rattle.yaml_lexeme.specs.declared.problem.refusal_t.{refusal_t}
 use Rattle.yaml_lexeme.specs.declared.problem.refusal_t.TheVariants as errors
@@ -15,11 +14,10 @@ use Rattle.yaml_lexeme.proofs.Parts.PartByPart.{Shortens, joined}
 use Rattle.yaml_lexeme.proofs.Places.PlaceMoves.{is_there}
 use Rattle.yaml_lexeme.proofs.Parts.ReadResults.{value_or, end_or}
 use Rattle.yaml_lexeme.specs.Gives.{Refuses, TakesRead, Appends}
-use Rattle.yaml_lexeme.specs.Place.{Place, first, peek, skip, run}
+use Rattle.yaml_lexeme.specs.Place.{Place, first, peek, skip}
 use Rattle.yaml_lexeme.specs.Reading.{Read, found, part, refuse, over, many, with_front, ◌>>=◌}
 use Rattle.yaml_lexeme.specs.Uri.{octet, octet_width, is_bad_next, next_octets, uri_escape, uri_part, is_uri, uri}
-use Rattle.yaml_text.specs.Chars.{utf8}
-use Rattle.yaml_text.specs.Classes.{is_alpha, is_hex}
+use Rattle.yaml_text.specs.Classes.{is_hex}
 
 -- what was appended to `old` is what was read
 pub appended : (r : Read (List ℕ)) (old new : List ℕ) (q : Place) → with_front old r ≡ found new q → TakesRead (λ cs. cs) r old new q
