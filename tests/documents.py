@@ -8,9 +8,12 @@ One line of output for each check; what is wrong is printed before it. The check
 - rules: in RULES.md every heading has a line with a definition and a code file, and a link to it. What that line names is
   in the file that it names: a definition in parentheses, and a test.
 - proofs: PROOFS.md names every law, every public function and every file of lemmas of each crate, and no others.
+- lemmas: every file of lemmas begins with a line that says what it shows. So does the file that lists a folder of them, and
+  it has a line `mod NAME` for each file there, with a sentence on the line before it or after it on the same line. A crate
+  with more than ten such files has them in folders.
 - edits: every must-fail edit has a line in edits.txt, and every line has its edit. The README.md of a crate's must-fail edits
   names each of them, and no others.
-- comments: no line of a comment of the code is longer than 128 characters.
+- lines: no line of the code or of a definition is longer than 120 characters.
 """
 
 import glob
@@ -24,7 +27,8 @@ FOLDERS = ("bench", "crates", "docs", "ffi", "tests", "uses")
 ENDINGS = ("antt", "c", "css", "edit", "gz", "h", "html", "md", "py", "rs", "rt", "txt")
 STAND_FOR_NAMES = {"FILE", "FUNCTION", "NAME"}
 WRITTEN_BY_SCRIPTS = {"bench/results.md", "docs/speed.svg"}
-LONGEST_LINE = 128
+LONGEST_LINE = 120
+MOST_LOOSE_FILES = 10
 PATH = re.compile(r"(\.\./|\./)?[\w*.-]+(/[\w*.-]+)*/?")
 
 
@@ -161,6 +165,13 @@ def functions_of(crate):
     return {name for path in sources for name in pattern.findall(read(path))}
 
 
+def lemma_files(crate):
+    """The files of lemmas of a crate: those of `proofs/` and of its folders that a capital begins, without the lists."""
+    proofs = f"crates/{crate}/proofs"
+    paths = found(f"{proofs}/*.antt") + found(f"{proofs}/[A-Z]*/**/*.antt")
+    return [path for path in paths if os.path.basename(path) != "Lib.antt" and not found(path[:-len(".antt")])]
+
+
 def compare(what, said, wanted):
     return ([f"PROOFS.md: {what} {name} is missing" for name in sorted(wanted - said)]
             + [f"PROOFS.md: {what} {name} is gone" for name in sorted(said - wanted)])
@@ -173,7 +184,7 @@ def check_proofs():
         sections[heading] = rest
     for crate in (path.split("/")[1] for path in found("crates/*/src")):
         laws = f"crates/{crate}/src/laws.rt"
-        lemmas = names_of(f"crates/{crate}/proofs/*.antt") - {"Lib"}
+        lemmas = {os.path.basename(path)[:-len(".antt")] for path in lemma_files(crate)}
         wanted = {
             f"Laws of {crate}": set(re.findall(r"^pub fn (\w+)", read(laws), re.M)) if found(laws) else set(),
             f"Lemma files of {crate}": lemmas,
@@ -211,21 +222,50 @@ def check_edits():
     return len(edits), wrong
 
 
-# COMMENTS
+# LEMMAS
 
-def check_comments():
+def unlisted(folder):
+    """What is wrong with the list of a folder of lemma files, which is the file beside it."""
+    listing = f"{folder}.antt"
+    lines = read(listing).split("\n") if found(listing) else []
+    wrong = [] if lines and lines[0].startswith("-- ") else [f"{listing}: no first line says what the folder shows"]
+    listed = {}
+    for before, line in zip([""] + lines, lines):
+        entry = re.match(r"(?:pub )?mod (\w+)(?: +-- (.+))?$", line)
+        if entry:
+            listed[entry.group(1)] = entry.group(2) or (before.startswith("-- ") and before)
+    names = names_of(f"{folder}/*.antt")
+    wrong += [f"{listing}: {name} is not listed" for name in sorted(names - set(listed))]
+    return wrong + [f"{listing}: no sentence for {name}" for name in sorted(listed) if not listed[name]]
+
+
+def check_lemmas():
+    wrong, count = [], 0
+    for crate in (path.split("/")[1] for path in found("crates/*/proofs")):
+        files = lemma_files(crate)
+        folders = sorted({os.path.dirname(path) for path in files} - {f"crates/{crate}/proofs"})
+        count += len(files)
+        wrong += [f"{path}: no first line says what it shows" for path in files if not read(path).startswith("-- ")]
+        loose = [path for path in files if os.path.dirname(path) == f"crates/{crate}/proofs"]
+        wrong += [f"{path}: it is in no folder" for path in loose if len(files) > MOST_LOOSE_FILES]
+        wrong += [line for folder in folders for line in unlisted(folder)]
+    return count, wrong
+
+
+# LINES
+
+def check_lines():
     count, wrong = 0, []
-    for path in found("crates/*/src/**/*.rt"):
+    for path in found("crates/*/src/**/*.rt") + found("crates/*/specs/**/*.antt"):
         for number, line in enumerate(read(path).split("\n"), 1):
-            if line.lstrip().startswith("//"):
-                count += 1
-                if len(line) > LONGEST_LINE:
-                    wrong.append(f"{path}, line {number}: {len(line)} characters")
+            count += 1
+            if len(line) > LONGEST_LINE:
+                wrong.append(f"{path}, line {number}: {len(line)} characters")
     return count, wrong
 
 
 CHECKS = {"paths": check_paths, "rules": check_rules, "laws, functions and lemma files": check_proofs,
-          "edits": check_edits, "lines of comments": check_comments}
+          "lemma files": check_lemmas, "edits": check_edits, "lines": check_lines}
 
 
 def main():

@@ -10,7 +10,7 @@ use Rattle.yaml_lexeme.specs.Lex.{lex, lexeme_at, answer, in_flow}
 use Rattle.yaml_lexeme.specs.Order.{IsAhead, is_stream_end}
 use Rattle.yaml_lexeme.specs.Place.{Place, place_at, IsMarkOf}
 use Rattle.yaml_lexeme.specs.Reading.{Read}
-use Rattle.yaml_lexeme.proofs.LexOrder.{lexeme_spans}
+use Rattle.yaml_lexeme.proofs.MarkOrder.LexemeOrder.{lexeme_spans}
 use Rattle.yaml_scan.specs.SourceOf.{count_to}
 use Rattle.yaml_scan.proofs.Texts.TextPlaces.{ahead_place}
 

@@ -1,50 +1,18 @@
-pub mod Agreeing
-pub mod Local
-pub mod Like
-pub mod Loop
-pub mod Orders
-pub mod Spans
-pub mod LexOrder
-pub mod KindLocal
-pub mod GapLocal
-pub mod NamesLocal
-pub mod DirectivesLocal
-pub mod BodyLocal
-pub mod ChunkLocal
-pub mod PlainLocal
-pub mod BlockLocal
-pub mod LexLocal
-pub mod Clear
-pub mod Clears
-pub mod Wholes
-pub mod WholeLaws
-pub mod CountLaws
-pub mod PartLaws
-pub mod ScalarParts
-pub mod GapLaws
-pub mod ListParts
-mod Rows
-pub mod Founds
-pub mod Lanes
-pub mod Vectors
-pub mod Counts
+-- How places move, and cursors with them.
 pub mod Places
-pub mod Heads
-pub mod Quiet
-pub mod Cursors
-pub mod Gaps
-pub mod Many
-pub mod Ahead
-pub mod Uris
-pub mod Numbers
-pub mod Spaces
-pub mod Body
-pub mod Hex
-pub mod Gather
-pub mod Plains
-pub mod Blocks
-pub mod Trims
+-- What was read, and lists of parts.
 pub mod Parts
-pub mod WordRuns
-pub mod PlainRuns
-pub mod Backs
+-- Many bytes at a time.
+pub mod ManyBytes
+-- What is read a step at a time is what the definitions read at once, kind by kind.
+pub mod Readers
+-- The order of marks.
+pub mod MarkOrder
+-- What a lexeme does not depend on.
+pub mod Locality
+-- Reading ends at places that are not between CR and LF, so that marks are the counted ones.
+pub mod CountedMarks
+-- What is read is as long as possible.
+pub mod LongestLists
+-- Worked examples, which are computed.
+mod Examples

@@ -1,5 +1,6 @@
 -- Literal and folded scalars (YAML 1.1, 9.2 Block Scalar Header, 9.3 Block Scalar Styles and 6.1 Indentation Spaces).
-use Rattle.std.specs.Prelude.{ℕ, ◌+◌, ◌-◌, min, max, Bool, true, false, not, ◌&&◌, ◌||◌, ◌==◌, nat_lt, if◌then◌else◌, List, [], ◌∷◌, ◌++◌, map, slice_index, Option, Some, None, is_some, Result, Ok}
+use Rattle.std.specs.Prelude.{ℕ, ◌+◌, ◌-◌, min, max, Bool, true, false, not, ◌&&◌, ◌||◌, ◌==◌, nat_lt, if◌then◌else◌}
+use Rattle.std.specs.Prelude.{List, [], ◌∷◌, ◌++◌, map, slice_index, Option, Some, None, is_some, Result, Ok}
 use Rattle.std.specs.List.{fold as fold_list}
 use Rattle.yaml_text.specs.declared.types.yaml_mark_t.{yaml_mark_t}
 use Rattle.yaml_text.specs.Chars.{utf8}
@@ -8,7 +9,8 @@ use Rattle.yaml_lexeme.specs.declared.block.chomp_t.{chomp_t}
 use Rattle.yaml_lexeme.specs.declared.block.chomp_t.TheVariants.{STRIP, CLIP, KEEP}
 use Rattle.yaml_lexeme.specs.declared.block.header_t.{header_t}
 use Rattle.yaml_lexeme.specs.Lexeme.{Scalar as scalar_t}
-use Rattle.yaml_lexeme.specs.declared.problem.problem_t.TheVariants.{NO_COMMENT_OR_BREAK, INDICATOR_ZERO, TAB_IN_INDENTATION}
+use Rattle.yaml_lexeme.specs.declared.problem.problem_t.TheVariants.{NO_COMMENT_OR_BREAK, INDICATOR_ZERO}
+use Rattle.yaml_lexeme.specs.declared.problem.problem_t.TheVariants.{TAB_IN_INDENTATION}
 use Rattle.yaml_lexeme.specs.Classes.{is_in_line, line_feed}
 use Rattle.yaml_lexeme.specs.Place.{Place, first, skip, run, run_len, behind, break_len}
 use Rattle.yaml_lexeme.specs.Gap.{after_comment}
@@ -29,13 +31,16 @@ digit_at p =
     else if first p == 0x30 then refuse INDICATOR_ZERO p
     else found (Some (first p - 0x30)) (skip 1 p)
 
+abbrev pub header_of : chomp_t → Option ℕ → header_t
+header_of chomp digit = record { chomp = chomp; digit = digit }
+
 -- after `|` or `>`: a sign and a digit in either order, each optional
 unfoldable pub header_at : Place → Read header_t
 header_at p =
-    if is_sign (first p) then (digit_at (skip 1 p) >>= λ d. found (record { chomp = sign_of (first p); digit = d.value }) d.end)
+    if is_sign (first p) then (digit_at (skip 1 p) >>= λ d. found (header_of (sign_of (first p)) d.value) d.end)
     else digit_at p >>= λ d.
-    if is_some d.value && is_sign (first d.end) then found (record { chomp = sign_of (first d.end); digit = d.value }) (skip 1 d.end)
-    else found (record { chomp = CLIP; digit = d.value }) d.end
+    if is_some d.value && is_sign (first d.end) then found (header_of (sign_of (first d.end)) d.value) (skip 1 d.end)
+    else found (header_of CLIP d.value) d.end
 
 -- after blanks, a comment and a break, or at the end of the text
 unfoldable pub after_line : Place → Result Place Offence
@@ -68,9 +73,13 @@ pub record Blank : Type 0 where
   pub column : ℕ
   pub break : ℕ
 
+-- the one whose break is at q
+abbrev pub blank_of : Place → Blank
+blank_of q = record { column = q.mark.column; break = written (first q) }
+
 unfoldable pub blank_line : Option ℕ → Place → Part Blank
 blank_line limit p = after_indent limit p >>= λ q.
-    if nat_lt 0 (break_len q) then part (record { column = q.mark.column; break = written (first q) }) (skip (break_len q) q) else over
+    if nat_lt 0 (break_len q) then part (blank_of q) (skip (break_len q) q) else over
 
 -- empty lines: the greatest column that spaces reach on them, their breaks, and the mark after them
 pub record Blanks : Type 0 where
@@ -106,7 +115,12 @@ unfoldable pub line_at : ℕ → Place → Read Line
 line_at indent p =
     let q = behind is_in_line p in
     blank_lines (Some indent) (skip (break_len q) q) >>= λ blanks.
-    found (record { text = run is_in_line p; break = break_at q; empties = blanks.value.breaks; end = blanks.value.end }) blanks.end
+    found (record {
+      text = run is_in_line p;
+      break = break_at q;
+      empties = blanks.value.breaks;
+      end = blanks.value.end;
+    }) blanks.end
 
 -- a text line is here, after its indentation
 abbrev pub is_text : ℕ → Place → Bool
@@ -159,26 +173,38 @@ abbrev pub block_value : Bool → chomp_t → List ℕ → List Line → List �
 block_value folded chomp leading [] = only_breaks chomp leading
 block_value folded chomp leading (l ∷ ls) = leading ++ l.text ++ behind_line folded chomp l ls
 
--- Without a digit the greatest of 1, `least` and the columns that spaces reach on the leading empty lines and the line
--- after them. A digit counts from the greatest open level, which is `least` - 1, or from 0 if none is open.
-abbrev pub block_indent : ℕ → Option ℕ → ℕ → ℕ → ℕ
-block_indent least (Some d) leading column = (least - 1) + d
-block_indent least None leading column = max (max 1 least) (max leading column)
+-- the greatest open level, or 0 if none is open
+abbrev pub base : Option ℕ → ℕ
+base None = 0
+base (Some level) = level
 
-abbrev pub leading_limit : ℕ → Option ℕ → Option ℕ
-leading_limit least None = None
-leading_limit least (Some d) = Some ((least - 1) + d)
+-- the least column above the greatest open level, or 0 if none is open
+abbrev pub above : Option ℕ → ℕ
+above None = 0
+above (Some level) = level + 1
+
+-- the column that a digit sets for the text lines: so many after the greatest open level, or after 0 if none is open
+abbrev pub set_indent : Option ℕ → Option ℕ → Option ℕ
+set_indent level None = None
+set_indent level (Some d) = Some (base level + d)
+
+-- The column of the text lines: the one that is set. If none is, the greatest of 1, the least column above the open
+-- level, and the columns that spaces reach on the leading empty lines and on the line after them.
+abbrev pub block_indent : Option ℕ → Option ℕ → ℕ → ℕ → ℕ
+block_indent level (Some set) leading next = set
+block_indent level None leading next = max (max 1 (above level)) (max leading next)
 
 abbrev pub end_of : yaml_mark_t → List Line → yaml_mark_t
 end_of m [] = m
 end_of m (l ∷ ls) = end_of l.end ls
 
--- header, leading empty lines, text lines; at `|` or `>`
-unfoldable pub block : Bool → ℕ → Place → Read scalar_t
-block folded least p = do
+-- Header, leading empty lines, text lines; at `|` or `>`. The level is the greatest one that is open.
+unfoldable pub block : Bool → Option ℕ → Place → Read scalar_t
+block folded level p = do
   header ← header_at (skip 1 p)
   start ← after_line header.end
-  leading ← blank_lines (leading_limit least header.value.digit) start
-  lines ← many (text_line (block_indent least header.value.digit leading.value.column leading.end.mark.column)) leading.end
+  let set = set_indent level header.value.digit
+  leading ← blank_lines set start
+  lines ← many (text_line (block_indent level set leading.value.column leading.end.mark.column)) leading.end
   let value = utf8 (block_value folded header.value.chomp leading.value.breaks lines.value)
   found (record { value = value; end = end_of leading.value.end lines.value; passed_break = false }) lines.end

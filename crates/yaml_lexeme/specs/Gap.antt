@@ -32,8 +32,8 @@ after_gap_lines zero flow p = p
 after_gap_lines (suc n) flow p =
     if break_len p == 0 then p else after_gap_lines n flow (after_gap_line flow (skip (break_len p) p))
 
--- Gap lines joined by breaks, as long as possible: the place after them, and whether a break is in them. Tabs are allowed in
--- flow, and on the first line if no key is allowed.
+-- Gap lines joined by breaks, as long as possible: the place after them, and whether a break is in them. Tabs
+-- are allowed in flow, and on the first line if no key is allowed.
 unfoldable pub gap : Bool → Bool → Place → Place × Bool
 gap flow allowed p =
     let line = after_gap_line (flow || not allowed) p in

@@ -22,7 +22,8 @@ TakesPart bytes (Ok (Some f)) true old new p q = (new ≡ old ++ bytes f.value) 
 TakesPart bytes (Ok None) false old new p q = (new ≡ old) × (q ≡ p)
 TakesPart bytes _ _ old new p q = ⊥
 
-abbrev pub Takes : {A : Type 0} → (A → List ℕ) → Result Bool refusal_t → List ℕ → List ℕ → Place → Place → Part A → Type 0
+abbrev pub Takes : {A : Type 0} →
+    (A → List ℕ) → Result Bool refusal_t → List ℕ → List ℕ → Place → Place → Part A → Type 0
 Takes bytes (Ok more) old new p q read = TakesPart bytes read more old new p q
 Takes bytes (Err e) old new p q read = Refuses e q read
 
@@ -31,7 +32,8 @@ abbrev pub TakesRead : {A : Type 0} → (A → List ℕ) → Read A → List ℕ
 TakesRead bytes (Ok f) old new q = (new ≡ old ++ bytes f.value) × (q ≡ f.end)
 TakesRead bytes (Err e) old new q = ⊥
 
-abbrev pub Appends : {A : Type 0} → (A → List ℕ) → Result (Unit {0}) refusal_t → List ℕ → List ℕ → Place → Read A → Type 0
+abbrev pub Appends : {A : Type 0} →
+    (A → List ℕ) → Result (Unit {0}) refusal_t → List ℕ → List ℕ → Place → Read A → Type 0
 Appends bytes (Ok _) old new q read = TakesRead bytes read old new q
 Appends bytes (Err e) old new q read = Refuses e q read
 

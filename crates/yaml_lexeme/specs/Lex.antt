@@ -1,63 +1,36 @@
 -- Lexemes of every kind.
-use Rattle.std.specs.Prelude.{ℕ, ◌+◌, Bool, true, false, ◌==◌, nat_lt, if◌then◌else◌, List, Option, Some, None, Result, Ok, Err}
-use Rattle.yaml_text.specs.declared.types.yaml_mark_t.{yaml_mark_t}
+use Rattle.std.specs.Prelude.{ℕ, Bool, true, false, nat_lt, if◌then◌else◌, List, Some}
+use Rattle.std.specs.Prelude.{Result, Ok, Err}
 use Rattle.yaml_text.specs.declared.types.yaml_scalar_style_t.{yaml_scalar_style_t}
-use Rattle.yaml_text.specs.declared.types.yaml_scalar_style_t.TheVariants.{YAML_PLAIN_SCALAR_STYLE, YAML_SINGLE_QUOTED_SCALAR_STYLE, YAML_DOUBLE_QUOTED_SCALAR_STYLE, YAML_LITERAL_SCALAR_STYLE, YAML_FOLDED_SCALAR_STYLE}
+use Rattle.yaml_text.specs.declared.types.yaml_scalar_style_t.TheVariants.{YAML_PLAIN_SCALAR_STYLE}
+use Rattle.yaml_text.specs.declared.types.yaml_scalar_style_t.TheVariants.{YAML_SINGLE_QUOTED_SCALAR_STYLE}
+use Rattle.yaml_text.specs.declared.types.yaml_scalar_style_t.TheVariants.{YAML_DOUBLE_QUOTED_SCALAR_STYLE}
+use Rattle.yaml_text.specs.declared.types.yaml_scalar_style_t.TheVariants.{YAML_LITERAL_SCALAR_STYLE}
+use Rattle.yaml_text.specs.declared.types.yaml_scalar_style_t.TheVariants.{YAML_FOLDED_SCALAR_STYLE}
 use Rattle.yaml_text.specs.Token.{TokenData as unnamed_yaml_token_t_data}
 use Rattle.yaml_text.specs.Token.{TokenData as token}
 use Rattle.yaml_text.specs.Fault.{Fault, scanner_fault}
 use Rattle.yaml_lexeme.specs.declared.kind.yaml_lexeme_kind_t.{yaml_lexeme_kind_t}
 use Rattle.yaml_lexeme.specs.declared.kind.yaml_lexeme_kind_t.TheVariants as kind
 use Rattle.yaml_lexeme.specs.declared.lex.yaml_context_t.{yaml_context_t}
-use Rattle.yaml_lexeme.specs.Lexeme.{Lexeme as yaml_lexeme_t}
-use Rattle.yaml_lexeme.specs.Lexeme.{Scalar as scalar_t}
-use Rattle.yaml_lexeme.specs.Lexeme.{Directive as directive_t}
+use Rattle.yaml_lexeme.specs.Lexeme.{Lexeme as yaml_lexeme_t, lexeme, whole, scalar_to, directive_to}
+use Rattle.yaml_lexeme.specs.StreamEnd.{at_end}
 use Rattle.yaml_lexeme.specs.Place.{Place, skip}
-use Rattle.yaml_lexeme.specs.Reading.{Read, found, ◌>>=◌}
+use Rattle.yaml_lexeme.specs.Reading.{Read, found}
 use Rattle.yaml_lexeme.specs.Quoted.{quoted}
 use Rattle.yaml_lexeme.specs.Plain.{plain}
-use Rattle.yaml_lexeme.specs.Block.{block}
+use Rattle.yaml_lexeme.specs.Block.{above, block}
 use Rattle.yaml_lexeme.specs.Name.{name}
 use Rattle.yaml_lexeme.specs.Tag.{tag}
 use Rattle.yaml_lexeme.specs.Directive.{directive}
-use Rattle.yaml_lexeme.specs.Texts.{problem_text, context_text}
+use Rattle.yaml_lexeme.specs.FaultTexts.{problem_text, context_text}
 
 abbrev pub in_flow : yaml_context_t → Bool
 in_flow context = nat_lt 0 context.depth
 
-abbrev pub above : Option ℕ → ℕ
-above None = 0
-above (Some level) = level + 1
-
 -- the least column of a line that goes on: the greatest open level + 1, or 0 if none is open
 abbrev pub least : yaml_context_t → ℕ
 least context = above context.level
-
--- the mark of a stream end: at the start of a line
-abbrev pub stream_end : yaml_mark_t → yaml_mark_t
-stream_end m = if m.column == 0 then m else record { index = m.index; line = m.line + 1; column = 0 }
-
--- what is between two marks, of which the second is also the reach
-abbrev pub whole_of : unnamed_yaml_token_t_data → yaml_mark_t → yaml_mark_t → yaml_lexeme_t
-whole_of data_is start end = record { token_data = data_is; start_mark = start; end_mark = end; reach = end; passed_break = false }
-
--- what was read from p on, with the token's end as the reach
-abbrev pub whole : {A : Type 0} → (A → unnamed_yaml_token_t_data) → Place → Read A → Read yaml_lexeme_t
-whole says p r = r >>= λ x. found (whole_of (says x.value) p.mark x.end.mark) x.end
-
--- a scalar that ends before the reach
-abbrev pub scalar_to : yaml_scalar_style_t → yaml_mark_t → scalar_t → yaml_mark_t → yaml_lexeme_t
-scalar_to style start s reach = record { token_data = token.SCALAR s.value style; start_mark = start; end_mark = s.end; reach = reach; passed_break = s.passed_break }
-
-abbrev pub scalar : yaml_scalar_style_t → Place → Read scalar_t → Read yaml_lexeme_t
-scalar style p r = r >>= λ x. found (scalar_to style p.mark x.value x.end.mark) x.end
-
-abbrev pub quoted_as : yaml_scalar_style_t → List ℕ → unnamed_yaml_token_t_data
-quoted_as style value = token.SCALAR value style
-
--- n characters
-abbrev pub characters : unnamed_yaml_token_t_data → ℕ → Place → Read yaml_lexeme_t
-characters says n p = found (whole_of says p.mark (skip n p).mark) (skip n p)
 
 -- what a lexeme of one character, or a document marker, says
 abbrev pub says_of : yaml_lexeme_kind_t → unnamed_yaml_token_t_data
@@ -85,38 +58,27 @@ block_style folded = if folded then YAML_FOLDED_SCALAR_STYLE else YAML_LITERAL_S
 abbrev pub quoted_style : Bool → yaml_scalar_style_t
 quoted_style single = if single then YAML_SINGLE_QUOTED_SCALAR_STYLE else YAML_DOUBLE_QUOTED_SCALAR_STYLE
 
--- a directive, which ends before the rest of its line
-abbrev pub directive_to : yaml_mark_t → directive_t → yaml_mark_t → yaml_lexeme_t
-directive_to start d reach = record { token_data = d.says; start_mark = start; end_mark = d.end; reach = reach; passed_break = false }
+-- what an anchor or an alias says
+abbrev pub named : Bool → List ℕ → unnamed_yaml_token_t_data
+named anchor name = if anchor then token.ANCHOR name else token.ALIAS name
 
-abbrev pub ended : Place → Read directive_t → Read yaml_lexeme_t
-ended p r = r >>= λ x. found (directive_to p.mark x.value x.end.mark) x.end
-
-abbrev pub at_end : Place → Read yaml_lexeme_t
-at_end p = found (whole_of token.STREAM_END (stream_end p.mark) (stream_end p.mark)) p
+-- what a quoted scalar says
+abbrev pub quoted_as : yaml_scalar_style_t → List ℕ → unnamed_yaml_token_t_data
+quoted_as style value = token.SCALAR value style
 
 -- the lexeme of the kind that is at a place, or its first offence
 unfoldable pub lex : yaml_lexeme_kind_t → yaml_context_t → Place → Read yaml_lexeme_t
 lex kind.STREAM_END context p = at_end p
-lex kind.DIRECTIVE context p = ended p (directive p)
-lex kind.DOCUMENT_START context p = characters token.DOCUMENT_START 3 p
-lex kind.DOCUMENT_END context p = characters token.DOCUMENT_END 3 p
-lex kind.FLOW_SEQUENCE_START context p = characters token.FLOW_SEQUENCE_START 1 p
-lex kind.FLOW_MAPPING_START context p = characters token.FLOW_MAPPING_START 1 p
-lex kind.FLOW_SEQUENCE_END context p = characters token.FLOW_SEQUENCE_END 1 p
-lex kind.FLOW_MAPPING_END context p = characters token.FLOW_MAPPING_END 1 p
-lex kind.FLOW_ENTRY context p = characters token.FLOW_ENTRY 1 p
-lex kind.BLOCK_ENTRY context p = characters token.BLOCK_ENTRY 1 p
-lex kind.KEY context p = characters token.KEY 1 p
-lex kind.VALUE context p = characters token.VALUE 1 p
-lex kind.ALIAS context p = whole token.ALIAS p (name p)
-lex kind.ANCHOR context p = whole token.ANCHOR p (name p)
-lex kind.TAG context p = whole (λ t. t) p (tag (in_flow context) p)
-lex kind.LITERAL context p = scalar YAML_LITERAL_SCALAR_STYLE p (block false (least context) p)
-lex kind.FOLDED context p = scalar YAML_FOLDED_SCALAR_STYLE p (block true (least context) p)
-lex kind.SINGLE_QUOTED context p = whole (quoted_as YAML_SINGLE_QUOTED_SCALAR_STYLE) p (quoted true p)
-lex kind.DOUBLE_QUOTED context p = whole (quoted_as YAML_DOUBLE_QUOTED_SCALAR_STYLE) p (quoted false p)
-lex kind.PLAIN context p = scalar YAML_PLAIN_SCALAR_STYLE p (plain (in_flow context) (least context) p)
+lex kind.DIRECTIVE context p = lexeme directive_to p (directive p)
+lex kind.ALIAS context p = lexeme (whole token.ALIAS) p (name p)
+lex kind.ANCHOR context p = lexeme (whole token.ANCHOR) p (name p)
+lex kind.TAG context p = lexeme (whole (λ t. t)) p (tag (in_flow context) p)
+lex kind.LITERAL context p = lexeme (scalar_to YAML_LITERAL_SCALAR_STYLE) p (block false context.level p)
+lex kind.FOLDED context p = lexeme (scalar_to YAML_FOLDED_SCALAR_STYLE) p (block true context.level p)
+lex kind.SINGLE_QUOTED context p = lexeme (whole (quoted_as YAML_SINGLE_QUOTED_SCALAR_STYLE)) p (quoted true p)
+lex kind.DOUBLE_QUOTED context p = lexeme (whole (quoted_as YAML_DOUBLE_QUOTED_SCALAR_STYLE)) p (quoted false p)
+lex kind.PLAIN context p = lexeme (scalar_to YAML_PLAIN_SCALAR_STYLE) p (plain (in_flow context) (least context) p)
+lex k context p = lexeme (whole says_of) p (found k (skip (len_of k) p))
 
 -- kinds whose lexemes need no memory, and are never refused
 abbrev pub is_bare : yaml_lexeme_kind_t → Bool

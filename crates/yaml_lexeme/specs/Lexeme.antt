@@ -1,10 +1,14 @@
--- Lexemes, and the scalars and directives of which they are made.
-use Rattle.std.specs.Prelude.{ℕ, Bool, List}
+-- Lexemes, and what they are made of.
+use Rattle.std.specs.Prelude.{ℕ, Bool, false, List}
 use Rattle.yaml_text.specs.declared.types.yaml_mark_t.{yaml_mark_t}
+use Rattle.yaml_text.specs.declared.types.yaml_scalar_style_t.{yaml_scalar_style_t}
 use Rattle.yaml_text.specs.Token.{TokenData, data_of}
-use Rattle.yaml_lexeme.specs.declared.lex.yaml_lexeme_t.{yaml_lexeme_t}
+use Rattle.yaml_text.specs.Token.TokenData.{SCALAR}
+use Rattle.yaml_lexeme.specs.declared.lexeme.yaml_lexeme_t.{yaml_lexeme_t}
 use Rattle.yaml_lexeme.specs.declared.plain.scalar_t.{scalar_t}
 use Rattle.yaml_lexeme.specs.declared.directive.directive_t.{directive_t}
+use Rattle.yaml_lexeme.specs.Place.{Place}
+use Rattle.yaml_lexeme.specs.Reading.{Read, found, ◌>>=◌}
 
 -- A lexeme: what its token says, the mark of its start and the mark after it.
 pub record Lexeme : Type 0 where
@@ -27,6 +31,48 @@ pub record Scalar : Type 0 where
 pub record Directive : Type 0 where
   pub says : TokenData
   pub end : yaml_mark_t
+
+-- MAKING THEM
+
+-- what was read at p, as the lexeme that `make` makes of p's mark, of the value, and of the mark after it
+abbrev pub lexeme : {A : Type 0} → (yaml_mark_t → A → yaml_mark_t → Lexeme) → Place → Read A → Read Lexeme
+lexeme make p r = r >>= λ x. found (make p.mark x.value x.end.mark) x.end
+
+-- what ends where its token ends
+abbrev pub whole_of : TokenData → yaml_mark_t → yaml_mark_t → Lexeme
+whole_of says start end = record {
+  token_data = says;
+  start_mark = start;
+  end_mark = end;
+  reach = end;
+  passed_break = false;
+}
+
+-- the same of a value, which `says` makes the token's data of
+abbrev pub whole : {A : Type 0} → (A → TokenData) → yaml_mark_t → A → yaml_mark_t → Lexeme
+whole says start value end = whole_of (says value) start end
+
+-- a plain or block scalar, after whose token more is read
+abbrev pub scalar_to : yaml_scalar_style_t → yaml_mark_t → Scalar → yaml_mark_t → Lexeme
+scalar_to style start s reach = record {
+  token_data = SCALAR s.value style;
+  start_mark = start;
+  end_mark = s.end;
+  reach = reach;
+  passed_break = s.passed_break;
+}
+
+-- a directive, after whose token the rest of the line is read
+abbrev pub directive_to : yaml_mark_t → Directive → yaml_mark_t → Lexeme
+directive_to start d reach = record {
+  token_data = d.says;
+  start_mark = start;
+  end_mark = d.end;
+  reach = reach;
+  passed_break = false;
+}
+
+-- THOSE OF THE CODE
 
 -- A lexeme of the code, as the definitions see it.
 abbrev pub lexeme_of : yaml_lexeme_t → Lexeme

@@ -6,6 +6,7 @@ pub mod GapText
 pub mod Kind
 pub mod Fold
 pub mod Lexeme
+pub mod StreamEnd
 pub mod Escape
 pub mod Quoted
 pub mod Plain
@@ -15,7 +16,7 @@ pub mod Uri
 pub mod Tag
 pub mod Directive
 pub mod Lex
-pub mod Texts
+pub mod FaultTexts
 pub mod Gives
 pub mod Words
 pub mod Tails

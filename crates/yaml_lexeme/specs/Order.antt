@@ -34,22 +34,30 @@ pub record Spans (n : ℕ) (p : Place) (end : yaml_mark_t) (q : Place) : Type 0 
 -- A lexeme of a kind that is at p, other than the stream end, starts at p, takes a character or more, and reaches
 -- to its end or further: all of these are places of the text.
 abbrev pub LexemeSpans : Type 0
-LexemeSpans = (k : yaml_lexeme_kind_t) (c : yaml_context_t) (p : Place) (f : Found yaml_lexeme_t) → kind_at (in_flow c) p ≡ Some k → (k ≡ kind.STREAM_END → ⊥) → lex k c p ≡ Ok f
+LexemeSpans = (k : yaml_lexeme_kind_t) (c : yaml_context_t) (p : Place) (f : Found yaml_lexeme_t)
+    → kind_at (in_flow c) p ≡ Some k → (k ≡ kind.STREAM_END → ⊥) → lex k c p ≡ Ok f
     → (f.value.start_mark ≡ p.mark) × (f.value.reach ≡ f.end.mark) × Spans 1 p f.value.end_mark f.end
 
 -- So its marks are in order, and it takes a byte, and a column if it stays on its line.
 abbrev pub LexemeOrder : Type 0
-LexemeOrder = (k : yaml_lexeme_kind_t) (c : yaml_context_t) (p : Place) (f : Found yaml_lexeme_t) → kind_at (in_flow c) p ≡ Some k → (k ≡ kind.STREAM_END → ⊥) → lex k c p ≡ Ok f
-    → IsAfter 1 f.value.start_mark f.value.end_mark × IsAfter 0 f.value.end_mark f.value.reach × IsAfter 1 f.value.start_mark f.value.reach
+LexemeOrder = (k : yaml_lexeme_kind_t) (c : yaml_context_t) (p : Place) (f : Found yaml_lexeme_t)
+    → kind_at (in_flow c) p ≡ Some k → (k ≡ kind.STREAM_END → ⊥) → lex k c p ≡ Ok f
+    → IsAfter 1 f.value.start_mark f.value.end_mark
+    × IsAfter 0 f.value.end_mark f.value.reach
+    × IsAfter 1 f.value.start_mark f.value.reach
 
 -- A stream end is one mark, not before the place, at column 0.
 abbrev pub StreamEndOrder : Type 0
 StreamEndOrder = (c : yaml_context_t) (p : Place) (f : Found yaml_lexeme_t) → lex kind.STREAM_END c p ≡ Ok f
-    → (f.value.end_mark ≡ f.value.start_mark) × (f.value.reach ≡ f.value.start_mark) × IsAfter 0 p.mark f.value.start_mark × (f.value.start_mark.column ≡ 0)
+    → (f.value.end_mark ≡ f.value.start_mark)
+    × (f.value.reach ≡ f.value.start_mark)
+    × IsAfter 0 p.mark f.value.start_mark
+    × (f.value.start_mark.column ≡ 0)
 
 -- A problem is where its lexeme would start, or further on: at a place of the text.
 abbrev pub OffenceIsAhead : Type 0
-OffenceIsAhead = (k : yaml_lexeme_kind_t) (c : yaml_context_t) (p : Place) (e : Offence) → lex k c p ≡ Err e → IsAhead 0 p e.at
+OffenceIsAhead = (k : yaml_lexeme_kind_t) (c : yaml_context_t) (p : Place) (e : Offence)
+    → lex k c p ≡ Err e → IsAhead 0 p e.at
 
 -- a gap ends where it starts, or further on
 abbrev pub GapOrder : Type 0
@@ -69,4 +77,6 @@ pub record Follows (k : yaml_lexeme_kind_t) (so_far : yaml_mark_t) (l : yaml_lex
 
 -- the lexeme after the gap that ends at q
 abbrev pub LexemeFollows : Type 0
-LexemeFollows = (k : yaml_lexeme_kind_t) (c : yaml_context_t) (allowed : Bool) (q : Place) (f : Found yaml_lexeme_t) → let p = (gap (in_flow c) allowed q).0 in kind_at (in_flow c) p ≡ Some k → lex k c p ≡ Ok f → Follows k q.mark f.value
+LexemeFollows = (k : yaml_lexeme_kind_t) (c : yaml_context_t) (allowed : Bool) (q : Place) (f : Found yaml_lexeme_t)
+    → let p = (gap (in_flow c) allowed q).0 in
+    kind_at (in_flow c) p ≡ Some k → lex k c p ≡ Ok f → Follows k q.mark f.value

@@ -1,5 +1,6 @@
 -- Lists of parts: one after the other, and as many as possible.
-use Rattle.std.specs.Prelude.{ℕ, ◌≡◌, ◌↔◌, ◌⊎◌, ◌+◌, ◌<◌, Bool, true, false, List, [], ◌∷◌, ◌++◌, length, map, Option, Ok, Err}
+use Rattle.std.specs.Prelude.{ℕ, ◌≡◌, ◌↔◌, ◌⊎◌, ◌+◌, ◌<◌, Bool, true, false, List, [], ◌∷◌, ◌++◌, length, map}
+use Rattle.std.specs.Prelude.{Option, Ok, Err}
 use Rattle.std.specs.List.{concat, list_any, flat_map}
 use Rattle.yaml_text.specs.Chars.{utf8}
 use Rattle.yaml_text.specs.Classes.{is_break}
@@ -14,7 +15,9 @@ use Rattle.yaml_lexeme.specs.Fold.{fold}
 use Rattle.yaml_lexeme.specs.Quoted.{quote, body_part, quoted}
 use Rattle.yaml_lexeme.specs.Plain.{is_bad_colon, is_chunk, chunk, separator, is_over, link, plain}
 use Rattle.yaml_lexeme.specs.Uri.{uri_part, uri}
-use Rattle.yaml_lexeme.specs.Block.{Blank, Blanks, Line, header_at, after_line, after_indent, blank_line, blank_lines, blanks_of, block_indent, block_value, end_of, leading_limit, text_line, block}
+use Rattle.yaml_lexeme.specs.Block.{Blank, Blanks, Line, header_at, after_line, after_indent, blank_line}
+use Rattle.yaml_lexeme.specs.Block.{blank_lines, blanks_of, block_indent, block_value, end_of, set_indent, text_line}
+use Rattle.yaml_lexeme.specs.Block.{block}
 
 -- a part that was read: its characters, and its value
 pub record Piece (A : Type 0) : Type 0 where
@@ -173,8 +176,9 @@ BlanksAreLines = (limit : Option ℕ) (p : Place) (f : Found Blanks) →
     (blank_lines limit p ≡ Ok f) ↔ BlankParts limit p f
 
 -- the indentation of the text lines, after the leading empty lines
-abbrev pub indent_of : ℕ → header_t → Found Blanks → ℕ
-indent_of least h leading = block_indent least h.digit leading.value.column leading.end.mark.column
+abbrev pub indent_of : Option ℕ → header_t → Found Blanks → ℕ
+indent_of level h leading =
+    block_indent level (set_indent level h.digit) leading.value.column leading.end.mark.column
 
 -- the value of a literal or folded scalar, and where it ends
 abbrev pub block_scalar : Bool → chomp_t → Blanks → List Line → scalar_t
@@ -185,17 +189,17 @@ block_scalar folded chomp leading lines = record {
 }
 
 -- A literal or folded scalar at p: its header, leading empty lines, and text lines, as many as possible.
-pub record BlockParts (folded : Bool) (least : ℕ) (p : Place) (f : Found scalar_t) : Type 0 where
+pub record BlockParts (folded : Bool) (level : Option ℕ) (p : Place) (f : Found scalar_t) : Type 0 where
   pub header : Found header_t
   pub start : Place
   pub leading : Found Blanks
   pub lines : List (Piece Line)
   pub header_is : header_at (skip 1 p) ≡ Ok header
   pub start_is : after_line header.end ≡ Ok start
-  pub leading_is : blank_lines (leading_limit least header.value.digit) start ≡ Ok leading
-  pub longest : IsLongest (text_line (indent_of least header.value leading)) leading.end lines f.end over
+  pub leading_is : blank_lines (set_indent level header.value.digit) start ≡ Ok leading
+  pub longest : IsLongest (text_line (indent_of level header.value leading)) leading.end lines f.end over
   pub value : f.value ≡ block_scalar folded header.value.chomp leading.value (values lines)
 
 abbrev pub BlockIsLines : Type 0
-BlockIsLines = (folded : Bool) (least : ℕ) (p : Place) (f : Found scalar_t) →
-    (block folded least p ≡ Ok f) ↔ BlockParts folded least p f
+BlockIsLines = (folded : Bool) (level : Option ℕ) (p : Place) (f : Found scalar_t) →
+    (block folded level p ≡ Ok f) ↔ BlockParts folded level p f

@@ -1,13 +1,13 @@
 -- Plain scalars (YAML 1.1, 9.1.3 Plain).
-use Rattle.std.specs.Prelude.{ℕ, ◌+◌, Bool, false, not, ◌&&◌, ◌||◌, ◌==◌, nat_lt, if◌then◌else◌, List, [], ◌∷◌, ◌++◌, length, take, slice_index, codes, Option, Some, None}
-use Rattle.std.specs.List.{list_any, flat_map}
-use Rattle.yaml_text.specs.declared.types.yaml_mark_t.{yaml_mark_t}
+use Rattle.std.specs.Prelude.{ℕ, ◌+◌, Bool, not, ◌&&◌, ◌||◌, ◌==◌, nat_lt, if◌then◌else◌, List, [], ◌∷◌, ◌++◌}
+use Rattle.std.specs.Prelude.{length, take, slice_index, codes, Option, Some, None, option_map}
+use Rattle.std.specs.List.{list_any, flat_map, find, range_with_len}
 use Rattle.yaml_text.specs.Chars.{utf8}
 use Rattle.yaml_text.specs.Classes.{is_break}
 use Rattle.yaml_lexeme.specs.declared.problem.problem_t.TheVariants.{COLON_IN_FLOW, TAB_IN_PLAIN}
 use Rattle.yaml_lexeme.specs.Lexeme.{Scalar as scalar_t}
 use Rattle.yaml_lexeme.specs.Classes.{is_white, ends, is_one_of}
-use Rattle.yaml_lexeme.specs.Place.{Place, peek, first, skip, run, behind, mark_behind}
+use Rattle.yaml_lexeme.specs.Place.{Place, peek, first, skip, run, run_len, behind}
 use Rattle.yaml_lexeme.specs.Kind.{is_marker}
 use Rattle.yaml_lexeme.specs.Fold.{fold}
 use Rattle.yaml_lexeme.specs.Reading.{Read, found, refuse, ◌>>=◌, Part, part, over, many}
@@ -37,25 +37,25 @@ chunk flow p =
     if is_bad_colon flow (first end) (peek end 1) then refuse COLON_IN_FLOW end
     else found (take (chunk_len flow p.rest) p.rest) end
 
--- a tab in indentation
-abbrev pub is_tab : ℕ → Bool → Place → Bool
-is_tab least broken p = (first p == 0x09 && broken) && nat_lt p.mark.column least
+-- a tab in indentation: at a column below `least`, in a separator with a break before it
+abbrev pub is_bad_tab : ℕ → Bool → Place → Bool
+is_bad_tab least broken p = (first p == 0x09 && broken) && nat_lt p.mark.column least
 
--- the first tab of a separator that comes after a break, at a column below `least`
-abbrev pub tab_from : ℕ → Bool → yaml_mark_t → List ℕ → Option Place
-tab_from least broken m [] = None
-tab_from least broken m (c ∷ cs) =
-    if not (is_white c) then None
-    else if (c == 0x09 && broken) && nat_lt m.column least then Some (record { mark = m; rest = c ∷ cs })
-    else tab_from least (broken || is_break c) (mark_behind m c (slice_index cs 0)) cs
+-- k characters into the separator at p is one
+abbrev pub has_bad_tab : ℕ → Place → ℕ → Bool
+has_bad_tab least p k = is_bad_tab least (list_any is_break (take k p.rest)) (skip k p)
+
+-- the first one in the separator at p
+abbrev pub bad_tab : ℕ → Place → Option Place
+bad_tab least p = option_map (λ k. skip k p) (find (has_bad_tab least p) (range_with_len 0 (run_len is_white p)))
 
 abbrev pub untabbed : Option Place → List ℕ → Place → Read (List ℕ)
 untabbed None value p = found value p
 untabbed (Some tab) value p = refuse TAB_IN_PLAIN tab
 
--- the longest run of blanks and breaks
+-- the longest run of blanks and breaks, with no tab in indentation
 unfoldable pub separator : ℕ → Place → Read (List ℕ)
-separator least p = untabbed (tab_from least false p.mark p.rest) (fold (run is_white p)) (behind is_white p)
+separator least p = untabbed (bad_tab least p) (fold (run is_white p)) (behind is_white p)
 
 -- the scalar is over after a separator
 abbrev pub is_over : Bool → ℕ → Place → Bool
@@ -76,5 +76,8 @@ unfoldable pub plain : Bool → ℕ → Place → Read scalar_t
 plain flow least p = do
   head ← chunk flow p
   links ← many (link flow least) head.end
-  let value = utf8 head.value ++ flat_map utf8 links.value
-  found (record { value = value; end = links.end.mark; passed_break = list_any is_break (run is_white links.end) }) (behind is_white links.end)
+  found (record {
+    value = utf8 head.value ++ flat_map utf8 links.value;
+    end = links.end.mark;
+    passed_break = list_any is_break (run is_white links.end);
+  }) (behind is_white links.end)

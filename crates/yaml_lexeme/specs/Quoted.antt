@@ -18,8 +18,8 @@ quote single = if single then 0x27 else 0x22
 abbrev pub unmarked : List ℕ → Place → Part (List ℕ)
 unmarked value p = if is_marker p then refuse DOCUMENT_MARKER p else part value p
 
--- A part of the body, up to the closing quote: a separator, in single quotes a doubled quote, in double quotes a dropped
--- break with the run after it or an escape, or a character that stands for itself.
+-- A part of the body, up to the closing quote: a separator, in single quotes a doubled quote, in double quotes
+-- a dropped break with the run after it or an escape, or a character that stands for itself.
 unfoldable pub body_part : Bool → Place → Part (List ℕ)
 body_part single p =
     let c = first p in

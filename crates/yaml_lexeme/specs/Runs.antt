@@ -1,9 +1,11 @@
 -- Runs of characters of a class, and of the bytes that spell them.
-use Rattle.std.specs.Prelude.{ℕ, ◌≡◌, ◌≤◌, ◌/◌, Bool, true, false, not, ◌&&◌, ◌||◌, ◌==◌, if◌then◌else◌, List, [], ◌∷◌, length, take}
+use Rattle.std.specs.Prelude.{ℕ, ◌≡◌, ◌≤◌, ◌/◌, Bool, true, false, not, ◌&&◌, ◌||◌, ◌==◌, if◌then◌else◌, List, []}
+use Rattle.std.specs.Prelude.{◌∷◌, length, take}
 use Rattle.std.specs.List.{list_all}
-use Rattle.yaml_text.specs.Classes.{is_blank, is_alpha, is_digit}
+use Rattle.yaml_text.specs.Classes.{is_blank, is_alpha}
 use Rattle.yaml_lexeme.specs.declared.runs.class_t.{class_t}
-use Rattle.yaml_lexeme.specs.declared.runs.class_t.TheVariants.{BLANK, GAP_BLANK, SPACE, BLANK_OR_BREAK, ALPHA, DIGIT, IN_LINE, DOUBLE, SINGLE, PLAIN, FLOW}
+use Rattle.yaml_lexeme.specs.declared.runs.class_t.TheVariants.{BLANK, GAP_BLANK, SPACE, BLANK_OR_BREAK, ALPHA}
+use Rattle.yaml_lexeme.specs.declared.runs.class_t.TheVariants.{IN_LINE, DOUBLE, SINGLE, PLAIN, FLOW}
 use Rattle.yaml_lexeme.specs.Classes.{is_white, is_in_line}
 use Rattle.yaml_lexeme.specs.Gap.{is_gap_blank}
 use Rattle.yaml_lexeme.specs.Place.{Place, run_len, skip}
@@ -19,7 +21,6 @@ is_mark (GAP_BLANK tabs) c = false
 is_mark SPACE c = false
 is_mark BLANK_OR_BREAK c = false
 is_mark ALPHA c = false
-is_mark DIGIT c = false
 is_mark IN_LINE c = false
 
 -- a run of the class takes the character
@@ -29,7 +30,6 @@ class_test (GAP_BLANK tabs) c = is_gap_blank tabs c
 class_test SPACE c = c == 0x20
 class_test BLANK_OR_BREAK c = is_white c
 class_test ALPHA c = is_alpha c
-class_test DIGIT c = is_digit c
 class_test IN_LINE c = is_in_line c
 class_test DOUBLE c = is_in_line c && not (is_mark DOUBLE c)
 class_test SINGLE c = is_in_line c && not (is_mark SINGLE c)
@@ -48,7 +48,6 @@ is_line (GAP_BLANK tabs) = false
 is_line SPACE = false
 is_line BLANK_OR_BREAK = false
 is_line ALPHA = false
-is_line DIGIT = false
 
 -- a break may begin with the byte
 abbrev pub may_break : ℕ → Bool
@@ -61,7 +60,6 @@ is_stop (GAP_BLANK tabs) b = not (is_gap_blank tabs b)
 is_stop SPACE b = not (b == 0x20)
 is_stop BLANK_OR_BREAK b = not (is_blank b)
 is_stop ALPHA b = not (is_alpha b)
-is_stop DIGIT b = not (is_digit b)
 is_stop IN_LINE b = may_break b
 is_stop DOUBLE b = is_mark DOUBLE b || may_break b
 is_stop SINGLE b = is_mark SINGLE b || may_break b

@@ -20,12 +20,16 @@ angled p =
     some_uri true (skip 1 p) >>= λ r.
     if first r.end == 0x3E then found (TAG [] r.value) (skip 1 r.end) else refuse NO_CLOSING_ANGLE r.end
 
+-- the tag of a handle with a name, and a suffix
+abbrev pub with_handle : List ℕ → List ℕ → unnamed_yaml_token_t_data
+with_handle letters suffix = TAG (codes "!" ++ letters ++ codes "!") suffix
+
 -- after `!`
 unfoldable pub handled : Place → Read unnamed_yaml_token_t_data
 handled p =
     let letters = run is_alpha p in
     let end = behind is_alpha p in
-    if first end == 0x21 then (some_uri false (skip 1 end) >>= λ r. found (TAG (codes "!" ++ letters ++ codes "!") r.value) r.end)
+    if first end == 0x21 then (some_uri false (skip 1 end) >>= λ r. found (with_handle letters r.value) r.end)
     else uri false end >>= λ r. found (lone (letters ++ r.value)) r.end
 
 abbrev pub tag_parts : Place → Read unnamed_yaml_token_t_data

@@ -13,7 +13,8 @@ use Rattle.yaml_lexeme.specs.Block.{Blanks, Line, is_more_indented, or_none, or_
 
 -- empty lines were read, and their breaks appended to `old`
 abbrev pub TakesBlanks : Result blanks_t refusal_t → List ℕ → List ℕ → Place → Read Blanks → Type 0
-TakesBlanks (Ok b) old new q (Ok f) = (b.column ≡ f.value.column) × (new ≡ old ++ utf8 f.value.breaks) × (b.end ≡ f.value.end) × (q ≡ f.end)
+TakesBlanks (Ok b) old new q (Ok f) =
+    (b.column ≡ f.value.column) × (new ≡ old ++ utf8 f.value.breaks) × (b.end ≡ f.value.end) × (q ≡ f.end)
 TakesBlanks (Ok b) old new q (Err e) = ⊥
 TakesBlanks (Err e) old new q read = Refuses e q read
 

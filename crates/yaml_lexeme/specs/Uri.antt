@@ -1,5 +1,6 @@
 -- Uris of tags, and their escapes (YAML 1.1, 5.5 Miscellaneous Characters).
-use Rattle.std.specs.Prelude.{ℕ, zero, suc, ◌-◌, Bool, ◌&&◌, ◌||◌, ◌==◌, nat_lt, nat_le, if◌then◌else◌, List, [], ◌∷◌, length, codes}
+use Rattle.std.specs.Prelude.{ℕ, zero, suc, ◌-◌, Bool, ◌&&◌, ◌||◌, ◌==◌, nat_lt, nat_le, if◌then◌else◌, List, []}
+use Rattle.std.specs.Prelude.{◌∷◌, length, codes}
 use Rattle.std.specs.List.{concat}
 use Rattle.std.specs.Str.Parse.{digits_value}
 use Rattle.yaml_text.specs.Classes.{is_alpha, is_hex}
@@ -13,10 +14,15 @@ abbrev pub is_uri : Bool → ℕ → Bool
 is_uri listed c = is_alpha c || (is_one_of (codes ";/?:@&=+$.!~*'()") c || (listed && is_one_of (codes ",[]") c))
 
 -- `%` and two hex digits
+abbrev pub is_octet : Place → Bool
+is_octet p = first p == 0x25 && (is_hex (peek p 1) && is_hex (peek p 2))
+
+-- what these digits spell
+abbrev pub octet_value : Place → ℕ
+octet_value p = digits_value 16 (peek p 1 ∷ peek p 2 ∷ [])
+
 unfoldable pub octet : Place → Read ℕ
-octet p =
-    if first p == 0x25 && (is_hex (peek p 1) && is_hex (peek p 2)) then found (digits_value 16 (peek p 1 ∷ peek p 2 ∷ [])) (skip 3 p)
-    else refuse NO_OCTET p
+octet p = if is_octet p then found (octet_value p) (skip 3 p) else refuse NO_OCTET p
 
 -- how many octets a lead octet begins, or 0
 abbrev pub octet_width : ℕ → ℕ

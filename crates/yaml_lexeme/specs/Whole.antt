@@ -23,11 +23,14 @@ pub record IsWhole (text : List ℕ) (n : ℕ) (q : Place) : Type 0 where
 
 -- the place after a gap
 abbrev pub GapIsWhole : Type 0
-GapIsWhole = (flow allowed : Bool) (text : List ℕ) (index n : ℕ) → IsPlaceAt text index n → IsWhole text n (gap flow allowed (place_at text n)).0
+GapIsWhole = (flow allowed : Bool) (text : List ℕ) (index n : ℕ) → IsPlaceAt text index n →
+    IsWhole text n (gap flow allowed (place_at text n)).0
 
 -- the place that a lexeme of the kind there reaches, or the place of its problem
 abbrev pub ReachIsWhole : Type 0
-ReachIsWhole = (k : yaml_lexeme_kind_t) (c : yaml_context_t) (text : List ℕ) (index n : ℕ) → IsPlaceAt text index n → kind_at (in_flow c) (place_at text n) ≡ Some k → IsWhole text n (reach (lex k c (place_at text n)))
+ReachIsWhole = (k : yaml_lexeme_kind_t) (c : yaml_context_t) (text : List ℕ) (index n : ℕ)
+    → IsPlaceAt text index n → kind_at (in_flow c) (place_at text n) ≡ Some k
+    → IsWhole text n (reach (lex k c (place_at text n)))
 
 -- the mark is that of a place after n characters or more, which is not between CR and LF
 pub record EndsWhole (text : List ℕ) (n : ℕ) (mark : yaml_mark_t) : Type 0 where
@@ -37,8 +40,10 @@ pub record EndsWhole (text : List ℕ) (n : ℕ) (mark : yaml_mark_t) : Type 0 w
 
 -- the place where a lexeme ends, other than the stream end
 abbrev pub EndIsWhole : Type 0
-EndIsWhole = (k : yaml_lexeme_kind_t) (c : yaml_context_t) (text : List ℕ) (index n : ℕ) (f : Found yaml_lexeme_t) → IsPlaceAt text index n → kind_at (in_flow c) (place_at text n) ≡ Some k → (k ≡ kind.STREAM_END → ⊥)
-    → lex k c (place_at text n) ≡ Ok f → EndsWhole text n f.value.end_mark
+EndIsWhole = (k : yaml_lexeme_kind_t) (c : yaml_context_t) (text : List ℕ) (index n : ℕ) (f : Found yaml_lexeme_t)
+    → IsPlaceAt text index n → kind_at (in_flow c) (place_at text n) ≡ Some k → (k ≡ kind.STREAM_END → ⊥)
+    → lex k c (place_at text n) ≡ Ok f
+    → EndsWhole text n f.value.end_mark
 
 -- the mark is counted from the front of the text up to a place n characters on or more
 pub record IsCounted (text : List ℕ) (n : ℕ) (mark : yaml_mark_t) : Type 0 where
@@ -48,14 +53,20 @@ pub record IsCounted (text : List ℕ) (n : ℕ) (mark : yaml_mark_t) : Type 0 w
 
 -- So the mark of a gap's end is counted,
 abbrev pub GapIsCounted : Type 0
-GapIsCounted = (flow allowed : Bool) (text : List ℕ) (index n : ℕ) → IsPlaceAt text index n → IsCounted text n (gap flow allowed (place_at text n)).0.mark
+GapIsCounted = (flow allowed : Bool) (text : List ℕ) (index n : ℕ) → IsPlaceAt text index n →
+    IsCounted text n (gap flow allowed (place_at text n)).0.mark
 
 -- and the marks of a lexeme, other than the stream end,
 abbrev pub LexemeIsCounted : Type 0
-LexemeIsCounted = (k : yaml_lexeme_kind_t) (c : yaml_context_t) (text : List ℕ) (index n : ℕ) (f : Found yaml_lexeme_t) → IsPlaceAt text index n → kind_at (in_flow c) (place_at text n) ≡ Some k → (k ≡ kind.STREAM_END → ⊥)
-    → lex k c (place_at text n) ≡ Ok f → IsCounted text n f.value.start_mark × IsCounted text n f.value.end_mark × IsCounted text n f.value.reach
+LexemeIsCounted =
+    (k : yaml_lexeme_kind_t) (c : yaml_context_t) (text : List ℕ) (index n : ℕ) (f : Found yaml_lexeme_t)
+    → IsPlaceAt text index n → kind_at (in_flow c) (place_at text n) ≡ Some k → (k ≡ kind.STREAM_END → ⊥)
+    → lex k c (place_at text n) ≡ Ok f
+    → IsCounted text n f.value.start_mark × IsCounted text n f.value.end_mark × IsCounted text n f.value.reach
 
 -- and the mark of a problem.
 abbrev pub ProblemIsCounted : Type 0
-ProblemIsCounted = (k : yaml_lexeme_kind_t) (c : yaml_context_t) (text : List ℕ) (index n : ℕ) (e : Offence) → IsPlaceAt text index n → kind_at (in_flow c) (place_at text n) ≡ Some k
-    → lex k c (place_at text n) ≡ Err e → IsCounted text n e.at.mark
+ProblemIsCounted = (k : yaml_lexeme_kind_t) (c : yaml_context_t) (text : List ℕ) (index n : ℕ) (e : Offence)
+    → IsPlaceAt text index n → kind_at (in_flow c) (place_at text n) ≡ Some k
+    → lex k c (place_at text n) ≡ Err e
+    → IsCounted text n e.at.mark

@@ -13,7 +13,9 @@ use Rattle.yaml_lexeme.specs.Gives.{Refuses}
 -- What is still to be read makes the same whole: after `old` from p on, and after `new` from q on.
 abbrev pub GoesOn : Bool → Place → List ℕ → Place → List ℕ → Type 0
 GoesOn single p old q new =
-    (whole : Read (List ℕ)) → with_front old (spelled (many (body_part single) p)) ≡ whole → with_front new (spelled (many (body_part single) q)) ≡ whole
+    (whole : Read (List ℕ))
+    → with_front old (spelled (many (body_part single) p)) ≡ whole
+    → with_front new (spelled (many (body_part single) q)) ≡ whole
 
 -- What is read of a plain scalar after a chunk: separators and chunks, in bytes.
 abbrev pub links : Bool → ℕ → Place → Read (List ℕ)
@@ -30,7 +32,8 @@ plain_of false = PLAIN
 
 -- q is the place after some of what is kept unchanged in the line at p.
 abbrev pub Goes : Bool → ℕ → Place → Place → Type 0
-Goes flow least p q = (n : ℕ) × ((q ≡ skip n p) × (words flow least p ≡ with_front (utf8 (take n p.rest)) (words flow least q)))
+Goes flow least p q =
+    (n : ℕ) × ((q ≡ skip n p) × (words flow least p ≡ with_front (utf8 (take n p.rest)) (words flow least q)))
 
 -- What is read from p on is `out`, and then what is read from q on after a chunk.
 abbrev pub LeadsTo : Bool → ℕ → Place → List ℕ → Place → Type 0

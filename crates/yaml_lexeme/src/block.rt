@@ -7,9 +7,10 @@ ghost use Rattle.yaml_lexeme.specs.Gives.{Gives, Moves};
 ghost use Rattle.yaml_lexeme.specs.Place.{skip, break_len};
 ghost use Rattle.yaml_lexeme.specs.Tails.{TakesBlanks, TakesLine, between_tail, chomped_tail};
 
-use crate::cursor::{check_at, cursor_t, is_at, is_blank, is_break};
+use crate::classes::{is_blank, is_break};
 use crate::fold::{push_char, written};
 use crate::gap::skip_comment;
+use crate::place::{check_at, cursor_t, is_at};
 use crate::plain::scalar_t;
 use crate::problem::{problem_t, refusal_t};
 use crate::runs::class_t;
@@ -278,25 +279,47 @@ fn push_chomped(out: &mut Vec<u8>, chomp: chomp_t, tail: &tail_t) -> Result<(), 
     Ok(())
 }
 
-fn leading_limit(least: u64, digit: Option<u64>) -> Option<u64>
-    requires room { least + 10 < 2 ^ 64 }
-    requires small { IfSome digit (λ d. d < 10) }
-    ensures { result ≡ spec.leading_limit least digit }
+/// The greatest open level, or 0 if none is open.
+fn base(level: Option<u64>) -> u64
+    ensures { result ≡ spec.base level }
 {
-    match digit {
-        Some(d) => Some(least.saturating_sub(1) + d),
-        None => None,
+    match level {
+        None => 0,
+        Some(level) => level,
     }
 }
 
-fn block_indent(least: u64, digit: Option<u64>, leading: u64, column: u64) -> u64
-    requires room { least + 10 < 2 ^ 64 }
+/// The least column above the greatest open level, or 0 if none is open.
+pub(crate) fn above(level: Option<u64>) -> u64
+    requires { spec.above level < 2 ^ 64 }
+    ensures { result ≡ spec.above level }
+{
+    match level {
+        None => 0,
+        Some(level) => level + 1,
+    }
+}
+
+/// The column that a digit sets for the text lines.
+fn set_indent(level: Option<u64>, digit: Option<u64>) -> Option<u64>
+    requires room { spec.above level + 10 < 2 ^ 64 }
     requires small { IfSome digit (λ d. d < 10) }
-    ensures { result ≡ spec.block_indent least digit leading column }
+    ensures { result ≡ spec.set_indent level digit }
 {
     match digit {
-        Some(d) => least.saturating_sub(1) + d,
-        None => least.max(1).max(leading.max(column)),
+        None => None,
+        Some(d) => Some(base(level) + d),
+    }
+}
+
+/// The column of the text lines: the one that is set, or else one that spaces reach.
+fn block_indent(level: Option<u64>, set: Option<u64>, leading: u64, next: u64) -> u64
+    requires { spec.above level < 2 ^ 64 }
+    ensures { result ≡ spec.block_indent level set leading next }
+{
+    match set {
+        Some(column) => column,
+        None => above(level).max(1).max(leading.max(next)),
     }
 }
 
@@ -307,22 +330,23 @@ fn is_text(cursor: &cursor_t, indent: u64) -> bool
     cursor.mark().column == indent && !check_at!(cursor, '\0', 0)
 }
 
-/// Takes a literal or folded scalar, from its first character on. `least` is the greatest open level + 1, or 0.
+/// Takes a literal or folded scalar, from its first character on. The level is the greatest one that is open.
 pub(crate) fn take_block(
     alloc: Global,
     cursor: &mut cursor_t,
     folded: bool,
-    least: u64,
+    level: Option<u64>,
 ) -> Result<scalar_t, refusal_t>
-    requires { least + 10 < 2 ^ 64 }
-    ensures { Gives scalar_of result cursor.new (spec.block folded least cursor.old) }
+    requires { spec.above level + 10 < 2 ^ 64 }
+    ensures { Gives scalar_of result cursor.new (spec.block folded level cursor.old) }
 {
     cursor.advance();
     let header = take_header(cursor)?;
     take_line_end(cursor)?;
     let mut empties = Vec::new(alloc);
-    let leading = take_blank_lines(cursor, leading_limit(least, header.digit), &mut empties)?;
-    let indent = block_indent(least, header.digit, leading.column, cursor.mark().column);
+    let set = set_indent(level, header.digit);
+    let leading = take_blank_lines(cursor, set, &mut empties)?;
+    let indent = block_indent(level, set, leading.column, cursor.mark().column);
     let mut tail = tail_t {
         lead: None,
         empties,

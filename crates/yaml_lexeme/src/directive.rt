@@ -7,8 +7,9 @@ ghost use Rattle.yaml_lexeme.specs.Lexeme.{directive_of};
 ghost use Rattle.yaml_lexeme.specs.Gives.{Gives};
 
 use crate::block::take_line_end;
-use crate::cursor::{check_at, cursor_t, ends, is_at, is_blank};
+use crate::classes::{ends, is_blank};
 use crate::name::take_letters;
+use crate::place::{check_at, cursor_t, is_at};
 use crate::problem::{problem_t, refusal_t};
 use crate::runs::class_t;
 use crate::uri::{push_byte, take_some_uri};

@@ -3,7 +3,7 @@ ghost use Rattle.std.specs.Prelude.{◌≡◌, ◌≤◌};
 ghost use Rattle.yaml_lexeme.specs.Escape as spec;
 ghost use Rattle.yaml_lexeme.specs.Gives.{Gives};
 
-use crate::cursor::cursor_t;
+use crate::place::cursor_t;
 use crate::problem::{problem_t, refusal_t};
 
 /// The character that one after a backslash stands for, or `None`.

@@ -5,7 +5,7 @@ ghost use Rattle.yaml_lexeme.specs.Classes as sets;
 ghost use Rattle.yaml_lexeme.specs.Place as place;
 ghost use Rattle.yaml_lexeme.specs.Fold as spec;
 
-use crate::cursor::cursor_t;
+use crate::place::cursor_t;
 use crate::runs::class_t;
 use std::alloc::AllocError;
 
@@ -34,7 +34,8 @@ pub(crate) fn written(c: char) -> char
 
 /// Takes a run of blanks and breaks, and appends its breaks to `out`.
 pub(crate) fn push_breaks(cursor: &mut cursor_t, out: &mut Vec<u8>) -> Result<(), AllocError>
-    ensures value { OnOk result (out.new.items ≡ out.old.items ++ utf8 (spec.breaks (place.run sets.is_white cursor.old))) }
+    ensures value { OnOk result
+        (out.new.items ≡ out.old.items ++ utf8 (spec.breaks (place.run sets.is_white cursor.old))) }
     ensures end { OnOk result (cursor.new ≡ place.behind sets.is_white cursor.old) }
 {
     cursor.skip_run(class_t::BLANK);
@@ -48,7 +49,8 @@ pub(crate) fn push_breaks(cursor: &mut cursor_t, out: &mut Vec<u8>) -> Result<()
 
 /// Takes a run of blanks and breaks, and appends its value to `out`.
 pub(crate) fn push_separator(cursor: &mut cursor_t, out: &mut Vec<u8>) -> Result<(), AllocError>
-    ensures value { OnOk result (out.new.items ≡ out.old.items ++ utf8 (spec.fold (place.run sets.is_white cursor.old))) }
+    ensures value { OnOk result
+        (out.new.items ≡ out.old.items ++ utf8 (spec.fold (place.run sets.is_white cursor.old))) }
     ensures end { OnOk result (cursor.new ≡ place.behind sets.is_white cursor.old) }
 {
     let blanks = cursor.run(class_t::BLANK);

@@ -4,7 +4,7 @@ ghost use Rattle.yaml_lexeme.specs.Place.{IsMarkOf, place_at, behind, peek};
 ghost use Rattle.yaml_lexeme.specs.Classes.{is_in_line};
 ghost use Rattle.yaml_lexeme.specs.Gap as spec;
 
-use crate::cursor::{check_at, cursor_t};
+use crate::place::{check_at, cursor_t};
 use crate::runs::class_t;
 use yaml_text::{yaml_mark_t, yaml_text_t};
 
@@ -100,16 +100,17 @@ fn skip_gap(cursor: &mut cursor_t, in_flow: bool, allowed: bool) -> bool
     !is_solid(cursor, 0) && skip_some_gap(cursor, in_flow, allowed)
 }
 
-/// The gap from a place on: the mark of the place after it, and whether a break is in it (YAML 1.1, 6.2 Comments and 6.3
-/// Separation Spaces). If the gap is empty, the mark is that of the place itself.
+/// The gap from a place on: the mark of the place after it, and whether a break is in it (YAML 1.1, 6.2
+/// Comments and 6.3 Separation Spaces). If the gap is empty, the mark is that of the place itself.
 ///
-/// A gap is gap lines joined by breaks, as many as possible. A gap line is an optional byte order mark, if the line begins at
-/// column 0, then blanks, and then an optional comment up to a break or the end. Spaces are blanks; tabs are blanks in flow,
-/// and on the first line if no key is allowed.
+/// A gap is gap lines joined by breaks, as many as possible. A gap line is an optional byte order mark, if the
+/// line begins at column 0, then blanks, and then an optional comment up to a break or the end. Spaces are
+/// blanks; tabs are blanks in flow, and on the first line if no key is allowed.
 ///
-/// `at` must be the mark of a place of this text: what `yaml_mark_at` returns for it, the mark after a gap of it, or the reach
-/// of a lexeme of it other than the stream end. `in_flow` says whether the flow depth is above 0, and `allowed` whether a key
-/// is allowed at the place. Every gap can be read: there is no fault, and no memory is taken.
+/// `at` must be the mark of a place of this text: what `yaml_mark_at` returns for it, the mark after a gap of
+/// it, or the reach of a lexeme of it other than the stream end. `in_flow` says whether the flow depth is
+/// above 0, and `allowed` whether a key is allowed at the place. Every gap can be read: there is no fault, and
+/// no memory is taken.
 #[inline(always)]
 pub fn yaml_gap(
     text: &yaml_text_t,
@@ -118,8 +119,10 @@ pub fn yaml_gap(
     allowed: bool,
 ) -> (yaml_mark_t, bool)
     requires { (n : ℕ) × IsMarkOf text.now.chars at n }
-    ensures mark { (n : ℕ) → IsMarkOf text.now.chars at n → result.0 ≡ (spec.gap in_flow allowed (place_at text.now.chars n)).0.mark }
-    ensures broken { (n : ℕ) → IsMarkOf text.now.chars at n → result.1 ≡ (spec.gap in_flow allowed (place_at text.now.chars n)).1 }
+    ensures mark { (n : ℕ) → IsMarkOf text.now.chars at n
+        → result.0 ≡ (spec.gap in_flow allowed (place_at text.now.chars n)).0.mark }
+    ensures broken { (n : ℕ) → IsMarkOf text.now.chars at n
+        → result.1 ≡ (spec.gap in_flow allowed (place_at text.now.chars n)).1 }
 {
     let mut cursor = cursor_t::at(text, at);
     let broken = skip_gap(&mut cursor, in_flow, allowed);

@@ -3,7 +3,8 @@ ghost use Rattle.std.specs.Prelude.{ℕ, ◌≡◌};
 ghost use Rattle.yaml_lexeme.specs.Place.{IsMarkOf, place_at};
 ghost use Rattle.yaml_lexeme.specs.Kind as spec;
 
-use crate::cursor::{check_at, cursor_t, ends, is_at};
+use crate::classes::ends;
+use crate::place::{check_at, cursor_t, is_at};
 use yaml_text::{yaml_mark_t, yaml_text_t};
 
 /// What kind of lexeme is at a place. "Ends" means that a blank, a break or the end of the text follows.
@@ -148,9 +149,10 @@ fn kind_at(cursor: &cursor_t, in_flow: bool) -> Option<yaml_lexeme_kind_t>
 /// The kind of the lexeme at a place, or `None` if no token can start there (YAML 1.1, 5.3 Indicator Characters and 7.2
 /// Document Boundary Markers).
 ///
-/// `at` must be the mark of a place of this text: what `yaml_mark_at` returns for it, the mark after a gap of it, or the reach
-/// of a lexeme of it other than the stream end. At a place with a gap that is not empty, the kind is that for the gap's first
-/// character. `in_flow` says whether the flow depth is above 0. No memory is taken.
+/// `at` must be the mark of a place of this text: what `yaml_mark_at` returns for it, the mark after a gap of
+/// it, or the reach of a lexeme of it other than the stream end. At a place with a gap that is not empty, the
+/// kind is that for the gap's first character. `in_flow` says whether the flow depth is above 0. No memory is
+/// taken.
 #[inline(always)]
 pub fn yaml_lexeme_kind(
     text: &yaml_text_t,

@@ -1,10 +1,14 @@
 //! Laws about the definitions.
 ghost use Rattle.yaml_lexeme.specs.Counted.{PlacesAreCounted, MarksAreCounted};
-ghost use Rattle.yaml_lexeme.specs.Whole.{GapIsWhole, ReachIsWhole, EndIsWhole, GapIsCounted, LexemeIsCounted, ProblemIsCounted};
+ghost use Rattle.yaml_lexeme.specs.Whole.{GapIsWhole, ReachIsWhole, EndIsWhole, GapIsCounted, LexemeIsCounted};
+ghost use Rattle.yaml_lexeme.specs.Whole.{ProblemIsCounted};
 ghost use Rattle.yaml_lexeme.specs.GapText.{GapIsLongest, RunIsLongest};
 ghost use Rattle.yaml_lexeme.specs.Locality.{GapIsLocal, KindIsLocal, LexIsLocal};
-ghost use Rattle.yaml_lexeme.specs.Parts.{QuotedIsParts, QuotedIsRefused, PlainIsParts, PlainIsRefused, ChunkIsLongest, LinkIsLongest, LinkIsOver, UriIsParts, UriIsRefused, BlanksAreLines, BlockIsLines};
-ghost use Rattle.yaml_lexeme.specs.Order.{GapOrder, LexemeSpans, LexemeOrder, StreamEndOrder, OffenceIsAhead, LexemeFollows};
+ghost use Rattle.yaml_lexeme.specs.Parts.{QuotedIsParts, QuotedIsRefused, PlainIsParts, PlainIsRefused};
+ghost use Rattle.yaml_lexeme.specs.Parts.{ChunkIsLongest, LinkIsLongest, LinkIsOver, UriIsParts, UriIsRefused};
+ghost use Rattle.yaml_lexeme.specs.Parts.{BlanksAreLines, BlockIsLines};
+ghost use Rattle.yaml_lexeme.specs.Order.{GapOrder, LexemeSpans, LexemeOrder, StreamEndOrder, OffenceIsAhead};
+ghost use Rattle.yaml_lexeme.specs.Order.{LexemeFollows};
 
 /// A gap ends where it starts or further on.
 pub fn gap_order()
@@ -53,21 +57,21 @@ pub fn kind_is_local()
     ensures { KindIsLocal }
 {}
 
-/// A lexeme depends on no character eight or more past its reach, or past the place of its problem, with the end of the text
-/// counted as a character.
+/// A lexeme depends on no character eight or more past its reach, or past the place of its problem, with the
+/// end of the text counted as a character.
 pub fn lex_is_local()
     ensures { LexIsLocal }
 {}
 
-/// A place that is not between CR and LF has the mark that is counted from the front of the text, and what is left there is
-/// what follows it: so gaps, kinds and lexemes can be read at a counted mark.
+/// A place that is not between CR and LF has the mark that is counted from the front of the text, and what is
+/// left there is what follows it: so gaps, kinds and lexemes can be read at a counted mark.
 pub fn marks_are_counted()
     ensures places { PlacesAreCounted }
     ensures marks { MarksAreCounted }
 {}
 
-/// From a place that is not between CR and LF, the following places are not either: where a gap ends, where a lexeme of the
-/// kind there ends and which it reaches, and where its problem is.
+/// From a place that is not between CR and LF, the following places are not either: where a gap ends, where a
+/// lexeme of the kind there ends and which it reaches, and where its problem is.
 pub fn ends_are_whole()
     ensures gaps { GapIsWhole }
     ensures reaches { ReachIsWhole }

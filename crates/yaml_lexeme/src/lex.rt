@@ -3,7 +3,7 @@ ghost use Rattle.std.specs.Prelude.{ℕ, ◌≡◌, ◌+◌, ◌<◌, ◌≤◌,
 ghost use Rattle.yaml_text.specs.Chars.{utf8};
 ghost use Rattle.yaml_text.specs.Fault.{fault_of, scanner_fault};
 ghost use Rattle.yaml_lexeme.specs.Kind as kinds;
-ghost use Rattle.yaml_lexeme.specs.Texts as texts;
+ghost use Rattle.yaml_lexeme.specs.FaultTexts as texts;
 ghost use Rattle.yaml_lexeme.specs.Lex as spec;
 ghost use Rattle.yaml_lexeme.specs.Block as blocks;
 ghost use Rattle.yaml_lexeme.specs.Directive as directives;
@@ -11,26 +11,27 @@ ghost use Rattle.yaml_lexeme.specs.Name as names;
 ghost use Rattle.yaml_lexeme.specs.Plain as plains;
 ghost use Rattle.yaml_lexeme.specs.Quoted as quotes;
 ghost use Rattle.yaml_lexeme.specs.Tag as tags;
-ghost use Rattle.yaml_text.specs.Token.{TokenData as token};
 ghost use Rattle.yaml_text.specs.declared.types.yaml_scalar_style_t.TheVariants.{YAML_PLAIN_SCALAR_STYLE};
-ghost use Rattle.yaml_lexeme.specs.Place.{IsMarkOf, place_at};
+ghost use Rattle.yaml_lexeme.specs.Place.{IsMarkOf, place_at, skip};
 ghost use Rattle.yaml_lexeme.specs.Reading.{found};
 ghost use Rattle.yaml_lexeme.specs.Gives.{Gives};
 ghost use Rattle.yaml_lexeme.specs.Answers.{Answers};
-ghost use Rattle.yaml_lexeme.specs.Lexeme.{lexeme_of, scalar_of, directive_of};
+ghost use Rattle.yaml_lexeme.specs.Lexeme.{lexeme, lexeme_of, whole, scalar_to, directive_to};
 ghost use Rattle.yaml_text.specs.Token.{data_of};
 
-use crate::block::take_block;
-use crate::cursor::cursor_t;
-use crate::directive::{directive_t, take_directive};
+use crate::block::{above, take_block};
+use crate::directive::take_directive;
 use crate::fault::{make_memory_fault, make_scanner_fault};
+use crate::fault_texts::{context_text, problem_text};
 use crate::kind::yaml_lexeme_kind_t;
+use crate::lexeme::{directive_to, scalar_to, whole_of, yaml_lexeme_t};
 use crate::name::take_name;
-use crate::plain::{scalar_t, take_plain};
+use crate::place::cursor_t;
+use crate::plain::take_plain;
 use crate::problem::{problem_t, refusal_t};
 use crate::quoted::take_quoted;
+use crate::stream_end::take_stream_end;
 use crate::tag::take_tag;
-use crate::texts::{context_text, problem_text};
 use std::alloc::Global;
 use yaml_text::{
     unnamed_yaml_token_t_data, yaml_fault_t, yaml_mark_t, yaml_scalar_style_t, yaml_text_t,
@@ -43,62 +44,6 @@ pub struct yaml_context_t {
     pub depth: u64,
     /// The greatest open level: the column of the innermost open block collection, from 0. `None` if none is open.
     pub level: Option<u64>,
-}
-
-/// A lexeme that was read.
-#[derive(Drop, PartialEq, Eq)]
-pub struct yaml_lexeme_t {
-    /// What its token says: the token's type and the parts that tokens of this type have.
-    pub token_data: unnamed_yaml_token_t_data,
-    /// The mark of its token's first character. A stream end has one mark three times: that of the text's end, or that of the
-    /// next line's start if the column of the text's end is not 0.
-    pub start_mark: yaml_mark_t,
-    /// The mark after its token's last character. A plain scalar ends after its last chunk, a literal
-    /// or folded one after the last break that was read or at the end of the text, a directive before the blanks
-    /// and the comment after it.
-    pub end_mark: yaml_mark_t,
-    /// The mark up to which was read; the next gap begins here. It is `end_mark`, or after it: for a plain scalar
-    /// after the separator that was read last, for a literal or folded one after the spaces, for a directive after
-    /// its line's break.
-    pub reach: yaml_mark_t,
-    /// For a plain scalar, whether a break is between `end_mark` and `reach`; false for every other kind.
-    pub passed_break: bool,
-}
-
-/// The mark of a stream end.
-fn stream_end(mark: yaml_mark_t) -> yaml_mark_t
-    requires { mark.line + mark.column < 2 ^ 64 }
-    ensures { result ≡ spec.stream_end mark }
-{
-    if mark.column == 0 {
-        mark
-    } else {
-        yaml_mark_t {
-            index: mark.index,
-            line: mark.line + 1,
-            column: 0,
-        }
-    }
-}
-
-/// What is between two marks.
-fn whole(says: unnamed_yaml_token_t_data, start: yaml_mark_t, end: yaml_mark_t) -> yaml_lexeme_t
-    ensures { lexeme_of result ≡ spec.whole_of (data_of says) start end }
-{
-    yaml_lexeme_t {
-        token_data: says,
-        start_mark: start,
-        end_mark: end,
-        reach: end,
-        passed_break: false,
-    }
-}
-
-fn at_end(cursor: &cursor_t) -> yaml_lexeme_t
-    ensures { spec.at_end cursor.now ≡ found (lexeme_of result) cursor.now }
-{
-    let mark = stream_end(cursor.mark());
-    whole(unnamed_yaml_token_t_data::STREAM_END, mark, mark)
 }
 
 /// What a lexeme of one character, or a document marker, says.
@@ -131,50 +76,12 @@ fn len_of(kind: yaml_lexeme_kind_t) -> usize
     }
 }
 
-fn scalar_of(value: Vec<u8>, style: yaml_scalar_style_t) -> unnamed_yaml_token_t_data
-    ensures { data_of result ≡ spec.quoted_as style value.items }
-{
-    unnamed_yaml_token_t_data::SCALAR { value, style }
-}
-
-fn scalar(
-    style: yaml_scalar_style_t,
-    start: yaml_mark_t,
-    scalar: scalar_t,
-    reach: yaml_mark_t,
-) -> yaml_lexeme_t
-    ensures { lexeme_of result ≡ spec.scalar_to style start (scalar_of scalar) reach }
-{
-    yaml_lexeme_t {
-        token_data: scalar_of(scalar.value, style),
-        start_mark: start,
-        end_mark: scalar.end,
-        reach,
-        passed_break: scalar.passed_break,
-    }
-}
-
 /// The least column of a line that goes on.
 fn least(context: yaml_context_t) -> u64
     requires { spec.least context < 2 ^ 64 }
     ensures { result ≡ spec.least context }
 {
-    match context.level {
-        None => 0,
-        Some(level) => level + 1,
-    }
-}
-
-fn directive(start: yaml_mark_t, directive: directive_t, reach: yaml_mark_t) -> yaml_lexeme_t
-    ensures { lexeme_of result ≡ spec.directive_to start (directive_of directive) reach }
-{
-    yaml_lexeme_t {
-        token_data: directive.says,
-        start_mark: start,
-        end_mark: directive.end,
-        reach,
-        passed_break: false,
-    }
+    above(context.level)
 }
 
 /// Takes a lexeme of one character, or a document marker.
@@ -183,62 +90,64 @@ fn take_characters(
     cursor: &mut cursor_t,
     kind: yaml_lexeme_kind_t,
 ) -> Result<yaml_lexeme_t, refusal_t>
-    ensures value { Gives lexeme_of result cursor.new (spec.characters (spec.says_of kind) (spec.len_of kind) cursor.old) }
+    ensures value { Gives lexeme_of result cursor.new
+        (lexeme (whole spec.says_of) cursor.old (found kind (skip (spec.len_of kind) cursor.old))) }
     ensures taken { IsOk result }
 {
     let start = cursor.mark();
     cursor.skip(len_of(kind));
-    Ok(whole(says_of(kind), start, cursor.mark()))
+    Ok(whole_of(says_of(kind), start, cursor.mark()))
 }
 
-#[inline(never)]
-fn take_end(cursor: &mut cursor_t) -> Result<yaml_lexeme_t, refusal_t>
-    ensures value { Gives lexeme_of result cursor.new (spec.at_end cursor.old) }
-    ensures taken { IsOk result }
+/// What an anchor or an alias says.
+fn named(anchor: bool, value: Vec<u8>) -> unnamed_yaml_token_t_data
+    ensures { data_of result ≡ spec.named anchor value.items }
 {
-    Ok(at_end(cursor))
+    if anchor {
+        unnamed_yaml_token_t_data::ANCHOR { value }
+    } else {
+        unnamed_yaml_token_t_data::ALIAS { value }
+    }
 }
 
+/// Takes an anchor or an alias.
 #[inline(never)]
-fn take_alias(alloc: Global, cursor: &mut cursor_t) -> Result<yaml_lexeme_t, refusal_t>
-    ensures { Gives lexeme_of result cursor.new (spec.whole token.ALIAS cursor.old (names.name cursor.old)) }
+fn take_named(
+    alloc: Global,
+    cursor: &mut cursor_t,
+    anchor: bool,
+) -> Result<yaml_lexeme_t, refusal_t>
+    ensures { Gives lexeme_of result cursor.new
+        (lexeme (whole (spec.named anchor)) cursor.old (names.name cursor.old)) }
 {
     let start = cursor.mark();
     let value = take_name(alloc, cursor)?;
-    let says = unnamed_yaml_token_t_data::ALIAS { value };
-    Ok(whole(says, start, cursor.mark()))
+    Ok(whole_of(named(anchor, value), start, cursor.mark()))
 }
 
-#[inline(never)]
-fn take_anchor(alloc: Global, cursor: &mut cursor_t) -> Result<yaml_lexeme_t, refusal_t>
-    ensures { Gives lexeme_of result cursor.new (spec.whole token.ANCHOR cursor.old (names.name cursor.old)) }
-{
-    let start = cursor.mark();
-    let value = take_name(alloc, cursor)?;
-    let says = unnamed_yaml_token_t_data::ANCHOR { value };
-    Ok(whole(says, start, cursor.mark()))
-}
-
+/// Takes a tag.
 #[inline(never)]
 fn take_whole_tag(
     alloc: Global,
     cursor: &mut cursor_t,
     context: yaml_context_t,
 ) -> Result<yaml_lexeme_t, refusal_t>
-    ensures { Gives lexeme_of result cursor.new (spec.whole (λ t. t) cursor.old (tags.tag (spec.in_flow context) cursor.old)) }
+    ensures { Gives lexeme_of result cursor.new
+        (lexeme (whole (λ t. t)) cursor.old (tags.tag (spec.in_flow context) cursor.old)) }
 {
     let start = cursor.mark();
     let says = take_tag(alloc, cursor, context.depth > 0)?;
-    Ok(whole(says, start, cursor.mark()))
+    Ok(whole_of(says, start, cursor.mark()))
 }
 
+/// Takes a directive.
 #[inline(never)]
 fn take_whole_directive(alloc: Global, cursor: &mut cursor_t) -> Result<yaml_lexeme_t, refusal_t>
-    ensures { Gives lexeme_of result cursor.new (spec.ended cursor.old (directives.directive cursor.old)) }
+    ensures { Gives lexeme_of result cursor.new (lexeme directive_to cursor.old (directives.directive cursor.old)) }
 {
     let start = cursor.mark();
     let d = take_directive(alloc, cursor)?;
-    Ok(directive(start, d, cursor.mark()))
+    Ok(directive_to(start, d, cursor.mark()))
 }
 
 fn block_style(folded: bool) -> yaml_scalar_style_t
@@ -251,6 +160,7 @@ fn block_style(folded: bool) -> yaml_scalar_style_t
     }
 }
 
+/// Takes a literal or folded scalar.
 #[inline(never)]
 fn take_block_scalar(
     alloc: Global,
@@ -259,11 +169,19 @@ fn take_block_scalar(
     context: yaml_context_t,
 ) -> Result<yaml_lexeme_t, refusal_t>
     requires { spec.least context + 10 < 2 ^ 64 }
-    ensures { Gives lexeme_of result cursor.new (spec.scalar (spec.block_style folded) cursor.old (blocks.block folded (spec.least context) cursor.old)) }
+    ensures { Gives lexeme_of result cursor.new
+        (lexeme (scalar_to (spec.block_style folded)) cursor.old (blocks.block folded context.level cursor.old)) }
 {
     let start = cursor.mark();
-    let s = take_block(alloc, cursor, folded, least(context))?;
-    Ok(scalar(block_style(folded), start, s, cursor.mark()))
+    let s = take_block(alloc, cursor, folded, context.level)?;
+    Ok(scalar_to(block_style(folded), start, s, cursor.mark()))
+}
+
+/// What a quoted scalar says.
+fn quoted_as(value: Vec<u8>, style: yaml_scalar_style_t) -> unnamed_yaml_token_t_data
+    ensures { data_of result ≡ spec.quoted_as style value.items }
+{
+    unnamed_yaml_token_t_data::SCALAR { value, style }
 }
 
 fn quoted_style(single: bool) -> yaml_scalar_style_t
@@ -276,19 +194,22 @@ fn quoted_style(single: bool) -> yaml_scalar_style_t
     }
 }
 
+/// Takes a quoted scalar.
 #[inline(never)]
 fn take_quoted_scalar(
     alloc: Global,
     cursor: &mut cursor_t,
     single: bool,
 ) -> Result<yaml_lexeme_t, refusal_t>
-    ensures { Gives lexeme_of result cursor.new (spec.whole (spec.quoted_as (spec.quoted_style single)) cursor.old (quotes.quoted single cursor.old)) }
+    ensures { Gives lexeme_of result cursor.new
+        (lexeme (whole (spec.quoted_as (spec.quoted_style single))) cursor.old (quotes.quoted single cursor.old)) }
 {
     let start = cursor.mark();
     let value = take_quoted(alloc, cursor, single)?;
-    Ok(whole(scalar_of(value, quoted_style(single)), start, cursor.mark()))
+    Ok(whole_of(quoted_as(value, quoted_style(single)), start, cursor.mark()))
 }
 
+/// Takes a plain scalar.
 #[inline(never)]
 fn take_plain_scalar(
     alloc: Global,
@@ -296,11 +217,13 @@ fn take_plain_scalar(
     context: yaml_context_t,
 ) -> Result<yaml_lexeme_t, refusal_t>
     requires { spec.least context + 10 < 2 ^ 64 }
-    ensures { Gives lexeme_of result cursor.new (spec.scalar YAML_PLAIN_SCALAR_STYLE cursor.old (plains.plain (spec.in_flow context) (spec.least context) cursor.old)) }
+    ensures { Gives lexeme_of result cursor.new
+        (lexeme (scalar_to YAML_PLAIN_SCALAR_STYLE) cursor.old
+        (plains.plain (spec.in_flow context) (spec.least context) cursor.old)) }
 {
     let start = cursor.mark();
     let s = take_plain(alloc, cursor, context.depth > 0, least(context))?;
-    Ok(scalar(
+    Ok(scalar_to(
         yaml_scalar_style_t::YAML_PLAIN_SCALAR_STYLE,
         start,
         s,
@@ -322,7 +245,7 @@ fn take_lexeme(
     ensures bare { spec.is_bare kind ≡ true → IsOk result }
 {
     match kind {
-        yaml_lexeme_kind_t::STREAM_END => take_end(cursor),
+        yaml_lexeme_kind_t::STREAM_END => take_stream_end(cursor),
         yaml_lexeme_kind_t::DOCUMENT_START => take_characters(cursor, kind),
         yaml_lexeme_kind_t::DOCUMENT_END => take_characters(cursor, kind),
         yaml_lexeme_kind_t::FLOW_SEQUENCE_START => take_characters(cursor, kind),
@@ -334,8 +257,8 @@ fn take_lexeme(
         yaml_lexeme_kind_t::KEY => take_characters(cursor, kind),
         yaml_lexeme_kind_t::VALUE => take_characters(cursor, kind),
         yaml_lexeme_kind_t::DIRECTIVE => take_whole_directive(alloc, cursor),
-        yaml_lexeme_kind_t::ALIAS => take_alias(alloc, cursor),
-        yaml_lexeme_kind_t::ANCHOR => take_anchor(alloc, cursor),
+        yaml_lexeme_kind_t::ALIAS => take_named(alloc, cursor, false),
+        yaml_lexeme_kind_t::ANCHOR => take_named(alloc, cursor, true),
         yaml_lexeme_kind_t::TAG => take_whole_tag(alloc, cursor, context),
         yaml_lexeme_kind_t::LITERAL => take_block_scalar(alloc, cursor, false, context),
         yaml_lexeme_kind_t::FOLDED => take_block_scalar(alloc, cursor, true, context),
@@ -352,7 +275,8 @@ fn make_fault(
     start: yaml_mark_t,
     there: yaml_mark_t,
 ) -> yaml_fault_t
-    ensures { fault_of result ≡ scanner_fault (texts.problem_text problem) there (Some (texts.context_text kind problem)) start }
+    ensures { fault_of result
+        ≡ scanner_fault (texts.problem_text problem) there (Some (texts.context_text kind problem)) start }
 {
     make_scanner_fault(
         problem_text(problem),
@@ -389,8 +313,9 @@ fn make_fault(
 ///   (at the backslash), a digit that is not hexadecimal, and digits that spell no character (both at the first digit);
 /// - a plain scalar: in flow a `:` before `?` or a flow indicator, and a tab in the indentation of a line that goes on.
 ///
-/// A fault of kind memory may come instead of the lexeme or its offence, for a growth that was refused. The contract does
-/// not say that one was. It never comes for stream ends, document markers and lexemes of one character.
+/// A fault of kind memory may come instead of the lexeme or its offence, for a growth that was refused. The
+/// contract does not say that one was. It never comes for stream ends, document markers and lexemes of one
+/// character.
 #[inline(always)]
 pub fn yaml_lexeme_at(
     alloc: Global,
@@ -399,9 +324,11 @@ pub fn yaml_lexeme_at(
     kind: yaml_lexeme_kind_t,
     context: yaml_context_t,
 ) -> Result<yaml_lexeme_t, yaml_fault_t>
-    requires place { (n : ℕ) × IsMarkOf text.now.chars at n × (kinds.kind_at (spec.in_flow context) (place_at text.now.chars n) ≡ Some kind) }
+    requires place { (n : ℕ) × IsMarkOf text.now.chars at n
+        × (kinds.kind_at (spec.in_flow context) (place_at text.now.chars n) ≡ Some kind) }
     requires level { IfSome context.level (λ l. l ≤ length (utf8 text.now.chars)) }
-    ensures value { (n : ℕ) → IsMarkOf text.now.chars at n → Answers lexeme_of result (spec.lexeme_at kind context (place_at text.now.chars n)) }
+    ensures value { (n : ℕ) → IsMarkOf text.now.chars at n
+        → Answers lexeme_of result (spec.lexeme_at kind context (place_at text.now.chars n)) }
     ensures bare { spec.is_bare kind ≡ true → IsOk result }
 {
     let mut cursor = cursor_t::at(text, at);

@@ -2,26 +2,30 @@
 #![tactic(auto)]
 
 mod block;
-mod cursor;
+mod classes;
 mod directive;
 mod escape;
 mod fault;
+mod fault_texts;
 mod fold;
 mod gap;
 mod kind;
 pub mod laws;
 mod lex;
+mod lexeme;
 mod name;
+mod place;
 mod plain;
 mod problem;
 mod quoted;
 mod runs;
+mod stream_end;
 mod tag;
 #[cfg(test)]
 mod tests;
-mod texts;
 mod uri;
 
 pub use gap::yaml_gap;
 pub use kind::{yaml_lexeme_kind, yaml_lexeme_kind_t};
-pub use lex::{yaml_context_t, yaml_lexeme_at, yaml_lexeme_t};
+pub use lex::{yaml_context_t, yaml_lexeme_at};
+pub use lexeme::yaml_lexeme_t;

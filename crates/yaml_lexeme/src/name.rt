@@ -5,7 +5,8 @@ ghost use Rattle.yaml_lexeme.specs.Place as place;
 ghost use Rattle.yaml_lexeme.specs.Name as spec;
 ghost use Rattle.yaml_lexeme.specs.Gives.{Gives};
 
-use crate::cursor::{cursor_t, ends, is_at};
+use crate::classes::ends;
+use crate::place::{cursor_t, is_at};
 use crate::problem::{problem_t, refusal_t};
 use crate::runs::class_t;
 use std::alloc::Global;

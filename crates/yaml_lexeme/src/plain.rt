@@ -11,9 +11,10 @@ ghost use Rattle.yaml_lexeme.specs.Lexeme.{scalar_of};
 ghost use Rattle.yaml_lexeme.specs.Reading.{with_front, over};
 ghost use Rattle.yaml_lexeme.specs.Words.{links, words, Goes, LeadsTo, Leaves, LeavesMore};
 
-use crate::cursor::{check_at, cursor_t, ends, is_at, is_break, is_white};
+use crate::classes::{ends, is_break, is_white};
 use crate::fold::{push_char, push_separator};
 use crate::kind::is_marker;
+use crate::place::{check_at, cursor_t, is_at};
 use crate::problem::{problem_t, refusal_t};
 use crate::runs::class_t;
 use std::alloc::Global;
@@ -104,7 +105,9 @@ fn take_words(
     least: u64,
     out: &mut Vec<u8>,
 ) -> Result<(), refusal_t>
-    ensures value { Leaves result (with_front out.old.items (words in_flow least cursor.old)) (with_front out.new.items (links in_flow least cursor.new)) cursor.new }
+    ensures value { Leaves result
+        (with_front out.old.items (words in_flow least cursor.old))
+        (with_front out.new.items (links in_flow least cursor.new)) cursor.new }
     ensures shorter { OnOk result (length cursor.new.rest ≤ length cursor.old.rest) }
 {
     let piece = line_words(cursor, in_flow, least);
@@ -116,7 +119,7 @@ fn take_words(
 }
 
 fn is_bad_tab(cursor: &cursor_t, broken: bool, least: u64) -> bool
-    ensures { result ≡ spec.is_tab least broken cursor.now }
+    ensures { result ≡ spec.is_bad_tab least broken cursor.now }
 {
     check_at!(cursor, '\t', 0) && broken && cursor.mark().column < least
 }
@@ -150,7 +153,9 @@ fn take_link(
     least: u64,
     out: &mut Vec<u8>,
 ) -> Result<bool, refusal_t>
-    ensures value { LeavesMore result (with_front out.old.items (links in_flow least cursor.old)) (with_front out.new.items (links in_flow least cursor.new)) out.new.items cursor.new }
+    ensures value { LeavesMore result
+        (with_front out.old.items (links in_flow least cursor.old))
+        (with_front out.new.items (links in_flow least cursor.new)) out.new.items cursor.new }
     ensures shorter { IfOk result (λ more. more ≡ true → length cursor.new.rest < length cursor.old.rest) }
 {
     if !is_at!(cursor, is_white, 0) {
@@ -174,8 +179,9 @@ fn take_link(
     Ok(true)
 }
 
-/// Takes the separator that is here, if a quick look shows that the scalar is over before it. Then it is empty, or is a line
-/// feed and spaces before a line that is not indented enough. Returns whether a break is in it.
+/// Takes the separator that is here, if a quick look shows that the scalar is over before it. Then it is
+/// empty, or is a line feed and spaces before a line that is not indented enough. Returns whether a break is
+/// in it.
 #[inline(always)]
 fn ends_at_once(cursor: &mut cursor_t, in_flow: bool, least: u64) -> Option<bool>
     ensures over { IfSome result (λ b. spec.link in_flow least cursor.old ≡ over) }
@@ -208,7 +214,8 @@ fn take_links(
     least: u64,
     mut out: Vec<u8>,
 ) -> Result<scalar_t, refusal_t>
-    ensures { (p : Place) → LeadsTo in_flow least p out.items cursor.old → Gives scalar_of result cursor.new (spec.plain in_flow least p) }
+    ensures { (p : Place) → LeadsTo in_flow least p out.items cursor.old
+        → Gives scalar_of result cursor.new (spec.plain in_flow least p) }
 {
     'links: while take_link(cursor, in_flow, least, &mut out)? {}
     let end = cursor.mark();

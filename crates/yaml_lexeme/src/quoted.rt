@@ -9,10 +9,11 @@ ghost use Rattle.yaml_lexeme.specs.Runs as runs;
 ghost use Rattle.yaml_lexeme.specs.Gives.{Gives, Takes};
 ghost use Rattle.yaml_lexeme.specs.Words.{GoesOn};
 
-use crate::cursor::{check_at, cursor_t, is_at, is_break, is_white};
+use crate::classes::{is_break, is_white};
 use crate::escape::take_escape;
 use crate::fold::{push_breaks, push_char, push_separator};
 use crate::kind::is_marker;
+use crate::place::{check_at, cursor_t, is_at};
 use crate::problem::{problem_t, refusal_t};
 use crate::runs::{class_t, trimmed};
 use std::alloc::{AllocError, Global};

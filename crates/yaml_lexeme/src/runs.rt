@@ -3,8 +3,10 @@ ghost use Rattle.std.specs.Prelude.{◌≡◌, ◌+◌, ◌-◌, ◌≤◌, true
 ghost use Rattle.std.specs.List.{prefix_len, count_by};
 ghost use Rattle.std.specs.Simd.Lanes.{mask_l};
 ghost use Rattle.yaml_lexeme.specs.Runs as spec;
-ghost use Rattle.yaml_lexeme.specs.declared.runs.class_t.TheVariants.{SPACE, ALPHA, BLANK, IN_LINE, DOUBLE, SINGLE, PLAIN, FLOW};
+ghost use Rattle.yaml_lexeme.specs.declared.runs.class_t.TheVariants.{SPACE, ALPHA, BLANK, IN_LINE, DOUBLE, SINGLE};
+ghost use Rattle.yaml_lexeme.specs.declared.runs.class_t.TheVariants.{PLAIN, FLOW};
 
+use crate::classes::{is_alpha, is_blank, is_in_line, is_white};
 use std::simd::prelude::*;
 
 /// A set of characters, to take a run of them.
@@ -18,7 +20,6 @@ pub(crate) enum class_t {
     BLANK_OR_BREAK,
     /// Letters, digits, `_` and `-`.
     ALPHA,
-    DIGIT,
     /// All but breaks.
     IN_LINE,
     /// Of a line, what double quotes keep unchanged.
@@ -29,6 +30,29 @@ pub(crate) enum class_t {
     PLAIN,
     /// The same in flow.
     FLOW,
+}
+
+/// Whether a run of the class takes the character.
+#[inline(always)]
+pub(crate) fn is_in(class: class_t, c: char) -> bool
+    ensures { result ≡ spec.class_test class c }
+{
+    match class {
+        class_t::BLANK => is_blank(c),
+        class_t::GAP_BLANK(tabs) => c == ' ' || c == '\t' && tabs,
+        class_t::SPACE => c == ' ',
+        class_t::BLANK_OR_BREAK => is_white(c),
+        class_t::ALPHA => is_alpha(c),
+        class_t::IN_LINE => is_in_line(c),
+        class_t::DOUBLE => is_in_line(c) && !(c == '"' || c == '\\'),
+        class_t::SINGLE => is_in_line(c) && !(c == '\''),
+        class_t::PLAIN => is_in_line(c) && !(c == ':' || c == '#'),
+        class_t::FLOW => {
+            is_in_line(c)
+                && !((c == ':' || c == '#')
+                    || (c == ',' || ((c == '[' || c == ']') || (c == '{' || c == '}'))))
+        }
+    }
 }
 
 #[inline(always)]
@@ -50,7 +74,7 @@ fn may_break(b: u8) -> bool
 }
 
 #[inline(always)]
-fn is_alpha(b: u8) -> bool
+fn is_alpha_byte(b: u8) -> bool
     ensures { result ≡ spec.class_test ALPHA b }
 {
     matches!(b, b'0'..=b'9' | b'A'..=b'Z' | b'a'..=b'z' | b'_' | b'-')
@@ -80,8 +104,7 @@ fn is_stop(class: class_t, b: u8) -> bool
         class_t::BLANK | class_t::BLANK_OR_BREAK => !(b == b' ' || b == b'\t'),
         class_t::GAP_BLANK(tabs) => !(b == b' ' || (b == b'\t' && tabs)),
         class_t::SPACE => !(b == b' '),
-        class_t::ALPHA => !is_alpha(b),
-        class_t::DIGIT => !matches!(b, b'0'..=b'9'),
+        class_t::ALPHA => !is_alpha_byte(b),
         _ => is_mark(class, b) || may_break(b),
     }
 }

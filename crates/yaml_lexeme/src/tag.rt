@@ -5,8 +5,9 @@ ghost use Rattle.yaml_text.specs.Token.TokenData.{TAG};
 ghost use Rattle.yaml_lexeme.specs.Tag as spec;
 ghost use Rattle.yaml_lexeme.specs.Gives.{Gives};
 
-use crate::cursor::{check_at, cursor_t, ends};
+use crate::classes::ends;
 use crate::name::take_letters;
+use crate::place::{check_at, cursor_t};
 use crate::problem::{problem_t, refusal_t};
 use crate::uri::{push_byte, take_some_uri, take_uri};
 use std::alloc::Global;

@@ -1,5 +1,6 @@
 use super::*;
 use std::alloc::Global;
+use std::process::Abort;
 use std::test::Fail;
 use yaml_text::{
     unnamed_yaml_token_t_data, yaml_decode, yaml_encoding_t, yaml_fault_t, yaml_is_place,
@@ -163,50 +164,342 @@ fn lexed(alloc: Global, bytes: &[u8], depth: u64, level: Option<u64>) -> Result<
     }
 }
 
-#[test]
-fn names_tags_and_directives(rt: HostRuntime) -> Result<(), Fail> {
-    let alloc = rt.alloc();
-    let rows: [(&str, u64, Option<u64>, &str); 13] = [
-        ("", 0, None, "end 0:0:0 0:0:0 0:0:0 false"),
-        ("---", 0, None, "document start 0:0:0 3:0:3 3:0:3 false"),
-        ("@", 0, None, "no kind"),
-        ("|", 1, None, "no kind"),
-        (
-            "%YAML 1.1 # c\n",
-            0,
-            None,
-            "version 1 1 0:0:0 9:0:9 14:1:0 false",
-        ),
-        ("%TAG ! x", 0, None, "handle 21 78 0:0:0 8:0:8 8:0:8 false"),
-        ("&a]", 0, None, "anchor 61 0:0:0 2:0:2 2:0:2 false"),
-        ("*a]", 0, None, "alias 61 0:0:0 2:0:2 2:0:2 false"),
-        ("!%00 x", 0, None, "tag 21 00 0:0:0 4:0:4 4:0:4 false"),
-        ("!%C0%80 x", 0, None, "tag 21 c080 0:0:0 7:0:7 7:0:7 false"),
-        ("! x", 0, None, "tag - 21 0:0:0 1:0:1 1:0:1 false"),
-        (
-            "!!str x",
-            0,
-            None,
-            "tag 2121 737472 0:0:0 5:0:5 5:0:5 false",
-        ),
-        (
-            "!<tag:x,2000:y> z",
-            0,
-            None,
-            "tag - 7461673a782c323030303a79 0:0:0 15:0:15 15:0:15 false",
-        ),
-    ];
+/// Texts, the flow depth and the greatest open level at their front, and what their first lexeme must be.
+fn expect_rows(
+    rt: &impl Abort,
+    alloc: Global,
+    rows: &[(&str, u64, Option<u64>, &str)],
+) -> Result<(), Fail> {
     for (text, depth, level, want) in rows {
-        let shown = lexed(alloc, text.as_bytes(), depth, level)?;
-        assert_eq!(rt; shown.as_str(), want, "{text}");
+        let shown = lexed(alloc, text.as_bytes(), *depth, *level)?;
+        assert_eq!(rt; shown.as_str(), *want, "{text}");
     }
     Ok(())
 }
 
 #[test]
-fn offences_of_names_and_tags(rt: HostRuntime) -> Result<(), Fail> {
+fn gaps(rt: HostRuntime) -> Result<(), Fail> {
     let alloc = rt.alloc();
-    let rows: [(&str, u64, Option<u64>, &str); 10] = [
+    let gaps: [(&str, bool, bool, &str); 5] = [
+        ("\t#c\n  x", false, false, "6:1:2 true"),
+        ("\t#c\n  x", false, true, "0:0:0 false"),
+        ("\n\tx", false, false, "1:1:0 true"),
+        ("\n\tx", true, false, "2:1:1 true"),
+        ("\n\u{FEFF} x", false, false, "5:1:2 true"),
+    ];
+    for (bytes, in_flow, allowed, want) in gaps {
+        let shown = show_gap(alloc, bytes.as_bytes(), in_flow, allowed)?;
+        assert_eq!(rt; shown.as_str(), want, "{bytes}");
+    }
+    Ok(())
+}
+
+#[test]
+fn kinds(rt: HostRuntime) -> Result<(), Fail> {
+    let alloc = rt.alloc();
+    let rows: [(&str, bool, yaml_lexeme_kind_t); 6] = [
+        ("-x", false, yaml_lexeme_kind_t::PLAIN),
+        ("-", false, yaml_lexeme_kind_t::BLOCK_ENTRY),
+        ("---x", false, yaml_lexeme_kind_t::PLAIN),
+        ("---", false, yaml_lexeme_kind_t::DOCUMENT_START),
+        ("?x", false, yaml_lexeme_kind_t::PLAIN),
+        ("?x", true, yaml_lexeme_kind_t::KEY),
+    ];
+    for (bytes, in_flow, want) in rows {
+        let found = kind_of(alloc, bytes.as_bytes(), in_flow)?;
+        assert!(rt; found == Some(want), "{bytes}");
+    }
+    Ok(())
+}
+
+#[test]
+fn kinds_at_the_start_of_a_line(rt: HostRuntime) -> Result<(), Fail> {
+    let alloc = rt.alloc();
+    let rows: [(&str, usize, Option<yaml_lexeme_kind_t>); 3] = [
+        (" %", 1, None),
+        ("\n%", 1, Some(yaml_lexeme_kind_t::DIRECTIVE)),
+        (" ---", 1, Some(yaml_lexeme_kind_t::PLAIN)),
+    ];
+    for (text, index, want) in rows {
+        let found = kind_behind(alloc, text.as_bytes(), index, false)?;
+        assert!(rt; found == want, "{text}");
+    }
+    Ok(())
+}
+
+#[test]
+fn no_kind(rt: HostRuntime) -> Result<(), Fail> {
+    let rows: [(&str, u64, Option<u64>, &str); 2] = [
+        ("@", 0, None, "no kind"),
+        ("|", 1, None, "no kind"),
+    ];
+    expect_rows(&rt, rt.alloc(), &rows)
+}
+
+/// Document markers, and lexemes of one character.
+#[test]
+fn kinds_of_fixed_length(rt: HostRuntime) -> Result<(), Fail> {
+    let rows: [(&str, u64, Option<u64>, &str); 13] = [
+        ("---", 0, None, "document start 0:0:0 3:0:3 3:0:3 false"),
+        ("---\n", 1, None, "document start 0:0:0 3:0:3 3:0:3 false"),
+        ("... x", 0, None, "document end 0:0:0 3:0:3 3:0:3 false"),
+        ("[a", 0, None, "sequence start 0:0:0 1:0:1 1:0:1 false"),
+        ("]", 1, None, "sequence end 0:0:0 1:0:1 1:0:1 false"),
+        ("{a", 1, None, "mapping start 0:0:0 1:0:1 1:0:1 false"),
+        ("}", 0, None, "mapping end 0:0:0 1:0:1 1:0:1 false"),
+        (",", 1, None, "flow entry 0:0:0 1:0:1 1:0:1 false"),
+        ("- a", 0, Some(0), "block entry 0:0:0 1:0:1 1:0:1 false"),
+        ("? a", 0, None, "key 0:0:0 1:0:1 1:0:1 false"),
+        ("?a", 1, None, "key 0:0:0 1:0:1 1:0:1 false"),
+        (": a", 0, None, "value 0:0:0 1:0:1 1:0:1 false"),
+        (":a", 1, None, "value 0:0:0 1:0:1 1:0:1 false"),
+    ];
+    expect_rows(&rt, rt.alloc(), &rows)
+}
+
+#[test]
+fn stream_end(rt: HostRuntime) -> Result<(), Fail> {
+    let rows: [(&str, u64, Option<u64>, &str); 1] = [("", 0, None, "end 0:0:0 0:0:0 0:0:0 false")];
+    assert!(rt; kind_behind(rt.alloc(), b"a", 1, false)? == Some(yaml_lexeme_kind_t::STREAM_END));
+    expect_rows(&rt, rt.alloc(), &rows)
+}
+
+/// Separators in plain and quoted scalars.
+#[test]
+fn folded_separators(rt: HostRuntime) -> Result<(), Fail> {
+    let rows: [(&str, u64, Option<u64>, &str); 5] = [
+        ("a\n\nb", 0, None, "plain 610a62 0:0:0 4:2:1 4:2:1 false"),
+        (
+            "a\u{2028}b",
+            0,
+            None,
+            "plain 61e280a862 0:0:0 5:1:1 5:1:1 false",
+        ),
+        ("a\r\nb", 0, None, "plain 612062 0:0:0 4:1:1 4:1:1 false"),
+        (
+            "\"a\u{2028}\nb\"",
+            0,
+            None,
+            "double 61e280a80a62 0:0:0 8:2:2 8:2:2 false",
+        ),
+        (
+            "\"a\n\n  b\"",
+            0,
+            None,
+            "double 610a62 0:0:0 8:2:4 8:2:4 false",
+        ),
+    ];
+    expect_rows(&rt, rt.alloc(), &rows)
+}
+
+#[test]
+fn quoted_scalars(rt: HostRuntime) -> Result<(), Fail> {
+    let rows: [(&str, u64, Option<u64>, &str); 4] = [
+        (
+            "'it''s'",
+            0,
+            None,
+            "single 69742773 0:0:0 7:0:7 7:0:7 false",
+        ),
+        (
+            "\"a  b \t\n c\"",
+            0,
+            None,
+            "double 612020622063 0:0:0 11:1:3 11:1:3 false",
+        ),
+        (
+            "\"a\n--- b\"",
+            0,
+            None,
+            "while scanning a quoted scalar 0:0:0; found unexpected document indicator 3:1:0",
+        ),
+        (
+            "'a",
+            0,
+            None,
+            "while scanning a quoted scalar 0:0:0; found unexpected end of stream 2:0:2",
+        ),
+    ];
+    expect_rows(&rt, rt.alloc(), &rows)
+}
+
+#[test]
+fn escapes(rt: HostRuntime) -> Result<(), Fail> {
+    let rows: [(&str, u64, Option<u64>, &str); 8] = [
+        (
+            "\"a\\\n\n b\"",
+            0,
+            None,
+            "double 610a62 0:0:0 8:2:3 8:2:3 false",
+        ),
+        (
+            "\"a\\\n  b\"",
+            0,
+            None,
+            "double 6162 0:0:0 8:1:4 8:1:4 false",
+        ),
+        (
+            "\"a\\x41\\u00e9\"",
+            0,
+            None,
+            "double 6141c3a9 0:0:0 13:0:13 13:0:13 false",
+        ),
+        (
+            "\"\\q\"",
+            0,
+            None,
+            "while parsing a quoted scalar 0:0:0; found unknown escape character 1:0:1",
+        ),
+        (
+            "\"\\",
+            0,
+            None,
+            "while parsing a quoted scalar 0:0:0; found unknown escape character 1:0:1",
+        ),
+        (
+            "\"\\uD800\"",
+            0,
+            None,
+            "while parsing a quoted scalar 0:0:0; found invalid Unicode character escape code 3:0:3",
+        ),
+        (
+            "\"\\U00110000\"",
+            0,
+            None,
+            "while parsing a quoted scalar 0:0:0; found invalid Unicode character escape code 3:0:3",
+        ),
+        (
+            "\"\\x4g\"",
+            0,
+            None,
+            "while parsing a quoted scalar 0:0:0; did not find expected hexadecimal number 3:0:3",
+        ),
+    ];
+    expect_rows(&rt, rt.alloc(), &rows)
+}
+
+#[test]
+fn plain_scalars(rt: HostRuntime) -> Result<(), Fail> {
+    let rows: [(&str, u64, Option<u64>, &str); 7] = [
+        ("a b # c", 0, None, "plain 612062 0:0:0 3:0:3 4:0:4 false"),
+        ("a#b", 0, None, "plain 612362 0:0:0 3:0:3 3:0:3 false"),
+        ("a\nb", 0, Some(0), "plain 61 0:0:0 1:0:1 2:1:0 true"),
+        ("a\n--- b", 0, None, "plain 61 0:0:0 1:0:1 2:1:0 true"),
+        ("a:b", 1, None, "plain 613a62 0:0:0 3:0:3 3:0:3 false"),
+        (
+            "a :]",
+            1,
+            None,
+            "while scanning a plain scalar 0:0:0; found unexpected ':' 2:0:2",
+        ),
+        (
+            "a\n\tb",
+            1,
+            Some(0),
+            "while scanning a plain scalar 0:0:0; found a tab character that violates indentation 2:1:0",
+        ),
+    ];
+    expect_rows(&rt, rt.alloc(), &rows)
+}
+
+#[test]
+fn block_headers(rt: HostRuntime) -> Result<(), Fail> {
+    let rows: [(&str, u64, Option<u64>, &str); 5] = [
+        ("|", 0, None, "literal - 0:0:0 1:0:1 1:0:1 false"),
+        ("|#c\n a\n", 0, None, "literal 610a 0:0:0 7:2:0 7:2:0 false"),
+        (
+            "|0",
+            0,
+            None,
+            "while scanning a block scalar 0:0:0; found an indentation indicator equal to 0 1:0:1",
+        ),
+        (
+            "|+0",
+            0,
+            None,
+            "while scanning a block scalar 0:0:0; found an indentation indicator equal to 0 2:0:2",
+        ),
+        (
+            "|2x",
+            0,
+            None,
+            "while scanning a block scalar 0:0:0; did not find expected comment or line break 2:0:2",
+        ),
+    ];
+    expect_rows(&rt, rt.alloc(), &rows)
+}
+
+#[test]
+fn block_indentation(rt: HostRuntime) -> Result<(), Fail> {
+    let rows: [(&str, u64, Option<u64>, &str); 5] = [
+        ("|2\n  a", 0, Some(1), "literal - 0:0:0 3:1:0 5:1:2 false"),
+        ("|\n a\n ", 0, None, "literal 610a 0:0:0 5:2:0 6:2:1 false"),
+        (
+            "|\n a\n   \n b\n",
+            0,
+            None,
+            "literal 610a20200a620a 0:0:0 12:4:0 12:4:0 false",
+        ),
+        (
+            "|\n\ta",
+            0,
+            None,
+            "while scanning a block scalar 0:0:0; found a tab character where an indentation space is expected 2:1:0",
+        ),
+        ("|\n   \n a", 0, None, "literal - 0:0:0 6:2:0 7:2:1 false"),
+    ];
+    expect_rows(&rt, rt.alloc(), &rows)
+}
+
+#[test]
+fn block_values(rt: HostRuntime) -> Result<(), Fail> {
+    let rows: [(&str, u64, Option<u64>, &str); 6] = [
+        (
+            "|-\n a\n\n b\n\n",
+            0,
+            None,
+            "literal 610a0a62 0:0:0 11:5:0 11:5:0 false",
+        ),
+        (
+            ">\n a\n b\n",
+            0,
+            None,
+            "folded 6120620a 0:0:0 8:3:0 8:3:0 false",
+        ),
+        (
+            ">\n a\n  b\n c\n",
+            0,
+            None,
+            "folded 610a20620a630a 0:0:0 12:4:0 12:4:0 false",
+        ),
+        (
+            ">\n\n a\n",
+            0,
+            None,
+            "folded 0a610a 0:0:0 6:3:0 6:3:0 false",
+        ),
+        (
+            ">-\n a\n\n b\n",
+            0,
+            None,
+            "folded 610a62 0:0:0 10:4:0 10:4:0 false",
+        ),
+        (
+            "|+\n a\n\n",
+            0,
+            None,
+            "literal 610a0a 0:0:0 7:3:0 7:3:0 false",
+        ),
+    ];
+    expect_rows(&rt, rt.alloc(), &rows)
+}
+
+/// Anchors and aliases.
+#[test]
+fn names(rt: HostRuntime) -> Result<(), Fail> {
+    let rows: [(&str, u64, Option<u64>, &str); 4] = [
+        ("&a]", 0, None, "anchor 61 0:0:0 2:0:2 2:0:2 false"),
+        ("*a]", 0, None, "alias 61 0:0:0 2:0:2 2:0:2 false"),
         (
             "&",
             0,
@@ -219,24 +512,15 @@ fn offences_of_names_and_tags(rt: HostRuntime) -> Result<(), Fail> {
             None,
             "while scanning an alias 0:0:0; did not find expected alphabetic or numeric character 2:0:2",
         ),
-        (
-            "!<x",
-            0,
-            None,
-            "while scanning a tag 0:0:0; did not find the expected '>' 3:0:3",
-        ),
-        (
-            "!<>",
-            0,
-            None,
-            "while parsing a tag 0:0:0; did not find expected tag URI 2:0:2",
-        ),
-        (
-            "!!",
-            0,
-            None,
-            "while parsing a tag 0:0:0; did not find expected tag URI 2:0:2",
-        ),
+    ];
+    expect_rows(&rt, rt.alloc(), &rows)
+}
+
+#[test]
+fn uris(rt: HostRuntime) -> Result<(), Fail> {
+    let rows: [(&str, u64, Option<u64>, &str); 6] = [
+        ("!%00 x", 0, None, "tag 21 00 0:0:0 4:0:4 4:0:4 false"),
+        ("!%C0%80 x", 0, None, "tag 21 c080 0:0:0 7:0:7 7:0:7 false"),
         (
             "!a%4",
             0,
@@ -261,6 +545,44 @@ fn offences_of_names_and_tags(rt: HostRuntime) -> Result<(), Fail> {
             None,
             "while parsing a tag 0:0:0; did not find URI escaped octet 4:0:4",
         ),
+    ];
+    expect_rows(&rt, rt.alloc(), &rows)
+}
+
+#[test]
+fn tags(rt: HostRuntime) -> Result<(), Fail> {
+    let rows: [(&str, u64, Option<u64>, &str); 7] = [
+        ("! x", 0, None, "tag - 21 0:0:0 1:0:1 1:0:1 false"),
+        (
+            "!!str x",
+            0,
+            None,
+            "tag 2121 737472 0:0:0 5:0:5 5:0:5 false",
+        ),
+        (
+            "!<tag:x,2000:y> z",
+            0,
+            None,
+            "tag - 7461673a782c323030303a79 0:0:0 15:0:15 15:0:15 false",
+        ),
+        (
+            "!<x",
+            0,
+            None,
+            "while scanning a tag 0:0:0; did not find the expected '>' 3:0:3",
+        ),
+        (
+            "!<>",
+            0,
+            None,
+            "while parsing a tag 0:0:0; did not find expected tag URI 2:0:2",
+        ),
+        (
+            "!!",
+            0,
+            None,
+            "while parsing a tag 0:0:0; did not find expected tag URI 2:0:2",
+        ),
         (
             "!!str]",
             1,
@@ -268,16 +590,25 @@ fn offences_of_names_and_tags(rt: HostRuntime) -> Result<(), Fail> {
             "while scanning a tag 0:0:0; did not find expected whitespace or line break 5:0:5",
         ),
     ];
-    for (text, depth, level, want) in rows {
-        let shown = lexed(alloc, text.as_bytes(), depth, level)?;
-        assert_eq!(rt; shown.as_str(), want, "{text}");
-    }
-    Ok(())
+    expect_rows(&rt, rt.alloc(), &rows)
 }
 
 #[test]
-fn offences_of_directives(rt: HostRuntime) -> Result<(), Fail> {
-    let alloc = rt.alloc();
+fn directives(rt: HostRuntime) -> Result<(), Fail> {
+    let rows: [(&str, u64, Option<u64>, &str); 2] = [
+        (
+            "%YAML 1.1 # c\n",
+            0,
+            None,
+            "version 1 1 0:0:0 9:0:9 14:1:0 false",
+        ),
+        ("%TAG ! x", 0, None, "handle 21 78 0:0:0 8:0:8 8:0:8 false"),
+    ];
+    expect_rows(&rt, rt.alloc(), &rows)
+}
+
+#[test]
+fn directives_refused(rt: HostRuntime) -> Result<(), Fail> {
     let rows: [(&str, u64, Option<u64>, &str); 12] = [
         (
             "%",
@@ -352,293 +683,5 @@ fn offences_of_directives(rt: HostRuntime) -> Result<(), Fail> {
             "while scanning a %TAG directive 0:0:0; did not find expected whitespace or line break 10:0:10",
         ),
     ];
-    for (text, depth, level, want) in rows {
-        let shown = lexed(alloc, text.as_bytes(), depth, level)?;
-        assert_eq!(rt; shown.as_str(), want, "{text}");
-    }
-    Ok(())
-}
-
-#[test]
-fn plain_scalars(rt: HostRuntime) -> Result<(), Fail> {
-    let alloc = rt.alloc();
-    let rows: [(&str, u64, Option<u64>, &str); 10] = [
-        ("a b # c", 0, None, "plain 612062 0:0:0 3:0:3 4:0:4 false"),
-        ("a#b", 0, None, "plain 612362 0:0:0 3:0:3 3:0:3 false"),
-        ("a\n\nb", 0, None, "plain 610a62 0:0:0 4:2:1 4:2:1 false"),
-        ("a\nb", 0, Some(0), "plain 61 0:0:0 1:0:1 2:1:0 true"),
-        ("a\n--- b", 0, None, "plain 61 0:0:0 1:0:1 2:1:0 true"),
-        ("a:b", 1, None, "plain 613a62 0:0:0 3:0:3 3:0:3 false"),
-        (
-            "a :]",
-            1,
-            None,
-            "while scanning a plain scalar 0:0:0; found unexpected ':' 2:0:2",
-        ),
-        (
-            "a\n\tb",
-            1,
-            Some(0),
-            "while scanning a plain scalar 0:0:0; found a tab character that violates indentation 2:1:0",
-        ),
-        (
-            "a\u{2028}b",
-            0,
-            None,
-            "plain 61e280a862 0:0:0 5:1:1 5:1:1 false",
-        ),
-        ("a\r\nb", 0, None, "plain 612062 0:0:0 4:1:1 4:1:1 false"),
-    ];
-    for (text, depth, level, want) in rows {
-        let shown = lexed(alloc, text.as_bytes(), depth, level)?;
-        assert_eq!(rt; shown.as_str(), want, "{text}");
-    }
-    Ok(())
-}
-
-#[test]
-fn quoted_scalars(rt: HostRuntime) -> Result<(), Fail> {
-    let alloc = rt.alloc();
-    let rows: [(&str, u64, Option<u64>, &str); 14] = [
-        (
-            "\"a\\\n\n b\"",
-            0,
-            None,
-            "double 610a62 0:0:0 8:2:3 8:2:3 false",
-        ),
-        (
-            "\"a\u{2028}\nb\"",
-            0,
-            None,
-            "double 61e280a80a62 0:0:0 8:2:2 8:2:2 false",
-        ),
-        (
-            "\"a\n\n  b\"",
-            0,
-            None,
-            "double 610a62 0:0:0 8:2:4 8:2:4 false",
-        ),
-        (
-            "\"a\\\n  b\"",
-            0,
-            None,
-            "double 6162 0:0:0 8:1:4 8:1:4 false",
-        ),
-        (
-            "\"a\\x41\\u00e9\"",
-            0,
-            None,
-            "double 6141c3a9 0:0:0 13:0:13 13:0:13 false",
-        ),
-        (
-            "'it''s'",
-            0,
-            None,
-            "single 69742773 0:0:0 7:0:7 7:0:7 false",
-        ),
-        (
-            "\"a  b \t\n c\"",
-            0,
-            None,
-            "double 612020622063 0:0:0 11:1:3 11:1:3 false",
-        ),
-        (
-            "\"a\n--- b\"",
-            0,
-            None,
-            "while scanning a quoted scalar 0:0:0; found unexpected document indicator 3:1:0",
-        ),
-        (
-            "'a",
-            0,
-            None,
-            "while scanning a quoted scalar 0:0:0; found unexpected end of stream 2:0:2",
-        ),
-        (
-            "\"\\q\"",
-            0,
-            None,
-            "while parsing a quoted scalar 0:0:0; found unknown escape character 1:0:1",
-        ),
-        (
-            "\"\\",
-            0,
-            None,
-            "while parsing a quoted scalar 0:0:0; found unknown escape character 1:0:1",
-        ),
-        (
-            "\"\\uD800\"",
-            0,
-            None,
-            "while parsing a quoted scalar 0:0:0; found invalid Unicode character escape code 3:0:3",
-        ),
-        (
-            "\"\\U00110000\"",
-            0,
-            None,
-            "while parsing a quoted scalar 0:0:0; found invalid Unicode character escape code 3:0:3",
-        ),
-        (
-            "\"\\x4g\"",
-            0,
-            None,
-            "while parsing a quoted scalar 0:0:0; did not find expected hexadecimal number 3:0:3",
-        ),
-    ];
-    for (text, depth, level, want) in rows {
-        let shown = lexed(alloc, text.as_bytes(), depth, level)?;
-        assert_eq!(rt; shown.as_str(), want, "{text}");
-    }
-    Ok(())
-}
-
-#[test]
-fn block_scalars(rt: HostRuntime) -> Result<(), Fail> {
-    let alloc = rt.alloc();
-    let rows: [(&str, u64, Option<u64>, &str); 16] = [
-        ("|2\n  a", 0, Some(1), "literal - 0:0:0 3:1:0 5:1:2 false"),
-        ("|", 0, None, "literal - 0:0:0 1:0:1 1:0:1 false"),
-        ("|#c\n a\n", 0, None, "literal 610a 0:0:0 7:2:0 7:2:0 false"),
-        ("|\n a\n ", 0, None, "literal 610a 0:0:0 5:2:0 6:2:1 false"),
-        (
-            "|\n a\n   \n b\n",
-            0,
-            None,
-            "literal 610a20200a620a 0:0:0 12:4:0 12:4:0 false",
-        ),
-        (
-            "|-\n a\n\n b\n\n",
-            0,
-            None,
-            "literal 610a0a62 0:0:0 11:5:0 11:5:0 false",
-        ),
-        (
-            ">\n a\n b\n",
-            0,
-            None,
-            "folded 6120620a 0:0:0 8:3:0 8:3:0 false",
-        ),
-        (
-            ">\n a\n  b\n c\n",
-            0,
-            None,
-            "folded 610a20620a630a 0:0:0 12:4:0 12:4:0 false",
-        ),
-        (
-            ">\n\n a\n",
-            0,
-            None,
-            "folded 0a610a 0:0:0 6:3:0 6:3:0 false",
-        ),
-        (
-            "|0",
-            0,
-            None,
-            "while scanning a block scalar 0:0:0; found an indentation indicator equal to 0 1:0:1",
-        ),
-        (
-            "|+0",
-            0,
-            None,
-            "while scanning a block scalar 0:0:0; found an indentation indicator equal to 0 2:0:2",
-        ),
-        (
-            "|2x",
-            0,
-            None,
-            "while scanning a block scalar 0:0:0; did not find expected comment or line break 2:0:2",
-        ),
-        (
-            "|\n\ta",
-            0,
-            None,
-            "while scanning a block scalar 0:0:0; found a tab character where an indentation space is expected 2:1:0",
-        ),
-        ("|\n   \n a", 0, None, "literal - 0:0:0 6:2:0 7:2:1 false"),
-        (
-            ">-\n a\n\n b\n",
-            0,
-            None,
-            "folded 610a62 0:0:0 10:4:0 10:4:0 false",
-        ),
-        (
-            "|+\n a\n\n",
-            0,
-            None,
-            "literal 610a0a 0:0:0 7:3:0 7:3:0 false",
-        ),
-    ];
-    for (text, depth, level, want) in rows {
-        let shown = lexed(alloc, text.as_bytes(), depth, level)?;
-        assert_eq!(rt; shown.as_str(), want, "{text}");
-    }
-    Ok(())
-}
-
-#[test]
-fn one_character_and_markers(rt: HostRuntime) -> Result<(), Fail> {
-    let alloc = rt.alloc();
-    let rows: [(&str, u64, Option<u64>, &str); 12] = [
-        ("---\n", 1, None, "document start 0:0:0 3:0:3 3:0:3 false"),
-        ("... x", 0, None, "document end 0:0:0 3:0:3 3:0:3 false"),
-        ("[a", 0, None, "sequence start 0:0:0 1:0:1 1:0:1 false"),
-        ("]", 1, None, "sequence end 0:0:0 1:0:1 1:0:1 false"),
-        ("{a", 1, None, "mapping start 0:0:0 1:0:1 1:0:1 false"),
-        ("}", 0, None, "mapping end 0:0:0 1:0:1 1:0:1 false"),
-        (",", 1, None, "flow entry 0:0:0 1:0:1 1:0:1 false"),
-        ("- a", 0, Some(0), "block entry 0:0:0 1:0:1 1:0:1 false"),
-        ("? a", 0, None, "key 0:0:0 1:0:1 1:0:1 false"),
-        ("?a", 1, None, "key 0:0:0 1:0:1 1:0:1 false"),
-        (": a", 0, None, "value 0:0:0 1:0:1 1:0:1 false"),
-        (":a", 1, None, "value 0:0:0 1:0:1 1:0:1 false"),
-    ];
-    for (text, depth, level, want) in rows {
-        let shown = lexed(alloc, text.as_bytes(), depth, level)?;
-        assert_eq!(rt; shown.as_str(), want, "{text}");
-    }
-    Ok(())
-}
-
-#[test]
-fn a_directive_begins_a_line(rt: HostRuntime) -> Result<(), Fail> {
-    let alloc = rt.alloc();
-    let rows: [(&str, usize, Option<yaml_lexeme_kind_t>); 3] = [
-        (" %", 1, None),
-        ("\n%", 1, Some(yaml_lexeme_kind_t::DIRECTIVE)),
-        (" ---", 1, Some(yaml_lexeme_kind_t::PLAIN)),
-    ];
-    for (text, index, want) in rows {
-        let found = kind_behind(alloc, text.as_bytes(), index, false)?;
-        assert!(rt; found == want, "{text}");
-    }
-    Ok(())
-}
-
-#[test]
-fn gaps_and_kinds(rt: HostRuntime) -> Result<(), Fail> {
-    let alloc = rt.alloc();
-    let gaps: [(&str, bool, bool, &str); 5] = [
-        ("\t#c\n  x", false, false, "6:1:2 true"),
-        ("\t#c\n  x", false, true, "0:0:0 false"),
-        ("\n\tx", false, false, "1:1:0 true"),
-        ("\n\tx", true, false, "2:1:1 true"),
-        ("\n\u{FEFF} x", false, false, "5:1:2 true"),
-    ];
-    for (bytes, in_flow, allowed, want) in gaps {
-        let shown = show_gap(alloc, bytes.as_bytes(), in_flow, allowed)?;
-        assert_eq!(rt; shown.as_str(), want, "{bytes}");
-    }
-    let kinds: [(&str, bool, yaml_lexeme_kind_t); 6] = [
-        ("-x", false, yaml_lexeme_kind_t::PLAIN),
-        ("-", false, yaml_lexeme_kind_t::BLOCK_ENTRY),
-        ("---x", false, yaml_lexeme_kind_t::PLAIN),
-        ("---", false, yaml_lexeme_kind_t::DOCUMENT_START),
-        ("?x", false, yaml_lexeme_kind_t::PLAIN),
-        ("?x", true, yaml_lexeme_kind_t::KEY),
-    ];
-    for (bytes, in_flow, want) in kinds {
-        let found = kind_of(alloc, bytes.as_bytes(), in_flow)?;
-        assert!(rt; found == Some(want), "{bytes}");
-    }
-    Ok(())
+    expect_rows(&rt, rt.alloc(), &rows)
 }

@@ -3,7 +3,8 @@ ghost use Rattle.std.specs.Prelude.{◌≡◌, ◌++◌, ◌∷◌, [], ◌<◌,
 ghost use Rattle.yaml_lexeme.specs.Uri as spec;
 ghost use Rattle.yaml_lexeme.specs.Gives.{Gives, Takes, Appends, OctetIs};
 
-use crate::cursor::{check_at, cursor_t, is_alpha};
+use crate::classes::is_alpha;
+use crate::place::{check_at, cursor_t};
 use crate::problem::{problem_t, refusal_t};
 use std::alloc::{AllocError, Global};
 
@@ -90,7 +91,7 @@ fn take_next_octets(cursor: &mut cursor_t, n: usize, out: &mut Vec<u8>) -> Resul
 }
 
 /// Takes the octets that spell a character, and appends them to `out`.
-fn take_escape(cursor: &mut cursor_t, out: &mut Vec<u8>) -> Result<(), refusal_t>
+fn take_uri_escape(cursor: &mut cursor_t, out: &mut Vec<u8>) -> Result<(), refusal_t>
     ensures { Appends (λ cs. cs) result out.old.items out.new.items cursor.new (spec.uri_escape cursor.old) }
 {
     let lead = octet_at(cursor)?;
@@ -106,11 +107,12 @@ fn take_escape(cursor: &mut cursor_t, out: &mut Vec<u8>) -> Result<(), refusal_t
 /// Takes a character of a uri, or an escape, and appends it to `out`. The flag is false if the uri is over.
 #[tactic(auto, unfolding(crate::specs::Uri::uri_part))]
 fn take_uri_part(cursor: &mut cursor_t, listed: bool, out: &mut Vec<u8>) -> Result<bool, refusal_t>
-    ensures { Takes (λ cs. cs) result out.old.items out.new.items cursor.old cursor.new (spec.uri_part listed cursor.old) }
+    ensures { Takes (λ cs. cs) result out.old.items out.new.items cursor.old cursor.new
+        (spec.uri_part listed cursor.old) }
 {
     let c = cursor.peek(0);
     if c == '%' {
-        take_escape(cursor, out)?;
+        take_uri_escape(cursor, out)?;
         return Ok(true);
     }
     if !is_uri(listed, c) {

@@ -7,7 +7,7 @@ use Rattle.yaml_lexeme.specs.Reading as lexemes
 use Rattle.yaml_lexeme.specs.Gap.{gap}
 use Rattle.yaml_lexeme.specs.Kind.{kind_at}
 use Rattle.yaml_lexeme.specs.Lex.{lex}
-use Rattle.yaml_lexeme.specs.Texts.{problem_text, context_text}
+use Rattle.yaml_lexeme.specs.FaultTexts.{problem_text, context_text}
 use Rattle.yaml_scan.specs.Kind.{Kind}
 use Rattle.yaml_scan.specs.Source.{Source, Reading, Offence}
 

@@ -1,13 +1,8 @@
-pub mod Spelling
-pub mod Fronts
-pub mod ClassLaws
-pub mod Places
-pub mod Indexes
-pub mod Starts
-pub mod Units
-pub mod Readings
+-- How characters are spelled, and their classes.
+pub mod Characters
+-- What an input decodes to.
 pub mod Decodings
-pub mod Running
-pub mod Lanes
-pub mod Vectors
-pub mod Singles
+-- Marks, and the places that have them.
+pub mod Marks
+-- Many bytes at a time.
+pub mod ManyBytes

@@ -8,7 +8,9 @@ is_within lo hi c = nat_le lo c && nat_le c hi
 
 -- The characters that a text may hold.
 unfoldable pub is_char : ℕ → Bool
-is_char c = is_within 0x20 0x7E c || (c == 9 || (c == 10 || (c == 13 || (c == 0x85 || (is_within 0xA0 0xD7FF c || (is_within 0xE000 0xFFFD c || is_within 0x10000 0x10FFFF c))))))
+is_char c =
+    is_within 0x20 0x7E c || (c == 9 || (c == 10 || (c == 13 || (c == 0x85
+    || (is_within 0xA0 0xD7FF c || (is_within 0xE000 0xFFFD c || is_within 0x10000 0x10FFFF c))))))
 
 abbrev pub IsChar : ℕ → Type 0
 IsChar c = IsTrue (is_char c)

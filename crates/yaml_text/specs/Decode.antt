@@ -1,8 +1,11 @@
 -- Decoding: the characters that an input spells, or what is wrong after them (YAML 1.1, sections 5.1 and 5.2).
-use Rattle.std.specs.Prelude.{ℕ, zero, suc, ◌≡◌, ◌+◌, ◌<◌, ◌≤◌, ◌⊎◌, Bool, ◌&&◌, ◌==◌, slice_index, if◌then◌else◌, List, [], ◌∷◌, ◌++◌, length, take, drop, encode_utf8, Option, Some, None, Result, Ok, Err, option_map, false, true}
+use Rattle.std.specs.Prelude.{ℕ, zero, suc, ◌≡◌, ◌+◌, ◌<◌, ◌≤◌, ◌⊎◌, Bool, ◌&&◌, ◌==◌, slice_index, if◌then◌else◌}
+use Rattle.std.specs.Prelude.{List, [], ◌∷◌, ◌++◌, length, take, drop, encode_utf8, Option, Some, None, Result, Ok}
+use Rattle.std.specs.Prelude.{Err, option_map, false, true}
 use Rattle.std.specs.Str.{bytes_eq}
 use Rattle.yaml_text.specs.declared.types.yaml_encoding_t.{yaml_encoding_t}
-use Rattle.yaml_text.specs.declared.types.yaml_encoding_t.TheVariants.{YAML_ANY_ENCODING, YAML_UTF8_ENCODING, YAML_UTF16LE_ENCODING, YAML_UTF16BE_ENCODING}
+use Rattle.yaml_text.specs.declared.types.yaml_encoding_t.TheVariants.{YAML_ANY_ENCODING, YAML_UTF8_ENCODING}
+use Rattle.yaml_text.specs.declared.types.yaml_encoding_t.TheVariants.{YAML_UTF16LE_ENCODING, YAML_UTF16BE_ENCODING}
 use Rattle.yaml_text.specs.declared.fault.yaml_fault_t.{yaml_fault_t}
 use Rattle.yaml_text.specs.declared.offence.offence_t.{offence_t}
 use Rattle.yaml_text.specs.Chars.{is_char, IsChar, AreChars, utf8}
@@ -74,14 +77,21 @@ begins_with a b bytes = slice_index bytes 0 == a && slice_index bytes 1 == b
 
 -- The encoding that is set; if none is, the one of the byte order mark at the beginning; without one it is UTF-8.
 abbrev pub encoding_of : yaml_encoding_t → List ℕ → yaml_encoding_t
-encoding_of YAML_ANY_ENCODING input = if begins_with 0xFF 0xFE input then YAML_UTF16LE_ENCODING else if begins_with 0xFE 0xFF input then YAML_UTF16BE_ENCODING else YAML_UTF8_ENCODING
+encoding_of YAML_ANY_ENCODING input =
+    if begins_with 0xFF 0xFE input then YAML_UTF16LE_ENCODING
+    else if begins_with 0xFE 0xFF input then YAML_UTF16BE_ENCODING
+    else YAML_UTF8_ENCODING
 encoding_of YAML_UTF8_ENCODING input = YAML_UTF8_ENCODING
 encoding_of YAML_UTF16LE_ENCODING input = YAML_UTF16LE_ENCODING
 encoding_of YAML_UTF16BE_ENCODING input = YAML_UTF16BE_ENCODING
 
 -- How many bytes of a byte order mark are dropped: none if an encoding is set.
 abbrev pub dropped : yaml_encoding_t → List ℕ → ℕ
-dropped YAML_ANY_ENCODING input = if begins_with 0xFF 0xFE input then 2 else if begins_with 0xFE 0xFF input then 2 else if begins_with 0xEF 0xBB input && slice_index input 2 == 0xBF then 3 else 0
+dropped YAML_ANY_ENCODING input =
+    if begins_with 0xFF 0xFE input then 2
+    else if begins_with 0xFE 0xFF input then 2
+    else if begins_with 0xEF 0xBB input && slice_index input 2 == 0xBF then 3
+    else 0
 dropped YAML_UTF8_ENCODING input = 0
 dropped YAML_UTF16LE_ENCODING input = 0
 dropped YAML_UTF16BE_ENCODING input = 0
@@ -98,11 +108,15 @@ offence YAML_UTF16BE_ENCODING bytes = offence16 true bytes
 
 -- The front of an input, as a text.
 unfoldable pub front : yaml_encoding_t → List ℕ → Text
-front setting input = record { encoding = encoding_of setting input; chars = front_of (encoding_of setting input) (length (behind_mark setting input)) (behind_mark setting input) }
+front setting input = record {
+  encoding = encoding_of setting input;
+  chars = front_of (encoding_of setting input) (length (behind_mark setting input)) (behind_mark setting input);
+}
 
 -- How many bytes of the input the byte order mark and the front take.
 abbrev pub front_len : yaml_encoding_t → List ℕ → ℕ
-front_len setting input = dropped setting input + length (spelled (encoding_of setting input) (front setting input).chars)
+front_len setting input =
+    dropped setting input + length (spelled (encoding_of setting input) (front setting input).chars)
 
 abbrev pub refusal_of : yaml_encoding_t → ℕ → List ℕ → Option Fault
 refusal_of e before [] = None
@@ -110,7 +124,8 @@ refusal_of e before (b ∷ bytes) = Some (reader_fault before (offence e (b ∷ 
 
 -- The fault of what follows the front, if anything does.
 unfoldable pub refusal : yaml_encoding_t → List ℕ → Option Fault
-refusal setting input = refusal_of (encoding_of setting input) (front_len setting input) (drop (front_len setting input) input)
+refusal setting input =
+    refusal_of (encoding_of setting input) (front_len setting input) (drop (front_len setting input) input)
 
 abbrev pub unless_refused : Option Fault → Text → Result Text Fault
 unless_refused None text = Ok text
@@ -122,7 +137,8 @@ decoded setting input = unless_refused (refusal setting input) (front setting in
 
 -- A text and a fault: the front of these bytes, and what is wrong with the rest, if so many bytes of the input were
 -- dropped before them.
-pub record Fronts (e : yaml_encoding_t) (before : ℕ) (bytes : List ℕ) (text : Text) (fault : Option Fault) : Type 0 where
+pub record Fronts
+    (e : yaml_encoding_t) (before : ℕ) (bytes : List ℕ) (text : Text) (fault : Option Fault) : Type 0 where
   pub rest : List ℕ
   pub encoding : text.encoding ≡ e
   pub front : IsFront e bytes text.chars rest
@@ -135,7 +151,9 @@ pub record IsFrontOf (setting : yaml_encoding_t) (input : List ℕ) (text : Text
   pub each : AreChars text.chars
   pub rest : List ℕ
   pub begins : behind_mark setting input ≡ spelled text.encoding text.chars ++ rest
-  pub longest : (cs more : List ℕ) → AreChars cs → behind_mark setting input ≡ spelled text.encoding cs ++ more → length cs ≤ length text.chars
+  pub longest : (cs more : List ℕ) → AreChars cs
+      → behind_mark setting input ≡ spelled text.encoding cs ++ more
+      → length cs ≤ length text.chars
 
 -- The input spells the text.
 pub record Spells (setting : yaml_encoding_t) (input : List ℕ) (text : Text) : Type 0 where
@@ -149,7 +167,9 @@ pub record IsRefused (setting : yaml_encoding_t) (input : List ℕ) (fault : Fau
   pub rest : List ℕ
   pub front : IsFront (encoding_of setting input) (behind_mark setting input) chars rest
   pub left : 0 < length rest
-  pub fault_is : fault ≡ reader_fault (dropped setting input + length (spelled (encoding_of setting input) chars)) (offence (encoding_of setting input) rest)
+  pub fault_is : fault ≡ reader_fault
+      (dropped setting input + length (spelled (encoding_of setting input) chars))
+      (offence (encoding_of setting input) rest)
 
 -- A fault of the code, if there is one, as the definitions see it.
 abbrev pub refusal_seen : Option yaml_fault_t → Option Fault

@@ -2,7 +2,8 @@
 use Rattle.std.specs.Prelude.{ℕ, ◌+◌, ℤ, pos, List, Option, Some, None}
 use Rattle.std.specs.Option.{option_copied}
 use Rattle.yaml_text.specs.declared.types.yaml_error_type_t.{yaml_error_type_t}
-use Rattle.yaml_text.specs.declared.types.yaml_error_type_t.TheVariants.{YAML_READER_ERROR, YAML_MEMORY_ERROR, YAML_SCANNER_ERROR}
+use Rattle.yaml_text.specs.declared.types.yaml_error_type_t.TheVariants.{YAML_READER_ERROR, YAML_MEMORY_ERROR}
+use Rattle.yaml_text.specs.declared.types.yaml_error_type_t.TheVariants.{YAML_SCANNER_ERROR}
 use Rattle.yaml_text.specs.declared.types.yaml_mark_t.{yaml_mark_t}
 use Rattle.yaml_text.specs.declared.fault.yaml_fault_t.{yaml_fault_t}
 use Rattle.yaml_text.specs.declared.offence.offence_t.{offence_t}
@@ -19,19 +20,51 @@ pub record Fault : Type 0 where
 
 -- A fault of the code, as the definitions see it.
 abbrev pub fault_of : yaml_fault_t → Fault
-fault_of e = record { error = e.error; problem = option_copied e.problem; offset = e.problem_offset; value = e.problem_value; problem_mark = e.problem_mark; context = option_copied e.context; context_mark = e.context_mark }
+fault_of e = record {
+  error = e.error;
+  problem = option_copied e.problem;
+  offset = e.problem_offset;
+  value = e.problem_value;
+  problem_mark = e.problem_mark;
+  context = option_copied e.context;
+  context_mark = e.context_mark;
+}
 
 abbrev pub zero_mark : yaml_mark_t
 zero_mark = record { index = 0; line = 0; column = 0 }
 
 -- Memory was refused.
 abbrev pub memory_fault : Fault
-memory_fault = record { error = YAML_MEMORY_ERROR; problem = None; offset = 0; value = pos 0; problem_mark = zero_mark; context = None; context_mark = zero_mark }
+memory_fault = record {
+  error = YAML_MEMORY_ERROR;
+  problem = None;
+  offset = 0;
+  value = pos 0;
+  problem_mark = zero_mark;
+  context = None;
+  context_mark = zero_mark;
+}
 
 -- The fault of an offence after so many bytes of the input.
 abbrev pub reader_fault : ℕ → offence_t → Fault
-reader_fault before o = record { error = YAML_READER_ERROR; problem = Some (problem_text o.problem); offset = before + o.offset; value = o.value; problem_mark = zero_mark; context = None; context_mark = zero_mark }
+reader_fault before o = record {
+  error = YAML_READER_ERROR;
+  problem = Some (problem_text o.problem);
+  offset = before + o.offset;
+  value = o.value;
+  problem_mark = zero_mark;
+  context = None;
+  context_mark = zero_mark;
+}
 
 -- A problem at a mark, with a context at another.
 abbrev pub scanner_fault : List ℕ → yaml_mark_t → Option (List ℕ) → yaml_mark_t → Fault
-scanner_fault problem problem_mark context context_mark = record { error = YAML_SCANNER_ERROR; problem = Some problem; offset = 0; value = pos 0; problem_mark = problem_mark; context = context; context_mark = context_mark }
+scanner_fault problem problem_mark context context_mark = record {
+  error = YAML_SCANNER_ERROR;
+  problem = Some problem;
+  offset = 0;
+  value = pos 0;
+  problem_mark = problem_mark;
+  context = context;
+  context_mark = context_mark;
+}

@@ -1,6 +1,7 @@
 -- Marks: how far into a text a place is, and in which line and column (YAML 1.1, section 5.4).
 use Rattle.std.specs.Char.{len_utf8}
-use Rattle.std.specs.Prelude.{ℕ, zero, suc, ◌≡◌, ◌+◌, ◌-◌, ◌≤◌, Bool, false, ◌&&◌, not, nat_le, nat_lt, List, [], ◌∷◌, ◌++◌, length, take, drop, reverse, slice_index, if◌then◌else◌}
+use Rattle.std.specs.Prelude.{ℕ, zero, suc, ◌≡◌, ◌+◌, ◌-◌, ◌≤◌, Bool, false, ◌&&◌, not, nat_le, nat_lt, List, []}
+use Rattle.std.specs.Prelude.{◌∷◌, ◌++◌, length, take, drop, reverse, slice_index, if◌then◌else◌}
 use Rattle.std.specs.List.{prefix_len}
 use Rattle.yaml_text.specs.Chars.{utf8, IsText}
 use Rattle.yaml_text.specs.Classes.{is_break, is_crlf, is_crlf_at}
@@ -30,7 +31,9 @@ mark_of before = record { index = length (utf8 before); line = breaks before; co
 
 -- The mark after one character c more, which the characters `after` follow.
 abbrev pub mark_behind : yaml_mark_t → ℕ → List ℕ → yaml_mark_t
-mark_behind m c after = if ends_break c after then record { index = m.index + len_utf8 c; line = m.line + 1; column = 0 } else record { index = m.index + len_utf8 c; line = m.line; column = m.column + 1 }
+mark_behind m c after =
+    if ends_break c after then record { index = m.index + len_utf8 c; line = m.line + 1; column = 0 }
+    else record { index = m.index + len_utf8 c; line = m.line; column = m.column + 1 }
 
 -- The mark after n characters more, moved character by character.
 abbrev pub mark_on : ℕ → yaml_mark_t → List ℕ → yaml_mark_t
@@ -86,7 +89,9 @@ mark_at text p = mark_of (take p text)
 
 -- the same by the bytes: the index is not within a character or a CR LF
 abbrev pub is_place_by : List ℕ → ℕ → Bool
-is_place_by bytes index = (nat_le index (length bytes) && not (continues (slice_index bytes index))) && not (nat_lt 0 index && is_crlf_at bytes (index - 1))
+is_place_by bytes index =
+    (nat_le index (length bytes) && not (continues (slice_index bytes index)))
+    && not (nat_lt 0 index && is_crlf_at bytes (index - 1))
 
 -- The characters cs are between the mark and the place.
 pub record IsSince (mark : yaml_mark_t) (at : At) (cs : List ℕ) : Type 0 where

@@ -1,7 +1,8 @@
 -- What can be wrong with the bytes of a character.
 use Rattle.std.specs.Prelude.{ℕ, ℤ, List, codes}
 use Rattle.yaml_text.specs.declared.offence.problem_t.{problem_t}
-use Rattle.yaml_text.specs.declared.offence.problem_t.TheVariants.{LEAD, SHORT, TRAIL, LENGTH, VALUE, CONTROL, HALF_UNIT, LOW_UNIT, HALF_PAIR, NO_LOW_UNIT}
+use Rattle.yaml_text.specs.declared.offence.problem_t.TheVariants.{LEAD, SHORT, TRAIL, LENGTH, VALUE, CONTROL}
+use Rattle.yaml_text.specs.declared.offence.problem_t.TheVariants.{HALF_UNIT, LOW_UNIT, HALF_PAIR, NO_LOW_UNIT}
 use Rattle.yaml_text.specs.declared.offence.offence_t.{offence_t}
 
 -- A problem, so many bytes on, with a value to show.

@@ -4,7 +4,7 @@ use Rattle.yaml_text.specs.declared.types.yaml_mark_t.{yaml_mark_t}
 use Rattle.yaml_text.specs.declared.types.yaml_encoding_t.{yaml_encoding_t}
 use Rattle.yaml_text.specs.declared.types.yaml_scalar_style_t.{yaml_scalar_style_t}
 use Rattle.yaml_text.specs.declared.types.yaml_token_type_t.{yaml_token_type_t}
-use Rattle.yaml_text.specs.declared.types.yaml_token_type_t.TheVariants.{YAML_NO_TOKEN, YAML_STREAM_START_TOKEN, YAML_STREAM_END_TOKEN, YAML_VERSION_DIRECTIVE_TOKEN, YAML_TAG_DIRECTIVE_TOKEN, YAML_DOCUMENT_START_TOKEN, YAML_DOCUMENT_END_TOKEN, YAML_BLOCK_SEQUENCE_START_TOKEN, YAML_BLOCK_MAPPING_START_TOKEN, YAML_BLOCK_END_TOKEN, YAML_FLOW_SEQUENCE_START_TOKEN, YAML_FLOW_SEQUENCE_END_TOKEN, YAML_FLOW_MAPPING_START_TOKEN, YAML_FLOW_MAPPING_END_TOKEN, YAML_BLOCK_ENTRY_TOKEN, YAML_FLOW_ENTRY_TOKEN, YAML_KEY_TOKEN, YAML_VALUE_TOKEN, YAML_ALIAS_TOKEN, YAML_ANCHOR_TOKEN, YAML_TAG_TOKEN, YAML_SCALAR_TOKEN}
+use Rattle.yaml_text.specs.declared.types.yaml_token_type_t.TheVariants as types
 use Rattle.yaml_text.specs.declared.token.unnamed_yaml_token_t_data.{unnamed_yaml_token_t_data}
 use Rattle.yaml_text.specs.declared.token.unnamed_yaml_token_t_data.TheVariants as code
 use Rattle.yaml_text.specs.declared.token.yaml_token_t.{yaml_token_t}
@@ -75,28 +75,28 @@ token_of token = record {
 
 -- The type of what a token says.
 abbrev pub type_of : TokenData → yaml_token_type_t
-type_of NO_TOKEN = YAML_NO_TOKEN
-type_of (STREAM_START encoding) = YAML_STREAM_START_TOKEN
-type_of STREAM_END = YAML_STREAM_END_TOKEN
-type_of (VERSION_DIRECTIVE major minor) = YAML_VERSION_DIRECTIVE_TOKEN
-type_of (TAG_DIRECTIVE handle prefix) = YAML_TAG_DIRECTIVE_TOKEN
-type_of DOCUMENT_START = YAML_DOCUMENT_START_TOKEN
-type_of DOCUMENT_END = YAML_DOCUMENT_END_TOKEN
-type_of BLOCK_SEQUENCE_START = YAML_BLOCK_SEQUENCE_START_TOKEN
-type_of BLOCK_MAPPING_START = YAML_BLOCK_MAPPING_START_TOKEN
-type_of BLOCK_END = YAML_BLOCK_END_TOKEN
-type_of FLOW_SEQUENCE_START = YAML_FLOW_SEQUENCE_START_TOKEN
-type_of FLOW_SEQUENCE_END = YAML_FLOW_SEQUENCE_END_TOKEN
-type_of FLOW_MAPPING_START = YAML_FLOW_MAPPING_START_TOKEN
-type_of FLOW_MAPPING_END = YAML_FLOW_MAPPING_END_TOKEN
-type_of BLOCK_ENTRY = YAML_BLOCK_ENTRY_TOKEN
-type_of FLOW_ENTRY = YAML_FLOW_ENTRY_TOKEN
-type_of KEY = YAML_KEY_TOKEN
-type_of VALUE = YAML_VALUE_TOKEN
-type_of (ALIAS value) = YAML_ALIAS_TOKEN
-type_of (ANCHOR value) = YAML_ANCHOR_TOKEN
-type_of (TAG handle suffix) = YAML_TAG_TOKEN
-type_of (SCALAR value style) = YAML_SCALAR_TOKEN
+type_of NO_TOKEN = types.YAML_NO_TOKEN
+type_of (STREAM_START encoding) = types.YAML_STREAM_START_TOKEN
+type_of STREAM_END = types.YAML_STREAM_END_TOKEN
+type_of (VERSION_DIRECTIVE major minor) = types.YAML_VERSION_DIRECTIVE_TOKEN
+type_of (TAG_DIRECTIVE handle prefix) = types.YAML_TAG_DIRECTIVE_TOKEN
+type_of DOCUMENT_START = types.YAML_DOCUMENT_START_TOKEN
+type_of DOCUMENT_END = types.YAML_DOCUMENT_END_TOKEN
+type_of BLOCK_SEQUENCE_START = types.YAML_BLOCK_SEQUENCE_START_TOKEN
+type_of BLOCK_MAPPING_START = types.YAML_BLOCK_MAPPING_START_TOKEN
+type_of BLOCK_END = types.YAML_BLOCK_END_TOKEN
+type_of FLOW_SEQUENCE_START = types.YAML_FLOW_SEQUENCE_START_TOKEN
+type_of FLOW_SEQUENCE_END = types.YAML_FLOW_SEQUENCE_END_TOKEN
+type_of FLOW_MAPPING_START = types.YAML_FLOW_MAPPING_START_TOKEN
+type_of FLOW_MAPPING_END = types.YAML_FLOW_MAPPING_END_TOKEN
+type_of BLOCK_ENTRY = types.YAML_BLOCK_ENTRY_TOKEN
+type_of FLOW_ENTRY = types.YAML_FLOW_ENTRY_TOKEN
+type_of KEY = types.YAML_KEY_TOKEN
+type_of VALUE = types.YAML_VALUE_TOKEN
+type_of (ALIAS value) = types.YAML_ALIAS_TOKEN
+type_of (ANCHOR value) = types.YAML_ANCHOR_TOKEN
+type_of (TAG handle suffix) = types.YAML_TAG_TOKEN
+type_of (SCALAR value style) = types.YAML_SCALAR_TOKEN
 
 -- The length of a scalar's value, in bytes.
 abbrev pub length_of : TokenData → ℕ

@@ -1,5 +1,6 @@
 -- UTF-16: units of two bytes, and pairs of units (surrogates).
-use Rattle.std.specs.Prelude.{ℕ, ◌≡◌, ◌+◌, ◌-◌, ◌*◌, ◌/◌, ◌%◌, ◌≤◌, pos, negsuc, Bool, ◌&&◌, nat_lt, not, if◌then◌else◌, List, [], ◌∷◌, ◌++◌, length, take, slice_index}
+use Rattle.std.specs.Prelude.{ℕ, ◌≡◌, ◌+◌, ◌-◌, ◌*◌, ◌/◌, ◌%◌, ◌≤◌, pos, negsuc, Bool, ◌&&◌, nat_lt, not}
+use Rattle.std.specs.Prelude.{if◌then◌else◌, List, [], ◌∷◌, ◌++◌, length, take, slice_index}
 use Rattle.std.specs.List.{flat_map}
 use Rattle.std.specs.Str.{chars}
 use Rattle.yaml_text.specs.Chars.{is_within, IsChar, IsText}
@@ -13,7 +14,9 @@ unit big u = if big then (u / 256) ∷ (u % 256) ∷ [] else (u % 256) ∷ (u / 
 
 -- The unit, or the pair of units, of a character.
 unfoldable pub spelling16 : Bool → ℕ → List ℕ
-spelling16 big c = if nat_lt c 0x10000 then unit big c else unit big (0xD800 + (c - 0x10000) / 1024) ++ unit big (0xDC00 + (c - 0x10000) % 1024)
+spelling16 big c =
+    if nat_lt c 0x10000 then unit big c
+    else unit big (0xD800 + (c - 0x10000) / 1024) ++ unit big (0xDC00 + (c - 0x10000) % 1024)
 
 -- The UTF-16 of these characters.
 abbrev pub utf16 : Bool → List ℕ → List ℕ
@@ -40,7 +43,9 @@ pair_of u v = 0x10000 + (u - 0xD800) * 1024 + (v - 0xDC00)
 
 -- The value that the first unit or pair has.
 unfoldable pub value16 : Bool → List ℕ → ℕ
-value16 big bytes = if is_high (unit_at big bytes 0) then pair_of (unit_at big bytes 0) (unit_at big bytes 2) else unit_at big bytes 0
+value16 big bytes =
+    if is_high (unit_at big bytes 0) then pair_of (unit_at big bytes 0) (unit_at big bytes 2)
+    else unit_at big bytes 0
 
 -- What is wrong with bytes that begin with no character: the first row that fits.
 unfoldable pub offence16 : Bool → List ℕ → offence_t

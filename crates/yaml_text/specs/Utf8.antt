@@ -1,5 +1,6 @@
 -- UTF-8: octets of which the first says how many follow. How a character is spelled is std's `encode_utf8`.
-use Rattle.std.specs.Prelude.{ℕ, ◌+◌, ◌*◌, ◌%◌, pos, negsuc, Bool, ◌&&◌, ◌||◌, nat_lt, ◌==◌, not, if◌then◌else◌, List, length, slice_index}
+use Rattle.std.specs.Prelude.{ℕ, ◌+◌, ◌*◌, ◌%◌, pos, negsuc, Bool, ◌&&◌, ◌||◌, nat_lt, ◌==◌, not, if◌then◌else◌}
+use Rattle.std.specs.Prelude.{List, length, slice_index}
 use Rattle.yaml_text.specs.Chars.{is_within}
 use Rattle.yaml_text.specs.Offence.{offence_at}
 use Rattle.yaml_text.specs.declared.offence.problem_t.TheVariants.{LEAD, SHORT, TRAIL, LENGTH, VALUE, CONTROL}
@@ -7,7 +8,13 @@ use Rattle.yaml_text.specs.declared.offence.offence_t.{offence_t}
 
 -- How many octets a character that begins with this one takes, and 0 if none begins with it.
 abbrev pub width_of : ℕ → ℕ
-width_of b = if nat_lt b 0x80 then 1 else if nat_lt b 0xC0 then 0 else if nat_lt b 0xE0 then 2 else if nat_lt b 0xF0 then 3 else if nat_lt b 0xF8 then 4 else 0
+width_of b =
+    if nat_lt b 0x80 then 1
+    else if nat_lt b 0xC0 then 0
+    else if nat_lt b 0xE0 then 2
+    else if nat_lt b 0xF0 then 3
+    else if nat_lt b 0xF8 then 4
+    else 0
 
 -- An octet after a first one.
 abbrev pub continues : ℕ → Bool
@@ -28,7 +35,10 @@ value_of width bytes =
     let c = slice_index bytes 1 % 64 in
     let d = slice_index bytes 2 % 64 in
     let e = slice_index bytes 3 % 64 in
-    if width == 1 then b else if width == 2 then b % 32 * 64 + c else if width == 3 then b % 16 * 4096 + c * 64 + d else b % 8 * 262144 + c * 4096 + d * 64 + e
+    if width == 1 then b
+    else if width == 2 then b % 32 * 64 + c
+    else if width == 3 then b % 16 * 4096 + c * 64 + d
+    else b % 8 * 262144 + c * 4096 + d * 64 + e
 
 -- The value that the first octets have.
 abbrev pub value8 : List ℕ → ℕ

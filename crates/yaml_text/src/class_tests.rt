@@ -54,7 +54,7 @@ fn tallies<F: Fn(&[u8], usize) -> bool>(class: F) -> [(u64, u64); 3]
 
 // The numbers are counted by the tables as they are written down, in another language.
 #[test]
-fn tables(rt: HostRuntime) {
+fn class_tables(rt: HostRuntime) {
     assert_eq!(rt; tallies(IS_ALPHA), [(64, 5527), (16384, 364306432), (0, 0)]);
     assert_eq!(rt; tallies(IS_DIGIT), [(10, 525), (2560, 34732800), (0, 0)]);
     assert_eq!(rt; tallies(IS_HEX), [(22, 1527), (5632, 100791552), (0, 0)]);
@@ -87,7 +87,7 @@ fn tables(rt: HostRuntime) {
 }
 
 #[test]
-fn edges(rt: HostRuntime) {
+fn class_edges(rt: HostRuntime) {
     assert!(rt; IS_Z(b"a", 1));
     assert!(rt; IS_Z(b"a", 9));
     assert_eq!(rt; WIDTH(b"a", 1), 1);

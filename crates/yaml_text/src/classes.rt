@@ -1,12 +1,16 @@
-//! The classes of characters, as tests of the bytes of `s` at the index `at`, in bytes from 0. At or past the end a byte reads
-//! as 0.
+//! The classes of characters, as tests of the bytes of `s` at the index `at`, in bytes from 0. At or past the
+//! end a byte reads as 0.
 //!
-//! Each class has two clauses: which bytes it holds for, on any bytes and at any index; and which characters it holds for, at
-//! the start of a character of valid UTF-8 or at the end, where the end counts as character 0.
+//! Each class has two clauses: which bytes it holds for, on any bytes and at any index; and which characters
+//! it holds for, at the start of a character of valid UTF-8 or at the end, where the end counts as character
+//! 0.
 ghost use Rattle.std.specs.Prelude.{ℕ, ◌≡◌, ◌+◌, ◌-◌, ◌<◌, ◌≤◌, ◌||◌, true, pos, List, slice_index};
 ghost use Rattle.std.specs.Char.{len_utf8};
 ghost use Rattle.yaml_text.specs.Utf8.{width_of};
-ghost use Rattle.yaml_text.specs.Classes.{is_digit, is_hex, is_alpha, is_ascii, is_printable, is_z, is_bom, is_space, is_tab, is_blank, is_break, is_crlf, is_breakz, is_blankz, hex_value, is_break_at, is_bom_at, is_printable_at, is_crlf_at, is_breakz_at, is_blankz_at, Stands};
+ghost use Rattle.yaml_text.specs.Classes.{is_digit, is_hex, is_alpha, is_ascii, is_printable, is_z, is_bom};
+ghost use Rattle.yaml_text.specs.Classes.{is_space, is_tab, is_blank, is_break, is_crlf, is_breakz, is_blankz};
+ghost use Rattle.yaml_text.specs.Classes.{hex_value, is_break_at, is_bom_at, is_printable_at, is_crlf_at};
+ghost use Rattle.yaml_text.specs.Classes.{is_breakz_at, is_blankz_at, Stands};
 
 #[inline(always)]
 fn byte_at(s: &[u8], at: usize) -> u8
@@ -107,7 +111,7 @@ fn is_blank_byte(b: u8) -> bool
 
 /// Whether a letter, a digit, `_` or `-` is there.
 #[inline(always)]
-#[tactic(auto, using(crate::proofs::ClassLaws::alpha_law))]
+#[tactic(auto, using(crate::proofs::Characters::ClassTables::alpha_law))]
 pub fn IS_ALPHA(s: &[u8], at: usize) -> bool
     ensures bytes { result ≡ is_alpha (slice_index s.now at) }
     ensures character { (left : List ℕ) → Stands s.now at left → result ≡ is_alpha (slice_index left 0) }
@@ -117,7 +121,7 @@ pub fn IS_ALPHA(s: &[u8], at: usize) -> bool
 
 /// Whether a decimal digit is there.
 #[inline(always)]
-#[tactic(auto, using(crate::proofs::ClassLaws::digit_law))]
+#[tactic(auto, using(crate::proofs::Characters::ClassTables::digit_law))]
 pub fn IS_DIGIT(s: &[u8], at: usize) -> bool
     ensures bytes { result ≡ is_digit (slice_index s.now at) }
     ensures character { (left : List ℕ) → Stands s.now at left → result ≡ is_digit (slice_index left 0) }
@@ -136,7 +140,7 @@ pub fn AS_DIGIT(s: &[u8], at: usize) -> i32
 
 /// Whether a hexadecimal digit is there.
 #[inline(always)]
-#[tactic(auto, using(crate::proofs::ClassLaws::hex_law))]
+#[tactic(auto, using(crate::proofs::Characters::ClassTables::hex_law))]
 pub fn IS_HEX(s: &[u8], at: usize) -> bool
     ensures bytes { result ≡ is_hex (slice_index s.now at) }
     ensures character { (left : List ℕ) → Stands s.now at left → result ≡ is_hex (slice_index left 0) }
@@ -156,7 +160,7 @@ pub fn AS_HEX(s: &[u8], at: usize) -> i32
 
 /// Whether an ASCII character is there, or the end.
 #[inline(always)]
-#[tactic(auto, using(crate::proofs::ClassLaws::ascii_law))]
+#[tactic(auto, using(crate::proofs::Characters::ClassTables::ascii_law))]
 pub fn IS_ASCII(s: &[u8], at: usize) -> bool
     ensures bytes { result ≡ is_ascii (slice_index s.now at) }
     ensures character { (left : List ℕ) → Stands s.now at left → result ≡ is_ascii (slice_index left 0) }
@@ -166,7 +170,7 @@ pub fn IS_ASCII(s: &[u8], at: usize) -> bool
 
 /// Whether a printable character is there.
 #[inline(always)]
-#[tactic(auto, using(crate::proofs::ClassLaws::printable_law))]
+#[tactic(auto, using(crate::proofs::Characters::ClassTables::printable_law))]
 pub fn IS_PRINTABLE(s: &[u8], at: usize) -> bool
     ensures bytes { result ≡ is_printable_at s.now at }
     ensures character { (left : List ℕ) → Stands s.now at left → result ≡ is_printable (slice_index left 0) }
@@ -176,7 +180,7 @@ pub fn IS_PRINTABLE(s: &[u8], at: usize) -> bool
 
 /// Whether the end is there, or a byte 0.
 #[inline(always)]
-#[tactic(auto, using(crate::proofs::ClassLaws::z_law))]
+#[tactic(auto, using(crate::proofs::Characters::ClassTables::z_law))]
 pub fn IS_Z(s: &[u8], at: usize) -> bool
     ensures bytes { result ≡ is_z (slice_index s.now at) }
     ensures character { (left : List ℕ) → Stands s.now at left → result ≡ is_z (slice_index left 0) }
@@ -186,7 +190,7 @@ pub fn IS_Z(s: &[u8], at: usize) -> bool
 
 /// Whether a byte order mark is there.
 #[inline(always)]
-#[tactic(auto, using(crate::proofs::ClassLaws::bom_law))]
+#[tactic(auto, using(crate::proofs::Characters::ClassTables::bom_law))]
 pub fn IS_BOM(s: &[u8], at: usize) -> bool
     ensures bytes { result ≡ is_bom_at s.now at }
     ensures character { (left : List ℕ) → Stands s.now at left → result ≡ is_bom (slice_index left 0) }
@@ -196,7 +200,7 @@ pub fn IS_BOM(s: &[u8], at: usize) -> bool
 
 /// Whether a space is there.
 #[inline(always)]
-#[tactic(auto, using(crate::proofs::ClassLaws::space_law))]
+#[tactic(auto, using(crate::proofs::Characters::ClassTables::space_law))]
 pub fn IS_SPACE(s: &[u8], at: usize) -> bool
     ensures bytes { result ≡ is_space (slice_index s.now at) }
     ensures character { (left : List ℕ) → Stands s.now at left → result ≡ is_space (slice_index left 0) }
@@ -206,7 +210,7 @@ pub fn IS_SPACE(s: &[u8], at: usize) -> bool
 
 /// Whether a tab is there.
 #[inline(always)]
-#[tactic(auto, using(crate::proofs::ClassLaws::tab_law))]
+#[tactic(auto, using(crate::proofs::Characters::ClassTables::tab_law))]
 pub fn IS_TAB(s: &[u8], at: usize) -> bool
     ensures bytes { result ≡ is_tab (slice_index s.now at) }
     ensures character { (left : List ℕ) → Stands s.now at left → result ≡ is_tab (slice_index left 0) }
@@ -216,7 +220,7 @@ pub fn IS_TAB(s: &[u8], at: usize) -> bool
 
 /// Whether a space or a tab is there.
 #[inline(always)]
-#[tactic(auto, using(crate::proofs::ClassLaws::blank_law))]
+#[tactic(auto, using(crate::proofs::Characters::ClassTables::blank_law))]
 pub fn IS_BLANK(s: &[u8], at: usize) -> bool
     ensures bytes { result ≡ is_blank (slice_index s.now at) }
     ensures character { (left : List ℕ) → Stands s.now at left → result ≡ is_blank (slice_index left 0) }
@@ -226,7 +230,7 @@ pub fn IS_BLANK(s: &[u8], at: usize) -> bool
 
 /// Whether a break is there: a carriage return, a line feed, U+0085, U+2028 or U+2029.
 #[inline(always)]
-#[tactic(auto, using(crate::proofs::ClassLaws::break_law))]
+#[tactic(auto, using(crate::proofs::Characters::ClassTables::break_law))]
 pub fn IS_BREAK(s: &[u8], at: usize) -> bool
     ensures bytes { result ≡ is_break_at s.now at }
     ensures character { (left : List ℕ) → Stands s.now at left → result ≡ is_break (slice_index left 0) }
@@ -236,17 +240,18 @@ pub fn IS_BREAK(s: &[u8], at: usize) -> bool
 
 /// Whether a carriage return and then a line feed are there.
 #[inline(always)]
-#[tactic(auto, using(crate::proofs::ClassLaws::crlf_law))]
+#[tactic(auto, using(crate::proofs::Characters::ClassTables::crlf_law))]
 pub fn IS_CRLF(s: &[u8], at: usize) -> bool
     ensures bytes { result ≡ is_crlf_at s.now at }
-    ensures character { (left : List ℕ) → Stands s.now at left → result ≡ is_crlf (slice_index left 0) (slice_index left 1) }
+    ensures character { (left : List ℕ) → Stands s.now at left
+        → result ≡ is_crlf (slice_index left 0) (slice_index left 1) }
 {
     crlf_at(s, at)
 }
 
 /// Whether a break is there, or the end.
 #[inline(always)]
-#[tactic(auto, using(crate::proofs::ClassLaws::breakz_law))]
+#[tactic(auto, using(crate::proofs::Characters::ClassTables::breakz_law))]
 pub fn IS_BREAKZ(s: &[u8], at: usize) -> bool
     ensures bytes { result ≡ is_breakz_at s.now at }
     ensures character { (left : List ℕ) → Stands s.now at left → result ≡ is_breakz (slice_index left 0) }
@@ -256,7 +261,7 @@ pub fn IS_BREAKZ(s: &[u8], at: usize) -> bool
 
 /// Whether a space, a tab or a break is there, or the end.
 #[inline(always)]
-#[tactic(auto, using(crate::proofs::ClassLaws::blankz_law))]
+#[tactic(auto, using(crate::proofs::Characters::ClassTables::blankz_law))]
 pub fn IS_BLANKZ(s: &[u8], at: usize) -> bool
     ensures bytes { result ≡ is_blankz_at s.now at }
     ensures character { (left : List ℕ) → Stands s.now at left → result ≡ is_blankz (slice_index left 0) }
@@ -266,7 +271,7 @@ pub fn IS_BLANKZ(s: &[u8], at: usize) -> bool
 
 /// How many bytes the character that begins with the byte there has, or 0 if none begins with it.
 #[inline(always)]
-#[tactic(auto, using(crate::proofs::ClassLaws::width_law))]
+#[tactic(auto, using(crate::proofs::Characters::ClassTables::width_law))]
 pub fn WIDTH(s: &[u8], at: usize) -> usize
     ensures bytes { result ≡ width_of (slice_index s.now at) }
     ensures character { (left : List ℕ) → Stands s.now at left → result ≡ len_utf8 (slice_index left 0) }

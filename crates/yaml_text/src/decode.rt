@@ -1,10 +1,15 @@
 //! Decoding: the text that an input spells, or its longest front and what is wrong after it.
-ghost use Rattle.std.specs.Prelude.{ℕ, ◌≡◌, ◌+◌, ◌<◌, ◌≤◌, ◌^◌, ◌⊎◌, option_map, length, take, drop, true, false, if◌then◌else◌, IfOk, IfErr, IsOk, IsNone, OnSome, IfSome};
+ghost use Rattle.std.specs.Prelude.{ℕ, ◌≡◌, ◌+◌, ◌<◌, ◌≤◌, ◌^◌, ◌⊎◌, option_map, length, take, drop, true, false};
+ghost use Rattle.std.specs.Prelude.{if◌then◌else◌, IfOk, IfErr, IsOk, IsNone, OnSome, IfSome};
 ghost use Rattle.yaml_text.specs.Chars.{IsText, utf8};
 ghost use Rattle.yaml_text.specs.Utf8.{offence8};
-ghost use Rattle.yaml_text.specs.Decode.{BeginsWithNone, Fronts, IsFrontOf, encoding_of, dropped, behind_mark, front, refusal, refusal_seen, decoded, Decodes, outcome, Spells, IsRefused, order};
+ghost use Rattle.yaml_text.specs.Decode.{BeginsWithNone, Fronts, IsFrontOf, encoding_of, dropped, behind_mark};
+ghost use Rattle.yaml_text.specs.Decode.{front, refusal, refusal_seen, decoded, Decodes, outcome, Spells, IsRefused};
+ghost use Rattle.yaml_text.specs.Decode.{order};
 ghost use Rattle.yaml_text.specs.Fault.{fault_of, memory_fault, reader_fault};
-ghost use Rattle.yaml_text.specs.declared.types.yaml_encoding_t.TheVariants.{YAML_UTF8_ENCODING, YAML_UTF16LE_ENCODING, YAML_UTF16BE_ENCODING};
+ghost use Rattle.yaml_text.specs.declared.types.yaml_encoding_t.TheVariants.{YAML_UTF8_ENCODING};
+ghost use Rattle.yaml_text.specs.declared.types.yaml_encoding_t.TheVariants.{YAML_UTF16LE_ENCODING};
+ghost use Rattle.yaml_text.specs.declared.types.yaml_encoding_t.TheVariants.{YAML_UTF16BE_ENCODING};
 
 use crate::ascii::single_len;
 use crate::fault::{make_memory_fault, make_reader_fault, yaml_fault_t};
@@ -51,7 +56,8 @@ fn front8(bytes: &[u8]) -> (usize, Option<offence_t>)
     (at, None)
 }
 
-/// The encoding that is set, or else that of the byte order mark, or else UTF-8; and how many bytes of such a mark are dropped.
+/// The encoding that is set, or else that of the byte order mark, or else UTF-8; and how many bytes of such a
+/// mark are dropped.
 fn told(setting: yaml_encoding_t, input: &[u8]) -> (yaml_encoding_t, usize)
     ensures encoding { result.0 ≡ encoding_of setting input.now }
     ensures dropped { result.1 ≡ dropped setting input.now }
@@ -119,9 +125,10 @@ fn front_in_utf16<'a>(
 
 /// The front of an input, and the fault of what follows it, if anything does.
 ///
-/// The front is the longest list of characters whose spellings, joined, begin the input after its byte order mark, which is
-/// dropped if no encoding is set (YAML 1.1, sections 5.1 and 5.2). In UTF-8 the text borrows the input. The fault says what is
-/// wrong with what follows the front: its kind is reader, and its offset counts the bytes of the whole input, from 0.
+/// The front is the longest list of characters whose spellings, joined, begin the input after its byte order
+/// mark, which is dropped if no encoding is set (YAML 1.1, sections 5.1 and 5.2). In UTF-8 the text borrows
+/// the input. The fault says what is wrong with what follows the front: its kind is reader, and its offset
+/// counts the bytes of the whole input, from 0.
 ///
 /// # Errors
 ///
@@ -162,9 +169,11 @@ pub fn yaml_decode<'a>(
 ) -> Result<yaml_text_t<'a>, yaml_fault_t>
     ensures exact { Decodes result (decoded setting input.now) }
     ensures text { IfOk result (λ text. Spells setting input.now text) }
-    ensures fault { IfErr result (λ fault. (fault_of fault ≡ memory_fault) ⊎ IsRefused setting input.now (fault_of fault)) }
+    ensures fault { IfErr result (λ fault.
+        (fault_of fault ≡ memory_fault) ⊎ IsRefused setting input.now (fault_of fault)) }
     // accepted UTF-8 is its own text, and no memory is taken for it
-    ensures own_text { IfOk result (λ text. text.encoding ≡ YAML_UTF8_ENCODING → utf8 text.chars ≡ behind_mark setting input.now) }
+    ensures own_text { IfOk result (λ text.
+        text.encoding ≡ YAML_UTF8_ENCODING → utf8 text.chars ≡ behind_mark setting input.now) }
     ensures borrowed { encoding_of setting input.now ≡ YAML_UTF8_ENCODING → outcome result ≡ decoded setting input.now }
 {
     match yaml_decode_front(alloc, input, setting) {

@@ -8,21 +8,25 @@ use thiserror::Error;
 
 /// Why an input was refused, and where.
 ///
-/// A fault of kind memory has no problem, no context and only zeros. A fault of kind reader has a problem, its offset and
-/// a value. A fault of kind scanner has a problem and its mark, and mostly a context and its mark.
+/// A fault of kind memory has no problem and no context. A fault of kind reader has a problem, its offset and a
+/// value. A fault of kind scanner has a problem and its mark, and mostly a context and its mark. Numbers and
+/// marks that a fault does not have are 0.
 #[derive(Clone, Copy, Debug, PartialEq, Eq, Error)]
 #[error("YAML {error} fault")]
 pub struct yaml_fault_t {
+    /// The kind of the fault: memory, reader or scanner.
     pub error: yaml_error_type_t,
-    /// What is wrong.
+    /// What is wrong; `None` for a fault of kind memory.
     pub problem: Option<&'static str>,
     /// For a reader fault: how many bytes of the input come before what is wrong.
     pub problem_offset: u64,
     /// For a reader fault: the octet, unit or code point that is wrong, or -1 if there is none.
     pub problem_value: i32,
+    /// For a scanner fault: the mark of what is wrong.
     pub problem_mark: yaml_mark_t,
-    /// What was being read.
+    /// For a scanner fault: what was being read, if that is said.
     pub context: Option<&'static str>,
+    /// For a scanner fault with a context: the mark where what was being read starts.
     pub context_mark: yaml_mark_t,
 }
 

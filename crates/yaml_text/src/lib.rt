@@ -2,6 +2,7 @@
 #![tactic(auto)]
 
 mod ascii;
+mod chars;
 #[cfg(test)]
 mod class_tests;
 mod classes;

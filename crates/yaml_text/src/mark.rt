@@ -1,8 +1,10 @@
 //! The marks of a text's places.
-ghost use Rattle.std.specs.Prelude.{ℕ, ◌≡◌, ◌+◌, ◌-◌, ◌<◌, ◌≤◌, ◌↔◌, ◌&&◌, [], true, false, not, nat_le, nat_lt, length, slice_index, if◌then◌else◌, IsTrue};
+ghost use Rattle.std.specs.Prelude.{ℕ, ◌≡◌, ◌+◌, ◌-◌, ◌<◌, ◌≤◌, ◌↔◌, ◌&&◌, [], true, false, not, nat_le, nat_lt};
+ghost use Rattle.std.specs.Prelude.{length, slice_index, if◌then◌else◌, IsTrue};
 ghost use Rattle.yaml_text.specs.Classes.{is_break, is_crlf_at};
 ghost use Rattle.yaml_text.specs.Utf8.{width_of, continues};
-ghost use Rattle.yaml_text.specs.Mark.{mark_of, past, cuts_break, break_len, step_len, is_place_by, IsPlace, IsPlaceAt, mark_at};
+ghost use Rattle.yaml_text.specs.Mark.{mark_of, past, cuts_break, break_len, step_len, is_place_by, IsPlace};
+ghost use Rattle.yaml_text.specs.Mark.{IsPlaceAt, mark_at};
 
 use crate::classes::{IS_BREAK, IS_CRLF, WIDTH};
 use crate::text::yaml_text_t;
@@ -124,17 +126,17 @@ fn is_place_by(bytes: &[u8], index: usize) -> bool
     is_start(bytes, index) && !parts_crlf(bytes, index)
 }
 
-/// Whether the index, in bytes of the text in UTF-8 from 0, is the start of a character or the end, and not between the two
-/// characters of a CR LF.
+/// Whether the index, in bytes of the text in UTF-8 from 0, is the start of a character or the end, and not
+/// between the two characters of a CR LF.
 pub fn yaml_is_place(text: &yaml_text_t, index: usize) -> bool
     ensures { IsTrue result ↔ IsPlace text.now.chars index }
 {
     is_place_by(text.bytes(), index)
 }
 
-/// The mark of the place at an index, in bytes of the text in UTF-8 from 0: that index, how many breaks end before it, and how
-/// many characters come after the last of them. CR LF is one break (YAML 1.1, section 5.4). The mark is counted from the
-/// front. The index must be a place (`yaml_is_place`).
+/// The mark of the place at an index, in bytes of the text in UTF-8 from 0: that index, how many breaks end
+/// before it, and how many characters come after the last of them. CR LF is one break (YAML 1.1, section 5.4).
+/// The mark is counted from the front. The index must be a place (`yaml_is_place`).
 pub fn yaml_mark_at(text: &yaml_text_t, index: usize) -> yaml_mark_t
     requires { IsPlace text.now.chars index }
     ensures { (p : ℕ) → IsPlaceAt text.now.chars index p → result ≡ mark_at text.now.chars p }

@@ -31,7 +31,7 @@ fn decoded(alloc: Global, input: &[u8], setting: yaml_encoding_t) -> Result<Stri
 }
 
 #[test]
-fn texts(rt: HostRuntime) -> Result<(), Fail> {
+fn decode_texts(rt: HostRuntime) -> Result<(), Fail> {
     let alloc = rt.alloc();
     assert_eq!(rt; decoded(alloc, b"a: 1", ANY)?.as_str(), "4 4:0:4");
     assert_eq!(rt; decoded(alloc, b"a\r\nb", ANY)?.as_str(), "4 4:1:1");
@@ -44,14 +44,33 @@ fn texts(rt: HostRuntime) -> Result<(), Fail> {
 }
 
 #[test]
-fn refusals(rt: HostRuntime) -> Result<(), Fail> {
+fn chars_of_a_text(rt: HostRuntime) -> Result<(), Fail> {
     let alloc = rt.alloc();
+    assert_eq!(rt; decoded(alloc, b"\xC2\x85", ANY)?.as_str(), "2 2:1:0");
     assert_eq!(rt;
-        decoded(alloc, b"\xE0\x80\x80", ANY)?.as_str(),
-        "0 -1 invalid length of a UTF-8 sequence"
+        decoded(alloc, b"a\x7F", ANY)?.as_str(),
+        "1 127 control characters are not allowed"
     );
     assert_eq!(rt;
-        decoded(alloc, b"\xD8\x00", UTF16BE)?.as_str(),
+        decoded(alloc, b"\xEF\xBF\xBE", ANY)?.as_str(),
+        "0 65534 control characters are not allowed"
+    );
+    Ok(())
+}
+
+#[test]
+fn utf8_refusals(rt: HostRuntime) -> Result<(), Fail> {
+    assert_eq!(rt;
+        decoded(rt.alloc(), b"\xE0\x80\x80", ANY)?.as_str(),
+        "0 -1 invalid length of a UTF-8 sequence"
+    );
+    Ok(())
+}
+
+#[test]
+fn utf16_refusals(rt: HostRuntime) -> Result<(), Fail> {
+    assert_eq!(rt;
+        decoded(rt.alloc(), b"\xD8\x00", UTF16BE)?.as_str(),
         "0 -1 incomplete UTF-16 surrogate pair"
     );
     Ok(())
@@ -59,7 +78,7 @@ fn refusals(rt: HostRuntime) -> Result<(), Fail> {
 
 /// The bytes of a text, and all that a fault says. `tests/sessions.py` checks that no memory is taken for them.
 #[test]
-fn text_or_fault(rt: HostRuntime) -> Result<(), Fail> {
+fn decode_text_or_fault(rt: HostRuntime) -> Result<(), Fail> {
     let Ok(text) = yaml_decode(rt.alloc(), b"a: 1", ANY) else {
         return Err("a text".into());
     };
@@ -80,7 +99,7 @@ fn text_or_fault(rt: HostRuntime) -> Result<(), Fail> {
 }
 
 #[test]
-fn fronts(rt: HostRuntime) -> Result<(), Fail> {
+fn decode_front(rt: HostRuntime) -> Result<(), Fail> {
     let Ok((text, refusal)) = yaml_decode_front(rt.alloc(), b"ab\xFF", ANY) else {
         return Err("no memory".into());
     };
@@ -93,7 +112,7 @@ fn fronts(rt: HostRuntime) -> Result<(), Fail> {
 }
 
 #[test]
-fn places(rt: HostRuntime) -> Result<(), Fail> {
+fn mark_places(rt: HostRuntime) -> Result<(), Fail> {
     let Ok(text) = yaml_decode(rt.alloc(), b"a\r\n\xC3\xA9", ANY) else {
         return Err("a text".into());
     };
@@ -107,7 +126,7 @@ fn places(rt: HostRuntime) -> Result<(), Fail> {
 }
 
 #[test]
-fn shown(rt: HostRuntime) -> Result<(), Fail> {
+fn fault_shown(rt: HostRuntime) -> Result<(), Fail> {
     let fault = yaml_decode(rt.alloc(), b"\xFF", ANY)
         .err()
         .ok_or("a fault")?;
@@ -140,7 +159,7 @@ fn tokens(rt: HostRuntime) -> Result<(), Fail> {
 }
 
 #[test]
-fn written(rt: HostRuntime) -> Result<(), Fail> {
+fn utf8_written(rt: HostRuntime) -> Result<(), Fail> {
     let mut out = Vec::new(rt.alloc());
     push_char(&mut out, 0x20AC)?;
     assert_eq!(rt; out.as_slice(), b"\xE2\x82\xAC".as_slice());

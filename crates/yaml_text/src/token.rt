@@ -4,47 +4,81 @@ ghost use Rattle.yaml_text.specs.Fault.{zero_mark};
 
 use crate::types::{yaml_encoding_t, yaml_mark_t, yaml_scalar_style_t, yaml_token_type_t};
 
-/// What a token says: one variant for each type. Texts are bytes: UTF-8, except what a tag or a `%TAG` directive writes by `%`.
+/// What a token says: one variant for each type. Texts are bytes: UTF-8, except what a tag or a `%TAG`
+/// directive writes by `%`.
 #[derive(Drop, PartialEq, Eq)]
 pub enum unnamed_yaml_token_t_data {
+    /// The empty token.
     NO_TOKEN,
+    /// The start of the input.
     STREAM_START {
+        /// How the input's bytes spell its text.
         encoding: yaml_encoding_t,
     },
+    /// The end of the input.
     STREAM_END,
+    /// `%YAML`.
     VERSION_DIRECTIVE {
+        /// The number before the `.`.
         major: i32,
+        /// The number after the `.`.
         minor: i32,
     },
+    /// `%TAG`.
     TAG_DIRECTIVE {
+        /// `!`, or `!`, a name and `!`.
         handle: Vec<u8>,
+        /// What the handle stands for.
         prefix: Vec<u8>,
     },
+    /// `---`.
     DOCUMENT_START,
+    /// `...`.
     DOCUMENT_END,
+    /// Before the first entry of a block sequence.
     BLOCK_SEQUENCE_START,
+    /// Before the first key of a block mapping.
     BLOCK_MAPPING_START,
+    /// After a block sequence or mapping.
     BLOCK_END,
+    /// `[`.
     FLOW_SEQUENCE_START,
+    /// `]`.
     FLOW_SEQUENCE_END,
+    /// `{`.
     FLOW_MAPPING_START,
+    /// `}`.
     FLOW_MAPPING_END,
+    /// `-`.
     BLOCK_ENTRY,
+    /// `,`.
     FLOW_ENTRY,
+    /// `?`, or before a key without one.
     KEY,
+    /// `:`.
     VALUE,
+    /// `*` and a name.
     ALIAS {
+        /// The name.
         value: Vec<u8>,
     },
+    /// `&` and a name.
     ANCHOR {
+        /// The name.
         value: Vec<u8>,
     },
+    /// A tag.
     TAG {
+        /// `!`, or `!`, a name and `!`; empty for a tag between `!<` and `>`, and for a lone `!`.
         handle: Vec<u8>,
+        /// What comes after the handle.
         suffix: Vec<u8>,
     },
+    /// A scalar.
     SCALAR {
+        /// What it says.
         value: Vec<u8>,
+        /// How it is written.
         style: yaml_scalar_style_t,
     },
 }
@@ -121,8 +155,11 @@ impl unnamed_yaml_token_t_data {
 /// A token: what it says, the mark of its start, and the mark after its last character.
 #[derive(Drop, PartialEq, Eq)]
 pub struct yaml_token_t {
+    /// What it says.
     pub token_data: unnamed_yaml_token_t_data,
+    /// The mark of its first character.
     pub start_mark: yaml_mark_t,
+    /// The mark after its last character.
     pub end_mark: yaml_mark_t,
 }
 

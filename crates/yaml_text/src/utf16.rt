@@ -1,11 +1,14 @@
 //! Reading UTF-16.
-ghost use Rattle.std.specs.Prelude.{ℕ, ◌≡◌, ◌+◌, ◌-◌, ◌<◌, ◌≤◌, ◌++◌, length, take, drop, slice_index, IfOk, IfErr, OnErr, IfSome, IsNone};
+ghost use Rattle.std.specs.Prelude.{ℕ, ◌≡◌, ◌+◌, ◌-◌, ◌<◌, ◌≤◌, ◌++◌, length, take, drop, slice_index, IfOk, IfErr};
+ghost use Rattle.std.specs.Prelude.{OnErr, IfSome, IsNone};
 ghost use Rattle.yaml_text.specs.Chars.{IsChar};
-ghost use Rattle.yaml_text.specs.Utf16.{unit_at, is_low, is_high, spelling16, offence16, Begins16, BeginsWithNone16, Reads16};
+ghost use Rattle.yaml_text.specs.Utf16.{unit_at, is_low, is_high, spelling16, offence16, Begins16, BeginsWithNone16};
+ghost use Rattle.yaml_text.specs.Utf16.{Reads16};
 
+use crate::chars::is_char;
 use crate::decode::from;
 use crate::offence::{offence_t, problem_t, refused};
-use crate::utf8::{is_char, push_char};
+use crate::utf8::push_char;
 use std::alloc::{AllocError, Global};
 
 /// The unit at a byte, its high byte first or last.

@@ -1,11 +1,13 @@
 //! Reading and writing UTF-8.
-ghost use Rattle.std.specs.Prelude.{ℕ, ◌≡◌, ◌+◌, ◌<◌, ◌≤◌, ◌^◌, ◌++◌, length, slice_index, IfOk, IfErr, OnErr, OnOk, encode_utf8};
+ghost use Rattle.std.specs.Prelude.{ℕ, ◌≡◌, ◌+◌, ◌<◌, ◌≤◌, ◌^◌, ◌++◌, length, slice_index, IfOk, IfErr, OnErr, OnOk};
+ghost use Rattle.std.specs.Prelude.{encode_utf8};
 ghost use Rattle.std.specs.Char.{len_utf8, IsScalar};
-ghost use Rattle.yaml_text.specs.Chars.{is_char, IsChar};
+ghost use Rattle.yaml_text.specs.Chars.{IsChar};
 ghost use Rattle.yaml_text.specs.Utf8.{width_of, continues, stray_at, value_of, least_of, is_scalar, offence8};
 ghost use Rattle.yaml_text.specs.Decode.{Begins, BeginsWithNone};
 ghost use Rattle.yaml_text.specs.declared.types.yaml_encoding_t.TheVariants.{YAML_UTF8_ENCODING};
 
+use crate::chars::is_char;
 use crate::offence::{offence_t, problem_t, refused};
 use std::alloc::AllocError;
 
@@ -44,13 +46,6 @@ fn stray_at(bytes: &[u8], width: usize) -> usize
     } else {
         0
     }
-}
-
-#[tactic(auto, unfolding(crate::specs::Chars::is_char))]
-pub(crate) fn is_char(c: u32) -> bool
-    ensures { result ≡ is_char c }
-{
-    matches!(c, 0x20..=0x7E | 9 | 10 | 13 | 0x85 | 0xA0..=0xD7FF | 0xE000..=0xFFFD | 0x10000..=0x10FFFF)
 }
 
 #[tactic(auto, unfolding(crate::specs::Utf8::value_of))]
@@ -96,7 +91,8 @@ fn is_scalar(c: u32) -> bool
 #[tactic(auto, unfolding(crate::specs::Utf8::offence8))]
 pub(crate) fn first_char(bytes: &[u8]) -> Result<usize, offence_t>
     requires { 0 < length bytes.now }
-    ensures found { IfOk result (λ width. (c : ℕ) × IsChar c × Begins YAML_UTF8_ENCODING c bytes.now × (width ≡ len_utf8 c)) }
+    ensures found { IfOk result (λ width.
+        (c : ℕ) × IsChar c × Begins YAML_UTF8_ENCODING c bytes.now × (width ≡ len_utf8 c)) }
     ensures offence { IfErr result (λ e. e ≡ offence8 bytes.now) }
     ensures none { OnErr result (BeginsWithNone YAML_UTF8_ENCODING bytes.now) }
     ensures within { IfErr result (λ e. e.offset < length bytes.now) }

@@ -8,13 +8,14 @@ use Rattle.yaml_text.specs.declared.types.yaml_mark_t.{yaml_mark_t}
 use Rattle.yaml_lexeme.specs.declared.kind.yaml_lexeme_kind_t.TheVariants.{STREAM_END}
 use Rattle.yaml_lexeme.specs.declared.lex.yaml_context_t.{yaml_context_t}
 use Rattle.yaml_lexeme.specs.Lexeme.{Lexeme as yaml_lexeme_t}
-use Rattle.yaml_lexeme.specs.Lex.{lex, stream_end}
+use Rattle.yaml_lexeme.specs.Lex.{lex}
+use Rattle.yaml_lexeme.specs.StreamEnd.{stream_end}
 use Rattle.yaml_lexeme.specs.Locality.{reach}
 use Rattle.yaml_lexeme.specs.Place.{Place, place_at}
 use Rattle.yaml_lexeme.specs.Reading.{Found, Read}
 use Rattle.yaml_lexeme.specs.Whole as whole
-use Rattle.yaml_lexeme.proofs.CountLaws.{places_counted}
-use Rattle.yaml_lexeme.proofs.WholeLaws.{gap_is_whole, reach_is_whole, lexeme_is_counted, problem_is_counted}
+use Rattle.yaml_lexeme.proofs.CountedMarks.CountedPlaces.{places_counted}
+use Rattle.yaml_lexeme.proofs.CountedMarks.WholeLexemes.{gap_is_whole, reach_is_whole, lexeme_is_counted, problem_is_counted}
 use Rattle.yaml_scan.specs.Kind.{Kind, is_stream_end}
 use Rattle.yaml_scan.specs.Source.{Source, Reading, Offence}
 use Rattle.yaml_scan.specs.SourceOf.{source_of, count_to, reading, offence, reading_of}

@@ -9,7 +9,7 @@ use Rattle.yaml_text.specs.declared.types.yaml_scalar_style_t.TheVariants.{YAML_
 use Rattle.yaml_text.specs.Token.{TokenData as unnamed_yaml_token_t_data}
 use Rattle.yaml_text.specs.Token.{TokenData as token}
 use Rattle.yaml_text.specs.Decode.{front, front_len, encoding_of, refusal, refusal_of}
-use Rattle.yaml_text.proofs.Decodings.{not_any}
+use Rattle.yaml_text.proofs.Decodings.DecodeResults.{not_any}
 use Rattle.yaml_lexeme.specs.declared.kind.yaml_lexeme_kind_t.TheVariants as kind
 use Rattle.yaml_lexeme.specs.declared.lex.yaml_context_t.{yaml_context_t}
 use Rattle.yaml_lexeme.specs.Lexeme.{Lexeme as yaml_lexeme_t}
@@ -21,7 +21,8 @@ use Rattle.yaml_lexeme.specs.Quoted.{quoted}
 use Rattle.yaml_lexeme.specs.Name.{name}
 use Rattle.yaml_lexeme.specs.Tag.{tag}
 use Rattle.yaml_lexeme.specs.Directive.{directive}
-use Rattle.yaml_lexeme.specs.Lex.{lex, in_flow, least, whole_of, scalar_to, directive_to, quoted_as}
+use Rattle.yaml_lexeme.specs.Lex.{lex, in_flow, least, quoted_as}
+use Rattle.yaml_lexeme.specs.Lexeme.{whole_of, scalar_to, directive_to}
 use Rattle.yaml_scan.specs.Kind.{Kind, is_block_entry}
 use Rattle.yaml_scan.specs.Lexeme.{Lexeme}
 use Rattle.yaml_scan.specs.Token.{empty, type_of}
@@ -116,8 +117,8 @@ lex_told kind.DIRECTIVE c p = made_told (directive p) (λ x. directive_to p.mark
 lex_told kind.TAG c p = made_told (tag (in_flow c) p) (λ x. whole_of x.value p.mark x.end.mark) (λ x q. marked_told x.value (or_left (is_tag_type (type_of x.value)) (is_directive_type (type_of x.value)) ((tag_gives (in_flow c) p).is x q)))
 lex_told kind.ALIAS c p = made_told (name p) (λ x. whole_of (token.ALIAS x.value) p.mark x.end.mark) (λ x q. tt)
 lex_told kind.ANCHOR c p = made_told (name p) (λ x. whole_of (token.ANCHOR x.value) p.mark x.end.mark) (λ x q. tt)
-lex_told kind.LITERAL c p = made_told (block false (least c) p) (λ x. scalar_to YAML_LITERAL_SCALAR_STYLE p.mark x.value x.end.mark) (λ x q. literal_is)
-lex_told kind.FOLDED c p = made_told (block true (least c) p) (λ x. scalar_to YAML_FOLDED_SCALAR_STYLE p.mark x.value x.end.mark) (λ x q. folded_is)
+lex_told kind.LITERAL c p = made_told (block false c.level p) (λ x. scalar_to YAML_LITERAL_SCALAR_STYLE p.mark x.value x.end.mark) (λ x q. literal_is)
+lex_told kind.FOLDED c p = made_told (block true c.level p) (λ x. scalar_to YAML_FOLDED_SCALAR_STYLE p.mark x.value x.end.mark) (λ x q. folded_is)
 lex_told kind.SINGLE_QUOTED c p = made_told (quoted true p) (λ x. whole_of (quoted_as YAML_SINGLE_QUOTED_SCALAR_STYLE x.value) p.mark x.end.mark) (λ x q. single_is)
 lex_told kind.DOUBLE_QUOTED c p = made_told (quoted false p) (λ x. whole_of (quoted_as YAML_DOUBLE_QUOTED_SCALAR_STYLE x.value) p.mark x.end.mark) (λ x q. double_is)
 lex_told kind.PLAIN c p = made_told (plain (in_flow c) (least c) p) (λ x. scalar_to YAML_PLAIN_SCALAR_STYLE p.mark x.value x.end.mark) (λ x q. plain_is)

@@ -21,16 +21,19 @@ use Rattle.yaml_lexeme.specs.Name.{name}
 use Rattle.yaml_lexeme.specs.Uri.{uri, some_uri}
 use Rattle.yaml_lexeme.specs.Tag.{tag, angled, handled, lone}
 use Rattle.yaml_lexeme.specs.Directive.{directive, named, version_at, tag_directive_at, number, handle_at}
-use Rattle.yaml_lexeme.specs.Lex.{lex, in_flow, least, whole_of, scalar_to, directive_to, quoted_as, stream_end}
+use Rattle.yaml_lexeme.specs.Lex.{lex, in_flow, least, quoted_as}
+use Rattle.yaml_lexeme.specs.Lexeme.{whole_of, scalar_to, directive_to}
+use Rattle.yaml_lexeme.specs.StreamEnd.{stream_end}
 use Rattle.yaml_lexeme.specs.Locality.{reach}
-use Rattle.yaml_lexeme.proofs.Places.{skip_none}
-use Rattle.yaml_lexeme.proofs.Local.{EndsAt}
-use Rattle.yaml_lexeme.proofs.Like.{IsLike, agree_self, like_of}
-use Rattle.yaml_lexeme.proofs.BlockLocal.{block_like}
-use Rattle.yaml_lexeme.proofs.BodyLocal.{quoted_local}
-use Rattle.yaml_lexeme.proofs.DirectivesLocal.{directive_like}
-use Rattle.yaml_lexeme.proofs.NamesLocal.{name_like, tag_like}
-use Rattle.yaml_lexeme.proofs.PlainLocal.{plain_like}
+use Rattle.yaml_lexeme.proofs.Places.PlaceMoves.{skip_none}
+use Rattle.yaml_lexeme.proofs.Locality.LocalReaders.{EndsAt}
+use Rattle.yaml_lexeme.proofs.Locality.ComposedReaders.{IsLike, agree_self, like_of}
+use Rattle.yaml_lexeme.proofs.Locality.BlockLocality.{block_like}
+use Rattle.yaml_lexeme.proofs.Locality.QuotedLocality.{quoted_local}
+use Rattle.yaml_lexeme.proofs.Locality.DirectiveLocality.{directive_like}
+use Rattle.yaml_lexeme.proofs.Locality.NameLocality.{name_like}
+use Rattle.yaml_lexeme.proofs.Locality.TagLocality.{tag_like}
+use Rattle.yaml_lexeme.proofs.Locality.PlainLocality.{plain_like}
 use Rattle.yaml_scan.specs.Kind.{Kind}
 use Rattle.yaml_scan.specs.Token.{type_of, is_end_type, is_start_type, is_key_type, is_value_type, is_last_type}
 use Rattle.yaml_scan.specs.Cut.{SaysKind}
@@ -69,8 +72,8 @@ lex_goes_on kind.VALUE c p = (1, refl)
 lex_goes_on kind.ALIAS c p = made_on p (name p) (λ x. whole_of (token.ALIAS x.value) p.mark x.end.mark) (like_on p name name_like)
 lex_goes_on kind.ANCHOR c p = made_on p (name p) (λ x. whole_of (token.ANCHOR x.value) p.mark x.end.mark) (like_on p name name_like)
 lex_goes_on kind.TAG c p = made_on p (tag (in_flow c) p) (λ x. whole_of x.value p.mark x.end.mark) (like_on p (tag (in_flow c)) (tag_like (in_flow c)))
-lex_goes_on kind.LITERAL c p = made_on p (block false (least c) p) (λ x. scalar_to YAML_LITERAL_SCALAR_STYLE p.mark x.value x.end.mark) (like_on p (block false (least c)) (block_like false (least c)))
-lex_goes_on kind.FOLDED c p = made_on p (block true (least c) p) (λ x. scalar_to YAML_FOLDED_SCALAR_STYLE p.mark x.value x.end.mark) (like_on p (block true (least c)) (block_like true (least c)))
+lex_goes_on kind.LITERAL c p = made_on p (block false c.level p) (λ x. scalar_to YAML_LITERAL_SCALAR_STYLE p.mark x.value x.end.mark) (like_on p (block false c.level) (block_like false c.level))
+lex_goes_on kind.FOLDED c p = made_on p (block true c.level p) (λ x. scalar_to YAML_FOLDED_SCALAR_STYLE p.mark x.value x.end.mark) (like_on p (block true c.level) (block_like true c.level))
 lex_goes_on kind.SINGLE_QUOTED c p = made_on p (quoted true p) (λ x. whole_of (quoted_as YAML_SINGLE_QUOTED_SCALAR_STYLE x.value) p.mark x.end.mark) (like_on p (quoted true) (like_of (quoted true) (quoted_local true)))
 lex_goes_on kind.DOUBLE_QUOTED c p = made_on p (quoted false p) (λ x. whole_of (quoted_as YAML_DOUBLE_QUOTED_SCALAR_STYLE x.value) p.mark x.end.mark) (like_on p (quoted false) (like_of (quoted false) (quoted_local false)))
 lex_goes_on kind.PLAIN c p = made_on p (plain (in_flow c) (least c) p) (λ x. scalar_to YAML_PLAIN_SCALAR_STYLE p.mark x.value x.end.mark) (like_on p (plain (in_flow c) (least c)) (plain_like (in_flow c) (least c)))
@@ -203,8 +206,8 @@ says_kind kind.DIRECTIVE c p f e = made_says kind.DIRECTIVE (directive p) (λ x.
 says_kind kind.TAG c p f e = made_says kind.TAG (tag (in_flow c) p) (λ x. whole_of x.value p.mark x.end.mark) f (λ x q. let t = tag_says (type_of x.value) ((tag_gives (in_flow c) p).is x q) in record { key = t.0; value = t.1; last = t.2; no_start = t.3; no_end = t.4 }) e
 says_kind kind.ALIAS c p f e = made_says kind.ALIAS (name p) (λ x. whole_of (token.ALIAS x.value) p.mark x.end.mark) f (λ x q. record { key = refl; value = refl; last = refl; no_start = refl; no_end = refl }) e
 says_kind kind.ANCHOR c p f e = made_says kind.ANCHOR (name p) (λ x. whole_of (token.ANCHOR x.value) p.mark x.end.mark) f (λ x q. record { key = refl; value = refl; last = refl; no_start = refl; no_end = refl }) e
-says_kind kind.LITERAL c p f e = made_says kind.LITERAL (block false (least c) p) (λ x. scalar_to YAML_LITERAL_SCALAR_STYLE p.mark x.value x.end.mark) f (λ x q. record { key = refl; value = refl; last = refl; no_start = refl; no_end = refl }) e
-says_kind kind.FOLDED c p f e = made_says kind.FOLDED (block true (least c) p) (λ x. scalar_to YAML_FOLDED_SCALAR_STYLE p.mark x.value x.end.mark) f (λ x q. record { key = refl; value = refl; last = refl; no_start = refl; no_end = refl }) e
+says_kind kind.LITERAL c p f e = made_says kind.LITERAL (block false c.level p) (λ x. scalar_to YAML_LITERAL_SCALAR_STYLE p.mark x.value x.end.mark) f (λ x q. record { key = refl; value = refl; last = refl; no_start = refl; no_end = refl }) e
+says_kind kind.FOLDED c p f e = made_says kind.FOLDED (block true c.level p) (λ x. scalar_to YAML_FOLDED_SCALAR_STYLE p.mark x.value x.end.mark) f (λ x q. record { key = refl; value = refl; last = refl; no_start = refl; no_end = refl }) e
 says_kind kind.SINGLE_QUOTED c p f e = made_says kind.SINGLE_QUOTED (quoted true p) (λ x. whole_of (quoted_as YAML_SINGLE_QUOTED_SCALAR_STYLE x.value) p.mark x.end.mark) f (λ x q. record { key = refl; value = refl; last = refl; no_start = refl; no_end = refl }) e
 says_kind kind.DOUBLE_QUOTED c p f e = made_says kind.DOUBLE_QUOTED (quoted false p) (λ x. whole_of (quoted_as YAML_DOUBLE_QUOTED_SCALAR_STYLE x.value) p.mark x.end.mark) f (λ x q. record { key = refl; value = refl; last = refl; no_start = refl; no_end = refl }) e
 says_kind kind.PLAIN c p f e = made_says kind.PLAIN (plain (in_flow c) (least c) p) (λ x. scalar_to YAML_PLAIN_SCALAR_STYLE p.mark x.value x.end.mark) f (λ x q. record { key = refl; value = refl; last = refl; no_start = refl; no_end = refl }) e

@@ -11,8 +11,9 @@ use lib.Utf8.{encode, next}
 use Rattle.yaml_text.specs.Chars.{AreChars, IsChar, utf8}
 use Rattle.yaml_text.specs.Utf8.{continues}
 use Rattle.yaml_text.specs.declared.types.yaml_mark_t.{yaml_mark_t}
-use Rattle.yaml_text.proofs.Spelling.{two, three, four, char_range}
-use Rattle.yaml_text.proofs.Places.{AreChars-parts}
+use Rattle.yaml_text.proofs.Characters.Utf8Spelling.{two, three, four}
+use Rattle.yaml_text.proofs.Characters.CharRanges.{char_range}
+use Rattle.yaml_text.proofs.Marks.MarkMoves.{AreChars-parts}
 use Rattle.yaml_lexeme.specs.Place.{skip, skip_from, mark_behind, ends_line, width}
 use Rattle.yaml_scan.specs.SourceOf.{source_of}
 use Rattle.yaml_scan.specs.Near.{is_near}

@@ -10,16 +10,16 @@ use Rattle.yaml_lexeme.specs.Gap.{gap}
 use Rattle.yaml_lexeme.specs.Kind.{kind_at}
 use Rattle.yaml_lexeme.specs.Lex.{lex}
 use Rattle.yaml_lexeme.specs.Locality.{reach, move}
-use Rattle.yaml_lexeme.proofs.Agreeing.{Agree, some_same, same_or_long, get_index}
-use Rattle.yaml_lexeme.proofs.Places.{length_skip, skip_skip}
-use Rattle.yaml_lexeme.proofs.Orders.{gap_order}
-use Rattle.yaml_lexeme.proofs.Like.{agree_behind}
-use Rattle.yaml_lexeme.proofs.Local.{agree_less}
-use Rattle.yaml_lexeme.proofs.GapLocal.{gap_local_to}
-use Rattle.yaml_lexeme.proofs.KindLocal.{kind_local}
-use Rattle.yaml_lexeme.proofs.LexLocal.{lex_local_to}
+use Rattle.yaml_lexeme.proofs.Locality.AgreeingPlaces.{Agree, some_same, same_or_long, get_index}
+use Rattle.yaml_lexeme.proofs.Places.PlaceMoves.{length_skip, skip_skip}
+use Rattle.yaml_lexeme.proofs.MarkOrder.SmallReadersAhead.{gap_order}
+use Rattle.yaml_lexeme.proofs.Locality.ComposedReaders.{agree_behind}
+use Rattle.yaml_lexeme.proofs.Locality.LocalReaders.{agree_less}
+use Rattle.yaml_lexeme.proofs.Locality.GapLocality.{gap_local_to}
+use Rattle.yaml_lexeme.proofs.Locality.KindLocality.{kind_local}
+use Rattle.yaml_lexeme.proofs.Locality.LexemeLocality.{lex_local_to}
 use Rattle.yaml_scan.proofs.Texts.LexemeReads.{lex_goes_on}
-use Rattle.yaml_lexeme.specs.Texts.{problem_text, context_text}
+use Rattle.yaml_lexeme.specs.FaultTexts.{problem_text, context_text}
 use Rattle.yaml_text.specs.Fault.{scanner_fault}
 use Rattle.yaml_scan.specs.Kind.{Kind}
 use Rattle.yaml_scan.specs.Source.{Source, Reading, Offence}

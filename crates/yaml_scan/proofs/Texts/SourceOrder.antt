@@ -14,13 +14,15 @@ use Rattle.yaml_lexeme.specs.Reading.{Found, Read}
 use Rattle.yaml_lexeme.specs.Gap.{gap}
 use Rattle.yaml_lexeme.specs.Kind.{kind_at, is_marker_of, starts_plain}
 use Rattle.yaml_lexeme.specs.Classes.{ends}
-use Rattle.yaml_lexeme.specs.Lex.{lex, whole_of, stream_end, at_end}
+use Rattle.yaml_lexeme.specs.Lex.{lex}
+use Rattle.yaml_lexeme.specs.Lexeme.{whole_of}
+use Rattle.yaml_lexeme.specs.StreamEnd.{stream_end, at_end}
 use Rattle.yaml_lexeme.specs.Order.{IsAhead, IsAfter}
-use Rattle.yaml_lexeme.proofs.Places.{length_skip, skip_skip, stays}
+use Rattle.yaml_lexeme.proofs.Places.PlaceMoves.{length_skip, skip_skip, stays}
 use Rattle.yaml_text.specs.declared.types.yaml_error_type_t.TheVariants.{YAML_SCANNER_ERROR}
-use Rattle.yaml_lexeme.proofs.Ahead.{spans_end}
-use Rattle.yaml_lexeme.proofs.Orders.{gap_order}
-use Rattle.yaml_lexeme.proofs.LexOrder.{lexeme_spans, lexeme_order}
+use Rattle.yaml_lexeme.proofs.MarkOrder.ReadingAhead.{spans_end}
+use Rattle.yaml_lexeme.proofs.MarkOrder.SmallReadersAhead.{gap_order}
+use Rattle.yaml_lexeme.proofs.MarkOrder.LexemeOrder.{lexeme_spans, lexeme_order}
 use Rattle.yaml_lexeme.specs.Locality.{reach}
 use Rattle.yaml_scan.proofs.Texts.LexemeReads.{lex_goes_on, says_kind}
 use Rattle.yaml_scan.specs.Kind.{Kind, is_stream_end}

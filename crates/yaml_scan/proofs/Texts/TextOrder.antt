@@ -6,8 +6,9 @@ use Rattle.yaml_text.specs.Chars.{AreChars}
 use Rattle.yaml_text.specs.declared.types.yaml_mark_t.{yaml_mark_t}
 use Rattle.yaml_lexeme.specs.declared.kind.yaml_lexeme_kind_t.TheVariants.{STREAM_END}
 use Rattle.yaml_lexeme.specs.Place.{Place, place_at, start, skip, skip_from, mark_behind, ends_line}
-use Rattle.yaml_lexeme.specs.Lex.{lex, stream_end}
-use Rattle.yaml_lexeme.proofs.Places.{length_skip}
+use Rattle.yaml_lexeme.specs.Lex.{lex}
+use Rattle.yaml_lexeme.specs.StreamEnd.{stream_end}
+use Rattle.yaml_lexeme.proofs.Places.PlaceMoves.{length_skip}
 use Rattle.yaml_scan.specs.Kind.{Kind, is_stream_end}
 use Rattle.yaml_scan.specs.Source.{Reading, Offence}
 use Rattle.yaml_scan.specs.SourceOf.{source_of, count_to}

@@ -5,18 +5,18 @@ use Rattle.yaml_text.specs.declared.types.yaml_mark_t.{yaml_mark_t}
 use Rattle.yaml_text.specs.declared.fault.yaml_fault_t.{yaml_fault_t}
 use Rattle.yaml_text.specs.Fault.{Fault, fault_of, memory_fault}
 use Rattle.yaml_lexeme.specs.Lexeme.{Lexeme as yaml_lexeme_t, lexeme_of}
-use Rattle.yaml_lexeme.specs.declared.lex.yaml_lexeme_t.{yaml_lexeme_t as code_lexeme_t}
+use Rattle.yaml_lexeme.specs.declared.lexeme.yaml_lexeme_t.{yaml_lexeme_t as code_lexeme_t}
 use Rattle.yaml_lexeme.specs.Place.{Place, place_at, start, IsMarkOf}
 use Rattle.yaml_lexeme.specs.Order.{IsAhead}
 use Rattle.yaml_lexeme.specs.Answers.{Answers}
 use Rattle.yaml_lexeme.specs.Reading as lexemes
 use Rattle.yaml_lexeme.specs.Gap.{gap}
 use Rattle.yaml_lexeme.specs.Lex.{lex, lexeme_at, answer}
-use Rattle.yaml_lexeme.proofs.Places.{skip_skip, length_skip}
+use Rattle.yaml_lexeme.proofs.Places.PlaceMoves.{skip_skip, length_skip}
 use Rattle.std.specs.Option.{IfSome}
 use Rattle.yaml_text.specs.Chars.{utf8}
 use Rattle.yaml_scan.proofs.Texts.NearByBytes.{short}
-use Rattle.yaml_lexeme.proofs.Orders.{gap_order}
+use Rattle.yaml_lexeme.proofs.MarkOrder.SmallReadersAhead.{gap_order}
 use Rattle.yaml_scan.specs.Kind.{Kind}
 use Rattle.yaml_scan.specs.SourceOf.{source_of, count_to, reading, reading_of}
 use Rattle.yaml_scan.specs.inside.TextReads.{IsRead, IsOffence}

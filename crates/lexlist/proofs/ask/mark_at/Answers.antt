@@ -1,5 +1,5 @@
 use Rattle.std.proofs.Common.{refl}
-use Rattle.yaml_lexeme.proofs.CountLaws.{marks_counted}
+use Rattle.yaml_lexeme.proofs.CountedMarks.CountedPlaces.{marks_counted}
 use Rattle.lexlist.proofs.ask.mark_at.Goals as goal
 
 pub returns : goal.returns

@@ -2,7 +2,7 @@ use Rattle.std.proofs.Common.{◌≡◌, ◌++◌, ◌<◌, length, max, Ok, ap,
 use Rattle.yaml_text.specs.declared.types.yaml_mark_t.{yaml_mark_t}
 use Rattle.std.proofs.lemmas.Result.{err_from_is_err_and}
 use Rattle.std.specs.Char.{encode_utf8}
-use Rattle.yaml_lexeme.proofs.Blocks.{Blanking, blanking_begins, first_refused, next_refused, next_line, blanks_taken}
+use Rattle.yaml_lexeme.proofs.Readers.BlockLines.{Blanking, blanking_begins, first_refused, next_refused, next_line, blanks_taken}
 use Rattle.yaml_lexeme.specs.Block.{after_indent}
 use Rattle.yaml_lexeme.specs.Fold.{written}
 use Rattle.yaml_lexeme.specs.Place.{first, skip, break_len}

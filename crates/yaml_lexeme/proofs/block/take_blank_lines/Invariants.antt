@@ -1,5 +1,5 @@
 use Rattle.std.proofs.Common.{length}
-use Rattle.yaml_lexeme.proofs.Blocks.{Blanking}
+use Rattle.yaml_lexeme.proofs.Readers.BlockLines.{Blanking}
 use Rattle.yaml_lexeme.proofs.block.take_blank_lines.Given as goal
 
 abbrev pub invariant-lines : goal.invariant-lines

@@ -1,6 +1,6 @@
 use Rattle.std.proofs.Common.{◌≡◌, ◌++◌, ap, ◌∙◌, List, ℕ}
 use Rattle.std.proofs.lemmas.Result.{err_from_is_err_and}
-use Rattle.yaml_lexeme.proofs.Blocks.{to_line_end, line_end, line_refused, line_taken}
+use Rattle.yaml_lexeme.proofs.Readers.BlockLines.{to_line_end, line_end, line_refused, line_taken}
 use Rattle.yaml_lexeme.specs.Block.{break_at}
 use Rattle.yaml_lexeme.specs.Classes.{is_in_line}
 use Rattle.yaml_lexeme.specs.Place.{first, behind}

@@ -1,5 +1,5 @@
 use Rattle.std.proofs.Common.{◌≡◌, true, false, refl, sym, ap, ◌∙◌, arith}
-use Rattle.yaml_lexeme.proofs.Numbers.{more_digits, small, fits_digits, no_number, a_number, nine_digits, ten_digits, at_start}
+use Rattle.yaml_lexeme.proofs.Readers.DirectiveNumbers.{more_digits, small, fits_digits, no_number, a_number, nine_digits, ten_digits, at_start}
 use Rattle.yaml_lexeme.specs.Place.{peek}
 use Rattle.yaml_text.specs.Classes.{is_digit}
 use Rattle.yaml_lexeme.proofs.directive.take_number.Goals as goal

@@ -1,5 +1,5 @@
 use Rattle.std.proofs.Common.{◌≡◌}
-use Rattle.yaml_lexeme.proofs.Numbers.{Digits}
+use Rattle.yaml_lexeme.proofs.Readers.DirectiveNumbers.{Digits}
 use Rattle.yaml_lexeme.proofs.directive.take_number.Given as goal
 
 abbrev pub invariant-digits : goal.invariant-digits

@@ -1,8 +1,8 @@
 use Rattle.std.proofs.Common.{◌≡◌, ℕ, refl, subst, arith, ◌∙◌, ap, sym}
 use Rattle.std.proofs.lemmas.Bool.Decides.{nat_tests}
 use Rattle.yaml_lexeme.specs.Place.{Place, peek, skip}
-use Rattle.yaml_lexeme.proofs.Places.{skip_none, skip_skip, first_on}
-use Rattle.yaml_lexeme.proofs.Hex.{Digits, more_digits, fits_digits, no_digit, no_scalar, a_scalar}
+use Rattle.yaml_lexeme.proofs.Places.PlaceMoves.{skip_none, skip_skip, first_on}
+use Rattle.yaml_lexeme.proofs.Readers.EscapeDigits.{Digits, more_digits, fits_digits, no_digit, no_scalar, a_scalar}
 use Rattle.yaml_lexeme.proofs.escape.take_hex_escape.Goals as goal
 
 pub digits-init : goal.digits-init

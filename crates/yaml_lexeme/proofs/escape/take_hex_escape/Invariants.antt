@@ -1,6 +1,6 @@
 use Rattle.std.proofs.Common.{◌≡◌}
 use Rattle.yaml_lexeme.specs.Place.{skip}
-use Rattle.yaml_lexeme.proofs.Hex.{Digits}
+use Rattle.yaml_lexeme.proofs.Readers.EscapeDigits.{Digits}
 use Rattle.yaml_lexeme.proofs.escape.take_hex_escape.Given as goal
 
 abbrev pub invariant-digits : goal.invariant-digits

@@ -1,6 +1,6 @@
 use Rattle.std.proofs.Common.{◌≡◌, ◌++◌, refl, arith}
 use Rattle.std.specs.Char.{encode_utf8}
-use Rattle.yaml_lexeme.proofs.Spaces.{breaks_blanks, breaks_more, breaks_end, shorter_blanks, stopped}
+use Rattle.yaml_lexeme.proofs.Readers.FoldSeparators.{breaks_blanks, breaks_more, breaks_end, shorter_blanks, stopped}
 use Rattle.yaml_lexeme.specs.Classes.{is_white}
 use Rattle.yaml_lexeme.specs.Fold.{written}
 use Rattle.yaml_lexeme.specs.Place.{first, skip, behind, break_len}

@@ -1,5 +1,5 @@
 use Rattle.std.proofs.Common.{◌≡◌, ◌++◌, length, false}
-use Rattle.yaml_lexeme.proofs.Spaces.{breaks_at, CopiesBreaks}
+use Rattle.yaml_lexeme.proofs.Readers.FoldSeparators.{breaks_at, CopiesBreaks}
 use Rattle.yaml_lexeme.specs.Classes.{is_white}
 use Rattle.yaml_lexeme.specs.Place.{first, behind}
 use Rattle.yaml_text.specs.Chars.{utf8}

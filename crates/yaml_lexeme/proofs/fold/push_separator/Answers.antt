@@ -1,7 +1,7 @@
 use Rattle.std.proofs.Common.{◌≡◌, ◌++◌, length, ◌∙◌, arith, ap, ℕ, List}
 use Rattle.std.proofs.lemmas.Grind.{common_steps}
 use Rattle.std.specs.Char.{encode_utf8}
-use Rattle.yaml_lexeme.proofs.Spaces.{breaks_at, behind_break, first_of, sep_blanks, sep_kept, sep_space, sep_more}
+use Rattle.yaml_lexeme.proofs.Readers.FoldSeparators.{breaks_at, behind_break, first_of, sep_blanks, sep_kept, sep_space, sep_more}
 use Rattle.yaml_lexeme.specs.Classes.{is_white}
 use Rattle.yaml_lexeme.specs.Place.{behind, break_len, run}
 use Rattle.yaml_text.specs.Chars.{utf8}

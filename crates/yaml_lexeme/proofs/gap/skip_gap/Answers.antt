@@ -1,5 +1,5 @@
 use Rattle.std.proofs.Common.{◌≡◌, ◌∙◌, true, sym}
-use Rattle.yaml_lexeme.proofs.Gaps.{gap_none}
+use Rattle.yaml_lexeme.proofs.Readers.GapLines.{gap_none}
 use Rattle.yaml_lexeme.proofs.gap.skip_gap.Goals as goal
 
 pub returns-else-not-is_solid : goal.returns-else-not-is_solid

@@ -1,6 +1,6 @@
 use Rattle.std.proofs.Common.{◌≡◌, arith}
 use Rattle.std.proofs.lemmas.Grind.{common_steps}
-use Rattle.yaml_lexeme.proofs.Gaps.{next_line, line_goes, line_ends}
+use Rattle.yaml_lexeme.proofs.Readers.GapLines.{next_line, line_goes, line_ends}
 use Rattle.yaml_lexeme.specs.Gap.{gap}
 use Rattle.yaml_lexeme.proofs.gap.skip_gap_lines.Goals as goal
 

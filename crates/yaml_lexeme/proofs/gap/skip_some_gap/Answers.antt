@@ -1,5 +1,5 @@
 use Rattle.std.proofs.Common.{◌≡◌, true, sym, arith}
-use Rattle.yaml_lexeme.proofs.Gaps.{gap_space}
+use Rattle.yaml_lexeme.proofs.Readers.GapLines.{gap_space}
 use Rattle.yaml_lexeme.specs.Gap.{is_solid}
 use Rattle.yaml_lexeme.specs.Place.{first, peek}
 use Rattle.yaml_lexeme.proofs.gap.skip_some_gap.Goals as goal

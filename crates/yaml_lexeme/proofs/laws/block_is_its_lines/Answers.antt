@@ -1,4 +1,4 @@
-use Rattle.yaml_lexeme.proofs.ListParts as law
+use Rattle.yaml_lexeme.proofs.LongestLists.BlockLongest as law
 use Rattle.yaml_lexeme.proofs.laws.block_is_its_lines.Goals as goal
 
 pub returns : goal.returns

@@ -1,4 +1,4 @@
-use Rattle.yaml_lexeme.proofs.WholeLaws as law
+use Rattle.yaml_lexeme.proofs.CountedMarks.WholeLexemes as law
 use Rattle.yaml_lexeme.proofs.laws.ends_are_counted.Goals as goal
 
 pub returns : goal.returns

@@ -1,4 +1,4 @@
-use Rattle.yaml_lexeme.proofs.GapLocal as law
+use Rattle.yaml_lexeme.proofs.Locality.GapLocality as law
 use Rattle.yaml_lexeme.proofs.laws.gap_is_local.Goals as goal
 
 pub returns : goal.returns

@@ -1,4 +1,4 @@
-use Rattle.yaml_lexeme.proofs.GapLaws as law
+use Rattle.yaml_lexeme.proofs.LongestLists.GapLongest as law
 use Rattle.yaml_lexeme.proofs.laws.gap_is_longest.Goals as goal
 
 pub returns : goal.returns

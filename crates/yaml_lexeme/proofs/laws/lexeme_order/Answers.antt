@@ -1,4 +1,4 @@
-use Rattle.yaml_lexeme.proofs.LexOrder as law
+use Rattle.yaml_lexeme.proofs.MarkOrder.LexemeOrder as law
 use Rattle.yaml_lexeme.proofs.laws.lexeme_order.Goals as goal
 
 pub returns : goal.returns

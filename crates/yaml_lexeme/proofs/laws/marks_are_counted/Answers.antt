@@ -1,4 +1,4 @@
-use Rattle.yaml_lexeme.proofs.CountLaws as law
+use Rattle.yaml_lexeme.proofs.CountedMarks.CountedPlaces as law
 use Rattle.yaml_lexeme.proofs.laws.marks_are_counted.Goals as goal
 
 pub returns : goal.returns

@@ -1,4 +1,4 @@
-use Rattle.yaml_lexeme.proofs.LexLocal as law
+use Rattle.yaml_lexeme.proofs.Locality.LexemeLocality as law
 use Rattle.yaml_lexeme.proofs.laws.offence_is_ahead.Goals as goal
 
 pub returns : goal.returns

@@ -1,4 +1,4 @@
-use Rattle.yaml_lexeme.proofs.ScalarParts as law
+use Rattle.yaml_lexeme.proofs.LongestLists.PlainLongest as law
 use Rattle.yaml_lexeme.proofs.laws.plain_is_its_parts.Goals as goal
 
 pub returns : goal.returns

@@ -1,4 +1,4 @@
-use Rattle.yaml_lexeme.proofs.ListParts as law
+use Rattle.yaml_lexeme.proofs.LongestLists.UriLongest as law
 use Rattle.yaml_lexeme.proofs.laws.uri_is_its_parts.Goals as goal
 
 pub returns : goal.returns

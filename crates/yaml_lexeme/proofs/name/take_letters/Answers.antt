@@ -1,5 +1,5 @@
 use Rattle.std.proofs.Common.{◌∙◌}
-use Rattle.yaml_lexeme.proofs.Uris.{name_bytes}
+use Rattle.yaml_lexeme.proofs.Readers.NameBytes.{name_bytes}
 use Rattle.yaml_lexeme.proofs.name.take_letters.Goals as goal
 
 pub returns-clause-value : goal.returns-clause-value

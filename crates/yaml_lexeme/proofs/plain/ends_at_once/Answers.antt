@@ -1,7 +1,7 @@
 use Rattle.std.proofs.Common.{◌≡◌, ◌∙◌, false, sym, ap, arith, rules}
-use Rattle.yaml_lexeme.proofs.Places.{behind_none}
-use Rattle.yaml_lexeme.proofs.Plains.{link_none}
-use Rattle.yaml_lexeme.proofs.PlainRuns.{over_below, passed_feed}
+use Rattle.yaml_lexeme.proofs.Places.PlaceMoves.{behind_none}
+use Rattle.yaml_lexeme.proofs.Readers.PlainLinks.{link_none}
+use Rattle.yaml_lexeme.proofs.Readers.PlainLines.{over_below, passed_feed}
 use Rattle.yaml_lexeme.specs.Classes.{is_white}
 use Rattle.yaml_lexeme.specs.Place.{first, skip, behind}
 use Rattle.yaml_lexeme.specs.Runs.{class_test}

@@ -1,7 +1,7 @@
 use Rattle.std.proofs.Common.{◌≡◌, ◌<◌, true, length, sym, ap, subst, arith}
-use Rattle.yaml_lexeme.proofs.Places.{length_one}
-use Rattle.yaml_lexeme.proofs.Plains.{chunk_there}
-use Rattle.yaml_lexeme.proofs.PlainRuns.{goes_char, goes_on, goes_shorter}
+use Rattle.yaml_lexeme.proofs.Places.PlaceMoves.{length_one}
+use Rattle.yaml_lexeme.proofs.Readers.PlainLinks.{chunk_there}
+use Rattle.yaml_lexeme.proofs.Readers.PlainLines.{goes_char, goes_on, goes_shorter}
 use Rattle.yaml_lexeme.specs.Place.{Place, first, peek}
 use Rattle.yaml_lexeme.specs.Plain.{is_chunk}
 use Rattle.yaml_lexeme.specs.Words.{Goes}

@@ -1,10 +1,10 @@
 use Rattle.std.proofs.Common.{◌≡◌, ◌||◌, true, false, refl, ap, length, arith}
-use Rattle.yaml_lexeme.proofs.Places.{behind_more, length_one, length_skip}
-use Rattle.yaml_lexeme.proofs.Plains.{Passes, passes_more, passes_spaces, passes_none, passes_all, takes_found}
+use Rattle.yaml_lexeme.proofs.Places.PlaceMoves.{behind_more, length_one, length_skip}
+use Rattle.yaml_lexeme.proofs.Readers.PlainLinks.{Passes, passes_more, passes_spaces, passes_none, passes_all, takes_found}
 use Rattle.yaml_lexeme.specs.Classes.{is_white}
 use Rattle.yaml_lexeme.specs.Fold.{fold}
 use Rattle.yaml_lexeme.specs.Place.{Place, first, run, run_len, behind}
-use Rattle.yaml_lexeme.specs.Plain.{is_tab, separator}
+use Rattle.yaml_lexeme.specs.Plain.{is_bad_tab, separator}
 use Rattle.yaml_text.specs.Classes.{is_break}
 use Rattle.yaml_lexeme.specs.declared.runs.class_t.TheVariants.{SPACE}
 use Rattle.yaml_lexeme.specs.Runs.{class_test}
@@ -17,14 +17,14 @@ pub returns-then-is_bad_tab : goal.returns-then-is_bad_tab
 returns-then-is_bad_tab c =
     let p = c.run.cursor in
     let space : is_white (first p) ≡ true = cc in
-    let tab : is_tab c.args.least c.run.broken p ≡ true = cc in
+    let tab : is_bad_tab c.args.least c.run.broken p ≡ true = cc in
     passes_none c.args.least c.run.broken p c.args.cursor.now space tab c.run.invariant
 
 pub run-preserved : goal.run-preserved
 run-preserved c =
     let p = c.run.cursor in
     let space : is_white (first p) ≡ true = cc in
-    let fine : is_tab c.args.least c.run.broken p ≡ false = cc in
+    let fine : is_bad_tab c.args.least c.run.broken p ≡ false = cc in
     let same : c.is_break-broken.result ≡ is_break (first p) = cc in
     let next : Passes c.args.least (c.run.broken || c.is_break-broken.result) c.advance.new.self c.args.cursor.now = rw (c.advance.ensures, same) (passes_more c.args.least c.run.broken p c.args.cursor.now space fine c.run.invariant) in
     rw c.skip_run.ensures (passes_spaces c.args.least (c.run.broken || c.is_break-broken.result) c.advance.new.self c.args.cursor.now next)

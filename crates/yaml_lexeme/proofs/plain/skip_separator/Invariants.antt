@@ -1,5 +1,5 @@
 use Rattle.std.proofs.Common.{length}
-use Rattle.yaml_lexeme.proofs.Plains.{Passes}
+use Rattle.yaml_lexeme.proofs.Readers.PlainLinks.{Passes}
 use Rattle.yaml_lexeme.proofs.plain.skip_separator.Given as goal
 
 abbrev pub invariant-run : goal.invariant-run

@@ -1,6 +1,6 @@
 use Rattle.std.proofs.Common.{◌≡◌, true, false, Bool, sym, subst}
 use Rattle.std.specs.Prelude.{◌||◌, ◌+◌, nat_le}
-use Rattle.yaml_lexeme.proofs.PlainRuns.{goes_none, goes_solid}
+use Rattle.yaml_lexeme.proofs.Readers.PlainLines.{goes_none, goes_solid}
 use Rattle.yaml_lexeme.specs.Runs.{class_test, Stands}
 use Rattle.yaml_lexeme.specs.Words.{plain_of}
 use Rattle.yaml_lexeme.proofs.plain.skip_words.Goals as goal

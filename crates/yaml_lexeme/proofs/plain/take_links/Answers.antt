@@ -5,8 +5,8 @@ use Rattle.yaml_lexeme.specs.Classes.{is_white}
 use Rattle.yaml_lexeme.specs.Place.{first, behind}
 use Rattle.yaml_lexeme.specs.Reading.{with_front}
 use Rattle.yaml_lexeme.specs.Words.{links}
-use Rattle.yaml_lexeme.proofs.Plains.{scalar_made}
-use Rattle.yaml_lexeme.proofs.PlainRuns.{plain_words, plain_none, links_go_wrong}
+use Rattle.yaml_lexeme.proofs.Readers.PlainLinks.{scalar_made}
+use Rattle.yaml_lexeme.proofs.Readers.PlainLines.{plain_words, plain_none, links_go_wrong}
 use Rattle.yaml_lexeme.proofs.plain.take_links.Goals as goal
 
 pub returns-in_err-take_link : goal.returns-in_err-take_link

@@ -5,9 +5,9 @@ use Rattle.yaml_lexeme.specs.Place.{Place, first, peek}
 use Rattle.yaml_lexeme.specs.Plain.{is_bad_colon}
 use Rattle.yaml_lexeme.specs.Reading.{with_front}
 use Rattle.yaml_lexeme.specs.Words.{links, words}
-use Rattle.yaml_lexeme.proofs.Plains.{scalar_ends}
-use Rattle.yaml_lexeme.proofs.PlainRuns.{plain_none, plain_words, words_colon, plain_out, links_end}
-use Rattle.yaml_lexeme.proofs.Many.{no_front}
+use Rattle.yaml_lexeme.proofs.Readers.PlainLinks.{scalar_ends}
+use Rattle.yaml_lexeme.proofs.Readers.PlainLines.{plain_none, plain_words, words_colon, plain_out, links_end}
+use Rattle.yaml_lexeme.proofs.Parts.PartByPart.{no_front}
 use Rattle.yaml_lexeme.proofs.plain.take_plain.Goals as goal
 use Rattle.yaml_lexeme.proofs.plain.take_plain.Goals.{In_ok-out}
 

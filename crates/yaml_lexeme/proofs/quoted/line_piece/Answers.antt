@@ -1,9 +1,9 @@
 use Rattle.std.proofs.Common.{◌≡◌, ◌++◌, ◌≤◌, length, true, false, ap, ◌∙◌, arith, List, ℕ}
 use Rattle.yaml_text.specs.Chars.{utf8}
 use Rattle.yaml_text.specs.Classes.{is_break}
-use Rattle.yaml_lexeme.proofs.Places.{length_skip}
-use Rattle.yaml_lexeme.proofs.Trims.{trim_bytes}
-use Rattle.yaml_lexeme.proofs.WordRuns.{run_goes_on, trimmed_goes_on}
+use Rattle.yaml_lexeme.proofs.Places.PlaceMoves.{length_skip}
+use Rattle.yaml_lexeme.proofs.ManyBytes.TrimmedLists.{trim_bytes}
+use Rattle.yaml_lexeme.proofs.Readers.QuotedLines.{run_goes_on, trimmed_goes_on}
 use Rattle.yaml_lexeme.specs.Place.{Place, first, behind, run, run_len}
 use Rattle.yaml_lexeme.specs.Runs.{class_test, line_of, trim}
 use Rattle.yaml_lexeme.proofs.quoted.line_piece.Goals as goal

@@ -1,7 +1,7 @@
 use Rattle.std.proofs.Common.{◌≡◌, true, false, not, ◌||◌, ◌==◌, arith}
 use Rattle.std.proofs.lemmas.Bool.Decides.{nat_tests}
-use Rattle.yaml_lexeme.proofs.Body.{at_space, at_char, at_break, takes_unmarked, takes_char}
-use Rattle.yaml_lexeme.proofs.Spaces.{breaks_at}
+use Rattle.yaml_lexeme.proofs.Readers.QuotedBody.{at_space, at_char, at_break, takes_unmarked, takes_char}
+use Rattle.yaml_lexeme.proofs.Readers.FoldSeparators.{breaks_at}
 use Rattle.yaml_lexeme.specs.Classes.{is_white}
 use Rattle.yaml_lexeme.specs.Fold.{fold}
 use Rattle.yaml_lexeme.specs.Place.{first, peek, skip, behind, run, break_len}

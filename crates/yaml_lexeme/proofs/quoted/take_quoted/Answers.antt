@@ -4,8 +4,8 @@ use Rattle.yaml_text.specs.Chars.{utf8}
 use Rattle.yaml_lexeme.specs.Place.{skip}
 use Rattle.yaml_lexeme.specs.Quoted.{body_part, spelled}
 use Rattle.yaml_lexeme.specs.Reading.{many}
-use Rattle.yaml_lexeme.proofs.Body.{body_shortens, quoted_all, quoted_none}
-use Rattle.yaml_lexeme.proofs.Many.{begins, reads_more, reads_all, reads_none}
+use Rattle.yaml_lexeme.proofs.Readers.QuotedBody.{body_shortens, quoted_all, quoted_none}
+use Rattle.yaml_lexeme.proofs.Parts.PartByPart.{begins, reads_more, reads_all, reads_none}
 use Rattle.yaml_lexeme.proofs.quoted.take_quoted.Goals as goal
 
 pub parts-init : goal.parts-init

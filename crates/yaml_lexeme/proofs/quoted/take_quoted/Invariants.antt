@@ -3,7 +3,7 @@ use Rattle.yaml_text.specs.Chars.{utf8}
 use Rattle.yaml_lexeme.specs.Place.{skip}
 use Rattle.yaml_lexeme.specs.Quoted.{body_part, spelled}
 use Rattle.yaml_lexeme.specs.Reading.{many}
-use Rattle.yaml_lexeme.proofs.Many.{Reading}
+use Rattle.yaml_lexeme.proofs.Parts.PartByPart.{Reading}
 use Rattle.yaml_lexeme.proofs.quoted.take_quoted.Given as goal
 
 abbrev pub invariant-parts : goal.invariant-parts

@@ -3,7 +3,7 @@ use Rattle.std.specs.List.{count_by}
 use Rattle.std.specs.Int.RustNames.{count_ones}
 use Rattle.std.proofs.lemmas.List.Sums.{count_by-le-length}
 use Rattle.yaml_lexeme.specs.Runs.{begins}
-use Rattle.yaml_lexeme.proofs.Vectors.{counted}
+use Rattle.yaml_lexeme.proofs.ManyBytes.VectorMasks.{counted}
 use Rattle.yaml_lexeme.proofs.runs.count_chars.Goals as goal
 use Rattle.yaml_lexeme.proofs.runs.count_chars.Goals.{After-starts}
 

@@ -4,9 +4,9 @@ use lib.Count.{count_trailing_zeros}
 use lib.Lanes.{chunk}
 use Rattle.std.specs.List.{count_by}
 use Rattle.yaml_lexeme.specs.Runs.{is_stop, is_quiet, begins}
-use Rattle.yaml_text.proofs.Vectors.{run_through, run_stops}
-use Rattle.yaml_lexeme.proofs.Vectors.{stop_within}
-use Rattle.yaml_lexeme.proofs.Counts.{count_stops, count_goes, count_small, count_part}
+use Rattle.yaml_text.proofs.ManyBytes.VectorRuns.{run_through, run_stops}
+use Rattle.yaml_lexeme.proofs.ManyBytes.VectorMasks.{stop_within}
+use Rattle.yaml_lexeme.proofs.ManyBytes.CharacterCounts.{count_stops, count_goes, count_small, count_part}
 use Rattle.yaml_lexeme.proofs.runs.quiet_line.Goals as goal
 use Rattle.yaml_lexeme.proofs.runs.quiet_line.Goals.{Then-found-ne0}
 

@@ -2,8 +2,8 @@ use Rattle.std.proofs.Common.{arith}
 use Rattle.std.proofs.lemmas.Simd.{zip2_splat}
 use Rattle.yaml_lexeme.specs.Runs.{is_stop}
 use Rattle.yaml_lexeme.specs.declared.runs.class_t.TheVariants.{IN_LINE}
-use Rattle.yaml_text.proofs.Lanes.{either, masked}
-use Rattle.yaml_lexeme.proofs.Lanes.{hit}
+use Rattle.yaml_text.proofs.ManyBytes.VectorLanes.{either, masked}
+use Rattle.yaml_lexeme.proofs.ManyBytes.VectorLanes.{hit}
 use Rattle.yaml_lexeme.proofs.runs.stops_any.Goals as goal
 
 pub returns : goal.returns

@@ -2,8 +2,8 @@ use Rattle.std.proofs.Common.{arith}
 use Rattle.std.proofs.lemmas.Simd.{zip2_splat}
 use Rattle.yaml_lexeme.specs.Runs.{is_stop}
 use Rattle.yaml_lexeme.specs.declared.runs.class_t.TheVariants.{FLOW}
-use Rattle.yaml_text.proofs.Lanes.{either, masked}
-use Rattle.yaml_lexeme.proofs.Lanes.{hit, equal}
+use Rattle.yaml_text.proofs.ManyBytes.VectorLanes.{either, masked}
+use Rattle.yaml_lexeme.proofs.ManyBytes.VectorLanes.{hit, equal}
 use lib.Bits.{bit_or}
 use Rattle.yaml_lexeme.proofs.runs.stops_flow.Goals as goal
 

@@ -1,4 +1,4 @@
-use Rattle.yaml_lexeme.proofs.Cursors.{at_front}
+use Rattle.yaml_lexeme.proofs.Places.CursorMoves.{at_front}
 use Rattle.yaml_lexeme.proofs.tests.kind_of.Goals as goal
 
 pub yaml_lexeme_kind-requires : goal.yaml_lexeme_kind-requires

@@ -1,5 +1,5 @@
 use Rattle.std.proofs.Common.{sym}
-use Rattle.yaml_lexeme.proofs.Cursors.{at_front}
+use Rattle.yaml_lexeme.proofs.Places.CursorMoves.{at_front}
 use Rattle.yaml_lexeme.proofs.tests.lexed.Goals as goal
 
 pub yaml_lexeme_kind-requires : goal.yaml_lexeme_kind-requires

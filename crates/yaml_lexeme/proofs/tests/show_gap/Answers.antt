@@ -1,4 +1,4 @@
-use Rattle.yaml_lexeme.proofs.Cursors.{at_front}
+use Rattle.yaml_lexeme.proofs.Places.CursorMoves.{at_front}
 use Rattle.yaml_lexeme.proofs.tests.show_gap.Goals as goal
 
 pub yaml_gap-broken-requires : goal.yaml_gap-broken-requires

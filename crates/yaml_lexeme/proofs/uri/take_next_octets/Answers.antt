@@ -2,7 +2,7 @@ use Rattle.std.proofs.Common.{◌≡◌, ◌+◌, ◌-◌, suc, true, false, ari
 use Rattle.std.proofs.lemmas.Result.{err_from_is_err_and}
 use Rattle.yaml_lexeme.specs.declared.problem.refusal_t.TheVariants as errors
 use Rattle.yaml_lexeme.specs.declared.problem.problem_t.TheVariants.{BAD_NEXT_OCTET}
-use Rattle.yaml_lexeme.proofs.Uris.{octets_more, octets_bad, octets_none, octets_all, appended, not_appended}
+use Rattle.yaml_lexeme.proofs.Readers.UriOctets.{octets_more, octets_bad, octets_none, octets_all, appended, not_appended}
 use Rattle.yaml_lexeme.specs.Reading.{with_front}
 use Rattle.yaml_lexeme.specs.Uri.{next_octets, is_bad_next}
 use Rattle.yaml_lexeme.proofs.uri.take_next_octets.Goals as goal

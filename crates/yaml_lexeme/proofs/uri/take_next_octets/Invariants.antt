@@ -1,5 +1,5 @@
 use Rattle.std.proofs.Common.{◌-◌}
-use Rattle.yaml_lexeme.proofs.Uris.{Octets}
+use Rattle.yaml_lexeme.proofs.Readers.UriOctets.{Octets}
 use Rattle.yaml_lexeme.specs.Reading.{with_front}
 use Rattle.yaml_lexeme.specs.Uri.{next_octets}
 use Rattle.yaml_lexeme.proofs.uri.take_next_octets.Given as goal

@@ -1,6 +1,6 @@
 use Rattle.std.proofs.lemmas.Result.{err_from_is_err_and}
-use Rattle.yaml_lexeme.proofs.Many.{reads_more, reads_all, reads_none}
-use Rattle.yaml_lexeme.proofs.Uris.{uri_shortens, uri_behind, uri_taken, uri_refused}
+use Rattle.yaml_lexeme.proofs.Parts.PartByPart.{reads_more, reads_all, reads_none}
+use Rattle.yaml_lexeme.proofs.Readers.UriOctets.{uri_shortens, uri_behind, uri_taken, uri_refused}
 use Rattle.yaml_lexeme.specs.Uri.{uri_part}
 use Rattle.yaml_lexeme.proofs.uri.take_uri.Goals as goal
 

@@ -1,5 +1,5 @@
 use Rattle.std.proofs.Common.{length}
-use Rattle.yaml_lexeme.proofs.Many.{Reading, joined}
+use Rattle.yaml_lexeme.proofs.Parts.PartByPart.{Reading, joined}
 use Rattle.yaml_lexeme.specs.Reading.{many, with_front}
 use Rattle.yaml_lexeme.specs.Uri.{uri_part}
 use Rattle.yaml_lexeme.proofs.uri.take_uri.Given as goal

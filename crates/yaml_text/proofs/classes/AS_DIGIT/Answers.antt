@@ -1,7 +1,7 @@
 use Rattle.std.proofs.Common.{◌≡◌, ◌∙◌, arith}
 use Rattle.std.proofs.lemmas.Int.{ints}
 use Rattle.std.specs.Prelude.{slice_index}
-use Rattle.yaml_text.proofs.ClassLaws.{same_digit}
+use Rattle.yaml_text.proofs.Characters.ClassTables.{same_digit}
 use Rattle.yaml_text.proofs.classes.AS_DIGIT.Goals as goal
 
 pub returns-clause-character : goal.returns-clause-character

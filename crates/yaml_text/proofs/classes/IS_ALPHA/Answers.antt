@@ -1,6 +1,6 @@
 use Rattle.std.proofs.Common.{◌∙◌, ap}
 use Rattle.yaml_text.specs.Classes.{is_alpha}
-use Rattle.yaml_text.proofs.ClassLaws.{alpha_law}
+use Rattle.yaml_text.proofs.Characters.ClassTables.{alpha_law}
 use Rattle.yaml_text.proofs.classes.IS_ALPHA.Goals as goal
 
 pub returns-clause-character : goal.returns-clause-character

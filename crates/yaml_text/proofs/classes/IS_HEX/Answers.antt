@@ -1,6 +1,6 @@
 use Rattle.std.proofs.Common.{◌∙◌, ap}
 use Rattle.yaml_text.specs.Classes.{is_hex}
-use Rattle.yaml_text.proofs.ClassLaws.{hex_law}
+use Rattle.yaml_text.proofs.Characters.ClassTables.{hex_law}
 use Rattle.yaml_text.proofs.classes.IS_HEX.Goals as goal
 
 pub returns-clause-character : goal.returns-clause-character

@@ -1,6 +1,6 @@
 use Rattle.std.proofs.Common.{◌∙◌, ap}
 use Rattle.yaml_text.specs.Utf8.{width_of}
-use Rattle.yaml_text.proofs.ClassLaws.{width_law}
+use Rattle.yaml_text.proofs.Characters.ClassTables.{width_law}
 use Rattle.yaml_text.proofs.classes.WIDTH.Goals as goal
 
 pub returns-clause-character : goal.returns-clause-character

@@ -3,8 +3,8 @@ use Rattle.std.proofs.lemmas.List.{length-drop}
 use Rattle.std.specs.List.{prefix_len}
 use Rattle.yaml_text.specs.Chars.{IsText}
 use Rattle.yaml_text.specs.Utf8.{is_single}
-use Rattle.yaml_text.proofs.Fronts.{IsText-nil, front_grows, none_at_end}
-use Rattle.yaml_text.proofs.Singles.{singles_grow}
+use Rattle.yaml_text.proofs.Decodings.DecodeFronts.{IsText-nil, front_grows, none_at_end}
+use Rattle.yaml_text.proofs.ManyBytes.AsciiFronts.{singles_grow}
 use Rattle.yaml_text.proofs.decode.front8.Goals as goal
 
 pub loop-at-init : goal.loop-at-init

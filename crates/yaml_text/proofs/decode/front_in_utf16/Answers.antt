@@ -2,7 +2,7 @@ use Rattle.std.proofs.Common.{◌∙◌, ap}
 use Rattle.std.specs.Str.{chars}
 use Rattle.yaml_text.specs.declared.types.yaml_encoding_t.{yaml_encoding_t}
 use Rattle.yaml_text.specs.Text.{Text}
-use Rattle.yaml_text.proofs.Decodings.{fronts16}
+use Rattle.yaml_text.proofs.Decodings.DecodeResults.{fronts16}
 use Rattle.yaml_text.proofs.decode.front_in_utf16.Goals as goal
 
 pub returns-clause-front : goal.returns-clause-front

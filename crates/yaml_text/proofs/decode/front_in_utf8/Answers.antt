@@ -2,7 +2,7 @@ use Rattle.std.proofs.Common.{◌∙◌, ap, List, ℕ}
 use Rattle.std.specs.Str.{chars}
 use Rattle.yaml_text.specs.declared.types.yaml_encoding_t.TheVariants.{YAML_UTF8_ENCODING}
 use Rattle.yaml_text.specs.Text.{Text}
-use Rattle.yaml_text.proofs.Decodings.{fronts8}
+use Rattle.yaml_text.proofs.Decodings.DecodeResults.{fronts8}
 use Rattle.yaml_text.proofs.decode.front_in_utf8.Goals as goal
 
 text : List ℕ → Text

@@ -1,5 +1,5 @@
 use Rattle.std.proofs.Common.{inr}
-use Rattle.yaml_text.proofs.Decodings.{is_spelled, is_refused, own_text, front_none, front_some}
+use Rattle.yaml_text.proofs.Decodings.DecodeResults.{is_spelled, is_refused, own_text, front_none, front_some}
 use Rattle.yaml_text.proofs.decode.yaml_decode.Goals as goal
 
 pub returns-in-Ok-default-None-clause-text : goal.returns-in-Ok-default-None-clause-text

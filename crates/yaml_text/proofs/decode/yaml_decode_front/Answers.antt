@@ -1,4 +1,4 @@
-use Rattle.yaml_text.proofs.Decodings.{told, else_utf8, front_longest}
+use Rattle.yaml_text.proofs.Decodings.DecodeResults.{told, else_utf8, front_longest}
 use Rattle.yaml_text.proofs.decode.yaml_decode_front.Goals as goal
 
 pub returns-in_ok-front_in_utf16-in-YAML_UTF16LE_ENCODING-clause-front : goal.returns-in_ok-front_in_utf16-in-YAML_UTF16LE_ENCODING-clause-front

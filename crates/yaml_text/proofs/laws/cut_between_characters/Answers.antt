@@ -1,4 +1,4 @@
-use Rattle.yaml_text.proofs.Running.{cut}
+use Rattle.yaml_text.proofs.Marks.MarkCounts.{cut}
 use Rattle.yaml_text.proofs.laws.cut_between_characters.Goals as goal
 
 pub returns : goal.returns

@@ -1,5 +1,5 @@
-use Rattle.yaml_text.proofs.Readings.{longest}
-use Rattle.yaml_text.proofs.Decodings.{spells_is, refused_is, is_spelled, is_refused}
+use Rattle.yaml_text.proofs.Decodings.DecodeReadings.{longest}
+use Rattle.yaml_text.proofs.Decodings.DecodeResults.{spells_is, refused_is, is_spelled, is_refused}
 use Rattle.yaml_text.proofs.laws.one_reading.Goals as goal
 
 pub returns : goal.returns

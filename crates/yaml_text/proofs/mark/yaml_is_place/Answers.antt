@@ -1,4 +1,4 @@
-use Rattle.yaml_text.proofs.Starts.{place_test}
+use Rattle.yaml_text.proofs.Marks.MarkSplits.{place_test}
 use Rattle.yaml_text.proofs.mark.yaml_is_place.Goals as goal
 
 pub returns : goal.returns

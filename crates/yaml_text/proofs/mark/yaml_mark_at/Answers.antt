@@ -1,6 +1,6 @@
 use Rattle.std.proofs.Common.{arith, ap, ◌∙◌}
 use Rattle.yaml_text.specs.declared.types.yaml_mark_t.{yaml_mark_t}
-use Rattle.yaml_text.proofs.Indexes.{on_way_next, on_way_left, on_way_end}
+use Rattle.yaml_text.proofs.Marks.MarkIndexes.{on_way_next, on_way_left, on_way_end}
 use Rattle.yaml_text.proofs.mark.yaml_mark_at.Goals as goal
 
 pub loop-cursor-preserved : goal.loop-cursor-preserved

@@ -1,5 +1,5 @@
 use Rattle.std.proofs.Common.{length}
-use Rattle.yaml_text.proofs.Indexes.{IsOnWay}
+use Rattle.yaml_text.proofs.Marks.MarkIndexes.{IsOnWay}
 use Rattle.yaml_text.proofs.mark.yaml_mark_at.Given as goal
 
 abbrev pub invariant-loop-cursor : goal.invariant-loop-cursor

@@ -1,6 +1,6 @@
 use Rattle.std.proofs.Common.{arith, length-drop}
-use Rattle.yaml_text.proofs.Fronts.{scalar-IsChar}
-use Rattle.yaml_text.proofs.Units.{reads_none, reads_more, none16_at_end}
+use Rattle.yaml_text.proofs.Decodings.DecodeFronts.{scalar-IsChar}
+use Rattle.yaml_text.proofs.Characters.Utf16Spelling.{reads_none, reads_more, none16_at_end}
 use Rattle.yaml_text.proofs.utf16.front16.Goals as goal
 
 pub loop-at-init : goal.loop-at-init

@@ -1,7 +1,7 @@
 use Rattle.std.proofs.Common.{◌≡◌, arith, sym, ◌∙◌}
 use Rattle.std.proofs.lemmas.Bool.{true≢false}
 use Rattle.yaml_text.specs.Utf8.{value_of, stray_at}
-use Rattle.yaml_text.proofs.Spelling.{passes, reads_with}
+use Rattle.yaml_text.proofs.Characters.Utf8Spelling.{passes, reads_with}
 use Rattle.yaml_text.proofs.utf8.first_char.Goals as goal
 
 pub returns-then-width-eq0-clause-none : goal.returns-then-width-eq0-clause-none

@@ -1,4 +1,4 @@
-use Rattle.yaml_text.proofs.Places.{front_is_of}
+use Rattle.yaml_text.proofs.Marks.MarkMoves.{front_is_of}
 use Rattle.yaml_text.proofs.mark.cursor_t.new.Goals as goal
 
 pub invariant_of-result : goal.invariant_of-result

@@ -1,5 +1,5 @@
 use Rattle.std.proofs.Common.{arith}
-use Rattle.yaml_text.proofs.Places.{skip_lands, at_bounds}
+use Rattle.yaml_text.proofs.Marks.MarkMoves.{skip_lands, at_bounds}
 use Rattle.yaml_text.proofs.mark.cursor_t.skip.Goals as goal
 
 pub overflow_add-self-2 : goal.overflow_add-self-2

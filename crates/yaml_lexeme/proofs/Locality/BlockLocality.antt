@@ -1,0 +1,211 @@
+-- Literal and folded scalars are local.
+use Rattle.std.proofs.Common.{◌≡◌, ℕ, ◌+◌, ◌-◌, ◌≤◌, min, Bool, true, false, not, ◌==◌, ◌&&◌, nat_lt, if◌then◌else◌, inl, inr, List, Option, Some, None, is_some, Result, Ok, Err, refl, sym, ap, ◌∙◌, subst, arith}
+use Rattle.std.proofs.lemmas.Bool.{cases_Bool, cases_lt}
+use Rattle.yaml_lexeme.proofs.Locality.DirectiveLocality.{line_like}
+use Rattle.yaml_lexeme.proofs.Locality.GapLocality.{break_same}
+use Rattle.yaml_lexeme.proofs.Locality.ComposedReaders.{Like, IsLike, IsPartLike, like_found, found_here, refuse_here, like_if, part_like_if, like_on, like_bind, like_same, like_map, like_part, like_run, over_here, many_like, Step, like_step, agree_sym}
+use Rattle.yaml_lexeme.proofs.Locality.LocalReaders.{agree_less, run_same}
+use Rattle.yaml_lexeme.proofs.Locality.LookaheadLists.{Next, go, stop, join, finish, finish_like}
+use Rattle.yaml_lexeme.proofs.MarkOrder.ScalarsAhead.{blank_shortens, text_shortens}
+use Rattle.yaml_lexeme.specs.Block.{header_of, blank_of, is_sign, sign_of, digit_at, header_at, after_line, is_indenting, indent_len, after_indent, Blank, blank_line, Blanks, blanks_of, blank_lines, Line, break_at, line_at, is_text, text_line, block_value, end_of, block_indent, set_indent, block}
+use Rattle.yaml_lexeme.specs.Classes.{is_in_line}
+use Rattle.yaml_lexeme.specs.Fold.{written}
+use Rattle.yaml_lexeme.proofs.Locality.AgreeingPlaces.{Agree}
+use Rattle.yaml_lexeme.proofs.Readers.BlockLines.{blank_at, after_blanks}
+use Rattle.yaml_lexeme.specs.Place.{Place, first, skip, run_len, break_len}
+use Rattle.yaml_lexeme.specs.Reading.{Offence, Found, Read, found, refuse, ◌>>=◌, part, over, many}
+use Rattle.yaml_lexeme.specs.declared.block.header_t.{header_t}
+use Rattle.yaml_lexeme.specs.Lexeme.{Scalar as scalar_t}
+use Rattle.yaml_lexeme.specs.declared.problem.problem_t.TheVariants.{TAB_IN_INDENTATION}
+use Rattle.yaml_text.specs.Chars.{utf8}
+use Rattle.yaml_text.specs.Classes.{is_digit}
+use Rattle.yaml_text.specs.declared.types.yaml_mark_t.{yaml_mark_t}
+
+abbrev spaces : Place → ℕ
+spaces p = run_len (λ c. c == 0x20) p
+
+most_same : (m n : ℕ) (p q : Place) → Agree n p q → min (spaces p) m + 8 ≤ n → min (spaces q) m ≡ min (spaces p) m
+most_same m n p q a h =
+    elim (cases_lt (spaces p) m) [
+      | inl less ↦ let e = run_same (λ c. c == 0x20) p q (agree_less (spaces p + 1) n p q (omega arith) a) in omega arith
+      | inr enough ↦
+          elim (cases_lt (spaces q) m) [
+            | inl less ↦ let e = run_same (λ c. c == 0x20) q p (agree_less (spaces q + 1) n q p (omega arith) (agree_sym n p q a)) in omega arith
+            | inr both ↦ omega arith
+          ]
+    ]
+
+indent_same : (limit : Option ℕ) (n : ℕ) (p q : Place) → Agree n p q → indent_len limit p + 8 ≤ n → indent_len limit q ≡ indent_len limit p
+indent_same None n p q a h = run_same (λ c. c == 0x20) p q (agree_less (spaces p + 1) n p q (omega arith) a)
+indent_same (Some m) n p q a h =
+    let col : q.mark.column ≡ p.mark.column = ap (λ (k : yaml_mark_t). k.column) (sym a.mark) in
+    ap (λ (c : ℕ). min (spaces q) (m - c)) col ∙ most_same (m - p.mark.column) n p q a h
+
+-- what follows the spaces
+abbrev indent_then : Option ℕ → Place → Read ℕ
+indent_then limit q = if is_indenting 0x09 limit q then refuse TAB_IN_INDENTATION q else found 0 q
+
+abbrev indented : Option ℕ → Place → Read ℕ
+indented limit p = indent_then limit (skip (indent_len limit p) p)
+
+indented_like : (limit : Option ℕ) → IsLike (indented limit)
+indented_like limit n p q a =
+    let s : Step n p q (skip (indent_len limit p) p) (skip (indent_len limit q) q) = record { count = indent_len limit p; is = refl; same = λ h. ap (λ (i : ℕ). skip i q) (indent_same limit n p q a h) } in
+    like_step (indent_then limit) (λ m x y b. like_if (is_indenting 0x09 limit x) (is_indenting 0x09 limit y) (λ h. rw (b.mark, b.same 0 (omega arith)) refl) refuse_here found_here) n p q (skip (indent_len limit p) p) (skip (indent_len limit q) q) a s
+
+indent_is : {A : Type 0} (limit : Option ℕ) (p : Place) (f : Place → Result A Offence) → (after_indent limit p >>= f) ≡ (indented limit p >>= λ x. f x.end)
+unfolding after_indent
+indent_is limit p f = let q = skip (indent_len limit p) p in elim (cases_Bool (is_indenting 0x09 limit q)) [ inl e ↦ rw e refl | inr e ↦ rw e refl ]
+
+abbrev last : Option ℕ → Place → Read yaml_mark_t
+last limit p = indented limit p >>= λ x. found p.mark x.end
+
+abbrev turn_then : yaml_mark_t → Place → Read (Next Blank yaml_mark_t)
+turn_then m q = if nat_lt 0 (break_len q) then found (go (record { column = q.mark.column; break = written (first q) })) (skip (break_len q) q) else found (stop m) q
+
+abbrev turn : Option ℕ → Place → Read (Next Blank yaml_mark_t)
+turn limit p = indented limit p >>= λ x. turn_then p.mark x.end
+
+blank_same : (n : ℕ) (p q : Place) → Agree n p q → 8 ≤ n → blank_of q ≡ blank_of p
+blank_same n p q a h = rw (a.mark, a.same 0 (omega arith)) refl
+
+then_like : (m : yaml_mark_t) → IsLike (turn_then m)
+then_like m n p q a =
+    like_if (nat_lt 0 (break_len p)) (nat_lt 0 (break_len q)) (λ h. ap (λ (i : ℕ). nat_lt 0 i) (break_same n p q a h))
+    (like_found (break_len p) refl (λ h. ap (λ (i : ℕ). skip i q) (break_same n p q a (omega arith))) (λ h. ap (λ (b : Blank). go b) (blank_same n p q a (omega arith)))) found_here
+
+turn_like : (limit : Option ℕ) → IsLike (turn limit)
+turn_like limit n p q a =
+    subst (λ (m : yaml_mark_t). Like {A = Next Blank yaml_mark_t} n p q (turn limit p) (indented limit q >>= λ x. turn_then m x.end)) a.mark
+    (like_bind _ _ a (indented_like limit n p q a) (λ x z i b. then_like p.mark i x.end z b))
+
+by_break : (b : Bool) (m : yaml_mark_t) (v : Blank) (q r : Place) → (if b then found (go v) r else found (stop m) q) ≡ join (if b then part v r else over) (found {A = yaml_mark_t} m q)
+by_break true m v q r = refl
+by_break false m v q r = refl
+
+by_indent : (r : Read ℕ) (m : yaml_mark_t) → (r >>= λ x. turn_then m x.end) ≡ join (r >>= λ x. if nat_lt 0 (break_len x.end) then part (record { column = x.end.mark.column; break = written (first x.end) }) (skip (break_len x.end) x.end) else over) (r >>= λ x. found m x.end)
+by_indent (Ok x) m = by_break (nat_lt 0 (break_len x.end)) m (record { column = x.end.mark.column; break = written (first x.end) }) x.end (skip (break_len x.end) x.end)
+by_indent (Err e) m = refl
+
+blank_is : (limit : Option ℕ) (p : Place) → blank_line limit p ≡ (indented limit p >>= λ x. blank_at x.end)
+unfolding blank_line
+blank_is limit p = indent_is limit p blank_at
+
+turn_is : (limit : Option ℕ) (p : Place) → turn limit p ≡ join (blank_line limit p) (last limit p)
+turn_is limit p = rw (blank_is limit p) (by_indent (indented limit p) p.mark)
+
+abbrev blanks_from : Read (List Blank × yaml_mark_t) → Read Blanks
+blanks_from r = r >>= λ t. found (blanks_of t.value.0 t.value.1) t.end
+
+last_is : (r : Read ℕ) (ls : List Blank) (m : yaml_mark_t) → (r >>= λ x. found (blanks_of ls m) x.end) ≡ blanks_from ((r >>= λ x. found m x.end) >>= λ b. found (ls, b.value) b.end)
+last_is (Ok x) ls m = refl
+last_is (Err e) ls m = refl
+
+blanks_is : (limit : Option ℕ) (r : Read (List Blank)) → after_blanks limit r ≡ blanks_from (finish (last limit) r)
+blanks_is limit (Ok lines) = indent_is limit lines.end (λ next. found (blanks_of lines.value lines.end.mark) next) ∙ last_is (indented limit lines.end) lines.value lines.end.mark
+blanks_is limit (Err e) = refl
+
+lines_is : (limit : Option ℕ) (p : Place) → blank_lines limit p ≡ blanks_from (finish (last limit) (many (blank_line limit) p))
+unfolding blank_lines
+lines_is limit p = blanks_is limit (many (blank_line limit) p)
+
+lines_like : (limit : Option ℕ) → IsLike (blank_lines limit)
+lines_like limit n p q a =
+    rw (lines_is limit p, lines_is limit q) (like_map (λ (t : List Blank × yaml_mark_t). blanks_of t.0 t.1) (finish_like (blank_line limit) (last limit) (turn limit) (blank_shortens limit) (turn_is limit) (turn_like limit) n p q a))
+
+abbrev line_then : ℕ → List ℕ → Place → Read Line
+line_then indent text q = blank_lines (Some indent) (skip (break_len q) q) >>= λ blanks. found (record { text = text; break = break_at q; empties = blanks.value.breaks; end = blanks.value.end }) blanks.end
+
+abbrev line_of : List ℕ → Option ℕ → Blanks → Line
+line_of text b blanks = record { text = text; break = b; empties = blanks.breaks; end = blanks.end }
+
+at_break : (n : ℕ) (p q : Place) → Agree n p q → 8 ≤ n → break_at q ≡ break_at p
+at_break n p q a h = rw (a.same 0 (omega arith), a.same 1 (omega arith)) refl
+
+line_then_like : (indent : ℕ) (text : List ℕ) → IsLike (line_then indent text)
+line_then_like indent text n p q a =
+    let s : Step n p q (skip (break_len p) p) (skip (break_len q) q) = record { count = break_len p; is = refl; same = λ h. ap (λ (i : ℕ). skip i q) (break_same n p q a (omega arith)) } in
+    like_same (λ h. ap (λ (b : Option ℕ). blank_lines (Some indent) (skip (break_len q) q) >>= λ blanks. found (line_of text b blanks.value) blanks.end) (at_break n p q a h))
+    (like_map (line_of text (break_at p)) (like_step (blank_lines (Some indent)) (lines_like (Some indent)) n p q (skip (break_len p) p) (skip (break_len q) q) a s))
+
+line_like_at : (indent : ℕ) → IsLike (line_at indent)
+unfolding line_at
+line_like_at indent n p q a = like_run (line_then indent) (line_then_like indent) is_in_line n p q a
+
+text_like : (indent : ℕ) → IsPartLike (text_line indent)
+unfolding text_line
+text_like indent n p q a =
+    part_like_if (is_text indent p) (is_text indent q) (λ h. rw (a.mark, a.same 0 (omega arith)) refl) (like_part (λ (l : Line). l) (line_like_at indent n p q a)) over_here
+
+digit_like : IsLike digit_at
+unfolding digit_at
+digit_like n p q a =
+    like_if (not (is_digit (first p))) (not (is_digit (first q))) (λ h. rw (a.same 0 (omega arith)) refl) found_here
+    (like_if (first p == 0x30) (first q == 0x30) (λ h. rw (a.same 0 (omega arith)) refl) refuse_here
+    (like_found 1 refl (λ h. refl) (λ h. ap (λ (c : ℕ). Some (c - 0x30)) (sym (a.same 0 (omega arith))))))
+
+abbrev signed : ℕ → Option ℕ → header_t
+signed c d = header_of (sign_of c) d
+
+header_like : IsLike header_at
+unfolding header_at
+header_like n p q a =
+    like_if (is_sign (first p)) (is_sign (first q)) (λ h. rw (a.same 0 (omega arith)) refl)
+    (like_same (λ h. ap (λ (c : ℕ). digit_at (skip 1 q) >>= λ d. found (signed c d.value) d.end) (sym (a.same 0 (omega arith))))
+    (like_map (signed (first p)) (like_on digit_at digit_like n 1 p q (skip 1 p) (skip 1 q) a refl (λ h. refl))))
+    (like_bind _ _ a (digit_like n p q a) (λ x z m b.
+    like_if (is_some x.value && is_sign (first x.end)) (is_some x.value && is_sign (first z)) (λ h. rw (b.same 0 (omega arith)) refl)
+    (like_found 1 refl (λ h. refl) (λ h. ap (λ (c : ℕ). signed c x.value) (sym (b.same 0 (omega arith))))) found_here))
+
+-- after the leading empty lines
+abbrev block_end : Bool → header_t → Option ℕ → Found Blanks → Read scalar_t
+block_end folded header level leading =
+    many (text_line (block_indent level (set_indent level header.digit) leading.value.column leading.end.mark.column)) leading.end >>= λ lines.
+    found (record { value = utf8 (block_value folded header.chomp leading.value.breaks lines.value); end = end_of leading.value.end lines.value; passed_break = false }) lines.end
+
+abbrev block_value_of : Bool → header_t → Blanks → List Line → scalar_t
+block_value_of folded header leading lines = record { value = utf8 (block_value folded header.chomp leading.breaks lines); end = end_of leading.end lines; passed_break = false }
+
+-- after the header's line
+abbrev block_lines : Bool → Option ℕ → header_t → Place → Read scalar_t
+block_lines folded level header start = blank_lines (set_indent level header.digit) start >>= λ leading. block_end folded header level leading
+
+end_like : (folded : Bool) (header : header_t) (level : Option ℕ) (column : ℕ) (leading : Blanks) (n : ℕ) (p q : Place) → Agree n p q → p.mark.column ≡ column
+    → Like n p q (many (text_line (block_indent level (set_indent level header.digit) leading.column column)) p >>= λ lines. found (block_value_of folded header leading lines.value) lines.end)
+    (many (text_line (block_indent level (set_indent level header.digit) leading.column column)) q >>= λ lines. found (block_value_of folded header leading lines.value) lines.end)
+end_like folded header level column leading n p q a e =
+    let indent = block_indent level (set_indent level header.digit) leading.column column in
+    like_map (block_value_of folded header leading) (many_like (text_line indent) (text_shortens indent) (text_like indent) n p q a)
+
+block_lines_like : (folded : Bool) (level : Option ℕ) (header : header_t) → IsLike (block_lines folded level header)
+block_lines_like folded level header n p q a =
+    like_bind _ _ a (lines_like (set_indent level header.digit) n p q a) (λ x z m b.
+    subst (λ (k : yaml_mark_t). Like {A = scalar_t} m x.end z (block_end folded header level x) (many (text_line (block_indent level (set_indent level header.digit) x.value.column k.column)) z >>= λ lines. found (block_value_of folded header x.value lines.value) lines.end)) b.mark
+    (end_like folded header level x.end.mark.column x.value m x.end z b refl))
+
+abbrev as_read : Result Place Offence → Read ℕ
+as_read r = r >>= λ next. found {A = ℕ} 0 next
+
+rest_is : {A : Type 0} (r : Result Place Offence) (f : Place → Read A) → (r >>= f) ≡ (as_read r >>= λ x. f x.end)
+rest_is (Ok p) f = refl
+rest_is (Err e) f = refl
+
+abbrev block_header : Bool → Option ℕ → Place → Read scalar_t
+block_header folded level p = header_at p >>= λ header. as_read (after_line header.end) >>= λ start. block_lines folded level header.value start.end
+
+block_from : (folded : Bool) (level : Option ℕ) (r : Read header_t) → (r >>= λ header. after_line header.end >>= λ start. block_lines folded level header.value start) ≡ (r >>= λ header. as_read (after_line header.end) >>= λ start. block_lines folded level header.value start.end)
+block_from folded level (Ok header) = rest_is (after_line header.end) (block_lines folded level header.value)
+block_from folded level (Err e) = refl
+
+block_is : (folded : Bool) (level : Option ℕ) (p : Place) → block folded level p ≡ block_header folded level (skip 1 p)
+unfolding block
+block_is folded level p = block_from folded level (header_at (skip 1 p))
+
+block_header_like : (folded : Bool) (level : Option ℕ) → IsLike (block_header folded level)
+block_header_like folded level n p q a =
+    like_bind _ _ a (header_like n p q a) (λ x z m b.
+    like_bind _ _ b (line_like {A = ℕ} 0 m x.end z b) (λ y w i c. block_lines_like folded level x.value i y.end w c))
+
+pub block_like : (folded : Bool) (level : Option ℕ) → IsLike (block folded level)
+block_like folded level n p q a =
+    rw (block_is folded level p, block_is folded level q) (like_on (block_header folded level) (block_header_like folded level) n 1 p q (skip 1 p) (skip 1 q) a refl (λ h. refl))

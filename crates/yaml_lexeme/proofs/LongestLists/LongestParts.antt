@@ -1,0 +1,166 @@
+-- What is read as a list of parts is the longest list.
+use Rattle.std.proofs.Common.{◌≡◌, ℕ, zero, suc, ◌+◌, ◌<◌, List, [], ◌∷◌, ◌++◌, length, take, Some, None, Ok, Err, refl, sym, ap, ◌∙◌, subst, arith, append_assoc, length-append}
+use Rattle.std.proofs.lemmas.List.{append-nil, length-take-le, take-append-drop}
+use Rattle.yaml_lexeme.specs.Order.{IsAhead}
+use Rattle.yaml_lexeme.specs.Parts.{Piece, past, IsPiece, Pieces, texts, values, IsLongest}
+use Rattle.yaml_lexeme.specs.Place.{Place, skip}
+use Rattle.yaml_lexeme.specs.Reading.{Offence, Found, Read, found, ◌>>=◌, Part, part, over, with_front, go_on, many}
+use Rattle.yaml_lexeme.proofs.MarkOrder.ReadingAhead.{shorter, part_shorter, PartAhead}
+use Rattle.yaml_lexeme.proofs.Parts.PartByPart.{Shortens, many_turn}
+use Rattle.yaml_lexeme.proofs.Places.PlaceMoves.{rest_skip}
+
+-- each part takes a character or more
+abbrev pub Advances : {A : Type 0} → (Place → Part A) → Type 0
+Advances one = (p : Place) → PartAhead 1 p (one p)
+
+-- what is read from p on: pieces, and then none
+abbrev Reads : {A : Type 0} → (Place → Part A) → Place → Read (List A) → Type 0
+Reads {A} one p (Ok f) = (ts : List (Piece A)) × Pieces one p ts f.end × (f.value ≡ values ts) × (one f.end ≡ over)
+Reads {A} one p (Err e) = (ts : List (Piece A)) × (q : Place) × Pieces one p ts q × (one q ≡ Err e)
+
+abbrev piece_of : {A : Type 0} → ℕ → Place → A → Piece A
+piece_of n p value = record { text = take n p.rest; value = value }
+
+-- a text, cut after n characters
+pub split : (n : ℕ) (p : Place) → p.rest ≡ take n p.rest ++ (skip n p).rest
+split n p = sym (ap (λ (cs : List ℕ). take n p.rest ++ cs) (rest_skip n p) ∙ take-append-drop n p.rest)
+
+is_piece : {A : Type 0} → (one : Place → Part A) (p : Place) (f : Found A) → one p ≡ part f.value f.end → (a : IsAhead 1 p f.end) → IsPiece one p (piece_of a.count p f.value) × (past (piece_of a.count p f.value) p ≡ f.end)
+is_piece one p f e a =
+    let n = a.count in
+    let len : length (take n p.rest) ≡ n = length-take-le n p.rest a.within in
+    let there : skip (length (take n p.rest)) p ≡ skip n p = ap (λ (k : ℕ). skip k p) len in (
+      record {
+        some = omega (arith, a.least, len);
+        text = split n p ∙ ap (λ (q : Place). take n p.rest ++ q.rest) (sym there);
+        read = e ∙ ap (λ (q : Place). part f.value q) (a.is ∙ sym there);
+      },
+      there ∙ sym a.is,
+    )
+
+front : {A : Type 0} → (one : Place → Part A) (p : Place) (f : Found A) → one p ≡ part f.value f.end → IsAhead 1 p f.end → (r : Read (List A)) → Reads one f.end r → Reads one p (with_front (f.value ∷ []) r)
+front {A} one p f e a (Ok g) h =
+    let i = is_piece one p f e a in
+    (piece_of a.count p f.value ∷ h.0, (i.0, subst (λ (x : Place). Pieces one x h.0 g.end) (sym i.1) h.1), ap (λ (vs : List A). f.value ∷ vs) h.2, h.3)
+front one p f e a (Err o) h =
+    let i = is_piece one p f e a in
+    (piece_of a.count p f.value ∷ h.0, h.1, (i.0, subst (λ (x : Place). Pieces one x h.0 h.1) (sym i.1) h.2), h.3)
+
+turn : {A : Type 0} → (one : Place → Part A) (p : Place) (r : Part A) → one p ≡ r → PartAhead 1 p r → ((x : Place) → length x.rest < length p.rest → Reads one x (many one x)) → Reads one p (r >>= λ a. go_on (many one) p a)
+turn one p (Ok (Some f)) e a more = front one p f e a (many one f.end) (more f.end (shorter p f.end a))
+turn one p (Ok None) e a more = ([], refl, refl, e)
+turn one p (Err o) e a more = ([], p, refl, e)
+
+shortens : {A : Type 0} → (one : Place → Part A) → Advances one → Shortens one
+shortens one all p = part_shorter p (one p) (all p)
+
+reads_within : {A : Type 0} → (one : Place → Part A) → Advances one → (n : ℕ) (p : Place) → length p.rest < n → Reads one p (many one p)
+reads_within one all zero p h = absurd (omega arith)
+reads_within {A} one all (suc n) p h =
+    subst (λ (r : Read (List A)). Reads one p r) (sym (many_turn one (shortens one all) p)) (turn one p (one p) refl (all p) (λ x l. reads_within one all n x (omega arith)))
+
+reads : {A : Type 0} → (one : Place → Part A) → Advances one → (p : Place) → Reads one p (many one p)
+reads one all p = reads_within one all (length p.rest + 1) p (omega arith)
+
+joins : {A : Type 0} → (one : Place → Part A) (ts : List (Piece A)) (p q : Place) → Pieces one p ts q → p.rest ≡ texts ts ++ q.rest
+joins one [] p q h = ap (λ (x : Place). x.rest) (sym h)
+joins one (t ∷ ts) p q h = h.0.text ∙ ap (λ (cs : List ℕ). t.text ++ cs) (joins one ts (past t p) q h.1) ∙ sym (append_assoc t.text (texts ts) q.rest)
+
+abbrev end_or : {A : Type 0} → Place → Part A → Place
+end_or p (Ok (Some f)) = f.end
+end_or p (Ok None) = p
+end_or p (Err e) = p
+
+-- no part is there
+abbrev IsNone : {A : Type 0} → Part A → Type 0
+IsNone (Ok (Some f)) = ⊥
+IsNone (Ok None) = Unit {0}
+IsNone (Err e) = Unit {0}
+
+abbrev value_or : {A : Type 0} → A → Part A → A
+value_or a (Ok (Some f)) = f.value
+value_or a (Ok None) = a
+value_or a (Err e) = a
+
+made : {A : Type 0} → (t u : Piece A) → t.text ≡ u.text → t.value ≡ u.value → t ≡ u
+made {A} t u e v =
+    let at : List ℕ → A → Piece A = λ x y. record { text = x; value = y } in
+    ap (λ (x : List ℕ). at x t.value) e ∙ ap (λ (y : A). at u.text y) v
+
+-- if what is read at p ends as far on, the same characters were read
+same_text : (a b r s : List ℕ) → a ++ r ≡ b ++ s → length r ≡ length s → a ≡ b
+same_text [] [] r s e l = refl
+same_text [] (y ∷ b) r s e l = let h = ap (λ (z : List ℕ). length z) e in absurd (omega (arith, length-append b s))
+same_text (x ∷ a) [] r s e l = let h = ap (λ (z : List ℕ). length z) e in absurd (omega (arith, length-append a r))
+same_text (x ∷ a) (y ∷ b) r s e l =
+    let t : a ++ r ≡ b ++ s = cc in
+    let h : a ≡ b = same_text a b r s t l in
+    let g : x ≡ y = cc in
+    ap (λ (z : ℕ). z ∷ a) g ∙ ap (λ (cs : List ℕ). y ∷ cs) h
+
+-- there is one piece at a place
+same_piece : {A : Type 0} → (one : Place → Part A) (p : Place) (u t : Piece A) → IsPiece one p u → IsPiece one p t → u ≡ t
+same_piece one p u t g h =
+    let e = sym g.read ∙ h.read in
+    let ends : past u p ≡ past t p = ap (end_or p) e in
+    made u t (same_text u.text t.text (past u p).rest (past t p).rest (sym g.text ∙ h.text) (ap (λ (y : Place). length y.rest) ends)) (ap (value_or u.value) e)
+
+-- pieces from p on are the first of those that go on to where there is none
+first_of : {A : Type 0} → (one : Place → Part A) (us ts : List (Piece A)) (p q x : Place) → Pieces one p ts q → IsNone (one q) → Pieces one p us x → (more : List (Piece A)) × (ts ≡ us ++ more)
+first_of one [] ts p q x h none g = (ts, refl)
+first_of one (u ∷ us) [] p q x h none g = absurd (subst IsNone (ap one h ∙ g.0.read) none)
+first_of {A} one (u ∷ us) (t ∷ ts) p q x h none g =
+    let same = same_piece one p u t g.0 h.0 in
+    let e : past u p ≡ past t p = ap (λ (v : Piece A). past v p) same in
+    let more = first_of one us ts (past t p) q x h.1 none (subst (λ (y : Place). Pieces one y us x) e g.1) in
+    (more.0, ap (λ (v : Piece A). v ∷ ts) (sym same) ∙ ap (λ (vs : List (Piece A)). u ∷ vs) more.1)
+
+longest : {A : Type 0} → (one : Place → Part A) (p : Place) (ts : List (Piece A)) (q : Place) (next : Part A) → IsNone next → Pieces one p ts q → one q ≡ next → IsLongest one p ts q next
+longest one p ts q next none h e = record {
+  pieces = h;
+  joined = joins one ts p q h;
+  stops = e;
+  longest = λ us x g. first_of one us ts p q x h (subst IsNone (sym e) none) g;
+}
+
+begin : {A : Type 0} → (r : Read (List A)) → r ≡ with_front [] r
+begin (Ok r) = refl
+begin (Err e) = refl
+
+fronts : {A : Type 0} → (v : A) (vs : List A) (r : Read (List A)) → with_front (v ∷ []) (with_front vs r) ≡ with_front (v ∷ vs) r
+fronts v vs (Ok r) = refl
+fronts v vs (Err e) = refl
+
+-- the pieces, and what is read after them
+many_as : {A : Type 0} → (one : Place → Part A) → Advances one → (ts : List (Piece A)) (p q : Place) (r : Read (List A)) → Pieces one p ts q → many one q ≡ r → many one p ≡ with_front (values ts) r
+many_as one all [] p q r h e = ap (many one) (sym h) ∙ e ∙ begin r
+many_as one all (t ∷ ts) p q r h e =
+    many_turn one (shortens one all) p ∙ ap (λ a. a >>= λ b. go_on (many one) p b) h.0.read
+    ∙ ap (with_front (t.value ∷ [])) (many_as one all ts (past t p) q r h.1 e) ∙ fronts t.value (values ts) r
+
+-- the pieces that `many` reads
+pub record Longest {A : Type 0} (one : Place → Part A) (p : Place) (f : Found (List A)) : Type 0 where
+  pub pieces : List (Piece A)
+  pub values_are : f.value ≡ values pieces
+  pub is : IsLongest one p pieces f.end over
+
+of_found : {A : Type 0} → (one : Place → Part A) (p : Place) (f : Found (List A)) → Reads one p (Ok f) → Longest one p f
+of_found one p f h = record { pieces = h.0; values_are = h.2; is = longest one p h.0 f.end over tt h.1 h.3 }
+
+pub many_longest : {A : Type 0} → (one : Place → Part A) → Advances one → (p : Place) (f : Found (List A)) → many one p ≡ Ok f → Longest one p f
+many_longest {A} one all p f e = of_found one p f (subst (λ (r : Read (List A)). Reads one p r) e (reads one all p))
+
+-- and if it is refused
+pub many_refused : {A : Type 0} → (one : Place → Part A) → Advances one → (p : Place) (e : Offence) → many one p ≡ Err e → (ts : List (Piece A)) × (q : Place) × IsLongest one p ts q (Err e)
+many_refused {A} one all p e h =
+    let r = subst (λ (r : Read (List A)). Reads one p r) h (reads one all p) in
+    (r.0, r.1, longest one p r.0 r.1 (Err e) tt r.2 r.3)
+
+pub found_of : {A : Type 0} → (one : Place → Part A) → Advances one → (p : Place) (ts : List (Piece A)) (q : Place) → IsLongest one p ts q over → many one p ≡ found (values ts) q
+found_of {A} one all p ts q l =
+    many_as one all ts p q (found [] q) l.pieces (many_turn one (shortens one all) q ∙ ap (λ a. a >>= λ b. go_on (many one) q b) l.stops)
+    ∙ ap (λ (vs : List A). found vs q) (append-nil (values ts))
+
+pub refused_of : {A : Type 0} → (one : Place → Part A) → Advances one → (p : Place) (ts : List (Piece A)) (q : Place) (e : Offence) → IsLongest one p ts q (Err e) → many one p ≡ Err e
+refused_of one all p ts q e l =
+    many_as one all ts p q (Err e) l.pieces (many_turn one (shortens one all) q ∙ ap (λ a. a >>= λ b. go_on (many one) q b) l.stops)

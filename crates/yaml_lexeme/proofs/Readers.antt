@@ -1,0 +1,26 @@
+-- What is read a step at a time is what the definitions read at once, kind by kind.
+
+-- A gap is read gap line by gap line.
+pub mod GapLines
+-- Separators are read and folded a character or a break at a time.
+pub mod FoldSeparators
+-- Which part of a quoted body is read at a place.
+pub mod QuotedBody
+-- A run within a line is many parts of a quoted body at once.
+pub mod QuotedRuns
+-- What a line of a quoted body holds unchanged is kept in one piece.
+pub mod QuotedLines
+-- The hexadecimal digits of an escape are read one by one.
+pub mod EscapeDigits
+-- Chunks, separators and ends of plain scalars are read a character at a time.
+pub mod PlainLinks
+-- What a line of a plain scalar holds unchanged is kept in one piece.
+pub mod PlainLines
+-- Literal and folded scalars are read a space and a line at a time.
+pub mod BlockLines
+-- The letters of a name are its bytes.
+pub mod NameBytes
+-- The octets, escapes and characters of a uri are read one by one.
+pub mod UriOctets
+-- The decimal digits of a version are read one by one.
+pub mod DirectiveNumbers

@@ -1,0 +1,166 @@
+-- A gap is read gap line by gap line.
+use Rattle.std.proofs.Common.{◌≡◌, ℕ, zero, suc, ◌<◌, ◌≤◌, Bool, true, false, cond, not, ◌==◌, ◌&&◌, ◌||◌, inl, inr, length, refl, sym, ap, ◌∙◌, arith}
+use Rattle.std.proofs.lemmas.Bool.Decides.{nat_tests}
+use Rattle.std.proofs.lemmas.Bool.{cases_lt, cases_Bool, and_right}
+use Rattle.std.specs.Prelude.{nat_lt}
+use Rattle.yaml_text.specs.Classes.{is_break}
+use Rattle.yaml_lexeme.specs.declared.runs.class_t.TheVariants.{SPACE}
+use Rattle.yaml_lexeme.specs.Runs.{class_test}
+use Rattle.yaml_lexeme.proofs.Places.PlaceMoves.{length_skip, length_one, within_if, break_within, behind_none, behind_more, first_on}
+use Rattle.yaml_lexeme.specs.Classes.{is_in_line}
+use Rattle.yaml_lexeme.specs.Gap.{byte_order_mark, is_gap_blank, is_solid, after_mark, after_comment, after_gap_line, after_gap_lines, gap, IsGap}
+use Rattle.yaml_lexeme.specs.Place.{Place, first, peek, skip, behind, run_len, break_len}
+
+pub within_line : (tabs : Bool) (p : Place) → length (after_gap_line tabs p).rest ≤ length p.rest
+unfolding after_gap_line
+within_line tabs p =
+    let a = after_mark p in
+    let b = behind (is_gap_blank tabs) a in
+    let ha : length a.rest ≤ length p.rest = within_if (p.mark.column == 0 && first p == byte_order_mark) p (skip 1 p) p (omega (arith, length_skip 1 p)) (omega arith) in
+    let hb : length b.rest ≤ length a.rest = omega (arith, length_skip (run_len (is_gap_blank tabs) a) a) in
+    let hc : length (after_comment b).rest ≤ length b.rest = within_if (first b == 0x23) b (behind is_in_line b) b (omega (arith, length_skip (run_len is_in_line b) b)) (omega arith) in
+    omega arith
+
+abbrev pub next_line : Bool → Place → Place
+next_line flow p = after_gap_line flow (skip (break_len p) p)
+
+next_shorter : (flow : Bool) (p : Place) → 0 < break_len p → length (next_line flow p).rest < length p.rest
+next_shorter flow p h = omega (arith, within_line flow (skip (break_len p) p), length_skip (break_len p) p, break_within p h)
+
+-- how many lines are allowed does not matter, if they are enough
+pub any_fuel : (n m : ℕ) (flow : Bool) (p : Place) → length p.rest ≤ n → length p.rest ≤ m → after_gap_lines n flow p ≡ after_gap_lines m flow p
+unfolding after_gap_lines
+any_fuel zero zero flow p hn hm = refl
+any_fuel zero (suc m) flow p hn hm =
+    elim (cases_lt 0 (break_len p)) [
+      | inl more ↦ absurd (omega (arith, break_within p more))
+      | inr none ↦ let e : break_len p ≡ 0 = omega arith in rw e refl
+    ]
+any_fuel (suc n) zero flow p hn hm =
+    elim (cases_lt 0 (break_len p)) [
+      | inl more ↦ absurd (omega (arith, break_within p more))
+      | inr none ↦ let e : break_len p ≡ 0 = omega arith in rw e refl
+    ]
+any_fuel (suc n) (suc m) flow p hn hm =
+    elim (cases_lt 0 (break_len p)) [
+      | inl more ↦
+          let s = next_shorter flow p more in
+          ap (cond (break_len p == 0) p) (any_fuel n m flow (next_line flow p) (omega arith) (omega arith))
+      | inr none ↦ let e : break_len p ≡ 0 = omega arith in rw e refl
+    ]
+
+-- the loop has come to p
+abbrev pub Comes : Bool → Place → Place → Type 0
+Comes flow p q = after_gap_lines (length p.rest) flow p ≡ after_gap_lines (length q.rest) flow q
+
+step : (n : ℕ) (flow : Bool) (p : Place) → 0 < break_len p → after_gap_lines (suc n) flow p ≡ after_gap_lines n flow (next_line flow p)
+unfolding after_gap_lines
+step n flow p h = let e : (break_len p == 0) ≡ false = grind (arith, nat_tests) in rw e refl
+
+pub line_goes : (flow : Bool) (p q : Place) → 0 < break_len p → Comes flow p q → (length (next_line flow p).rest < length p.rest) × Comes flow (next_line flow p) q
+line_goes flow p q h e =
+    let s = next_shorter flow p h in
+    let r = next_line flow p in
+    let one = step (length p.rest) flow p h in
+    let same = any_fuel (length p.rest) (suc (length p.rest)) flow p (omega arith) (omega arith) in
+    (s, any_fuel (length r.rest) (length p.rest) flow r (omega arith) (omega arith) ∙ sym one ∙ sym same ∙ e)
+
+pub line_ends : (flow : Bool) (p q : Place) → break_len p ≡ 0 → Comes flow p q → p ≡ after_gap_lines (length q.rest) flow q
+unfolding after_gap_lines
+line_ends flow p q h e = let last : after_gap_lines (suc (length p.rest)) flow p ≡ p = rw h refl in sym last ∙ any_fuel (suc (length p.rest)) (length p.rest) flow p (omega arith) (omega arith) ∙ e
+
+-- ---- gaps that are taken at once
+
+record Solid (tabs : Bool) (c : ℕ) : Type 0 where
+  blank : is_gap_blank tabs c ≡ false
+  comment : (c == 0x23) ≡ false
+  break : is_break c ≡ false
+  mark : (c == byte_order_mark) ≡ false
+
+solid_is : (tabs : Bool) (c : ℕ) → is_solid c ≡ true → Solid tabs c
+solid_is tabs c h = record { blank = grind (arith, nat_tests); comment = grind (arith, nat_tests); break = grind (arith, nat_tests); mark = grind (arith, nat_tests) }
+
+-- no byte order mark
+mark_none : (p : Place) → (first p == byte_order_mark) ≡ false → after_mark p ≡ p
+mark_none p h = rw (h, and_right (p.mark.column == 0) false refl) refl
+
+-- a gap line that ends at q
+line_is : (tabs : Bool) (p q : Place) → (first p == byte_order_mark) ≡ false → behind (is_gap_blank tabs) p ≡ q → (first q == 0x23) ≡ false → after_gap_line tabs p ≡ q
+unfolding after_gap_line
+line_is tabs p q m e h = ap (λ (r : Place). after_comment (behind (is_gap_blank tabs) r)) (mark_none p m) ∙ ap after_comment e ∙ rw h refl
+
+no_break : (p : Place) → is_break (first p) ≡ false → break_len p ≡ 0
+no_break p h = grind (arith, nat_tests)
+
+pub lines_none : (n : ℕ) (flow : Bool) (p : Place) → break_len p ≡ 0 → after_gap_lines n flow p ≡ p
+unfolding after_gap_lines
+lines_none zero flow p h = refl
+lines_none (suc n) flow p h = rw h refl
+
+-- a gap without a break
+gap_in_line : (flow allowed : Bool) (p q : Place) → after_gap_line (flow || not allowed) p ≡ q → break_len q ≡ 0 → gap flow allowed p ≡ (q, false)
+unfolding gap
+gap_in_line flow allowed p q e h =
+    let zero : nat_lt 0 (break_len q) ≡ false = rw h refl in
+    rw e (λ i. (lines_none (length q.rest) flow q h i, zero i))
+
+pub gap_none : (p : Place) → is_solid (first p) ≡ true → IsGap p p false
+gap_none p h flow allowed =
+    let s = solid_is (flow || not allowed) (first p) h in
+    gap_in_line flow allowed p p (line_is (flow || not allowed) p p s.mark (behind_none (is_gap_blank (flow || not allowed)) p s.blank) s.comment) (no_break p s.break)
+
+pub gap_space : (p : Place) → first p ≡ 0x20 → is_solid (peek p 1) ≡ true → IsGap p (skip 1 p) false
+gap_space p e h flow allowed =
+    let tabs = flow || not allowed in
+    let q = skip 1 p in
+    let s = solid_is tabs (first q) (ap is_solid (first_on 1 p) ∙ h) in
+    let mark : (first p == byte_order_mark) ≡ false = rw e refl in
+    let blank : is_gap_blank tabs (first p) ≡ true = rw e refl in
+    let run = (behind_more (is_gap_blank tabs) p blank refl).1 ∙ behind_none (is_gap_blank tabs) q s.blank in
+    gap_in_line flow allowed p q (line_is tabs p q mark run s.comment) (no_break q s.break)
+
+-- a run goes on after a run of fewer characters
+run_on : (test more : ℕ → Bool) → ((c : ℕ) → test c ≡ true → more c ≡ true) → test 0 ≡ false → more 0 ≡ false → (fuel : ℕ) (p : Place) → length p.rest ≤ fuel → behind more p ≡ behind more (behind test p)
+run_on test more sub z y zero p l =
+    elim (cases_Bool (test (first p))) [
+      | inl t ↦ absurd (omega (arith, l, (behind_more test p t z).0))
+      | inr f ↦ ap (behind more) (sym (behind_none test p f))
+    ]
+run_on test more sub z y (suc fuel) p l =
+    elim (cases_Bool (test (first p))) [
+      | inl t ↦
+          let a = behind_more test p t z in
+          let b = behind_more more p (sub (first p) t) y in
+          b.1 ∙ run_on test more sub z y fuel (skip 1 p) (omega (arith, l, a.0, length_one p)) ∙ ap (behind more) (sym a.1)
+      | inr f ↦ ap (behind more) (sym (behind_none test p f))
+    ]
+
+space_blank : (tabs : Bool) (c : ℕ) → class_test SPACE c ≡ true → is_gap_blank tabs c ≡ true
+space_blank tabs c h = grind (arith, nat_tests)
+
+space_no_mark : (p q : Place) → q ≡ behind (class_test SPACE) p → is_solid (first q) ≡ true → (first p == byte_order_mark) ≡ false
+space_no_mark p q e h =
+    elim (cases_Bool (class_test SPACE (first p))) [
+      | inl t ↦ grind (arith, nat_tests)
+      | inr f ↦ let same : first q ≡ first p = ap (λ (r : Place). first r) (e ∙ behind_none (class_test SPACE) p f) in (solid_is false (first p) (ap is_solid (sym same) ∙ h)).mark
+    ]
+
+pub gap_feed : (p q : Place) → first p ≡ 0x0A → q ≡ behind (class_test SPACE) (skip 1 p) → is_solid (first q) ≡ true → IsGap p q true
+unfolding gap
+gap_feed p q e at h flow allowed =
+    let tabs = flow || not allowed in
+    let s = solid_is flow (first q) h in
+    let r = skip 1 p in
+    let mark : (first p == byte_order_mark) ≡ false = rw e refl in
+    let none : is_gap_blank tabs (first p) ≡ false = rw e refl in
+    let comment : (first p == 0x23) ≡ false = rw e refl in
+    let one : break_len p ≡ 1 = rw e refl in
+    let some : nat_lt 0 (break_len p) ≡ true = rw one refl in
+    let front = line_is tabs p p mark (behind_none (is_gap_blank tabs) p none) comment in
+    let run : behind (is_gap_blank flow) r ≡ q =
+    run_on (class_test SPACE) (is_gap_blank flow) (space_blank flow) refl refl (length r.rest) r (omega arith) ∙ ap (behind (is_gap_blank flow)) (sym at) ∙ behind_none (is_gap_blank flow) q s.blank in
+    let next : next_line flow p ≡ q = ap (λ n. after_gap_line flow (skip n p)) one ∙ line_is flow r q (space_no_mark r q at h) run s.comment in
+    let n = length p.rest in
+    let lines : after_gap_lines n flow p ≡ q =
+    any_fuel n (suc n) flow p (omega arith) (omega arith) ∙ step n flow p (omega (arith, one)) ∙ ap (after_gap_lines n flow) next ∙ lines_none n flow q (no_break q s.break) in
+    rw front (λ i. (lines i, some i))

@@ -1,0 +1,176 @@
+-- The octets, escapes and characters of a uri are read one by one.
+use Rattle.std.proofs.Common.{◌≡◌, ℕ, zero, suc, ◌-◌, ◌<◌, ◌≤◌, Bool, true, false, cond, ◌==◌, ◌&&◌, inl, inr, List, [], ◌∷◌, ◌++◌, length, Result, Ok, Err, refl, sym, ap, ◌∙◌, arith, append_assoc}
+use Rattle.std.proofs.lemmas.Bool.{cases_Bool}
+use Rattle.std.proofs.lemmas.Bool.Decides.{nat_tests}
+use Rattle.std.proofs.lemmas.List.{append-nil}
+use Rattle.std.proofs.lemmas.List.Concat.{concat_is}
+use Rattle.std.specs.List.{concat}
+use Rattle.std.specs.Str.Parse.{digits_value}
+use Rattle.yaml_lexeme.specs.declared.problem.refusal_t.{refusal_t}
+use Rattle.yaml_lexeme.specs.declared.problem.refusal_t.TheVariants as errors
+use Rattle.yaml_lexeme.specs.declared.problem.problem_t.TheVariants.{NO_OCTET, BAD_NEXT_OCTET, BAD_LEAD_OCTET}
+use Rattle.yaml_lexeme.proofs.MarkOrder.ReadingAhead.{Ahead, PartAhead, ahead_here, ahead_skip, ahead_some, if_ahead, bind_ahead, bind_part, then_ahead, part_shorter}
+use Rattle.yaml_lexeme.proofs.Parts.PartByPart.{Shortens, joined}
+use Rattle.yaml_lexeme.proofs.Places.PlaceMoves.{is_there}
+use Rattle.yaml_lexeme.proofs.Parts.ReadResults.{value_or, end_or}
+use Rattle.yaml_lexeme.specs.Gives.{Refuses, TakesRead, Appends}
+use Rattle.yaml_lexeme.specs.Place.{Place, first, peek, skip}
+use Rattle.yaml_lexeme.specs.Reading.{Read, found, part, refuse, over, many, with_front, ◌>>=◌}
+use Rattle.yaml_lexeme.specs.Uri.{octet, octet_width, is_bad_next, next_octets, uri_escape, uri_part, is_uri, uri}
+use Rattle.yaml_text.specs.Classes.{is_hex}
+
+-- what was appended to `old` is what was read
+pub appended : (r : Read (List ℕ)) (old new : List ℕ) (q : Place) → with_front old r ≡ found new q → TakesRead (λ cs. cs) r old new q
+appended (Ok f) old new q h = (sym (ap (value_or []) h), sym (ap (end_or q) h))
+appended (Err e) old new q h = absurd cc
+
+pub not_appended : (e : refusal_t) (r : Read (List ℕ)) (old : List ℕ) (q : Place) → Refuses e q (with_front old r) → Refuses e q r
+not_appended errors.MEMORY r old q h = tt
+not_appended (errors.OFFENCE problem) (Ok f) old q h = absurd cc
+not_appended (errors.OFFENCE problem) (Err o) old q h = h
+
+next_is : (n : ℕ) (p : Place) → next_octets (suc n) p ≡ octet p >>= λ c. cond (is_bad_next c.value) (refuse BAD_NEXT_OCTET p) (with_front (c.value ∷ []) (next_octets n c.end))
+unfolding next_octets
+next_is n p = refl
+
+pub one_next : (n c : ℕ) (p : Place) → octet p ≡ found c (skip 3 p) → is_bad_next c ≡ false → next_octets (suc n) p ≡ with_front (c ∷ []) (next_octets n (skip 3 p))
+one_next n c p e h = next_is n p ∙ rw (e, h) refl
+
+pub bad_next : (n c : ℕ) (p : Place) → octet p ≡ found c (skip 3 p) → is_bad_next c ≡ true → next_octets (suc n) p ≡ refuse BAD_NEXT_OCTET p
+bad_next n c p e h = next_is n p ∙ rw (e, h) refl
+
+pub no_next : (e : refusal_t) (n : ℕ) (p : Place) → Refuses e p (octet p) → Refuses e p (next_octets (suc n) p)
+no_next errors.MEMORY n p h = tt
+no_next (errors.OFFENCE problem) n p h = next_is n p ∙ rw h refl
+
+pub no_octets : (p : Place) → next_octets 0 p ≡ found [] p
+unfolding next_octets
+no_octets p = refl
+
+push : (out : List ℕ) (c : ℕ) (r : Read (List ℕ)) → with_front out (with_front (c ∷ []) r) ≡ with_front (out ++ c ∷ []) r
+push out c (Ok r) = ap (λ (bs : List ℕ). found bs r.end) (sym (append_assoc out (c ∷ []) r.value))
+push out c (Err e) = refl
+
+-- Octets are being read: the bytes so far, and what is left.
+abbrev pub Octets : ℕ → Place → List ℕ → Read (List ℕ) → Type 0
+Octets n p out whole = with_front out (next_octets n p) ≡ whole
+
+pub octets_more : (n m c : ℕ) (p : Place) (out : List ℕ) (whole : Read (List ℕ)) → n ≡ suc m → octet p ≡ found c (skip 3 p) → is_bad_next c ≡ false → Octets n p out whole → Octets m (skip 3 p) (out ++ c ∷ []) whole
+octets_more n m c p out whole k e h so_far =
+    sym (push out c (next_octets m (skip 3 p))) ∙ ap (with_front out) (sym (one_next m c p e h)) ∙ ap (λ (i : ℕ). with_front out (next_octets i p)) (sym k) ∙ so_far
+
+pub octets_bad : (n m c : ℕ) (p : Place) (out : List ℕ) (whole : Read (List ℕ)) → n ≡ suc m → octet p ≡ found c (skip 3 p) → is_bad_next c ≡ true → Octets n p out whole → whole ≡ refuse BAD_NEXT_OCTET p
+octets_bad n m c p out whole k e h so_far =
+    sym so_far ∙ ap (λ (i : ℕ). with_front out (next_octets i p)) k ∙ ap (with_front out) (bad_next m c p e h)
+
+pub octets_none : (e : refusal_t) (n m : ℕ) (p : Place) (out : List ℕ) (whole : Read (List ℕ)) → n ≡ suc m → Refuses e p (octet p) → Octets n p out whole → Refuses e p whole
+octets_none errors.MEMORY n m p out whole k h so_far = tt
+octets_none (errors.OFFENCE problem) n m p out whole k h so_far =
+    sym so_far ∙ ap (λ (i : ℕ). with_front out (next_octets i p)) k ∙ ap (with_front out) (no_next (errors.OFFENCE problem) m p h)
+
+pub octets_all : (n : ℕ) (p : Place) (out : List ℕ) (whole : Read (List ℕ)) → n ≡ 0 → Octets n p out whole → whole ≡ found out p
+octets_all n p out whole k so_far =
+    sym so_far ∙ ap (λ (i : ℕ). with_front out (next_octets i p)) k ∙ ap (with_front out) (no_octets p) ∙ ap (λ (bs : List ℕ). found bs p) (append-nil out)
+
+escape_is : (p : Place) → uri_escape p ≡ octet p >>= λ lead. cond (octet_width lead.value == 0) (refuse BAD_LEAD_OCTET p) (with_front (lead.value ∷ []) (next_octets (octet_width lead.value - 1) lead.end))
+unfolding uri_escape
+escape_is p = refl
+
+pub bad_lead : (c : ℕ) (p : Place) → octet p ≡ found c (skip 3 p) → octet_width c ≡ 0 → uri_escape p ≡ refuse BAD_LEAD_OCTET p
+bad_lead c p e h = escape_is p ∙ rw (e, h) refl
+
+pub no_lead : (e : refusal_t) (p : Place) → Refuses e p (octet p) → Refuses e p (uri_escape p)
+no_lead errors.MEMORY p h = tt
+no_lead (errors.OFFENCE problem) p h = escape_is p ∙ rw h refl
+
+lead_then : (c : ℕ) (p : Place) → octet p ≡ found c (skip 3 p) → (octet_width c == 0) ≡ false → uri_escape p ≡ with_front (c ∷ []) (next_octets (octet_width c - 1) (skip 3 p))
+lead_then c p e h = escape_is p ∙ rw (e, h) refl
+
+front_takes : (c : ℕ) (r : Read (List ℕ)) (old mid new : List ℕ) (q : Place) → mid ≡ old ++ c ∷ [] → TakesRead (λ cs. cs) r mid new q → TakesRead (λ cs. cs) (with_front (c ∷ []) r) old new q
+front_takes c (Ok f) old mid new q m h = (h.0 ∙ ap (λ (bs : List ℕ). bs ++ f.value) m ∙ append_assoc old (c ∷ []) f.value, h.1)
+front_takes c (Err e) old mid new q m h = absurd h
+
+escape_taken : (c : ℕ) (p q : Place) (old mid new : List ℕ) → octet p ≡ found c (skip 3 p) → (octet_width c == 0) ≡ false → mid ≡ old ++ c ∷ []
+    → TakesRead (λ cs. cs) (next_octets (octet_width c - 1) (skip 3 p)) mid new q → TakesRead (λ cs. cs) (uri_escape p) old new q
+escape_taken c p q old mid new e h m t = rw (lead_then c p e h) (front_takes c (next_octets (octet_width c - 1) (skip 3 p)) old mid new q m t)
+
+escape_refused : (error : refusal_t) (c : ℕ) (p q : Place) → octet p ≡ found c (skip 3 p) → (octet_width c == 0) ≡ false → Refuses error q (next_octets (octet_width c - 1) (skip 3 p)) → Refuses error q (uri_escape p)
+escape_refused errors.MEMORY c p q e h r = tt
+escape_refused (errors.OFFENCE problem) c p q e h r = lead_then c p e h ∙ ap (with_front (c ∷ [])) r
+
+pub escape_done : (r : Result (Unit {0}) refusal_t) (c : ℕ) (p q : Place) (old mid new : List ℕ) → octet p ≡ found c (skip 3 p) → (octet_width c == 0) ≡ false → mid ≡ old ++ c ∷ []
+    → Appends (λ cs. cs) r mid new q (next_octets (octet_width c - 1) (skip 3 p)) → Appends (λ cs. cs) r old new q (uri_escape p)
+escape_done (Ok x) c p q old mid new e h m t = escape_taken c p q old mid new e h m t
+escape_done (Err error) c p q old mid new e h m t = escape_refused error c p q e h t
+
+-- parts of a uri
+pub at_percent : (listed : Bool) (p : Place) → (first p == 0x25) ≡ true → uri_part listed p ≡ uri_escape p >>= λ r. part r.value r.end
+unfolding uri_part
+at_percent listed p h = rw h refl
+
+pub at_uri : (listed : Bool) (p : Place) → (first p == 0x25) ≡ false → is_uri listed (first p) ≡ true → uri_part listed p ≡ part (first p ∷ []) (skip 1 p)
+unfolding uri_part
+at_uri listed p e h = rw (e, h) refl
+
+pub at_over : (listed : Bool) (p : Place) → (first p == 0x25) ≡ false → is_uri listed (first p) ≡ false → uri_part listed p ≡ over
+unfolding uri_part
+at_over listed p e h = rw (e, h) refl
+
+uri_there : (listed : Bool) (c : ℕ) → is_uri listed c ≡ true → 0 < c
+uri_there listed c h = grind (arith, nat_tests)
+
+octet_is : (p : Place) → octet p ≡ cond (first p == 0x25 && (is_hex (peek p 1) && is_hex (peek p 2))) (found (digits_value 16 (peek p 1 ∷ peek p 2 ∷ [])) (skip 3 p)) (refuse NO_OCTET p)
+unfolding octet
+octet_is p = refl
+
+octet_ahead : (m : ℕ) (p : Place) → m ≤ 3 → m ≤ length p.rest → Ahead m p (octet p)
+octet_ahead m p k h =
+    rw octet_is (if_ahead (first p == 0x25 && (is_hex (peek p 1) && is_hex (peek p 2))) m p (found (digits_value 16 (peek p 1 ∷ peek p 2 ∷ [])) (skip 3 p)) (refuse NO_OCTET p) (ahead_some m 3 p k h) tt)
+
+next_ahead : (n : ℕ) (p : Place) → Ahead 0 p (next_octets n p)
+next_ahead zero p = rw (no_octets p) (ahead_here p)
+next_ahead (suc n) p =
+    rw (next_is n p) (bind_ahead 0 0 p (octet p) (λ c. cond (is_bad_next c.value) (refuse BAD_NEXT_OCTET p) (with_front (c.value ∷ []) (next_octets n c.end))) (octet_ahead 0 p (omega arith) (omega arith))
+    (λ x a. if_ahead (is_bad_next x.value) 0 p (refuse BAD_NEXT_OCTET p) (with_front (x.value ∷ []) (next_octets n x.end)) tt
+    (bind_ahead 0 0 p (next_octets n x.end) (λ r. found (x.value ∷ r.value) r.end) (then_ahead 0 0 p x.end (next_octets n x.end) a (next_ahead n x.end)) (λ y b. b))))
+
+pub escape_ahead : (p : Place) → 0 < length p.rest → Ahead 1 p (uri_escape p)
+escape_ahead p h =
+    rw (escape_is p) (bind_ahead 1 1 p (octet p) (λ c. cond (octet_width c.value == 0) (refuse BAD_LEAD_OCTET p) (with_front (c.value ∷ []) (next_octets (octet_width c.value - 1) c.end))) (octet_ahead 1 p (omega arith) (omega arith))
+    (λ x a. if_ahead (octet_width x.value == 0) 1 p (refuse BAD_LEAD_OCTET p) (with_front (x.value ∷ []) (next_octets (octet_width x.value - 1) x.end)) tt
+    (bind_ahead 1 1 p (next_octets (octet_width x.value - 1) x.end) (λ r. found (x.value ∷ r.value) r.end) (then_ahead 1 0 p x.end (next_octets (octet_width x.value - 1) x.end) a (next_ahead (octet_width x.value - 1) x.end)) (λ y b. b))))
+
+-- each part takes a character or more
+pub uri_ahead : (listed : Bool) (p : Place) → PartAhead 1 p (uri_part listed p)
+uri_ahead listed p =
+    elim (cases_Bool (first p == 0x25)) [
+      | inl e ↦
+          let there : 0 < length p.rest = is_there p 0 (grind (arith, nat_tests)) in
+          rw (at_percent listed p e) (bind_part 1 1 p (uri_escape p) (λ r. part r.value r.end) (escape_ahead p there) (λ x a. a))
+      | inr e ↦
+          elim (cases_Bool (is_uri listed (first p))) [
+            | inl h ↦ rw (at_uri listed p e h) (ahead_skip 1 p (is_there p 0 (uri_there listed (first p) h)))
+            | inr h ↦ rw (at_over listed p e h) tt
+          ]
+    ]
+
+pub uri_shortens : (listed : Bool) → Shortens (uri_part listed)
+uri_shortens listed p = part_shorter p (uri_part listed p) (uri_ahead listed p)
+
+concat_joined : (r : Read (List (List ℕ))) → (r >>= λ parts. found (concat parts.value) parts.end) ≡ joined (λ cs. cs) r
+concat_joined (Ok f) = ap (λ (bs : List ℕ). found bs f.end) (concat_is f.value)
+concat_joined (Err e) = refl
+
+pub uri_is : (listed : Bool) (p : Place) → uri listed p ≡ joined (λ cs. cs) (many (uri_part listed) p)
+unfolding uri
+uri_is listed p = concat_joined (many (uri_part listed) p)
+
+-- a uri is being appended to `old`
+abbrev pub uri_behind : Bool → List ℕ → Place → Read (List ℕ)
+uri_behind listed old p = with_front old (joined (λ cs. cs) (many (uri_part listed) p))
+
+pub uri_taken : (listed : Bool) (p q : Place) (old new : List ℕ) → uri_behind listed old p ≡ found new q → TakesRead (λ cs. cs) (uri listed p) old new q
+uri_taken listed p q old new h = appended (uri listed p) old new q (ap (with_front old) (uri_is listed p) ∙ h)
+
+pub uri_refused : (e : refusal_t) (listed : Bool) (p q : Place) (old : List ℕ) → Refuses e q (uri_behind listed old p) → Refuses e q (uri listed p)
+uri_refused e listed p q old h = not_appended e (uri listed p) old q (rw (uri_is listed p) h)

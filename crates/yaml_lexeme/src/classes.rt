@@ -1,0 +1,46 @@
+//! Sets of characters that lexemes need. The end of a text counts as character 0.
+ghost use Rattle.std.specs.Prelude.{◌≡◌};
+ghost use Rattle.yaml_text.specs.Classes as classes;
+ghost use Rattle.yaml_lexeme.specs.Classes as spec;
+
+/// A line break.
+pub(crate) fn is_break(c: char) -> bool
+    ensures { result ≡ classes.is_break c }
+{
+    matches!(c, '\n' | '\r' | '\u{85}' | '\u{2028}' | '\u{2029}')
+}
+
+/// A space or a tab.
+pub(crate) fn is_blank(c: char) -> bool
+    ensures { result ≡ classes.is_blank c }
+{
+    c == ' ' || c == '\t'
+}
+
+/// A blank or a break.
+pub(crate) fn is_white(c: char) -> bool
+    ensures { result ≡ spec.is_white c }
+{
+    is_blank(c) || is_break(c)
+}
+
+/// A blank, a break or the end.
+pub(crate) fn ends(c: char) -> bool
+    ensures { result ≡ spec.ends c }
+{
+    is_white(c) || c == '\0'
+}
+
+/// A letter, a digit, `_` or `-`.
+pub(crate) fn is_alpha(c: char) -> bool
+    ensures { result ≡ classes.is_alpha c }
+{
+    matches!(c, '0'..='9' | 'A'..='Z' | 'a'..='z' | '_' | '-')
+}
+
+/// All but a break and the end.
+pub(crate) fn is_in_line(c: char) -> bool
+    ensures { result ≡ spec.is_in_line c }
+{
+    !(is_break(c) || c == '\0')
+}

@@ -1,0 +1,363 @@
+//! A place that moves through a text.
+ghost use Rattle.std.specs.Prelude.{ℕ, min, ◌≡◌, ◌+◌, ◌-◌, ◌^◌, ◌<◌, ◌≤◌, length, slice_index, take, drop, false, true};
+ghost use Rattle.std.specs.Str.{chars};
+ghost use Rattle.yaml_text.specs.Chars.{IsText, AreChars, utf8};
+ghost use Rattle.yaml_text.specs.Utf8.{value_of};
+ghost use Rattle.yaml_lexeme.specs.Place.{peek, first, place_at, IsMarkOf, skip, mark_behind, width, behind, run};
+ghost use Rattle.yaml_lexeme.specs.Place.{run_len, break_len};
+ghost use Rattle.yaml_lexeme.specs.declared.runs.class_t.TheVariants.{SPACE};
+ghost use Rattle.yaml_lexeme.specs.Runs.{class_test, is_line, Stands};
+
+use crate::classes::is_break;
+use crate::runs::{class_t, is_in, quiet_len, spaces_len, trimmed};
+use std::marker::Model;
+use yaml_text::{WIDTH, yaml_mark_t, yaml_text_t};
+
+/// Whether a character is so many places on: past the end a text reads as 0.
+macro_rules! check_at {
+    ($cursor:expr, $c:expr, $k:expr) => {
+        $cursor.peek($k) == $c
+    };
+}
+
+/// Whether the character so many places on passes a test.
+macro_rules! is_at {
+    ($cursor:expr, $test:expr, $k:expr) => {
+        $test($cursor.peek($k))
+    };
+}
+
+pub(crate) use check_at;
+pub(crate) use is_at;
+
+/// A place in a text: a mark and the bytes from it on.
+#[derive(Drop)]
+pub(crate) struct cursor_t<'a> {
+    mark: yaml_mark_t,
+    bytes: &'a [u8],
+}
+
+impl<'a> Model for cursor_t<'a> {
+    ghost use Rattle.std.specs.Prelude.{◌+◌, ◌^◌, ◌<◌, ◌≤◌, length};
+    ghost use Rattle.std.specs.Str.{chars};
+    ghost use Rattle.yaml_text.specs.Chars.{IsText};
+    ghost use Rattle.yaml_lexeme.specs.Place.{Place};
+
+    ghost Value = { Place };
+
+    ghost view = { λ c. record { mark = c.mark; rest = chars c.bytes.now } };
+
+    ghost invariant = { λ c. IsText c.bytes.now
+        × (c.mark.index + length c.bytes.now < 2 ^ 64)
+        × (c.mark.line + c.mark.column ≤ c.mark.index) };
+}
+
+#[inline(always)]
+fn front(bytes: &[u8], n: usize) -> &[u8]
+    requires { n ≤ length bytes.now }
+    ensures { result.now ≡ take n bytes.now }
+{
+    &bytes[..n]
+}
+
+#[inline(always)]
+fn rest(bytes: &[u8], n: usize) -> &[u8]
+    requires { n ≤ length bytes.now }
+    ensures { result.now ≡ drop n bytes.now }
+{
+    &bytes[n..]
+}
+
+/// The code point that a lead byte and those after it spell.
+#[tactic(auto, unfolding(yaml_text::specs::Utf8::value_of))]
+fn code_of(bytes: &[u8], width: usize) -> u32
+    requires some { 0 < width }
+    requires whole { width ≤ length bytes.now }
+    requires four { width ≤ 4 }
+    ensures { result ≡ value_of width bytes.now }
+{
+    let b = bytes[0] as u32;
+    match width {
+        1 => b,
+        2 => b % 32 * 64 + bytes[1] as u32 % 64,
+        3 => b % 16 * 4096 + bytes[1] as u32 % 64 * 64 + bytes[2] as u32 % 64,
+        _ => {
+            b % 8 * 262144
+                + bytes[1] as u32 % 64 * 4096
+                + bytes[2] as u32 % 64 * 64
+                + bytes[3] as u32 % 64
+        }
+    }
+}
+
+/// The first character.
+#[inline(never)]
+fn wide_char(bytes: &[u8]) -> char
+    requires text { IsText bytes.now }
+    requires some { 0 < length bytes.now }
+    ensures { result ≡ slice_index (chars bytes.now) 0 }
+{
+    char::from_u32(code_of(bytes, WIDTH(bytes, 0))).unwrap()
+}
+
+/// The first character, or 0 at the end.
+#[inline(always)]
+fn first_char(bytes: &[u8]) -> char
+    requires { IsText bytes.now }
+    ensures { result ≡ slice_index (chars bytes.now) 0 }
+{
+    if bytes.is_empty() {
+        return '\0';
+    }
+    let b = bytes[0];
+    if b < 0x80 {
+        return char::from(b);
+    }
+    wide_char(bytes)
+}
+
+#[inline(never)]
+fn past_wide(bytes: &[u8]) -> &[u8]
+    requires { IsText bytes.now }
+    ensures text { IsText result.now }
+    ensures rest { chars result.now ≡ drop 1 (chars bytes.now) }
+{
+    let width = WIDTH(bytes, 0).min(bytes.len());
+    rest(bytes, width)
+}
+
+/// The bytes after the first character.
+#[inline(always)]
+fn past_char(bytes: &[u8]) -> &[u8]
+    requires { IsText bytes.now }
+    ensures text { IsText result.now }
+    ensures rest { chars result.now ≡ drop 1 (chars bytes.now) }
+{
+    if bytes.is_empty() {
+        return bytes;
+    }
+    if bytes[0] < 0x80 {
+        return rest(bytes, 1);
+    }
+    past_wide(bytes)
+}
+
+fn mark_behind(mark: yaml_mark_t, c: char, next: char) -> yaml_mark_t
+    requires index { mark.index + width c < 2 ^ 64 }
+    requires sums { mark.line + mark.column ≤ mark.index }
+    ensures value { result ≡ mark_behind mark c next }
+    ensures sums { result.line + result.column ≤ result.index }
+{
+    let index = mark.index + c.len_utf8() as u64;
+    if is_break(c) && !(c == '\r' && next == '\n') {
+        yaml_mark_t {
+            index,
+            line: mark.line + 1,
+            column: 0,
+        }
+    } else {
+        yaml_mark_t {
+            index,
+            line: mark.line,
+            column: mark.column + 1,
+        }
+    }
+}
+
+impl<'a> cursor_t<'a> {
+    /// The place of a mark.
+    pub fn at(text: &'a yaml_text_t<'_>, mark: yaml_mark_t) -> cursor_t<'a>
+        requires { (n : ℕ) × IsMarkOf text.now.chars mark n }
+        ensures place { (n : ℕ) → IsMarkOf text.now.chars mark n → result ≡ place_at text.now.chars n }
+        ensures size { length (utf8 text.now.chars) < 2 ^ 63 }
+    {
+        cursor_t {
+            mark,
+            bytes: rest(text.bytes(), mark.index as usize),
+        }
+    }
+
+    /// A second cursor at the same place.
+    #[inline(always)]
+    pub fn again(&self) -> cursor_t<'a>
+        ensures { result ≡ self.now }
+    {
+        cursor_t {
+            mark: self.mark,
+            bytes: self.bytes,
+        }
+    }
+
+    #[inline(always)]
+    pub fn mark(&self) -> yaml_mark_t
+        ensures value { result ≡ self.now.mark }
+        ensures room { result.line + result.column < 2 ^ 64 }
+    {
+        self.mark
+    }
+
+    /// The character `k` places on, or 0 past the end.
+    #[inline(always)]
+    pub fn peek(&self, k: usize) -> char
+        ensures { result ≡ peek self.now k }
+    {
+        let mut left = self.bytes;
+        'count: for _ in 0..k {
+            left = past_char(left);
+        }
+        first_char(left)
+    }
+
+    /// Takes a character, if one is left.
+    #[inline(always)]
+    pub fn advance(&mut self)
+        ensures { self.new ≡ skip 1 self.old }
+    {
+        if self.bytes.is_empty() {
+            return;
+        }
+        let b = self.bytes[0];
+        if b == b'\n' {
+            self.mark = yaml_mark_t {
+                index: self.mark.index + 1,
+                line: self.mark.line + 1,
+                column: 0,
+            };
+            self.bytes = rest(self.bytes, 1);
+            return;
+        }
+        if b < 0x80 && b != b'\r' {
+            self.mark = yaml_mark_t {
+                index: self.mark.index + 1,
+                line: self.mark.line,
+                column: self.mark.column + 1,
+            };
+            self.bytes = rest(self.bytes, 1);
+            return;
+        }
+        self.advance_far();
+    }
+
+    /// Takes a character that is not ASCII or is a carriage return.
+    #[inline(never)]
+    fn advance_far(&mut self)
+        requires { 0 < length self.old.rest }
+        ensures { self.new ≡ skip 1 self.old }
+    {
+        let c = first_char(self.bytes);
+        let next = self.peek(1);
+        self.mark = mark_behind(self.mark, c, next);
+        self.bytes = past_char(self.bytes);
+    }
+
+    /// Takes `n` characters, or all that are left.
+    #[inline(always)]
+    pub fn skip(&mut self, n: usize)
+        ensures { self.new ≡ skip n self.old }
+    {
+        'count: for _ in 0..n {
+            self.advance();
+        }
+    }
+
+    /// How many characters the break that is here takes, or 0 if there is none.
+    #[inline(always)]
+    pub fn break_len(&self) -> usize
+        ensures { result ≡ break_len self.now }
+    {
+        let c = self.peek(0);
+        if c == '\r' && check_at!(self, '\n', 1) {
+            2
+        } else if is_break(c) {
+            1
+        } else {
+            0
+        }
+    }
+
+    /// The bytes from an earlier place on up to this one.
+    #[inline(always)]
+    pub fn since(&self, start: &cursor_t<'a>) -> &'a [u8]
+        requires { (n : ℕ) × (self.now ≡ skip n start.now) }
+        ensures { (n : ℕ) → self.now ≡ skip n start.now → result.now ≡ utf8 (take n start.now.rest) }
+    {
+        front(start.bytes, start.bytes.len() - self.bytes.len())
+    }
+
+    /// What is left of the text.
+    fn left(&self) -> &'a [u8]
+        ensures { result.now ≡ utf8 self.now.rest }
+    {
+        self.bytes
+    }
+
+    /// Takes characters of a run, up to a byte at which it may end.
+    #[inline(always)]
+    fn skip_quiet(&mut self, class: class_t)
+        ensures goes { behind (class_test class) self.new ≡ behind (class_test class) self.old }
+        ensures shorter { length self.new.rest ≤ length self.old.rest }
+    {
+        let (n, count) = quiet_len(class, self.bytes);
+        self.mark = yaml_mark_t {
+            index: self.mark.index + n as u64,
+            line: self.mark.line,
+            column: self.mark.column + count as u64,
+        };
+        self.bytes = rest(self.bytes, n);
+    }
+
+    /// Takes the longest run of characters of the class, and returns its bytes.
+    #[inline(always)]
+    pub fn run(&mut self, class: class_t) -> &'a [u8]
+        ensures value { result.now ≡ utf8 (run (class_test class) self.old) }
+        ensures end { self.new ≡ behind (class_test class) self.old }
+    {
+        let start = self.left();
+        self.skip_quiet(class);
+        'run: while is_in(class, self.peek(0)) {
+            self.advance();
+            self.skip_quiet(class);
+        }
+        let left = self.left();
+        front(start, start.len() - left.len())
+    }
+
+    /// Takes characters of a class of a line, up to a byte at which their run may end, except the blanks
+    /// before that byte.
+    #[inline(always)]
+    pub fn skip_solid(&mut self, class: class_t)
+        requires { is_line class ≡ true }
+        ensures { Stands (class_test class) self.old self.new }
+    {
+        let (n, count) = quiet_len(class, self.bytes);
+        let kept = trimmed(front(self.bytes, n)).len();
+        self.mark = yaml_mark_t {
+            index: self.mark.index + kept as u64,
+            line: self.mark.line,
+            column: self.mark.column + (count - (n - kept)) as u64,
+        };
+        self.bytes = rest(self.bytes, kept);
+    }
+
+    /// Takes the spaces that are here, but at most so many.
+    #[inline(always)]
+    pub fn skip_spaces(&mut self, most: u64)
+        ensures { self.new ≡ skip (min (run_len (class_test SPACE) self.old) most) self.old }
+    {
+        let n = (spaces_len(self.bytes) as u64).min(most);
+        self.mark = yaml_mark_t {
+            index: self.mark.index + n,
+            line: self.mark.line,
+            column: self.mark.column + n,
+        };
+        self.bytes = rest(self.bytes, n as usize);
+    }
+
+    /// Takes the longest run of characters of the class.
+    #[inline(always)]
+    pub fn skip_run(&mut self, class: class_t)
+        ensures { self.new ≡ behind (class_test class) self.old }
+    {
+        let _ = self.run(class);
+    }
+}

@@ -1,0 +1,36 @@
+//! The stream end.
+ghost use Rattle.std.specs.Prelude.{◌≡◌, ◌+◌, ◌<◌, ◌^◌, IsOk};
+ghost use Rattle.yaml_lexeme.specs.StreamEnd as spec;
+ghost use Rattle.yaml_lexeme.specs.Lexeme.{lexeme_of};
+ghost use Rattle.yaml_lexeme.specs.Gives.{Gives};
+
+use crate::lexeme::{whole_of, yaml_lexeme_t};
+use crate::place::cursor_t;
+use crate::problem::refusal_t;
+use yaml_text::{unnamed_yaml_token_t_data, yaml_mark_t};
+
+/// The mark of a stream end: that of the text's end, or of the next line's start if the column there is not 0.
+fn stream_end(mark: yaml_mark_t) -> yaml_mark_t
+    requires { mark.line + mark.column < 2 ^ 64 }
+    ensures { result ≡ spec.stream_end mark }
+{
+    if mark.column == 0 {
+        mark
+    } else {
+        yaml_mark_t {
+            index: mark.index,
+            line: mark.line + 1,
+            column: 0,
+        }
+    }
+}
+
+/// Takes the stream end, which is no character.
+#[inline(never)]
+pub(crate) fn take_stream_end(cursor: &mut cursor_t) -> Result<yaml_lexeme_t, refusal_t>
+    ensures value { Gives lexeme_of result cursor.new (spec.at_end cursor.old) }
+    ensures taken { IsOk result }
+{
+    let mark = stream_end(cursor.mark());
+    Ok(whole_of(unnamed_yaml_token_t_data::STREAM_END, mark, mark))
+}

@@ -1,0 +1,8 @@
+-- Many bytes at a time.
+
+-- A mask that is computed lane by lane is held to a predicate at each of the 256 bytes.
+pub mod VectorLanes
+-- A run of bytes that pass a test is found a vector at a time, through the mask of those that fail it.
+pub mod VectorRuns
+-- Bytes that are characters by themselves make the front grow by as many characters.
+pub mod AsciiFronts
