@@ -5,7 +5,7 @@ use Rattle.yaml_lexeme.specs.Order.{is_stream_end}
 use Rattle.yaml_lexeme.specs.Place.{IsMarkOf}
 use Rattle.yaml_scan.proofs.Places.{gap_ends}
 use Rattle.lexlist.proofs.Walks.{reaches}
-use Rattle.lexlist.proofs.measure.read_behind.Goals as goal
+use Rattle.lexlist.proofs.measure.read_after.Goals as goal
 
 pub yaml_lexeme_kind-requires : goal.yaml_lexeme_kind-requires
 yaml_lexeme_kind-requires c =
