@@ -33,7 +33,7 @@ fn list_decoded(
             Ok((lines, false))
         }
         Err(fault) => {
-            list_fault(alloc, &fault, &mut lines)?;
+            list_fault(&fault, &mut lines)?;
             Ok((lines, true))
         }
     }
@@ -42,7 +42,6 @@ fn list_decoded(
 /// The lines of the tokens that were given.
 #[derive(Drop)]
 struct token_lines_t {
-    alloc: Global,
     lines: Vec<u8>,
 }
 
@@ -56,7 +55,7 @@ impl yaml_token_sink_t for token_lines_t {
     ghost may_refuse = { Unit {0} };
 
     fn put(&mut self, token: yaml_token_t) -> Result<(), AllocError> {
-        list_token(self.alloc, &token, &mut self.lines)
+        list_token(&token, &mut self.lines)
     }
 
     ghost took_none = { λ s. lines_none s.lines.items };
@@ -75,12 +74,11 @@ fn list_scanned(
     ensures { IfOk result (λ answer. ListsScan limit setting input.now answer.0.items answer.1) }
 {
     let mut sink = token_lines_t {
-        alloc,
         lines: Vec::new(alloc),
     };
     match yaml_scan_to(alloc, input, setting, limit, &mut sink)? {
         Some(fault) => {
-            list_fault(alloc, &fault, &mut sink.lines)?;
+            list_fault(&fault, &mut sink.lines)?;
             Ok((sink.lines, true))
         }
         None => Ok((sink.lines, false)),
@@ -143,7 +141,7 @@ fn list_called(
     let calls = calls_in(alloc, word)?;
     let answers = called(alloc, input, setting, &calls)?;
     let mut lines = Vec::new(alloc);
-    list_answers(alloc, &answers, &mut lines)?;
+    list_answers(&answers, &mut lines)?;
     let has_fault = has_fault(&answers);
     Ok((lines, has_fault))
 }

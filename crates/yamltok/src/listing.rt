@@ -17,7 +17,7 @@ ghost use Rattle.yamltok.specs.Listing.{reader_line, scanner_line, fault_line, t
 ghost use Rattle.yamltok.specs.Listing.{answer_line, answer_lines};
 
 use crate::put::{cut_back, put_bytes, put_decimal, put_mark, put_part, put_signed, put_text};
-use std::alloc::{AllocError, Global};
+use std::alloc::AllocError;
 use yaml_scan::yaml_answer_t;
 use yaml_text::{
     unnamed_yaml_token_t_data, yaml_encoding_t, yaml_error_type_t, yaml_fault_t, yaml_mark_at,
@@ -102,7 +102,7 @@ fn put_fault(out: &mut Vec<u8>, fault: &yaml_fault_t) -> Result<(), AllocError>
 /// Appends the line of a fault to `out`: `FAULT reader`, offset, value and problem text; `FAULT
 /// scanner`, the marks of context and problem, the context text or `-`, then `;`, and the
 /// problem text; or `FAULT memory`. If memory is refused, `out` is as before.
-pub fn list_fault(_alloc: Global, fault: &yaml_fault_t, out: &mut Vec<u8>) -> Result<(), AllocError>
+pub fn list_fault(fault: &yaml_fault_t, out: &mut Vec<u8>) -> Result<(), AllocError>
     requires { HasLine (fault_of fault.now) }
     ensures ok { OnOk result (out.new.items ≡ out.old.items ++ fault_line (fault_of fault.now)) }
     ensures err { OnErr result (out.new.items ≡ out.old.items) }
@@ -264,7 +264,7 @@ fn put_token(out: &mut Vec<u8>, token: &yaml_token_t) -> Result<(), AllocError>
 /// what it says: the encoding of a stream; the two numbers of a `%YAML` directive; the texts of other
 /// tokens, two hexadecimal digits a byte or `-` for none, with the style before a scalar's. The
 /// empty token is `NO-TOKEN`. If memory is refused, `out` is as before.
-pub fn list_token(_alloc: Global, token: &yaml_token_t, out: &mut Vec<u8>) -> Result<(), AllocError>
+pub fn list_token(token: &yaml_token_t, out: &mut Vec<u8>) -> Result<(), AllocError>
     requires { HasWords (data_of token.now.token_data) }
     ensures ok { OnOk result (out.new.items ≡ out.old.items ++ token_line (token_of token.now)) }
     ensures err { OnErr result (out.new.items ≡ out.old.items) }
@@ -290,7 +290,6 @@ fn put_peek(
 /// Appends the line of a token that is shown and stays to `out`: `PEEK`, the name of its type and its
 /// marks, or `PEEK NO-TOKEN` for the empty token. If memory is refused, `out` is as before.
 pub fn list_peek(
-    _alloc: Global,
     kind: yaml_token_type_t,
     start_mark: yaml_mark_t,
     end_mark: yaml_mark_t,
@@ -306,35 +305,27 @@ pub fn list_peek(
 
 /// Appends the line of an answer to a call to `out`: that of a token, of a peek, or of a fault, or `SKIP`,
 /// or `SKIP NOTHING` if nothing was skipped. If memory is refused, `out` is as before.
-pub fn list_answer(
-    alloc: Global,
-    answer: &yaml_answer_t,
-    out: &mut Vec<u8>,
-) -> Result<(), AllocError>
+pub fn list_answer(answer: &yaml_answer_t, out: &mut Vec<u8>) -> Result<(), AllocError>
     requires { SeenHasLine (seen_of answer.now) }
     ensures ok { OnOk result (out.new.items ≡ out.old.items ++ answer_line (seen_of answer.now)) }
     ensures err { OnErr result (out.new.items ≡ out.old.items) }
 {
     match answer {
-        yaml_answer_t::TOKEN(token) => list_token(alloc, token, out),
-        yaml_answer_t::PEEKED(kind, start, end) => list_peek(alloc, *kind, *start, *end, out),
+        yaml_answer_t::TOKEN(token) => list_token(token, out),
+        yaml_answer_t::PEEKED(kind, start, end) => list_peek(*kind, *start, *end, out),
         yaml_answer_t::SKIPPED => out.extend_from_slice(b"SKIP\n"),
         yaml_answer_t::NOTHING => out.extend_from_slice(b"SKIP NOTHING\n"),
-        yaml_answer_t::FAULT(fault) => list_fault(alloc, fault, out),
+        yaml_answer_t::FAULT(fault) => list_fault(fault, out),
     }
 }
 
 /// Appends the lines of these answers to `out`.
-pub fn list_answers(
-    alloc: Global,
-    answers: &[yaml_answer_t],
-    out: &mut Vec<u8>,
-) -> Result<(), AllocError>
+pub fn list_answers(answers: &[yaml_answer_t], out: &mut Vec<u8>) -> Result<(), AllocError>
     requires { SeenHaveLines (map seen_of answers.now) }
     ensures { OnOk result (out.new.items ≡ out.old.items ++ answer_lines (map seen_of answers.now)) }
 {
     for answer in answers {
-        list_answer(alloc, answer, out)?;
+        list_answer(answer, out)?;
     }
     Ok(())
 }

@@ -10,6 +10,8 @@
 
 mod answer;
 mod args;
+#[cfg(test)]
+mod decode_tests;
 mod devices;
 mod listing;
 mod outcome;

@@ -1,13 +1,14 @@
 //! Commands, inputs, and the lines that they give.
 use crate::tests::expect;
-use std::alloc::Global;
+use std::alloc::{AllocError, Global};
 use std::process::Abort;
 use std::test::Fail;
 
 /// A command, an input, the exit status, and the lines that are written.
-type row_t = (&'static str, &'static [u8], u8, &'static str);
+pub(crate) type row_t = (&'static str, &'static [u8], u8, &'static str);
 
-fn expect_rows(rt: &(impl Abort + AllocGlobal), rows: &[row_t]) -> Result<(), Fail> {
+/// Asserts what each row says.
+pub(crate) fn expect_rows(rt: &(impl Abort + AllocGlobal), rows: &[row_t]) -> Result<(), Fail> {
     for (command, input, status, lines) in rows {
         expect(rt, command, input, *status, lines)?;
     }
@@ -1067,14 +1068,9 @@ fn key_limits(rt: HostRuntime) -> Result<(), Fail> {
     expect_rows(&rt, &KEY_LIMITS)
 }
 
-/// A text with a part that is repeated.
-fn repeated(
-    alloc: Global,
-    head: &str,
-    part: &str,
-    count: usize,
-    tail: &str,
-) -> Result<String, Fail> {
+/// A text with a part that is repeated: what comes before it, the part, and what comes after it.
+fn repeated(alloc: Global, parts: &[&str; 3], count: usize) -> Result<String, AllocError> {
+    let [head, part, tail] = parts;
     let mut text = String::from_str(alloc, head)?;
     for _ in 0..count {
         text.push_str(part)?;
@@ -1260,31 +1256,34 @@ STREAM-END 1028:1:0 1028:1:0
     ),
 ];
 
+/// Asserts what a long row says.
+fn expect_long(rt: &(impl Abort + AllocGlobal), row: &long_row_t) -> Result<(), Fail> {
+    let (command, count, input, status, lines) = row;
+    let input = repeated(rt.alloc(), input, *count)?;
+    let lines = repeated(rt.alloc(), lines, *count)?;
+    expect(rt, command, input.as_bytes(), *status, lines.as_str())
+}
+
 #[test]
 fn long_keys(rt: HostRuntime) -> Result<(), Fail> {
-    let alloc = rt.alloc();
-    for (command, count, input, status, lines) in LONG_KEYS {
-        let input = repeated(alloc, input[0], input[1], count, input[2])?;
-        let lines = repeated(alloc, lines[0], lines[1], count, lines[2])?;
-        expect(&rt, command, input.as_bytes(), status, lines.as_str())?;
+    for row in &LONG_KEYS {
+        expect_long(&rt, row)?;
     }
     Ok(())
 }
 
 /// The answer to an empty word of calls is nothing, whatever the input is.
+const NO_CALLS: [row_t; 7] = [
+    ("calls any ", b"", 0, ""),
+    ("calls any ", b"a: b: c", 0, ""),
+    ("calls any ", b"[a]", 0, ""),
+    ("calls any ", b"{a:}", 0, ""),
+    ("calls any ", b"\xFF", 0, ""),
+    ("calls any ", b"\xFF\xFEa", 0, ""),
+    ("calls any ", b"anything: [", 0, ""),
+];
+
 #[test]
 fn no_calls(rt: HostRuntime) -> Result<(), Fail> {
-    let rows: [&[u8]; 7] = [
-        b"",
-        b"a: b: c",
-        b"[a]",
-        b"{a:}",
-        b"\xFF",
-        b"\xFF\xFEa",
-        b"anything: [",
-    ];
-    for input in rows {
-        expect(&rt, "calls any ", input, 0, "")?;
-    }
-    Ok(())
+    expect_rows(&rt, &NO_CALLS)
 }
