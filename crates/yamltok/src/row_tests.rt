@@ -1264,12 +1264,17 @@ fn expect_long(rt: &(impl Abort + AllocGlobal), row: &long_row_t) -> Result<(), 
     expect(rt, command, input.as_bytes(), *status, lines.as_str())
 }
 
-#[test]
-fn long_keys(rt: HostRuntime) -> Result<(), Fail> {
-    for row in &LONG_KEYS {
-        expect_long(&rt, row)?;
+/// Asserts what each long row says.
+fn expect_long_rows(rt: &(impl Abort + AllocGlobal), rows: &[long_row_t]) -> Result<(), Fail> {
+    for row in rows {
+        expect_long(rt, row)?;
     }
     Ok(())
+}
+
+#[test]
+fn long_keys(rt: HostRuntime) -> Result<(), Fail> {
+    expect_long_rows(&rt, &LONG_KEYS)
 }
 
 /// The answer to an empty word of calls is nothing, whatever the input is.

@@ -72,6 +72,7 @@ fn expect_unread(rt: &(impl Abort + AllocGlobal), command: yaml_command_t) -> Re
     let alloc = rt.alloc();
     let mut source = yaml_source_of_t::new(slow_reader_t {
         bytes: b"a: 1",
+        at: 0,
         calls: 0,
     });
     let mut sink = yaml_sink_of_t::new(Vec::new(alloc));

@@ -24,6 +24,7 @@ use yaml_text::{
 #[derive(Drop)]
 pub(crate) struct slow_reader_t<'a> {
     pub(crate) bytes: &'a [u8],
+    pub(crate) at: usize,
     pub(crate) calls: usize,
 }
 
@@ -33,12 +34,11 @@ impl Read for slow_reader_t<'_> {
             return Err(io::Error::from(io::ErrorKind::Other));
         }
         self.calls -= 1;
-        let bytes = self.bytes;
-        if bytes.is_empty() || buf.is_empty() {
+        if self.at >= self.bytes.len() || buf.is_empty() {
             return Ok(0);
         }
-        buf[0] = bytes[0];
-        self.bytes = &bytes[1..];
+        buf[0] = self.bytes[self.at];
+        self.at += 1;
         Ok(1)
     }
 }
@@ -109,11 +109,17 @@ pub(crate) fn expect(
     Ok(())
 }
 
+/// Asserts that these words spell no command.
+fn expect_none(rt: &(impl Abort + AllocGlobal), command: &str) -> Result<(), Fail> {
+    let words = words_of(rt.alloc(), command)?;
+    assert_eq!(rt; parse_args(&words).is_none(), true, "{command}");
+    Ok(())
+}
+
 /// Asserts that the words of each command spell none, and that the program says so.
 pub(crate) fn expect_wrong(rt: &(impl Abort + AllocGlobal), commands: &[&str]) -> Result<(), Fail> {
     for command in commands {
-        let words = words_of(rt.alloc(), command)?;
-        assert_eq!(rt; parse_args(&words).is_none(), true, "{command}");
+        expect_none(rt, command)?;
         expect(rt, command, b"a: 1", 2, "")?;
     }
     Ok(())
@@ -179,6 +185,7 @@ fn expect_read(
     let alloc = rt.alloc();
     let reader = slow_reader_t {
         bytes: b"a: 1",
+        at: 0,
         calls,
     };
     let (outcome, written) = outcome_of(alloc, command, reader, Vec::new(alloc))?;
@@ -278,16 +285,21 @@ fn put_faults(out: &mut Vec<u8>) -> Result<(), AllocError> {
     let fault = yaml_fault_t {
         error: yaml_error_type_t::YAML_SCANNER_ERROR,
         problem: Some("found no end"),
+        problem_offset: 0,
+        problem_value: 0,
         problem_mark: at,
         context: Some("while reading"),
         context_mark: from,
-        ..memory
     };
     list_fault(&fault, out)?;
     let bare = yaml_fault_t {
+        error: yaml_error_type_t::YAML_SCANNER_ERROR,
+        problem: Some("found no end"),
+        problem_offset: 0,
+        problem_value: 0,
+        problem_mark: at,
         context: None,
         context_mark: at,
-        ..fault
     };
     list_fault(&bare, out)
 }
@@ -455,38 +467,29 @@ BLOCK-MAPPING-START 0:0:0 4:0:4
     Ok(())
 }
 
-fn expect_peek(
-    rt: &(impl Abort + AllocGlobal),
-    kind: yaml_token_type_t,
-    line: &str,
-) -> Result<(), Fail> {
-    let mut out = Vec::new(rt.alloc());
-    list_peek(kind, FROM, TO, &mut out)?;
-    assert_eq!(rt; out.as_slice(), line.as_bytes());
-    Ok(())
-}
-
-/// Types of tokens, and the line of a peek at such a token.
-const PEEKED: [(yaml_token_type_t, &str); 4] = [
-    (yaml_token_type_t::YAML_NO_TOKEN, "PEEK NO-TOKEN\n"),
-    (
-        yaml_token_type_t::YAML_STREAM_START_TOKEN,
-        "PEEK STREAM-START 0:0:0 4:0:4\n",
-    ),
-    (
-        yaml_token_type_t::YAML_SCALAR_TOKEN,
-        "PEEK SCALAR 0:0:0 4:0:4\n",
-    ),
-    (
+/// Lists peeks at tokens of several types.
+fn put_peeks(out: &mut Vec<u8>) -> Result<(), AllocError> {
+    list_peek(yaml_token_type_t::YAML_NO_TOKEN, FROM, TO, out)?;
+    list_peek(yaml_token_type_t::YAML_STREAM_START_TOKEN, FROM, TO, out)?;
+    list_peek(yaml_token_type_t::YAML_SCALAR_TOKEN, FROM, TO, out)?;
+    list_peek(
         yaml_token_type_t::YAML_FLOW_MAPPING_END_TOKEN,
-        "PEEK FLOW-MAPPING-END 0:0:0 4:0:4\n",
-    ),
-];
+        FROM,
+        TO,
+        out,
+    )
+}
 
 #[test]
 fn peek_lines(rt: HostRuntime) -> Result<(), Fail> {
-    for (kind, line) in &PEEKED {
-        expect_peek(&rt, *kind, line)?;
-    }
+    let mut out = Vec::new(rt.alloc());
+    put_peeks(&mut out)?;
+    let lines = "\
+PEEK NO-TOKEN
+PEEK STREAM-START 0:0:0 4:0:4
+PEEK SCALAR 0:0:0 4:0:4
+PEEK FLOW-MAPPING-END 0:0:0 4:0:4
+";
+    assert_eq!(rt; out.as_slice(), lines.as_bytes());
     Ok(())
 }

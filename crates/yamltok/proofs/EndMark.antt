@@ -1,4 +1,4 @@
--- The mark of a text's end.
+-- The mark at a text's end is that after all its characters.
 use Rattle.std.proofs.Common.{◌≡◌, ℕ, List, [], length, drop, sym, ap, ◌∙◌, subst, arith}
 use Rattle.std.proofs.Math.Bool.{and-false}
 use Rattle.std.proofs.Math.Seq.{take-length, drop-length}
@@ -10,8 +10,15 @@ use Rattle.yaml_text.specs.Mark.{IsPlaceAt, mark_at, mark_of}
 pub IsPlaceAt-end : (cs : List ℕ) → IsPlaceAt cs (length (utf8 cs)) (length cs)
 IsPlaceAt-end cs =
     let none : drop (length cs) cs ≡ [] = drop-length cs in
-    record { within = omega arith; index_is = ap (λ l. length (utf8 l)) (sym (take-length cs)); whole = rw none (and-false _) }
+    record {
+      within = omega arith;
+      index_is = ap (λ l. length (utf8 l)) (sym (take-length cs));
+      whole = rw none (and-false _);
+    }
 
 -- so the mark there is that after all characters
-pub mark_at-end : (cs bytes : List ℕ) (m : yaml_mark_t) → bytes ≡ utf8 cs → ((p : ℕ) → IsPlaceAt cs (length bytes) p → m ≡ mark_at cs p) → m ≡ mark_of cs
-mark_at-end cs bytes m e h = h (length cs) (subst (λ (b : List ℕ). IsPlaceAt cs (length b) (length cs)) (sym e) (IsPlaceAt-end cs)) ∙ ap mark_of (take-length cs)
+pub mark_at-end : (cs bytes : List ℕ) (m : yaml_mark_t) → bytes ≡ utf8 cs
+    → ((p : ℕ) → IsPlaceAt cs (length bytes) p → m ≡ mark_at cs p) → m ≡ mark_of cs
+mark_at-end cs bytes m e h =
+    let end = subst (λ (b : List ℕ). IsPlaceAt cs (length b) (length cs)) (sym e) (IsPlaceAt-end cs) in
+    h (length cs) end ∙ ap mark_of (take-length cs)
