@@ -16,7 +16,7 @@ IsPlaceAt-end cs =
       whole = rw none (and-false _);
     }
 
--- so the mark there is that after all characters
+-- the mark at that place is the one after all characters
 pub mark_at-end : (cs bytes : List ℕ) (m : yaml_mark_t) → bytes ≡ utf8 cs
     → ((p : ℕ) → IsPlaceAt cs (length bytes) p → m ≡ mark_at cs p) → m ≡ mark_of cs
 mark_at-end cs bytes m e h =

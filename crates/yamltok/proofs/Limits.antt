@@ -18,7 +18,7 @@ limit_small n l =
     let p = and_parts (nat_le 1 n) (nat_le n most_key_limit) l in
     (leb-true 1 n p.0, leb-true n most_key_limit p.1)
 
--- a digit other than 0 comes first
+-- a word that spells a key limit begins with a digit other than 0
 pub limit_led : (bs : List ℕ) (n : ℕ) → is_limit n ≡ true → bs ≡ decimal n → IsInRange 49 57 (get_or bs 0 0)
 limit_led bs n l e =
     let s = limit_small n l in
@@ -28,7 +28,7 @@ limit_led bs n l e =
     let g = digit_at (decimal n) 0 d.1 d.0 in
     subst (λ (x : List ℕ). IsInRange 49 57 (get_or x 0 0)) (sym e) (omega (arith, f), g.1)
 
--- so what was read of such a word is what it spells
+-- a word that begins so and is read as a number spells that number
 pub limit_parsed : {E : Type 0} (bs : List ℕ) (n : ℕ) (r : Result ℕ E) → IsInRange 49 57 (get_or bs 0 0)
     → ParsesUnsigned {E = E} 32 10 bs r → r ≡ Ok n → bs ≡ decimal n
 limit_parsed {E} bs n r l h q =
@@ -40,7 +40,7 @@ limit_parsed {E} bs n r l h q =
     let d = decimal-digits_value own bs o.0.0 o.0.1 (λ e. absurd (omega arith)) b in
     sym d ∙ ap decimal (sym o.1)
 
--- and what it spells is read
+-- a word that spells a key limit is read as it
 pub limit_read : {E : Type 0} (bs : List ℕ) (n : ℕ) (r : Result ℕ E) → is_limit n ≡ true → bs ≡ decimal n
     → ParsesUnsigned {E = E} 32 10 bs r → r ≡ Ok n
 limit_read bs n r l e h =

@@ -260,6 +260,18 @@ const TO: yaml_mark_t = yaml_mark_t {
     column: 4,
 };
 
+const PROBLEM_AT: yaml_mark_t = yaml_mark_t {
+    index: 9,
+    line: 1,
+    column: 2,
+};
+
+const CONTEXT_AT: yaml_mark_t = yaml_mark_t {
+    index: 7,
+    line: 1,
+    column: 0,
+};
+
 /// Lists a fault of kind memory, one of kind scanner, and one of that kind without a context.
 fn put_faults(out: &mut Vec<u8>) -> Result<(), AllocError> {
     let memory = yaml_fault_t {
@@ -272,24 +284,14 @@ fn put_faults(out: &mut Vec<u8>) -> Result<(), AllocError> {
         context_mark: FROM,
     };
     list_fault(&memory, out)?;
-    let at = yaml_mark_t {
-        index: 9,
-        line: 1,
-        column: 2,
-    };
-    let from = yaml_mark_t {
-        index: 7,
-        line: 1,
-        column: 0,
-    };
     let fault = yaml_fault_t {
         error: yaml_error_type_t::YAML_SCANNER_ERROR,
         problem: Some("found no end"),
         problem_offset: 0,
         problem_value: 0,
-        problem_mark: at,
+        problem_mark: PROBLEM_AT,
         context: Some("while reading"),
-        context_mark: from,
+        context_mark: CONTEXT_AT,
     };
     list_fault(&fault, out)?;
     let bare = yaml_fault_t {
@@ -297,9 +299,9 @@ fn put_faults(out: &mut Vec<u8>) -> Result<(), AllocError> {
         problem: Some("found no end"),
         problem_offset: 0,
         problem_value: 0,
-        problem_mark: at,
+        problem_mark: PROBLEM_AT,
         context: None,
-        context_mark: at,
+        context_mark: PROBLEM_AT,
     };
     list_fault(&bare, out)
 }
