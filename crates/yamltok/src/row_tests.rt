@@ -1079,149 +1079,157 @@ fn repeated(alloc: Global, parts: &[&str; 3], count: usize) -> Result<String, Al
     Ok(text)
 }
 
-/// A command, how often a part of the input is repeated, the input before, in and after that part, the exit status,
-/// and the lines before, in and after what is repeated in them.
-type long_row_t = (
-    &'static str,
-    usize,
-    [&'static str; 3],
-    u8,
-    [&'static str; 3],
-);
+/// A command, and an input and lines in which a part is repeated.
+struct long_row_t {
+    command: &'static str,
+    /// How often the parts are repeated.
+    count: usize,
+    /// The input: what comes before the repeated part, that part, and what comes after it.
+    before: &'static str,
+    part: &'static str,
+    after: &'static str,
+    /// The exit status.
+    status: u8,
+    /// The lines: what comes before the repeated part, that part, and what comes after it.
+    lines_before: &'static str,
+    lines_part: &'static str,
+    lines_after: &'static str,
+}
 
 /// Scalars that are as long as the key limit, or a byte longer.
 const LONG_KEYS: [long_row_t; 9] = [
-    (
-        "scan any",
-        1024,
-        ["", "x", ": 1"],
-        0,
-        [
-            "\
+    long_row_t {
+        command: "scan any",
+        count: 1024,
+        before: "",
+        part: "x",
+        after: ": 1",
+        status: 0,
+        lines_before: "\
 STREAM-START 0:0:0 0:0:0 UTF8
 BLOCK-MAPPING-START 0:0:0 0:0:0
 KEY 0:0:0 0:0:0
 SCALAR 0:0:0 1024:0:1024 plain ",
-            "78",
-            "\n\
+        lines_part: "78",
+        lines_after: "\n\
 VALUE 1024:0:1024 1025:0:1025
 SCALAR 1026:0:1026 1027:0:1027 plain 31
 BLOCK-END 1027:1:0 1027:1:0
 STREAM-END 1027:1:0 1027:1:0
 ",
-        ],
-    ),
-    (
-        "scan any",
-        1025,
-        ["", "x", ": 1"],
-        1,
-        [
-            "\
+    },
+    long_row_t {
+        command: "scan any",
+        count: 1025,
+        before: "",
+        part: "x",
+        after: ": 1",
+        status: 1,
+        lines_before: "\
 STREAM-START 0:0:0 0:0:0 UTF8
 SCALAR 0:0:0 1025:0:1025 plain ",
-            "78",
-            "\n\
+        lines_part: "78",
+        lines_after: "\n\
 FAULT scanner 1025:0:1025 1025:0:1025 -; mapping values are not allowed in this context
 ",
-        ],
-    ),
-    (
-        "scan any",
-        513,
-        ["", "\u{E9}", ": 1"],
-        1,
-        [
-            "\
+    },
+    long_row_t {
+        command: "scan any",
+        count: 513,
+        before: "",
+        part: "\u{E9}",
+        after: ": 1",
+        status: 1,
+        lines_before: "\
 STREAM-START 0:0:0 0:0:0 UTF8
 SCALAR 0:0:0 1026:0:513 plain ",
-            "c3a9",
-            "\n\
+        lines_part: "c3a9",
+        lines_after: "\n\
 FAULT scanner 1026:0:513 1026:0:513 -; mapping values are not allowed in this context
 ",
-        ],
-    ),
-    (
-        "scan any",
-        512,
-        ["", "\u{E9}", ": 1"],
-        0,
-        [
-            "\
+    },
+    long_row_t {
+        command: "scan any",
+        count: 512,
+        before: "",
+        part: "\u{E9}",
+        after: ": 1",
+        status: 0,
+        lines_before: "\
 STREAM-START 0:0:0 0:0:0 UTF8
 BLOCK-MAPPING-START 0:0:0 0:0:0
 KEY 0:0:0 0:0:0
 SCALAR 0:0:0 1024:0:512 plain ",
-            "c3a9",
-            "\n\
+        lines_part: "c3a9",
+        lines_after: "\n\
 VALUE 1024:0:512 1025:0:513
 SCALAR 1026:0:514 1027:0:515 plain 31
 BLOCK-END 1027:1:0 1027:1:0
 STREAM-END 1027:1:0 1027:1:0
 ",
-        ],
-    ),
-    (
-        "scan any",
-        1025,
-        ["[", "x", ": 1]"],
-        0,
-        [
-            "\
+    },
+    long_row_t {
+        command: "scan any",
+        count: 1025,
+        before: "[",
+        part: "x",
+        after: ": 1]",
+        status: 0,
+        lines_before: "\
 STREAM-START 0:0:0 0:0:0 UTF8
 FLOW-SEQUENCE-START 0:0:0 1:0:1
 SCALAR 1:0:1 1026:0:1026 plain ",
-            "78",
-            "\n\
+        lines_part: "78",
+        lines_after: "\n\
 VALUE 1026:0:1026 1027:0:1027
 SCALAR 1028:0:1028 1029:0:1029 plain 31
 FLOW-SEQUENCE-END 1029:0:1029 1030:0:1030
 STREAM-END 1030:1:0 1030:1:0
 ",
-        ],
-    ),
-    (
-        "scan any",
-        1024,
-        ["[", "x", ": 1]"],
-        0,
-        [
-            "\
+    },
+    long_row_t {
+        command: "scan any",
+        count: 1024,
+        before: "[",
+        part: "x",
+        after: ": 1]",
+        status: 0,
+        lines_before: "\
 STREAM-START 0:0:0 0:0:0 UTF8
 FLOW-SEQUENCE-START 0:0:0 1:0:1
 KEY 1:0:1 1:0:1
 SCALAR 1:0:1 1025:0:1025 plain ",
-            "78",
-            "\n\
+        lines_part: "78",
+        lines_after: "\n\
 VALUE 1025:0:1025 1026:0:1026
 SCALAR 1027:0:1027 1028:0:1028 plain 31
 FLOW-SEQUENCE-END 1028:0:1028 1029:0:1029
 STREAM-END 1029:1:0 1029:1:0
 ",
-        ],
-    ),
-    (
-        "scan any",
-        1024,
-        ["", "x", " : 1"],
-        1,
-        [
-            "\
+    },
+    long_row_t {
+        command: "scan any",
+        count: 1024,
+        before: "",
+        part: "x",
+        after: " : 1",
+        status: 1,
+        lines_before: "\
 STREAM-START 0:0:0 0:0:0 UTF8
 SCALAR 0:0:0 1024:0:1024 plain ",
-            "78",
-            "\n\
+        lines_part: "78",
+        lines_after: "\n\
 FAULT scanner 1025:0:1025 1025:0:1025 -; mapping values are not allowed in this context
 ",
-        ],
-    ),
-    (
-        "scan any",
-        1025,
-        ["a: 1\n", "x", ": 2"],
-        1,
-        [
-            "\
+    },
+    long_row_t {
+        command: "scan any",
+        count: 1025,
+        before: "a: 1\n",
+        part: "x",
+        after: ": 2",
+        status: 1,
+        lines_before: "\
 STREAM-START 0:0:0 0:0:0 UTF8
 BLOCK-MAPPING-START 0:0:0 0:0:0
 KEY 0:0:0 0:0:0
@@ -1230,38 +1238,43 @@ VALUE 1:0:1 2:0:2
 SCALAR 3:0:3 4:0:4 plain 31
 FAULT scanner 5:1:0 1030:1:1025 while scanning a simple key; could not find expected ':'
 ",
-            "",
-            "",
-        ],
-    ),
-    (
-        "scan any 65536",
-        1025,
-        ["", "x", ": 1"],
-        0,
-        [
-            "\
+        lines_part: "",
+        lines_after: "",
+    },
+    long_row_t {
+        command: "scan any 65536",
+        count: 1025,
+        before: "",
+        part: "x",
+        after: ": 1",
+        status: 0,
+        lines_before: "\
 STREAM-START 0:0:0 0:0:0 UTF8
 BLOCK-MAPPING-START 0:0:0 0:0:0
 KEY 0:0:0 0:0:0
 SCALAR 0:0:0 1025:0:1025 plain ",
-            "78",
-            "\n\
+        lines_part: "78",
+        lines_after: "\n\
 VALUE 1025:0:1025 1026:0:1026
 SCALAR 1027:0:1027 1028:0:1028 plain 31
 BLOCK-END 1028:1:0 1028:1:0
 STREAM-END 1028:1:0 1028:1:0
 ",
-        ],
-    ),
+    },
 ];
 
 /// Asserts what a long row says.
 fn expect_long(rt: &(impl Abort + AllocGlobal), row: &long_row_t) -> Result<(), Fail> {
-    let (command, count, input, status, lines) = row;
-    let input = repeated(rt.alloc(), input, *count)?;
-    let lines = repeated(rt.alloc(), lines, *count)?;
-    expect(rt, command, input.as_bytes(), *status, lines.as_str())
+    let input = repeated(rt.alloc(), &[row.before, row.part, row.after], row.count)?;
+    let lines = [row.lines_before, row.lines_part, row.lines_after];
+    let lines = repeated(rt.alloc(), &lines, row.count)?;
+    expect(
+        rt,
+        row.command,
+        input.as_bytes(),
+        row.status,
+        lines.as_str(),
+    )
 }
 
 /// Asserts what each long row says.

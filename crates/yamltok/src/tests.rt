@@ -34,10 +34,10 @@ impl Read for slow_reader_t<'_> {
             return Err(io::Error::from(io::ErrorKind::Other));
         }
         self.calls -= 1;
-        if self.at >= self.bytes.len() || buf.is_empty() {
+        let (Some(slot), Some(byte)) = (buf.first_mut(), self.bytes.get(self.at)) else {
             return Ok(0);
-        }
-        buf[0] = self.bytes[self.at];
+        };
+        *slot = *byte;
         self.at += 1;
         Ok(1)
     }
@@ -112,7 +112,7 @@ pub(crate) fn expect(
 /// Asserts that these words spell no command.
 fn expect_none(rt: &(impl Abort + AllocGlobal), command: &str) -> Result<(), Fail> {
     let words = words_of(rt.alloc(), command)?;
-    assert_eq!(rt; parse_args(&words).is_none(), true, "{command}");
+    assert!(rt; parse_args(&words).is_none(), "{command}");
     Ok(())
 }
 
@@ -144,7 +144,7 @@ const WRONG: [&str; 13] = [
 
 #[test]
 fn wrong_words(rt: HostRuntime) -> Result<(), Fail> {
-    assert_eq!(rt; parse_args(&[]).is_none(), true);
+    assert!(rt; parse_args(&[]).is_none());
     expect_wrong(&rt, &WRONG)
 }
 
