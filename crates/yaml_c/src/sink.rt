@@ -1,6 +1,4 @@
 //! A caller's two rooms, as the sink of the tokens of an input.
-ghost use Rattle.std.specs.Prelude.{◌≡◌};
-
 use crate::record::{first_text, record_of, second_text, yaml_c_token};
 use crate::room::{put_bytes, put_record};
 use std::alloc::AllocError;

@@ -100,8 +100,7 @@ reader_line offset value problem =
 -- the mark of a scanner fault's context, the mark of its problem, and both texts
 abbrev pub scanner_line : yaml_mark_t → List ℕ → yaml_mark_t → List ℕ → List ℕ
 scanner_line context_mark context problem_mark problem =
-    line
-    (codes "FAULT" ∷ codes "scanner" ∷ mark_text context_mark ∷ mark_text problem_mark
+    line (codes "FAULT" ∷ codes "scanner" ∷ mark_text context_mark ∷ mark_text problem_mark
     ∷ (context ++ codes ";") ∷ problem ∷ [])
 
 -- the line of a fault of the kind
@@ -119,8 +118,7 @@ fault_line f = fault_line_as f.error f
 -- the line of a decoded text: its encoding, the number of its bytes and the mark of its end
 abbrev pub text_line : Text → List ℕ
 text_line t =
-    line
-    (codes "TEXT" ∷ encoding_word t.encoding ∷ decimal (length (utf8 t.chars))
+    line (codes "TEXT" ∷ encoding_word t.encoding ∷ decimal (length (utf8 t.chars))
     ∷ mark_text (mark_of t.chars) ∷ [])
 
 -- the line of what an input decodes to
