@@ -109,17 +109,16 @@ pub(crate) fn expect(
     Ok(())
 }
 
-/// Asserts that these words spell no command.
-fn expect_none(rt: &(impl Abort + AllocGlobal), command: &str) -> Result<(), Fail> {
-    let words = words_of(rt.alloc(), command)?;
-    assert!(rt; parse_args(&words).is_none(), "{command}");
-    Ok(())
+fn is_command(alloc: Global, command: &str) -> Result<bool, Fail> {
+    let words = words_of(alloc, command)?;
+    Ok(parse_args(&words).is_some())
 }
 
 /// Asserts that the words of each command spell none, and that the program says so.
 pub(crate) fn expect_wrong(rt: &(impl Abort + AllocGlobal), commands: &[&str]) -> Result<(), Fail> {
     for command in commands {
-        expect_none(rt, command)?;
+        let is_command = is_command(rt.alloc(), command)?;
+        assert!(rt; !is_command, "{command}");
         expect(rt, command, b"a: 1", 2, "")?;
     }
     Ok(())
@@ -175,6 +174,20 @@ KEY 0:0:0 0:0:0
     ),
 ];
 
+/// The outcome of a command on `a: 1` if a read fails after so many calls, and what was written.
+fn outcome_of_reads(
+    alloc: Global,
+    command: &str,
+    calls: usize,
+) -> Result<(Result<bool, tool_fault_t>, Vec<u8>), Fail> {
+    let reader = slow_reader_t {
+        bytes: b"a: 1",
+        at: 0,
+        calls,
+    };
+    outcome_of(alloc, command, reader, Vec::new(alloc))
+}
+
 /// A read that fails before the end, at any call, and one byte a call.
 fn expect_read(
     rt: &(impl Abort + AllocGlobal),
@@ -182,13 +195,7 @@ fn expect_read(
     lines: &str,
     calls: usize,
 ) -> Result<(), Fail> {
-    let alloc = rt.alloc();
-    let reader = slow_reader_t {
-        bytes: b"a: 1",
-        at: 0,
-        calls,
-    };
-    let (outcome, written) = outcome_of(alloc, command, reader, Vec::new(alloc))?;
+    let (outcome, written) = outcome_of_reads(rt.alloc(), command, calls)?;
     let (wanted, status, lines) = if calls > 4 {
         (Ok(false), 0, lines)
     } else {
@@ -272,9 +279,8 @@ const CONTEXT_AT: yaml_mark_t = yaml_mark_t {
     column: 0,
 };
 
-/// Lists a fault of kind memory, one of kind scanner, and one of that kind without a context.
-fn put_faults(out: &mut Vec<u8>) -> Result<(), AllocError> {
-    let memory = yaml_fault_t {
+fn put_memory_fault(out: &mut Vec<u8>) -> Result<(), AllocError> {
+    let fault = yaml_fault_t {
         error: yaml_error_type_t::YAML_MEMORY_ERROR,
         problem: None,
         problem_offset: 0,
@@ -283,34 +289,33 @@ fn put_faults(out: &mut Vec<u8>) -> Result<(), AllocError> {
         context: None,
         context_mark: FROM,
     };
-    list_fault(&memory, out)?;
+    list_fault(&fault, out)
+}
+
+fn put_scanner_fault(
+    context: Option<&'static str>,
+    context_mark: yaml_mark_t,
+    out: &mut Vec<u8>,
+) -> Result<(), AllocError> {
     let fault = yaml_fault_t {
         error: yaml_error_type_t::YAML_SCANNER_ERROR,
         problem: Some("found no end"),
         problem_offset: 0,
         problem_value: 0,
         problem_mark: PROBLEM_AT,
-        context: Some("while reading"),
-        context_mark: CONTEXT_AT,
+        context,
+        context_mark,
     };
-    list_fault(&fault, out)?;
-    let bare = yaml_fault_t {
-        error: yaml_error_type_t::YAML_SCANNER_ERROR,
-        problem: Some("found no end"),
-        problem_offset: 0,
-        problem_value: 0,
-        problem_mark: PROBLEM_AT,
-        context: None,
-        context_mark: PROBLEM_AT,
-    };
-    list_fault(&bare, out)
+    list_fault(&fault, out)
 }
 
 #[test]
 fn fault_lines(rt: HostRuntime) -> Result<(), Fail> {
     let mut out = Vec::new(rt.alloc());
     out.push(b'>')?;
-    put_faults(&mut out)?;
+    put_memory_fault(&mut out)?;
+    put_scanner_fault(Some("while reading"), CONTEXT_AT, &mut out)?;
+    put_scanner_fault(None, PROBLEM_AT, &mut out)?;
     let lines = "\
 >FAULT memory
 FAULT scanner 7:1:0 9:1:2 while reading; found no end
@@ -469,17 +474,16 @@ BLOCK-MAPPING-START 0:0:0 4:0:4
     Ok(())
 }
 
+fn put_peek(kind: yaml_token_type_t, out: &mut Vec<u8>) -> Result<(), AllocError> {
+    list_peek(kind, FROM, TO, out)
+}
+
 /// Lists peeks at tokens of several types.
 fn put_peeks(out: &mut Vec<u8>) -> Result<(), AllocError> {
-    list_peek(yaml_token_type_t::YAML_NO_TOKEN, FROM, TO, out)?;
-    list_peek(yaml_token_type_t::YAML_STREAM_START_TOKEN, FROM, TO, out)?;
-    list_peek(yaml_token_type_t::YAML_SCALAR_TOKEN, FROM, TO, out)?;
-    list_peek(
-        yaml_token_type_t::YAML_FLOW_MAPPING_END_TOKEN,
-        FROM,
-        TO,
-        out,
-    )
+    put_peek(yaml_token_type_t::YAML_NO_TOKEN, out)?;
+    put_peek(yaml_token_type_t::YAML_STREAM_START_TOKEN, out)?;
+    put_peek(yaml_token_type_t::YAML_SCALAR_TOKEN, out)?;
+    put_peek(yaml_token_type_t::YAML_FLOW_MAPPING_END_TOKEN, out)
 }
 
 #[test]
