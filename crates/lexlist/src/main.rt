@@ -4,11 +4,11 @@
 //!
 //! - `gap FLOW ALLOWED INDEX TEXT`: the mark after the gap, and whether a break is in it;
 //! - `kind FLOW INDEX TEXT`: the kind of lexeme, or `-`;
-//! - `lex DEPTH LEVEL INDEX TEXT`: the lexeme of the kind at that place: its type, the bytes of its parts, its start, end
-//!   and reach, and whether it passed a break; or the fault's context, problem and their marks; or `-`.
+//! - `lex DEPTH LEVEL INDEX TEXT`: the lexeme of the kind at that place: its type, the bytes of its parts, its start,
+//!   end and reach, and whether it passed a break; or the fault's context, problem and their marks; or `-`.
 //!
-//! FLOW and ALLOWED are 0 or 1, INDEX counts bytes, LEVEL is a column or `-`, TEXT is hexadecimal or `-`. The answer to a
-//! line that is no such question is `?`.
+//! FLOW and ALLOWED are 0 or 1, INDEX counts bytes, LEVEL is a column or `-`, TEXT is hexadecimal or `-`. The answer
+//! to a line that is no such question is `?`.
 //!
 //! With the word `measure` something is done nine times with the input as a text: the lexeme at its front is read,
 //! with `measure walk` all its lexemes one after the other, with `measure scan` or `measure scan LIMIT` its tokens
@@ -16,10 +16,14 @@
 //! bytes decoded, and the best and the median time in nanoseconds.
 //!
 //! Four commands show what a session does if memory is refused: after the input is read, only the named calls
-//! take memory (`session.rt`). `each ENC LIMIT WORD` makes the calls of WORD one by one (`s` for a
-//! scan, `p` for a peek, `k` for a skip), `calls ENC LIMIT WORD..` those of each WORD by one `yaml_run`, all on one
-//! parser; `all ENC LIMIT` lists all tokens by one call, and `decode ENC` decodes the input. ENC is `any`, `utf8`,
-//! `utf16le` or `utf16be`, LIMIT a key limit of 1 to 65536 bytes.
+//! take memory (`session.rt`).
+//!
+//! - `each ENC LIMIT WORD` makes the calls of WORD one by one: `s` for a scan, `p` for a peek, `k` for a skip;
+//! - `calls ENC LIMIT WORD..` makes the calls of each WORD by one `yaml_run`, all on one parser;
+//! - `all ENC LIMIT` lists all tokens by one call;
+//! - `decode ENC` decodes the input.
+//!
+//! ENC is `any`, `utf8`, `utf16le` or `utf16be`, LIMIT a key limit of 1 to 65536 bytes.
 #![tactic(auto)]
 
 mod ask;

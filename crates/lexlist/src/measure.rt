@@ -4,6 +4,7 @@ ghost use Rattle.yaml_lexeme.specs.Order.{is_stream_end};
 ghost use Rattle.yaml_lexeme.specs.Place.{IsMarkOf};
 
 use crate::ask::mark_at;
+use crate::session::MOST_KEY_LIMIT;
 use std::alloc::{AllocError, Global};
 use std::io;
 use std::time::Instant;
@@ -55,6 +56,7 @@ fn read_at(alloc: Global, text: &yaml_text_t, at: yaml_mark_t) -> u64
     }
 }
 
+/// How many bytes the lexeme at the front reaches over.
 fn read_front(alloc: Global, text: &yaml_text_t) -> u64 {
     match mark_at(text, 0) {
         Some(at) => read_at(alloc, text, at),
@@ -75,7 +77,7 @@ fn reach(lexeme: &yaml_lexeme_t) -> yaml_mark_t
 }
 
 /// The mark up to which the lexeme after a gap was read, if there is one.
-fn read_behind(alloc: Global, text: &yaml_text_t, at: yaml_mark_t) -> Option<yaml_mark_t>
+fn read_after(alloc: Global, text: &yaml_text_t, at: yaml_mark_t) -> Option<yaml_mark_t>
     requires { (n : ℕ) × IsMarkOf text.now.chars at n }
     ensures { IfSome result (λ mark. (n : ℕ) × IsMarkOf text.now.chars mark n) }
 {
@@ -102,7 +104,7 @@ fn walk(alloc: Global, text: &yaml_text_t) -> u64 {
         return 0;
     };
     'lexemes: for _ in 0..text.bytes().len() {
-        match read_behind(alloc, text, at) {
+        match read_after(alloc, text, at) {
             Some(next) => at = next,
             None => break,
         }
@@ -113,7 +115,7 @@ fn walk(alloc: Global, text: &yaml_text_t) -> u64 {
 /// How many tokens an input has with a key limit, up to its end or a fault.
 fn scan(alloc: Global, input: &[u8], limit: u32) -> u64
     requires least { 1 ≤ limit }
-    requires most { limit ≤ 65536 }
+    requires most { limit ≤ MOST_KEY_LIMIT }
 {
     let any = yaml_encoding_t::YAML_ANY_ENCODING;
     let mut parser = yaml_parser_t::with_key_limit(alloc, input, any, limit);
@@ -138,9 +140,10 @@ fn decode(alloc: Global, input: &[u8]) -> u64 {
     }
 }
 
+/// Does the task once, and returns how many bytes were read, tokens scanned or bytes decoded.
 fn done(alloc: Global, task: task_t, limit: u32, input: &[u8], text: &yaml_text_t) -> u64
     requires least { 1 ≤ limit }
-    requires most { limit ≤ 65536 }
+    requires most { limit ≤ MOST_KEY_LIMIT }
 {
     match task {
         task_t::FRONT => read_front(alloc, text),
@@ -150,8 +153,10 @@ fn done(alloc: Global, task: task_t, limit: u32, input: &[u8], text: &yaml_text_
     }
 }
 
-/// Does the task on the input nine times, and says how many bytes were read, tokens scanned or bytes decoded, and the best
-/// and the median time in nanoseconds. The key limit is that of scanning.
+/// Does the task on the input nine times. The key limit is that of scanning.
+///
+/// Returns a line: how many bytes were read, tokens scanned or bytes decoded, and the best and the median time in
+/// nanoseconds. If the input is no text, the line says so.
 pub fn measure(
     rt: &HostRuntime,
     input: &[u8],
@@ -159,7 +164,7 @@ pub fn measure(
     limit: u32,
 ) -> io::Result<Result<String, AllocError>>
     requires least { 1 ≤ limit }
-    requires most { limit ≤ 65536 }
+    requires most { limit ≤ MOST_KEY_LIMIT }
 {
     let alloc = rt.alloc();
     let Ok(text) = yaml_decode(alloc, input, yaml_encoding_t::YAML_ANY_ENCODING) else {

@@ -1,7 +1,7 @@
-//! The answers to an input, and the state of the session after them, taking no memory of its own.
+//! The answers to an input, and the state of the session after them.
 //!
-//! The calls are made ready before the input is read, the input is read into an array, and lines are written piece by
-//! piece. So each request for memory after the input is read comes from the call that is tested.
+//! Nothing here takes memory after the input is read: the calls are made ready before, the input is read into an array,
+//! and lines are written piece by piece. So each request for memory comes from the call that is tested.
 ghost use Rattle.std.specs.Prelude.{◌≤◌, IfOk, IfSome, length};
 
 use crate::words::word_at;
@@ -17,6 +17,12 @@ use yaml_scan::{
 
 /// What comes after so many bytes of an input is not read.
 const MOST: usize = 8192;
+
+/// The usual key limit, in bytes.
+const KEY_LIMIT: u32 = 1024;
+
+/// The greatest key limit, in bytes.
+pub const MOST_KEY_LIMIT: u32 = 65536;
 
 fn put_mark(out: &mut impl Write, mark: yaml_mark_t) -> io::Result<()> {
     let (index, line, column) = (mark.index, mark.line, mark.column);
@@ -158,9 +164,10 @@ fn read_input(reader: &mut impl Read, room: &mut [u8]) -> io::Result<usize>
     Ok(count.min(room.len()))
 }
 
-/// Makes the calls of each word by one `yaml_run`, all on one parser. After each of them it writes whether it returned or
-/// was refused, all answers so far, and the state of the session. The answers begin with one that none of the
-/// calls gave.
+/// Makes the calls of each word by one `yaml_run`, all on one parser.
+///
+/// After each run it writes whether the run was refused memory, all answers so far, and the state of the session. The
+/// answers begin with one that none of the calls gave.
 fn run_words(
     rt: &HostRuntime,
     setting: yaml_encoding_t,
@@ -168,7 +175,7 @@ fn run_words(
     words: &[String],
 ) -> io::Result<()>
     requires least { 1 ≤ limit }
-    requires most { limit ≤ 65536 }
+    requires most { limit ≤ MOST_KEY_LIMIT }
 {
     let lists = lists_of(rt.alloc(), words)?;
     let mut answers = vec![in rt.alloc(); yaml_answer_t::NOTHING]?;
@@ -218,7 +225,7 @@ fn make_call(
 /// Makes the calls of a word one by one on a parser, and writes the state of the session after each.
 fn make_calls(rt: &HostRuntime, setting: yaml_encoding_t, limit: u32, word: &str) -> io::Result<()>
     requires least { 1 ≤ limit }
-    requires most { limit ≤ 65536 }
+    requires most { limit ≤ MOST_KEY_LIMIT }
 {
     let mut room = [0u8; MOST];
     let count = read_input(&mut rt.stdin(), &mut room)?;
@@ -241,7 +248,7 @@ fn put_tokens(out: &mut impl Write, tokens: &[yaml_token_t]) -> io::Result<()> {
 /// Writes all tokens of the input and its fault, by one `yaml_scan_all_limit`.
 fn scan_all(rt: &HostRuntime, setting: yaml_encoding_t, limit: u32) -> io::Result<()>
     requires least { 1 ≤ limit }
-    requires most { limit ≤ 65536 }
+    requires most { limit ≤ MOST_KEY_LIMIT }
 {
     let mut room = [0u8; MOST];
     let count = read_input(&mut rt.stdin(), &mut room)?;
@@ -285,25 +292,27 @@ fn setting_of(word: &str) -> Option<yaml_encoding_t> {
     }
 }
 
+/// The key limit of a word, if it is one.
 fn limit_of(word: &str) -> Option<u32>
-    ensures { IfSome result (λ limit. (1 ≤ limit) × (limit ≤ 65536)) }
+    ensures { IfSome result (λ limit. (1 ≤ limit) × (limit ≤ MOST_KEY_LIMIT)) }
 {
     match word.parse() {
-        Ok(limit) if limit >= 1 && limit <= 65536 => Some(limit),
+        Ok(limit) if limit >= 1 && limit <= MOST_KEY_LIMIT => Some(limit),
         _ => None,
     }
 }
 
 /// The key limit of a word, or the usual one if the word is empty.
 pub fn limit_or_usual(word: &str) -> Option<u32>
-    ensures { IfSome result (λ limit. (1 ≤ limit) × (limit ≤ 65536)) }
+    ensures { IfSome result (λ limit. (1 ≤ limit) × (limit ≤ MOST_KEY_LIMIT)) }
 {
     match word {
-        "" => Some(1024),
+        "" => Some(KEY_LIMIT),
         _ => limit_of(word),
     }
 }
 
+/// The error for words that are no command.
 pub fn wrong_words() -> io::Error {
     io::Error::from(io::ErrorKind::InvalidInput)
 }

@@ -3,6 +3,7 @@ use std::alloc::{AllocError, Global};
 use yaml_lexeme::{yaml_lexeme_kind_t, yaml_lexeme_t};
 use yaml_text::{unnamed_yaml_token_t_data, yaml_fault_t, yaml_mark_t};
 
+/// `INDEX:LINE:COLUMN`.
 pub fn show_mark(alloc: Global, mark: yaml_mark_t) -> Result<String, AllocError> {
     let (index, line, column) = (mark.index, mark.line, mark.column);
     format!(in alloc; "{index}:{line}:{column}")
@@ -101,6 +102,7 @@ fn type_name(says: &unnamed_yaml_token_t_data) -> &'static str {
     }
 }
 
+/// The line of a lexeme: its type, its parts, its start, end and reach, and whether it passed a break.
 pub fn show_lexeme(alloc: Global, lexeme: &yaml_lexeme_t) -> Result<String, AllocError> {
     let parts = show_parts(alloc, &lexeme.token_data)?;
     let start = show_mark(alloc, lexeme.start_mark)?;
@@ -111,6 +113,7 @@ pub fn show_lexeme(alloc: Global, lexeme: &yaml_lexeme_t) -> Result<String, Allo
     format!(in alloc; "LEXEME {name}{parts} {start} {end} {reach} {passed}")
 }
 
+/// The line of a fault: the marks of its context and its problem, and their texts.
 pub fn show_fault(alloc: Global, fault: &yaml_fault_t) -> Result<String, AllocError> {
     let problem = fault.problem.unwrap_or("-");
     let context = fault.context.unwrap_or("-");

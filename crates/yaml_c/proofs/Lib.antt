@@ -1,3 +1,3 @@
-pub mod Puts
+pub mod TokensPut
 pub mod Rooms
 pub mod Scanned

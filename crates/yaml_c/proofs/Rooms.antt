@@ -1,14 +1,18 @@
--- What covers a room, and then what covers it further on.
-use Rattle.std.proofs.Common.{◌≡◌, ◌≤◌, ◌<◌, ◌^◌, ◌+◌, ◌++◌, ◌∷◌, [], ℕ, suc, zero, List, length, take, drop, slice_set, min, ◌-◌, length-drop, length-append, arith, refl, sym, ap, ◌∙◌, inl, inr}
+-- A room that two lists cover, one after the other, is covered by both at once; it keeps its size.
+use Rattle.std.proofs.Common.{◌≡◌, ◌≤◌, ◌<◌, ◌^◌, ◌+◌, ◌-◌, ◌++◌, ◌∷◌, [], ℕ, suc, zero, List}
+use Rattle.std.proofs.Common.{length, take, drop, slice_set, min, length-drop, length-append}
+use Rattle.std.proofs.Common.{arith, refl, sym, ap, ◌∙◌, inl, inr}
 use Rattle.std.proofs.Math.Nat.{zero-add, suc-add}
 use Rattle.std.proofs.lemmas.Bool.{cases_lt}
 use Rattle.yaml_c.specs.Room.{covered, covered_from}
 use Rattle.yaml_c.specs.Record.{held}
 
+-- an empty list changes nothing
 pub covered_by_none : {A : Type 0} → (room : List A) → covered [] room ≡ room
 covered_by_none [] = refl
 covered_by_none (y ∷ room) = refl
 
+-- an empty room stays empty
 pub covered_nowhere : {A : Type 0} → (xs : List A) → covered xs [] ≡ []
 covered_nowhere [] = refl
 covered_nowhere (x ∷ xs) = refl
@@ -42,6 +46,7 @@ more_covered_from (suc at) xs ys [] =
 more_covered_from (suc at) xs ys (y ∷ room) =
     rw (suc-add at (length xs)) (ap (λ z. y ∷ z) (more_covered_from at xs ys room))
 
+-- a room keeps its size
 pub length-covered : {A : Type 0} → (xs room : List A) → length (covered xs room) ≡ length room
 length-covered xs [] = ap length (covered_nowhere xs)
 length-covered [] (y ∷ room) = refl
@@ -85,6 +90,7 @@ covered_by_part (suc n) (x ∷ xs) [] h k full = absurd (omega arith)
 covered_by_part (suc n) (x ∷ xs) (y ∷ room) h k full =
     ap (λ z. x ∷ z) (covered_by_part n xs room (omega arith) (omega arith) (λ low. omega (arith, full)))
 
+-- bytes that are copied into their place
 pub covered_by_copy : {A : Type 0} → (at n : ℕ) (xs room : List A) → at < length room
     → n ≡ min (length room - at) (length xs)
     → take at room ++ (take n xs ++ drop n (drop at room)) ≡ covered_from at xs room
@@ -93,20 +99,21 @@ covered_by_copy at n xs room h e =
     ap (λ z. take at room ++ z) (covered_by_part n xs (drop at room) (omega arith) (omega arith) (λ low. omega arith))
 
 -- two texts, one put after the other
-pub both_covered : {A : Type 0} → (at behind : ℕ) (f s first second old mid new : List A) → f ≡ first
-    → s ≡ second → length old < 2 ^ 63 → behind ≡ held (at + length f)
-    → mid ≡ covered_from at f old → new ≡ covered_from behind s mid → new ≡ covered_from at (first ++ second) old
-both_covered at behind f s first second old mid new ef es low eb em en =
+pub both_covered : {A : Type 0} → (at second_at : ℕ) (f s first second old mid new : List A) → f ≡ first
+    → s ≡ second → length old < 2 ^ 63 → second_at ≡ held (at + length f)
+    → mid ≡ covered_from at f old → new ≡ covered_from second_at s mid → new ≡ covered_from at (first ++ second) old
+both_covered at second_at f s first second old mid new ef es low eb em en =
     let same : length mid ≡ length old = ap length em ∙ length-covered_from at f old in
     let room : length mid < 2 ^ 63 = omega arith in
     en ∙ ap (λ n. covered_from n s mid) eb ∙ covered_held (at + length f) s mid room
     ∙ ap (λ z. covered_from (at + length f) s z) em ∙ more_covered_from at f s old
     ∙ ap (λ z. covered_from at (z ++ s) old) ef ∙ ap (λ z. covered_from at (first ++ z) old) es
 
-pub both_counted : {A : Type 0} → (at behind end : ℕ) (f s first second : List A) → f ≡ first → s ≡ second
-    → behind ≡ held (at + length f) → end ≡ held (behind + length s)
+-- the end of both texts is as far on as both are long
+pub both_counted : {A : Type 0} → (at second_at end : ℕ) (f s first second : List A) → f ≡ first → s ≡ second
+    → second_at ≡ held (at + length f) → end ≡ held (second_at + length s)
     → end ≡ held (at + length (first ++ second))
-both_counted at behind end f s first second ef es eb ee =
+both_counted at second_at end f s first second ef es eb ee =
     let lf : length f ≡ length first = ap length ef in
     let ls : length s ≡ length second = ap length es in
     let sum : length (first ++ second) ≡ length first + length second = length-append first second in

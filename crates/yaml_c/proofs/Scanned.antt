@@ -1,4 +1,4 @@
--- What the rooms hold once all tokens are put and the texts of the fault after them.
+-- If all tokens are put and then the texts of the fault, rooms, answer and status are those of a scanned input.
 use Rattle.std.proofs.Common.{◌≡◌, ◌<◌, ◌^◌, ◌+◌, ◌++◌, ℕ, List, Option, length, arith, sym, ap, ◌∙◌, subst}
 use Rattle.yaml_text.specs.declared.types.yaml_encoding_t.{yaml_encoding_t}
 use Rattle.yaml_text.specs.Fault.{Fault}
@@ -11,9 +11,10 @@ use Rattle.yaml_c.specs.Answer.{IsScanned, answer_with, fault_texts, status_of}
 use Rattle.yaml_c.specs.Record.{held, records_of, all_texts}
 use Rattle.yaml_c.specs.Room.{covered_from}
 use Rattle.yaml_c.specs.Sink.{ArePut}
-use Rattle.yaml_c.proofs.Puts.{Fits, have_put}
+use Rattle.yaml_c.proofs.TokensPut.{Fits, have_put}
 use Rattle.yaml_c.proofs.Rooms.{covered_held, length-covered_from, more_covered_from}
 
+-- rooms, answer and status of a call that scanned
 pub are_scanned : (setting e : yaml_encoding_t) (limit : ℕ) (input : List ℕ)
     (a b : token_rooms_t) (fault : Option Fault)
     (tokens : List yaml_c_token) (texts last : List ℕ) (answer : yaml_c_answer) (status : ℕ)

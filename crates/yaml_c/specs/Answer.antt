@@ -20,6 +20,10 @@ abbrev pub fault_texts : Option Fault → List ℕ
 fault_texts None = []
 fault_texts (Some f) = text_or_none f.problem ++ text_or_none f.context
 
+-- the greatest key limit, in bytes
+abbrev pub most_key_limit : ℕ
+most_key_limit = 65536
+
 -- 1 if there is a fault, otherwise 0
 abbrev pub status_of : Option Fault → ℕ
 status_of None = 0
@@ -58,9 +62,9 @@ answer_of tokens fault = answer_with (held (length tokens)) (held (length (all_t
 abbrev pub no_answer : yaml_c_answer
 no_answer = answer_with 0 0 None
 
--- a setting that names no encoding, or a limit outside 1 to 65,536
+-- a setting that names no encoding, or a key limit that is not from 1 to the greatest
 abbrev pub IsWrong : ℕ → ℕ → Type 0
-IsWrong setting limit = (3 < setting) ⊎ (limit < 1) ⊎ (65536 < limit)
+IsWrong setting limit = (3 < setting) ⊎ (limit < 1) ⊎ (most_key_limit < limit)
 
 -- what a call leaves and what was there before: the caller's two rooms
 pub record Rooms : Type 0 where
@@ -99,7 +103,7 @@ pub record IsUntouched (before after : Rooms) (answer : yaml_c_answer) (status :
 -- What a call with a right setting and limit leaves.
 abbrev pub ScansRight : ℕ → ℕ → List ℕ → Rooms → Rooms → yaml_c_answer → ℕ → Type 0
 ScansRight setting limit input before after answer status =
-    (e : yaml_encoding_t) → encoding_of setting ≡ Some e → 1 ≤ limit → limit ≤ 65536
+    (e : yaml_encoding_t) → encoding_of setting ≡ Some e → 1 ≤ limit → limit ≤ most_key_limit
     → IsScanned e limit input before after answer status
 
 -- What a call with a wrong setting or limit leaves.

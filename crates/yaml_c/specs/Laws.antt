@@ -6,7 +6,7 @@ use Rattle.yaml_c.specs.Room.{covered}
 abbrev pub HoldsAll : Type 0 → Type 0
 HoldsAll A = (xs room : List A) → length xs ≤ length room → covered xs room ≡ xs ++ drop (length xs) room
 
--- if there is not, the room holds a beginning of the list
+-- if there is not room for all of a list, the room holds a beginning of it
 abbrev pub HoldsBeginning : Type 0 → Type 0
 HoldsBeginning A = (xs room : List A) → length room ≤ length xs → covered xs room ≡ take (length room) xs
 

@@ -1,13 +1,57 @@
 -- The numbers by which types, styles, encodings and kinds of faults are known outside: those of libyaml.
 use Rattle.std.specs.Prelude.{ℕ, Option, Some, None, nat_eq, if◌then◌else◌}
 use Rattle.yaml_text.specs.declared.types.yaml_token_type_t.{yaml_token_type_t}
-use Rattle.yaml_text.specs.declared.types.yaml_token_type_t.TheVariants.{YAML_NO_TOKEN, YAML_STREAM_START_TOKEN, YAML_STREAM_END_TOKEN, YAML_VERSION_DIRECTIVE_TOKEN, YAML_TAG_DIRECTIVE_TOKEN, YAML_DOCUMENT_START_TOKEN, YAML_DOCUMENT_END_TOKEN, YAML_BLOCK_SEQUENCE_START_TOKEN, YAML_BLOCK_MAPPING_START_TOKEN, YAML_BLOCK_END_TOKEN, YAML_FLOW_SEQUENCE_START_TOKEN, YAML_FLOW_SEQUENCE_END_TOKEN, YAML_FLOW_MAPPING_START_TOKEN, YAML_FLOW_MAPPING_END_TOKEN, YAML_BLOCK_ENTRY_TOKEN, YAML_FLOW_ENTRY_TOKEN, YAML_KEY_TOKEN, YAML_VALUE_TOKEN, YAML_ALIAS_TOKEN, YAML_ANCHOR_TOKEN, YAML_TAG_TOKEN, YAML_SCALAR_TOKEN}
+use Rattle.yaml_text.specs.declared.types.yaml_token_type_t.TheVariants.{
+  YAML_NO_TOKEN,
+  YAML_STREAM_START_TOKEN,
+  YAML_STREAM_END_TOKEN,
+  YAML_VERSION_DIRECTIVE_TOKEN,
+  YAML_TAG_DIRECTIVE_TOKEN,
+  YAML_DOCUMENT_START_TOKEN,
+  YAML_DOCUMENT_END_TOKEN,
+  YAML_BLOCK_SEQUENCE_START_TOKEN,
+  YAML_BLOCK_MAPPING_START_TOKEN,
+  YAML_BLOCK_END_TOKEN,
+  YAML_FLOW_SEQUENCE_START_TOKEN,
+  YAML_FLOW_SEQUENCE_END_TOKEN,
+  YAML_FLOW_MAPPING_START_TOKEN,
+  YAML_FLOW_MAPPING_END_TOKEN,
+  YAML_BLOCK_ENTRY_TOKEN,
+  YAML_FLOW_ENTRY_TOKEN,
+  YAML_KEY_TOKEN,
+  YAML_VALUE_TOKEN,
+  YAML_ALIAS_TOKEN,
+  YAML_ANCHOR_TOKEN,
+  YAML_TAG_TOKEN,
+  YAML_SCALAR_TOKEN,
+}
 use Rattle.yaml_text.specs.declared.types.yaml_error_type_t.{yaml_error_type_t}
-use Rattle.yaml_text.specs.declared.types.yaml_error_type_t.TheVariants.{YAML_NO_ERROR, YAML_MEMORY_ERROR, YAML_READER_ERROR, YAML_SCANNER_ERROR, YAML_PARSER_ERROR, YAML_COMPOSER_ERROR, YAML_WRITER_ERROR, YAML_EMITTER_ERROR}
+use Rattle.yaml_text.specs.declared.types.yaml_error_type_t.TheVariants.{
+  YAML_NO_ERROR,
+  YAML_MEMORY_ERROR,
+  YAML_READER_ERROR,
+  YAML_SCANNER_ERROR,
+  YAML_PARSER_ERROR,
+  YAML_COMPOSER_ERROR,
+  YAML_WRITER_ERROR,
+  YAML_EMITTER_ERROR,
+}
 use Rattle.yaml_text.specs.declared.types.yaml_scalar_style_t.{yaml_scalar_style_t}
-use Rattle.yaml_text.specs.declared.types.yaml_scalar_style_t.TheVariants.{YAML_ANY_SCALAR_STYLE, YAML_PLAIN_SCALAR_STYLE, YAML_SINGLE_QUOTED_SCALAR_STYLE, YAML_DOUBLE_QUOTED_SCALAR_STYLE, YAML_LITERAL_SCALAR_STYLE, YAML_FOLDED_SCALAR_STYLE}
+use Rattle.yaml_text.specs.declared.types.yaml_scalar_style_t.TheVariants.{
+  YAML_ANY_SCALAR_STYLE,
+  YAML_PLAIN_SCALAR_STYLE,
+  YAML_SINGLE_QUOTED_SCALAR_STYLE,
+  YAML_DOUBLE_QUOTED_SCALAR_STYLE,
+  YAML_LITERAL_SCALAR_STYLE,
+  YAML_FOLDED_SCALAR_STYLE,
+}
 use Rattle.yaml_text.specs.declared.types.yaml_encoding_t.{yaml_encoding_t}
-use Rattle.yaml_text.specs.declared.types.yaml_encoding_t.TheVariants.{YAML_ANY_ENCODING, YAML_UTF8_ENCODING, YAML_UTF16LE_ENCODING, YAML_UTF16BE_ENCODING}
+use Rattle.yaml_text.specs.declared.types.yaml_encoding_t.TheVariants.{
+  YAML_ANY_ENCODING,
+  YAML_UTF8_ENCODING,
+  YAML_UTF16LE_ENCODING,
+  YAML_UTF16BE_ENCODING,
+}
 
 -- the number of a type of token
 abbrev pub type_number : yaml_token_type_t → ℕ

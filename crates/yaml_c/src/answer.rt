@@ -1,9 +1,9 @@
 //! What is returned besides the two rooms: the counts, and the fault.
-ghost use Rattle.std.specs.Prelude.{◌≡◌, ◌+◌, ◌++◌, length, option_map};
+ghost use Rattle.std.specs.Prelude.{◌≡◌};
 ghost use Rattle.std.specs.Option.{option_copied};
 ghost use Rattle.yaml_text.specs.Fault.{fault_of};
 ghost use Rattle.yaml_c.specs.Answer as answers;
-ghost use Rattle.yaml_c.specs.Answer.{answer_with, no_answer, text_or_none};
+ghost use Rattle.yaml_c.specs.Answer.{answer_with, text_or_none};
 ghost use Rattle.yaml_c.specs.Room.{covered_from};
 
 use crate::numbers::error_number;
@@ -11,7 +11,7 @@ use crate::record::{mark_of, yaml_c_mark};
 use crate::room::put_bytes;
 use yaml_scan::yaml_fault_t;
 
-/// How much there is, whether there was room for it or not, and the fault after it.
+/// The counts of tokens and bytes, also of those for which there was no room, and the fault.
 #[repr(C)]
 #[derive(Clone, Copy)]
 pub struct yaml_c_answer {
@@ -19,15 +19,19 @@ pub struct yaml_c_answer {
     pub token_count: u64,
     /// How many bytes their texts have.
     pub text_len: u64,
-    /// The number of the kind of fault, or 0.
+    /// The number of the kind of fault, or 0 if there is none.
     pub error: u32,
+    /// For a reader's fault, the octet, unit or code point that is wrong, or -1 if there is none. Otherwise 0.
     pub problem_value: i32,
+    /// For a reader's fault, how many bytes of the input come before what is wrong. Otherwise 0.
     pub problem_offset: u64,
+    /// For a scanner's fault, where the problem is. Otherwise zeros.
     pub problem_mark: yaml_c_mark,
+    /// For a scanner's fault, where what was being read starts. Otherwise zeros.
     pub context_mark: yaml_c_mark,
-    /// The length of the problem, which is in the room for texts after those of the tokens.
+    /// The length of the problem in bytes. It is in the room for texts, after the texts of the tokens.
     pub problem_len: u64,
-    /// The length of the context, which is after the problem.
+    /// The length of the context in bytes, or 0 if there is none. It is in the room for texts, after the problem.
     pub context_len: u64,
 }
 
@@ -89,7 +93,7 @@ pub(crate) fn put_fault_texts(room: &mut [u8], at: u64, fault: yaml_fault_t)
     ensures { room.new ≡ covered_from at (answers.fault_texts (Some (fault_of fault))) room.old }
 {
     let problem = text_or_none(fault.problem);
-    let behind = at.saturating_add(problem.len() as u64);
+    let context_at = at.saturating_add(problem.len() as u64);
     put_bytes(room, at, problem);
-    put_bytes(room, behind, text_or_none(fault.context));
+    put_bytes(room, context_at, text_or_none(fault.context));
 }

@@ -4,15 +4,20 @@ ghost use Rattle.yaml_c.specs.Laws.{HoldsAll, HoldsBeginning, KeepsSize};
 
 use crate::record::yaml_c_token;
 
-/// A room for texts holds all of them if it has room for all, and what follows them is unchanged; otherwise it holds a
-/// beginning of them. It keeps its size.
+/// What holds of the room for texts.
+///
+/// If it has room for all of them, it holds all, and what follows them is unchanged. Otherwise it holds a beginning of
+/// them. It keeps its size.
 pub fn texts_in_room()
     ensures all { HoldsAll ℕ }
     ensures beginning { HoldsBeginning ℕ }
     ensures size { KeepsSize ℕ }
 {}
 
-/// The same of a room for records.
+/// What holds of the room for records.
+///
+/// If it has room for all of them, it holds all, and what follows them is unchanged. Otherwise it holds a beginning of
+/// them. It keeps its size.
 pub fn records_in_room()
     ensures all { HoldsAll yaml_c_token }
     ensures beginning { HoldsBeginning yaml_c_token }

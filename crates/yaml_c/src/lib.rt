@@ -4,7 +4,7 @@
 ghost use Rattle.std.specs.Prelude.{◌≤◌, option_map};
 ghost use Rattle.yaml_text.specs.Fault.{fault_of};
 ghost use Rattle.yaml_scan.specs.Sink.{IsGivenAll};
-ghost use Rattle.yaml_c.specs.Answer.{RefusesWrong, ScansRight, rooms};
+ghost use Rattle.yaml_c.specs.Answer.{RefusesWrong, ScansRight, most_key_limit, rooms};
 ghost use Rattle.yaml_c.specs.Sink.{ArePut};
 
 mod answer;
@@ -24,6 +24,9 @@ pub use record::{yaml_c_mark, yaml_c_token};
 use std::alloc::Global;
 use yaml_scan::{yaml_encoding_t, yaml_fault_t, yaml_scan_to};
 
+/// The greatest key limit, in bytes.
+const MOST_KEY_LIMIT: u32 = 65536;
+
 /// Puts all tokens of an input into two rooms, and returns the fault after them.
 fn scan(
     alloc: Global,
@@ -33,7 +36,7 @@ fn scan(
     rooms: &mut token_rooms_t,
 ) -> Option<yaml_fault_t>
     requires least { 1 ≤ limit }
-    requires most { limit ≤ 65536 }
+    requires most { limit ≤ most_key_limit }
     ensures { IsGivenAll (λ list. ArePut rooms.old list rooms.new)
         limit setting input.now (option_map fault_of result) }
 {
@@ -43,10 +46,16 @@ fn scan(
     }
 }
 
-/// Scans all tokens of an input: puts their records into `tokens`, their texts and then those of the fault into `texts`, each
-/// as far as it has room, and the counts and the fault into `out`. `setting` is the number of an encoding, 0 to 3, and `limit`
-/// the key limit in bytes, 1 to 65,536. Returns 0 if the stream ended, 1 if there is a fault, and 2 for another setting or
-/// limit: then nothing but `out` is touched.
+/// Scans all tokens of an input into the room that the caller gives.
+///
+/// The records of the tokens are put into `tokens`. Their texts and then those of the fault are put into `texts`. Both
+/// are written as far as there is room. `out` gets the counts and the fault.
+///
+/// `setting` is the number of an encoding, 0 to 3: any, UTF-8, UTF-16LE, UTF-16BE. `limit` is the key limit in bytes,
+/// 1 to 65,536.
+///
+/// Returns 0 if the stream ended, 1 if there is a fault, and 2 for another setting or limit. If it returns 2, `out` is
+/// all zeros, and the rooms are as they were.
 #[unsafe(no_mangle)]
 pub extern "C" fn yaml_c_scan_all(
     alloc: Global,
@@ -66,7 +75,7 @@ pub extern "C" fn yaml_c_scan_all(
     let Some(encoding) = encoding_of(setting) else {
         return 2;
     };
-    if limit < 1 || limit > 65536 {
+    if limit < 1 || limit > MOST_KEY_LIMIT {
         return 2;
     }
     let mut rooms = token_rooms_t {

@@ -1,8 +1,8 @@
 //! Tokens as plain records.
-ghost use Rattle.std.specs.Prelude.{◌≡◌, length};
+ghost use Rattle.std.specs.Prelude.{◌≡◌};
 ghost use Rattle.yaml_text.specs.Token.{data_of, token_of};
 ghost use Rattle.yaml_c.specs.Record as records;
-ghost use Rattle.yaml_c.specs.Record.{held, record_of};
+ghost use Rattle.yaml_c.specs.Record.{record_of};
 
 use crate::numbers::{encoding_number, style_number, type_number};
 use yaml_scan::{unnamed_yaml_token_t_data, yaml_mark_t, yaml_token_t};
@@ -27,16 +27,19 @@ pub struct yaml_c_token {
     pub token_type: u32,
     /// The number of a scalar's style, or of a stream's encoding; otherwise 0.
     pub detail: u32,
-    /// The version of a `%YAML` directive; otherwise 0.
+    /// The major version of a `%YAML` directive; otherwise 0.
     pub major: i32,
+    /// The minor version of a `%YAML` directive; otherwise 0.
     pub minor: i32,
-    /// Where its texts begin, in bytes from 0.
+    /// Where its texts begin in the room for texts, in bytes from 0.
     pub text_at: u64,
-    /// The length of a handle, a name or a value.
+    /// The length in bytes of its handle, name or value; 0 if it has none.
     pub first_len: u64,
-    /// The length of a prefix or a suffix.
+    /// The length in bytes of its prefix or suffix; 0 if it has none.
     pub second_len: u64,
+    /// Where it starts.
     pub start_mark: yaml_c_mark,
+    /// Where it ends.
     pub end_mark: yaml_c_mark,
 }
 
@@ -65,7 +68,7 @@ pub(crate) fn first_text(said: &unnamed_yaml_token_t_data) -> &[u8]
     }
 }
 
-/// Its second text: a prefix or a suffix.
+/// A token's second text: a prefix or a suffix.
 pub(crate) fn second_text(said: &unnamed_yaml_token_t_data) -> &[u8]
     ensures { result.now ≡ records.second_text (data_of said.now) }
 {

@@ -1,6 +1,9 @@
-//! Calls as a C program makes them.
+//! Calls as a C program makes them. The number 77 stands for what was there before.
 use super::*;
 use std::test::Fail;
+
+/// The usual key limit, in bytes.
+const KEY_LIMIT: u32 = 1024;
 
 const NO_MARK: yaml_c_mark = yaml_c_mark {
     index: 77,
@@ -44,7 +47,7 @@ fn records_and_texts(rt: HostRuntime) -> Result<(), Fail> {
         rt.alloc(),
         TAGGED,
         0,
-        1024,
+        KEY_LIMIT,
         &mut tokens,
         &mut texts,
         &mut out,
@@ -75,7 +78,7 @@ fn fault_and_its_texts(rt: HostRuntime) -> Result<(), Fail> {
         rt.alloc(),
         input,
         0,
-        1024,
+        KEY_LIMIT,
         &mut tokens,
         &mut texts,
         &mut out,
@@ -103,7 +106,7 @@ fn rooms_that_are_too_small(rt: HostRuntime) -> Result<(), Fail> {
         rt.alloc(),
         TAGGED,
         0,
-        1024,
+        KEY_LIMIT,
         &mut tokens,
         &mut texts,
         &mut out,
@@ -118,8 +121,8 @@ fn rooms_that_are_too_small(rt: HostRuntime) -> Result<(), Fail> {
 #[test]
 fn wrong_settings_and_limits(rt: HostRuntime) -> Result<(), Fail> {
     for (setting, limit, wanted) in [
-        (4, 1024, 2),
-        (u32::MAX, 1024, 2),
+        (4, KEY_LIMIT, 2),
+        (u32::MAX, KEY_LIMIT, 2),
         (0, 0, 2),
         (0, 65_537, 2),
         (3, 65_536, 0),

@@ -1,4 +1,4 @@
--- Digits that are written before a place.
+-- Digits that are written before a place, the last one first, are those of the number.
 use Rattle.std.proofs.Common.{◌≡◌, ℕ, ◌+◌, ◌-◌, ◌/◌, ◌%◌, ◌^◌, ◌<◌, ◌≤◌, List, [], ◌∷◌, ◌++◌, length, drop, set}
 use Rattle.std.proofs.Common.{sym, ap, ◌∙◌, append_assoc, arith, length-append, length-drop}
 use Rattle.std.specs.Fmt.{decimal}
@@ -21,7 +21,7 @@ drop_written at y b low high =
     let next : at - 1 + 1 ≡ at = omega arith in
     drop-set b (at - 1) y (omega arith) ∙ ap (λ (n : ℕ). y ∷ drop n b) next
 
--- the last digit of what is left
+-- if more than one digit is left, the last of them is written
 pub digits_more : (left at : ℕ) (b : List ℕ) → 10 ≤ left → left < 2 ^ 64 → 1 ≤ at → at ≤ length b
     → decimal (left / 10) ++ drop (at - 1) (set b (at - 1) (48 + left % 10)) ≡ decimal left ++ drop at b
 digits_more left at b some fits low high =
@@ -29,7 +29,7 @@ digits_more left at b some fits low high =
     ∙ sym (append_assoc (decimal (left / 10)) ((48 + left % 10) ∷ []) (drop at b))
     ∙ ap (λ (z : List ℕ). z ++ drop at b) (sym (decimal_step left some fits))
 
--- the first one
+-- if one digit is left, it is written
 pub digits_first : (left at : ℕ) (b : List ℕ) → left < 10 → 1 ≤ at → at ≤ length b
     → drop (at - 1) (set b (at - 1) (48 + left)) ≡ decimal left ++ drop at b
 digits_first left at b one low high =

@@ -3,7 +3,12 @@ use Rattle.std.specs.Prelude.{ℕ, ◌≡◌, ◌==◌, ◌&&◌, ◌||◌, Bool
 use Rattle.std.specs.List.{list_all}
 use Rattle.std.specs.Fmt.{decimal}
 use Rattle.yaml_text.specs.declared.types.yaml_encoding_t.{yaml_encoding_t}
-use Rattle.yaml_text.specs.declared.types.yaml_encoding_t.TheVariants.{YAML_ANY_ENCODING, YAML_UTF8_ENCODING, YAML_UTF16LE_ENCODING, YAML_UTF16BE_ENCODING}
+use Rattle.yaml_text.specs.declared.types.yaml_encoding_t.TheVariants.{
+  YAML_ANY_ENCODING,
+  YAML_UTF8_ENCODING,
+  YAML_UTF16LE_ENCODING,
+  YAML_UTF16BE_ENCODING,
+}
 use Rattle.yamltok.specs.declared.args.yaml_command_t.{yaml_command_t}
 use Rattle.yamltok.specs.declared.args.yaml_command_t.TheVariants.{Decode, Scan, ScanLimit, Calls}
 
@@ -21,14 +26,23 @@ words_of (Scan setting) = codes "scan" ∷ setting_word setting ∷ []
 words_of (ScanLimit setting limit) = codes "scan" ∷ setting_word setting ∷ decimal limit ∷ []
 words_of (Calls setting word) = codes "calls" ∷ setting_word setting ∷ word.now ∷ []
 
--- a key limit is from 1 to 65,536
+-- the usual key limit, in bytes
+abbrev pub usual_key_limit : ℕ
+usual_key_limit = 1024
+
+-- the greatest key limit, in bytes
+abbrev pub most_key_limit : ℕ
+most_key_limit = 65536
+
+-- a key limit is from 1 to the greatest
 abbrev pub is_limit : ℕ → Bool
-is_limit limit = nat_le 1 limit && nat_le limit 65536
+is_limit limit = nat_le 1 limit && nat_le limit most_key_limit
 
 -- `s`, `p` and `k` stand for calls
 abbrev pub is_letter : ℕ → Bool
 is_letter c = c == 0x73 || (c == 0x70 || c == 0x6B)
 
+-- a word over these letters
 abbrev pub are_letters : List ℕ → Bool
 are_letters word = list_all is_letter word
 

@@ -1,17 +1,57 @@
 -- The lines that the program writes.
-use Rattle.std.specs.Prelude.{ℕ, ◌/◌, ◌%◌, ℤ, Bool, true, false, List, [], ◌∷◌, ◌++◌, length, flat_map, Option, Some, None, Result, Ok, Err, codes}
+use Rattle.std.specs.Prelude.{ℕ, ◌/◌, ◌%◌, ℤ, Bool, true, false, List, [], ◌∷◌, ◌++◌, length, flat_map, codes}
+use Rattle.std.specs.Prelude.{Option, Some, None, Result, Ok, Err}
 use Rattle.std.specs.List.{join_by}
 use Rattle.std.specs.Char.{digit_char}
 use Rattle.std.specs.Fmt.{decimal, signed_decimal}
 use Rattle.yaml_text.specs.declared.types.yaml_encoding_t.{yaml_encoding_t}
-use Rattle.yaml_text.specs.declared.types.yaml_encoding_t.TheVariants.{YAML_ANY_ENCODING, YAML_UTF8_ENCODING, YAML_UTF16LE_ENCODING, YAML_UTF16BE_ENCODING}
+use Rattle.yaml_text.specs.declared.types.yaml_encoding_t.TheVariants.{
+  YAML_ANY_ENCODING,
+  YAML_UTF8_ENCODING,
+  YAML_UTF16LE_ENCODING,
+  YAML_UTF16BE_ENCODING,
+}
 use Rattle.yaml_text.specs.declared.types.yaml_error_type_t.{yaml_error_type_t}
-use Rattle.yaml_text.specs.declared.types.yaml_error_type_t.TheVariants.{YAML_MEMORY_ERROR, YAML_READER_ERROR, YAML_SCANNER_ERROR}
+use Rattle.yaml_text.specs.declared.types.yaml_error_type_t.TheVariants.{
+  YAML_MEMORY_ERROR,
+  YAML_READER_ERROR,
+  YAML_SCANNER_ERROR,
+}
 use Rattle.yaml_text.specs.declared.types.yaml_mark_t.{yaml_mark_t}
 use Rattle.yaml_text.specs.declared.types.yaml_scalar_style_t.{yaml_scalar_style_t}
-use Rattle.yaml_text.specs.declared.types.yaml_scalar_style_t.TheVariants.{YAML_ANY_SCALAR_STYLE, YAML_PLAIN_SCALAR_STYLE, YAML_SINGLE_QUOTED_SCALAR_STYLE, YAML_DOUBLE_QUOTED_SCALAR_STYLE, YAML_LITERAL_SCALAR_STYLE, YAML_FOLDED_SCALAR_STYLE}
+use Rattle.yaml_text.specs.declared.types.yaml_scalar_style_t.TheVariants.{
+  YAML_ANY_SCALAR_STYLE,
+  YAML_PLAIN_SCALAR_STYLE,
+  YAML_SINGLE_QUOTED_SCALAR_STYLE,
+  YAML_DOUBLE_QUOTED_SCALAR_STYLE,
+  YAML_LITERAL_SCALAR_STYLE,
+  YAML_FOLDED_SCALAR_STYLE,
+}
 use Rattle.yaml_text.specs.declared.types.yaml_token_type_t.{yaml_token_type_t}
-use Rattle.yaml_text.specs.declared.types.yaml_token_type_t.TheVariants.{YAML_NO_TOKEN, YAML_STREAM_START_TOKEN, YAML_STREAM_END_TOKEN, YAML_VERSION_DIRECTIVE_TOKEN, YAML_TAG_DIRECTIVE_TOKEN, YAML_DOCUMENT_START_TOKEN, YAML_DOCUMENT_END_TOKEN, YAML_BLOCK_SEQUENCE_START_TOKEN, YAML_BLOCK_MAPPING_START_TOKEN, YAML_BLOCK_END_TOKEN, YAML_FLOW_SEQUENCE_START_TOKEN, YAML_FLOW_SEQUENCE_END_TOKEN, YAML_FLOW_MAPPING_START_TOKEN, YAML_FLOW_MAPPING_END_TOKEN, YAML_BLOCK_ENTRY_TOKEN, YAML_FLOW_ENTRY_TOKEN, YAML_KEY_TOKEN, YAML_VALUE_TOKEN, YAML_ALIAS_TOKEN, YAML_ANCHOR_TOKEN, YAML_TAG_TOKEN, YAML_SCALAR_TOKEN}
+use Rattle.yaml_text.specs.declared.types.yaml_token_type_t.TheVariants.{
+  YAML_NO_TOKEN,
+  YAML_STREAM_START_TOKEN,
+  YAML_STREAM_END_TOKEN,
+  YAML_VERSION_DIRECTIVE_TOKEN,
+  YAML_TAG_DIRECTIVE_TOKEN,
+  YAML_DOCUMENT_START_TOKEN,
+  YAML_DOCUMENT_END_TOKEN,
+  YAML_BLOCK_SEQUENCE_START_TOKEN,
+  YAML_BLOCK_MAPPING_START_TOKEN,
+  YAML_BLOCK_END_TOKEN,
+  YAML_FLOW_SEQUENCE_START_TOKEN,
+  YAML_FLOW_SEQUENCE_END_TOKEN,
+  YAML_FLOW_MAPPING_START_TOKEN,
+  YAML_FLOW_MAPPING_END_TOKEN,
+  YAML_BLOCK_ENTRY_TOKEN,
+  YAML_FLOW_ENTRY_TOKEN,
+  YAML_KEY_TOKEN,
+  YAML_VALUE_TOKEN,
+  YAML_ALIAS_TOKEN,
+  YAML_ANCHOR_TOKEN,
+  YAML_TAG_TOKEN,
+  YAML_SCALAR_TOKEN,
+}
 use Rattle.yaml_text.specs.Token.{Token as yaml_token_t}
 use Rattle.yaml_text.specs.Token.{TokenData as unnamed_yaml_token_t_data}
 use Rattle.yaml_text.specs.Token.TokenData.{STREAM_START, VERSION_DIRECTIVE, TAG_DIRECTIVE, ALIAS, ANCHOR, TAG, SCALAR}
@@ -31,12 +71,14 @@ line_by text parts = join_by text (codes " ") parts ++ 10 ∷ []
 abbrev pub parted : List (List ℕ) → List ℕ
 parted parts = join_by (λ part. part) (codes " ") parts
 
+-- a line of these texts
 abbrev pub line : List (List ℕ) → List ℕ
 line parts = line_by (λ part. part) parts
 
 -- index:line:column
 abbrev pub mark_text : yaml_mark_t → List ℕ
-mark_text m = join_by (λ part. part) (codes ":") (decimal m.index ∷ decimal m.line ∷ decimal m.column ∷ [])
+mark_text m =
+    join_by (λ part. part) (codes ":") (decimal m.index ∷ decimal m.line ∷ decimal m.column ∷ [])
 
 -- the word of an encoding that a text has
 abbrev pub encoding_word : yaml_encoding_t → List ℕ
@@ -52,16 +94,20 @@ text_or other (Some text) = text
 
 -- offset, value and problem of a reader fault
 abbrev pub reader_line : ℕ → ℤ → List ℕ → List ℕ
-reader_line offset value problem = line (codes "FAULT" ∷ codes "reader" ∷ decimal offset ∷ signed_decimal value ∷ problem ∷ [])
+reader_line offset value problem =
+    line (codes "FAULT" ∷ codes "reader" ∷ decimal offset ∷ signed_decimal value ∷ problem ∷ [])
 
 -- the mark of a scanner fault's context, the mark of its problem, and both texts
 abbrev pub scanner_line : yaml_mark_t → List ℕ → yaml_mark_t → List ℕ → List ℕ
-scanner_line context_mark context problem_mark problem = line (codes "FAULT" ∷ codes "scanner" ∷ mark_text context_mark ∷ mark_text problem_mark ∷ (context ++ codes ";") ∷ problem ∷ [])
+scanner_line context_mark context problem_mark problem =
+    line (codes "FAULT" ∷ codes "scanner" ∷ mark_text context_mark ∷ mark_text problem_mark
+    ∷ (context ++ codes ";") ∷ problem ∷ [])
 
 -- the line of a fault of the kind
 abbrev pub fault_line_as : yaml_error_type_t → Fault → List ℕ
 fault_line_as YAML_READER_ERROR f = reader_line f.offset f.value (text_or [] f.problem)
-fault_line_as YAML_SCANNER_ERROR f = scanner_line f.context_mark (text_or (codes "-") f.context) f.problem_mark (text_or [] f.problem)
+fault_line_as YAML_SCANNER_ERROR f =
+    scanner_line f.context_mark (text_or (codes "-") f.context) f.problem_mark (text_or [] f.problem)
 fault_line_as YAML_MEMORY_ERROR f = line (codes "FAULT" ∷ codes "memory" ∷ [])
 fault_line_as _ f = []
 
@@ -71,7 +117,9 @@ fault_line f = fault_line_as f.error f
 
 -- the line of a decoded text: its encoding, the number of its bytes and the mark of its end
 abbrev pub text_line : Text → List ℕ
-text_line t = line (codes "TEXT" ∷ encoding_word t.encoding ∷ decimal (length (utf8 t.chars)) ∷ mark_text (mark_of t.chars) ∷ [])
+text_line t =
+    line (codes "TEXT" ∷ encoding_word t.encoding ∷ decimal (length (utf8 t.chars))
+    ∷ mark_text (mark_of t.chars) ∷ [])
 
 -- the line of what an input decodes to
 abbrev pub decode_line : Result Text Fault → List ℕ
@@ -155,7 +203,7 @@ peek_line kind start end = line (codes "PEEK" ∷ head_parts kind start end)
 abbrev pub token_lines : List yaml_token_t → List ℕ
 token_lines tokens = flat_map token_line tokens
 
--- and of the fault after them, if there is one
+-- the line of a fault, if there is one
 abbrev pub fault_lines : Option Fault → List ℕ
 fault_lines None = []
 fault_lines (Some fault) = fault_line fault
@@ -168,9 +216,11 @@ answer_line SKIPPED = line (codes "SKIP" ∷ [])
 answer_line NOTHING = line (codes "SKIP" ∷ codes "NOTHING" ∷ [])
 answer_line (FAULT fault) = fault_line fault
 
+-- the lines of answers
 abbrev pub answer_lines : List Seen → List ℕ
 answer_lines answers = flat_map answer_line answers
 
+-- whether an answer is a fault
 abbrev pub is_fault : Seen → Bool
 is_fault (FAULT fault) = true
 is_fault _ = false

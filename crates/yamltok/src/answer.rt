@@ -1,13 +1,10 @@
 //! The listing of a command's answer to an input.
-ghost use Rattle.std.specs.Prelude.{◌≡◌, ◌++◌, true, map, is_some, IfOk, option_map};
-ghost use Rattle.yaml_text.specs.Fault.{fault_of};
-ghost use Rattle.yaml_text.specs.Token.{token_of};
-ghost use Rattle.yaml_scan.specs.Words.{HaveLines};
+ghost use Rattle.std.specs.Prelude.{◌≡◌, true, map, IfOk};
+ghost use Rattle.std.specs.List.{list_any};
 ghost use Rattle.yaml_scan.specs.Seen.{call_of, seen_of};
 ghost use Rattle.yaml_scan.specs.CallWords.{SeenHaveLines};
-ghost use Rattle.std.specs.List.{list_any};
 ghost use Rattle.yamltok.specs.Args.{is_limit, is_right};
-ghost use Rattle.yamltok.specs.Listing.{token_lines, fault_lines, is_fault};
+ghost use Rattle.yamltok.specs.Listing.{is_fault};
 ghost use Rattle.yamltok.specs.Run.{Lists, ListsDecode, ListsScan, AnswersCalls, ListsCalls, call_for, calls_in};
 
 use crate::args::yaml_command_t;
@@ -17,6 +14,9 @@ use yaml_scan::{
     yaml_answer_t, yaml_call_t, yaml_parser_t, yaml_run, yaml_scan_to, yaml_token_sink_t,
 };
 use yaml_text::{yaml_decode, yaml_encoding_t, yaml_token_t};
+
+/// The usual key limit, in bytes.
+const KEY_LIMIT: u32 = 1024;
 
 /// The line of what the input decodes to, and whether it is a fault's.
 fn list_decoded(
@@ -33,7 +33,7 @@ fn list_decoded(
             Ok((lines, false))
         }
         Err(fault) => {
-            list_fault(alloc, &fault, &mut lines)?;
+            list_fault(&fault, &mut lines)?;
             Ok((lines, true))
         }
     }
@@ -42,7 +42,6 @@ fn list_decoded(
 /// The lines of the tokens that were given.
 #[derive(Drop)]
 struct token_lines_t {
-    alloc: Global,
     lines: Vec<u8>,
 }
 
@@ -56,7 +55,7 @@ impl yaml_token_sink_t for token_lines_t {
     ghost may_refuse = { Unit {0} };
 
     fn put(&mut self, token: yaml_token_t) -> Result<(), AllocError> {
-        list_token(self.alloc, &token, &mut self.lines)
+        list_token(&token, &mut self.lines)
     }
 
     ghost took_none = { λ s. lines_none s.lines.items };
@@ -75,18 +74,18 @@ fn list_scanned(
     ensures { IfOk result (λ answer. ListsScan limit setting input.now answer.0.items answer.1) }
 {
     let mut sink = token_lines_t {
-        alloc,
         lines: Vec::new(alloc),
     };
     match yaml_scan_to(alloc, input, setting, limit, &mut sink)? {
         Some(fault) => {
-            list_fault(alloc, &fault, &mut sink.lines)?;
+            list_fault(&fault, &mut sink.lines)?;
             Ok((sink.lines, true))
         }
         None => Ok((sink.lines, false)),
     }
 }
 
+/// The call that a letter stands for.
 fn call_for(letter: u8) -> yaml_call_t
     ensures { result ≡ call_for letter }
 {
@@ -97,18 +96,21 @@ fn call_for(letter: u8) -> yaml_call_t
     }
 }
 
+/// The calls that a word spells.
 fn calls_in(alloc: Global, word: &str) -> Result<Vec<yaml_call_t>, AllocError>
     ensures { IfOk result (λ calls. calls.items ≡ calls_in word.now) }
 {
     word.bytes().map(call_for).collect(alloc)
 }
 
+/// Whether an answer is a fault.
 fn is_fault(answer: &yaml_answer_t) -> bool
     ensures { result ≡ is_fault (seen_of answer.now) }
 {
     matches!(answer, yaml_answer_t::FAULT(_))
 }
 
+/// Whether one of the answers is a fault.
 fn has_fault(answers: &[yaml_answer_t]) -> bool
     ensures { result ≡ list_any (λ answer. is_fault (seen_of answer)) answers.now }
 {
@@ -122,7 +124,8 @@ fn called(
     setting: yaml_encoding_t,
     calls: &[yaml_call_t],
 ) -> Result<Vec<yaml_answer_t>, AllocError>
-    ensures answers { IfOk result (λ answers. AnswersCalls setting input.now (map call_of calls.now) (map seen_of answers.items)) }
+    ensures answers { IfOk result (λ answers. AnswersCalls setting input.now
+        (map call_of calls.now) (map seen_of answers.items)) }
     ensures lines { IfOk result (λ answers. SeenHaveLines (map seen_of answers.items)) }
 {
     let mut parser = yaml_parser_t::new(alloc, input, setting);
@@ -143,7 +146,7 @@ fn list_called(
     let calls = calls_in(alloc, word)?;
     let answers = called(alloc, input, setting, &calls)?;
     let mut lines = Vec::new(alloc);
-    list_answers(alloc, &answers, &mut lines)?;
+    list_answers(&answers, &mut lines)?;
     let has_fault = has_fault(&answers);
     Ok((lines, has_fault))
 }
@@ -159,7 +162,7 @@ pub fn answer_to(
 {
     match command {
         yaml_command_t::Decode(setting) => list_decoded(alloc, input, *setting),
-        yaml_command_t::Scan(setting) => list_scanned(alloc, input, *setting, 1024),
+        yaml_command_t::Scan(setting) => list_scanned(alloc, input, *setting, KEY_LIMIT),
         yaml_command_t::ScanLimit(setting, limit) => list_scanned(alloc, input, *setting, *limit),
         yaml_command_t::Calls(setting, word) => list_called(alloc, input, *setting, word),
     }

@@ -1,5 +1,6 @@
 //! The words of a command line.
-ghost use Rattle.std.specs.Prelude.{◌≡◌, ◌≢◌, ◌↔◌, ℕ, [], ◌∷◌, true, IsTrue, slice_index, IfSome, IfNone, map, string_bytes};
+ghost use Rattle.std.specs.Prelude.{◌≡◌, ◌≢◌, ◌↔◌, ℕ, [], ◌∷◌, true, map};
+ghost use Rattle.std.specs.Prelude.{IsTrue, slice_index, IfSome, IfNone, string_bytes};
 ghost use Rattle.std.specs.Fmt.{decimal};
 ghost use Rattle.std.specs.Int.{IsInRange};
 ghost use Rattle.yamltok.specs.Args.{setting_word, is_limit, are_letters, is_letter, is_right, Spells};
@@ -7,6 +8,9 @@ ghost use Rattle.yamltok.specs.declared.args.yaml_command_t.{yaml_command_t};
 ghost use Rattle.yaml_text.specs.declared.types.yaml_encoding_t.{yaml_encoding_t};
 
 use yaml_text::yaml_encoding_t;
+
+/// The greatest key limit, in bytes.
+const MOST_KEY_LIMIT: u32 = 65536;
 
 /// What the program does with the input, in this encoding or in that of its byte order mark.
 #[derive(Clone, Copy, PartialEq, Eq)]
@@ -21,18 +25,21 @@ pub enum yaml_command_t<'a> {
     Calls(yaml_encoding_t, &'a str),
 }
 
+/// Whether a number is a key limit.
 fn is_limit(limit: u32) -> bool
     ensures { result ≡ is_limit limit }
 {
-    limit >= 1 && limit <= 65536
+    limit >= 1 && limit <= MOST_KEY_LIMIT
 }
 
+/// Whether a letter stands for a call.
 fn is_letter(letter: u8) -> bool
     ensures { result ≡ is_letter letter }
 {
     letter == b's' || letter == b'p' || letter == b'k'
 }
 
+/// Whether all letters of a word stand for calls.
 fn are_letters(word: &str) -> bool
     ensures { result ≡ are_letters word.now }
 {
@@ -50,6 +57,7 @@ pub fn is_right(command: &yaml_command_t) -> bool
     }
 }
 
+/// The encoding setting of a word, if it is the word of one.
 fn parse_setting(word: &str) -> Option<yaml_encoding_t>
     ensures some { IfSome result (λ setting. word.now ≡ setting_word setting) }
     ensures none { IfNone result ((setting : yaml_encoding_t) → word.now ≢ setting_word setting) }
@@ -84,6 +92,7 @@ fn parse_limit(word: &str) -> Option<u32>
     }
 }
 
+/// The command that two words spell, if they spell one.
 fn parse_two(command: &str, setting: &str) -> Option<yaml_command_t<'static>>
     ensures some { IfSome result (λ c. Spells (command.now ∷ setting.now ∷ []) c) }
     ensures none { IfNone result ((c : yaml_command_t) → Spells (command.now ∷ setting.now ∷ []) c → ⊥) }
@@ -96,6 +105,7 @@ fn parse_two(command: &str, setting: &str) -> Option<yaml_command_t<'static>>
     }
 }
 
+/// The command that three words spell, if they spell one.
 fn parse_three<'a>(command: &str, setting: &str, word: &'a str) -> Option<yaml_command_t<'a>>
     ensures some { IfSome result (λ c. Spells (command.now ∷ setting.now ∷ word.now ∷ []) c) }
     ensures none { IfNone result ((c : yaml_command_t) → Spells (command.now ∷ setting.now ∷ word.now ∷ []) c → ⊥) }
@@ -111,10 +121,14 @@ fn parse_three<'a>(command: &str, setting: &str, word: &'a str) -> Option<yaml_c
     }
 }
 
-/// The command that these words spell, without the program's name: `decode` or `scan`, and then `any`,
-/// `utf8`, `utf16le` or `utf16be`; after `scan` and these optionally a key limit, from 1 to 65536, with no
-/// sign and no leading zero; or `calls`, one of these, and a word over `s`, `p` and `k`, which may be
-/// empty. All other words spell none.
+/// The command that these words spell, without the program's name. All other words spell none.
+///
+/// - `decode ENC`
+/// - `scan ENC`
+/// - `scan ENC LIMIT`: a key limit from 1 to 65536, in decimal digits without a sign or a leading zero
+/// - `calls ENC WORD`: a word over `s`, `p` and `k`, which may be empty
+///
+/// ENC is `any`, `utf8`, `utf16le` or `utf16be`.
 pub fn parse_args(words: &[String]) -> Option<yaml_command_t>
     ensures some { IfSome result (λ command. Spells (map string_bytes words.now) command) }
     ensures none { IfNone result ((command : yaml_command_t) → Spells (map string_bytes words.now) command → ⊥) }

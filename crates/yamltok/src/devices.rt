@@ -58,6 +58,7 @@ pub trait yaml_sink_t {
 /// A reader as a source. It fails if a read of the reader does.
 #[derive(Drop)]
 pub struct yaml_source_of_t<R> {
+    /// The reader.
     pub inner: R,
     failed: bool,
 }
@@ -98,6 +99,7 @@ impl<R: Read + Drop> yaml_source_t for yaml_source_of_t<R> {
 /// A writer as a sink. It fails if a write of the writer does, or takes no byte.
 #[derive(Drop)]
 pub struct yaml_sink_of_t<W> {
+    /// The writer.
     pub inner: W,
     failed: bool,
 }

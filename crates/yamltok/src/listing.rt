@@ -12,18 +12,19 @@ ghost use Rattle.yaml_scan.specs.Words.{HasLine, HasWords};
 ghost use Rattle.yaml_scan.specs.Seen.{seen_of};
 ghost use Rattle.yaml_scan.specs.CallWords.{SeenHasLine, SeenHaveLines};
 ghost use Rattle.yamltok.specs.Put.{Puts, spaced};
-ghost use Rattle.yamltok.specs.Listing.{parted, encoding_word, bytes_text, type_name, style_word, head_parts, data_parts};
-ghost use Rattle.yamltok.specs.Listing.{reader_line, scanner_line, fault_line, text_line, token_line, peek_line};
-ghost use Rattle.yamltok.specs.Listing.{answer_line, answer_lines};
+ghost use Rattle.yamltok.specs.Listing.{parted, encoding_word, bytes_text, type_name, style_word};
+ghost use Rattle.yamltok.specs.Listing.{head_parts, data_parts, reader_line, scanner_line, fault_line, text_line};
+ghost use Rattle.yamltok.specs.Listing.{token_line, peek_line, answer_line, answer_lines};
 
 use crate::put::{cut_back, put_bytes, put_decimal, put_mark, put_part, put_signed, put_text};
-use std::alloc::{AllocError, Global};
+use std::alloc::AllocError;
 use yaml_scan::yaml_answer_t;
 use yaml_text::{
     unnamed_yaml_token_t_data, yaml_encoding_t, yaml_error_type_t, yaml_fault_t, yaml_mark_at,
     yaml_mark_t, yaml_scalar_style_t, yaml_text_t, yaml_token_t, yaml_token_type_t,
 };
 
+/// The word of an encoding that a text has.
 fn encoding_word(encoding: yaml_encoding_t) -> &'static str
     requires { encoding ≢ YAML_ANY_ENCODING }
     ensures { result.now ≡ encoding_word encoding }
@@ -36,6 +37,7 @@ fn encoding_word(encoding: yaml_encoding_t) -> &'static str
     }
 }
 
+/// Appends the line of a reader's fault to `out`.
 fn put_reader_fault(
     out: &mut Vec<u8>,
     offset: u64,
@@ -60,6 +62,7 @@ fn put_texts(out: &mut Vec<u8>, context: &str, problem: &str) -> Result<(), Allo
     put_part(out, problem)
 }
 
+/// Appends the line of a scanner's fault to `out`.
 fn put_scanner_fault(
     out: &mut Vec<u8>,
     context_mark: yaml_mark_t,
@@ -76,6 +79,7 @@ fn put_scanner_fault(
     put_text(out, "\n")
 }
 
+/// Appends the line of a fault to `out`. If memory is refused, a part of it may stay.
 fn put_fault(out: &mut Vec<u8>, fault: &yaml_fault_t) -> Result<(), AllocError>
     requires { HasLine (fault_of fault.now) }
     ensures { Puts result out.old.items (fault_line (fault_of fault.now)) out.new.items }
@@ -99,10 +103,11 @@ fn put_fault(out: &mut Vec<u8>, fault: &yaml_fault_t) -> Result<(), AllocError>
     }
 }
 
-/// Appends the line of a fault to `out`: `FAULT reader`, offset, value and problem text; `FAULT
-/// scanner`, the marks of context and problem, the context text or `-`, then `;`, and the
-/// problem text; or `FAULT memory`. If memory is refused, `out` is as before.
-pub fn list_fault(_alloc: Global, fault: &yaml_fault_t, out: &mut Vec<u8>) -> Result<(), AllocError>
+/// Appends the line of a fault to `out`. If memory is refused, `out` is as before.
+///
+/// It is `FAULT reader`, offset, value and problem text; or `FAULT scanner`, the marks of context and problem, the
+/// context text or `-`, then `;`, and the problem text; or `FAULT memory`.
+pub fn list_fault(fault: &yaml_fault_t, out: &mut Vec<u8>) -> Result<(), AllocError>
     requires { HasLine (fault_of fault.now) }
     ensures ok { OnOk result (out.new.items ≡ out.old.items ++ fault_line (fault_of fault.now)) }
     ensures err { OnErr result (out.new.items ≡ out.old.items) }
@@ -119,6 +124,7 @@ fn end_mark(text: &yaml_text_t) -> yaml_mark_t
     yaml_mark_at(text, text.bytes().len())
 }
 
+/// Appends the line of a decoded text to `out`. If memory is refused, a part of it may stay.
 fn put_decoded(out: &mut Vec<u8>, text: &yaml_text_t) -> Result<(), AllocError>
     ensures { Puts result out.old.items (text_line text.now) out.new.items }
 {
@@ -129,8 +135,9 @@ fn put_decoded(out: &mut Vec<u8>, text: &yaml_text_t) -> Result<(), AllocError>
     put_text(out, "\n")
 }
 
-/// Appends the line of a decoded text to `out`: `TEXT`, the encoding, the number of bytes in UTF-8
-/// and the mark of the end. If memory is refused, `out` is as before.
+/// Appends the line of a decoded text to `out`. If memory is refused, `out` is as before.
+///
+/// It is `TEXT`, the encoding, the number of bytes in UTF-8 and the mark of the end.
 pub fn list_text(text: &yaml_text_t, out: &mut Vec<u8>) -> Result<(), AllocError>
     ensures ok { OnOk result (out.new.items ≡ out.old.items ++ text_line text.now) }
     ensures err { OnErr result (out.new.items ≡ out.old.items) }
@@ -140,6 +147,7 @@ pub fn list_text(text: &yaml_text_t, out: &mut Vec<u8>) -> Result<(), AllocError
     cut_back(out, len, outcome)
 }
 
+/// The name of a type of tokens.
 fn type_name(kind: yaml_token_type_t) -> &'static str
     ensures { result.now ≡ type_name kind }
 {
@@ -169,6 +177,7 @@ fn type_name(kind: yaml_token_type_t) -> &'static str
     }
 }
 
+/// The word of a style that a scalar has.
 fn style_word(style: yaml_scalar_style_t) -> &'static str
     requires { style ≢ YAML_ANY_SCALAR_STYLE }
     ensures { result.now ≡ style_word style }
@@ -202,6 +211,7 @@ fn put_head(
     }
 }
 
+/// Appends two numbers to `out`, with a space before each.
 fn put_version(out: &mut Vec<u8>, major: i32, minor: i32) -> Result<(), AllocError>
     ensures { Puts result out.old.items (spaced (signed_decimal major ∷ signed_decimal minor ∷ [])) out.new.items }
 {
@@ -209,6 +219,7 @@ fn put_version(out: &mut Vec<u8>, major: i32, minor: i32) -> Result<(), AllocErr
     put_signed(out, minor)
 }
 
+/// Appends two texts to `out` as their bytes, with a space before each.
 fn put_pair(out: &mut Vec<u8>, first: &[u8], second: &[u8]) -> Result<(), AllocError>
     ensures { Puts result out.old.items (spaced (bytes_text first.now ∷ bytes_text second.now ∷ [])) out.new.items }
 {
@@ -216,6 +227,7 @@ fn put_pair(out: &mut Vec<u8>, first: &[u8], second: &[u8]) -> Result<(), AllocE
     put_bytes(out, second)
 }
 
+/// Appends a style and a text to `out`, with a space before each.
 fn put_scalar(out: &mut Vec<u8>, value: &[u8], style: yaml_scalar_style_t) -> Result<(), AllocError>
     requires { style ≢ YAML_ANY_SCALAR_STYLE }
     ensures { Puts result out.old.items (spaced (style_word style ∷ bytes_text value.now ∷ [])) out.new.items }
@@ -251,6 +263,7 @@ fn put_data(out: &mut Vec<u8>, said: &unnamed_yaml_token_t_data) -> Result<(), A
     }
 }
 
+/// Appends the line of a token to `out`. If memory is refused, a part of it may stay.
 fn put_token(out: &mut Vec<u8>, token: &yaml_token_t) -> Result<(), AllocError>
     requires { HasWords (data_of token.now.token_data) }
     ensures { Puts result out.old.items (token_line (token_of token.now)) out.new.items }
@@ -260,11 +273,12 @@ fn put_token(out: &mut Vec<u8>, token: &yaml_token_t) -> Result<(), AllocError>
     put_text(out, "\n")
 }
 
-/// Appends the line of a token to `out`: the name of its type, the marks of its start and end, and
-/// what it says: the encoding of a stream; the two numbers of a `%YAML` directive; the texts of other
-/// tokens, two hexadecimal digits a byte or `-` for none, with the style before a scalar's. The
-/// empty token is `NO-TOKEN`. If memory is refused, `out` is as before.
-pub fn list_token(_alloc: Global, token: &yaml_token_t, out: &mut Vec<u8>) -> Result<(), AllocError>
+/// Appends the line of a token to `out`. If memory is refused, `out` is as before.
+///
+/// It is the name of its type, the marks of its start and end, and what it says: the encoding of a stream; the two
+/// numbers of a `%YAML` directive; the texts of other tokens, two hexadecimal digits a byte or `-` for none, with the
+/// style before a scalar's. The empty token is `NO-TOKEN`.
+pub fn list_token(token: &yaml_token_t, out: &mut Vec<u8>) -> Result<(), AllocError>
     requires { HasWords (data_of token.now.token_data) }
     ensures ok { OnOk result (out.new.items ≡ out.old.items ++ token_line (token_of token.now)) }
     ensures err { OnErr result (out.new.items ≡ out.old.items) }
@@ -274,6 +288,7 @@ pub fn list_token(_alloc: Global, token: &yaml_token_t, out: &mut Vec<u8>) -> Re
     cut_back(out, len, outcome)
 }
 
+/// Appends the line of a token that is shown to `out`. If memory is refused, a part of it may stay.
 fn put_peek(
     out: &mut Vec<u8>,
     kind: yaml_token_type_t,
@@ -287,10 +302,10 @@ fn put_peek(
     put_text(out, "\n")
 }
 
-/// Appends the line of a token that is shown and stays to `out`: `PEEK`, the name of its type and its
-/// marks, or `PEEK NO-TOKEN` for the empty token. If memory is refused, `out` is as before.
+/// Appends the line of a token that is shown and stays to `out`. If memory is refused, `out` is as before.
+///
+/// It is `PEEK`, the name of its type and its marks, or `PEEK NO-TOKEN` for the empty token.
 pub fn list_peek(
-    _alloc: Global,
     kind: yaml_token_type_t,
     start_mark: yaml_mark_t,
     end_mark: yaml_mark_t,
@@ -304,37 +319,30 @@ pub fn list_peek(
     cut_back(out, len, outcome)
 }
 
-/// Appends the line of an answer to a call to `out`: that of a token, of a peek, or of a fault, or `SKIP`,
-/// or `SKIP NOTHING` if nothing was skipped. If memory is refused, `out` is as before.
-pub fn list_answer(
-    alloc: Global,
-    answer: &yaml_answer_t,
-    out: &mut Vec<u8>,
-) -> Result<(), AllocError>
+/// Appends the line of an answer to a call to `out`. If memory is refused, `out` is as before.
+///
+/// It is that of a token, of a peek, or of a fault, or `SKIP`, or `SKIP NOTHING` if nothing was skipped.
+pub fn list_answer(answer: &yaml_answer_t, out: &mut Vec<u8>) -> Result<(), AllocError>
     requires { SeenHasLine (seen_of answer.now) }
     ensures ok { OnOk result (out.new.items ≡ out.old.items ++ answer_line (seen_of answer.now)) }
     ensures err { OnErr result (out.new.items ≡ out.old.items) }
 {
     match answer {
-        yaml_answer_t::TOKEN(token) => list_token(alloc, token, out),
-        yaml_answer_t::PEEKED(kind, start, end) => list_peek(alloc, *kind, *start, *end, out),
+        yaml_answer_t::TOKEN(token) => list_token(token, out),
+        yaml_answer_t::PEEKED(kind, start, end) => list_peek(*kind, *start, *end, out),
         yaml_answer_t::SKIPPED => out.extend_from_slice(b"SKIP\n"),
         yaml_answer_t::NOTHING => out.extend_from_slice(b"SKIP NOTHING\n"),
-        yaml_answer_t::FAULT(fault) => list_fault(alloc, fault, out),
+        yaml_answer_t::FAULT(fault) => list_fault(fault, out),
     }
 }
 
-/// Appends the lines of these answers to `out`.
-pub fn list_answers(
-    alloc: Global,
-    answers: &[yaml_answer_t],
-    out: &mut Vec<u8>,
-) -> Result<(), AllocError>
+/// Appends the lines of these answers to `out`. If memory is refused, `out` may have some of them.
+pub fn list_answers(answers: &[yaml_answer_t], out: &mut Vec<u8>) -> Result<(), AllocError>
     requires { SeenHaveLines (map seen_of answers.now) }
     ensures { OnOk result (out.new.items ≡ out.old.items ++ answer_lines (map seen_of answers.now)) }
 {
     for answer in answers {
-        list_answer(alloc, answer, out)?;
+        list_answer(answer, out)?;
     }
     Ok(())
 }

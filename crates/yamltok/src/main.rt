@@ -1,15 +1,23 @@
 //! Lists the tokens of a YAML stream, or says what its text is, or why it is none.
 //!
-//! `yamltok scan ENC` reads standard input to its end and writes a line for each token, and one for
-//! the fault, if it has one; `yamltok scan ENC LIMIT` does so with a key limit of 1 to 65536 bytes.
-//! `yamltok calls ENC WORD` writes a line for each answer to the calls of WORD, `s` for a scan, `p`
-//! for a peek, `k` for a skip. `yamltok decode ENC` writes one line of the text. ENC is `any`,
-//! `utf8`, `utf16le` or `utf16be`. The exit status is 0 if no line is that of a fault, 1 if
-//! one is, 2 for wrong arguments, and 3 if a read or a write failed or memory was refused.
+//! Standard input is read to its end. Then the answer to it is written:
+//!
+//! - `yamltok scan ENC` writes a line for each token, and one for the fault, if there is one;
+//! - `yamltok scan ENC LIMIT` does so with a key limit of 1 to 65536 bytes;
+//! - `yamltok calls ENC WORD` writes a line for each answer to the calls of WORD: `s` for a scan, `p` for a peek, `k`
+//!   for a skip;
+//! - `yamltok decode ENC` writes one line of the text, or of the fault.
+//!
+//! ENC is `any`, `utf8`, `utf16le` or `utf16be`.
+//!
+//! The exit status is 0 if no line is that of a fault, 1 if one is, 2 for wrong arguments, and 3 if a read or a write
+//! failed or memory was refused.
 #![tactic(auto)]
 
 mod answer;
 mod args;
+#[cfg(test)]
+mod decode_tests;
 mod devices;
 mod listing;
 mod outcome;
@@ -25,7 +33,6 @@ mod tests;
 use args::parse_args;
 use devices::{yaml_sink_of_t, yaml_source_of_t};
 use outcome::{tool_fault_t, yaml_status};
-use std::alloc::Global;
 use std::env;
 use std::env::Env;
 use std::io::ErrorKind;

@@ -1,13 +1,14 @@
 //! Commands, inputs, and the lines that they give.
 use crate::tests::expect;
-use std::alloc::Global;
+use std::alloc::{AllocError, Global};
 use std::process::Abort;
 use std::test::Fail;
 
 /// A command, an input, the exit status, and the lines that are written.
-type row_t = (&'static str, &'static [u8], u8, &'static str);
+pub(crate) type row_t = (&'static str, &'static [u8], u8, &'static str);
 
-fn expect_rows(rt: &(impl Abort + AllocGlobal), rows: &[row_t]) -> Result<(), Fail> {
+/// Asserts what each row says.
+pub(crate) fn expect_rows(rt: &(impl Abort + AllocGlobal), rows: &[row_t]) -> Result<(), Fail> {
     for (command, input, status, lines) in rows {
         expect(rt, command, input, *status, lines)?;
     }
@@ -1067,14 +1068,9 @@ fn key_limits(rt: HostRuntime) -> Result<(), Fail> {
     expect_rows(&rt, &KEY_LIMITS)
 }
 
-/// A text with a part that is repeated.
-fn repeated(
-    alloc: Global,
-    head: &str,
-    part: &str,
-    count: usize,
-    tail: &str,
-) -> Result<String, Fail> {
+/// A text with a part that is repeated: what comes before it, the part, and what comes after it.
+fn repeated(alloc: Global, parts: &[&str; 3], count: usize) -> Result<String, AllocError> {
+    let [head, part, tail] = parts;
     let mut text = String::from_str(alloc, head)?;
     for _ in 0..count {
         text.push_str(part)?;
@@ -1083,149 +1079,157 @@ fn repeated(
     Ok(text)
 }
 
-/// A command, how often a part of the input is repeated, the input before, in and after that part, the exit status,
-/// and the lines before, in and after what is repeated in them.
-type long_row_t = (
-    &'static str,
-    usize,
-    [&'static str; 3],
-    u8,
-    [&'static str; 3],
-);
+/// A command, and an input and lines in which a part is repeated.
+struct long_row_t {
+    command: &'static str,
+    /// How often the parts are repeated.
+    count: usize,
+    /// The input: what comes before the repeated part, that part, and what comes after it.
+    before: &'static str,
+    part: &'static str,
+    after: &'static str,
+    /// The exit status.
+    status: u8,
+    /// The lines: what comes before the repeated part, that part, and what comes after it.
+    lines_before: &'static str,
+    lines_part: &'static str,
+    lines_after: &'static str,
+}
 
 /// Scalars that are as long as the key limit, or a byte longer.
 const LONG_KEYS: [long_row_t; 9] = [
-    (
-        "scan any",
-        1024,
-        ["", "x", ": 1"],
-        0,
-        [
-            "\
+    long_row_t {
+        command: "scan any",
+        count: 1024,
+        before: "",
+        part: "x",
+        after: ": 1",
+        status: 0,
+        lines_before: "\
 STREAM-START 0:0:0 0:0:0 UTF8
 BLOCK-MAPPING-START 0:0:0 0:0:0
 KEY 0:0:0 0:0:0
 SCALAR 0:0:0 1024:0:1024 plain ",
-            "78",
-            "\n\
+        lines_part: "78",
+        lines_after: "\n\
 VALUE 1024:0:1024 1025:0:1025
 SCALAR 1026:0:1026 1027:0:1027 plain 31
 BLOCK-END 1027:1:0 1027:1:0
 STREAM-END 1027:1:0 1027:1:0
 ",
-        ],
-    ),
-    (
-        "scan any",
-        1025,
-        ["", "x", ": 1"],
-        1,
-        [
-            "\
+    },
+    long_row_t {
+        command: "scan any",
+        count: 1025,
+        before: "",
+        part: "x",
+        after: ": 1",
+        status: 1,
+        lines_before: "\
 STREAM-START 0:0:0 0:0:0 UTF8
 SCALAR 0:0:0 1025:0:1025 plain ",
-            "78",
-            "\n\
+        lines_part: "78",
+        lines_after: "\n\
 FAULT scanner 1025:0:1025 1025:0:1025 -; mapping values are not allowed in this context
 ",
-        ],
-    ),
-    (
-        "scan any",
-        513,
-        ["", "\u{E9}", ": 1"],
-        1,
-        [
-            "\
+    },
+    long_row_t {
+        command: "scan any",
+        count: 513,
+        before: "",
+        part: "\u{E9}",
+        after: ": 1",
+        status: 1,
+        lines_before: "\
 STREAM-START 0:0:0 0:0:0 UTF8
 SCALAR 0:0:0 1026:0:513 plain ",
-            "c3a9",
-            "\n\
+        lines_part: "c3a9",
+        lines_after: "\n\
 FAULT scanner 1026:0:513 1026:0:513 -; mapping values are not allowed in this context
 ",
-        ],
-    ),
-    (
-        "scan any",
-        512,
-        ["", "\u{E9}", ": 1"],
-        0,
-        [
-            "\
+    },
+    long_row_t {
+        command: "scan any",
+        count: 512,
+        before: "",
+        part: "\u{E9}",
+        after: ": 1",
+        status: 0,
+        lines_before: "\
 STREAM-START 0:0:0 0:0:0 UTF8
 BLOCK-MAPPING-START 0:0:0 0:0:0
 KEY 0:0:0 0:0:0
 SCALAR 0:0:0 1024:0:512 plain ",
-            "c3a9",
-            "\n\
+        lines_part: "c3a9",
+        lines_after: "\n\
 VALUE 1024:0:512 1025:0:513
 SCALAR 1026:0:514 1027:0:515 plain 31
 BLOCK-END 1027:1:0 1027:1:0
 STREAM-END 1027:1:0 1027:1:0
 ",
-        ],
-    ),
-    (
-        "scan any",
-        1025,
-        ["[", "x", ": 1]"],
-        0,
-        [
-            "\
+    },
+    long_row_t {
+        command: "scan any",
+        count: 1025,
+        before: "[",
+        part: "x",
+        after: ": 1]",
+        status: 0,
+        lines_before: "\
 STREAM-START 0:0:0 0:0:0 UTF8
 FLOW-SEQUENCE-START 0:0:0 1:0:1
 SCALAR 1:0:1 1026:0:1026 plain ",
-            "78",
-            "\n\
+        lines_part: "78",
+        lines_after: "\n\
 VALUE 1026:0:1026 1027:0:1027
 SCALAR 1028:0:1028 1029:0:1029 plain 31
 FLOW-SEQUENCE-END 1029:0:1029 1030:0:1030
 STREAM-END 1030:1:0 1030:1:0
 ",
-        ],
-    ),
-    (
-        "scan any",
-        1024,
-        ["[", "x", ": 1]"],
-        0,
-        [
-            "\
+    },
+    long_row_t {
+        command: "scan any",
+        count: 1024,
+        before: "[",
+        part: "x",
+        after: ": 1]",
+        status: 0,
+        lines_before: "\
 STREAM-START 0:0:0 0:0:0 UTF8
 FLOW-SEQUENCE-START 0:0:0 1:0:1
 KEY 1:0:1 1:0:1
 SCALAR 1:0:1 1025:0:1025 plain ",
-            "78",
-            "\n\
+        lines_part: "78",
+        lines_after: "\n\
 VALUE 1025:0:1025 1026:0:1026
 SCALAR 1027:0:1027 1028:0:1028 plain 31
 FLOW-SEQUENCE-END 1028:0:1028 1029:0:1029
 STREAM-END 1029:1:0 1029:1:0
 ",
-        ],
-    ),
-    (
-        "scan any",
-        1024,
-        ["", "x", " : 1"],
-        1,
-        [
-            "\
+    },
+    long_row_t {
+        command: "scan any",
+        count: 1024,
+        before: "",
+        part: "x",
+        after: " : 1",
+        status: 1,
+        lines_before: "\
 STREAM-START 0:0:0 0:0:0 UTF8
 SCALAR 0:0:0 1024:0:1024 plain ",
-            "78",
-            "\n\
+        lines_part: "78",
+        lines_after: "\n\
 FAULT scanner 1025:0:1025 1025:0:1025 -; mapping values are not allowed in this context
 ",
-        ],
-    ),
-    (
-        "scan any",
-        1025,
-        ["a: 1\n", "x", ": 2"],
-        1,
-        [
-            "\
+    },
+    long_row_t {
+        command: "scan any",
+        count: 1025,
+        before: "a: 1\n",
+        part: "x",
+        after: ": 2",
+        status: 1,
+        lines_before: "\
 STREAM-START 0:0:0 0:0:0 UTF8
 BLOCK-MAPPING-START 0:0:0 0:0:0
 KEY 0:0:0 0:0:0
@@ -1234,57 +1238,70 @@ VALUE 1:0:1 2:0:2
 SCALAR 3:0:3 4:0:4 plain 31
 FAULT scanner 5:1:0 1030:1:1025 while scanning a simple key; could not find expected ':'
 ",
-            "",
-            "",
-        ],
-    ),
-    (
-        "scan any 65536",
-        1025,
-        ["", "x", ": 1"],
-        0,
-        [
-            "\
+        lines_part: "",
+        lines_after: "",
+    },
+    long_row_t {
+        command: "scan any 65536",
+        count: 1025,
+        before: "",
+        part: "x",
+        after: ": 1",
+        status: 0,
+        lines_before: "\
 STREAM-START 0:0:0 0:0:0 UTF8
 BLOCK-MAPPING-START 0:0:0 0:0:0
 KEY 0:0:0 0:0:0
 SCALAR 0:0:0 1025:0:1025 plain ",
-            "78",
-            "\n\
+        lines_part: "78",
+        lines_after: "\n\
 VALUE 1025:0:1025 1026:0:1026
 SCALAR 1027:0:1027 1028:0:1028 plain 31
 BLOCK-END 1028:1:0 1028:1:0
 STREAM-END 1028:1:0 1028:1:0
 ",
-        ],
-    ),
+    },
 ];
 
-#[test]
-fn long_keys(rt: HostRuntime) -> Result<(), Fail> {
-    let alloc = rt.alloc();
-    for (command, count, input, status, lines) in LONG_KEYS {
-        let input = repeated(alloc, input[0], input[1], count, input[2])?;
-        let lines = repeated(alloc, lines[0], lines[1], count, lines[2])?;
-        expect(&rt, command, input.as_bytes(), status, lines.as_str())?;
+/// Asserts what a long row says.
+fn expect_long(rt: &(impl Abort + AllocGlobal), row: &long_row_t) -> Result<(), Fail> {
+    let input = repeated(rt.alloc(), &[row.before, row.part, row.after], row.count)?;
+    let lines = [row.lines_before, row.lines_part, row.lines_after];
+    let lines = repeated(rt.alloc(), &lines, row.count)?;
+    expect(
+        rt,
+        row.command,
+        input.as_bytes(),
+        row.status,
+        lines.as_str(),
+    )
+}
+
+/// Asserts what each long row says.
+fn expect_long_rows(rt: &(impl Abort + AllocGlobal), rows: &[long_row_t]) -> Result<(), Fail> {
+    for row in rows {
+        expect_long(rt, row)?;
     }
     Ok(())
 }
 
+#[test]
+fn long_keys(rt: HostRuntime) -> Result<(), Fail> {
+    expect_long_rows(&rt, &LONG_KEYS)
+}
+
 /// The answer to an empty word of calls is nothing, whatever the input is.
+const NO_CALLS: [row_t; 7] = [
+    ("calls any ", b"", 0, ""),
+    ("calls any ", b"a: b: c", 0, ""),
+    ("calls any ", b"[a]", 0, ""),
+    ("calls any ", b"{a:}", 0, ""),
+    ("calls any ", b"\xFF", 0, ""),
+    ("calls any ", b"\xFF\xFEa", 0, ""),
+    ("calls any ", b"anything: [", 0, ""),
+];
+
 #[test]
 fn no_calls(rt: HostRuntime) -> Result<(), Fail> {
-    let rows: [&[u8]; 7] = [
-        b"",
-        b"a: b: c",
-        b"[a]",
-        b"{a:}",
-        b"\xFF",
-        b"\xFF\xFEa",
-        b"anything: [",
-    ];
-    for input in rows {
-        expect(&rt, "calls any ", input, 0, "")?;
-    }
-    Ok(())
+    expect_rows(&rt, &NO_CALLS)
 }

@@ -1,6 +1,7 @@
 //! Reads all there is, and writes the listing of the answer to it.
-ghost use Rattle.std.specs.Prelude.{◌≡◌, ◌≢◌, ℕ, ◌<◌, ◌⊎◌, ◌++◌, ◌↔◌, List, true, false, length, take, drop, vec_len, IfOk, IfErr, OnOk, OnErr, IsErrOf, is_err};
-ghost use Rattle.std.specs.Io.KnownBytes.{Appends, Consumes, IsAtEnd, Keeps};
+ghost use Rattle.std.specs.Prelude.{◌≡◌, ◌≢◌, ℕ, ◌<◌, ◌⊎◌, ◌++◌, ◌↔◌, List, true, false, length, take, vec_len};
+ghost use Rattle.std.specs.Prelude.{IfOk, IfErr, OnOk, OnErr, IsErrOf};
+ghost use Rattle.std.specs.Io.KnownBytes.{Appends, Consumes, IsAtEnd};
 ghost use Rattle.yamltok.specs.Outcome.{is_read_fault, is_write_fault};
 ghost use Rattle.yamltok.specs.Run.{IsWrong, Writes, WritesBeginning};
 
@@ -10,6 +11,7 @@ use crate::devices::{yaml_sink_t, yaml_source_t};
 use crate::outcome::tool_fault_t;
 use std::alloc::Global;
 
+/// A read is asked for so many bytes.
 const CHUNK: usize = 65536;
 
 /// Reads once, at most as much as the buffer holds, and returns whether there was anything left to read.
@@ -20,7 +22,9 @@ fn read_chunk<R: yaml_source_t>(
 ) -> Result<bool, tool_fault_t>
     requires working { R.failed reader.old ≡ false }
     requires room { 0 < length buffer.old }
-    ensures bytes { OnOk result ((bytes : List ℕ) × (input.new.items ≡ input.old.items ++ bytes) × Consumes (R.remaining reader.old) (R.remaining reader.new) bytes) }
+    ensures bytes { OnOk result ((bytes : List ℕ)
+        × (input.new.items ≡ input.old.items ++ bytes)
+        × Consumes (R.remaining reader.old) (R.remaining reader.new) bytes) }
     ensures more { IfOk result (λ more. more ≡ true → vec_len input.old < vec_len input.new) }
     ensures end { IfOk result (λ more. more ≡ false → IsAtEnd (R.remaining reader.new)) }
     ensures read { is_read_fault result ≡ R.failed reader.new }
@@ -52,7 +56,9 @@ fn read_all<R: yaml_source_t>(alloc: Global, reader: &mut R) -> Result<Vec<u8>, 
 fn write_all<W: yaml_sink_t>(writer: &mut W, bytes: &[u8]) -> Result<(), tool_fault_t>
     requires { W.failed writer.old ≡ false }
     ensures all { OnOk result (Appends (W.contents writer.old) (W.contents writer.new) bytes.now) }
-    ensures part { OnErr result ((count : ℕ) × (count < length bytes.now) × Appends (W.contents writer.old) (W.contents writer.new) (take count bytes.now)) }
+    ensures part { OnErr result ((count : ℕ)
+        × (count < length bytes.now)
+        × Appends (W.contents writer.old) (W.contents writer.new) (take count bytes.now)) }
     ensures fault { IfErr result (λ fault. fault ≡ tool_fault_t.Write) }
     ensures write { is_write_fault result ≡ W.failed writer.new }
 {
@@ -72,9 +78,11 @@ fn write_all<W: yaml_sink_t>(writer: &mut W, bytes: &[u8]) -> Result<(), tool_fa
 ///
 /// # Errors
 ///
-/// `Args` if the key limit is not from 1 to 65,536, or the word of calls has another letter than `s`, `p` and `k`; then nothing
-/// was read. `Read` if the reader failed, and `Memory` if there was none for the input or for the listing; then nothing was
-/// written. `Write` if the writer failed; then a beginning of the listing was written.
+/// - `Args` if the key limit is not from 1 to 65,536, or the word of calls has another letter than `s`, `p` and `k`.
+///   Then nothing was read.
+/// - `Read` if the reader failed. Then nothing was written.
+/// - `Memory` if there was none for the input or for the listing. Then nothing was written.
+/// - `Write` if the writer failed. Then a beginning of the listing was written.
 pub fn run<R: yaml_source_t, W: yaml_sink_t>(
     alloc: Global,
     command: &yaml_command_t,
@@ -83,8 +91,12 @@ pub fn run<R: yaml_source_t, W: yaml_sink_t>(
 ) -> Result<bool, tool_fault_t>
     requires reader { R.failed reader.old ≡ false }
     requires writer { W.failed writer.old ≡ false }
-    ensures done { IfOk result (λ has_fault. Writes command.now (R.remaining reader.old) (R.remaining reader.new) (W.contents writer.old) (W.contents writer.new) has_fault) }
-    ensures cut { IsErrOf result tool_fault_t.Write → WritesBeginning command.now (R.remaining reader.old) (R.remaining reader.new) (W.contents writer.old) (W.contents writer.new) }
+    ensures done { IfOk result (λ has_fault. Writes command.now
+        (R.remaining reader.old) (R.remaining reader.new)
+        (W.contents writer.old) (W.contents writer.new) has_fault) }
+    ensures cut { IsErrOf result tool_fault_t.Write → WritesBeginning command.now
+        (R.remaining reader.old) (R.remaining reader.new)
+        (W.contents writer.old) (W.contents writer.new) }
     ensures untouched { IfErr result (λ fault. fault ≢ tool_fault_t.Write → writer.new ≡ writer.old) }
     ensures read { is_read_fault result ≡ R.failed reader.new }
     ensures write { is_write_fault result ≡ W.failed writer.new }

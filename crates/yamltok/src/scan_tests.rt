@@ -1,9 +1,9 @@
 //! The commands that scan, over devices in memory.
-use crate::args::{parse_args, yaml_command_t};
+use crate::args::yaml_command_t;
 use crate::devices::{yaml_sink_of_t, yaml_source_of_t, yaml_source_t};
 use crate::outcome::{tool_fault_t, yaml_status};
 use crate::run::run;
-use crate::tests::{expect, slow_reader_t, words_of};
+use crate::tests::{expect, expect_wrong, slow_reader_t};
 use std::process::Abort;
 use std::test::Fail;
 use yaml_text::yaml_encoding_t;
@@ -42,32 +42,29 @@ NO-TOKEN
     expect(&rt, "calls any ssssssppks", b"a: b: c", 1, lines)
 }
 
+/// Words that spell no command that scans.
+const WRONG: [&str; 16] = [
+    "scan",
+    "scan latin1",
+    "scan any ",
+    "scan any 0",
+    "scan any 07",
+    "scan any +1",
+    "scan any 65537",
+    "scan any 4294967297",
+    "scan any 1 2",
+    "scan any s",
+    "calls",
+    "calls any",
+    "calls any S",
+    "calls any sx",
+    "calls any s s",
+    "decode any 1",
+];
+
 #[test]
 fn wrong_words_of_scans(rt: HostRuntime) -> Result<(), Fail> {
-    let rows = [
-        "scan",
-        "scan latin1",
-        "scan any ",
-        "scan any 0",
-        "scan any 07",
-        "scan any +1",
-        "scan any 65537",
-        "scan any 4294967297",
-        "scan any 1 2",
-        "scan any s",
-        "calls",
-        "calls any",
-        "calls any S",
-        "calls any sx",
-        "calls any s s",
-        "decode any 1",
-    ];
-    for command in rows {
-        let words = words_of(rt.alloc(), command)?;
-        assert_eq!(rt; parse_args(&words).is_none(), true, "{command}");
-        expect(&rt, command, b"a: 1", 2, "")?;
-    }
-    Ok(())
+    expect_wrong(&rt, &WRONG)
 }
 
 /// Asserts that a command is wrong, and that nothing is read or written for it: the first read would fail.
@@ -75,6 +72,7 @@ fn expect_unread(rt: &(impl Abort + AllocGlobal), command: yaml_command_t) -> Re
     let alloc = rt.alloc();
     let mut source = yaml_source_of_t::new(slow_reader_t {
         bytes: b"a: 1",
+        at: 0,
         calls: 0,
     });
     let mut sink = yaml_sink_of_t::new(Vec::new(alloc));

@@ -5,4 +5,5 @@ use Rattle.lexlist.proofs.ask.mark_at.Goals as goal
 pub returns : goal.returns
 returns c =
     let place = c.if-not-yaml_is_place.ensures.0 refl in
-    (place.0, (marks_counted c.args.text.now.chars c.args.index place.0 c.yaml_mark_at.result place.1).0 (c.yaml_mark_at.ensures place.0 place.1))
+    let counted = marks_counted c.args.text.now.chars c.args.index place.0 c.yaml_mark_at.result place.1 in
+    (place.0, counted.0 (c.yaml_mark_at.ensures place.0 place.1))

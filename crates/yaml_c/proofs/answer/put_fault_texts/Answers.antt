@@ -6,4 +6,4 @@ pub returns : goal.returns
 returns c =
     let low : length c.args.room.now < 2 ^ 63 = search rules in
     both_covered _ _ _ _ _ _ _ _ _ c.text_or_none-problem.ensures c.text_or_none.ensures
-    low c.saturating_add-behind.ensures c.put_bytes.ensures c.put_bytes-2.ensures
+    low c.saturating_add-context_at.ensures c.put_bytes.ensures c.put_bytes-2.ensures

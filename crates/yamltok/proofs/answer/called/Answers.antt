@@ -10,15 +10,20 @@ use Rattle.yamltok.proofs.answer.called.Goals as goal
 pub returns-clause-answers : goal.returns-clause-answers
 returns-clause-answers c =
     let r = c.in_ok-yaml_run.ensures.answers in
-    let e : c.yaml_run.new.out.items ≡ r.more = r.is ∙ ap (λ (l : List yaml_answer_t). l ++ r.more) c.new-answers.ensures.items in
+    let parser = c.yaml_run.new.parser in
+    let answers = c.yaml_run.new.out.items in
+    let calls = map call_of c.args.calls.now in
+    let e : answers ≡ r.more = r.is ∙ ap (λ (l : List yaml_answer_t). l ++ r.more) c.new-answers.ensures.items in
+    let runs : Runs c.new-parser.result calls (map seen_of answers) parser =
+    subst (λ (l : List yaml_answer_t). Runs c.new-parser.result calls (map seen_of l) parser) (sym e) r.runs in
     record {
-      behind = c.yaml_run.new.parser;
-      runs = subst (λ (p : Parser). Runs p (map call_of c.args.calls.now) (map seen_of c.yaml_run.new.out.items) c.yaml_run.new.parser) c.new-parser.ensures
-          (subst (λ (l : List yaml_answer_t). Runs c.new-parser.result (map call_of c.args.calls.now) (map seen_of l) c.yaml_run.new.parser) (sym e) r.runs);
+      after = parser;
+      runs = subst (λ (p : Parser). Runs p calls (map seen_of answers) parser) c.new-parser.ensures runs;
     }
 
 pub returns-clause-lines : goal.returns-clause-lines
 returns-clause-lines c =
     let r = c.in_ok-yaml_run.ensures.lines in
-    let e : c.yaml_run.new.out.items ≡ r.more = r.is ∙ ap (λ (l : List yaml_answer_t). l ++ r.more) c.new-answers.ensures.items in
+    let answers = c.yaml_run.new.out.items in
+    let e : answers ≡ r.more = r.is ∙ ap (λ (l : List yaml_answer_t). l ++ r.more) c.new-answers.ensures.items in
     subst (λ (l : List yaml_answer_t). SeenHaveLines (map seen_of l)) (sym e) r.holds

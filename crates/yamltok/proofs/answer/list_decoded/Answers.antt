@@ -15,7 +15,11 @@ returns-in_ok-list_text-in-Ok c = record {
 pub returns-in_ok-list_fault-in-Err : goal.returns-in_ok-list_fault-in-Err
 returns-in_ok-list_fault-in-Err c = record {
   answer = Err (fault_of c.in-Err.fault);
-  answers = record { answer_is = elim c.in-Err.ensures.exact [ inl e ↦ inr (ap Err e) | inr e ↦ inl (sym e) ]; in_utf8 = λ u. c.in-Err.ensures.borrowed u };
-  lines_are = c.in_ok-list_fault-in-Err.ensures.ok ∙ ap (λ l. l ++ fault_line (fault_of c.in-Err.fault)) c.new-lines.ensures.items;
+  answers = record {
+    answer_is = elim c.in-Err.ensures.exact [ inl e ↦ inr (ap Err e) | inr e ↦ inl (sym e) ];
+    in_utf8 = λ u. c.in-Err.ensures.borrowed u;
+  };
+  lines_are = c.in_ok-list_fault-in-Err.ensures.ok
+      ∙ ap (λ l. l ++ fault_line (fault_of c.in-Err.fault)) c.new-lines.ensures.items;
   fault_is = refl;
 }

@@ -18,4 +18,5 @@ returns-in_ok-list_fault-in-Some c =
     let fault = Some (fault_of c.in-Some.fault) in
     let lines = c.list_fault.new.out.items in
     let more = c.in_ok-list_fault-in-Some.ensures.ok in
-    lists_scan c.args.limit c.args.setting c.args.input.now c.new.result.items told fault given lines c.new.ensures.items more
+    lists_scan c.args.limit c.args.setting c.args.input.now c.new.result.items told fault given
+    lines c.new.ensures.items more

@@ -7,10 +7,15 @@ use Rattle.yamltok.proofs.Limits.{limit_led, limit_parsed, limit_read}
 use Rattle.yamltok.proofs.args.parse_limit.Goals as goal
 
 pub returns-then-not-is_led-clause-none : goal.returns-then-not-is_led-clause-none
-returns-then-not-is_led-clause-none c = λ n l e. let t : IsTrue c.is_led.result = c.is_led.ensures.1 (limit_led c.args.word.now n l e) in cc
+returns-then-not-is_led-clause-none c = λ n l e.
+    let t : IsTrue c.is_led.result = c.is_led.ensures.1 (limit_led c.args.word.now n l e) in
+    cc
 
 pub returns-in-Ok-clause-some : goal.returns-in-Ok-clause-some
-returns-in-Ok-clause-some c = (limit_parsed c.args.word.now c.in-Ok.limit c.parse.result (c.is_led.ensures.0 c.if-not-is_led.false) c.parse.ensures.value.0 c.in-Ok.is, sym c.is_limit.ensures ∙ c.if-is_limit.true)
+returns-in-Ok-clause-some c =
+    let led = c.is_led.ensures.0 c.if-not-is_led.false in
+    let parsed = limit_parsed c.args.word.now c.in-Ok.limit c.parse.result led c.parse.ensures.value.0 c.in-Ok.is in
+    (parsed, sym c.is_limit.ensures ∙ c.if-is_limit.true)
 
 pub returns-in_default-clause-none : goal.returns-in_default-clause-none
 returns-in_default-clause-none c = λ n l e.

@@ -1,5 +1,5 @@
 -- The mark at the text's end is that after all its characters.
-use Rattle.yamltok.proofs.Ends.{mark_at-end}
+use Rattle.yamltok.proofs.EndMark.{mark_at-end}
 use Rattle.yamltok.proofs.listing.end_mark.Goals as goal
 
 pub returns : goal.returns

@@ -1,7 +1,7 @@
 -- Run after run.
 use Rattle.std.proofs.Common.{arith}
 use Rattle.yamltok.specs.Listing.{byte_text}
-use Rattle.yamltok.proofs.Runs.{next_run}
+use Rattle.yamltok.proofs.MappedByRuns.{next_run}
 use Rattle.yamltok.proofs.put.put_bytes.Goals as goal
 
 pub loop-at-preserved : goal.loop-at-preserved
@@ -11,5 +11,6 @@ loop-at-preserved c =
     let put = c.put_run.new.out.items in
     record {
       within = omega (arith, c.min.ensures);
-      put = next_run byte_text c.args.bytes.now before.at c.min.result start before.out.items put before.invariant.put c.in_ok-put_run.ensures;
+      put = next_run byte_text c.args.bytes.now before.at c.min.result start before.out.items put
+          before.invariant.put c.in_ok-put_run.ensures;
     }

@@ -2,7 +2,7 @@
 use Rattle.std.proofs.Common.{◌≡◌, ◌++◌, ◌≤◌, ◌-◌, length, drop, take, codes, ◌∙◌, arith, length-drop}
 use Rattle.std.proofs.lemmas.List.{take_all}
 use Rattle.yamltok.specs.Listing.{mark_text}
-use Rattle.yamltok.proofs.Puts.{puts_slice}
+use Rattle.yamltok.proofs.SliceIsPut.{puts_slice}
 use Rattle.yamltok.proofs.put.put_mark.Goals as goal
 
 pub returns : goal.returns

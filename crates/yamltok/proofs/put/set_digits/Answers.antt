@@ -17,11 +17,13 @@ digits-preserved c =
     let within : at - 1 ≤ c.args.end = omega (arith, i.within) in
     let same : length (set b (at - 1) (48 + left % 10)) ≡ length before =
     length-set b (at - 1) (48 + left % 10) ∙ c.digits.auto.buffer in
-    let written : decimal (left / 10) ++ drop (at - 1) (set b (at - 1) (48 + left % 10)) ≡ decimal c.args.number ++ drop c.args.end before =
+    let written : decimal (left / 10) ++ drop (at - 1) (set b (at - 1) (48 + left % 10))
+    ≡ decimal c.args.number ++ drop c.args.end before =
     digits_more left at b c.digits-test.true i.fits low high ∙ i.written in
     record {
       within = within;
-      room = digits_room (left / 10) c.args.number (at - 1) c.args.end _ before fits c.ranges.number.fits within c.requires.within same written;
+      room = digits_room (left / 10) c.args.number (at - 1) c.args.end _ before fits c.ranges.number.fits
+          within c.requires.within same written;
       fits = fits;
       written = written;
     }

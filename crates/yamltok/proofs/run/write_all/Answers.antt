@@ -1,7 +1,7 @@
 -- What the calls wrote, one after another, is the front of the bytes.
 use Rattle.std.proofs.Common.{subst, List, ℕ, arith, length-take, length-drop}
 use Rattle.std.specs.Io.KnownBytes.{Appends}
-use Rattle.yamltok.proofs.Known.{Appends-trans, take-then}
+use Rattle.yamltok.proofs.WritesInTurn.{Appends-trans, take-then}
 use Rattle.yamltok.proofs.run.write_all.Goals as goal
 
 pub loop-at-preserved : goal.loop-at-preserved
@@ -11,5 +11,6 @@ loop-at-preserved g c =
     record {
       within = omega (arith, simp (length-take, length-drop) at c.in-Ok.ensures.bound);
       working = c.in-Ok.ensures.failed;
-      written = subst (λ (bs : List ℕ). Appends (sink.contents c.args.writer.now) (sink.contents c.put.new.self) bs) (take-then c.args.bytes.now c.loop-at.at c.in-Ok.count) both;
+      written = subst (λ (bs : List ℕ). Appends (sink.contents c.args.writer.now) (sink.contents c.put.new.self) bs)
+          (take-then c.args.bytes.now c.loop-at.at c.in-Ok.count) both;
     }

@@ -12,9 +12,10 @@ returns c =
       same_texts = refl;
       token_count = c.saturating_add-self.ensures;
       text_len = both_counted _ _ _ _ _ _ _ c.first_text-first.ensures c.second_text-second.ensures
-          c.saturating_add-behind.ensures c.saturating_add-self-2.ensures;
+          c.saturating_add-second_at.ensures c.saturating_add-self-2.ensures;
       records = c.put_record.ensures
-          ∙ ap (λ (r : yaml_c_token). covered_from c.args.self.now.token_count (r ∷ []) c.args.self.now.tokens.now) c.record_of.ensures;
+          ∙ ap (λ (r : yaml_c_token). covered_from c.args.self.now.token_count (r ∷ []) c.args.self.now.tokens.now)
+          c.record_of.ensures;
       texts = both_covered _ _ _ _ _ _ _ _ _ c.first_text-first.ensures c.second_text-second.ensures
-          low c.saturating_add-behind.ensures c.put_bytes.ensures c.put_bytes-2.ensures;
+          low c.saturating_add-second_at.ensures c.put_bytes.ensures c.put_bytes-2.ensures;
     }

@@ -1,5 +1,6 @@
--- What a list of tokens leaves in both rooms.
-use Rattle.std.proofs.Common.{◌≡◌, ◌<◌, ◌^◌, ◌+◌, ◌∷◌, [], ℕ, List, length, arith, refl, sym, ap, ◌∙◌, subst, length-append}
+-- Tokens that are put one by one leave their records in the one room and their texts in the other, and are counted.
+use Rattle.std.proofs.Common.{◌≡◌, ◌<◌, ◌^◌, ◌+◌, ◌∷◌, [], ℕ, List, length}
+use Rattle.std.proofs.Common.{arith, refl, sym, ap, ◌∙◌, subst, length-append}
 use Rattle.yaml_text.specs.Token.{Token}
 use Rattle.yaml_c.specs.declared.record.yaml_c_token.{yaml_c_token}
 use Rattle.yaml_c.specs.declared.sink.token_rooms_t.{token_rooms_t}
@@ -30,6 +31,7 @@ pub record Fits (a : token_rooms_t) : Type 0 where
   pub token_count : a.token_count < 2 ^ 64
   pub text_len : a.text_len < 2 ^ 64
 
+-- what a list of tokens leaves if it is put into rooms
 pub record HavePut (a : token_rooms_t) (list : List Token) (b : token_rooms_t) : Type 0 where
   pub same_tokens : b.tokens.ghost_name ≡ a.tokens.ghost_name
   pub same_texts : b.texts.ghost_name ≡ a.texts.ghost_name
@@ -71,8 +73,10 @@ one_more a m b t ts fits put more =
           ∙ ap (λ (n : ℕ). covered_from n (records_of m.text_len ts) m.tokens.now) put.token_count
           ∙ covered_held (a.token_count + 1) (records_of m.text_len ts) m.tokens.now next.tokens
           ∙ ap (λ (n : ℕ). covered_from (a.token_count + 1) (records_of n ts) m.tokens.now) put.text_len
-          ∙ ap (λ (rs : List yaml_c_token). covered_from (a.token_count + 1) rs m.tokens.now) (records_of_held (a.text_len + k) ts)
-          ∙ ap (λ (z : List yaml_c_token). covered_from (a.token_count + 1) (records_of (a.text_len + k) ts) z) put.records
+          ∙ ap (λ (rs : List yaml_c_token). covered_from (a.token_count + 1) rs m.tokens.now)
+          (records_of_held (a.text_len + k) ts)
+          ∙ ap (λ (z : List yaml_c_token). covered_from (a.token_count + 1) (records_of (a.text_len + k) ts) z)
+          put.records
           ∙ more_covered_from a.token_count (record_of a.text_len t ∷ []) (records_of (a.text_len + k) ts) a.tokens.now;
       texts = more.texts
           ∙ ap (λ (n : ℕ). covered_from n (all_texts ts) m.texts.now) put.text_len
@@ -81,7 +85,7 @@ one_more a m b t ts fits put more =
           ∙ more_covered_from a.text_len (texts_of t) (all_texts ts) a.texts.now;
     }
 
--- what a list of tokens leaves
+-- tokens that are put one by one leave it
 pub have_put : (a b : token_rooms_t) (list : List Token) → Fits a → ArePut a list b → HavePut a list b
 have_put a b [] fits put = subst (λ (z : token_rooms_t). HavePut a [] z) (sym put) (none_put a fits)
 have_put a b (t ∷ ts) fits put =
