@@ -1,8 +1,10 @@
--- The headline: what the calls of a parser return, and what they leave, for every input, encoding setting and key limit.
+-- The headline: what the calls of a parser return, and what they leave, for every input, encoding setting and key
+-- limit.
 --
--- For one call: `Calls call p a q` says that `a` is the answer to the call on the parser p, and that q is the parser after it.
--- The answer is `answered p call`, that of the session (Session.antt) on the steps of the input (Answers.antt), unless memory
--- was refused. For a list of calls: `Runs p calls answers q`, and `PutsAnswers`, which is the contract of `yaml_run`.
+-- For one call: `Calls call p a q` says that `a` is the answer to the call on the parser p, and that q is the parser
+-- after it. The answer is `answered p call`, that of the session (Session.antt) on the steps of the input
+-- (Answers.antt), unless memory was refused. For a list of calls: `Runs p calls answers q`, and `PutsAnswers`, which is
+-- the contract of `yaml_run`.
 use Rattle.std.specs.Prelude.{◌≡◌, ◌≢◌, ◌⊎◌, ℕ, ◌+◌, ◌≤◌, ◌<◌, false, true, List, ◌∷◌, ◌++◌, map, take, drop, length}
 use Rattle.std.specs.Prelude.{slice_get, Some}
 use Rattle.yaml_text.specs.declared.types.yaml_encoding_t.TheVariants.{YAML_UTF8_ENCODING}
@@ -36,7 +38,8 @@ pub record WantsMemory (p q : Parser) : Type 0 where
   pub was_open : p.session.over ≡ false
   pub was_not_peeked : p.session.peeked ≡ false
 
--- The answer to a call is the session's, and it leaves what the session leaves; or memory was refused, but not in a skip.
+-- The answer to a call is the session's, and it leaves what the session leaves; or memory was refused, but not in a
+-- skip.
 abbrev pub Calls : Call → Parser → Answer → Parser → Type 0
 Calls call p a q = ((a ≡ answered p call) × (q ≡ after_call p call))
     ⊎ ((a ≡ says.FAULT memory_fault) × WantsMemory p q × (call ≢ SKIP))

@@ -29,8 +29,8 @@ pub(crate) fn is_allowed_after(
     }
 }
 
-/// Whether a key is allowed at a lexeme after a gap that ends at `front`: `allowed` after the last lexeme, or because at
-/// depth 0 a break is in the gap.
+/// Whether a key is allowed at a lexeme after a gap that ends at `front`: `allowed` after the last lexeme, or because
+/// at depth 0 a break is in the gap.
 pub(crate) fn is_key_allowed(
     allowed: bool,
     margin: bool,

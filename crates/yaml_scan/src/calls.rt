@@ -141,7 +141,8 @@ pub fn yaml_run(
     ensures once { OnOk result (Puts HaveOneFault out.old.items out.new.items) }
     ensures lines { OnOk result (Puts SeenHaveLines out.old.items out.new.items) }
     ensures marks { OnOk result (Puts (SeenAreCounted (text_read parser.old)) out.old.items out.new.items) }
-    ensures local { OnOk result (Puts (AreAnsweredAlike parser.old (map call_of calls.now)) out.old.items out.new.items) }
+    ensures local { OnOk result
+        (Puts (AreAnsweredAlike parser.old (map call_of calls.now)) out.old.items out.new.items) }
 {
     few_wait(parser);
     out.reserve(calls.len())?;

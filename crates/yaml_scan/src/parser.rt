@@ -12,7 +12,6 @@ ghost use Rattle.yaml_scan.specs.inside.Scanning.{Runs, IsOpen, history};
 ghost use Rattle.yaml_scan.specs.inside.Ready.{IsNew, IsReady, IsSettled, IsStopped, IsShort, IsEnded, Pops, Begins};
 ghost use Rattle.yaml_scan.specs.inside.Ready.{IsStarted, IsShown};
 ghost use Rattle.yaml_scan.specs.Headline.{Calls};
-ghost use Rattle.yaml_scan.specs.Headline.{Calls};
 ghost use Rattle.yaml_scan.specs.Parser.{Parser, told, token_shown, after_call, IsThere, IsRefusedEarly, input_read};
 ghost use Rattle.yaml_scan.specs.inside.Shown.{Shows};
 ghost use Rattle.yaml_scan.specs.Parser.{answered, told_copied, shown, course_read};

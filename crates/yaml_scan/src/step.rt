@@ -9,7 +9,8 @@ ghost use Rattle.yaml_scan.specs.Fault.{no_token, in_next_token};
 ghost use Rattle.yaml_scan.specs.Laid.{Laid};
 ghost use Rattle.yaml_scan.specs.Allowed.{allowed};
 ghost use Rattle.yaml_scan.specs.Order.{ended};
-ghost use Rattle.yaml_scan.specs.inside.Slots.{is_margin_level, needed, lost_held, still_held, root_of, slot_after, nested_outer};
+ghost use Rattle.yaml_scan.specs.inside.Slots.{is_margin_level, needed, lost_held, still_held, root_of, slot_after};
+ghost use Rattle.yaml_scan.specs.inside.Slots.{nested_outer};
 ghost use Rattle.yaml_scan.specs.inside.Slots.{nested_top};
 ghost use Rattle.yaml_scan.specs.inside.Slots.{empty_slots, lowest, step_of, AreNested};
 ghost use Rattle.std.specs.Vec.{vec_capacity};
@@ -174,8 +175,8 @@ pub(crate) fn meet(scanner: &scanner_t, kept: &mut yaml_fault_t) -> Result<met_t
     Ok(met)
 }
 
-/// Changes the candidates after a lexeme that was read to a mark, or returns a required one that is stale there. There is
-/// room for one more depth.
+/// Changes the candidates after a lexeme that was read to a mark, or returns a required one that is stale there. There
+/// is room for one more depth.
 fn keep_candidates(
     slots: &mut slots_t,
     met: met_t,

@@ -1,6 +1,6 @@
 -- If the answers of a list have lines, each of them has one.
 use Rattle.std.proofs.Common.{ℕ, zero, suc, ◌<◌, List, [], ◌∷◌, map, length, get_or, arith}
-use Rattle.yaml_scan.specs.Calls.{Seen}
+use Rattle.yaml_scan.specs.Seen.{Seen}
 use Rattle.yaml_scan.specs.CallWords.{SeenHasLine, SeenHaveLines}
 
 pub line_at : {X : Type 0} (f : X → Seen) (xs : List X) (i : ℕ) (d : X) → SeenHaveLines (map f xs) → i < length xs
