@@ -74,7 +74,7 @@ fn told(setting: yaml_encoding_t, input: &[u8]) -> (yaml_encoding_t, usize)
     }
 }
 
-/// The fault of an offence after so many bytes.
+/// The fault of an offence, `before` bytes into the input.
 fn refusal(before: usize, offence: Option<offence_t>) -> Option<yaml_fault_t>
     requires { IfSome offence (λ o. before + o.offset < 2 ^ 64) }
     ensures { refusal_seen result ≡ option_map (reader_fault before) offence }
@@ -85,7 +85,7 @@ fn refusal(before: usize, offence: Option<offence_t>) -> Option<yaml_fault_t>
     }
 }
 
-/// The front in UTF-8, which is borrowed, after so many bytes of the input.
+/// The front in UTF-8 of bytes that begin `before` bytes into the input. It is borrowed.
 fn front_in_utf8<'a>(bytes: &'a [u8], before: usize) -> (yaml_text_t<'a>, Option<yaml_fault_t>)
     requires { before + length bytes.now < 2 ^ 64 }
     ensures { Fronts YAML_UTF8_ENCODING before bytes.now result.0 (refusal_seen result.1) }
@@ -105,7 +105,7 @@ fn order(big: bool) -> yaml_encoding_t
     }
 }
 
-/// The front in UTF-16, which is copied into UTF-8, after so many bytes of the input.
+/// The front in UTF-16 of bytes that begin `before` bytes into the input. It is copied into UTF-8.
 fn front_in_utf16<'a>(
     alloc: Global,
     bytes: &[u8],
