@@ -58,7 +58,7 @@ fn front8(bytes: &[u8]) -> (usize, Option<offence_t>)
 
 /// The encoding that is set, or else that of the byte order mark, or else UTF-8; and how many bytes of such a
 /// mark are dropped.
-fn told(setting: yaml_encoding_t, input: &[u8]) -> (yaml_encoding_t, usize)
+fn find_encoding(setting: yaml_encoding_t, input: &[u8]) -> (yaml_encoding_t, usize)
     ensures encoding { result.0 ≡ encoding_of setting input.now }
     ensures dropped { result.1 ≡ dropped setting input.now }
     ensures within { result.1 ≤ length input.now }
@@ -144,7 +144,7 @@ pub fn yaml_decode_front<'a>(
     ensures memory { IfErr result (λ fault. fault_of fault ≡ memory_fault) }
     ensures borrowed { encoding_of setting input.now ≡ YAML_UTF8_ENCODING → IsOk result }
 {
-    let (encoding, before) = told(setting, input);
+    let (encoding, before) = find_encoding(setting, input);
     let bytes = from(input, before);
     match encoding {
         yaml_encoding_t::YAML_UTF16LE_ENCODING => Ok(front_in_utf16(alloc, bytes, false, before)?),
