@@ -183,7 +183,7 @@ abbrev pub above : Option ℕ → ℕ
 above None = 0
 above (Some level) = level + 1
 
--- the column that a digit sets for the text lines: so many after the greatest open level, or after 0 if none is open
+-- The column that a digit sets for the text lines. It counts from the greatest open level, or from 0 if none is open.
 abbrev pub set_indent : Option ℕ → Option ℕ → Option ℕ
 set_indent level None = None
 set_indent level (Some d) = Some (base level + d)

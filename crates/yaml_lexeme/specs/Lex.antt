@@ -2,11 +2,7 @@
 use Rattle.std.specs.Prelude.{ℕ, Bool, true, false, nat_lt, if◌then◌else◌, List, Some}
 use Rattle.std.specs.Prelude.{Result, Ok, Err}
 use Rattle.yaml_text.specs.declared.types.yaml_scalar_style_t.{yaml_scalar_style_t}
-use Rattle.yaml_text.specs.declared.types.yaml_scalar_style_t.TheVariants.{YAML_PLAIN_SCALAR_STYLE}
-use Rattle.yaml_text.specs.declared.types.yaml_scalar_style_t.TheVariants.{YAML_SINGLE_QUOTED_SCALAR_STYLE}
-use Rattle.yaml_text.specs.declared.types.yaml_scalar_style_t.TheVariants.{YAML_DOUBLE_QUOTED_SCALAR_STYLE}
-use Rattle.yaml_text.specs.declared.types.yaml_scalar_style_t.TheVariants.{YAML_LITERAL_SCALAR_STYLE}
-use Rattle.yaml_text.specs.declared.types.yaml_scalar_style_t.TheVariants.{YAML_FOLDED_SCALAR_STYLE}
+use Rattle.yaml_text.specs.declared.types.yaml_scalar_style_t.TheVariants as styles
 use Rattle.yaml_text.specs.Token.{TokenData as unnamed_yaml_token_t_data}
 use Rattle.yaml_text.specs.Token.{TokenData as token}
 use Rattle.yaml_text.specs.Fault.{Fault, scanner_fault}
@@ -53,10 +49,10 @@ len_of kind.DOCUMENT_END = 3
 len_of k = 1
 
 abbrev pub block_style : Bool → yaml_scalar_style_t
-block_style folded = if folded then YAML_FOLDED_SCALAR_STYLE else YAML_LITERAL_SCALAR_STYLE
+block_style folded = if folded then styles.YAML_FOLDED_SCALAR_STYLE else styles.YAML_LITERAL_SCALAR_STYLE
 
 abbrev pub quoted_style : Bool → yaml_scalar_style_t
-quoted_style single = if single then YAML_SINGLE_QUOTED_SCALAR_STYLE else YAML_DOUBLE_QUOTED_SCALAR_STYLE
+quoted_style single = if single then styles.YAML_SINGLE_QUOTED_SCALAR_STYLE else styles.YAML_DOUBLE_QUOTED_SCALAR_STYLE
 
 -- what an anchor or an alias says
 abbrev pub named : Bool → List ℕ → unnamed_yaml_token_t_data
@@ -73,11 +69,12 @@ lex kind.DIRECTIVE context p = lexeme directive_to p (directive p)
 lex kind.ALIAS context p = lexeme (whole token.ALIAS) p (name p)
 lex kind.ANCHOR context p = lexeme (whole token.ANCHOR) p (name p)
 lex kind.TAG context p = lexeme (whole (λ t. t)) p (tag (in_flow context) p)
-lex kind.LITERAL context p = lexeme (scalar_to YAML_LITERAL_SCALAR_STYLE) p (block false context.level p)
-lex kind.FOLDED context p = lexeme (scalar_to YAML_FOLDED_SCALAR_STYLE) p (block true context.level p)
-lex kind.SINGLE_QUOTED context p = lexeme (whole (quoted_as YAML_SINGLE_QUOTED_SCALAR_STYLE)) p (quoted true p)
-lex kind.DOUBLE_QUOTED context p = lexeme (whole (quoted_as YAML_DOUBLE_QUOTED_SCALAR_STYLE)) p (quoted false p)
-lex kind.PLAIN context p = lexeme (scalar_to YAML_PLAIN_SCALAR_STYLE) p (plain (in_flow context) (least context) p)
+lex kind.LITERAL context p = lexeme (scalar_to (block_style false)) p (block false context.level p)
+lex kind.FOLDED context p = lexeme (scalar_to (block_style true)) p (block true context.level p)
+lex kind.SINGLE_QUOTED context p = lexeme (whole (quoted_as (quoted_style true))) p (quoted true p)
+lex kind.DOUBLE_QUOTED context p = lexeme (whole (quoted_as (quoted_style false))) p (quoted false p)
+lex kind.PLAIN context p =
+    lexeme (scalar_to styles.YAML_PLAIN_SCALAR_STYLE) p (plain (in_flow context) (least context) p)
 lex k context p = lexeme (whole says_of) p (found k (skip (len_of k) p))
 
 -- kinds whose lexemes need no memory, and are never refused

@@ -41,11 +41,11 @@ chunk flow p =
 abbrev pub is_bad_tab : ℕ → Bool → Place → Bool
 is_bad_tab least broken p = (first p == 0x09 && broken) && nat_lt p.mark.column least
 
--- k characters into the separator at p is one
+-- k characters after p, in the separator there, is a tab in indentation
 abbrev pub has_bad_tab : ℕ → Place → ℕ → Bool
 has_bad_tab least p k = is_bad_tab least (list_any is_break (take k p.rest)) (skip k p)
 
--- the first one in the separator at p
+-- the place of the first tab in indentation, if the separator at p has one
 abbrev pub bad_tab : ℕ → Place → Option Place
 bad_tab least p = option_map (λ k. skip k p) (find (has_bad_tab least p) (range_with_len 0 (run_len is_white p)))
 
@@ -53,7 +53,7 @@ abbrev pub untabbed : Option Place → List ℕ → Place → Read (List ℕ)
 untabbed None value p = found value p
 untabbed (Some tab) value p = refuse TAB_IN_PLAIN tab
 
--- the longest run of blanks and breaks, with no tab in indentation
+-- The longest run of blanks and breaks, with its value. A tab in indentation is an offence.
 unfoldable pub separator : ℕ → Place → Read (List ℕ)
 separator least p = untabbed (bad_tab least p) (fold (run is_white p)) (behind is_white p)
 

@@ -11,17 +11,17 @@ use Rattle.yaml_lexeme.specs.Gap.{is_gap_blank}
 use Rattle.yaml_lexeme.specs.Place.{Place, run_len, skip}
 
 -- the characters of a line that mean something in a scalar, so that a run stops there
-abbrev pub is_mark : class_t → ℕ → Bool
-is_mark DOUBLE c = c == 0x22 || c == 0x5C
-is_mark SINGLE c = c == 0x27
-is_mark PLAIN c = c == 0x3A || c == 0x23
-is_mark FLOW c = (c == 0x3A || c == 0x23) || (c == 0x2C || ((c == 0x5B || c == 0x5D) || (c == 0x7B || c == 0x7D)))
-is_mark BLANK c = false
-is_mark (GAP_BLANK tabs) c = false
-is_mark SPACE c = false
-is_mark BLANK_OR_BREAK c = false
-is_mark ALPHA c = false
-is_mark IN_LINE c = false
+abbrev pub is_special : class_t → ℕ → Bool
+is_special DOUBLE c = c == 0x22 || c == 0x5C
+is_special SINGLE c = c == 0x27
+is_special PLAIN c = c == 0x3A || c == 0x23
+is_special FLOW c = (c == 0x3A || c == 0x23) || (c == 0x2C || ((c == 0x5B || c == 0x5D) || (c == 0x7B || c == 0x7D)))
+is_special BLANK c = false
+is_special (GAP_BLANK tabs) c = false
+is_special SPACE c = false
+is_special BLANK_OR_BREAK c = false
+is_special ALPHA c = false
+is_special IN_LINE c = false
 
 -- a run of the class takes the character
 abbrev pub class_test : class_t → ℕ → Bool
@@ -31,10 +31,10 @@ class_test SPACE c = c == 0x20
 class_test BLANK_OR_BREAK c = is_white c
 class_test ALPHA c = is_alpha c
 class_test IN_LINE c = is_in_line c
-class_test DOUBLE c = is_in_line c && not (is_mark DOUBLE c)
-class_test SINGLE c = is_in_line c && not (is_mark SINGLE c)
-class_test PLAIN c = is_in_line c && not (is_mark PLAIN c)
-class_test FLOW c = is_in_line c && not (is_mark FLOW c)
+class_test DOUBLE c = is_in_line c && not (is_special DOUBLE c)
+class_test SINGLE c = is_in_line c && not (is_special SINGLE c)
+class_test PLAIN c = is_in_line c && not (is_special PLAIN c)
+class_test FLOW c = is_in_line c && not (is_special FLOW c)
 
 -- the class takes most characters of a line
 abbrev pub is_line : class_t → Bool
@@ -61,10 +61,10 @@ is_stop SPACE b = not (b == 0x20)
 is_stop BLANK_OR_BREAK b = not (is_blank b)
 is_stop ALPHA b = not (is_alpha b)
 is_stop IN_LINE b = may_break b
-is_stop DOUBLE b = is_mark DOUBLE b || may_break b
-is_stop SINGLE b = is_mark SINGLE b || may_break b
-is_stop PLAIN b = is_mark PLAIN b || may_break b
-is_stop FLOW b = is_mark FLOW b || may_break b
+is_stop DOUBLE b = is_special DOUBLE b || may_break b
+is_stop SINGLE b = is_special SINGLE b || may_break b
+is_stop PLAIN b = is_special PLAIN b || may_break b
+is_stop FLOW b = is_special FLOW b || may_break b
 
 abbrev pub is_quiet : class_t → ℕ → Bool
 is_quiet class b = not (is_stop class b)

@@ -13,14 +13,14 @@ use crate::runs::{class_t, is_in, quiet_len, spaces_len, trimmed};
 use std::marker::Model;
 use yaml_text::{WIDTH, yaml_mark_t, yaml_text_t};
 
-/// Whether a character is so many places on: past the end a text reads as 0.
+/// Whether the character `$k` places on is `$c`. Past the end a text reads as 0.
 macro_rules! check_at {
     ($cursor:expr, $c:expr, $k:expr) => {
         $cursor.peek($k) == $c
     };
 }
 
-/// Whether the character so many places on passes a test.
+/// Whether the character `$k` places on passes a test.
 macro_rules! is_at {
     ($cursor:expr, $test:expr, $k:expr) => {
         $test($cursor.peek($k))
@@ -339,7 +339,7 @@ impl<'a> cursor_t<'a> {
         self.bytes = rest(self.bytes, kept);
     }
 
-    /// Takes the spaces that are here, but at most so many.
+    /// Takes the spaces that are here, but at most `most`.
     #[inline(always)]
     pub fn skip_spaces(&mut self, most: u64)
         ensures { self.new ≡ skip (min (run_len (class_test SPACE) self.old) most) self.old }

@@ -81,8 +81,8 @@ fn is_alpha_byte(b: u8) -> bool
 }
 
 #[inline(always)]
-fn is_mark(class: class_t, b: u8) -> bool
-    ensures { result ≡ spec.is_mark class b }
+fn is_special(class: class_t, b: u8) -> bool
+    ensures { result ≡ spec.is_special class b }
 {
     match class {
         class_t::DOUBLE => b == b'"' || b == b'\\',
@@ -105,7 +105,7 @@ fn is_stop(class: class_t, b: u8) -> bool
         class_t::GAP_BLANK(tabs) => !(b == b' ' || (b == b'\t' && tabs)),
         class_t::SPACE => !(b == b' '),
         class_t::ALPHA => !is_alpha_byte(b),
-        _ => is_mark(class, b) || may_break(b),
+        _ => is_special(class, b) || may_break(b),
     }
 }
 

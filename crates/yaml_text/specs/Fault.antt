@@ -45,7 +45,7 @@ memory_fault = record {
   context_mark = zero_mark;
 }
 
--- The fault of an offence after so many bytes of the input.
+-- The fault of an offence, `before` bytes into the input.
 abbrev pub reader_fault : ℕ → offence_t → Fault
 reader_fault before o = record {
   error = YAML_READER_ERROR;

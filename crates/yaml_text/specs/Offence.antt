@@ -5,7 +5,7 @@ use Rattle.yaml_text.specs.declared.offence.problem_t.TheVariants.{LEAD, SHORT, 
 use Rattle.yaml_text.specs.declared.offence.problem_t.TheVariants.{HALF_UNIT, LOW_UNIT, HALF_PAIR, NO_LOW_UNIT}
 use Rattle.yaml_text.specs.declared.offence.offence_t.{offence_t}
 
--- A problem, so many bytes on, with a value to show.
+-- A problem, `offset` bytes on, with a value to show.
 abbrev pub offence_at : problem_t → ℕ → ℤ → offence_t
 offence_at problem offset value = record { problem = problem; offset = offset; value = value }
 

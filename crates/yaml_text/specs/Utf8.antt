@@ -44,7 +44,7 @@ value_of width bytes =
 abbrev pub value8 : List ℕ → ℕ
 value8 bytes = value_of (width_of (slice_index bytes 0)) bytes
 
--- The least value that needs so many octets.
+-- The least value that needs `width` octets.
 abbrev pub least_of : ℕ → ℕ
 least_of width = if width == 2 then 0x80 else if width == 3 then 0x800 else if width == 4 then 0x10000 else 0
 

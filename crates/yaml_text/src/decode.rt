@@ -58,7 +58,7 @@ fn front8(bytes: &[u8]) -> (usize, Option<offence_t>)
 
 /// The encoding that is set, or else that of the byte order mark, or else UTF-8; and how many bytes of such a
 /// mark are dropped.
-fn told(setting: yaml_encoding_t, input: &[u8]) -> (yaml_encoding_t, usize)
+fn find_encoding(setting: yaml_encoding_t, input: &[u8]) -> (yaml_encoding_t, usize)
     ensures encoding { result.0 ≡ encoding_of setting input.now }
     ensures dropped { result.1 ≡ dropped setting input.now }
     ensures within { result.1 ≤ length input.now }
@@ -74,7 +74,7 @@ fn told(setting: yaml_encoding_t, input: &[u8]) -> (yaml_encoding_t, usize)
     }
 }
 
-/// The fault of an offence after so many bytes.
+/// The fault of an offence, `before` bytes into the input.
 fn refusal(before: usize, offence: Option<offence_t>) -> Option<yaml_fault_t>
     requires { IfSome offence (λ o. before + o.offset < 2 ^ 64) }
     ensures { refusal_seen result ≡ option_map (reader_fault before) offence }
@@ -85,7 +85,7 @@ fn refusal(before: usize, offence: Option<offence_t>) -> Option<yaml_fault_t>
     }
 }
 
-/// The front in UTF-8, which is borrowed, after so many bytes of the input.
+/// The front in UTF-8 of bytes that begin `before` bytes into the input. It is borrowed.
 fn front_in_utf8<'a>(bytes: &'a [u8], before: usize) -> (yaml_text_t<'a>, Option<yaml_fault_t>)
     requires { before + length bytes.now < 2 ^ 64 }
     ensures { Fronts YAML_UTF8_ENCODING before bytes.now result.0 (refusal_seen result.1) }
@@ -105,7 +105,7 @@ fn order(big: bool) -> yaml_encoding_t
     }
 }
 
-/// The front in UTF-16, which is copied into UTF-8, after so many bytes of the input.
+/// The front in UTF-16 of bytes that begin `before` bytes into the input. It is copied into UTF-8.
 fn front_in_utf16<'a>(
     alloc: Global,
     bytes: &[u8],
@@ -144,7 +144,7 @@ pub fn yaml_decode_front<'a>(
     ensures memory { IfErr result (λ fault. fault_of fault ≡ memory_fault) }
     ensures borrowed { encoding_of setting input.now ≡ YAML_UTF8_ENCODING → IsOk result }
 {
-    let (encoding, before) = told(setting, input);
+    let (encoding, before) = find_encoding(setting, input);
     let bytes = from(input, before);
     match encoding {
         yaml_encoding_t::YAML_UTF16LE_ENCODING => Ok(front_in_utf16(alloc, bytes, false, before)?),

@@ -51,7 +51,7 @@ pub(crate) fn make_memory_fault() -> yaml_fault_t
     }
 }
 
-/// The fault of an offence after so many bytes of the input.
+/// The fault of an offence, `before` bytes into the input.
 pub(crate) fn make_reader_fault(before: u64, offence: offence_t) -> yaml_fault_t
     requires { before + offence.offset < 2 ^ 64 }
     ensures { fault_of result ≡ reader_fault before offence }

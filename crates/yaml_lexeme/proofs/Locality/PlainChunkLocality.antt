@@ -37,7 +37,7 @@ then_like : (flow : Bool) (cs : List ℕ) → IsLike (chunk_then flow cs)
 then_like flow cs n p q a =
     like_if (is_bad_colon flow (first p) (peek p 1)) (is_bad_colon flow (first q) (peek q 1)) (λ h. rw (a.same 0 (omega arith), a.same 1 (omega arith)) refl) refuse_here found_here
 
--- so many characters, and what is read after them
+-- the first characters, and what is read after them
 like_take : {A : Type 0} (read : List ℕ → Place → Read A) → ((cs : List ℕ) → IsLike (read cs)) → (j k n : ℕ) (p q : Place) → Agree n p q → (j + 8 ≤ n → k ≡ j)
     → Like n p q (read (take j p.rest) (skip j p)) (read (take k q.rest) (skip k q))
 like_take read all j k n p q a e =

@@ -175,9 +175,9 @@ pub record Told (setting : yaml_encoding_t) (input : List ℕ) (text : Text) (fa
   pub text_is : text ≡ front setting input
   pub refusal_is : fault ≡ refusal setting input
 
-pub told : (setting : yaml_encoding_t) (input : List ℕ) (e f : yaml_encoding_t) (before : ℕ) (bytes : List ℕ) (text : Text) (fault : Option Fault) → f ≡ encoding_of setting input → f ≡ e → before ≡ dropped setting input → bytes ≡ drop before input
+pub by_encoding : (setting : yaml_encoding_t) (input : List ℕ) (e f : yaml_encoding_t) (before : ℕ) (bytes : List ℕ) (text : Text) (fault : Option Fault) → f ≡ encoding_of setting input → f ≡ e → before ≡ dropped setting input → bytes ≡ drop before input
     → Fronts e before bytes text fault → Told setting input text fault
-told setting input e f before bytes text fault f-is e-is before-is bytes-is found =
+by_encoding setting input e f before bytes text fault f-is e-is before-is bytes-is found =
     let at-bytes : bytes ≡ behind_mark setting input = bytes-is ∙ ap (λ n. drop n input) before-is in
     let one = subst (λ (x : yaml_encoding_t). Fronts x before bytes text fault) (sym e-is ∙ f-is) found in
     let two = subst (λ (x : ℕ). Fronts (encoding_of setting input) x bytes text fault) before-is one in
