@@ -317,8 +317,12 @@ pub fn wrong_words() -> io::Error {
     io::Error::from(io::ErrorKind::InvalidInput)
 }
 
-/// Runs the command of the words: `each ENC LIMIT WORD`, `calls ENC LIMIT WORD..`, `all ENC LIMIT` or
-/// `decode ENC`.
+/// Runs the command of the words: `each ENC LIMIT WORD`, `calls ENC LIMIT WORD..`, `all ENC LIMIT` or `decode ENC`.
+///
+/// # Errors
+///
+/// `InvalidInput` if the words are no command, and otherwise the error of the read, the write or the request for memory
+/// that failed.
 pub fn list_session(rt: &HostRuntime, words: &[String]) -> io::Result<()> {
     let [command, setting, rest @ ..] = words else {
         return Err(wrong_words());

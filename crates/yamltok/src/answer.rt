@@ -152,6 +152,10 @@ fn list_called(
 }
 
 /// The listing of the command's answer to the input, and whether a fault's line is in it.
+///
+/// # Errors
+///
+/// `AllocError` if there is no memory for the listing.
 pub fn answer_to(
     alloc: Global,
     input: &[u8],
