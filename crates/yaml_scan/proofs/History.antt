@@ -5,6 +5,8 @@ pub mod KindTests
 pub mod HistoryOrder
 -- The depth after one lexeme more.
 pub mod DepthOneOn
+-- Whether a key is allowed after one lexeme more, which the depth after it decides.
+pub mod AllowedOneOn
 -- The candidate of each depth after one lexeme more, and where in a history it is.
 pub mod KeyCandidates
 -- The open columns after one lexeme more.

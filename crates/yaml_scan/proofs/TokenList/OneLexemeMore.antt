@@ -1,44 +1,35 @@
 -- The laws of a list with one lexeme more, put together from the files above.
-use Rattle.std.proofs.Common.{◌≡◌, ℕ, not, Bool, true, false, List, [], ◌∷◌, ◌++◌, length, filter, slice_get, Option, Some, None, refl, ap, sym, ◌∙◌, subst, arith, inl, inr}
+use Rattle.std.proofs.Common.{◌≡◌, ℕ, not, Bool, true, false, List, [], ◌∷◌, ◌++◌, length, filter, slice_get, Option}
+use Rattle.std.proofs.Common.{Some, None, refl, ap, sym, ◌∙◌, subst, arith, inl, inr}
 use Rattle.std.specs.Prelude.{if◌then◌else◌, option_map, nat_eq}
 use Rattle.std.proofs.lemmas.Bool.{cases_Bool, false≢true}
 use Rattle.std.proofs.lemmas.List.{take_at, drop_at}
-use Rattle.yaml_scan.specs.Kind.{is_flow_start, is_flow_end}
 use Rattle.yaml_scan.specs.Laid.{Laid}
 use Rattle.yaml_scan.specs.Depth.{depth}
-use Rattle.yaml_scan.specs.Allowed.{allowed}
 use Rattle.yaml_scan.specs.Keys.{candidate, is_candidate, enters, completed_by}
 use Rattle.yaml_scan.specs.Levels.{open_columns, kept_columns, level, greatest_level, keeps, IsFalling}
-use Rattle.yaml_scan.specs.Groups.{Token, group, groups, offline, block_ends}
+use Rattle.yaml_scan.specs.Groups.{Token, group, groups, offline, block_ends, put_in}
 use Rattle.yaml_scan.specs.Settled.{up_to}
 use Rattle.yaml_scan.specs.Groups.Token.{OfLexeme}
 use Rattle.yaml_scan.specs.Order.{IsHistory, ended}
-use Rattle.yaml_scan.specs.Groups.{put_in}
-use Rattle.yaml_scan.specs.Laws.{DepthGoesOn, CandidatesGoOn, CandidatesAreNested, AllowedGoesOn, new_column}
-use Rattle.yaml_scan.specs.Laws.{ColumnsGoOn, ColumnsFall, first_of, LevelIsFirst, LevelStays, key_tokens, with_key}
-use Rattle.yaml_scan.specs.Laws.{OfflineGoesOn, CandidateStandsThere, NeverRevised, FewWait, FewWaitOneStepOn}
-use Rattle.yaml_scan.specs.Laws.{AllIsHandedOut, LexemesComeInOrder, EndsNeverOutnumber, AsManyEnds}
-use Rattle.yaml_scan.proofs.History.KindTests.{flow_kinds, end_no_start, end_no_end}
-use Rattle.yaml_scan.proofs.History.DepthOneOn.{depth-start, depth-end, depth-same}
-use Rattle.yaml_scan.proofs.History.KeyCandidates.{candidate-entered, candidate-other, candidate-saved, candidate-kept, candidate-cleared, candidate_split}
+use Rattle.yaml_scan.specs.Laws.{CandidatesGoOn, CandidatesAreNested, new_column, ColumnsGoOn, ColumnsFall, first_of}
+use Rattle.yaml_scan.specs.Laws.{LevelIsFirst, LevelStays, key_tokens, with_key, OfflineGoesOn, CandidateStandsThere}
+use Rattle.yaml_scan.specs.Laws.{NeverRevised, FewWait, FewWaitOneStepOn, AllIsHandedOut, LexemesComeInOrder}
+use Rattle.yaml_scan.specs.Laws.{EndsNeverOutnumber, AsManyEnds}
+use Rattle.yaml_scan.proofs.History.KindTests.{end_no_start, end_no_end}
+use Rattle.yaml_scan.proofs.History.DepthOneOn.{depth-same}
+use Rattle.yaml_scan.proofs.History.KeyCandidates.{candidate-entered, candidate-other, candidate-saved, candidate-kept}
+use Rattle.yaml_scan.proofs.History.KeyCandidates.{candidate-cleared, candidate_split}
 use Rattle.yaml_scan.proofs.History.HistoryOrder.{laid_completed, completion_is}
 use Rattle.yaml_scan.proofs.TokenList.NeverRevised.{up_to-split}
 use Rattle.yaml_scan.proofs.TokenList.SettledStays.{before-before, before-offline_of_more}
 use Rattle.yaml_scan.proofs.TokenList.QueueBound.{queued_none, queued_few, queued_fewer}
-use Rattle.yaml_scan.proofs.TokenList.GroupInsertion.{offline-more_none, offline-more_some, groups_was, groups_from, candidate_not_completed}
+use Rattle.yaml_scan.proofs.TokenList.GroupInsertion.{offline-more_none, offline-more_some, groups_was, groups_from}
+use Rattle.yaml_scan.proofs.TokenList.GroupInsertion.{candidate_not_completed}
 use Rattle.yaml_scan.proofs.History.LevelColumns.{open_columns-none, open_columns-some}
 use Rattle.yaml_scan.proofs.History.LevelsFall.{open_columns-falls, level_first, level-candidate, falling_filter}
 use Rattle.yaml_scan.proofs.TokenList.AllSettled.{waiting-ended, before-ended, candidate_above, candidate_order}
 use Rattle.yaml_scan.proofs.TokenList.BlockEnds.{lexeme_tokens, never_more_ends, as_many_ends}
-
-pub depth_goes_on : DepthGoesOn
-depth_goes_on i H = elim (cases_Bool (is_flow_start i.lexeme.kind)) [
-  | inl s ↦ rw s (depth-start i H s (flow_kinds i.lexeme.kind s))
-  | inr s ↦ elim (cases_Bool (is_flow_end i.lexeme.kind)) [
-    | inl t ↦ rw (s, t) (depth-end i H s t)
-    | inr t ↦ rw (s, t) (depth-same i H s t)
-  ]
-]
 
 pub candidates_go_on : CandidatesGoOn
 candidates_go_on i H k = go (enters k i) (nat_eq i.depth k) (is_candidate i) i.key_allowed refl refl refl refl
@@ -53,10 +44,6 @@ candidates_go_on i H k = go (enters k i) (nat_eq i.depth k) (is_candidate i) i.k
 
 pub candidates_are_nested : CandidatesAreNested
 candidates_are_nested limit H h = (λ k l. candidate_above limit H k h (omega arith), λ k n c d s t l m. let r = candidate_order limit H k n c d h s t (omega arith) m in omega arith)
-
-pub allowed_goes_on : AllowedGoesOn
-unfolding allowed
-allowed_goes_on i H g = rw (depth_goes_on i H) refl
 
 -- by what is completed
 completed_same : (limit : ℕ) (i : Laid) (H : List Laid) → IsHistory limit (i ∷ H) → (o : Option Laid) → completed_by limit H i.lexeme.kind i.lexeme.start ≡ o → i.completed ≡ option_map (λ c. c.number) o

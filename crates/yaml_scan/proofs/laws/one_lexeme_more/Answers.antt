@@ -1,4 +1,5 @@
-use Rattle.yaml_scan.proofs.TokenList.OneLexemeMore.{depth_goes_on, candidates_go_on, candidates_are_nested, allowed_goes_on, columns_go_on, columns_fall, level_is_first, level_stays}
+use Rattle.yaml_scan.proofs.History.AllowedOneOn.{depth_goes_on, allowed_goes_on}
+use Rattle.yaml_scan.proofs.TokenList.OneLexemeMore.{candidates_go_on, candidates_are_nested, columns_go_on, columns_fall, level_is_first, level_stays}
 use Rattle.yaml_scan.proofs.laws.one_lexeme_more.Goals as goal
 
 pub returns : goal.returns
