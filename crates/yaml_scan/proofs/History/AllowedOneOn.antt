@@ -1,5 +1,5 @@
 -- Whether a key is allowed after one lexeme more, which the depth after it decides.
-use Rattle.std.proofs.Common.{true, false, List, ◌∷◌, refl, inl, inr}
+use Rattle.std.proofs.Common.{refl, inl, inr}
 use Rattle.std.proofs.lemmas.Bool.{cases_Bool}
 use Rattle.yaml_scan.specs.Kind.{is_flow_start, is_flow_end}
 use Rattle.yaml_scan.specs.Allowed.{allowed}

@@ -1,5 +1,5 @@
 -- The answers to a peek, a scan and a skip are those of the session.
-use Rattle.std.proofs.Common.{◌≡◌, ℕ, zero, suc, ◌+◌, ◌-◌, ◌≤◌, ◌<◌, Bool, true, false, List, [], ◌∷◌, ◌++◌, length, length-append, drop, slice_get, Option, Some, None, Ok, Err, refl, ap, sym, ◌∙◌, subst, arith, inl, inr, append_assoc}
+use Rattle.std.proofs.Common.{◌≡◌, ℕ, zero, suc, ◌+◌, ◌-◌, ◌≤◌, ◌<◌, Bool, true, false, List, [], ◌∷◌, ◌++◌, length, length-append, drop, slice_get, Option, Some, None, Err, refl, ap, sym, ◌∙◌, subst, arith, inl, inr, append_assoc}
 use Rattle.std.specs.Prelude.{◌⊎◌, if◌then◌else◌}
 use Rattle.std.proofs.lemmas.Bool.{cases_lt, false≢true}
 use Rattle.yaml_text.specs.declared.types.yaml_encoding_t.{yaml_encoding_t}
@@ -14,8 +14,8 @@ use Rattle.yaml_scan.specs.Settled.{before}
 use Rattle.yaml_scan.specs.Groups.Token.{StreamStart, BlockEnd, BlockSequenceStart, BlockMappingStart, InsertedKey, OfLexeme}
 use Rattle.yaml_scan.specs.Answers.{Input, Course, course, tokens_of}
 use Rattle.yaml_scan.specs.Near.{starts_near}
-use Rattle.yaml_scan.specs.Session.{Session, Call, Answer, all_steps, next_token, is_last, after, answer, took, paced}
-use Rattle.yaml_scan.specs.Session.{looked, finished, why, scan_answer, peek_answer, after_scan, after_peek, after_skip}
+use Rattle.yaml_scan.specs.Session.{Session, Call, Answer, all_steps, next_token, is_last, after, took, paced}
+use Rattle.yaml_scan.specs.Session.{looked, why, scan_answer, peek_answer, after_scan, after_peek, after_skip}
 use Rattle.yaml_scan.specs.Settled.{pace, first_steps}
 use Rattle.yaml_scan.specs.Session.Call.{SCAN, PEEK, SKIP}
 use Rattle.yaml_scan.specs.Session.Answer.{TOKEN, PEEKED, FAULT}

@@ -18,7 +18,6 @@ use Rattle.yaml_scan.specs.Levels.{open_columns}
 use Rattle.yaml_scan.specs.inside.Slots.{held, outer_to}
 use Rattle.yaml_scan.specs.Step.{stale, required}
 use Rattle.yaml_scan.specs.Groups.{Token, offline, groups}
-use Rattle.yaml_scan.specs.Settled.{before, waiting, up_to}
 use Rattle.yaml_scan.specs.Groups.Token.{StreamStart}
 use Rattle.yaml_scan.specs.Cut.{oldest}
 use Rattle.yaml_scan.specs.Answers.{course}

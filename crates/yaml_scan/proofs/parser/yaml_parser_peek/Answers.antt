@@ -1,9 +1,7 @@
-use Rattle.std.proofs.Common.{Bool, refl, sym, subst, inl, inr}
+use Rattle.std.proofs.Common.{Bool, refl, sym, subst}
 use Rattle.yaml_scan.specs.Token.{yaml_token_t}
-use Rattle.yaml_scan.specs.Parser.{Parser}
 use Rattle.yaml_scan.specs.Headline.{Calls}
 use Rattle.yaml_scan.specs.inside.Shown.{Shows}
-use Rattle.yaml_scan.specs.Session.{Answer}
 use Rattle.yaml_scan.specs.Session.Call.{PEEK}
 use Rattle.yaml_scan.specs.Session.Answer.{PEEKED, FAULT}
 use Rattle.yaml_text.specs.Fault.{fault_of}
