@@ -55,8 +55,8 @@ abbrev pub quoted_style : Bool → yaml_scalar_style_t
 quoted_style single = if single then styles.YAML_SINGLE_QUOTED_SCALAR_STYLE else styles.YAML_DOUBLE_QUOTED_SCALAR_STYLE
 
 -- what an anchor or an alias says
-abbrev pub named : Bool → List ℕ → unnamed_yaml_token_t_data
-named anchor name = if anchor then token.ANCHOR name else token.ALIAS name
+abbrev pub anchor_or_alias : Bool → List ℕ → unnamed_yaml_token_t_data
+anchor_or_alias anchor name = if anchor then token.ANCHOR name else token.ALIAS name
 
 -- what a quoted scalar says
 abbrev pub quoted_as : yaml_scalar_style_t → List ℕ → unnamed_yaml_token_t_data

@@ -100,8 +100,8 @@ fn take_characters(
 }
 
 /// What an anchor or an alias says.
-fn named(anchor: bool, value: Vec<u8>) -> unnamed_yaml_token_t_data
-    ensures { data_of result ≡ spec.named anchor value.items }
+fn anchor_or_alias(anchor: bool, value: Vec<u8>) -> unnamed_yaml_token_t_data
+    ensures { data_of result ≡ spec.anchor_or_alias anchor value.items }
 {
     if anchor {
         unnamed_yaml_token_t_data::ANCHOR { value }
@@ -112,17 +112,17 @@ fn named(anchor: bool, value: Vec<u8>) -> unnamed_yaml_token_t_data
 
 /// Takes an anchor or an alias.
 #[inline(never)]
-fn take_named(
+fn take_anchor_or_alias(
     alloc: Global,
     cursor: &mut cursor_t,
     anchor: bool,
 ) -> Result<yaml_lexeme_t, refusal_t>
     ensures { Gives lexeme_of result cursor.new
-        (lexeme (whole (spec.named anchor)) cursor.old (names.name cursor.old)) }
+        (lexeme (whole (spec.anchor_or_alias anchor)) cursor.old (names.name cursor.old)) }
 {
     let start = cursor.mark();
     let value = take_name(alloc, cursor)?;
-    Ok(whole_of(named(anchor, value), start, cursor.mark()))
+    Ok(whole_of(anchor_or_alias(anchor, value), start, cursor.mark()))
 }
 
 /// Takes a tag.
@@ -257,8 +257,8 @@ fn take_lexeme(
         yaml_lexeme_kind_t::KEY => take_characters(cursor, kind),
         yaml_lexeme_kind_t::VALUE => take_characters(cursor, kind),
         yaml_lexeme_kind_t::DIRECTIVE => take_whole_directive(alloc, cursor),
-        yaml_lexeme_kind_t::ALIAS => take_named(alloc, cursor, false),
-        yaml_lexeme_kind_t::ANCHOR => take_named(alloc, cursor, true),
+        yaml_lexeme_kind_t::ALIAS => take_anchor_or_alias(alloc, cursor, false),
+        yaml_lexeme_kind_t::ANCHOR => take_anchor_or_alias(alloc, cursor, true),
         yaml_lexeme_kind_t::TAG => take_whole_tag(alloc, cursor, context),
         yaml_lexeme_kind_t::LITERAL => take_block_scalar(alloc, cursor, false, context),
         yaml_lexeme_kind_t::FOLDED => take_block_scalar(alloc, cursor, true, context),
