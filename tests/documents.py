@@ -7,6 +7,8 @@ One line of output for each check; what is wrong is printed before it. The check
   any name. Paths are from the repository's root, or from the document's folder.
 - rules: in RULES.md every heading has a line with a definition and a code file, and a link to it. What that line names is
   in the file that it names: a definition in parentheses, and a test.
+- topics: the topic of a rule is the name of its first definition file. The line names a code file of that name, a folder or
+  a file of proofs that begins with it (or says that there is none by hand), and a test whose name has it.
 - proofs: PROOFS.md names every law, every public function and every file of lemmas of each crate, and no others.
 - lemmas: every file of lemmas begins with a line that says what it shows. So does the file that lists a folder of them, and
   it has a line `mod NAME` for each file there, with a sentence on the line before it or after it on the same line. A crate
@@ -152,6 +154,30 @@ def check_rules():
     return len(sections), wrong
 
 
+# TOPICS
+
+def is_found(topic, code, proofs, shown):
+    """What of a rule cannot be found by its topic."""
+    words = re.findall(r"[A-Z][a-z0-9]*", topic)
+    name, stem = "_".join(words).lower(), re.sub(r"(e?s)$", "", "_".join(words).lower())
+    lemmas = rf"/proofs/(?:{name}/|(?:\w+/)?{re.sub('(e?s)$', '', topic)}\w*\.antt)"
+    if f"/src/{name}.rt" not in code:
+        yield "code"
+    if "none by hand" not in proofs and not re.search(lemmas, proofs):
+        yield "proof"
+    if not re.search(rf"`[^`]*{stem}[^`]*`", shown):
+        yield "test"
+
+
+def check_topics():
+    wrong, lines = [], re.findall(r"^\*Definition:\*.*", read("docs/RULES.md"), re.M)
+    for line in lines:
+        definition, code, proofs, shown = re.split(r"\*(?:Code|Proofs|Shown by):\*", line)
+        topic = re.search(r"/specs/(\w+)\.antt", definition)[1]
+        wrong += [f"RULES.md: {topic} has no {what} of its name" for what in is_found(topic, code, proofs, shown)]
+    return len(lines), wrong
+
+
 # PROOFS
 
 def functions_of(crate):
@@ -264,8 +290,9 @@ def check_lines():
     return count, wrong
 
 
-CHECKS = {"paths": check_paths, "rules": check_rules, "laws, functions and lemma files": check_proofs,
-          "lemma files": check_lemmas, "edits": check_edits, "lines": check_lines}
+CHECKS = {"paths": check_paths, "rules": check_rules, "topics": check_topics,
+          "laws, functions and lemma files": check_proofs, "lemma files": check_lemmas, "edits": check_edits,
+          "lines": check_lines}
 
 
 def main():

@@ -642,8 +642,8 @@ fn encodings(rt: HostRuntime) -> Result<(), Fail> {
     expect_rows(&rt, &ENCODINGS)
 }
 
-/// Faults of kind scanner, and the tokens before them.
-const SCANNER_FAULTS: [row_t; 16] = [
+/// Faults of steps: a missing `:`, an indicator where no key is allowed, and characters that begin no token.
+const STEP_FAULTS: [row_t; 9] = [
     (
         "scan any",
         b"a:\n  b: 1\n\"x\ny\": z",
@@ -703,6 +703,75 @@ FAULT scanner 11:1:1 11:1:1 -; mapping values are not allowed in this context
     ),
     (
         "scan any",
+        b"] a: 1",
+        1,
+        "\
+STREAM-START 0:0:0 0:0:0 UTF8
+FLOW-SEQUENCE-END 0:0:0 1:0:1
+SCALAR 2:0:2 3:0:3 plain 61
+FAULT scanner 3:0:3 3:0:3 -; mapping values are not allowed in this context
+",
+    ),
+    (
+        "scan any",
+        b"a:\n\tb",
+        1,
+        "\
+STREAM-START 0:0:0 0:0:0 UTF8
+BLOCK-MAPPING-START 0:0:0 0:0:0
+KEY 0:0:0 0:0:0
+SCALAR 0:0:0 1:0:1 plain 61
+VALUE 1:0:1 2:0:2
+FAULT scanner 3:1:0 3:1:0 while scanning for the next token; found character that cannot start any token
+",
+    ),
+    (
+        "scan any",
+        b"a: - b",
+        1,
+        "\
+STREAM-START 0:0:0 0:0:0 UTF8
+BLOCK-MAPPING-START 0:0:0 0:0:0
+KEY 0:0:0 0:0:0
+SCALAR 0:0:0 1:0:1 plain 61
+VALUE 1:0:1 2:0:2
+FAULT scanner 3:0:3 3:0:3 -; block sequence entries are not allowed in this context
+",
+    ),
+    (
+        "scan any",
+        b"\"a\" ? b",
+        1,
+        "\
+STREAM-START 0:0:0 0:0:0 UTF8
+FAULT scanner 4:0:4 4:0:4 -; mapping keys are not allowed in this context
+",
+    ),
+    (
+        "scan any",
+        b"a: b: cdefgh\xFF",
+        1,
+        "\
+STREAM-START 0:0:0 0:0:0 UTF8
+BLOCK-MAPPING-START 0:0:0 0:0:0
+KEY 0:0:0 0:0:0
+SCALAR 0:0:0 1:0:1 plain 61
+VALUE 1:0:1 2:0:2
+SCALAR 3:0:3 4:0:4 plain 62
+FAULT scanner 4:0:4 4:0:4 -; mapping values are not allowed in this context
+",
+    ),
+];
+
+#[test]
+fn step_faults(rt: HostRuntime) -> Result<(), Fail> {
+    expect_rows(&rt, &STEP_FAULTS)
+}
+
+/// Faults of lexemes, with their texts.
+const FAULT_TEXTS: [row_t; 7] = [
+    (
+        "scan any",
         b"{a:}",
         1,
         "\
@@ -730,30 +799,6 @@ FAULT scanner 0:0:0 3:0:3 while parsing a quoted scalar; did not find expected h
     ),
     (
         "scan any",
-        b"] a: 1",
-        1,
-        "\
-STREAM-START 0:0:0 0:0:0 UTF8
-FLOW-SEQUENCE-END 0:0:0 1:0:1
-SCALAR 2:0:2 3:0:3 plain 61
-FAULT scanner 3:0:3 3:0:3 -; mapping values are not allowed in this context
-",
-    ),
-    (
-        "scan any",
-        b"a:\n\tb",
-        1,
-        "\
-STREAM-START 0:0:0 0:0:0 UTF8
-BLOCK-MAPPING-START 0:0:0 0:0:0
-KEY 0:0:0 0:0:0
-SCALAR 0:0:0 1:0:1 plain 61
-VALUE 1:0:1 2:0:2
-FAULT scanner 3:1:0 3:1:0 while scanning for the next token; found character that cannot start any token
-",
-    ),
-    (
-        "scan any",
         b"a: b\n\tc",
         1,
         "\
@@ -763,28 +808,6 @@ KEY 0:0:0 0:0:0
 SCALAR 0:0:0 1:0:1 plain 61
 VALUE 1:0:1 2:0:2
 FAULT scanner 3:0:3 5:1:0 while scanning a plain scalar; found a tab character that violates indentation
-",
-    ),
-    (
-        "scan any",
-        b"a: - b",
-        1,
-        "\
-STREAM-START 0:0:0 0:0:0 UTF8
-BLOCK-MAPPING-START 0:0:0 0:0:0
-KEY 0:0:0 0:0:0
-SCALAR 0:0:0 1:0:1 plain 61
-VALUE 1:0:1 2:0:2
-FAULT scanner 3:0:3 3:0:3 -; block sequence entries are not allowed in this context
-",
-    ),
-    (
-        "scan any",
-        b"\"a\" ? b",
-        1,
-        "\
-STREAM-START 0:0:0 0:0:0 UTF8
-FAULT scanner 4:0:4 4:0:4 -; mapping keys are not allowed in this context
 ",
     ),
     (
@@ -814,25 +837,11 @@ STREAM-START 0:0:0 0:0:0 UTF8
 FAULT scanner 0:0:0 1:0:1 while parsing a tag; found an incorrect leading UTF-8 octet
 ",
     ),
-    (
-        "scan any",
-        b"a: b: cdefgh\xFF",
-        1,
-        "\
-STREAM-START 0:0:0 0:0:0 UTF8
-BLOCK-MAPPING-START 0:0:0 0:0:0
-KEY 0:0:0 0:0:0
-SCALAR 0:0:0 1:0:1 plain 61
-VALUE 1:0:1 2:0:2
-SCALAR 3:0:3 4:0:4 plain 62
-FAULT scanner 4:0:4 4:0:4 -; mapping values are not allowed in this context
-",
-    ),
 ];
 
 #[test]
-fn scanner_faults(rt: HostRuntime) -> Result<(), Fail> {
-    expect_rows(&rt, &SCANNER_FAULTS)
+fn fault_texts_of_lexemes(rt: HostRuntime) -> Result<(), Fail> {
+    expect_rows(&rt, &FAULT_TEXTS)
 }
 
 /// Faults of kind reader, and the tokens before the step that is near them.

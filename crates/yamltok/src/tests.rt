@@ -310,7 +310,7 @@ fn put_scanner_fault(
 }
 
 #[test]
-fn fault_lines(rt: HostRuntime) -> Result<(), Fail> {
+fn listing_of_faults(rt: HostRuntime) -> Result<(), Fail> {
     let mut out = Vec::new(rt.alloc());
     out.push(b'>')?;
     put_memory_fault(&mut out)?;
@@ -446,7 +446,7 @@ fn put_tokens(alloc: Global, out: &mut Vec<u8>) -> Result<(), AllocError> {
 }
 
 #[test]
-fn token_lines(rt: HostRuntime) -> Result<(), Fail> {
+fn listing_of_tokens(rt: HostRuntime) -> Result<(), Fail> {
     let alloc = rt.alloc();
     let mut out = Vec::new(alloc);
     out.push(b'>')?;
@@ -487,7 +487,7 @@ fn put_peeks(out: &mut Vec<u8>) -> Result<(), AllocError> {
 }
 
 #[test]
-fn peek_lines(rt: HostRuntime) -> Result<(), Fail> {
+fn listing_of_peeks(rt: HostRuntime) -> Result<(), Fail> {
     let mut out = Vec::new(rt.alloc());
     put_peeks(&mut out)?;
     let lines = "\
