@@ -19,3 +19,5 @@ pub mod KeyValues
 pub mod GroupSizes
 -- The laws of a list with one lexeme more, put together from the files above.
 pub mod OneLexemeMore
+-- What holds of the tokens that the layout puts in, and of the lexemes' own tokens, holds of every token of their groups.
+pub mod EveryToken

@@ -1,19 +1,20 @@
 -- The laws of tokens hold of the tokens that are returned.
-use Rattle.std.proofs.Common.{◌≡◌, ℕ, zero, suc, ◌≤◌, ◌<◌, min, Bool, true, false, List, [], ◌∷◌, ◌++◌, map, take, length, filter, refl, ap, sym, ◌∙◌, subst, arith, inl, inr, eqb, eqb-true}
+use Rattle.std.proofs.Common.{◌≡◌, ℕ, zero, suc, ◌≤◌, ◌<◌, min, Bool, true, false, List, [], ◌∷◌, ◌++◌, map, take}
+use Rattle.std.proofs.Common.{length, filter, refl, ap, sym, ◌∙◌, subst, arith, inl, inr, eqb, eqb-true}
 use Rattle.std.specs.Prelude.{if◌then◌else◌, ◌&&◌}
 use Rattle.std.specs.List.{list_any}
 use Rattle.std.proofs.lemmas.Bool.{cases_Bool, cases_lt, and_parts, or_left, or_right, false≢true}
 use Rattle.std.proofs.lemmas.List.{take-map, take-append-le, take_all}
 use Rattle.yaml_text.specs.declared.types.yaml_mark_t.{yaml_mark_t}
 use Rattle.yaml_text.specs.declared.types.yaml_encoding_t.{yaml_encoding_t}
-use Rattle.yaml_scan.specs.Kind.{is_stream_end, is_key, is_block_entry}
+use Rattle.yaml_scan.specs.Kind.{is_stream_end, is_key}
 use Rattle.yaml_scan.specs.Lexeme.{Lexeme}
 use Rattle.yaml_scan.specs.Token.{yaml_token_t, type_of, is_end_type, is_start_type, is_key_type}
 use Rattle.yaml_scan.specs.Laid.{Laid}
-use Rattle.yaml_scan.specs.Levels.{opens, is_completed}
-use Rattle.yaml_scan.specs.Groups.{Token, handed_out, block_ends, end_mark, inserted, group, groups, offline}
+use Rattle.yaml_scan.specs.Groups.{Token, handed_out, end_mark, group, groups, offline}
 use Rattle.yaml_scan.specs.Settled.{before}
-use Rattle.yaml_scan.specs.Groups.Token.{StreamStart, BlockEnd, BlockSequenceStart, BlockMappingStart, InsertedKey, OfLexeme}
+use Rattle.yaml_scan.specs.Groups.Token.{StreamStart, BlockEnd, BlockSequenceStart, BlockMappingStart, InsertedKey}
+use Rattle.yaml_scan.specs.Groups.Token.{OfLexeme}
 use Rattle.yaml_scan.specs.Order.{IsHistory}
 use Rattle.yaml_scan.specs.Begins.{Begins}
 use Rattle.yaml_scan.specs.Step.{Outcome}
@@ -25,6 +26,7 @@ use Rattle.yaml_scan.specs.TokenLaws.{start_of, end_of, AreInOrder, is_value_nea
 use Rattle.yaml_scan.specs.AnswerLaws.{StandInOrder, AnswersStandInOrder, ends_among, starts_among, AnswersEndFewer}
 use Rattle.yaml_scan.specs.AnswerLaws.{AnswersEndAll, same_mark, is_put_in, is_near_value, AreFollowed}
 use Rattle.yaml_scan.specs.AnswerLaws.{AnswersFollowKeys}
+use Rattle.yaml_scan.proofs.TokenList.EveryToken.{Every, HoldsPutIn, every_append, every_front, every_of_group}
 use Rattle.yaml_scan.proofs.History.KindTests.{key_not_end}
 use Rattle.yaml_scan.proofs.TokenList.SettledStays.{before-offline}
 use Rattle.yaml_scan.proofs.TokenList.OneLexemeMore.{ends_never_outnumber, as_many}
@@ -64,42 +66,23 @@ TokenFits (BlockMappingStart m) = Unit {0}
 TokenFits (InsertedKey m) = Unit {0}
 
 abbrev pub TokensFit : List Token → Type 0
-TokensFit [] = Unit {0}
-TokensFit (t ∷ ts) = TokenFits t × TokensFit ts
+TokensFit ts = Every TokenFits ts
 
-fit_append : (a b : List Token) → TokensFit a → TokensFit b → TokensFit (a ++ b)
-fit_append [] b f g = g
-fit_append (t ∷ a) b f g = (f.0, fit_append a b f.1 g)
+put_in_fits : HoldsPutIn TokenFits
+put_in_fits = record { start = tt; ends = λ m. tt; sequence = λ m. tt; mapping = λ m. tt; key = λ m. tt }
 
 pub fit_front : (a b : List Token) → TokensFit (a ++ b) → TokensFit a
-fit_front [] b f = tt
-fit_front (t ∷ a) b f = (f.0, fit_front a b f.1)
+fit_front a b f = every_front TokenFits a b f
 
 fit_take : (n : ℕ) (ts : List Token) → TokensFit ts → TokensFit (take n ts)
 fit_take zero ts f = tt
 fit_take (suc n) [] f = tt
 fit_take (suc n) (t ∷ ts) f = (f.0, fit_take n ts f.1)
 
-fit_ends : (x : Lexeme) (cs : List ℕ) → TokensFit (map (λ c. BlockEnd (end_mark x c)) cs)
-fit_ends x [] = tt
-fit_ends x (c ∷ cs) = (tt, fit_ends x cs)
-
-fit_group : (W : List Laid) (i : Laid) → Fits i.lexeme → TokensFit (group W i)
-unfolding group block_ends inserted
-fit_group W i f = fit_append (block_ends i) (inserted W i ++ (OfLexeme i.lexeme ∷ [])) (fit_ends i.lexeme i.closed) (fit_append (inserted W i) (OfLexeme i.lexeme ∷ []) (cases (opens W i) (is_completed W i) (is_block_entry i.lexeme.kind)) (f, tt))
-  where
-    cases : (o k b : Bool) → TokensFit ((if o then (if b then BlockSequenceStart i.lexeme.start else BlockMappingStart i.lexeme.start) ∷ [] else []) ++ (if k then InsertedKey i.lexeme.start ∷ [] else []))
-    cases true true true = (tt, (tt, tt))
-    cases true true false = (tt, (tt, tt))
-    cases true false true = (tt, tt)
-    cases true false false = (tt, tt)
-    cases false true b = (tt, tt)
-    cases false false b = tt
-
 fit_groups : (W B : List Laid) → AllFit B → TokensFit (groups W B)
 unfolding groups
 fit_groups W [] f = (tt, tt)
-fit_groups W (i ∷ B) f = fit_append (groups W B) (group W i) (fit_groups W B f.1) (fit_group W i f.0)
+fit_groups W (i ∷ B) f = every_append TokenFits (groups W B) (group W i) (fit_groups W B f.1) (every_of_group TokenFits put_in_fits W i f.0)
 
 pub fit_before : (limit : ℕ) (H : List Laid) → IsHistory limit H → AllFit H → TokensFit (before limit H)
 unfolding offline

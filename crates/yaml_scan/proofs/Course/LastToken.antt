@@ -1,65 +1,41 @@
 -- The token of the stream end is the last one, and no fault comes after it.
-use Rattle.std.proofs.Common.{◌≡◌, ℕ, zero, suc, ◌+◌, Bool, true, false, List, [], ◌∷◌, ◌++◌, map, length, slice_get, Option, Some, None, refl, ap, sym, ◌∙◌, subst, arith, inl, inr, append_assoc}
+use Rattle.std.proofs.Common.{◌≡◌, ℕ, zero, suc, ◌+◌, Bool, true, false, List, [], ◌∷◌, ◌++◌, length, slice_get, Option}
+use Rattle.std.proofs.Common.{Some, None, refl, ap, sym, ◌∙◌, subst, arith, inl, inr, append_assoc}
 use Rattle.std.specs.Prelude.{option_map, if◌then◌else◌}
 use Rattle.std.proofs.lemmas.Bool.{cases_Bool, false≢true}
-use Rattle.yaml_scan.specs.Kind.{is_block_entry}
-use Rattle.yaml_scan.specs.Lexeme.{Lexeme}
 use Rattle.yaml_scan.specs.Laid.{Laid}
-use Rattle.yaml_scan.specs.Levels.{opens, is_completed}
 use Rattle.yaml_scan.specs.Order.{ended, IsHistory}
-use Rattle.yaml_scan.specs.Groups.{Token, offline, groups, group, block_ends, inserted, end_mark}
+use Rattle.yaml_scan.specs.Groups.{Token, offline, groups, group, block_ends, inserted}
 use Rattle.yaml_scan.specs.Settled.{before}
-use Rattle.yaml_scan.specs.Groups.Token.{BlockEnd, BlockSequenceStart, BlockMappingStart, InsertedKey, OfLexeme}
+use Rattle.yaml_scan.specs.Groups.Token.{OfLexeme}
 use Rattle.yaml_scan.specs.Source.{Offence}
 use Rattle.yaml_scan.specs.Cut.{EndsWith, KeepsOrder}
 use Rattle.yaml_scan.specs.Answers.{Input, course, course_from, tokens_of, next}
 use Rattle.yaml_scan.specs.Near.{starts_near}
 use Rattle.yaml_scan.specs.Session.{is_last}
+use Rattle.yaml_scan.proofs.TokenList.EveryToken.{Every, HoldsPutIn, every_append, every_front, every_lead}
 use Rattle.yaml_scan.proofs.TokenList.SettledStays.{before-offline}
 use Rattle.yaml_scan.proofs.TokenList.OneLexemeMore.{all_is_handed_out}
 use Rattle.yaml_scan.proofs.Course.CourseSteps.{course_is_history, steps_of, steps_are}
 
 -- none is that of the stream end
+abbrev IsOn : Token → Type 0
+IsOn x = is_last x ≡ false
+
 abbrev AllOn : List Token → Type 0
-AllOn [] = Unit {0}
-AllOn (x ∷ xs) = (is_last x ≡ false) × AllOn xs
+AllOn xs = Every IsOn xs
 
-on_append : (xs ys : List Token) → AllOn xs → AllOn ys → AllOn (xs ++ ys)
-on_append [] ys a b = b
-on_append (x ∷ xs) ys a b = (a.0, on_append xs ys a.1 b)
-
-on_front : (xs ys : List Token) → AllOn (xs ++ ys) → AllOn xs
-on_front [] ys a = tt
-on_front (x ∷ xs) ys a = (a.0, on_front xs ys a.1)
+put_in_on : HoldsPutIn IsOn
+put_in_on = record { start = refl; ends = λ m. refl; sequence = λ m. refl; mapping = λ m. refl; key = λ m. refl }
 
 on_at : (xs : List Token) (n : ℕ) (x : Token) → AllOn xs → slice_get xs n ≡ Some x → is_last x ≡ false
 on_at [] n x a e = absurd (cc)
 on_at (y ∷ xs) zero x a e = let q : y ≡ x = cc in subst (λ (z : Token). is_last z ≡ false) q a.0
 on_at (y ∷ xs) (suc n) x a e = on_at xs n x a.1 e
 
-on_ends : (x : Lexeme) (cs : List ℕ) → AllOn (map (λ c. BlockEnd (end_mark x c)) cs)
-on_ends x [] = tt
-on_ends x (c ∷ cs) = (refl, on_ends x cs)
-
-on_inserted : (W : List Laid) (i : Laid) → AllOn (inserted W i)
-unfolding inserted
-on_inserted W i = cases (opens W i) (is_completed W i) (is_block_entry i.lexeme.kind)
-  where
-    cases : (o k b : Bool) → AllOn ((if o then (if b then BlockSequenceStart i.lexeme.start else BlockMappingStart i.lexeme.start) ∷ [] else []) ++ (if k then InsertedKey i.lexeme.start ∷ [] else []))
-    cases true true true = (refl, (refl, tt))
-    cases true true false = (refl, (refl, tt))
-    cases true false true = (refl, tt)
-    cases true false false = (refl, tt)
-    cases false true b = (refl, tt)
-    cases false false b = tt
-
 -- what comes before the token of i
 abbrev lead : List Laid → Laid → List Token
 lead W i = block_ends i ++ inserted W i
-
-on_lead : (W : List Laid) (i : Laid) → AllOn (lead W i)
-unfolding block_ends
-on_lead W i = on_append (block_ends i) (inserted W i) (on_ends i.lexeme i.closed) (on_inserted W i)
 
 group_is : (W : List Laid) (i : Laid) → group W i ≡ lead W i ++ (OfLexeme i.lexeme ∷ [])
 unfolding group
@@ -68,8 +44,8 @@ group_is W i = sym (append_assoc (block_ends i) (inserted W i) (OfLexeme i.lexem
 on_groups : (limit : ℕ) (W B : List Laid) → IsHistory limit B → ended B ≡ false → AllOn (groups W B)
 unfolding groups
 on_groups limit W [] h e = (refl, tt)
-on_groups limit W (i ∷ B) h e = on_append (groups W B) (group W i) (on_groups limit W B h.2 h.3)
-    (subst (λ (l : List Token). AllOn l) (sym (group_is W i)) (on_append (lead W i) (OfLexeme i.lexeme ∷ []) (on_lead W i) (e, tt)))
+on_groups limit W (i ∷ B) h e = every_append IsOn (groups W B) (group W i) (on_groups limit W B h.2 h.3)
+    (subst (λ (l : List Token). AllOn l) (sym (group_is W i)) (every_append IsOn (lead W i) (OfLexeme i.lexeme ∷ []) (every_lead IsOn put_in_on W i) (e, tt)))
 
 -- after others that are not, the one at the end
 at_end : (xs : List Token) (y : Token) (n : ℕ) (x : Token) → AllOn xs → slice_get (xs ++ y ∷ []) n ≡ Some x → is_last x ≡ true → n + 1 ≡ length (xs ++ y ∷ [])
@@ -86,7 +62,7 @@ end_of_history limit H h n x e l = elim (cases_Bool (ended H)) [
 ]
   where
     front : ended H ≡ false → AllOn (before limit H)
-    front w = let b = before-offline limit H h in on_front (before limit H) b.rest (subst (λ (z : List Token). AllOn z) b.is (on_groups limit H H h w))
+    front w = let b = before-offline limit H h in every_front IsOn (before limit H) b.rest (subst (λ (z : List Token). AllOn z) b.is (on_groups limit H H h w))
 
     last_of_all : (i : Laid) (B : List Laid) → offline (i ∷ B) ≡ (groups (i ∷ B) B ++ lead (i ∷ B) i) ++ OfLexeme i.lexeme ∷ []
     last_of_all i B = ap (λ (z : List Token). groups (i ∷ B) B ++ z) (group_is (i ∷ B) i) ∙ sym (append_assoc (groups (i ∷ B) B) (lead (i ∷ B) i) (OfLexeme i.lexeme ∷ []))
@@ -96,7 +72,7 @@ end_of_history limit H h n x e l = elim (cases_Bool (ended H)) [
     whole (i ∷ B) g w q =
         let a = (all_is_handed_out limit (i ∷ B) g w).1 ∙ last_of_all i B in
         subst (λ (z : List Token). slice_get z n ≡ Some x → n + 1 ≡ length z) (sym a)
-        (λ r. at_end (groups (i ∷ B) B ++ lead (i ∷ B) i) (OfLexeme i.lexeme) n x (on_append (groups (i ∷ B) B) (lead (i ∷ B) i) (on_groups limit (i ∷ B) B g.2 g.3) (on_lead (i ∷ B) i)) r l) q
+        (λ r. at_end (groups (i ∷ B) B ++ lead (i ∷ B) i) (OfLexeme i.lexeme) n x (every_append IsOn (groups (i ∷ B) B) (lead (i ∷ B) i) (on_groups limit (i ∷ B) B g.2 g.3) (every_lead IsOn put_in_on (i ∷ B) i)) r l) q
 
 -- after the stream end there is no fault
 ends_well : (limit : ℕ) (input : Input) → KeepsOrder input.source → (course limit input).begun ≡ true → ended (course limit input).read ≡ true → (course limit input).fault ≡ None

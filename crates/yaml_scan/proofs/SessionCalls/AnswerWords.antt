@@ -1,18 +1,23 @@
 -- Every token and every fault that is returned can be put in words.
-use Rattle.std.proofs.Common.{◌≡◌, ◌≢◌, ℕ, zero, suc, ◌+◌, Bool, true, false, ◌||◌, if◌then◌else◌, List, [], ◌∷◌, ◌++◌, map, filter, drop, length, Option, Some, None, Ok, Err, slice_get, refl}
+use Rattle.std.proofs.Common.{◌≡◌, ◌≢◌, ℕ, zero, suc, ◌+◌, Bool, true, false, ◌||◌, if◌then◌else◌, List, [], ◌∷◌, map}
+use Rattle.std.proofs.Common.{filter, drop, length, Option, Some, None, Ok, Err, slice_get, refl}
 use Rattle.std.specs.Prelude.{Result, IfSome, nat_lt, option_map}
 use Rattle.std.proofs.lemmas.Bool.{or_left, or_right}
 use Rattle.yaml_text.specs.declared.types.yaml_mark_t.{yaml_mark_t}
 use Rattle.yaml_text.specs.declared.types.yaml_encoding_t.{yaml_encoding_t}
 use Rattle.yaml_text.specs.declared.types.yaml_encoding_t.TheVariants.{YAML_ANY_ENCODING}
-use Rattle.yaml_text.specs.declared.types.yaml_scalar_style_t.TheVariants.{YAML_ANY_SCALAR_STYLE, YAML_PLAIN_SCALAR_STYLE, YAML_SINGLE_QUOTED_SCALAR_STYLE, YAML_DOUBLE_QUOTED_SCALAR_STYLE, YAML_LITERAL_SCALAR_STYLE, YAML_FOLDED_SCALAR_STYLE}
-use Rattle.yaml_text.specs.Token.{TokenData as unnamed_yaml_token_t_data}
-use Rattle.yaml_text.specs.Token.{TokenData as token}
+use Rattle.yaml_text.specs.declared.types.yaml_scalar_style_t.TheVariants.{YAML_ANY_SCALAR_STYLE}
+use Rattle.yaml_text.specs.declared.types.yaml_scalar_style_t.TheVariants.{YAML_PLAIN_SCALAR_STYLE}
+use Rattle.yaml_text.specs.declared.types.yaml_scalar_style_t.TheVariants.{YAML_SINGLE_QUOTED_SCALAR_STYLE}
+use Rattle.yaml_text.specs.declared.types.yaml_scalar_style_t.TheVariants.{YAML_DOUBLE_QUOTED_SCALAR_STYLE}
+use Rattle.yaml_text.specs.declared.types.yaml_scalar_style_t.TheVariants.{YAML_LITERAL_SCALAR_STYLE}
+use Rattle.yaml_text.specs.declared.types.yaml_scalar_style_t.TheVariants.{YAML_FOLDED_SCALAR_STYLE}
+use Rattle.yaml_text.specs.Token.{TokenData as unnamed_yaml_token_t_data, TokenData as token}
 use Rattle.yaml_text.specs.Decode.{front, front_len, encoding_of, refusal, refusal_of}
 use Rattle.yaml_text.proofs.Decodings.DecodeResults.{not_any}
 use Rattle.yaml_lexeme.specs.declared.kind.yaml_lexeme_kind_t.TheVariants as kind
 use Rattle.yaml_lexeme.specs.declared.lex.yaml_context_t.{yaml_context_t}
-use Rattle.yaml_lexeme.specs.Lexeme.{Lexeme as yaml_lexeme_t}
+use Rattle.yaml_lexeme.specs.Lexeme.{Lexeme as yaml_lexeme_t, whole_of, scalar_to, directive_to}
 use Rattle.yaml_lexeme.specs.Place.{Place, place_at}
 use Rattle.yaml_lexeme.specs.Reading.{Found, Read, found, ◌>>=◌}
 use Rattle.yaml_lexeme.specs.Block.{block}
@@ -22,18 +27,18 @@ use Rattle.yaml_lexeme.specs.Name.{name}
 use Rattle.yaml_lexeme.specs.Tag.{tag}
 use Rattle.yaml_lexeme.specs.Directive.{directive}
 use Rattle.yaml_lexeme.specs.Lex.{lex, in_flow, least, quoted_as}
-use Rattle.yaml_lexeme.specs.Lexeme.{whole_of, scalar_to, directive_to}
-use Rattle.yaml_scan.specs.Kind.{Kind, is_block_entry}
+use Rattle.yaml_scan.specs.Kind.{Kind}
 use Rattle.yaml_scan.specs.Lexeme.{Lexeme}
 use Rattle.yaml_scan.specs.Token.{empty, type_of}
 use Rattle.yaml_scan.specs.Fault.{Fault}
 use Rattle.yaml_scan.specs.Laid.{Laid}
 use Rattle.yaml_scan.specs.Depth.{depth}
-use Rattle.yaml_scan.specs.Levels.{laid, level, opens, is_completed}
+use Rattle.yaml_scan.specs.Levels.{laid, level}
 use Rattle.yaml_scan.specs.Order.{ended}
-use Rattle.yaml_scan.specs.Groups.{Token, handed_out, block_ends, end_mark, inserted, group, groups, offline}
+use Rattle.yaml_scan.specs.Groups.{Token, handed_out, block_ends, group, groups, offline}
 use Rattle.yaml_scan.specs.Settled.{up_to, waiting, before}
-use Rattle.yaml_scan.specs.Groups.Token.{StreamStart, BlockEnd, BlockSequenceStart, BlockMappingStart, InsertedKey, OfLexeme}
+use Rattle.yaml_scan.specs.Groups.Token.{StreamStart, BlockEnd, BlockSequenceStart, BlockMappingStart, InsertedKey}
+use Rattle.yaml_scan.specs.Groups.Token.{OfLexeme}
 use Rattle.yaml_scan.specs.Source.{Source, Reading, Offence}
 use Rattle.yaml_scan.specs.SourceOf.{source_of, reading_of}
 use Rattle.yaml_scan.specs.Step.{Outcome, step, kind_step, read_step, after_read, unless, refuse, stale, refused}
@@ -48,6 +53,7 @@ use Rattle.yaml_scan.specs.Session.Call.{SCAN, PEEK, SKIP}
 use Rattle.yaml_scan.specs.Session.Answer.{TOKEN, PEEKED, SKIPPED, NOTHING}
 use Rattle.yaml_scan.specs.Words.{HasWords, HasLine, HaveWords, AllHaveLines, AnswerHasLine, AnswersHaveLines}
 use Rattle.yaml_scan.specs.Words.{SessionsHaveLines}
+use Rattle.yaml_scan.proofs.TokenList.EveryToken.{Every, HoldsPutIn, every_append, every_block_end, every_of_group}
 use Rattle.yaml_scan.proofs.Texts.LexemeReads.{is_tag_type, is_directive_type, tag_gives, directive_gives}
 
 -- LEXEMES
@@ -234,37 +240,15 @@ TokenTold (BlockMappingStart m) = Unit {0}
 TokenTold (InsertedKey m) = Unit {0}
 
 abbrev TokensTold : List Token → Type 0
-TokensTold [] = Unit {0}
-TokensTold (t ∷ ts) = TokenTold t × TokensTold ts
+TokensTold ts = Every TokenTold ts
 
-append_told : (a b : List Token) → TokensTold a → TokensTold b → TokensTold (a ++ b)
-append_told [] b f g = g
-append_told (t ∷ a) b f g = (f.0, append_told a b f.1 g)
-
-ends_told : (x : Lexeme) (cs : List ℕ) → TokensTold (map (λ c. BlockEnd (end_mark x c)) cs)
-ends_told x [] = tt
-ends_told x (c ∷ cs) = (tt, ends_told x cs)
-
-block_ends_told : (i : Laid) → TokensTold (block_ends i)
-unfolding block_ends
-block_ends_told i = ends_told i.lexeme i.closed
-
-group_told : (W : List Laid) (i : Laid) → HasWords i.lexeme.token_data → TokensTold (group W i)
-unfolding group inserted
-group_told W i f = append_told (block_ends i) (inserted W i ++ (OfLexeme i.lexeme ∷ [])) (block_ends_told i) (append_told (inserted W i) (OfLexeme i.lexeme ∷ []) (cases (opens W i) (is_completed W i) (is_block_entry i.lexeme.kind)) (f, tt))
-  where
-    cases : (o k b : Bool) → TokensTold ((if o then (if b then BlockSequenceStart i.lexeme.start else BlockMappingStart i.lexeme.start) ∷ [] else []) ++ (if k then InsertedKey i.lexeme.start ∷ [] else []))
-    cases true true true = (tt, (tt, tt))
-    cases true true false = (tt, (tt, tt))
-    cases true false true = (tt, tt)
-    cases true false false = (tt, tt)
-    cases false true b = (tt, tt)
-    cases false false b = tt
+put_in_told : HoldsPutIn TokenTold
+put_in_told = record { start = tt; ends = λ m. tt; sequence = λ m. tt; mapping = λ m. tt; key = λ m. tt }
 
 groups_told : (W B : List Laid) → AllTold B → TokensTold (groups W B)
 unfolding groups
 groups_told W [] f = (tt, tt)
-groups_told W (i ∷ B) f = append_told (groups W B) (group W i) (groups_told W B f.1) (group_told W i f.0)
+groups_told W (i ∷ B) f = every_append TokenTold (groups W B) (group W i) (groups_told W B f.1) (every_of_group TokenTold put_in_told W i f.0)
 
 filter_told : (p : Laid → Bool) (H : List Laid) → AllTold H → AllTold (filter p H)
 filter_told p [] f = tt
@@ -277,7 +261,7 @@ filter_told p (i ∷ H) f = cases (p i) (filter_told p H f.1)
 up_to_told : (H : List Laid) (o : Option Laid) → AllTold H → TokensTold (up_to H o)
 unfolding up_to offline
 up_to_told H None f = groups_told H H f
-up_to_told H (Some i) f = append_told (groups H (filter (λ j. nat_lt j.number i.number) H)) (block_ends i) (groups_told H (filter (λ j. nat_lt j.number i.number) H) (filter_told (λ j. nat_lt j.number i.number) H f)) (block_ends_told i)
+up_to_told H (Some i) f = every_append TokenTold (groups H (filter (λ j. nat_lt j.number i.number) H)) (block_ends i) (groups_told H (filter (λ j. nat_lt j.number i.number) H) (filter_told (λ j. nat_lt j.number i.number) H f)) (every_block_end TokenTold put_in_told i)
 
 before_told : (limit : ℕ) (H : List Laid) → AllTold H → TokensTold (before limit H)
 unfolding before
