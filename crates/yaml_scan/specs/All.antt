@@ -28,7 +28,7 @@ pub record AreSettled (limit : ℕ) (setting : yaml_encoding_t) (input : List �
     pub tokens_are : tokens
         ≡ map (handed_out (decoded_input setting input).encoding)
         (settled_tokens limit (course_to limit setting input) steps)
-    -- so they are a beginning of all tokens
+    -- the tokens are a beginning of all tokens
     pub beginning : Begins tokens (answers_to limit setting input).tokens
     -- memory is refused to the decoding of UTF-16, or in the first step or after it
     pub in_utf8 : (decoded_input setting input).encoding ≡ YAML_UTF8_ENCODING

@@ -54,7 +54,7 @@ after_calls p calls = record {
   session = after_all p.limit (course_read p) calls p.session;
 }
 
--- and their answers
+-- the answers to a list of calls, by the definition of a session
 abbrev pub answered_all : Parser → List Call → List Answer
 answered_all p calls = session (input_read p).encoding p.limit (course_read p) calls p.session
 
@@ -68,18 +68,18 @@ pub record RunsOut (p : Parser) (calls : List Call) (all : List Seen) (q : Parse
   pub wants : WantsMemory (after_calls p (take n calls)) q
   pub answers : all ≡ map seen (answered_all p (take n calls)) ++ (FAULT memory_fault ∷ map idle (drop (n + 1) calls))
 
--- the answers to calls are the session's, or a growth was refused in one of them
+-- the answers to a list of calls are the session's, or memory was refused in one of them
 abbrev pub Runs : Parser → List Call → List Seen → Parser → Type 0
 Runs p calls answers q = ((answers ≡ map seen (answered_all p calls)) × (q ≡ after_calls p calls))
     ⊎ RunsOut p calls answers q
 
--- their answers are appended to others
+-- the answers to a list of calls are appended to others: the contract of `yaml_run`
 pub record PutsAnswers (p : Parser) (calls : List Call) (old new : List yaml_answer_t) (q : Parser) : Type 0 where
   pub more : List yaml_answer_t
   pub is : new ≡ old ++ more
   pub runs : Runs p calls (map seen_of more) q
 
--- their answers are the session's, appended to others
+-- the session's answers to a list of calls are appended to others
 pub record PutsSession (p : Parser) (calls : List Call) (old new : List yaml_answer_t) (q : Parser) : Type 0 where
   pub more : List yaml_answer_t
   pub is : new ≡ old ++ more

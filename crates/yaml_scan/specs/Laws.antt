@@ -61,7 +61,7 @@ ColumnsGoOn = (limit : ℕ) (i : Laid) (H : List Laid) → IsHistory limit (i �
 abbrev pub ColumnsFall : Type 0
 ColumnsFall = (limit : ℕ) (H : List Laid) → IsHistory limit H → IsFalling (open_columns H)
 
--- so the level is the first of them
+-- the first of the open columns, which is the level
 abbrev pub first_of : List ℕ → Option ℕ
 first_of [] = None
 first_of (c ∷ cs) = Some c
@@ -161,7 +161,7 @@ abbrev pub StepsBeginCut : Type 0
 StepsBeginCut = (S : Source) (limit : ℕ) (H : List Laid)
     → KeepsOrder S → IsRun (step S limit) limit H → (later : List Laid) × ((cut S limit).read ≡ later ++ H)
 
--- and it is the only one to which none can be added, with the only offence after it
+-- the cut is the only list of steps to which none can be added, with the only offence after it
 abbrev pub CutIsOnly : Type 0
 CutIsOnly = (S : Source) (limit : ℕ) (H : List Laid) (o : Option Offence)
     → KeepsOrder S → IsRun (step S limit) limit H → EndsWith (step S limit) H o

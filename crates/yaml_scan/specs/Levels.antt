@@ -14,7 +14,7 @@ use Rattle.yaml_scan.specs.Keys.{completed_by}
 abbrev pub stays : Bool → Kind → yaml_mark_t → ℕ → Bool
 stays flow k m c = flow || (not (closes_all k) && nat_le c m.column)
 
--- and so at depth d
+-- a lexeme of kind k that starts at m, at depth d, keeps a column open
 abbrev pub keeps : ℕ → Kind → yaml_mark_t → ℕ → Bool
 keeps d k m c = stays (nat_lt 0 d) k m c
 
@@ -46,7 +46,7 @@ still_open H i = list_all (λ j. nat_le j.number i.number || keeps j.depth j.lex
 unfoldable pub open_columns : List Laid → List ℕ
 open_columns H = map column (filter (λ i. opens H i && still_open H i) H)
 
--- those of them that a lexeme of kind k keeps, which starts at m after H
+-- the open columns that a lexeme of kind k keeps, which starts at m after H
 unfoldable pub kept_columns : List Laid → Kind → yaml_mark_t → List ℕ
 kept_columns H k m = filter (keeps (depth H) k m) (open_columns H)
 

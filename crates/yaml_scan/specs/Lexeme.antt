@@ -13,7 +13,7 @@ pub record Lexeme : Type 0 where
   pub end : yaml_mark_t
   -- how far was read for it
   pub reach : yaml_mark_t
-  -- and how many characters are before there
+  -- how many characters of the text are before its reach
   pub place : ℕ
   -- of a plain scalar, whether a break is in its trailing separator
   pub passed_break : Bool

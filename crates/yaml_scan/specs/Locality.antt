@@ -44,7 +44,7 @@ TokensBeforeRefusal = (limit : ℕ) (a b : Input) (refusal : Fault) → KeepsOrd
     → AgreesWith a b refusal
     → Begins (tokens_of limit (course limit a)) (tokens_of limit (course limit b))
 
--- and a fault instead of it is the fault of each, after the same lexemes
+-- a fault other than the reader's is the fault of each accepted input that agrees, after the same lexemes
 abbrev pub FaultBeforeRefusal : Type 0
 FaultBeforeRefusal = (limit : ℕ) (a b : Input) (refusal f : Fault) → KeepsOrder a.source → KeepsOrder b.source
     → AgreesWith a b refusal → (course limit a).fault ≡ Some f

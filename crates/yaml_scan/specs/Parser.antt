@@ -72,7 +72,7 @@ abbrev pub token_or_empty : yaml_encoding_t → Option Token → yaml_token_t
 token_or_empty e None = empty
 token_or_empty e (Some x) = handed_out e x
 
--- its next token if that was peeked, and else the empty one
+-- the token that a parser shows: its next one if that was peeked, and else the empty one
 abbrev pub token_shown : Parser → yaml_token_t
 token_shown p = if p.session.peeked
     then token_or_empty (input_read p).encoding (next_token p.limit (course_read p) p.session) else empty

@@ -15,7 +15,7 @@ use Rattle.yaml_scan.specs.Seen.{Seen, seen, seen_of, idle, Seen as sight}
 use Rattle.yaml_scan.specs.Headline.{answered_all}
 use Rattle.yaml_scan.specs.Seen.Seen.{TOKEN, PEEKED, SKIPPED, NOTHING}
 
--- this holds of the answers that were appended to the old ones
+-- `Holds` is true of the answers that were appended to the old ones
 pub record Puts (Holds : List Seen → Type 0) (old new : List yaml_answer_t) : Type 0 where
   pub more : List yaml_answer_t
   pub is : new ≡ old ++ more
@@ -31,7 +31,7 @@ taken_told (SKIPPED ∷ more) = None ∷ taken_told more
 taken_told (NOTHING ∷ more) = taken_told more
 taken_told (sight.FAULT f ∷ more) = taken_told more
 
--- these are the tokens that they say
+-- a list of what was taken has just these tokens, in order
 abbrev pub AreTold : List (Option yaml_token_t) → List yaml_token_t → Type 0
 AreTold [] [] = Unit {0}
 AreTold [] (t ∷ ts) = ⊥
@@ -61,7 +61,7 @@ HasNext p = p.session.peeked ≡ true
     → (p.session.over ≡ false) × ((token : Token) × (next_token p.limit (course_read p) p.session ≡ Some token))
 
 -- OTHER INPUTS
--- the same parser of another input
+-- a parser in the same session of another input
 abbrev pub of_input : Parser → yaml_encoding_t → List ℕ → Parser
 of_input p setting input =
     record { input = input; setting = setting; limit = p.limit; session = p.session }

@@ -49,7 +49,7 @@ AllIsTold = (limit : ℕ) (setting : yaml_encoding_t) (input : List ℕ) (n : �
     → length (answers_to limit setting input).tokens < n
     → told_to limit setting input (scans n) new_session ≡ all_told (answers_to limit setting input) n
 
--- and in every state of a session, all that is left
+-- in every state of a session more scans than there are tokens left return all that is left
 abbrev pub RestIsTold : Type 0
 RestIsTold = (limit : ℕ) (setting : yaml_encoding_t) (input : List ℕ) (s : Session) (n : ℕ)
     → length (left_of (answers_to limit setting input) s).tokens < n
@@ -95,7 +95,7 @@ abbrev pub FaultIsToldOnce : Type 0
 FaultIsToldOnce = (limit : ℕ) (setting : yaml_encoding_t) (input : List ℕ) (calls : List Call) (s : Session)
     → HaveOneFault (map seen (told_to limit setting input calls s))
 
--- also if a growth was refused
+-- a fault is returned at most once, also if memory was refused
 abbrev pub RunsFaultOnce : Type 0
 RunsFaultOnce = (p : Parser) (calls : List Call) (answers : List Seen) (q : Parser)
     → Runs p calls answers q → HaveOneFault answers

@@ -68,15 +68,15 @@ paced limit c s = record {
   fault = s.fault;
 }
 
--- and shown
+-- the next token is shown
 abbrev pub looked : Session → Session
 looked s = record { taken = s.taken; steps = s.steps; peeked = true; over = s.over; fault = s.fault }
 
--- and taken; with the stream end the session is over
+-- the next token is taken; with the stream end the session is over
 abbrev pub took : Token → Session → Session
 took x s = record { taken = s.taken + 1; steps = s.steps; peeked = false; over = is_last x; fault = s.fault }
 
--- there is none
+-- there is no next token, so the session is over
 abbrev pub finished : Course → Session → Session
 finished c s = record { taken = s.taken; steps = all_steps c; peeked = false; over = true; fault = c.fault }
 
@@ -110,7 +110,7 @@ abbrev pub peek_answer : yaml_encoding_t → Course → Option Token → Answer
 peek_answer e c None = why c.fault
 peek_answer e c (Some x) = PEEKED (handed_out e x)
 
--- and its answer
+-- the answer to a call
 abbrev pub answer : yaml_encoding_t → ℕ → Course → Call → Session → Answer
 answer e limit c SCAN s = if s.over then TOKEN empty else scan_answer e c (next_token limit c s)
 answer e limit c PEEK s = if s.over then PEEKED empty else peek_answer e c (next_token limit c s)
@@ -121,7 +121,7 @@ unfoldable pub session : yaml_encoding_t → ℕ → Course → List Call → Se
 session e limit c [] s = []
 session e limit c (call ∷ calls) s = answer e limit c call s ∷ session e limit c calls (after limit c call s)
 
--- and what they leave
+-- what a list of calls leaves
 unfoldable pub after_all : ℕ → Course → List Call → Session → Session
 after_all limit c [] s = s
 after_all limit c (call ∷ calls) s = after_all limit c calls (after limit c call s)

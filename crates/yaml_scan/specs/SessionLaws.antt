@@ -91,7 +91,7 @@ abbrev pub tokens_in : List (Option Token) → List Token
 tokens_in [] = []
 tokens_in (o ∷ os) = option_to_list o ++ tokens_in os
 
--- they are in order a beginning of the list, and as many as the session counts
+-- the tokens taken are in order a beginning of the list, and as many as the session counts
 abbrev pub TakenAreBeginning : Type 0
 TakenAreBeginning = (limit : ℕ) (c : Course) (calls : List Call)
     → Begins (tokens_in (taken_by limit c calls new_session)) (tokens_of limit c)
@@ -123,7 +123,7 @@ NoneIsStuck = (limit : ℕ) (input : Input) (calls : List Call) → KeepsOrder i
     → (f : Fault) × ((course limit input).fault ≡ Some f)
 
 -- THE PACE
--- it is the least number of steps, not below those that were made, after which a token is settled
+-- the pace is the least number of steps, not below those that were made, after which a token is settled
 abbrev pub PaceSettles : Type 0
 PaceSettles = (limit : ℕ) (H : List Laid) (t s : ℕ) → IsHistory limit H → t < length (before limit H)
     → settled limit H t (pace limit H t s) ≡ true

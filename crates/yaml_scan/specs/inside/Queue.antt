@@ -90,7 +90,7 @@ completed_in margin (Some h) cs d ys = keyed_at (h.step - 1 - d) (is_new margin 
 abbrev pub start_of : Kind → block_t
 start_of k = if is_block_entry k then SEQUENCE else MAPPING
 
--- and what that lexeme, of kind k in a column, opens itself
+-- what a lexeme of kind k in a column opens itself
 abbrev pub opened_by : Bool → Option Held → Kind → ℕ → List ℕ → block_t
 opened_by margin None k column cs = if is_new margin column cs && opens_level k true then start_of k else NONE
 opened_by margin (Some h) k column cs = NONE
@@ -113,7 +113,8 @@ abbrev pub IsLead : yaml_encoding_t → queue_t → yaml_token_t → Type 0
 IsLead e q token = (x : Token) (rest : List Token) → pending q.early q.front q.groups.items ≡ x ∷ rest
     → token ≡ handed_out e x
 
--- it is taken: only the first group changes, or, where it is the only one, how many block ends of the front are left
+-- what comes before the first token is taken: only the first group changes, or, if it is the only one, how many
+-- block ends of the front are left
 pub record DropsLead (old new : queue_t) : Type 0 where
   pub was : group_t
   pub now : group_t

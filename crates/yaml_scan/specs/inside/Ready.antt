@@ -34,7 +34,7 @@ pub record IsNew (s : scanner_t) : Type 0 where
   pub taken : s.taken ≡ 0
   pub made : s.made ≡ 0
 
--- it is in the input
+-- a scanner is in an input
 pub record IsIn (setting : yaml_encoding_t) (input : List ℕ) (s : scanner_t) : Type 0 where
   pub runs : Runs s
   pub reads : input_of s ≡ decoded_input setting input

@@ -93,7 +93,7 @@ abbrev pub or_top : Option Held → Option (Option Held) → Option Held
 or_top top None = top
 or_top top (Some h) = h
 
--- and the slot of the new depth
+-- the slot of the new depth after a lexeme of kind k
 abbrev pub nested_top : Kind → List (Option Held) → Option Held → Option Held
 nested_top k outer top = if is_flow_start k then None
     else (if is_flow_end k then or_top top (slice_get outer (length outer - 1)) else top)
