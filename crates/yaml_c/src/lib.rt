@@ -84,18 +84,12 @@ pub extern "C" fn yaml_c_scan_all(
         token_count: 0,
         text_len: 0,
     };
-    let fault = scan(alloc, input, encoding, limit, &mut rooms);
-    let token_count = rooms.token_count;
+    let Some(fault) = scan(alloc, input, encoding, limit, &mut rooms) else {
+        *out = counts(rooms.token_count, rooms.text_len);
+        return 0;
+    };
     let text_len = rooms.text_len;
-    match fault {
-        None => {
-            *out = counts(token_count, text_len);
-            0
-        }
-        Some(fault) => {
-            put_fault_texts(rooms.texts, text_len, fault);
-            *out = counts_and_fault(token_count, text_len, fault);
-            1
-        }
-    }
+    put_fault_texts(rooms.texts, text_len, fault);
+    *out = counts_and_fault(rooms.token_count, text_len, fault);
+    1
 }
