@@ -46,6 +46,12 @@ def sequences(count):
     return starts + [one("BLOCK-END", end, end)] * count + [one("STREAM-END", end, end)]
 
 
+def nested_keys(count):
+    """Entries of 12,500 flow mappings, each the key of the one around it: a key that is just under 65,536 bytes long."""
+    deep = 12_500
+    return ("- " + "{" * deep + "a" + ": b}" * deep + "\n") * -(-count // deep)
+
+
 # the name, the input for a count, the lines expected after the first, or None if only the last line is checked
 INPUTS = [
     ("openers", lambda count: "[" * count, run_of("FLOW-SEQUENCE-START", MANY)),
@@ -67,32 +73,36 @@ INPUTS = [
     # a text of n levels has n * n / 2 spaces, so the levels are as many as keep its length in proportion to the count
     ("deeper and deeper", lambda count: "".join(" " * k + "a:\n" for k in range(math.isqrt(10 * count))), None),
     ("a tag of escapes", lambda count: "!" + "%41" * count + " a", None),
+    ("keys near the greatest limit", nested_keys, None),
 ]
+# the key limit in bytes with which the time of an input is taken, if it is not the usual one
+LIMITS = {nested_keys: ["65536"]}
 
 
-def seconds_of(lexlist, text):
+def seconds_of(lexlist, text, limit):
     """How long the processor was busy for nine scans of the text; the waiting for a busy machine is not in it."""
     before = resource.getrusage(resource.RUSAGE_CHILDREN).ru_utime
-    subprocess.run([lexlist, "measure", "scan"], input=text.encode("ascii"), capture_output=True, check=True, timeout=TIMEOUT)
+    words = [lexlist, "measure", "scan", *limit]
+    subprocess.run(words, input=text.encode("ascii"), capture_output=True, check=True, timeout=TIMEOUT)
     return resource.getrusage(resource.RUSAGE_CHILDREN).ru_utime - before
 
 
 def count_to_measure(lexlist, text_of):
     """A count whose input takes long enough to be measured, or a large one if none does."""
-    count = MANY
-    while count < 16 * MANY and seconds_of(lexlist, text_of(count)) < LEAST:
+    count, limit = MANY, LIMITS.get(text_of, [])
+    while count < 16 * MANY and seconds_of(lexlist, text_of(count), limit) < LEAST:
         count *= 2
     return count
 
 
 def growth_problem(lexlist, text_of):
     """Compares the best time of an input with the best time of one twice as long, each the best of several."""
-    count = count_to_measure(lexlist, text_of)
+    count, limit = count_to_measure(lexlist, text_of), LIMITS.get(text_of, [])
     once, twice = text_of(count), text_of(2 * count)
     best_once = best_twice = math.inf
     for pair in range(1, MOST_PAIRS + 1):
-        best_once = min(best_once, max(seconds_of(lexlist, once), LEAST))
-        best_twice = min(best_twice, seconds_of(lexlist, twice))
+        best_once = min(best_once, max(seconds_of(lexlist, once, limit), LEAST))
+        best_twice = min(best_twice, seconds_of(lexlist, twice, limit))
         if pair >= FEW_PAIRS and best_twice <= GROWTH * best_once:
             return None
     return f"{2 * count} took {best_twice:.2f} seconds, {count} took {best_once:.2f}"
