@@ -146,7 +146,7 @@ fn lead_of(head: &group_t) -> lead_t
     }
 }
 
-/// Takes that.
+/// Takes what is handed out next of a group before its token.
 fn drop_lead_of(head: &mut group_t)
     ensures leads { leads head.new ≡ drop 1 (leads head.old) }
     ensures token { head.new.token ≡ head.old.token }
@@ -182,7 +182,7 @@ pub(crate) fn has_lead(queue: &queue_t) -> bool
     !matches!(next_lead(queue), lead_t::NOTHING)
 }
 
-/// Where it stands.
+/// The mark of what is handed out before the token of the head.
 fn lead_mark(queue: &queue_t) -> yaml_mark_t
     ensures { result ≡ mark_next queue.now.early queue.now.front queue.now.groups.items }
 {
@@ -209,7 +209,7 @@ pub(crate) fn lead(queue: &queue_t) -> yaml_token_t
     token_at(says, lead_mark(queue))
 }
 
-/// Takes it.
+/// Takes what is handed out before the token of the head.
 fn drop_lead(queue: &mut queue_t)
     requires { 0 < length queue.old.groups.items }
     ensures { DropsLead queue.old queue.new }

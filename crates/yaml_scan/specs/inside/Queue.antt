@@ -66,7 +66,7 @@ abbrev pub begins_with_end : List Token → Bool
 begins_with_end [] = false
 begins_with_end (x ∷ xs) = is_block_end x
 
--- where what is handed out before the token of the first group stands
+-- the mark of what is handed out before the token of the first group
 abbrev pub mark_next : ℕ → yaml_mark_t → List group_t → yaml_mark_t
 mark_next early front [] = front
 mark_next zero front (y ∷ ys) = y.token.start_mark
@@ -82,7 +82,7 @@ keyed_at n opens [] = []
 keyed_at zero opens (y ∷ ys) = keyed opens y ∷ ys
 keyed_at (suc n) opens (y ∷ ys) = y ∷ keyed_at n opens ys
 
--- the groups after a lexeme that completes the candidate that is held, where d groups were taken
+-- the groups after a lexeme that completes the candidate that is held, if d groups were taken
 abbrev pub completed_in : Bool → Option Held → List ℕ → ℕ → List group_t → List group_t
 completed_in margin None cs d ys = ys
 completed_in margin (Some h) cs d ys = keyed_at (h.step - 1 - d) (is_new margin h.start.column cs) ys
@@ -95,7 +95,7 @@ abbrev pub opened_by : Bool → Option Held → Kind → ℕ → List ℕ → bl
 opened_by margin None k column cs = if is_new margin column cs && opens_level k true then start_of k else NONE
 opened_by margin (Some h) k column cs = NONE
 
--- the group of the candidate that is held is among those that are queued, where d were taken
+-- the group of the candidate that is held is among those that are queued, if d were taken
 abbrev pub Fitting : Option Held → ℕ → List group_t → Type 0
 Fitting None d ys = Unit {0}
 Fitting (Some h) d ys = (d < h.step) × (h.step - 1 - d < length ys)
