@@ -1,5 +1,6 @@
 #!/usr/bin/env python3
-"""Refuses each request for memory in turn while the program runs: growths.py PROGRAM.
+"""Refuses each request for memory in turn while the program runs, alone and together with the next one, since a step
+that was refused memory in a quick step asks once more: growths.py PROGRAM.
 
 For each worked row of vectors/rows.txt: its own command, scans past the end, and peeks with skips past the end. Each
 time the program is out of memory and has written nothing, or its lines are those of the row, or a beginning of them,
@@ -55,24 +56,26 @@ def refuse_each(program, refuser, words, data, lines):
     seen, in_a_row, number = {}, 0, 0
     while in_a_row < 3:
         number += 1
-        done = run(program, words, data, refuser, number)
-        kind = kind_of(words, done, data, lines)
-        if kind is None:
-            print(f"{words}, {data[:80]!r}, {number}: {done.returncode}, {done.stdout[-300:]!r}, {done.stderr!r}")
-        seen[kind] = seen.get(kind, 0) + 1
-        in_a_row = in_a_row + 1 if kind == "whole" else 0
+        in_a_row += 1
+        for requests in str(number), f"{number}+":
+            done = run(program, words, data, refuser, requests)
+            kind = kind_of(words, done, data, lines)
+            if kind is None:
+                print(f"{words}, {data[:80]!r}, {requests}: {done.returncode}, {done.stdout[-300:]!r}, {done.stderr!r}")
+            seen[kind] = seen.get(kind, 0) + 1
+            in_a_row = in_a_row if kind == "whole" else 0
         if number > 5000:
             return {None: 1}
     return seen
 
 
 def early_faults(program, refuser):
-    """How many requests of 100 entries are refused as a fault, and how many of these before the tenth token."""
+    """How many pairs of requests of 100 entries are refused as a fault, and how many of these before the tenth token."""
     words = ["calls", "any", "s" * 310]
     faults = early = in_a_row = number = 0
     while in_a_row < 3:
         number += 1
-        done = run(program, words, HUNDRED, refuser, number)
+        done = run(program, words, HUNDRED, refuser, f"{number}+")
         lines = done.stdout.decode("ascii").splitlines()
         in_a_row = in_a_row + 1 if done.returncode == 0 else 0
         if MEMORY in lines:

@@ -335,14 +335,17 @@ def try_python(program, every):
 
 
 def try_refusals(refuse):
-    """Whether each refused request for memory ends well: all but those for the two rooms that are guessed lead to an error."""
+    """Whether each refused request for memory ends well.
+
+    It leads to an error, unless it is for one of the two rooms that are guessed, or by a quick step, which asks once more.
+    """
     total, bad = 0, []
     for data in SMALL:
         told = subprocess.run([refuse], input=data, capture_output=True, check=True, env=environment(OURS))
         for line in told.stdout.decode().splitlines():
             requests, failed, wrong, keeping = (int(count) for count in line.split(" ")[1:])
             total += requests
-            if wrong or keeping or failed != requests - 2:
+            if wrong or keeping or not requests // 2 <= failed <= requests - 2:
                 bad.append((data[:40], line))
     print(f"libyaml: {total} requests for memory refused, {len(bad)} inputs wrong {bad or ''}")
     return not bad and total > 100

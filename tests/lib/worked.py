@@ -92,7 +92,8 @@ def build_refuser(room):
 
 
 def run(program, words, data, refuser, number, behind_read=False):
-    """Runs a program in which the request of that number is refused, none for 0, and all from N on for `N-`."""
+    """Runs a program in which the request of that number is refused, none for 0, N and the next for `N+`, all from N on
+    for `N-`."""
     environment = {**os.environ, "LD_PRELOAD": refuser, "REFUSED_GROWTH": str(number)}
     if behind_read:
         environment["REFUSED_BEHIND_READ"] = "1"

@@ -10,6 +10,10 @@ pub mod QuotedBody
 pub mod QuotedRuns
 -- What a line of a quoted body holds unchanged is kept in one piece.
 pub mod QuotedLines
+-- A character that is not ASCII is set byte by byte.
+pub mod WideBytes
+-- The bytes of a run, and those of its trimmed piece, are the first of what is left.
+pub mod LineFronts
 -- The hexadecimal digits of an escape are read one by one.
 pub mod EscapeDigits
 -- Chunks, separators and ends of plain scalars are read a character at a time.

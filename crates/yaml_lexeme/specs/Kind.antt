@@ -20,10 +20,8 @@ abbrev pub is_indicator : ℕ → Bool
 is_indicator c = is_one_of (codes "-?:,[]{}#&*!|>'\"%@`") c
 
 -- `-` begins one, and outside of flow `?` and `:` do, if they do not end
-abbrev pub starts_plain : Bool → Place → Bool
-starts_plain flow p =
-    not (ends (first p) || is_indicator (first p))
-    || (first p == 0x2D || (not flow && (first p == 0x3F || first p == 0x3A)))
+abbrev pub starts_plain : Bool → ℕ → Bool
+starts_plain flow c = not (ends c || is_indicator c) || (c == 0x2D || (not flow && (c == 0x3F || c == 0x3A)))
 
 -- the first row that fits, if one does
 unfoldable pub kind_at : Bool → Place → Option yaml_lexeme_kind_t
@@ -49,5 +47,5 @@ kind_at flow p =
     else if c == 0x3E && not flow then Some kind.FOLDED
     else if c == 0x27 then Some kind.SINGLE_QUOTED
     else if c == 0x22 then Some kind.DOUBLE_QUOTED
-    else if starts_plain flow p then Some kind.PLAIN
+    else if starts_plain flow c then Some kind.PLAIN
     else None

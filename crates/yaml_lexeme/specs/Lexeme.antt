@@ -5,6 +5,7 @@ use Rattle.yaml_text.specs.declared.types.yaml_scalar_style_t.{yaml_scalar_style
 use Rattle.yaml_text.specs.Token.{TokenData, data_of}
 use Rattle.yaml_text.specs.Token.TokenData.{SCALAR}
 use Rattle.yaml_lexeme.specs.declared.lexeme.yaml_lexeme_t.{yaml_lexeme_t}
+use Rattle.yaml_lexeme.specs.declared.lexeme.yaml_scalar_t.{yaml_scalar_t}
 use Rattle.yaml_lexeme.specs.declared.plain.scalar_t.{scalar_t}
 use Rattle.yaml_lexeme.specs.declared.directive.directive_t.{directive_t}
 use Rattle.yaml_lexeme.specs.Place.{Place}
@@ -91,3 +92,11 @@ scalar_of s = record { value = s.value.items; end = s.end; passed_break = s.pass
 -- A directive of the code.
 abbrev pub directive_of : directive_t → Directive
 directive_of d = record { says = data_of d.says; end = d.end }
+
+-- A scalar of the code whose value is bytes of the text.
+abbrev pub scalar_there : yaml_scalar_t → Scalar
+scalar_there x = record { value = x.value.now; end = x.end_mark; passed_break = x.passed_break }
+
+-- The lexeme that it is, if it starts at a mark.
+abbrev pub scalar_lexeme : yaml_mark_t → yaml_scalar_t → Lexeme
+scalar_lexeme start x = scalar_to x.style start (scalar_there x) x.reach

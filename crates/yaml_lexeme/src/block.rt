@@ -122,6 +122,7 @@ fn take_header(cursor: &mut cursor_t) -> Result<header_t, refusal_t>
 
 /// Takes blanks, a comment and the break that ends the line.
 #[tactic(auto, unfolding(crate::specs::Block::after_line))]
+#[inline(always)]
 pub(crate) fn take_line_end(cursor: &mut cursor_t) -> Result<(), refusal_t>
     ensures { Moves result cursor.new (spec.after_line cursor.old) }
 {
@@ -156,13 +157,14 @@ fn skip_indent(cursor: &mut cursor_t, limit: Option<u64>)
     ensures { cursor.new ≡ skip (spec.indent_len limit cursor.old) cursor.old }
 {
     match limit {
-        None => cursor.skip_run(class_t::SPACE),
+        None => cursor.skip_all_spaces(),
         Some(n) => cursor.skip_spaces(n.saturating_sub(cursor.mark().column)),
     }
 }
 
 /// Takes the spaces that are indentation; a tab in their place is an offence.
 #[tactic(auto, unfolding(crate::specs::Block::after_indent))]
+#[inline(always)]
 fn take_indent(cursor: &mut cursor_t, limit: Option<u64>) -> Result<(), refusal_t>
     ensures { Moves result cursor.new (spec.after_indent limit cursor.old) }
 {
@@ -174,6 +176,7 @@ fn take_indent(cursor: &mut cursor_t, limit: Option<u64>) -> Result<(), refusal_
 }
 
 /// Takes empty lines and the indentation of the line that follows, and appends their breaks to `breaks`.
+#[inline(always)]
 fn take_blank_lines(
     cursor: &mut cursor_t,
     limit: Option<u64>,
@@ -259,7 +262,9 @@ fn push_between(
         }
     } else {
         push_lead(out, tail.lead)?;
-        out.extend_from_slice(&tail.empties)?;
+        if !tail.empties.is_empty() {
+            out.extend_from_slice(&tail.empties)?;
+        }
     }
     Ok(())
 }

@@ -4,6 +4,7 @@ ghost use Rattle.yaml_text.specs.Classes as classes;
 ghost use Rattle.yaml_lexeme.specs.Classes as spec;
 
 /// A line break.
+#[inline(always)]
 pub(crate) fn is_break(c: char) -> bool
     ensures { result ≡ classes.is_break c }
 {
@@ -11,6 +12,7 @@ pub(crate) fn is_break(c: char) -> bool
 }
 
 /// A space or a tab.
+#[inline(always)]
 pub(crate) fn is_blank(c: char) -> bool
     ensures { result ≡ classes.is_blank c }
 {
@@ -18,20 +20,29 @@ pub(crate) fn is_blank(c: char) -> bool
 }
 
 /// A blank or a break.
+#[inline(always)]
 pub(crate) fn is_white(c: char) -> bool
     ensures { result ≡ spec.is_white c }
 {
+    if c > ' ' && c < '\u{80}' {
+        return false;
+    }
     is_blank(c) || is_break(c)
 }
 
 /// A blank, a break or the end.
+#[inline(always)]
 pub(crate) fn ends(c: char) -> bool
     ensures { result ≡ spec.ends c }
 {
-    is_white(c) || c == '\0'
+    if c > ' ' && c < '\u{80}' {
+        return false;
+    }
+    is_blank(c) || is_break(c) || c == '\0'
 }
 
 /// A letter, a digit, `_` or `-`.
+#[inline(always)]
 pub(crate) fn is_alpha(c: char) -> bool
     ensures { result ≡ classes.is_alpha c }
 {
@@ -39,6 +50,7 @@ pub(crate) fn is_alpha(c: char) -> bool
 }
 
 /// All but a break and the end.
+#[inline(always)]
 pub(crate) fn is_in_line(c: char) -> bool
     ensures { result ≡ spec.is_in_line c }
 {

@@ -1,6 +1,9 @@
 //! Escapes in double quotes.
-ghost use Rattle.std.specs.Prelude.{◌≡◌, ◌≤◌};
+ghost use Rattle.std.specs.Prelude.{◌≡◌, ◌<◌, ◌≤◌, Some, false, true};
+ghost use Rattle.yaml_text.specs.Classes.{is_break};
+ghost use Rattle.yaml_lexeme.specs.Place.{first, peek, skip};
 ghost use Rattle.yaml_lexeme.specs.Escape as spec;
+ghost use Rattle.yaml_lexeme.specs.Runs as runs;
 ghost use Rattle.yaml_lexeme.specs.Gives.{Gives};
 
 use crate::place::cursor_t;
@@ -29,6 +32,24 @@ fn simple_escape(c: char) -> Option<char>
     })
 }
 
+/// Whether an escape is a common one: it gives a line feed, a tab or the character that is written.
+#[inline(always)]
+fn is_common(c: char) -> bool
+    ensures { result ≡ runs.is_common c }
+{
+    matches!(c, 'n' | 't' | '"' | '\\' | '/' | ' ')
+}
+
+/// The character that a common escape gives. It is computed, since the processor can't guess which escape comes next.
+#[inline(always)]
+fn common_escape(c: char) -> char
+    requires { runs.is_common c ≡ true }
+    ensures { Some result ≡ spec.simple_escape c }
+{
+    let b = c as u32 as u8;
+    char::from(b - 100 * u8::from(b == b'n') - 107 * u8::from(b == b't'))
+}
+
 /// How many hex digits follow a character after a backslash.
 fn hex_len(c: char) -> usize
     ensures len { result ≡ spec.hex_len c }
@@ -54,7 +75,7 @@ fn take_hex_escape(cursor: &mut cursor_t, n: usize) -> Result<char, refusal_t>
             return Err(refusal_t::OFFENCE(problem_t::NO_HEX_DIGIT));
         };
         value = value * 16 + digit;
-        at.advance();
+        at.pass();
     }
     let Some(c) = char::from_u32(value) else {
         return Err(refusal_t::OFFENCE(problem_t::NO_SCALAR_VALUE));
@@ -63,20 +84,39 @@ fn take_hex_escape(cursor: &mut cursor_t, n: usize) -> Result<char, refusal_t>
     Ok(c)
 }
 
-/// Takes an escape, from its backslash on.
+/// Takes a backslash and the character after it.
+#[inline(always)]
+fn pass_two(cursor: &mut cursor_t)
+    requires backslash { first cursor.old ≡ spec.backslash }
+    requires some { 0 < peek cursor.old 1 }
+    requires ascii { peek cursor.old 1 < 0x80 }
+    requires inside { is_break (peek cursor.old 1) ≡ false }
+    ensures { cursor.new ≡ skip 2 cursor.old }
+{
+    cursor.pass();
+    cursor.pass();
+}
+
+/// Takes an escape, from its backslash on. `next` is the character after the backslash.
 #[tactic(auto, unfolding(crate::specs::Escape::escape))]
-pub(crate) fn take_escape(cursor: &mut cursor_t) -> Result<char, refusal_t>
+#[inline(always)]
+pub(crate) fn take_escape(cursor: &mut cursor_t, next: char) -> Result<char, refusal_t>
+    requires backslash { first cursor.old ≡ spec.backslash }
+    requires next { next ≡ peek cursor.old 1 }
     ensures { Gives (λ c. c) result cursor.new (spec.escape cursor.old) }
 {
-    let next = cursor.peek(1);
+    if is_common(next) {
+        pass_two(cursor);
+        return Ok(common_escape(next));
+    }
     let n = hex_len(next);
     if n > 0 {
-        cursor.skip(2);
+        pass_two(cursor);
         return take_hex_escape(cursor, n);
     }
     let Some(c) = simple_escape(next) else {
         return Err(refusal_t::OFFENCE(problem_t::UNKNOWN_ESCAPE));
     };
-    cursor.skip(2);
+    pass_two(cursor);
     Ok(c)
 }

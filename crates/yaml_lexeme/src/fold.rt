@@ -1,5 +1,5 @@
 //! The value of a run of blanks and breaks.
-ghost use Rattle.std.specs.Prelude.{◌≡◌, ◌++◌, OnOk, encode_utf8};
+ghost use Rattle.std.specs.Prelude.{◌≡◌, ◌≤◌, ◌++◌, OnOk, encode_utf8, length, take};
 ghost use Rattle.yaml_text.specs.Chars.{utf8};
 ghost use Rattle.yaml_lexeme.specs.Classes as sets;
 ghost use Rattle.yaml_lexeme.specs.Place as place;
@@ -9,7 +9,68 @@ use crate::place::cursor_t;
 use crate::runs::class_t;
 use std::alloc::AllocError;
 
+/// So many bytes are copied as one.
+const STAGE: usize = 16;
+
+/// Appends the first `n` bytes to `out`. If they are few, a stage of bytes is copied as one, and what is too much of it
+/// is cut off.
+#[inline(always)]
+pub(crate) fn push_front(out: &mut Vec<u8>, bytes: &[u8], n: usize) -> Result<(), AllocError>
+    requires { n ≤ length bytes.now }
+    ensures { OnOk result (out.new.items ≡ out.old.items ++ take n bytes.now) }
+{
+    if n > STAGE || bytes.len() < STAGE {
+        return out.extend_from_slice(&bytes[..n]);
+    }
+    let old = out.len();
+    out.extend_from_slice(&bytes[..STAGE])?;
+    out.truncate(old + n);
+    Ok(())
+}
+
+/// Writes a character that is not ASCII at the front of four bytes, and returns how many of them it takes.
+fn set_wide(place: &mut [u8], c: char) -> usize
+    requires wide { 0x80 ≤ c }
+    requires four { length place.old ≡ 4 }
+    ensures bytes { take result place.new ≡ encode_utf8 c }
+    ensures most { result ≤ 4 }
+    ensures four { length place.new ≡ 4 }
+{
+    let code = c as u32;
+    if code < 0x800 {
+        place[0] = (0xC0 + code / 64) as u8;
+        place[1] = (0x80 + code % 64) as u8;
+        return 2;
+    }
+    if code < 0x1_0000 {
+        place[0] = (0xE0 + code / 4096) as u8;
+        place[1] = (0x80 + code / 64 % 64) as u8;
+        place[2] = (0x80 + code % 64) as u8;
+        return 3;
+    }
+    place[0] = (0xF0 + code / 262144) as u8;
+    place[1] = (0x80 + code / 4096 % 64) as u8;
+    place[2] = (0x80 + code / 64 % 64) as u8;
+    place[3] = (0x80 + code % 64) as u8;
+    4
+}
+
+/// Appends a character that is not ASCII to `out`: four bytes are copied as one, and what is too much is cut off.
+#[inline(never)]
+fn push_wide(out: &mut Vec<u8>, c: char) -> Result<(), AllocError>
+    requires { 0x80 ≤ c }
+    ensures { OnOk result (out.new.items ≡ out.old.items ++ encode_utf8 c) }
+{
+    let mut bytes = [0; 4];
+    let n = set_wide(&mut bytes, c);
+    let start = out.len();
+    out.extend_from_slice(&bytes)?;
+    out.truncate(start + n);
+    Ok(())
+}
+
 /// Appends a character to `out`.
+#[inline(always)]
 pub(crate) fn push_char(out: &mut Vec<u8>, c: char) -> Result<(), AllocError>
     ensures { OnOk result (out.new.items ≡ out.old.items ++ encode_utf8 c) }
 {
@@ -17,8 +78,7 @@ pub(crate) fn push_char(out: &mut Vec<u8>, c: char) -> Result<(), AllocError>
         out.push(c as u32 as u8)?;
         return Ok(());
     }
-    let mut bytes = [0; 4];
-    out.extend_from_slice(c.encode_utf8(&mut bytes).as_bytes())
+    push_wide(out, c)
 }
 
 /// A break as it is written in a value.

@@ -1,5 +1,5 @@
 //! What is between lexemes.
-ghost use Rattle.std.specs.Prelude.{ℕ, ◌≡◌, true, false};
+ghost use Rattle.std.specs.Prelude.{ℕ, ◌≡◌, true, false, IfSome};
 ghost use Rattle.yaml_lexeme.specs.Place.{IsMarkOf, place_at, behind, peek};
 ghost use Rattle.yaml_lexeme.specs.Classes.{is_in_line};
 ghost use Rattle.yaml_lexeme.specs.Gap as spec;
@@ -61,43 +61,55 @@ fn is_solid(cursor: &cursor_t, k: usize) -> bool
     c > ' ' && c < '\u{80}' && c != '#'
 }
 
-/// Takes a line feed and spaces, if these are the gap that is here.
+/// The gap from a place on, read gap line by gap line.
+#[inline(never)]
+fn long_gap(
+    text: &yaml_text_t,
+    at: yaml_mark_t,
+    in_flow: bool,
+    allowed: bool,
+) -> (yaml_mark_t, bool)
+    requires { (n : ℕ) × IsMarkOf text.now.chars at n }
+    ensures mark { (n : ℕ) → IsMarkOf text.now.chars at n
+        → result.0 ≡ (spec.gap in_flow allowed (place_at text.now.chars n)).0.mark }
+    ensures broken { (n : ℕ) → IsMarkOf text.now.chars at n
+        → result.1 ≡ (spec.gap in_flow allowed (place_at text.now.chars n)).1 }
+{
+    let mut cursor = cursor_t::at(text, at);
+    let broken = skip_gap_lines(&mut cursor, in_flow, allowed);
+    (cursor.mark(), broken)
+}
+
+/// The place after a line feed and spaces, if these are the gap that is here.
 #[inline(always)]
-fn skip_feed(cursor: &mut cursor_t) -> bool
-    ensures some { result ≡ true → spec.IsGap cursor.old cursor.new true }
-    ensures none { result ≡ false → cursor.new ≡ cursor.old }
+fn after_feed<'a>(cursor: &cursor_t<'a>) -> Option<cursor_t<'a>>
+    ensures { IfSome result (λ q. spec.IsGap cursor.now q true) }
 {
     if !check_at!(cursor, '\n', 0) {
-        return false;
+        return None;
     }
     let mut next = cursor.again();
-    next.advance();
-    next.skip_run(class_t::SPACE);
-    let found = is_solid(&next, 0);
-    if found {
-        *cursor = next;
-    }
-    found
+    next.pass_feed();
+    next.skip_all_spaces();
+    if is_solid(&next, 0) { Some(next) } else { None }
 }
 
-/// Takes a gap that is not empty, and returns whether a break is in it.
-#[inline(never)]
-fn skip_some_gap(cursor: &mut cursor_t, in_flow: bool, allowed: bool) -> bool
-    ensures { (cursor.new, result) ≡ spec.gap in_flow allowed cursor.old }
-{
-    if check_at!(cursor, ' ', 0) && is_solid(cursor, 1) {
-        cursor.advance();
-        return false;
-    }
-    skip_feed(cursor) || skip_gap_lines(cursor, in_flow, allowed)
-}
-
-/// Takes the gap that is here, and returns whether a break is in it.
+/// The place after a gap that is short, and whether a break is in it. No gap, one space, and a line feed with
+/// spaces after it are short, if an ASCII character that belongs to no gap follows.
 #[inline(always)]
-fn skip_gap(cursor: &mut cursor_t, in_flow: bool, allowed: bool) -> bool
-    ensures { (cursor.new, result) ≡ spec.gap in_flow allowed cursor.old }
+fn short_gap<'a>(cursor: &cursor_t<'a>) -> Option<(cursor_t<'a>, bool)>
+    ensures { IfSome result (λ r. spec.IsGap cursor.now r.0 r.1) }
 {
-    !is_solid(cursor, 0) && skip_some_gap(cursor, in_flow, allowed)
+    if is_solid(cursor, 0) {
+        return Some((cursor.again(), false));
+    }
+    if check_at!(cursor, ' ', 0) && is_solid(cursor, 1) {
+        let mut next = cursor.again();
+        next.pass();
+        return Some((next, false));
+    }
+    let next = after_feed(cursor)?;
+    Some((next, true))
 }
 
 /// The gap from a place on: the mark of the place after it, and whether a break is in it (YAML 1.1, 6.2
@@ -124,7 +136,18 @@ pub fn yaml_gap(
     ensures broken { (n : ℕ) → IsMarkOf text.now.chars at n
         → result.1 ≡ (spec.gap in_flow allowed (place_at text.now.chars n)).1 }
 {
-    let mut cursor = cursor_t::at(text, at);
-    let broken = skip_gap(&mut cursor, in_flow, allowed);
-    (cursor.mark(), broken)
+    let cursor = cursor_t::at(text, at);
+    match short_gap(&cursor) {
+        Some((next, broken)) => (next.mark(), broken),
+        None => {
+            // copied and taken apart, so that the marks stay in registers
+            let again = yaml_mark_t {
+                index: at.index,
+                line: at.line,
+                column: at.column,
+            };
+            let (mark, broken) = long_gap(text, again, in_flow, allowed);
+            (mark, broken)
+        }
+    }
 }

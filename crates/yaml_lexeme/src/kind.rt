@@ -96,10 +96,11 @@ fn is_indicator(c: char) -> bool
         || c == '`'
 }
 
-fn starts_plain(cursor: &cursor_t, in_flow: bool) -> bool
-    ensures { result ≡ spec.starts_plain in_flow cursor.now }
+/// Whether a plain scalar starts with this character.
+#[inline(never)]
+fn starts_plain(c: char, in_flow: bool) -> bool
+    ensures { result ≡ spec.starts_plain in_flow c }
 {
-    let c = cursor.peek(0);
     !(ends(c) || is_indicator(c)) || c == '-' || (!in_flow && (c == '?' || c == ':'))
 }
 
@@ -141,7 +142,7 @@ fn kind_at(cursor: &cursor_t, in_flow: bool) -> Option<yaml_lexeme_kind_t>
         '>' if !in_flow => yaml_lexeme_kind_t::FOLDED,
         '\'' => yaml_lexeme_kind_t::SINGLE_QUOTED,
         '"' => yaml_lexeme_kind_t::DOUBLE_QUOTED,
-        _ if starts_plain(cursor, in_flow) => yaml_lexeme_kind_t::PLAIN,
+        _ if starts_plain(c, in_flow) => yaml_lexeme_kind_t::PLAIN,
         _ => return None,
     })
 }

@@ -1,5 +1,5 @@
 //! Lexemes of every kind.
-ghost use Rattle.std.specs.Prelude.{ℕ, ◌≡◌, ◌+◌, ◌<◌, ◌≤◌, ◌^◌, true, Some, IsOk, IfSome, length};
+ghost use Rattle.std.specs.Prelude.{ℕ, ◌≡◌, ◌+◌, ◌<◌, ◌≤◌, ◌^◌, true, Some, Ok, IsOk, IfSome, length};
 ghost use Rattle.yaml_text.specs.Chars.{utf8};
 ghost use Rattle.yaml_text.specs.Fault.{fault_of, scanner_fault};
 ghost use Rattle.yaml_lexeme.specs.Kind as kinds;
@@ -16,7 +16,8 @@ ghost use Rattle.yaml_lexeme.specs.Place.{IsMarkOf, place_at, skip};
 ghost use Rattle.yaml_lexeme.specs.Reading.{found};
 ghost use Rattle.yaml_lexeme.specs.Gives.{Gives};
 ghost use Rattle.yaml_lexeme.specs.Answers.{Answers};
-ghost use Rattle.yaml_lexeme.specs.Lexeme.{lexeme, lexeme_of, whole, scalar_to, directive_to};
+ghost use Rattle.yaml_lexeme.specs.Lexeme.{lexeme, lexeme_of, scalar_lexeme, whole, scalar_to, directive_to};
+ghost use Rattle.yaml_lexeme.specs.declared.kind.yaml_lexeme_kind_t.TheVariants.{PLAIN};
 ghost use Rattle.yaml_text.specs.Token.{data_of};
 
 use crate::block::{above, take_block};
@@ -24,12 +25,12 @@ use crate::directive::take_directive;
 use crate::fault::{make_memory_fault, make_scanner_fault};
 use crate::fault_texts::{context_text, problem_text};
 use crate::kind::yaml_lexeme_kind_t;
-use crate::lexeme::{directive_to, scalar_to, whole_of, yaml_lexeme_t};
+use crate::lexeme::{directive_to, scalar_to, whole_of, yaml_lexeme_t, yaml_scalar_t};
 use crate::name::take_name;
 use crate::place::cursor_t;
-use crate::plain::take_plain;
+use crate::plain::{plain_at_once, take_plain};
 use crate::problem::{problem_t, refusal_t};
-use crate::quoted::take_quoted;
+use crate::quoted::{quoted_at_once, take_quoted};
 use crate::stream_end::take_stream_end;
 use crate::tag::take_tag;
 use std::alloc::Global;
@@ -85,7 +86,7 @@ fn least(context: yaml_context_t) -> u64
 }
 
 /// Takes a lexeme of one character, or a document marker.
-#[inline(never)]
+#[inline(always)]
 fn take_characters(
     cursor: &mut cursor_t,
     kind: yaml_lexeme_kind_t,
@@ -246,16 +247,16 @@ fn take_lexeme(
 {
     match kind {
         yaml_lexeme_kind_t::STREAM_END => take_stream_end(cursor),
-        yaml_lexeme_kind_t::DOCUMENT_START => take_characters(cursor, kind),
-        yaml_lexeme_kind_t::DOCUMENT_END => take_characters(cursor, kind),
-        yaml_lexeme_kind_t::FLOW_SEQUENCE_START => take_characters(cursor, kind),
-        yaml_lexeme_kind_t::FLOW_MAPPING_START => take_characters(cursor, kind),
-        yaml_lexeme_kind_t::FLOW_SEQUENCE_END => take_characters(cursor, kind),
-        yaml_lexeme_kind_t::FLOW_MAPPING_END => take_characters(cursor, kind),
-        yaml_lexeme_kind_t::FLOW_ENTRY => take_characters(cursor, kind),
-        yaml_lexeme_kind_t::BLOCK_ENTRY => take_characters(cursor, kind),
-        yaml_lexeme_kind_t::KEY => take_characters(cursor, kind),
-        yaml_lexeme_kind_t::VALUE => take_characters(cursor, kind),
+        yaml_lexeme_kind_t::DOCUMENT_START
+        | yaml_lexeme_kind_t::DOCUMENT_END
+        | yaml_lexeme_kind_t::FLOW_SEQUENCE_START
+        | yaml_lexeme_kind_t::FLOW_MAPPING_START
+        | yaml_lexeme_kind_t::FLOW_SEQUENCE_END
+        | yaml_lexeme_kind_t::FLOW_MAPPING_END
+        | yaml_lexeme_kind_t::FLOW_ENTRY
+        | yaml_lexeme_kind_t::BLOCK_ENTRY
+        | yaml_lexeme_kind_t::KEY
+        | yaml_lexeme_kind_t::VALUE => take_characters(cursor, kind),
         yaml_lexeme_kind_t::DIRECTIVE => take_whole_directive(alloc, cursor),
         yaml_lexeme_kind_t::ALIAS => take_anchor_or_alias(alloc, cursor, false),
         yaml_lexeme_kind_t::ANCHOR => take_anchor_or_alias(alloc, cursor, true),
@@ -337,4 +338,109 @@ pub fn yaml_lexeme_at(
         Err(refusal_t::MEMORY) => Err(make_memory_fault()),
         Err(refusal_t::OFFENCE(problem)) => Err(make_fault(kind, problem, at, cursor.mark())),
     }
+}
+
+/// The plain scalar at a place, if a quick look shows that its value is bytes of the text: all of it is in one line.
+///
+/// `at` must be the mark of a place of this text, as for `yaml_lexeme_at`. The level of the context must be at most
+/// the number of the text's bytes. The scalar starts at `at`. It is what `yaml_lexeme_at` returns there for the
+/// kind plain: its bytes are the value, and `style`, `end_mark`, `reach` and `passed_break` are those of the lexeme.
+/// Marks count as everywhere: the index in bytes, the line and the column from 0.
+///
+/// It takes no memory. `None` says nothing: the scalar may go on in a further line, it may have an offence, or a look
+/// that is not quick may be needed. Ask `yaml_lexeme_at` then.
+#[tactic(auto, unfolding(crate::specs::Lex::lex))]
+#[inline(always)]
+pub fn yaml_plain_at_once<'a>(
+    text: &'a yaml_text_t<'_>,
+    at: yaml_mark_t,
+    context: yaml_context_t,
+) -> Option<yaml_scalar_t<'a>>
+    requires place { (n : ℕ) × IsMarkOf text.now.chars at n }
+    requires level { IfSome context.level (λ l. l ≤ length (utf8 text.now.chars)) }
+    ensures { IfSome result (λ x. (n : ℕ) → IsMarkOf text.now.chars at n
+        → spec.lexeme_at PLAIN context (place_at text.now.chars n) ≡ Ok (scalar_lexeme at x)) }
+{
+    let mut cursor = cursor_t::at(text, at);
+    plain_at_once(&mut cursor, context.depth > 0, least(context))
+}
+
+/// Takes a quoted scalar, if a quick look finds it.
+#[inline(always)]
+fn quoted_there<'a>(cursor: &mut cursor_t<'a>, single: bool) -> Option<yaml_scalar_t<'a>>
+    ensures { IfSome result (λ x. lexeme (whole (spec.quoted_as (spec.quoted_style single))) cursor.old
+        (quotes.quoted single cursor.old) ≡ found (scalar_lexeme cursor.old.mark x) cursor.new) }
+{
+    let Some(value) = quoted_at_once(cursor, single) else {
+        return None;
+    };
+    Some(yaml_scalar_t {
+        value,
+        style: quoted_style(single),
+        end_mark: cursor.mark(),
+        reach: cursor.mark(),
+        passed_break: false,
+    })
+}
+
+/// The quoted scalar at a place, if a quick look shows that its value is the bytes between its quotes.
+///
+/// `at` must be the mark of a place of this text, as for `yaml_lexeme_at`. The scalar starts at `at`. It is what
+/// `yaml_lexeme_at` returns there for the kind: the bytes are the value, and `style`, `end_mark`, `reach` and
+/// `passed_break` are those of the lexeme. Marks count as everywhere: the index in bytes, the line and the column from
+/// 0.
+///
+/// It takes no memory. `None` says nothing: the scalar may go on in a further line, it may have an escape or an
+/// offence, or the kind is that of no quoted scalar. Ask `yaml_lexeme_at` then.
+#[tactic(auto, unfolding(crate::specs::Lex::lex))]
+#[inline(always)]
+pub fn yaml_quoted_at_once<'a>(
+    text: &'a yaml_text_t<'_>,
+    at: yaml_mark_t,
+    kind: yaml_lexeme_kind_t,
+    context: yaml_context_t,
+) -> Option<yaml_scalar_t<'a>>
+    requires { (n : ℕ) × IsMarkOf text.now.chars at n }
+    ensures { IfSome result (λ x. (n : ℕ) → IsMarkOf text.now.chars at n
+        → spec.lexeme_at kind context (place_at text.now.chars n) ≡ Ok (scalar_lexeme at x)) }
+{
+    let mut cursor = cursor_t::at(text, at);
+    match kind {
+        yaml_lexeme_kind_t::SINGLE_QUOTED => quoted_there(&mut cursor, true),
+        yaml_lexeme_kind_t::DOUBLE_QUOTED => quoted_there(&mut cursor, false),
+        _ => None,
+    }
+}
+
+/// The lexeme of one character, or the document marker, at a place; `None` for the other kinds.
+///
+/// `at` must be the mark of a place of this text, as for [`yaml_lexeme_at`], and `kind` what `yaml_lexeme_kind` returns
+/// there. No memory is taken.
+#[tactic(auto, unfolding(crate::specs::Lex::lex))]
+#[inline(always)]
+pub fn yaml_character_at(
+    text: &yaml_text_t,
+    at: yaml_mark_t,
+    kind: yaml_lexeme_kind_t,
+    context: yaml_context_t,
+) -> Option<yaml_lexeme_t>
+    requires { (n : ℕ) × IsMarkOf text.now.chars at n }
+    ensures { IfSome result (λ x. (n : ℕ) → IsMarkOf text.now.chars at n
+        → spec.lexeme_at kind context (place_at text.now.chars n) ≡ Ok (lexeme_of x)) }
+{
+    let mut cursor = cursor_t::at(text, at);
+    let taken = match kind {
+        yaml_lexeme_kind_t::DOCUMENT_START
+        | yaml_lexeme_kind_t::DOCUMENT_END
+        | yaml_lexeme_kind_t::FLOW_SEQUENCE_START
+        | yaml_lexeme_kind_t::FLOW_MAPPING_START
+        | yaml_lexeme_kind_t::FLOW_SEQUENCE_END
+        | yaml_lexeme_kind_t::FLOW_MAPPING_END
+        | yaml_lexeme_kind_t::FLOW_ENTRY
+        | yaml_lexeme_kind_t::BLOCK_ENTRY
+        | yaml_lexeme_kind_t::KEY
+        | yaml_lexeme_kind_t::VALUE => take_characters(&mut cursor, kind),
+        _ => return None,
+    };
+    taken.ok()
 }

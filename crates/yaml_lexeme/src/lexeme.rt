@@ -27,6 +27,22 @@ pub struct yaml_lexeme_t {
     pub passed_break: bool,
 }
 
+/// A scalar whose value is bytes of the text.
+#[derive(Clone, Copy)]
+pub struct yaml_scalar_t<'a> {
+    /// The value, in UTF-8: for a plain scalar the bytes of the text from its start on up to `end_mark`, for a quoted
+    /// one those between its quotes.
+    pub value: &'a [u8],
+    /// How it is written.
+    pub style: yaml_scalar_style_t,
+    /// The mark after its last character, which is the closing quote of a quoted one.
+    pub end_mark: yaml_mark_t,
+    /// The mark up to which was read; the next gap begins here. It is `end_mark`, or for a plain scalar after it.
+    pub reach: yaml_mark_t,
+    /// For a plain scalar, whether a break is between `end_mark` and `reach`; false for a quoted one.
+    pub passed_break: bool,
+}
+
 /// The lexeme between two marks, the second of which is also its reach.
 pub(crate) fn whole_of(
     says: unnamed_yaml_token_t_data,

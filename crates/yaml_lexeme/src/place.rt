@@ -2,6 +2,7 @@
 ghost use Rattle.std.specs.Prelude.{ℕ, min, ◌≡◌, ◌+◌, ◌-◌, ◌^◌, ◌<◌, ◌≤◌, length, slice_index, take, drop, false, true};
 ghost use Rattle.std.specs.Str.{chars};
 ghost use Rattle.yaml_text.specs.Chars.{IsText, AreChars, utf8};
+ghost use Rattle.yaml_text.specs.Classes.{is_break};
 ghost use Rattle.yaml_text.specs.Utf8.{value_of};
 ghost use Rattle.yaml_lexeme.specs.Place.{peek, first, place_at, IsMarkOf, skip, mark_behind, width, behind, run};
 ghost use Rattle.yaml_lexeme.specs.Place.{run_len, break_len};
@@ -208,6 +209,36 @@ impl<'a> cursor_t<'a> {
         first_char(left)
     }
 
+    /// Takes a line feed.
+    #[inline(always)]
+    pub fn pass_feed(&mut self)
+        requires { first self.old ≡ 0x0A }
+        ensures { self.new ≡ skip 1 self.old }
+    {
+        self.mark = yaml_mark_t {
+            index: self.mark.index + 1,
+            line: self.mark.line + 1,
+            column: 0,
+        };
+        self.bytes = rest(self.bytes, 1);
+    }
+
+    /// Takes a character of ASCII that is no break.
+    #[inline(always)]
+    pub fn pass(&mut self)
+        requires some { 0 < first self.old }
+        requires ascii { first self.old < 0x80 }
+        requires inside { is_break (first self.old) ≡ false }
+        ensures { self.new ≡ skip 1 self.old }
+    {
+        self.mark = yaml_mark_t {
+            index: self.mark.index + 1,
+            line: self.mark.line,
+            column: self.mark.column + 1,
+        };
+        self.bytes = rest(self.bytes, 1);
+    }
+
     /// Takes a character, if one is left.
     #[inline(always)]
     pub fn advance(&mut self)
@@ -218,36 +249,26 @@ impl<'a> cursor_t<'a> {
         }
         let b = self.bytes[0];
         if b == b'\n' {
-            self.mark = yaml_mark_t {
-                index: self.mark.index + 1,
-                line: self.mark.line + 1,
-                column: 0,
-            };
-            self.bytes = rest(self.bytes, 1);
-            return;
+            self.pass_feed();
+        } else if b < 0x80 && b != b'\r' {
+            self.pass();
+        } else {
+            *self = self.again().past_far();
         }
-        if b < 0x80 && b != b'\r' {
-            self.mark = yaml_mark_t {
-                index: self.mark.index + 1,
-                line: self.mark.line,
-                column: self.mark.column + 1,
-            };
-            self.bytes = rest(self.bytes, 1);
-            return;
-        }
-        self.advance_far();
     }
 
-    /// Takes a character that is not ASCII or is a carriage return.
+    /// The place after a character that is not ASCII or is a carriage return.
     #[inline(never)]
-    fn advance_far(&mut self)
-        requires { 0 < length self.old.rest }
-        ensures { self.new ≡ skip 1 self.old }
+    fn past_far(&self) -> cursor_t<'a>
+        requires { 0 < length self.now.rest }
+        ensures { result ≡ skip 1 self.now }
     {
         let c = first_char(self.bytes);
         let next = self.peek(1);
-        self.mark = mark_behind(self.mark, c, next);
-        self.bytes = past_char(self.bytes);
+        cursor_t {
+            mark: mark_behind(self.mark, c, next),
+            bytes: past_char(self.bytes),
+        }
     }
 
     /// Takes `n` characters, or all that are left.
@@ -266,6 +287,10 @@ impl<'a> cursor_t<'a> {
         ensures { result ≡ break_len self.now }
     {
         let c = self.peek(0);
+        // No break of ASCII is above a carriage return.
+        if c > '\r' && c < '\u{80}' {
+            return 0;
+        }
         if c == '\r' && check_at!(self, '\n', 1) {
             2
         } else if is_break(c) {
@@ -285,7 +310,8 @@ impl<'a> cursor_t<'a> {
     }
 
     /// What is left of the text.
-    fn left(&self) -> &'a [u8]
+    #[inline(always)]
+    pub fn left(&self) -> &'a [u8]
         ensures { result.now ≡ utf8 self.now.rest }
     {
         self.bytes
@@ -351,6 +377,20 @@ impl<'a> cursor_t<'a> {
             column: self.mark.column + n,
         };
         self.bytes = rest(self.bytes, n as usize);
+    }
+
+    /// Takes the spaces that are here.
+    #[inline(always)]
+    pub fn skip_all_spaces(&mut self)
+        ensures { self.new ≡ behind (class_test SPACE) self.old }
+    {
+        let n = spaces_len(self.bytes);
+        self.mark = yaml_mark_t {
+            index: self.mark.index + n as u64,
+            line: self.mark.line,
+            column: self.mark.column + n as u64,
+        };
+        self.bytes = rest(self.bytes, n);
     }
 
     /// Takes the longest run of characters of the class.

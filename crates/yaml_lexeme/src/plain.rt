@@ -3,22 +3,24 @@ ghost use Rattle.std.specs.Prelude.{◌≡◌, ◌+◌, ◌||◌, ◌<◌, ◌�
 ghost use Rattle.std.specs.Prelude.{OnOk, IfOk, IfSome};
 ghost use Rattle.std.specs.List.{list_any};
 ghost use Rattle.yaml_text.specs.Classes as classes;
+ghost use Rattle.yaml_text.specs.declared.types.yaml_scalar_style_t.TheVariants.{YAML_PLAIN_SCALAR_STYLE};
 ghost use Rattle.yaml_lexeme.specs.Classes as sets;
 ghost use Rattle.yaml_lexeme.specs.Place.{Place, first, peek, run, behind};
 ghost use Rattle.yaml_lexeme.specs.Plain as spec;
 ghost use Rattle.yaml_lexeme.specs.Gives.{Gives, Appends};
-ghost use Rattle.yaml_lexeme.specs.Lexeme.{scalar_of};
-ghost use Rattle.yaml_lexeme.specs.Reading.{with_front, over};
-ghost use Rattle.yaml_lexeme.specs.Words.{links, words, Goes, LeadsTo, Leaves, LeavesMore};
+ghost use Rattle.yaml_lexeme.specs.Lexeme.{scalar_of, scalar_there};
+ghost use Rattle.yaml_lexeme.specs.Reading.{found, with_front, over};
+ghost use Rattle.yaml_lexeme.specs.Words.{links, words, plain_of, Goes, LeadsTo, Leaves, LeavesMore};
 
 use crate::classes::{ends, is_break, is_white};
 use crate::fold::{push_char, push_separator};
 use crate::kind::is_marker;
+use crate::lexeme::yaml_scalar_t;
 use crate::place::{check_at, cursor_t, is_at};
 use crate::problem::{problem_t, refusal_t};
 use crate::runs::class_t;
 use std::alloc::Global;
-use yaml_text::yaml_mark_t;
+use yaml_text::{yaml_mark_t, yaml_scalar_style_t};
 
 /// A scalar that was read.
 #[derive(Drop)]
@@ -67,6 +69,18 @@ fn goes_far(cursor: &cursor_t, in_flow: bool, least: u64) -> bool
     in_flow || least.saturating_sub(1) <= cursor.mark().column
 }
 
+/// The characters that a plain scalar keeps unchanged within a line, but those that may end it.
+#[inline(always)]
+fn words_class(in_flow: bool) -> class_t
+    ensures { result ≡ plain_of in_flow }
+{
+    if in_flow {
+        class_t::FLOW
+    } else {
+        class_t::PLAIN
+    }
+}
+
 /// Takes what is kept unchanged in this line, up to a byte at which that may end.
 #[inline(always)]
 fn skip_words(cursor: &mut cursor_t, in_flow: bool, least: u64)
@@ -75,10 +89,32 @@ fn skip_words(cursor: &mut cursor_t, in_flow: bool, least: u64)
     if !goes_far(cursor, in_flow, least) {
         return;
     }
-    if in_flow {
-        cursor.skip_solid(class_t::FLOW);
-    } else {
-        cursor.skip_solid(class_t::PLAIN);
+    cursor.skip_solid(words_class(in_flow));
+}
+
+/// The place after the rest of a chunk, and after the separators and chunks that follow it in the same line.
+#[inline(never)]
+fn some_chunks<'a>(from: &cursor_t<'a>, in_flow: bool, least: u64) -> cursor_t<'a>
+    ensures goes { Goes in_flow least from.now result }
+    ensures over { spec.is_chunk in_flow (first result) (peek result 1) ≡ false }
+{
+    let mut cursor = from.again();
+    'chunk: while is_chunk(&cursor, in_flow) {
+        cursor.advance();
+        skip_words(&mut cursor, in_flow, least);
+    }
+    cursor
+}
+
+/// Takes what is left of a chunk, if any is, and the separators and chunks after it in the same line.
+#[inline(always)]
+fn skip_chunks(cursor: &mut cursor_t, in_flow: bool, least: u64)
+    ensures goes { Goes in_flow least cursor.old cursor.new }
+    ensures over { spec.is_chunk in_flow (first cursor.new) (peek cursor.new 1) ≡ false }
+{
+    if is_chunk(cursor, in_flow) {
+        // a copy, so that the cursor itself stays in registers
+        *cursor = some_chunks(&cursor.again(), in_flow, least);
     }
 }
 
@@ -91,10 +127,7 @@ fn line_words<'a>(cursor: &mut cursor_t<'a>, in_flow: bool, least: u64) -> &'a [
 {
     let start = cursor.again();
     skip_words(cursor, in_flow, least);
-    'chunk: while is_chunk(cursor, in_flow) {
-        cursor.advance();
-        skip_words(cursor, in_flow, least);
-    }
+    skip_chunks(cursor, in_flow, least);
     cursor.since(&start)
 }
 
@@ -190,20 +223,49 @@ fn ends_at_once(cursor: &mut cursor_t, in_flow: bool, least: u64) -> Option<bool
     ensures stays { result ≡ None → cursor.new ≡ cursor.old }
 {
     let c = cursor.peek(0);
-    if !is_white(c) {
-        return Some(false);
+    if c != '\n' {
+        return if is_white(c) { None } else { Some(false) };
     }
-    if in_flow || c != '\n' {
+    if in_flow {
         return None;
     }
     let mut next = cursor.again();
-    next.advance();
-    next.skip_run(class_t::SPACE);
+    next.pass_feed();
+    next.skip_all_spaces();
     if next.mark().column >= least || is_white(next.peek(0)) {
         return None;
     }
     *cursor = next;
     Some(true)
+}
+
+/// Takes a plain scalar, if a quick look shows that its value is bytes of the text. `least` is the least column
+/// of a line that goes on. After `None` the cursor may be at any place.
+#[inline(always)]
+pub(crate) fn plain_at_once<'a>(
+    cursor: &mut cursor_t<'a>,
+    in_flow: bool,
+    least: u64,
+) -> Option<yaml_scalar_t<'a>>
+    ensures value { IfSome result (λ x. spec.plain in_flow least cursor.old ≡ found (scalar_there x) cursor.new) }
+    ensures style { IfSome result (λ x. x.style ≡ YAML_PLAIN_SCALAR_STYLE) }
+    ensures reach { IfSome result (λ x. x.reach ≡ cursor.new.mark) }
+{
+    let value = line_words(cursor, in_flow, least);
+    if is_bad_colon(cursor, in_flow) {
+        return None;
+    }
+    let end_mark = cursor.mark();
+    let Some(passed_break) = ends_at_once(cursor, in_flow, least) else {
+        return None;
+    };
+    Some(yaml_scalar_t {
+        value,
+        style: yaml_scalar_style_t::YAML_PLAIN_SCALAR_STYLE,
+        end_mark,
+        reach: cursor.mark(),
+        passed_break,
+    })
 }
 
 /// Takes the separators and words after those of the first line, which are in `out`.

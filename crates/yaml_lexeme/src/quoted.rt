@@ -1,5 +1,6 @@
 //! Quoted scalars.
-ghost use Rattle.std.specs.Prelude.{ℕ, ◌≡◌, ◌≤◌, ◌++◌, true, List, Ok, Err, if◌then◌else◌, OnOk, length};
+ghost use Rattle.std.specs.Prelude.{ℕ, ◌≡◌, ◌≤◌, ◌++◌, false, true, List, Ok, Err, if◌then◌else◌, length};
+ghost use Rattle.std.specs.Prelude.{OnOk, IfSome, take};
 ghost use Rattle.yaml_text.specs.Chars.{utf8};
 ghost use Rattle.yaml_lexeme.specs.declared.problem.refusal_t.TheVariants.{OFFENCE};
 ghost use Rattle.yaml_lexeme.specs.declared.problem.problem_t.TheVariants.{DOCUMENT_MARKER};
@@ -8,10 +9,13 @@ ghost use Rattle.yaml_lexeme.specs.Quoted as spec;
 ghost use Rattle.yaml_lexeme.specs.Runs as runs;
 ghost use Rattle.yaml_lexeme.specs.Gives.{Gives, Takes};
 ghost use Rattle.yaml_lexeme.specs.Words.{GoesOn};
+ghost use Rattle.yaml_lexeme.specs.Place.{first};
+ghost use Rattle.yaml_lexeme.specs.Reading.{found, over};
+ghost use Rattle.yaml_lexeme.specs.Escape.{backslash};
 
 use crate::classes::{is_break, is_white};
 use crate::escape::take_escape;
-use crate::fold::{push_breaks, push_char, push_separator};
+use crate::fold::{push_breaks, push_char, push_front, push_separator};
 use crate::kind::is_marker;
 use crate::place::{check_at, cursor_t, is_at};
 use crate::problem::{problem_t, refusal_t};
@@ -35,18 +39,45 @@ fn quote(single: bool) -> char
     if single { '\'' } else { '"' }
 }
 
+/// Takes what a backslash begins, and appends its bytes to `out`: an escape, or a break that is dropped. Functions that
+/// are called get a copy of the cursor, here and below, so that the cursor itself stays in registers.
+#[tactic(auto, unfolding(crate::specs::Quoted::body_part))]
+#[inline(always)]
+fn take_escaped(cursor: &mut cursor_t, out: &mut Vec<u8>) -> Result<bool, refusal_t>
+    requires { first cursor.old ≡ backslash }
+    ensures { Takes utf8 result out.old.items out.new.items cursor.old cursor.new (spec.body_part false cursor.old) }
+{
+    let next = cursor.peek(1);
+    if is_break(next) {
+        let mut here = cursor.again();
+        here.pass();
+        here.skip(here.break_len());
+        push_breaks(&mut here, out)?;
+        *cursor = here;
+        return unmarked(&cursor.again());
+    }
+    let c = take_escape(cursor, next)?;
+    push_char(out, c)?;
+    Ok(true)
+}
+
 /// Takes a part of the body, and appends its bytes to `out`. The flag is false at the closing quote.
 #[tactic(auto, unfolding(crate::specs::Quoted::body_part))]
 fn take_part(cursor: &mut cursor_t, single: bool, out: &mut Vec<u8>) -> Result<bool, refusal_t>
     ensures { Takes utf8 result out.old.items out.new.items cursor.old cursor.new (spec.body_part single cursor.old) }
 {
     let c = cursor.peek(0);
+    if !single && c == '\\' {
+        return take_escaped(cursor, out);
+    }
     if c == '\0' {
         return Err(refusal_t::OFFENCE(problem_t::END_OF_TEXT));
     }
     if is_white(c) {
-        push_separator(cursor, out)?;
-        return unmarked(cursor);
+        let mut here = cursor.again();
+        push_separator(&mut here, out)?;
+        *cursor = here;
+        return unmarked(&cursor.again());
     }
     if c == quote(single) {
         if !(single && check_at!(cursor, c, 1)) {
@@ -56,20 +87,19 @@ fn take_part(cursor: &mut cursor_t, single: bool, out: &mut Vec<u8>) -> Result<b
         cursor.skip(2);
         return Ok(true);
     }
-    if single || c != '\\' {
-        push_char(out, c)?;
-        cursor.advance();
-        return Ok(true);
-    }
-    if is_at!(cursor, is_break, 1) {
-        cursor.advance();
-        cursor.skip(cursor.break_len());
-        push_breaks(cursor, out)?;
-        return unmarked(cursor);
-    }
-    let c = take_escape(cursor)?;
     push_char(out, c)?;
+    cursor.advance();
     Ok(true)
+}
+
+/// Whether the closing quote is here.
+#[tactic(auto, unfolding(crate::specs::Quoted::body_part))]
+#[inline(always)]
+fn closes(cursor: &cursor_t, single: bool) -> bool
+    ensures { result ≡ true → spec.body_part single cursor.now ≡ over }
+{
+    let c = quote(single);
+    check_at!(cursor, c, 0) && !(single && check_at!(cursor, c, 1))
 }
 
 fn line_class(single: bool) -> class_t
@@ -86,6 +116,8 @@ fn line_class(single: bool) -> class_t
 #[inline(always)]
 fn line_piece<'a>(cursor: &mut cursor_t<'a>, single: bool) -> &'a [u8]
     ensures goes { (out : List ℕ) → GoesOn single cursor.old out cursor.new (out ++ result.now) }
+    ensures front { result.now ≡ take (length result.now) (utf8 cursor.old.rest) }
+    ensures within { length result.now ≤ length (utf8 cursor.old.rest) }
     ensures shorter { length cursor.new.rest ≤ length cursor.old.rest }
 {
     let piece = cursor.run(line_class(single));
@@ -104,8 +136,25 @@ fn push_line(cursor: &mut cursor_t, single: bool, out: &mut Vec<u8>) -> Result<(
     if !single && matches!(cursor.peek(0), '\\' | '"') {
         return Ok(());
     }
-    out.extend_from_slice(line_piece(cursor, single))?;
+    let left = cursor.left();
+    let piece = line_piece(cursor, single);
+    push_front(out, left, piece.len())?;
     Ok(())
+}
+
+/// Takes a quoted scalar, from its opening quote on, if a quick look shows that its value is bytes of the text, and
+/// returns these. After `None` the cursor may be at any place.
+#[inline(always)]
+pub(crate) fn quoted_at_once<'a>(cursor: &mut cursor_t<'a>, single: bool) -> Option<&'a [u8]>
+    ensures { IfSome result (λ v. spec.quoted single cursor.old ≡ found v.now cursor.new) }
+{
+    cursor.advance();
+    let value = line_piece(cursor, single);
+    if !closes(cursor, single) {
+        return None;
+    }
+    cursor.advance();
+    Some(value)
 }
 
 /// How many bytes a scalar gets room for after what was taken of it: none if its quote is here.
@@ -120,12 +169,9 @@ fn room_behind(cursor: &cursor_t, single: bool) -> usize
     }
 }
 
-/// Takes a quoted scalar, from its opening quote on.
-pub(crate) fn take_quoted(
-    alloc: Global,
-    cursor: &mut cursor_t,
-    single: bool,
-) -> Result<Vec<u8>, refusal_t>
+/// Takes a quoted scalar, from its opening quote on. The cursor is a local variable of the caller.
+#[inline(always)]
+fn take_body(alloc: Global, cursor: &mut cursor_t, single: bool) -> Result<Vec<u8>, refusal_t>
     ensures { Gives (λ v. v.items) result cursor.new (spec.quoted single cursor.old) }
 {
     cursor.advance();
@@ -137,4 +183,18 @@ pub(crate) fn take_quoted(
     }
     cursor.advance();
     Ok(out)
+}
+
+/// Takes a quoted scalar, from its opening quote on.
+pub(crate) fn take_quoted(
+    alloc: Global,
+    cursor: &mut cursor_t,
+    single: bool,
+) -> Result<Vec<u8>, refusal_t>
+    ensures { Gives (λ v. v.items) result cursor.new (spec.quoted single cursor.old) }
+{
+    let mut here = cursor.again();
+    let taken = take_body(alloc, &mut here, single);
+    *cursor = here;
+    taken
 }

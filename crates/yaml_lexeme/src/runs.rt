@@ -44,8 +44,8 @@ pub(crate) fn is_in(class: class_t, c: char) -> bool
         class_t::BLANK_OR_BREAK => is_white(c),
         class_t::ALPHA => is_alpha(c),
         class_t::IN_LINE => is_in_line(c),
-        class_t::DOUBLE => is_in_line(c) && !(c == '"' || c == '\\'),
-        class_t::SINGLE => is_in_line(c) && !(c == '\''),
+        class_t::DOUBLE => !(c == '"' || c == '\\') && is_in_line(c),
+        class_t::SINGLE => !(c == '\'') && is_in_line(c),
         class_t::PLAIN => is_in_line(c) && !(c == ':' || c == '#'),
         class_t::FLOW => {
             is_in_line(c)

@@ -164,6 +164,38 @@ fn lexed(alloc: Global, bytes: &[u8], depth: u64, level: Option<u64>) -> Result<
     }
 }
 
+/// The scalar at the front of a text, if it is found without a further look: value, style, end, reach and flag.
+fn found_at_once(
+    alloc: Global,
+    bytes: &[u8],
+    kind: yaml_lexeme_kind_t,
+    depth: u64,
+    level: Option<u64>,
+) -> Result<String, Fail> {
+    let Ok(text) = yaml_decode(alloc, bytes, ANY) else {
+        return Err("refused".into());
+    };
+    if let Some(column) = level
+        && column > text.bytes().len() as u64
+    {
+        return Ok(String::from_str(alloc, "no level")?);
+    }
+    let context = yaml_context_t { depth, level };
+    let found = match kind {
+        yaml_lexeme_kind_t::PLAIN => yaml_plain_at_once(&text, FRONT, context),
+        _ => yaml_quoted_at_once(&text, FRONT, kind, context),
+    };
+    let Some(scalar) = found else {
+        return Ok(String::from_str(alloc, "none")?);
+    };
+    let value = show_bytes(alloc, scalar.value)?;
+    let end = show_mark(alloc, scalar.end_mark)?;
+    let reach = show_mark(alloc, scalar.reach)?;
+    let passed = scalar.passed_break;
+    let style = style_name(scalar.style);
+    Ok(format!(in alloc; "{value} {style} {end} {reach} {passed}")?)
+}
+
 /// Texts, the flow depth and the greatest open level at their front, and what their first lexeme must be.
 fn expect_rows(
     rt: &impl Abort,
@@ -684,4 +716,85 @@ fn directives_refused(rt: HostRuntime) -> Result<(), Fail> {
         ),
     ];
     expect_rows(&rt, rt.alloc(), &rows)
+}
+
+/// Plain scalars that are in one line, and some that may not be, or that have an offence.
+#[test]
+fn plain_scalars_at_once(rt: HostRuntime) -> Result<(), Fail> {
+    let alloc = rt.alloc();
+    let rows: [(&str, u64, Option<u64>, &str); 9] = [
+        ("ab: c", 0, None, "6162 plain 2:0:2 2:0:2 false"),
+        ("a b]", 1, None, "612062 plain 3:0:3 3:0:3 false"),
+        ("a b\n", 0, Some(0), "612062 plain 3:0:3 4:1:0 true"),
+        ("a\n b", 0, Some(1), "61 plain 1:0:1 3:1:1 true"),
+        ("a\n b", 0, Some(0), "none"),
+        ("a\nb", 0, None, "none"),
+        ("a # c", 0, None, "none"),
+        ("a:]", 1, None, "none"),
+        ("a:]", 0, None, "613a5d plain 3:0:3 3:0:3 false"),
+    ];
+    for (text, depth, level, want) in rows {
+        let plain = yaml_lexeme_kind_t::PLAIN;
+        let shown = found_at_once(alloc, text.as_bytes(), plain, depth, level)?;
+        assert_eq!(rt; shown.as_str(), want, "{text}");
+    }
+    Ok(())
+}
+
+/// Quoted scalars whose value is what is between the quotes, some that have an escape, a break or no end, and a kind
+/// that is no scalar.
+#[test]
+fn quoted_scalars_at_once(rt: HostRuntime) -> Result<(), Fail> {
+    let alloc = rt.alloc();
+    let (single, double) = (
+        yaml_lexeme_kind_t::SINGLE_QUOTED,
+        yaml_lexeme_kind_t::DOUBLE_QUOTED,
+    );
+    let rows: [(&str, yaml_lexeme_kind_t, &str); 9] = [
+        ("\"a b\": c", double, "612062 double 5:0:5 5:0:5 false"),
+        ("''", single, "- single 2:0:2 2:0:2 false"),
+        ("'a\\n\"'\n", single, "615c6e22 single 6:0:6 6:0:6 false"),
+        ("'a''b'", single, "none"),
+        ("\"a\\n\"", double, "none"),
+        ("\"a\n b\"", double, "none"),
+        ("\"a", double, "none"),
+        ("'\u{2028}'", single, "none"),
+        ("[", yaml_lexeme_kind_t::FLOW_SEQUENCE_START, "none"),
+    ];
+    for (text, kind, want) in rows {
+        let shown = found_at_once(alloc, text.as_bytes(), kind, 0, None)?;
+        assert_eq!(rt; shown.as_str(), want, "{text}");
+    }
+    Ok(())
+}
+
+/// How many bytes the characters at the front take as a lexeme of a kind, or 0 if the kind has none.
+fn characters_end(alloc: Global, bytes: &[u8], kind: yaml_lexeme_kind_t) -> Result<u64, Fail> {
+    let Ok(text) = yaml_decode(alloc, bytes, ANY) else {
+        return Err("refused".into());
+    };
+    let context = yaml_context_t {
+        depth: 0,
+        level: None,
+    };
+    match yaml_character_at(&text, FRONT, kind, context) {
+        Some(lexeme) => Ok(lexeme.end_mark.index),
+        None => Ok(0),
+    }
+}
+
+/// Lexemes of one character, a document marker, and a kind that is neither.
+#[test]
+fn characters_at_once(rt: HostRuntime) -> Result<(), Fail> {
+    let alloc = rt.alloc();
+    assert_eq!(rt;
+        characters_end(alloc, b": a", yaml_lexeme_kind_t::VALUE)?,
+        1
+    );
+    assert_eq!(rt;
+        characters_end(alloc, b"--- a", yaml_lexeme_kind_t::DOCUMENT_START)?,
+        3
+    );
+    assert_eq!(rt; characters_end(alloc, b"a", yaml_lexeme_kind_t::PLAIN)?, 0);
+    Ok(())
 }

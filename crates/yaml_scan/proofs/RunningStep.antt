@@ -9,6 +9,10 @@ pub mod TestsBefore
 pub mod LevelStack
 -- What the slot of each depth holds after one lexeme more.
 pub mod SlotsOneOn
+-- A scanner that was given room holds what it held.
+pub mod RoomMade
+-- What a quick look at the text finds is what comes next.
+pub mod QuickLook
 -- What the whole scanner holds after one lexeme more.
 pub mod ScannerOneOn
 -- The tests of a step after its lexeme, and that the lexeme is laid as the definition says.

@@ -7,6 +7,7 @@ use yaml_text::yaml_mark_t;
 
 /// Whether a key is allowed after a lexeme. `margin`: it was read at depth 0. `none`: it completed nothing.
 /// `passed_break`: it is a plain scalar, and a break is in the separator after it.
+#[inline(always)]
 pub(crate) fn is_allowed_after(
     kind: yaml_lexeme_kind_t,
     margin: bool,
@@ -31,6 +32,7 @@ pub(crate) fn is_allowed_after(
 
 /// Whether a key is allowed at a lexeme after a gap that ends at `front`: `allowed` after the last lexeme, or because
 /// at depth 0 a break is in the gap.
+#[inline(always)]
 pub(crate) fn is_key_allowed(
     allowed: bool,
     margin: bool,

@@ -1,5 +1,5 @@
 //! Flow depth: how many flow collections are open (YAML 1.1, chapter 10, Collection Styles).
-ghost use Rattle.std.specs.Prelude.{◌≡◌, ◌<◌, vec_len};
+ghost use Rattle.std.specs.Prelude.{◌≡◌, ◌<◌, ◌||◌, vec_len};
 ghost use Rattle.std.specs.Vec.{vec_capacity};
 ghost use Rattle.yaml_scan.specs.Kind as kinds;
 ghost use Rattle.yaml_scan.specs.inside.Slots.{nested_outer, nested_top};
@@ -7,7 +7,8 @@ ghost use Rattle.yaml_scan.specs.inside.Slots.{nested_outer, nested_top};
 use crate::keys::slots_t;
 use yaml_lexeme::yaml_lexeme_kind_t;
 
-fn is_flow_start(kind: yaml_lexeme_kind_t) -> bool
+#[inline(always)]
+pub(crate) fn is_flow_start(kind: yaml_lexeme_kind_t) -> bool
     ensures { result ≡ kinds.is_flow_start kind }
 {
     matches!(
@@ -16,6 +17,7 @@ fn is_flow_start(kind: yaml_lexeme_kind_t) -> bool
     )
 }
 
+#[inline(always)]
 fn is_flow_end(kind: yaml_lexeme_kind_t) -> bool
     ensures { result ≡ kinds.is_flow_end kind }
 {
@@ -23,6 +25,14 @@ fn is_flow_end(kind: yaml_lexeme_kind_t) -> bool
         kind,
         yaml_lexeme_kind_t::FLOW_SEQUENCE_END | yaml_lexeme_kind_t::FLOW_MAPPING_END
     )
+}
+
+/// Whether a lexeme enters a depth or leaves one.
+#[inline(always)]
+pub(crate) fn nests(kind: yaml_lexeme_kind_t) -> bool
+    ensures { result ≡ (kinds.is_flow_start kind || kinds.is_flow_end kind) }
+{
+    is_flow_start(kind) || is_flow_end(kind)
 }
 
 /// Enters a depth at a flow start, and leaves one at a flow end. There is room for one more.

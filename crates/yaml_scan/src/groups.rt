@@ -47,6 +47,7 @@ pub(crate) struct queue_t {
 }
 
 /// A token with one mark.
+#[inline(always)]
 fn token_at(says: unnamed_yaml_token_t_data, mark: yaml_mark_t) -> yaml_token_t
     ensures { token_of result ≡ at_mark (data_of says) mark }
 {
@@ -99,6 +100,7 @@ pub(crate) fn mark_key(groups: &mut VecDeque<group_t>, at: usize, opens: bool)
 }
 
 /// Whether the block ends of the front are next.
+#[inline(always)]
 fn is_early(queue: &queue_t) -> bool
     ensures { result ≡ (nat_lt 0 queue.now.early && nat_eq (length queue.now.groups.items) 1) }
 {
@@ -106,6 +108,7 @@ fn is_early(queue: &queue_t) -> bool
 }
 
 /// Whether block ends are next.
+#[inline(always)]
 pub(crate) fn has_ends(queue: &queue_t) -> bool
     ensures { result ≡ begins_with_end (pending queue.now.early queue.now.front queue.now.groups.items) }
 {
@@ -129,6 +132,7 @@ enum lead_t {
 }
 
 /// What is handed out next of a group before its token.
+#[inline(always)]
 fn lead_of(head: &group_t) -> lead_t
     ensures { lead_tokens result head.now.token.start_mark ≡ take 1 (leads head.now) }
 {
@@ -147,6 +151,7 @@ fn lead_of(head: &group_t) -> lead_t
 }
 
 /// Takes what is handed out next of a group before its token.
+#[inline(always)]
 fn drop_lead_of(head: &mut group_t)
     ensures leads { leads head.new ≡ drop 1 (leads head.old) }
     ensures token { head.new.token ≡ head.old.token }
@@ -162,6 +167,7 @@ fn drop_lead_of(head: &mut group_t)
 }
 
 /// What is handed out next, before the token of the head.
+#[inline(always)]
 fn next_lead(queue: &queue_t) -> lead_t
     ensures { lead_tokens result (mark_next queue.now.early queue.now.front queue.now.groups.items)
         ≡ take 1 (pending queue.now.early queue.now.front queue.now.groups.items) }
@@ -176,6 +182,7 @@ fn next_lead(queue: &queue_t) -> lead_t
 }
 
 /// Whether a token is handed out before that of the head.
+#[inline(always)]
 pub(crate) fn has_lead(queue: &queue_t) -> bool
     ensures { result ≡ nat_lt 0 (length (pending queue.now.early queue.now.front queue.now.groups.items)) }
 {
@@ -183,6 +190,7 @@ pub(crate) fn has_lead(queue: &queue_t) -> bool
 }
 
 /// The mark of what is handed out before the token of the head.
+#[inline(always)]
 fn lead_mark(queue: &queue_t) -> yaml_mark_t
     ensures { result ≡ mark_next queue.now.early queue.now.front queue.now.groups.items }
 {
@@ -196,6 +204,7 @@ fn lead_mark(queue: &queue_t) -> yaml_mark_t
 }
 
 /// The token that is handed out before that of the head. There is one.
+#[inline(always)]
 pub(crate) fn lead(queue: &queue_t) -> yaml_token_t
     ensures { (e : yaml_encoding_t) → IsLead e queue.now (token_of result) }
 {
@@ -210,6 +219,7 @@ pub(crate) fn lead(queue: &queue_t) -> yaml_token_t
 }
 
 /// Takes what is handed out before the token of the head.
+#[inline(always)]
 fn drop_lead(queue: &mut queue_t)
     requires { 0 < length queue.old.groups.items }
     ensures { DropsLead queue.old queue.new }
@@ -224,6 +234,7 @@ fn drop_lead(queue: &mut queue_t)
 }
 
 /// Takes the next token. There is one.
+#[inline(always)]
 pub(crate) fn take_next(queue: &mut queue_t) -> yaml_token_t
     requires some { 0 < length queue.old.groups.items }
     requires few { queue.old.done + 1 < 2 ^ 64 }

@@ -8,7 +8,7 @@ ghost use Rattle.yaml_scan.specs.inside.Slots.{completed_held, nested_outer, nes
 ghost use Rattle.yaml_scan.specs.inside.Slots.{AreEmptyBelow};
 ghost use Rattle.yaml_scan.specs.inside.Slots.{AreNested};
 
-use crate::depth::nest;
+use crate::depth::{is_flow_start, nest, nests};
 use crate::kind::{is_candidate, is_colon};
 use yaml_lexeme::yaml_lexeme_kind_t;
 use yaml_text::yaml_mark_t;
@@ -38,6 +38,7 @@ pub(crate) struct slots_t {
 }
 
 /// Whether a candidate is live at a mark: on its line, and at most `limit` bytes from its start.
+#[inline(always)]
 fn is_still_live(limit: u64, mark: yaml_mark_t, held: held_t) -> bool
     ensures { result ≡ is_live limit mark held }
 {
@@ -45,6 +46,7 @@ fn is_still_live(limit: u64, mark: yaml_mark_t, held: held_t) -> bool
 }
 
 /// A candidate, unless it is stale at a mark.
+#[inline(always)]
 pub(crate) fn kept(slot: Option<held_t>, limit: u64, mark: yaml_mark_t) -> Option<held_t>
     ensures { result ≡ still_held limit mark slot }
 {
@@ -59,6 +61,7 @@ pub(crate) fn kept(slot: Option<held_t>, limit: u64, mark: yaml_mark_t) -> Optio
 }
 
 /// A required candidate that is stale at a mark.
+#[inline(always)]
 pub(crate) fn lost_at(slot: Option<held_t>, limit: u64, mark: yaml_mark_t) -> Option<held_t>
     ensures { result ≡ lost_held limit mark slot }
 {
@@ -73,6 +76,7 @@ pub(crate) fn lost_at(slot: Option<held_t>, limit: u64, mark: yaml_mark_t) -> Op
 }
 
 /// A required candidate that is live at a mark.
+#[inline(always)]
 pub(crate) fn needed_at(slot: Option<held_t>, limit: u64, mark: yaml_mark_t) -> Option<held_t>
     ensures { result ≡ needed limit mark slot }
 {
@@ -129,6 +133,7 @@ fn count_empty(slots: &[Option<held_t>], empty: usize) -> usize
 }
 
 /// The candidate of depth 0.
+#[inline(always)]
 pub(crate) fn root(outer: &[Option<held_t>], top: Option<held_t>) -> Option<held_t>
     ensures { result ≡ root_of outer.now top }
 {
@@ -139,6 +144,7 @@ pub(crate) fn root(outer: &[Option<held_t>], top: Option<held_t>) -> Option<held
 }
 
 /// Changes the slot of a depth after a lexeme was read at it.
+#[inline(always)]
 pub(crate) fn settle(
     slot: &mut Option<held_t>,
     kind: yaml_lexeme_kind_t,
@@ -155,6 +161,7 @@ pub(crate) fn settle(
 }
 
 /// The candidate that a lexeme completes, which starts at a mark.
+#[inline(always)]
 pub(crate) fn completed_by(
     kind: yaml_lexeme_kind_t,
     top: Option<held_t>,
@@ -171,6 +178,7 @@ pub(crate) fn completed_by(
 }
 
 /// Gives up a candidate that is stale at a mark.
+#[inline(always)]
 fn give_up(slot: &mut Option<held_t>, limit: u64, mark: yaml_mark_t)
     ensures { slot.new ≡ still_held limit mark slot.old }
 {
@@ -182,6 +190,7 @@ fn give_up(slot: &mut Option<held_t>, limit: u64, mark: yaml_mark_t)
 }
 
 /// The candidate of the least depth.
+#[inline(always)]
 fn lowest(slots: &slots_t) -> Option<held_t>
     requires { slots.now.not_simple_keys ≡ empty_slots slots.now.outer.items }
     ensures { result ≡ lowest (slots.now.outer.items ++ slots.now.top ∷ []) }
@@ -193,6 +202,7 @@ fn lowest(slots: &slots_t) -> Option<held_t>
 }
 
 /// The number of a candidate's step, or 0.
+#[inline(always)]
 fn step_of(held: Option<held_t>) -> u64
     ensures { result ≡ step_of held }
 {
@@ -203,6 +213,7 @@ fn step_of(held: Option<held_t>) -> u64
 }
 
 /// Gives up what is stale at a mark, and changes the depth after a lexeme. There is room for one.
+#[inline(always)]
 pub(crate) fn move_slots(
     slots: &mut slots_t,
     kind: yaml_lexeme_kind_t,
@@ -219,9 +230,18 @@ pub(crate) fn move_slots(
     ensures empty { slots.new.not_simple_keys ≡ empty_slots slots.new.outer.items }
     ensures awaited { slots.new.awaited ≡ step_of (lowest (slots.new.outer.items ++ slots.new.top ∷ [])) }
 {
+    if slots.outer.is_empty() && !is_flow_start(kind) {
+        give_up(&mut slots.top, limit, mark);
+        slots.awaited = step_of(slots.top);
+        return;
+    }
     let below = give_up_stale(&mut slots.outer, slots.not_simple_keys, limit, mark);
     give_up(&mut slots.top, limit, mark);
-    nest(slots, kind);
-    slots.not_simple_keys = count_empty(&slots.outer, below);
+    slots.not_simple_keys = if nests(kind) {
+        nest(slots, kind);
+        count_empty(&slots.outer, below)
+    } else {
+        below
+    };
     slots.awaited = step_of(lowest(slots));
 }

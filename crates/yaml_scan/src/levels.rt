@@ -20,6 +20,7 @@ use yaml_lexeme::yaml_lexeme_kind_t;
 use yaml_text::{yaml_mark_t, yaml_token_t};
 
 /// Whether a block collection ends at the end of the gap: at the end of the stream, if its column is above that.
+#[inline(always)]
 fn is_early(kind: yaml_lexeme_kind_t, front: yaml_mark_t, column: u64) -> bool
     ensures { result ≡ (is_stream_end kind && nat_lt front.column column) }
 {
@@ -27,6 +28,7 @@ fn is_early(kind: yaml_lexeme_kind_t, front: yaml_mark_t, column: u64) -> bool
 }
 
 /// The greatest level, if a lexeme closes it.
+#[inline(always)]
 fn closing(
     levels: &[u64],
     in_flow: bool,
@@ -56,6 +58,7 @@ pub(crate) struct closed_t {
 }
 
 /// Closes the levels that a lexeme does not keep, greatest first.
+#[inline(always)]
 pub(crate) fn close_levels(
     levels: &mut Vec<u64>,
     in_flow: bool,
@@ -85,8 +88,27 @@ pub(crate) fn close_levels(
     closed_t { early, ends }
 }
 
+/// The greatest level that a lexeme keeps.
+#[inline(always)]
+pub(crate) fn level_at(
+    levels: &[u64],
+    in_flow: bool,
+    kind: yaml_lexeme_kind_t,
+    start: yaml_mark_t,
+) -> Option<u64>
+    requires { IsFalling (reverse levels.now) }
+    ensures { result ≡ greatest_level (filter (stays in_flow kind start) (reverse levels.now)) }
+{
+    let mut kept = levels;
+    'closed: while closing(kept, in_flow, kind, start).is_some() {
+        kept = &kept[..kept.len() - 1];
+    }
+    top_level(kept)
+}
+
 /// The greatest of the open levels.
 #[tactic(auto, using(crate::proofs::RunningStep::LevelStack::last_level))]
+#[inline(always)]
 pub(crate) fn top_level(levels: &[u64]) -> Option<u64>
     requires { IsFalling (reverse levels.now) }
     ensures { result ≡ greatest_level (reverse levels.now) }
@@ -95,6 +117,7 @@ pub(crate) fn top_level(levels: &[u64]) -> Option<u64>
 }
 
 /// Whether a level is this column, at depth 0.
+#[inline(always)]
 pub(crate) fn is_level(margin: bool, level: Option<u64>, column: u64) -> bool
     ensures { result ≡ is_margin_level margin level column }
 {
@@ -106,6 +129,7 @@ pub(crate) fn is_level(margin: bool, level: Option<u64>, column: u64) -> bool
 }
 
 /// Whether a column opens a level.
+#[inline(always)]
 fn is_new_level(levels: &[u64], margin: bool, column: u64) -> bool
     requires { IsFalling (reverse levels.now) }
     ensures { result ≡ is_new margin column (reverse levels.now) }
@@ -118,6 +142,7 @@ fn is_new_level(levels: &[u64], margin: bool, column: u64) -> bool
 }
 
 /// Whether a lexeme that completes nothing opens its column.
+#[inline(always)]
 fn opens_at(levels: &[u64], margin: bool, kind: yaml_lexeme_kind_t, column: u64) -> bool
     requires { IsFalling (reverse levels.now) }
     ensures { result ≡ (is_new margin column (reverse levels.now) && opens_level kind true) }
@@ -126,6 +151,7 @@ fn opens_at(levels: &[u64], margin: bool, kind: yaml_lexeme_kind_t, column: u64)
 }
 
 /// Opens a level, or none. There is room for it.
+#[inline(always)]
 fn open_level(levels: &mut Vec<u64>, opens: bool, column: u64)
     requires { vec_len levels.old < vec_capacity levels.old }
     ensures { reverse levels.new.items ≡ (if opens then column ∷ [] else []) ++ reverse levels.old.items }
@@ -143,6 +169,7 @@ pub(crate) struct layout_t {
 }
 
 /// Completes a candidate. There is room for a level.
+#[inline(always)]
 fn complete(layout: &mut layout_t, margin: bool, held: held_t)
     requires falls { IsFalling (reverse layout.old.levels.items) }
     requires fits { Fitting (Some held) layout.old.queue.done layout.old.queue.groups.items }
@@ -162,6 +189,7 @@ fn complete(layout: &mut layout_t, margin: bool, held: held_t)
 }
 
 /// The start that a kind of lexeme opens a block collection with, or none.
+#[inline(always)]
 fn block_start(opens: bool, kind: yaml_lexeme_kind_t) -> block_t
     ensures { result ≡ (if opens then start_of kind else NONE) }
 {
@@ -175,6 +203,7 @@ fn block_start(opens: bool, kind: yaml_lexeme_kind_t) -> block_t
 }
 
 /// Opens a level at a lexeme that completes nothing, if it does. There is room for one.
+#[inline(always)]
 fn begin(
     levels: &mut Vec<u64>,
     margin: bool,
@@ -192,6 +221,7 @@ fn begin(
 }
 
 /// Completes a candidate, or opens a level at a lexeme. There is room for one.
+#[inline(always)]
 pub(crate) fn put_key(
     layout: &mut layout_t,
     margin: bool,
@@ -220,6 +250,7 @@ pub(crate) fn put_key(
 }
 
 /// Appends the group of a lexeme to the queue. There is room for it.
+#[inline(always)]
 pub(crate) fn put_group(
     queue: &mut queue_t,
     closed: closed_t,

@@ -113,6 +113,7 @@ fn new_scanner<'a>(alloc: Global, limit: u64) -> scanner_t<'a>
 }
 
 /// Decodes the input, and makes the first step.
+#[inline(never)]
 fn begin<'a>(
     scanner: &mut scanner_t<'a>,
     input: &'a [u8],
@@ -147,6 +148,7 @@ fn begin<'a>(
 }
 
 /// Makes the first step, if it was not made.
+#[inline(always)]
 fn start<'a>(
     scanner: &mut scanner_t<'a>,
     input: &'a [u8],
@@ -166,6 +168,7 @@ fn start<'a>(
 }
 
 /// Makes the steps that the next token needs: none if it was peeked.
+#[inline(always)]
 fn settle<'a>(
     scanner: &mut scanner_t<'a>,
     input: &'a [u8],
@@ -188,6 +191,7 @@ fn settle<'a>(
 }
 
 /// Takes the head of the queue.
+#[inline(always)]
 fn take_head(scanner: &mut scanner_t) -> yaml_token_t
     requires runs { Runs scanner.old }
     requires settled { scanner.old.taken < length (before scanner.old.limit (history scanner.old)) }
@@ -300,6 +304,7 @@ fn take_shown(parser: &mut yaml_parser_t) -> yaml_token_t
 /// there, of kind scanner if no token can be read, of kind memory if a request for memory was refused. No memory is
 /// needed if the token was peeked or the session is over, nor if the input is in UTF-8 and its reader's fault comes
 /// before the first step.
+#[inline(always)]
 pub fn yaml_parser_scan(parser: &mut yaml_parser_t) -> Result<yaml_token_t, yaml_fault_t>
     ensures answers { Calls SCAN parser.old (told result) parser.new }
     ensures bare { IsThere parser.old → (told result ≡ answered parser.old SCAN)

@@ -15,10 +15,12 @@ ghost use Rattle.yaml_scan.specs.inside.Scanning.{Stops, history};
 use crate::fault::{fault_at, stop_t};
 use crate::groups::has_ends;
 use crate::near::{near_problem, near_reading};
+use crate::quick::quick_step;
 use crate::step::{lay, meet, scanner_t};
 use yaml_text::{yaml_error_type_t, yaml_fault_t, yaml_mark_t, yaml_token_t};
 
 /// Whether the head of the queue is the token of the lowest candidate.
+#[inline(always)]
 fn is_awaited(scanner: &scanner_t) -> bool
     requires { scanner.now.layout.queue.done + 1 < 2 ^ 64 }
     ensures { result ≡ (nat_eq scanner.now.slots.awaited (scanner.now.layout.queue.done + 1)
@@ -29,6 +31,7 @@ fn is_awaited(scanner: &scanner_t) -> bool
 }
 
 /// Whether the head of the queue is the next token.
+#[inline(always)]
 fn is_settled(scanner: &scanner_t) -> bool
     requires { Runs scanner.now }
     ensures { result ≡ nat_lt scanner.now.taken (length (before scanner.now.limit (history scanner.now))) }
@@ -49,7 +52,8 @@ fn step(scanner: &mut scanner_t, kept: &mut yaml_fault_t) -> Result<(), stop_t>
 }
 
 /// Makes a step, unless the reader's fault is near.
-fn advance(scanner: &mut scanner_t, kept: &mut yaml_fault_t) -> Result<(), stop_t>
+#[inline(never)]
+fn advance_slowly(scanner: &mut scanner_t, kept: &mut yaml_fault_t) -> Result<(), stop_t>
     requires runs { Runs scanner.old }
     requires running { ended (history scanner.old) ≡ false }
     ensures { MatchResult result (λ _. Steps scanner.old scanner.new) (λ s.
@@ -77,7 +81,23 @@ fn advance(scanner: &mut scanner_t, kept: &mut yaml_fault_t) -> Result<(), stop_
     }
 }
 
+/// Makes a step, at once if it is a common one, unless the reader's fault is near.
+#[inline(always)]
+fn advance(scanner: &mut scanner_t, kept: &mut yaml_fault_t) -> Result<(), stop_t>
+    requires runs { Runs scanner.old }
+    requires running { ended (history scanner.old) ≡ false }
+    ensures { MatchResult result (λ _. Steps scanner.old scanner.new) (λ s.
+        ((fault_at s kept.new ≡ memory_fault) ⊎ IsLast scanner.old (fault_at s kept.new))
+        × Stays scanner.old scanner.new) }
+{
+    if quick_step(scanner) {
+        return Ok(());
+    }
+    advance_slowly(scanner, kept)
+}
+
 /// Makes steps until the head of the queue is the next token.
+#[inline(always)]
 pub(crate) fn settle_head(scanner: &mut scanner_t, kept: &mut yaml_fault_t) -> Result<(), stop_t>
     requires runs { Runs scanner.old }
     requires not_ended { IsOpen scanner.old }

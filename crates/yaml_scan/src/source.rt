@@ -2,7 +2,8 @@
 ghost use Rattle.std.specs.Prelude.{◌≡◌, ℕ, ◌≤◌, ◌⊎◌, Some, Ok, Err, length, nat_lt, IfSome, MatchResult};
 ghost use Rattle.yaml_text.specs.Fault.{memory_fault};
 ghost use Rattle.yaml_scan.specs.inside.Stop.{fault_at};
-ghost use Rattle.yaml_lexeme.specs.Lexeme.{lexeme_of};
+ghost use Rattle.yaml_lexeme.specs.Lexeme.{lexeme_of, scalar_lexeme};
+ghost use Rattle.yaml_lexeme.specs.declared.kind.yaml_lexeme_kind_t.TheVariants.{PLAIN};
 ghost use Rattle.yaml_lexeme.specs.Place.{IsMarkOf};
 ghost use Rattle.yaml_scan.specs.SourceOf.{source_of};
 ghost use Rattle.yaml_scan.specs.inside.TextReads.{IsRead, IsOffence};
@@ -11,11 +12,13 @@ use crate::fault::stop_t;
 use crate::step::met_t;
 use std::alloc::Global;
 use yaml_lexeme::{
-    yaml_context_t, yaml_gap, yaml_lexeme_at, yaml_lexeme_kind, yaml_lexeme_kind_t, yaml_lexeme_t,
+    yaml_character_at, yaml_context_t, yaml_gap, yaml_lexeme_at, yaml_lexeme_kind,
+    yaml_lexeme_kind_t, yaml_lexeme_t, yaml_plain_at_once, yaml_quoted_at_once, yaml_scalar_t,
 };
-use yaml_text::{yaml_fault_t, yaml_mark_t, yaml_text_t};
+use yaml_text::{unnamed_yaml_token_t_data, yaml_fault_t, yaml_mark_t, yaml_text_t};
 
 /// The end of the gap from a mark.
+#[inline(always)]
 pub(crate) fn gap_end(
     text: &yaml_text_t,
     at: yaml_mark_t,
@@ -31,6 +34,7 @@ pub(crate) fn gap_end(
 
 /// The kind of the lexeme at a mark.
 #[tactic(auto, unfolding(crate::specs::SourceOf::source_of))]
+#[inline(always)]
 pub(crate) fn kind_at(
     text: &yaml_text_t,
     at: yaml_mark_t,
@@ -43,6 +47,7 @@ pub(crate) fn kind_at(
 }
 
 /// The lexeme that was met, or the fault of its offence.
+#[inline(always)]
 pub(crate) fn read_lexeme(
     alloc: Global,
     kept: &mut yaml_fault_t,
@@ -64,5 +69,128 @@ pub(crate) fn read_lexeme(
             *kept = fault;
             Err(stop_t::FAULT)
         }
+    }
+}
+
+/// The lexeme that was met, if it has no offence and there is memory for it. Quoted scalars and lexemes of one
+/// character are tried at once.
+#[inline(always)]
+pub(crate) fn read_at_once(
+    alloc: Global,
+    text: &yaml_text_t,
+    met: met_t,
+    context: yaml_context_t,
+) -> Option<yaml_lexeme_t>
+    requires place { (p : ℕ) × IsMarkOf text.now.chars met.front p
+        × ((source_of text.now.chars).kind (nat_lt 0 context.depth) p ≡ Some met.kind) }
+    requires level { IfSome context.level (λ l. l ≤ length text.now.chars) }
+    ensures { IfSome result (λ l. (p : ℕ) → IsMarkOf text.now.chars met.front p
+        → IsRead text.now.chars met.kind context.depth context.level p (lexeme_of l)) }
+{
+    match met.kind {
+        yaml_lexeme_kind_t::SINGLE_QUOTED | yaml_lexeme_kind_t::DOUBLE_QUOTED => {
+            read_quoted(alloc, text, met, context)
+        }
+        yaml_lexeme_kind_t::FLOW_SEQUENCE_START
+        | yaml_lexeme_kind_t::FLOW_MAPPING_START
+        | yaml_lexeme_kind_t::FLOW_SEQUENCE_END
+        | yaml_lexeme_kind_t::FLOW_MAPPING_END
+        | yaml_lexeme_kind_t::FLOW_ENTRY
+        | yaml_lexeme_kind_t::BLOCK_ENTRY
+        | yaml_lexeme_kind_t::KEY
+        | yaml_lexeme_kind_t::VALUE => read_character(text, met, context),
+        _ => read_other(alloc, text, met, context),
+    }
+}
+
+/// A lexeme of one character that was met.
+#[inline(always)]
+fn read_character(text: &yaml_text_t, met: met_t, context: yaml_context_t) -> Option<yaml_lexeme_t>
+    requires { (p : ℕ) × IsMarkOf text.now.chars met.front p }
+    ensures { IfSome result (λ l. (p : ℕ) → IsMarkOf text.now.chars met.front p
+        → IsRead text.now.chars met.kind context.depth context.level p (lexeme_of l)) }
+{
+    let Some(lexeme) = yaml_character_at(text, met.front, met.kind, context) else {
+        return None;
+    };
+    Some(lexeme)
+}
+
+/// The lexeme that was met, if it has no offence and there is memory for it.
+#[inline(never)]
+fn read_other(
+    alloc: Global,
+    text: &yaml_text_t,
+    met: met_t,
+    context: yaml_context_t,
+) -> Option<yaml_lexeme_t>
+    requires place { (p : ℕ) × IsMarkOf text.now.chars met.front p
+        × ((source_of text.now.chars).kind (nat_lt 0 context.depth) p ≡ Some met.kind) }
+    requires level { IfSome context.level (λ l. l ≤ length text.now.chars) }
+    ensures { IfSome result (λ l. (p : ℕ) → IsMarkOf text.now.chars met.front p
+        → IsRead text.now.chars met.kind context.depth context.level p (lexeme_of l)) }
+{
+    match yaml_lexeme_at(alloc, text, met.front, met.kind, context) {
+        Ok(lexeme) => Some(lexeme),
+        Err(_) => None,
+    }
+}
+
+/// A copy of a scalar that starts at a mark, if there is memory for it.
+#[inline(always)]
+fn copied(alloc: Global, start: yaml_mark_t, scalar: yaml_scalar_t<'_>) -> Option<yaml_lexeme_t>
+    ensures { IfSome result (λ l. lexeme_of l ≡ scalar_lexeme start scalar.entry) }
+{
+    let Ok(value) = Vec::from_slice(alloc, scalar.value) else {
+        return None;
+    };
+    Some(yaml_lexeme_t {
+        token_data: unnamed_yaml_token_t_data::SCALAR {
+            value,
+            style: scalar.style,
+        },
+        start_mark: start,
+        end_mark: scalar.end_mark,
+        reach: scalar.reach,
+        passed_break: scalar.passed_break,
+    })
+}
+
+/// A plain scalar at a mark, if it is of one line and there is memory for it.
+#[inline(always)]
+pub(crate) fn read_line(
+    alloc: Global,
+    text: &yaml_text_t,
+    at: yaml_mark_t,
+    context: yaml_context_t,
+) -> Option<yaml_lexeme_t>
+    requires place { (p : ℕ) × IsMarkOf text.now.chars at p }
+    requires level { IfSome context.level (λ l. l ≤ length text.now.chars) }
+    ensures { IfSome result (λ l. (p : ℕ) → IsMarkOf text.now.chars at p
+        → IsRead text.now.chars PLAIN context.depth context.level p (lexeme_of l)) }
+{
+    let Some(scalar) = yaml_plain_at_once(text, at, context) else {
+        return None;
+    };
+    copied(alloc, at, scalar)
+}
+
+/// The quoted scalar that was met, if it has no offence and there is memory for it.
+#[inline(never)]
+fn read_quoted(
+    alloc: Global,
+    text: &yaml_text_t,
+    met: met_t,
+    context: yaml_context_t,
+) -> Option<yaml_lexeme_t>
+    requires place { (p : ℕ) × IsMarkOf text.now.chars met.front p
+        × ((source_of text.now.chars).kind (nat_lt 0 context.depth) p ≡ Some met.kind) }
+    requires level { IfSome context.level (λ l. l ≤ length text.now.chars) }
+    ensures { IfSome result (λ l. (p : ℕ) → IsMarkOf text.now.chars met.front p
+        → IsRead text.now.chars met.kind context.depth context.level p (lexeme_of l)) }
+{
+    match yaml_quoted_at_once(text, met.front, met.kind, context) {
+        Some(scalar) => copied(alloc, met.front, scalar),
+        None => read_other(alloc, text, met, context),
     }
 }

@@ -16,14 +16,16 @@ ghost use Rattle.yaml_scan.specs.inside.Slots.{empty_slots, lowest, step_of, Are
 ghost use Rattle.std.specs.Vec.{vec_capacity};
 ghost use Rattle.yaml_scan.specs.Step.{problem_of, replaces, step};
 ghost use Rattle.yaml_scan.specs.inside.StepFaults.{IsLost, IsRefused};
-ghost use Rattle.yaml_scan.specs.inside.Scanning.{CanLay, Holds, IsMet, Advances, Offends, Stays, text_of};
+ghost use Rattle.yaml_scan.specs.inside.Scanning.{CanLay, CanPut, Holds, IsMet, Advances, Offends, Stays};
+ghost use Rattle.yaml_scan.specs.inside.Scanning.{lost_after, text_of};
+ghost use Rattle.yaml_lexeme.specs.Lexeme.{lexeme_of};
 ghost use Rattle.std.specs.Option.{option_copied};
 
 use crate::allowed::{is_allowed_after, is_key_allowed};
 use crate::fault::{keep_fault, stop_t};
 use crate::keys::{completed_by, held_t, lost_at, move_slots, needed_at, root, settle, slots_t};
 use crate::kind::{is_candidate, is_colon, start_after};
-use crate::levels::{close_levels, is_level, layout_t, put_group, put_key, top_level};
+use crate::levels::{close_levels, is_level, layout_t, level_at, put_group, put_key};
 use crate::source::{gap_end, kind_at, read_lexeme};
 use std::alloc::Global;
 use yaml_lexeme::{yaml_context_t, yaml_lexeme_kind_t, yaml_lexeme_t};
@@ -101,7 +103,8 @@ fn expect_kind(
 }
 
 /// What is wrong with a kind if no key is allowed at depth 0. `none`: it completes nothing.
-fn problem(kind: yaml_lexeme_kind_t, none: bool) -> Option<&'static str>
+#[inline(always)]
+pub(crate) fn problem(kind: yaml_lexeme_kind_t, none: bool) -> Option<&'static str>
     ensures { option_copied result ≡ problem_of kind none }
 {
     match kind {
@@ -134,7 +137,8 @@ fn refuse_kind(kept: &mut yaml_fault_t, met: met_t, margin: bool, none: bool) ->
 }
 
 /// The required candidate that a lexeme would clear or replace.
-fn cleared(met: met_t, margin: bool, top: Option<held_t>, limit: u64) -> Option<held_t>
+#[inline(always)]
+pub(crate) fn cleared(met: met_t, margin: bool, top: Option<held_t>, limit: u64) -> Option<held_t>
     ensures { result ≡ (if replaces met.kind met.allowed && margin then needed limit met.front top else None) }
 {
     if !is_colon(met.kind) && (!is_candidate(met.kind) || met.allowed) && margin {
@@ -175,39 +179,43 @@ pub(crate) fn meet(scanner: &scanner_t, kept: &mut yaml_fault_t) -> Result<met_t
     Ok(met)
 }
 
-/// Changes the candidates after a lexeme that was read to a mark, or returns a required one that is stale there. There
-/// is room for one more depth.
-fn keep_candidates(
-    slots: &mut slots_t,
+/// The required candidate that is stale at a mark after a lexeme that was met, of which `new` would be kept.
+#[inline(always)]
+pub(crate) fn lost_after(
+    slots: &slots_t,
     met: met_t,
     new: held_t,
     limit: u64,
     mark: yaml_mark_t,
 ) -> Option<held_t>
+    ensures { result ≡ lost_after limit slots.now met new mark }
+{
+    let mut top = slots.top;
+    settle(&mut top, met.kind, met.allowed, new);
+    lost_at(root(&slots.outer, top), limit, mark)
+}
+
+/// Changes the candidates after a lexeme that was read to a mark. There is room for one more depth.
+#[inline(always)]
+fn keep_candidates(slots: &mut slots_t, met: met_t, new: held_t, limit: u64, mark: yaml_mark_t)
     requires empty { slots.old.not_simple_keys ≡ empty_slots slots.old.outer.items }
     requires nested { AreNested slots.old.outer.items }
     requires room { vec_len slots.old.outer < vec_capacity slots.old.outer }
-    ensures lost { result
-        ≡ lost_held limit mark (root_of slots.old.outer.items (slot_after met.kind met.allowed new slots.old.top)) }
-    ensures outer { result ≡ None
-        → slots.new.outer.items ≡ nested_outer met.kind (map (still_held limit mark) slots.old.outer.items)
+    ensures outer { slots.new.outer.items
+        ≡ nested_outer met.kind (map (still_held limit mark) slots.old.outer.items)
         (still_held limit mark (slot_after met.kind met.allowed new slots.old.top)) }
-    ensures top { result ≡ None
-        → slots.new.top ≡ nested_top met.kind (map (still_held limit mark) slots.old.outer.items)
+    ensures top { slots.new.top
+        ≡ nested_top met.kind (map (still_held limit mark) slots.old.outer.items)
         (still_held limit mark (slot_after met.kind met.allowed new slots.old.top)) }
-    ensures empty { result ≡ None → slots.new.not_simple_keys ≡ empty_slots slots.new.outer.items }
-    ensures awaited { result ≡ None
-        → slots.new.awaited ≡ step_of (lowest (slots.new.outer.items ++ slots.new.top ∷ [])) }
+    ensures empty { slots.new.not_simple_keys ≡ empty_slots slots.new.outer.items }
+    ensures awaited { slots.new.awaited ≡ step_of (lowest (slots.new.outer.items ++ slots.new.top ∷ [])) }
 {
     settle(&mut slots.top, met.kind, met.allowed, new);
-    let lost = lost_at(root(&slots.outer, slots.top), limit, mark);
-    if lost.is_none() {
-        move_slots(slots, met.kind, limit, mark);
-    }
-    lost
+    move_slots(slots, met.kind, limit, mark);
 }
 
 /// The token of a lexeme that starts at a mark.
+#[inline(always)]
 fn token_of(start: yaml_mark_t, x: yaml_lexeme_t) -> yaml_token_t
     ensures { token_of result ≡ record {
       token_data = data_of x.token_data;
@@ -223,7 +231,13 @@ fn token_of(start: yaml_mark_t, x: yaml_lexeme_t) -> yaml_token_t
 }
 
 /// What is kept of a lexeme of this step that starts at a mark, if it is a candidate.
-fn new_candidate(step: u64, start: yaml_mark_t, margin: bool, level: Option<u64>) -> held_t
+#[inline(always)]
+pub(crate) fn new_candidate(
+    step: u64,
+    start: yaml_mark_t,
+    margin: bool,
+    level: Option<u64>,
+) -> held_t
     ensures { result ≡ record { step = step; start = start; required = is_margin_level margin level start.column } }
 {
     held_t {
@@ -233,7 +247,35 @@ fn new_candidate(step: u64, start: yaml_mark_t, margin: bool, level: Option<u64>
     }
 }
 
-/// Reads the lexeme that was met, and changes levels, queue and candidates.
+/// Lays a lexeme that was met and read, of which `new` is kept: changes levels, queue and candidates. There is room,
+/// and no candidate is lost. `margin`: it is at depth 0.
+#[inline(always)]
+pub(crate) fn put_lexeme(
+    scanner: &mut scanner_t,
+    met: met_t,
+    margin: bool,
+    new: held_t,
+    x: yaml_lexeme_t,
+)
+    ghost before: { List Laid }
+    requires { CanPut before scanner.old met margin new (lexeme_of x) }
+    ensures { Advances before scanner.old scanner.new }
+{
+    let kind = met.kind;
+    let start = new.start;
+    let reach = x.reach;
+    let passed_break = x.passed_break;
+    let closed = close_levels(&mut scanner.layout.levels, !margin, kind, met.front, start);
+    let completed = completed_by(kind, scanner.slots.top, scanner.limit, start);
+    keep_candidates(&mut scanner.slots, met, new, scanner.limit, reach);
+    let opens = put_key(&mut scanner.layout, margin, completed, kind, start);
+    let token = token_of(start, x);
+    put_group(&mut scanner.layout.queue, closed, met.front, opens, token);
+    scanner.allowed = is_allowed_after(kind, margin, completed.is_none(), passed_break);
+    scanner.reach = reach;
+}
+
+/// Reads the lexeme that was met, and lays it.
 pub(crate) fn lay(
     scanner: &mut scanner_t,
     met: met_t,
@@ -246,28 +288,19 @@ pub(crate) fn lay(
         × Stays scanner.old scanner.new) }
 {
     let margin = scanner.slots.outer.is_empty();
-    let kind = met.kind;
-    let start = start_after(kind, met.front);
+    let start = start_after(met.kind, met.front);
     scanner.slots.outer.reserve(1)?;
     scanner.layout.levels.reserve(1)?;
     scanner.layout.queue.groups.reserve(1)?;
-    let closed = close_levels(&mut scanner.layout.levels, !margin, kind, met.front, start);
-    let level = top_level(&scanner.layout.levels);
+    let level = level_at(&scanner.layout.levels, !margin, met.kind, start);
     let context = yaml_context_t {
         depth: scanner.slots.outer.len() as u64,
         level,
     };
     let x = read_lexeme(scanner.alloc, kept, &scanner.text, met, context)?;
     let new = new_candidate(scanner.made + 1, start, margin, level);
-    let reach = x.reach;
-    let passed_break = x.passed_break;
-    let completed = completed_by(kind, scanner.slots.top, scanner.limit, start);
-    let lost = keep_candidates(&mut scanner.slots, met, new, scanner.limit, reach);
-    refuse_lost(kept, lost, reach)?;
-    let opens = put_key(&mut scanner.layout, margin, completed, kind, start);
-    let token = token_of(start, x);
-    put_group(&mut scanner.layout.queue, closed, met.front, opens, token);
-    scanner.allowed = is_allowed_after(kind, margin, completed.is_none(), passed_break);
-    scanner.reach = reach;
+    let lost = lost_after(&scanner.slots, met, new, scanner.limit, x.reach);
+    refuse_lost(kept, lost, x.reach)?;
+    put_lexeme(scanner, met, margin, new, x);
     Ok(())
 }

@@ -86,7 +86,7 @@ marker_rows flow k p t m n h =
     let r17 = peel (c == 0x3E && not flow) _ k _ refl t r16 in
     let r18 = peel (c == 0x27) _ k _ refl t r17 in
     let r19 = peel (c == 0x22) _ k _ refl t r18 in
-    let r20 = peel (starts_plain flow p) _ k _ refl t r19 in
+    let r20 = peel (starts_plain flow (first p)) _ k _ refl t r19 in
     absurd (cc r20)
 
 third : (c : ℕ) (p : Place) → (c == 0x0D) ≡ false → is_marker_of c p ≡ true → (peek p 2 == 0x0D) ≡ false

@@ -54,7 +54,7 @@ last true h = refl
 last false h = absurd cc
 
 -- what the rows say of a plain scalar's first character
-plain_rows : (flow : Bool) (p : Place) → kind_at flow p ≡ Some kind.PLAIN → ((first p == 0x3A && (flow || ends (peek p 1))) ≡ false) × (starts_plain flow p ≡ true)
+plain_rows : (flow : Bool) (p : Place) → kind_at flow p ≡ Some kind.PLAIN → ((first p == 0x3A && (flow || ends (peek p 1))) ≡ false) × (starts_plain flow (first p) ≡ true)
 unfolding kind_at
 plain_rows flow p h =
     let c = first p in
@@ -78,7 +78,7 @@ plain_rows flow p h =
     let r17 = (peel (c == 0x3E && not flow) _ _ r16 (λ e. absurd cc)).1 in
     let r18 = (peel (c == 0x27) _ _ r17 (λ e. absurd cc)).1 in
     let r19 = (peel (c == 0x22) _ _ r18 (λ e. absurd cc)).1 in
-    (colon.0, last (starts_plain flow p) r19)
+    (colon.0, last (starts_plain flow (first p)) r19)
 
 chunk_from : (flow : Bool) (c d : ℕ) → (c == 0x3A && (flow || ends d)) ≡ false → (not (ends c || is_indicator c) || (c == 0x2D || (not flow && (c == 0x3F || c == 0x3A)))) ≡ true → is_chunk flow c d ≡ true
 chunk_from true c d h s = grind (arith, nat_tests)

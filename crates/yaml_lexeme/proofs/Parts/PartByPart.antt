@@ -6,7 +6,7 @@ use Rattle.yaml_lexeme.specs.declared.problem.refusal_t.{refusal_t}
 use Rattle.yaml_lexeme.specs.declared.problem.refusal_t.TheVariants as errors
 use Rattle.yaml_lexeme.specs.Gives.{Refuses, TakesPart}
 use Rattle.yaml_lexeme.specs.Place.{Place}
-use Rattle.yaml_lexeme.specs.Reading.{Read, found, ◌>>=◌, Part, with_front, go_on, at_most, many}
+use Rattle.yaml_lexeme.specs.Reading.{Read, found, ◌>>=◌, Part, over, with_front, go_on, at_most, many}
 
 -- a part takes a character or more
 abbrev pub IsShorter : {A : Type 0} → Place → Part A → Type 0
@@ -91,6 +91,10 @@ refused : {A : Type 0} → (bytes : A → List ℕ) (more : Place → Read (List
     → Refuses e q (with_front out (joined bytes (r >>= λ a. go_on more p a)))
 refused bytes more errors.MEMORY r p q out h = tt
 refused bytes more (errors.OFFENCE problem) r p q out h = rw h refl
+
+-- a list that is over takes nothing
+pub over_taken : {A : Type 0} → (bytes : A → List ℕ) (r : Part A) (out : List ℕ) (q : Place) → r ≡ over → TakesPart bytes r false out out q q
+over_taken bytes r out q e = rw e (refl, refl)
 
 -- a part could not be read
 pub reads_none : {A : Type 0} → (bytes : A → List ℕ) (one : Place → Part A) → Shortens one → (e : refusal_t) (p q : Place) (out : List ℕ) (whole : Read (List ℕ))

@@ -1,5 +1,5 @@
 -- A cursor that moves on bytes moves as a place does on characters.
-use Rattle.std.proofs.Common.{false, ◌≡◌, ℕ, zero, suc, ◌+◌, ◌-◌, ◌<◌, ◌≤◌, Bool, List, [], ◌∷◌, ◌++◌, length, get_or, take, drop, min, refl, sym, ap, ◌∙◌, subst, arith, inl, inr}
+use Rattle.std.proofs.Common.{true, false, ◌≡◌, ℕ, zero, suc, ◌+◌, ◌-◌, ◌<◌, ◌≤◌, Bool, List, [], ◌∷◌, ◌++◌, length, get_or, take, drop, min, refl, sym, ap, ◌∙◌, subst, arith, inl, inr}
 use Rattle.std.specs.List.{prefix_len, count_by}
 use Rattle.std.specs.Str.{chars}
 use Rattle.std.proofs.lemmas.Bool.{cases_Bool}
@@ -13,11 +13,12 @@ use Rattle.yaml_text.specs.Chars.{AreChars, IsText, utf8}
 use Rattle.yaml_text.specs.Classes.{is_break}
 use Rattle.yaml_text.proofs.Decodings.DecodeFronts.{chars-utf8, IsText-utf8}
 use Rattle.yaml_text.proofs.Marks.MarkMoves.{AreChars-parts}
-use Rattle.yaml_lexeme.specs.Place.{Place, place_at, IsMarkOf, ends_line, skip_from, skip, behind, run, run_len, mark_behind, width}
+use Rattle.yaml_text.proofs.Characters.ClassTables.{Leads, leads}
+use Rattle.yaml_lexeme.specs.Place.{first, Place, place_at, IsMarkOf, ends_line, skip_from, skip, behind, run, run_len, mark_behind, width}
 use Rattle.yaml_lexeme.specs.declared.runs.class_t.{class_t}
 use Rattle.yaml_lexeme.specs.Runs.{is_quiet, class_test, begins}
-use Rattle.yaml_lexeme.proofs.Places.PlaceMoves.{skip_skip, moved, rest_skip}
-use Rattle.yaml_lexeme.proofs.Places.FirstCharacters.{head, ascii_head, past_ascii}
+use Rattle.yaml_lexeme.proofs.Places.PlaceMoves.{skip_skip, moved, rest_skip, is_there}
+use Rattle.yaml_lexeme.proofs.Places.FirstCharacters.{head, ascii_head, past_ascii, some_bytes}
 use Rattle.yaml_lexeme.proofs.ManyBytes.QuietRuns.{Over, over, along, count_chars, spaces_bytes, over_spaces}
 use Rattle.yaml_lexeme.specs.declared.runs.class_t.TheVariants.{SPACE}
 
@@ -167,6 +168,58 @@ line_feed_moves m bytes t some e =
       place = moved p m m' (chars bytes) (chars (drop 1 bytes)) (get_or p.rest 1 0) refl h.some refl (line_feed_mark m (get_or (chars bytes) 0 0) (get_or p.rest 1 0) (sym same ∙ e)) k.rest;
     }
 
+-- the byte of an ASCII character that is here
+pub record AsciiByte (bytes : List ℕ) (c : ℕ) : Type 0 where
+  pub some : 0 < length bytes
+  pub same : get_or bytes 0 0 ≡ c
+
+ascii_leads : (c a b d : ℕ) → Leads c a b d → c < 128 → a ≡ c
+ascii_leads c a b d h low = omega (arith, h)
+
+pub ascii_byte : (m : yaml_mark_t) (bytes : List ℕ) (p : Place) → IsText bytes → (let q : Place = record { mark = m; rest = chars bytes } in q ≡ p) → 0 < first p → first p < 128 → AsciiByte bytes (first p)
+ascii_byte m bytes p t view some low =
+    let here : get_or (chars bytes) 0 0 ≡ first p = ap (λ (x : Place). first x) view in
+    let h : Leads (get_or (chars bytes) 0 0) (get_or bytes 0 0) (get_or bytes 1 0) (get_or bytes 2 0) =
+    subst (λ (x : List ℕ). Leads (get_or (chars bytes) 0 0) (get_or x 0 0) (get_or x 1 0) (get_or x 2 0)) t.spelled (leads (chars bytes) t.each) in
+    let there = is_there p 0 some in
+    record {
+      some = some_bytes bytes t (omega (arith, there, ap (λ (x : Place). length x.rest) view));
+      same = ascii_leads _ _ _ _ h (omega (arith, here)) ∙ here;
+    }
+
+-- the character of an ASCII byte that is here
+pub ascii_here : (m : yaml_mark_t) (bytes : List ℕ) (p : Place) → IsText bytes → (let q : Place = record { mark = m; rest = chars bytes } in q ≡ p) → get_or bytes 0 0 < 128 → get_or bytes 0 0 ≡ first p
+ascii_here m bytes p t view low = ascii_head bytes t low ∙ ap (λ (x : Place). first x) view
+
+low_no_break : (c : ℕ) → c < 128 → (c ≡ 10 → ⊥) → (c ≡ 13 → ⊥) → is_break c ≡ false
+low_no_break c low a b = grind (arith, nat_tests)
+
+pub passes_here : (m : yaml_mark_t) (bytes : List ℕ) (p : Place) → IsText bytes → (let q : Place = record { mark = m; rest = chars bytes } in q ≡ p) → 0 < length bytes → get_or bytes 0 0 < 128 → (get_or bytes 0 0 ≡ 10 → ⊥) → (get_or bytes 0 0 ≡ 13 → ⊥)
+    → record { some : 0 < first p; ascii : first p < 128; inside : is_break (first p) ≡ false }
+passes_here m bytes p t view some low a b =
+    let here = ascii_here m bytes p t view low in
+    let h = head bytes t some in
+    record {
+      some = omega (arith, h.positive, ascii_head bytes t low, here);
+      ascii = omega (arith, here);
+      inside = low_no_break (first p) (omega (arith, here)) (λ e. a (here ∙ e)) (λ e. b (here ∙ e));
+    }
+
+no_break_is : (c k : ℕ) → is_break c ≡ false → is_break k ≡ true → c ≡ k → ⊥
+no_break_is c k h t e = cc (ap is_break e)
+
+-- after an ASCII character that is here and no break
+pub pass_moves : (m : yaml_mark_t) (bytes : List ℕ) (p : Place) → IsText bytes → (let q : Place = record { mark = m; rest = chars bytes } in q ≡ p) → 0 < first p → first p < 128 → is_break (first p) ≡ false → AsciiByte bytes (first p) × AsciiMove m bytes
+pass_moves m bytes p t view some low inside =
+    let b = ascii_byte m bytes p t view some low in
+    (b, ascii_moves m bytes t b.some (omega (arith, b.same)) (λ e. no_break_is (first p) 10 inside refl (sym b.same ∙ e)) (λ e. no_break_is (first p) 13 inside refl (sym b.same ∙ e)))
+
+-- after a line feed that is here
+pub feed_moves : (m : yaml_mark_t) (bytes : List ℕ) (p : Place) → IsText bytes → (let q : Place = record { mark = m; rest = chars bytes } in q ≡ p) → first p ≡ 10 → AsciiByte bytes (first p) × LineMove m bytes
+feed_moves m bytes p t view feed =
+    let b = ascii_byte m bytes p t view (omega arith) (omega arith) in
+    (b, line_feed_moves m bytes t b.some (b.same ∙ feed))
+
 -- a text's front is a place of it
 pub at_front : (cs : List ℕ) → IsMarkOf cs (record { index = 0; line = 0; column = 0 }) 0
 unfolding skip
@@ -190,6 +243,14 @@ space_from m bytes k t low =
       text = subst IsText (sym dr) (IsText-utf8 (drop k cs) each.1);
       place = (λ i. record { mark = along m k k; rest = left i }) ∙ sym o.place ∙ sym (skip_is k m cs);
     }
+
+-- the place after all of the first spaces
+pub all_space_moves : (m : yaml_mark_t) (bytes : List ℕ) (p : Place) (n : ℕ) → IsText bytes → (let q : Place = record { mark = m; rest = chars bytes } in q ≡ p) → n ≡ prefix_len (is_quiet SPACE) bytes
+    → (n ≡ run_len (class_test SPACE) p) × SpaceMove m bytes p n
+all_space_moves m bytes p n t view n-is =
+    let same : n ≡ prefix_len (class_test SPACE) (chars bytes) = n-is ∙ ap (prefix_len (is_quiet SPACE)) (sym t.spelled) ∙ spaces_bytes (chars bytes) t.each in
+    let here : prefix_len (class_test SPACE) (chars bytes) ≡ run_len (class_test SPACE) p = ap (λ (x : Place). run_len (class_test SPACE) x) view in
+    (same ∙ here, subst (λ (x : Place). SpaceMove m bytes x n) view (space_from m bytes n t (omega (arith, same))))
 
 pub space_moves : (m : yaml_mark_t) (bytes : List ℕ) (p : Place) (n most k : ℕ) → IsText bytes → (let q : Place = record { mark = m; rest = chars bytes } in q ≡ p) → n ≡ prefix_len (is_quiet SPACE) bytes → k ≡ min n most
     → (k ≡ min (run_len (class_test SPACE) p) most) × SpaceMove m bytes p k

@@ -15,7 +15,7 @@ use Rattle.yaml_lexeme.proofs.Places.PlaceMoves.{is_there}
 use Rattle.yaml_lexeme.specs.Escape.{hex_escape, is_scalar}
 use Rattle.yaml_lexeme.specs.Place.{Place, peek, skip}
 use Rattle.yaml_lexeme.specs.Reading.{found, refuse}
-use Rattle.yaml_text.specs.Classes.{is_hex}
+use Rattle.yaml_text.specs.Classes.{is_hex, is_break}
 
 -- the first k characters are hex digits of this value
 pub record Digits (p : Place) (k value : ℕ) : Type 0 where
@@ -32,6 +32,9 @@ hex_not c h = grind (arith, nat_tests)
 
 digit_is_there : (c : ℕ) → digit_value c < 16 → 0 < c
 digit_is_there c h = grind (arith, nat_tests)
+
+pub digit_passes : (c : ℕ) → digit_value c < 16 → record { some : 0 < c; ascii : c < 128; inside : is_break c ≡ false }
+digit_passes c h = record { some = digit_is_there c h; ascii = grind (arith, nat_tests); inside = grind (arith, nat_tests) }
 
 one_more_power : (k : ℕ) → 16 ^ (k + 1) ≡ 16 ^ k * 16
 one_more_power k = grind (arith, common_steps)

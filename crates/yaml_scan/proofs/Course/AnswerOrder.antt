@@ -11,7 +11,7 @@ use Rattle.yaml_scan.specs.Kind.{is_stream_end, is_key}
 use Rattle.yaml_scan.specs.Lexeme.{Lexeme}
 use Rattle.yaml_scan.specs.Token.{yaml_token_t, type_of, is_end_type, is_start_type, is_key_type}
 use Rattle.yaml_scan.specs.Laid.{Laid}
-use Rattle.yaml_scan.specs.Groups.{Token, handed_out, end_mark, group, groups, offline}
+use Rattle.yaml_scan.specs.Groups.{Token, handed_out, group, groups, offline}
 use Rattle.yaml_scan.specs.Settled.{before}
 use Rattle.yaml_scan.specs.Groups.Token.{StreamStart, BlockEnd, BlockSequenceStart, BlockMappingStart, InsertedKey}
 use Rattle.yaml_scan.specs.Groups.Token.{OfLexeme}

@@ -2,9 +2,10 @@
 use Rattle.std.proofs.lemmas.Bool.{and_parts, and_from, leb-true, cases_Bool}
 use Rattle.yaml_scan.specs.Kind.{Kind, closes_all, is_stream_end}
 use Rattle.yaml_text.specs.declared.types.yaml_mark_t.{yaml_mark_t}
-use Rattle.std.proofs.Common.{◌≡◌, ℕ, Bool, true, false, ◌≤◌, ◌-◌, not, length, length-append, slice_get, Some, sym}
+use Rattle.std.proofs.Common.{◌≡◌, ℕ, Bool, true, false, ◌≤◌, ◌-◌, not, length, length-append, slice_get, Option, Some, sym}
 use Rattle.std.proofs.Common.{◌∙◌, subst, List, [], ◌∷◌, ◌++◌, reverse, filter, leb, le-leb, refl, ap, arith, ◌+◌, map}
-use Rattle.std.proofs.Common.{le-ltb, ltb-false, None, inl, inr}
+use Rattle.std.proofs.Common.{le-ltb, ltb-false, None, inl, inr, take}
+use Rattle.std.specs.Option.{is_some}
 use Rattle.std.proofs.lemmas.List.{reverse-append, reverse-reverse}
 use Rattle.yaml_scan.specs.Levels.{IsFalling, AllLess, stays, greatest_level}
 use Rattle.yaml_scan.proofs.History.LevelsFall.{level_first}
@@ -115,3 +116,43 @@ last_level xs f = go (reverse xs) refl
         let w : slice_get xs (length xs - 1) ≡ Some y = subst (λ (k : ℕ). slice_get xs k ≡ Some y) (sym n) (subst (λ (l : List ℕ). slice_get l (length (reverse zs)) ≡ Some y) (sym z) (get_last (reverse zs) y)) in
         let g : IsFalling (y ∷ zs) = subst (λ (l : List ℕ). IsFalling l) q f in
         w ∙ sym (rw q (level_first y zs g))
+
+-- without the top
+all_but_last : (a : List ℕ) (y : ℕ) → take (length a) (a ++ y ∷ []) ≡ a
+all_but_last [] y = refl
+all_but_last (x ∷ a) y = ap (λ (l : List ℕ). x ∷ l) (all_but_last a y)
+
+pub without_top : (xs : List ℕ) (y : ℕ) (ys : List ℕ) → reverse xs ≡ y ∷ ys → reverse (take (length xs - 1) xs) ≡ ys
+without_top xs y ys q =
+    let z : xs ≡ reverse ys ++ y ∷ [] = sym (reverse-reverse xs) ∙ ap (λ (l : List ℕ). reverse l) q ∙ reverse-append (y ∷ []) ys in
+    let l = ap (λ (l : List ℕ). length l) z in
+    let a = length-append (reverse ys) (y ∷ []) in
+    let n : length xs - 1 ≡ length (reverse ys) = omega arith in
+    let w : take (length xs - 1) xs ≡ reverse ys = ap (λ (k : ℕ). take k xs) n ∙ ap (λ (l : List ℕ). take (length (reverse ys)) l) z ∙ all_but_last (reverse ys) y in
+    ap (λ (l : List ℕ). reverse l) w ∙ reverse-reverse ys
+
+-- where the top is closed, what is kept is in the rest
+pub record Shorter (f : Bool) (k : Kind) (m : yaml_mark_t) (xs ys : List ℕ) : Type 0 where
+  pub falls : IsFalling (reverse ys)
+  pub kept : filter (stays f k m) (reverse ys) ≡ filter (stays f k m) (reverse xs)
+
+pub closed_top : (f : Bool) (k : Kind) (m : yaml_mark_t) (xs : List ℕ) → IsFalling (reverse xs) → is_some (closing f k m (reverse xs)) ≡ true → Shorter f k m xs (take (length xs - 1) xs)
+closed_top f k m xs g e = go (reverse xs) refl
+  where
+    closes : (c : ℕ) (cs : List ℕ) → is_some (closing f k m (c ∷ cs)) ≡ true → closing f k m (c ∷ cs) ≡ Some c
+    closes c cs q = elim (cases_Bool (stays f k m c)) [
+      | inl s ↦ (let v : false ≡ true = rw s at q in absurd (cc))
+      | inr s ↦ rw s refl
+    ]
+
+    go : (ys : List ℕ) → reverse xs ≡ ys → Shorter f k m xs (take (length xs - 1) xs)
+    go [] q = (let v : is_some (closing f k m []) ≡ true = rw q at e in absurd (cc))
+    go (c ∷ cs) q =
+        let w = without_top xs c cs q in
+        let h : IsFalling (c ∷ cs) = rw q at g in
+        let s = closes c cs (rw q at e) in
+        record { falls = subst (λ (l : List ℕ). IsFalling l) (sym w) h.1; kept = ap (λ (l : List ℕ). filter (stays f k m) l) w ∙ sym (kept_without f k m c cs s) ∙ ap (λ (l : List ℕ). filter (stays f k m) l) (sym q) }
+
+pub none_is : (o : Option ℕ) → is_some o ≡ false → o ≡ None
+none_is None e = refl
+none_is (Some n) e = cc

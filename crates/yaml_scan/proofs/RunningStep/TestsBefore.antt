@@ -42,6 +42,10 @@ is_none_some None false e = cc
 is_none_some (Some a) true e = cc
 is_none_some (Some a) false e = refl
 
+pub none_of : {A : Type 0} (o : Option A) → is_some o ≡ false → o ≡ None
+none_of None e = refl
+none_of (Some a) e = cc
+
 -- a lost candidate's fault
 pub record Loses (m : yaml_mark_t) (p : ℕ) (r : Outcome) (f : Fault) : Type 0 where
   pub start : yaml_mark_t

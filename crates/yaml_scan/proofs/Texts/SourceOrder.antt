@@ -94,7 +94,7 @@ ends_at flow p k e t = if_end (is_z (first p)) k (other flow p) e t
         else if first p == 0x3E && not flow then Some kind.FOLDED
         else if first p == 0x27 then Some kind.SINGLE_QUOTED
         else if first p == 0x22 then Some kind.DOUBLE_QUOTED
-        else if starts_plain flow p then Some kind.PLAIN
+        else if starts_plain flow (first p) then Some kind.PLAIN
         else None)
     other flow p = if_is (p.mark.column == 0 && first p == 0x25) (some_is kind.DIRECTIVE refl) (
         if_is (is_marker_of 0x2D p) (some_is kind.DOCUMENT_START refl) (
@@ -114,7 +114,7 @@ ends_at flow p k e t = if_end (is_z (first p)) k (other flow p) e t
         if_is (first p == 0x3E && not flow) (some_is kind.FOLDED refl) (
         if_is (first p == 0x27) (some_is kind.SINGLE_QUOTED refl) (
         if_is (first p == 0x22) (some_is kind.DOUBLE_QUOTED refl) (
-        if_is (starts_plain flow p) (some_is kind.PLAIN refl) (
+        if_is (starts_plain flow (first p)) (some_is kind.PLAIN refl) (
         none_is)))))))))))))))))))
 
 -- the mark of the end

@@ -1,26 +1,38 @@
 -- What a running scanner holds after the lexemes H.
 use Rattle.std.specs.Prelude.{◌≡◌, ℕ, ◌+◌, ◌-◌, ◌≤◌, ◌<◌, ◌^◌, true, false, List, [], ◌∷◌, ◌++◌, reverse, drop, length}
-use Rattle.std.specs.Prelude.{None, Some, nat_lt}
+use Rattle.std.specs.Prelude.{Bool, Option, None, Some, nat_lt, not, filter, vec_len}
+use Rattle.std.specs.Bool.{◌==◌}
+use Rattle.std.specs.Option.{IfSome}
+use Rattle.std.specs.Vec.{vec_capacity}
+use Rattle.std.specs.VecDeque.{deque_capacity}
+use Rattle.yaml_text.specs.declared.types.yaml_mark_t.{yaml_mark_t}
+use Rattle.yaml_lexeme.specs.Lexeme.{Lexeme as yaml_lexeme_t}
 use Rattle.yaml_text.specs.Fault.{Fault}
 use Rattle.yaml_text.specs.Chars.{AreChars}
 use Rattle.yaml_text.specs.Decode.{refusal_seen}
 use Rattle.yaml_lexeme.specs.Place.{IsMarkOf}
 use Rattle.yaml_scan.specs.declared.step.scanner_t.{scanner_t}
 use Rattle.yaml_scan.specs.declared.step.met_t.{met_t}
+use Rattle.yaml_scan.specs.declared.quick.ready_t.{ready_t}
+use Rattle.yaml_lexeme.specs.Lexeme.{lexeme_of}
+use Rattle.yaml_lexeme.specs.declared.lexeme.yaml_lexeme_t.{yaml_lexeme_t as code_lexeme_t}
+use Rattle.yaml_scan.specs.declared.keys.slots_t.{slots_t}
+use Rattle.yaml_scan.specs.Kind.{Kind}
 use Rattle.yaml_scan.specs.Lexeme.{Lexeme}
 use Rattle.yaml_scan.specs.Source.{Source, Offence}
 use Rattle.yaml_scan.specs.SourceOf.{source_of}
-use Rattle.yaml_scan.specs.inside.TextReads.{IsProblem}
+use Rattle.yaml_scan.specs.inside.TextReads.{IsProblem, IsRead}
 use Rattle.yaml_scan.specs.Laid.{Laid, reach}
 use Rattle.yaml_scan.specs.Depth.{depth}
 use Rattle.yaml_scan.specs.Allowed.{allowed, allowed_after}
-use Rattle.yaml_scan.specs.Levels.{AllLess, laid, open_columns}
+use Rattle.yaml_scan.specs.Levels.{AllLess, laid, open_columns, greatest_level, stays}
 use Rattle.yaml_scan.specs.Order.{IsHistory, ended}
 use Rattle.yaml_scan.specs.Groups.{offline}
 use Rattle.yaml_scan.specs.Settled.{before, pace}
-use Rattle.yaml_scan.specs.inside.Slots.{held, outer_to, empty_slots, lowest, step_of}
+use Rattle.yaml_scan.specs.inside.Slots.{Held, held, outer_to, empty_slots, lowest, step_of}
+use Rattle.yaml_scan.specs.inside.Slots.{is_margin_level, lost_held, root_of, slot_after}
 use Rattle.yaml_scan.specs.inside.Queue.{IsQueue}
-use Rattle.yaml_scan.specs.Step.{step, read_step, stale, place_after, front_of}
+use Rattle.yaml_scan.specs.Step.{step, read_step, stale, place_after, front_of, start_at}
 use Rattle.yaml_scan.specs.Step.Outcome.{Reads, Faults}
 use Rattle.yaml_scan.specs.Cut.{oldest}
 use Rattle.yaml_scan.specs.Answers.{Input, Course, course}
@@ -75,6 +87,64 @@ pub record CanLay (H : List Laid) (s : scanner_t) (m : met_t) : Type 0 where
   pub few_steps : s.made + 1 < 2 ^ 64
   pub met : IsMet H s m
 
+-- there is room for one more depth, level and group
+pub record HasRoom (s : scanner_t) : Type 0 where
+  pub depths : vec_len s.slots.outer < vec_capacity s.slots.outer
+  pub levels : vec_len s.layout.levels < vec_capacity s.layout.levels
+  pub groups : length s.layout.queue.groups.items < deque_capacity s.layout.queue.groups
+
+-- a step can be made, and there is room for it
+pub record CanStep (H : List Laid) (s : scanner_t) : Type 0 where
+  pub holds : Holds H (s.made + 1) s
+  pub running : ended H ≡ false
+  pub small : length s.text.chars < 2 ^ 63
+  pub few_steps : s.made + 1 < 2 ^ 64
+  pub room : HasRoom s
+
+-- a lexeme of kind k comes next, which starts at g after the gap, at depth 0 (margin) or not
+pub record Comes (H : List Laid) (s : scanner_t) (margin : Bool) (k : Kind) (g : yaml_mark_t) : Type 0 where
+  pub can : CanStep H s
+  pub at_margin : margin ≡ vec_len s.slots.outer == 0
+  pub front : IsMarkOf s.text.chars g (front_of (text_of s) H)
+  pub is_kind : (text_of s).kind (not margin) (front_of (text_of s) H) ≡ Some k
+
+-- `new` is what is kept of the lexeme that was met, at depth 0 (margin) or not, with the greatest level that it keeps
+pub record IsNewHeld (s : scanner_t) (m : met_t) (margin : Bool) (l : Option ℕ) (new : Held) : Type 0 where
+  pub at_margin : margin ≡ vec_len s.slots.outer == 0
+  pub is_greatest : l ≡ greatest_level (filter (stays (not margin) m.kind new.start) (reverse s.layout.levels.items))
+  pub step : new.step ≡ s.made + 1
+  pub start : new.start ≡ start_at m.kind m.front
+  pub required : new.required ≡ is_margin_level margin l new.start.column
+
+-- the required candidate that is stale at a mark after the lexeme that was met
+abbrev pub lost_after : ℕ → slots_t → met_t → Held → yaml_mark_t → Option Held
+lost_after limit slots m new mark =
+    lost_held limit mark (root_of slots.outer.items (slot_after m.kind m.allowed new slots.top))
+
+-- a lexeme that was read can be laid
+pub record CanPut (H : List Laid) (s : scanner_t) (m : met_t) (margin : Bool) (new : Held) (x : yaml_lexeme_t)
+    : Type 0 where
+  pub can : CanLay H s m
+  pub room : HasRoom s
+  pub level : Option ℕ
+  pub is_new : IsNewHeld s m margin level new
+  pub read : IsRead s.text.chars m.kind (vec_len s.slots.outer) level (front_of (text_of s) H) x
+  pub kept : lost_after s.limit s.slots m new x.reach ≡ None
+
+-- a lexeme that was met can be read, and there is room for it
+pub record CanRead (H : List Laid) (s : scanner_t) (margin : Bool) (r : ready_t) : Type 0 where
+  pub can : CanStep H s
+  pub met : IsMet H s r.met
+  pub is_new : IsNewHeld s r.met margin r.context.level r.new
+  pub depth : r.context.depth ≡ vec_len s.slots.outer
+  pub within : IfSome r.context.level (λ l. l ≤ length s.text.chars)
+  pub there : (text_of s).kind (nat_lt 0 r.context.depth) (front_of (text_of s) H) ≡ Some r.met.kind
+
+-- what was read of it, if it was
+abbrev pub IsReadAt : scanner_t → ready_t → Kind → Option code_lexeme_t → Type 0
+IsReadAt s r k o = IfSome o (λ x. (p : ℕ) → IsMarkOf s.text.chars r.met.front p
+    → IsRead s.text.chars k r.context.depth r.context.level p (lexeme_of x))
+
 -- what a step does not change
 pub record Same (s t : scanner_t) : Type 0 where
   pub text : t.text ≡ s.text
@@ -93,6 +163,10 @@ pub record Advances (H : List Laid) (s t : scanner_t) : Type 0 where
   pub within : lexeme.place ≤ length s.text.chars
   pub same : Same s t
   pub made : t.made ≡ s.made
+
+-- what a quick look does: the flag says whether it made the step, and if not, nothing has changed
+abbrev pub IsQuick : List Laid → scanner_t → scanner_t → Bool → Type 0
+IsQuick H s t made = (made ≡ true → Advances H s t) × (made ≡ false → t ≡ s)
 
 -- the offence of a step
 pub record Offends (H : List Laid) (s : scanner_t) (f : Fault) : Type 0 where

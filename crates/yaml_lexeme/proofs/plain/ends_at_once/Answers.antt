@@ -8,14 +8,14 @@ use Rattle.yaml_lexeme.specs.Runs.{class_test}
 use Rattle.yaml_lexeme.specs.declared.runs.class_t.TheVariants.{SPACE}
 use Rattle.yaml_lexeme.proofs.plain.ends_at_once.Goals as goal
 
-pub returns-then-not-is_white-clause-over : goal.returns-then-not-is_white-clause-over
-returns-then-not-is_white-clause-over c =
+pub returns-else-is_white-clause-over : goal.returns-else-is_white-clause-over
+returns-else-is_white-clause-over c =
     let p = c.args.cursor.now in
     let none : is_white (first p) ≡ false = cc in
     link_none c.args.in_flow c.args.least p none
 
-pub returns-then-not-is_white-clause-end : goal.returns-then-not-is_white-clause-end
-returns-then-not-is_white-clause-end c =
+pub returns-else-is_white-clause-end : goal.returns-else-is_white-clause-end
+returns-else-is_white-clause-end c =
     let p = c.args.cursor.now in
     let none : is_white (first p) ≡ false = cc in
     sym (behind_none is_white p none)
@@ -23,9 +23,9 @@ returns-then-not-is_white-clause-end c =
 pub returns : goal.returns
 returns c =
     let p = c.args.cursor.now in
-    let q = c.skip_run.new.self in
+    let q = c.skip_all_spaces.new.self in
     let feed : first p ≡ 10 = omega (arith, c.peek-c.ensures) in
-    let at : q ≡ behind (class_test SPACE) (skip 1 p) = c.skip_run.ensures ∙ ap (behind (class_test SPACE)) (c.advance.ensures ∙ ap (skip 1) c.again-next.ensures) in
+    let at : q ≡ behind (class_test SPACE) (skip 1 p) = c.skip_all_spaces.ensures ∙ ap (behind (class_test SPACE)) (c.pass_feed.ensures ∙ ap (skip 1) c.again-next.ensures) in
     let solid : is_white (first q) ≡ false = cc in
     let t = over_below c.args.in_flow c.args.least p q c.if-in_flow.false feed at solid (omega (arith, ap (λ m. m.column) c.mark.ensures.value)) in
     record { over = t.0; end = t.1; broken = sym (passed_feed p feed); stays = search rules }

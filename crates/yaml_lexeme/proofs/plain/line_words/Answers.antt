@@ -1,29 +1,21 @@
-use Rattle.std.proofs.Common.{◌≡◌, ◌<◌, true, length, sym, ap, subst, arith}
-use Rattle.yaml_lexeme.proofs.Places.PlaceMoves.{length_one}
-use Rattle.yaml_lexeme.proofs.Readers.PlainLinks.{chunk_there}
-use Rattle.yaml_lexeme.proofs.Readers.PlainLines.{goes_char, goes_on, goes_shorter}
-use Rattle.yaml_lexeme.specs.Place.{Place, first, peek}
-use Rattle.yaml_lexeme.specs.Plain.{is_chunk}
-use Rattle.yaml_lexeme.specs.Words.{Goes}
+use Rattle.std.proofs.Common.{ℕ, List, take, sym, ◌∙◌, ap}
+use Rattle.yaml_text.specs.Chars.{utf8}
+use Rattle.yaml_lexeme.specs.Place.{Place, skip}
+use Rattle.yaml_lexeme.specs.Reading.{with_front}
+use Rattle.yaml_lexeme.specs.Words.{Goes, words}
+use Rattle.yaml_lexeme.proofs.Readers.PlainLines.{goes_on, goes_shorter}
 use Rattle.yaml_lexeme.proofs.plain.line_words.Goals as goal
 
-pub chunk-preserved : goal.chunk-preserved
-chunk-preserved c =
-    let flow = c.args.in_flow in
-    let least = c.args.least in
-    let p = c.args.cursor.now in
-    let q = c.chunk.cursor in
-    let h : is_chunk flow (first q) (peek q 1) ≡ true = cc in
-    let one : Goes flow least q c.advance.new.self = subst (λ (r : Place). Goes flow least q r) (sym c.advance.ensures) (goes_char flow least q h) in
-    goes_on flow least p q c.skip_words-in-chunk.new.cursor c.chunk.invariant (goes_on flow least q c.advance.new.self c.skip_words-in-chunk.new.cursor one c.skip_words-in-chunk.ensures)
+pub since-requires : goal.since-requires
+since-requires c =
+    let e : Goes c.args.in_flow c.args.least c.args.cursor.now c.skip_chunks.new.cursor = goes_on c.args.in_flow c.args.least c.args.cursor.now c.skip_words.new.cursor c.skip_chunks.new.cursor c.skip_words.ensures c.skip_chunks.ensures.goes in
+    (e.0, e.1.0 ∙ ap (skip e.0) (sym c.again-start.ensures))
 
-pub chunk-smaller : goal.chunk-smaller
-chunk-smaller c =
-    let flow = c.args.in_flow in
-    let q = c.chunk.cursor in
-    let h : is_chunk flow (first q) (peek q 1) ≡ true = cc in
-    let less : length c.skip_words-in-chunk.new.cursor.rest < length q.rest = omega (arith, goes_shorter flow c.args.least c.advance.new.self c.skip_words-in-chunk.new.cursor c.skip_words-in-chunk.ensures, ap (λ (r : Place). length r.rest) c.advance.ensures, length_one q, chunk_there flow q h) in
-    less
+pub returns-clause-goes : goal.returns-clause-goes
+returns-clause-goes c =
+    let e : Goes c.args.in_flow c.args.least c.args.cursor.now c.skip_chunks.new.cursor = goes_on c.args.in_flow c.args.least c.args.cursor.now c.skip_words.new.cursor c.skip_chunks.new.cursor c.skip_words.ensures c.skip_chunks.ensures.goes in
+    let b = c.since.ensures e.0 (e.1.0 ∙ ap (skip e.0) (sym c.again-start.ensures)) ∙ ap (λ (r : Place). utf8 (take e.0 r.rest)) c.again-start.ensures in
+    e.1.1 ∙ ap (λ (xs : List ℕ). with_front xs (words c.args.in_flow c.args.least c.skip_chunks.new.cursor)) (sym b)
 
 pub returns-clause-shorter : goal.returns-clause-shorter
-returns-clause-shorter c = goes_shorter c.args.in_flow c.args.least c.args.cursor.now c.chunk.cursor c.chunk.invariant
+returns-clause-shorter c = goes_shorter c.args.in_flow c.args.least c.args.cursor.now c.skip_chunks.new.cursor (goes_on c.args.in_flow c.args.least c.args.cursor.now c.skip_words.new.cursor c.skip_chunks.new.cursor c.skip_words.ensures c.skip_chunks.ensures.goes)

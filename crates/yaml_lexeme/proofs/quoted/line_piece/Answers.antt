@@ -1,8 +1,9 @@
-use Rattle.std.proofs.Common.{◌≡◌, ◌++◌, ◌≤◌, length, true, false, ap, ◌∙◌, arith, List, ℕ}
+use Rattle.std.proofs.Common.{◌≡◌, ◌++◌, ◌≤◌, length, true, false, ap, sym, subst, ◌∙◌, arith, Bool, List, ℕ}
 use Rattle.yaml_text.specs.Chars.{utf8}
 use Rattle.yaml_text.specs.Classes.{is_break}
 use Rattle.yaml_lexeme.proofs.Places.PlaceMoves.{length_skip}
 use Rattle.yaml_lexeme.proofs.ManyBytes.TrimmedLists.{trim_bytes}
+use Rattle.yaml_lexeme.proofs.Readers.LineFronts.{IsFront, run_front, trimmed_front}
 use Rattle.yaml_lexeme.proofs.Readers.QuotedLines.{run_goes_on, trimmed_goes_on}
 use Rattle.yaml_lexeme.specs.Place.{Place, first, behind, run, run_len}
 use Rattle.yaml_lexeme.specs.Runs.{class_test, line_of, trim}
@@ -19,6 +20,9 @@ shorter : (c : After-run-piece) → length c.run-piece.new.self.rest ≤ length 
 shorter c =
     let p = c.args.cursor.now in
     omega (arith, ap (λ (x : Place). length x.rest) c.run-piece.ensures.end, length_skip (run_len (class_test c.line_class.result) p) p)
+
+trim_front : (single : Bool) (p : Place) (x : List ℕ) → x ≡ trim (utf8 (run (class_test (line_of single)) p)) → IsFront x (utf8 p.rest)
+trim_front single p x e = subst (λ (y : List ℕ). IsFront y (utf8 p.rest)) (sym e) (trimmed_front (class_test (line_of single)) p)
 
 pub returns-then-is_break-clause-goes : goal.returns-then-is_break-clause-goes
 returns-then-is_break-clause-goes c = λ out.
@@ -43,3 +47,22 @@ returns-clause-goes c = λ out.
 
 pub returns-clause-shorter : goal.returns-clause-shorter
 returns-clause-shorter c = shorter (goal.at.returns-clause-shorter c).After-run-piece
+
+front : (c : After-run-piece) → IsFront c.run-piece.result.now (utf8 c.args.cursor.now.rest)
+front c = subst (λ (x : List ℕ). IsFront x (utf8 c.args.cursor.now.rest)) (sym (piece c).1) (run_front (class_test (line_of c.args.single)) c.args.cursor.now)
+
+pub returns-then-is_break-clause-front : goal.returns-then-is_break-clause-front
+returns-then-is_break-clause-front c =
+    let h = trim_front c.args.single c.args.cursor.now c.trimmed.result.now (c.trimmed.ensures ∙ ap trim (piece (goal.at.returns-then-is_break-clause-front c).After-run-piece).1) in
+    h.taken
+
+pub returns-then-is_break-clause-within : goal.returns-then-is_break-clause-within
+returns-then-is_break-clause-within c =
+    let h = trim_front c.args.single c.args.cursor.now c.trimmed.result.now (c.trimmed.ensures ∙ ap trim (piece (goal.at.returns-then-is_break-clause-within c).After-run-piece).1) in
+    h.within
+
+pub returns-clause-front : goal.returns-clause-front
+returns-clause-front c = let h = front (goal.at.returns-clause-front c).After-run-piece in h.taken
+
+pub returns-clause-within : goal.returns-clause-within
+returns-clause-within c = let h = front (goal.at.returns-clause-within c).After-run-piece in h.within

@@ -1,0 +1,12 @@
+use Rattle.std.proofs.Common.{◌≡◌, reverse, filter, length}
+use Rattle.yaml_scan.specs.Levels.{IsFalling, stays}
+use Rattle.yaml_scan.proofs.levels.level_at.Given as goal
+
+abbrev pub invariant-closed : goal.invariant-closed
+invariant-closed l = record {
+  falls : IsFalling (reverse l.kept);
+  kept : filter (stays l.in_flow l.kind l.start) (reverse l.kept) ≡ filter (stays l.in_flow l.kind l.start) (reverse l.fn.levels);
+}
+
+abbrev pub decreases-closed : goal.decreases-closed
+decreases-closed l = length l.kept
