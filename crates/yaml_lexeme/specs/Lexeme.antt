@@ -1,11 +1,11 @@
 -- Lexemes, and what they are made of.
-use Rattle.std.specs.Prelude.{ℕ, Bool, false, List}
+use Rattle.std.specs.Prelude.{ℕ, Bool, false, List, take}
 use Rattle.yaml_text.specs.declared.types.yaml_mark_t.{yaml_mark_t}
 use Rattle.yaml_text.specs.declared.types.yaml_scalar_style_t.{yaml_scalar_style_t}
 use Rattle.yaml_text.specs.Token.{TokenData, data_of}
 use Rattle.yaml_text.specs.Token.TokenData.{SCALAR}
 use Rattle.yaml_lexeme.specs.declared.lexeme.yaml_lexeme_t.{yaml_lexeme_t}
-use Rattle.yaml_lexeme.specs.declared.lexeme.yaml_scalar_t.{yaml_scalar_t}
+use Rattle.yaml_lexeme.specs.declared.lexeme.span_t.{span_t}
 use Rattle.yaml_lexeme.specs.declared.plain.scalar_t.{scalar_t}
 use Rattle.yaml_lexeme.specs.declared.directive.directive_t.{directive_t}
 use Rattle.yaml_lexeme.specs.Place.{Place}
@@ -94,9 +94,9 @@ abbrev pub directive_of : directive_t → Directive
 directive_of d = record { says = data_of d.says; end = d.end }
 
 -- A scalar of the code whose value is bytes of the text.
-abbrev pub scalar_there : yaml_scalar_t → Scalar
-scalar_there x = record { value = x.value.now; end = x.end_mark; passed_break = x.passed_break }
+abbrev pub scalar_there : span_t → Scalar
+scalar_there x = record { value = take x.len x.left.now; end = x.end_mark; passed_break = x.passed_break }
 
 -- The lexeme that it is, if it starts at a mark.
-abbrev pub scalar_lexeme : yaml_mark_t → yaml_scalar_t → Lexeme
-scalar_lexeme start x = scalar_to x.style start (scalar_there x) x.reach
+abbrev pub span_lexeme : yaml_mark_t → span_t → Lexeme
+span_lexeme start x = scalar_to x.style start (scalar_there x) x.reach

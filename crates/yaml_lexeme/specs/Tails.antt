@@ -1,7 +1,7 @@
 -- What the code keeps of the lines of a block scalar, and what was read of them.
 use Rattle.std.specs.Prelude.{◌≡◌, ℕ, ◌++◌, List, [], Result, Ok, Err, Bool, not, ◌&&◌, ◌||◌, if◌then◌else◌}
+use Rattle.yaml_text.specs.declared.types.yaml_mark_t.{yaml_mark_t}
 use Rattle.yaml_text.specs.Chars.{utf8}
-use Rattle.yaml_lexeme.specs.declared.block.blanks_t.{blanks_t}
 use Rattle.yaml_lexeme.specs.declared.block.tail_t.{tail_t}
 use Rattle.yaml_lexeme.specs.declared.block.chomp_t.{chomp_t}
 use Rattle.yaml_lexeme.specs.declared.block.chomp_t.TheVariants.{STRIP, CLIP, KEEP}
@@ -11,12 +11,12 @@ use Rattle.yaml_lexeme.specs.Reading.{Read}
 use Rattle.yaml_lexeme.specs.Gives.{Refuses}
 use Rattle.yaml_lexeme.specs.Block.{Blanks, Line, is_more_indented, or_none, or_space, is_line_feed}
 
--- empty lines were read, and their breaks appended to `old`
-abbrev pub TakesBlanks : Result blanks_t refusal_t → List ℕ → List ℕ → Place → Read Blanks → Type 0
-TakesBlanks (Ok b) old new q (Ok f) =
-    (b.column ≡ f.value.column) × (new ≡ old ++ utf8 f.value.breaks) × (b.end ≡ f.value.end) × (q ≡ f.end)
-TakesBlanks (Ok b) old new q (Err e) = ⊥
-TakesBlanks (Err e) old new q read = Refuses e q read
+-- empty lines were read up to a mark: the greatest column of their spaces, and their breaks appended to `old`
+abbrev pub TakesBlanks : Result ℕ refusal_t → List ℕ → List ℕ → yaml_mark_t → Place → Read Blanks → Type 0
+TakesBlanks (Ok column) old new end q (Ok f) =
+    (column ≡ f.value.column) × (new ≡ old ++ utf8 f.value.breaks) × (end ≡ f.value.end) × (q ≡ f.end)
+TakesBlanks (Ok column) old new end q (Err e) = ⊥
+TakesBlanks (Err e) old new end q read = Refuses e q read
 
 -- what is kept of a text line
 pub record Keeps (tail : tail_t) (line : Line) : Type 0 where
@@ -26,10 +26,10 @@ pub record Keeps (tail : tail_t) (line : Line) : Type 0 where
   pub end : tail.end ≡ line.end
 
 -- a text line was read, and its text appended to `old`
-abbrev pub TakesLine : Result tail_t refusal_t → List ℕ → List ℕ → Place → Read Line → Type 0
-TakesLine (Ok t) old new q (Ok f) = Keeps t f.value × (new ≡ old ++ utf8 f.value.text) × (q ≡ f.end)
-TakesLine (Ok t) old new q (Err e) = ⊥
-TakesLine (Err e) old new q read = Refuses e q read
+abbrev pub TakesLine : Result (Unit {0}) refusal_t → List ℕ → List ℕ → tail_t → Place → Read Line → Type 0
+TakesLine (Ok _) old new tail q (Ok f) = Keeps tail f.value × (new ≡ old ++ utf8 f.value.text) × (q ≡ f.end)
+TakesLine (Ok _) old new tail q (Err e) = ⊥
+TakesLine (Err e) old new tail q read = Refuses e q read
 
 -- what is between a line and the next, in bytes
 abbrev pub between_tail : Bool → tail_t → Bool → List ℕ

@@ -35,15 +35,6 @@ pub(crate) struct header_t {
     pub digit: Option<u64>,
 }
 
-/// Empty lines that were read.
-#[derive(Clone, Copy)]
-pub(crate) struct blanks_t {
-    /// The greatest column that spaces reach on them.
-    pub column: u64,
-    /// The mark after them.
-    pub end: yaml_mark_t,
-}
-
 /// What is kept of a text line.
 #[derive(Drop)]
 pub(crate) struct tail_t {
@@ -127,7 +118,9 @@ pub(crate) fn take_line_end(cursor: &mut cursor_t) -> Result<(), refusal_t>
     ensures { Moves result cursor.new (spec.after_line cursor.old) }
 {
     cursor.skip_run(class_t::BLANK);
-    skip_comment(cursor);
+    let mut here = cursor.again();
+    skip_comment(&mut here);
+    *cursor = here;
     let c = cursor.peek(0);
     if !(is_break(c) || c == '\0') {
         return Err(refusal_t::OFFENCE(problem_t::NO_COMMENT_OR_BREAK));
@@ -175,26 +168,29 @@ fn take_indent(cursor: &mut cursor_t, limit: Option<u64>) -> Result<(), refusal_
     Ok(())
 }
 
-/// Takes empty lines and the indentation of the line that follows, and appends their breaks to `breaks`.
+/// Takes empty lines and the indentation of the line that follows, appends their breaks to `breaks`, and sets the mark
+/// after them. Returns the greatest column that spaces reach on them.
 #[inline(always)]
 fn take_blank_lines(
     cursor: &mut cursor_t,
     limit: Option<u64>,
     breaks: &mut Vec<u8>,
-) -> Result<blanks_t, refusal_t>
-    ensures { TakesBlanks result breaks.old.items breaks.new.items cursor.new (spec.blank_lines limit cursor.old) }
+    end: &mut yaml_mark_t,
+) -> Result<u64, refusal_t>
+    ensures { TakesBlanks result breaks.old.items breaks.new.items end.new cursor.new
+        (spec.blank_lines limit cursor.old) }
 {
     let mut column: u64 = 0;
-    let mut end = cursor.mark();
+    *end = cursor.mark();
     take_indent(cursor, limit)?;
     'lines: while cursor.break_len() > 0 {
         column = column.max(cursor.mark().column);
         push_char(breaks, written(cursor.peek(0)))?;
         cursor.skip(cursor.break_len());
-        end = cursor.mark();
+        *end = cursor.mark();
         take_indent(cursor, limit)?;
     }
-    Ok(blanks_t { column, end })
+    Ok(column)
 }
 
 /// Takes the break that is here, if there is one, and returns it as it is written.
@@ -213,27 +209,23 @@ fn take_break(cursor: &mut cursor_t) -> Option<char>
     if n == 0 { None } else { Some(written(c)) }
 }
 
-/// Takes a text line after its indentation, and appends its text to `out`.
+/// Takes a text line after its indentation, appends its text to `out`, and sets what is kept of it.
+#[inline(always)]
 fn take_line(
-    alloc: Global,
     cursor: &mut cursor_t,
     indent: u64,
     out: &mut Vec<u8>,
-) -> Result<tail_t, refusal_t>
-    ensures { TakesLine result out.old.items out.new.items cursor.new (spec.line_at indent cursor.old) }
+    tail: &mut tail_t,
+) -> Result<(), refusal_t>
+    ensures { TakesLine result out.old.items out.new.items tail.new cursor.new (spec.line_at indent cursor.old) }
 {
-    let indented = is_at!(cursor, is_blank, 0);
+    tail.indented = is_at!(cursor, is_blank, 0);
     let text = cursor.run(class_t::IN_LINE);
     out.extend_from_slice(text)?;
-    let lead = take_break(cursor);
-    let mut empties = Vec::new(alloc);
-    let blanks = take_blank_lines(cursor, Some(indent), &mut empties)?;
-    Ok(tail_t {
-        lead,
-        empties,
-        indented,
-        end: blanks.end,
-    })
+    tail.lead = take_break(cursor);
+    tail.empties.clear();
+    take_blank_lines(cursor, Some(indent), &mut tail.empties, &mut tail.end)?;
+    Ok(())
 }
 
 fn push_lead(out: &mut Vec<u8>, lead: Option<char>) -> Result<(), AllocError>
@@ -335,8 +327,10 @@ fn is_text(cursor: &cursor_t, indent: u64) -> bool
     cursor.mark().column == indent && !check_at!(cursor, '\0', 0)
 }
 
-/// Takes a literal or folded scalar, from its first character on. The level is the greatest one that is open.
-pub(crate) fn take_block(
+/// Takes a literal or folded scalar, from its first character on. The level is the greatest one that is open. The
+/// cursor is a local variable of the caller, so that it stays in registers.
+#[inline(always)]
+fn take_lines(
     alloc: Global,
     cursor: &mut cursor_t,
     folded: bool,
@@ -348,20 +342,19 @@ pub(crate) fn take_block(
     cursor.advance();
     let header = take_header(cursor)?;
     take_line_end(cursor)?;
-    let mut empties = Vec::new(alloc);
     let set = set_indent(level, header.digit);
-    let leading = take_blank_lines(cursor, set, &mut empties)?;
-    let indent = block_indent(level, set, leading.column, cursor.mark().column);
     let mut tail = tail_t {
         lead: None,
-        empties,
+        empties: Vec::new(alloc),
         indented: false,
-        end: leading.end,
+        end: cursor.mark(),
     };
+    let column = take_blank_lines(cursor, set, &mut tail.empties, &mut tail.end)?;
+    let indent = block_indent(level, set, column, cursor.mark().column);
     let mut out = Vec::with_capacity(alloc, ROOM)?;
     'lines: while is_text(cursor, indent) {
         push_between(&mut out, folded, &tail, is_at!(cursor, is_blank, 0))?;
-        tail = take_line(alloc, cursor, indent, &mut out)?;
+        take_line(cursor, indent, &mut out, &mut tail)?;
     }
     push_chomped(&mut out, header.chomp, &tail)?;
     Ok(scalar_t {
@@ -369,4 +362,21 @@ pub(crate) fn take_block(
         end: tail.end,
         passed_break: false,
     })
+}
+
+/// Takes a literal or folded scalar, from its first character on. The level is the greatest one that is open.
+#[inline(always)]
+pub(crate) fn take_block(
+    alloc: Global,
+    cursor: &mut cursor_t,
+    folded: bool,
+    level: Option<u64>,
+) -> Result<scalar_t, refusal_t>
+    requires { spec.above level + 10 < 2 ^ 64 }
+    ensures { Gives scalar_of result cursor.new (spec.block folded level cursor.old) }
+{
+    let mut here = cursor.again();
+    let taken = take_lines(alloc, &mut here, folded, level);
+    *cursor = here;
+    taken
 }

@@ -1,5 +1,5 @@
 //! The value of a run of blanks and breaks.
-ghost use Rattle.std.specs.Prelude.{◌≡◌, ◌≤◌, ◌++◌, OnOk, encode_utf8, length, take};
+ghost use Rattle.std.specs.Prelude.{◌≡◌, ◌≤◌, ◌++◌, IfOk, OnOk, encode_utf8, length, take};
 ghost use Rattle.yaml_text.specs.Chars.{utf8};
 ghost use Rattle.yaml_lexeme.specs.Classes as sets;
 ghost use Rattle.yaml_lexeme.specs.Place as place;
@@ -7,7 +7,7 @@ ghost use Rattle.yaml_lexeme.specs.Fold as spec;
 
 use crate::place::cursor_t;
 use crate::runs::class_t;
-use std::alloc::AllocError;
+use std::alloc::{AllocError, Global};
 
 /// So many bytes are copied as one.
 const STAGE: usize = 16;
@@ -26,6 +26,22 @@ pub(crate) fn push_front(out: &mut Vec<u8>, bytes: &[u8], n: usize) -> Result<()
     out.extend_from_slice(&bytes[..STAGE])?;
     out.truncate(old + n);
     Ok(())
+}
+
+/// A copy of the first `n` bytes. If they are few, a stage of bytes is copied as one, and what is too much of it is cut
+/// off.
+#[inline(always)]
+pub(crate) fn copied_front(alloc: Global, bytes: &[u8], n: usize) -> Result<Vec<u8>, AllocError>
+    requires { n ≤ length bytes.now }
+    ensures { IfOk result (λ out. out.items ≡ take n bytes.now) }
+{
+    if n > STAGE || bytes.len() < STAGE {
+        return Vec::from_slice(alloc, &bytes[..n]);
+    }
+    let mut out = Vec::with_capacity(alloc, STAGE)?;
+    out.extend_from_slice(&bytes[..STAGE])?;
+    out.truncate(n);
+    Ok(out)
 }
 
 /// Writes a character that is not ASCII at the front of four bytes, and returns how many of them it takes.

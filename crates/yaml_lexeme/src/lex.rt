@@ -16,7 +16,7 @@ ghost use Rattle.yaml_lexeme.specs.Place.{IsMarkOf, place_at, skip};
 ghost use Rattle.yaml_lexeme.specs.Reading.{found};
 ghost use Rattle.yaml_lexeme.specs.Gives.{Gives};
 ghost use Rattle.yaml_lexeme.specs.Answers.{Answers};
-ghost use Rattle.yaml_lexeme.specs.Lexeme.{lexeme, lexeme_of, scalar_lexeme, whole, scalar_to, directive_to};
+ghost use Rattle.yaml_lexeme.specs.Lexeme.{lexeme, lexeme_of, span_lexeme, whole, scalar_to, directive_to};
 ghost use Rattle.yaml_lexeme.specs.declared.kind.yaml_lexeme_kind_t.TheVariants.{PLAIN};
 ghost use Rattle.yaml_text.specs.Token.{data_of};
 
@@ -25,7 +25,7 @@ use crate::directive::take_directive;
 use crate::fault::{make_memory_fault, make_scanner_fault};
 use crate::fault_texts::{context_text, problem_text};
 use crate::kind::yaml_lexeme_kind_t;
-use crate::lexeme::{directive_to, scalar_to, whole_of, yaml_lexeme_t, yaml_scalar_t};
+use crate::lexeme::{directive_to, scalar_to, span_t, span_to, whole_of, yaml_lexeme_t};
 use crate::name::take_name;
 use crate::place::cursor_t;
 use crate::plain::{plain_at_once, take_plain};
@@ -343,39 +343,44 @@ pub fn yaml_lexeme_at(
 /// The plain scalar at a place, if a quick look shows that its value is bytes of the text: all of it is in one line.
 ///
 /// `at` must be the mark of a place of this text, as for `yaml_lexeme_at`. The level of the context must be at most
-/// the number of the text's bytes. The scalar starts at `at`. It is what `yaml_lexeme_at` returns there for the
-/// kind plain: its bytes are the value, and `style`, `end_mark`, `reach` and `passed_break` are those of the lexeme.
-/// Marks count as everywhere: the index in bytes, the line and the column from 0.
+/// the number of the text's bytes. It is what `yaml_lexeme_at` returns there for the kind plain. Marks count as
+/// everywhere: the index in bytes, the line and the column from 0.
 ///
-/// It takes no memory. `None` says nothing: the scalar may go on in a further line, it may have an offence, or a look
-/// that is not quick may be needed. Ask `yaml_lexeme_at` then.
+/// `None` says nothing: the scalar may go on in a further line, it may have an offence, a look that is not quick may be
+/// needed, or there is no memory for the value. Ask `yaml_lexeme_at` then.
 #[tactic(auto, unfolding(crate::specs::Lex::lex))]
 #[inline(always)]
-pub fn yaml_plain_at_once<'a>(
-    text: &'a yaml_text_t<'_>,
+pub fn yaml_plain_at_once(
+    alloc: Global,
+    text: &yaml_text_t,
     at: yaml_mark_t,
     context: yaml_context_t,
-) -> Option<yaml_scalar_t<'a>>
+) -> Option<yaml_lexeme_t>
     requires place { (n : ℕ) × IsMarkOf text.now.chars at n }
     requires level { IfSome context.level (λ l. l ≤ length (utf8 text.now.chars)) }
     ensures { IfSome result (λ x. (n : ℕ) → IsMarkOf text.now.chars at n
-        → spec.lexeme_at PLAIN context (place_at text.now.chars n) ≡ Ok (scalar_lexeme at x)) }
+        → spec.lexeme_at PLAIN context (place_at text.now.chars n) ≡ Ok (lexeme_of x)) }
 {
     let mut cursor = cursor_t::at(text, at);
-    plain_at_once(&mut cursor, context.depth > 0, least(context))
+    match plain_at_once(&mut cursor, context.depth > 0, least(context)) {
+        Some(span) => span_to(alloc, at, span),
+        None => None,
+    }
 }
 
 /// Takes a quoted scalar, if a quick look finds it.
 #[inline(always)]
-fn quoted_there<'a>(cursor: &mut cursor_t<'a>, single: bool) -> Option<yaml_scalar_t<'a>>
-    ensures { IfSome result (λ x. lexeme (whole (spec.quoted_as (spec.quoted_style single))) cursor.old
-        (quotes.quoted single cursor.old) ≡ found (scalar_lexeme cursor.old.mark x) cursor.new) }
+fn quoted_there<'a>(cursor: &mut cursor_t<'a>, single: bool) -> Option<span_t<'a>>
+    ensures value { IfSome result (λ x. lexeme (whole (spec.quoted_as (spec.quoted_style single))) cursor.old
+        (quotes.quoted single cursor.old) ≡ found (span_lexeme cursor.old.mark x) cursor.new) }
+    ensures within { IfSome result (λ x. x.len ≤ length x.left.now) }
 {
-    let Some(value) = quoted_at_once(cursor, single) else {
+    let Some((left, len)) = quoted_at_once(cursor, single) else {
         return None;
     };
-    Some(yaml_scalar_t {
-        value,
+    Some(span_t {
+        left,
+        len,
         style: quoted_style(single),
         end_mark: cursor.mark(),
         reach: cursor.mark(),
@@ -385,30 +390,33 @@ fn quoted_there<'a>(cursor: &mut cursor_t<'a>, single: bool) -> Option<yaml_scal
 
 /// The quoted scalar at a place, if a quick look shows that its value is the bytes between its quotes.
 ///
-/// `at` must be the mark of a place of this text, as for `yaml_lexeme_at`. The scalar starts at `at`. It is what
-/// `yaml_lexeme_at` returns there for the kind: the bytes are the value, and `style`, `end_mark`, `reach` and
-/// `passed_break` are those of the lexeme. Marks count as everywhere: the index in bytes, the line and the column from
-/// 0.
+/// `at` must be the mark of a place of this text, as for `yaml_lexeme_at`. It is what `yaml_lexeme_at` returns there
+/// for the kind. Marks count as everywhere: the index in bytes, the line and the column from 0.
 ///
-/// It takes no memory. `None` says nothing: the scalar may go on in a further line, it may have an escape or an
-/// offence, or the kind is that of no quoted scalar. Ask `yaml_lexeme_at` then.
+/// `None` says nothing: the scalar may go on in a further line, it may have an escape or an offence, the kind may be
+/// that of no quoted scalar, or there is no memory for the value. Ask `yaml_lexeme_at` then.
 #[tactic(auto, unfolding(crate::specs::Lex::lex))]
 #[inline(always)]
-pub fn yaml_quoted_at_once<'a>(
-    text: &'a yaml_text_t<'_>,
+pub fn yaml_quoted_at_once(
+    alloc: Global,
+    text: &yaml_text_t,
     at: yaml_mark_t,
     kind: yaml_lexeme_kind_t,
     context: yaml_context_t,
-) -> Option<yaml_scalar_t<'a>>
+) -> Option<yaml_lexeme_t>
     requires { (n : ℕ) × IsMarkOf text.now.chars at n }
     ensures { IfSome result (λ x. (n : ℕ) → IsMarkOf text.now.chars at n
-        → spec.lexeme_at kind context (place_at text.now.chars n) ≡ Ok (scalar_lexeme at x)) }
+        → spec.lexeme_at kind context (place_at text.now.chars n) ≡ Ok (lexeme_of x)) }
 {
     let mut cursor = cursor_t::at(text, at);
-    match kind {
+    let found = match kind {
         yaml_lexeme_kind_t::SINGLE_QUOTED => quoted_there(&mut cursor, true),
         yaml_lexeme_kind_t::DOUBLE_QUOTED => quoted_there(&mut cursor, false),
-        _ => None,
+        _ => return None,
+    };
+    match found {
+        Some(span) => span_to(alloc, at, span),
+        None => None,
     }
 }
 

@@ -30,4 +30,4 @@ pub use kind::{yaml_lexeme_kind, yaml_lexeme_kind_t};
 pub use lex::{
     yaml_character_at, yaml_context_t, yaml_lexeme_at, yaml_plain_at_once, yaml_quoted_at_once,
 };
-pub use lexeme::{yaml_lexeme_t, yaml_scalar_t};
+pub use lexeme::yaml_lexeme_t;

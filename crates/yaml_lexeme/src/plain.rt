@@ -1,9 +1,10 @@
 //! Plain scalars.
 ghost use Rattle.std.specs.Prelude.{◌≡◌, ◌+◌, ◌||◌, ◌<◌, ◌≤◌, [], None, true, false, nat_le, length};
-ghost use Rattle.std.specs.Prelude.{OnOk, IfOk, IfSome};
+ghost use Rattle.std.specs.Prelude.{OnOk, IfOk, IfSome, take};
 ghost use Rattle.std.specs.List.{list_any};
 ghost use Rattle.yaml_text.specs.Classes as classes;
 ghost use Rattle.yaml_text.specs.declared.types.yaml_scalar_style_t.TheVariants.{YAML_PLAIN_SCALAR_STYLE};
+ghost use Rattle.yaml_text.specs.Chars.{utf8};
 ghost use Rattle.yaml_lexeme.specs.Classes as sets;
 ghost use Rattle.yaml_lexeme.specs.Place.{Place, first, peek, run, behind};
 ghost use Rattle.yaml_lexeme.specs.Plain as spec;
@@ -15,7 +16,7 @@ ghost use Rattle.yaml_lexeme.specs.Words.{links, words, plain_of, Goes, LeadsTo,
 use crate::classes::{ends, is_break, is_white};
 use crate::fold::{push_char, push_separator};
 use crate::kind::is_marker;
-use crate::lexeme::yaml_scalar_t;
+use crate::lexeme::span_t;
 use crate::place::{check_at, cursor_t, is_at};
 use crate::problem::{problem_t, refusal_t};
 use crate::runs::class_t;
@@ -123,6 +124,8 @@ fn skip_chunks(cursor: &mut cursor_t, in_flow: bool, least: u64)
 fn line_words<'a>(cursor: &mut cursor_t<'a>, in_flow: bool, least: u64) -> &'a [u8]
     ensures goes { words in_flow least cursor.old ≡ with_front result.now (words in_flow least cursor.new) }
     ensures over { spec.is_chunk in_flow (first cursor.new) (peek cursor.new 1) ≡ false }
+    ensures front { result.now ≡ take (length result.now) (utf8 cursor.old.rest) }
+    ensures within { length result.now ≤ length (utf8 cursor.old.rest) }
     ensures shorter { length cursor.new.rest ≤ length cursor.old.rest }
 {
     let start = cursor.again();
@@ -246,11 +249,13 @@ pub(crate) fn plain_at_once<'a>(
     cursor: &mut cursor_t<'a>,
     in_flow: bool,
     least: u64,
-) -> Option<yaml_scalar_t<'a>>
+) -> Option<span_t<'a>>
     ensures value { IfSome result (λ x. spec.plain in_flow least cursor.old ≡ found (scalar_there x) cursor.new) }
+    ensures within { IfSome result (λ x. x.len ≤ length x.left.now) }
     ensures style { IfSome result (λ x. x.style ≡ YAML_PLAIN_SCALAR_STYLE) }
     ensures reach { IfSome result (λ x. x.reach ≡ cursor.new.mark) }
 {
+    let left = cursor.left();
     let value = line_words(cursor, in_flow, least);
     if is_bad_colon(cursor, in_flow) {
         return None;
@@ -259,8 +264,9 @@ pub(crate) fn plain_at_once<'a>(
     let Some(passed_break) = ends_at_once(cursor, in_flow, least) else {
         return None;
     };
-    Some(yaml_scalar_t {
-        value,
+    Some(span_t {
+        left,
+        len: value.len(),
         style: yaml_scalar_style_t::YAML_PLAIN_SCALAR_STYLE,
         end_mark,
         reach: cursor.mark(),

@@ -142,19 +142,25 @@ fn push_line(cursor: &mut cursor_t, single: bool, out: &mut Vec<u8>) -> Result<(
     Ok(())
 }
 
-/// Takes a quoted scalar, from its opening quote on, if a quick look shows that its value is bytes of the text, and
-/// returns these. After `None` the cursor may be at any place.
+/// Takes a quoted scalar, from its opening quote on, if a quick look shows that its value is bytes of the text. Returns
+/// what was left of the text from the value on, and how many bytes of it are the value. After `None` the cursor may be
+/// at any place.
 #[inline(always)]
-pub(crate) fn quoted_at_once<'a>(cursor: &mut cursor_t<'a>, single: bool) -> Option<&'a [u8]>
-    ensures { IfSome result (λ v. spec.quoted single cursor.old ≡ found v.now cursor.new) }
+pub(crate) fn quoted_at_once<'a>(
+    cursor: &mut cursor_t<'a>,
+    single: bool,
+) -> Option<(&'a [u8], usize)>
+    ensures value { IfSome result (λ v. spec.quoted single cursor.old ≡ found (take v.1 v.0.now) cursor.new) }
+    ensures within { IfSome result (λ v. v.1 ≤ length v.0.now) }
 {
     cursor.advance();
+    let left = cursor.left();
     let value = line_piece(cursor, single);
     if !closes(cursor, single) {
         return None;
     }
     cursor.advance();
-    Some(value)
+    Some((left, value.len()))
 }
 
 /// How many bytes a scalar gets room for after what was taken of it: none if its quote is here.

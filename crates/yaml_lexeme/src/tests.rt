@@ -182,18 +182,13 @@ fn found_at_once(
     }
     let context = yaml_context_t { depth, level };
     let found = match kind {
-        yaml_lexeme_kind_t::PLAIN => yaml_plain_at_once(&text, FRONT, context),
-        _ => yaml_quoted_at_once(&text, FRONT, kind, context),
+        yaml_lexeme_kind_t::PLAIN => yaml_plain_at_once(alloc, &text, FRONT, context),
+        _ => yaml_quoted_at_once(alloc, &text, FRONT, kind, context),
     };
-    let Some(scalar) = found else {
-        return Ok(String::from_str(alloc, "none")?);
-    };
-    let value = show_bytes(alloc, scalar.value)?;
-    let end = show_mark(alloc, scalar.end_mark)?;
-    let reach = show_mark(alloc, scalar.reach)?;
-    let passed = scalar.passed_break;
-    let style = style_name(scalar.style);
-    Ok(format!(in alloc; "{value} {style} {end} {reach} {passed}")?)
+    match found {
+        Some(lexeme) => show_lexeme(alloc, &lexeme),
+        None => Ok(String::from_str(alloc, "none")?),
+    }
 }
 
 /// Texts, the flow depth and the greatest open level at their front, and what their first lexeme must be.

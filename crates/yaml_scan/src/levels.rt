@@ -249,7 +249,7 @@ pub(crate) fn put_key(
     }
 }
 
-/// Appends the group of a lexeme to the queue. There is room for it.
+/// Appends the group of a lexeme to the queue. There is room for it, and no group before it has early block ends.
 #[inline(always)]
 pub(crate) fn put_group(
     queue: &mut queue_t,
@@ -258,15 +258,18 @@ pub(crate) fn put_group(
     opens: block_t,
     token: yaml_token_t,
 )
-    requires { length queue.old.groups.items < deque_capacity queue.old.groups }
+    requires room { length queue.old.groups.items < deque_capacity queue.old.groups }
+    requires none { queue.old.early ≡ 0 }
     ensures groups { queue.new.groups.items
         ≡ queue.old.groups.items ++ record { ends = closed.ends; opens = opens; key = false; token = token } ∷ [] }
     ensures done { queue.new.done ≡ queue.old.done }
     ensures early { queue.new.early ≡ closed.early }
-    ensures front { queue.new.front ≡ front }
+    ensures front { 0 < closed.early → queue.new.front ≡ front }
 {
-    queue.early = closed.early;
-    queue.front = front;
+    if closed.early > 0 {
+        queue.early = closed.early;
+        queue.front = front;
+    }
     queue.groups.push_back_reserved(group_t {
         ends: closed.ends,
         opens,

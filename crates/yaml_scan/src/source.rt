@@ -2,7 +2,7 @@
 ghost use Rattle.std.specs.Prelude.{◌≡◌, ℕ, ◌≤◌, ◌⊎◌, Some, Ok, Err, length, nat_lt, IfSome, MatchResult};
 ghost use Rattle.yaml_text.specs.Fault.{memory_fault};
 ghost use Rattle.yaml_scan.specs.inside.Stop.{fault_at};
-ghost use Rattle.yaml_lexeme.specs.Lexeme.{lexeme_of, scalar_lexeme};
+ghost use Rattle.yaml_lexeme.specs.Lexeme.{lexeme_of};
 ghost use Rattle.yaml_lexeme.specs.declared.kind.yaml_lexeme_kind_t.TheVariants.{PLAIN};
 ghost use Rattle.yaml_lexeme.specs.Place.{IsMarkOf};
 ghost use Rattle.yaml_scan.specs.SourceOf.{source_of};
@@ -13,9 +13,9 @@ use crate::step::met_t;
 use std::alloc::Global;
 use yaml_lexeme::{
     yaml_character_at, yaml_context_t, yaml_gap, yaml_lexeme_at, yaml_lexeme_kind,
-    yaml_lexeme_kind_t, yaml_lexeme_t, yaml_plain_at_once, yaml_quoted_at_once, yaml_scalar_t,
+    yaml_lexeme_kind_t, yaml_lexeme_t, yaml_plain_at_once, yaml_quoted_at_once,
 };
-use yaml_text::{unnamed_yaml_token_t_data, yaml_fault_t, yaml_mark_t, yaml_text_t};
+use yaml_text::{yaml_fault_t, yaml_mark_t, yaml_text_t};
 
 /// The end of the gap from a mark.
 #[inline(always)]
@@ -110,10 +110,7 @@ fn read_character(text: &yaml_text_t, met: met_t, context: yaml_context_t) -> Op
     ensures { IfSome result (λ l. (p : ℕ) → IsMarkOf text.now.chars met.front p
         → IsRead text.now.chars met.kind context.depth context.level p (lexeme_of l)) }
 {
-    let Some(lexeme) = yaml_character_at(text, met.front, met.kind, context) else {
-        return None;
-    };
-    Some(lexeme)
+    yaml_character_at(text, met.front, met.kind, context)
 }
 
 /// The lexeme that was met, if it has no offence and there is memory for it.
@@ -136,26 +133,6 @@ fn read_other(
     }
 }
 
-/// A copy of a scalar that starts at a mark, if there is memory for it.
-#[inline(always)]
-fn copied(alloc: Global, start: yaml_mark_t, scalar: yaml_scalar_t<'_>) -> Option<yaml_lexeme_t>
-    ensures { IfSome result (λ l. lexeme_of l ≡ scalar_lexeme start scalar.entry) }
-{
-    let Ok(value) = Vec::from_slice(alloc, scalar.value) else {
-        return None;
-    };
-    Some(yaml_lexeme_t {
-        token_data: unnamed_yaml_token_t_data::SCALAR {
-            value,
-            style: scalar.style,
-        },
-        start_mark: start,
-        end_mark: scalar.end_mark,
-        reach: scalar.reach,
-        passed_break: scalar.passed_break,
-    })
-}
-
 /// A plain scalar at a mark, if it is of one line and there is memory for it.
 #[inline(always)]
 pub(crate) fn read_line(
@@ -169,10 +146,7 @@ pub(crate) fn read_line(
     ensures { IfSome result (λ l. (p : ℕ) → IsMarkOf text.now.chars at p
         → IsRead text.now.chars PLAIN context.depth context.level p (lexeme_of l)) }
 {
-    let Some(scalar) = yaml_plain_at_once(text, at, context) else {
-        return None;
-    };
-    copied(alloc, at, scalar)
+    yaml_plain_at_once(alloc, text, at, context)
 }
 
 /// The quoted scalar that was met, if it has no offence and there is memory for it.
@@ -189,8 +163,8 @@ fn read_quoted(
     ensures { IfSome result (λ l. (p : ℕ) → IsMarkOf text.now.chars met.front p
         → IsRead text.now.chars met.kind context.depth context.level p (lexeme_of l)) }
 {
-    match yaml_quoted_at_once(text, met.front, met.kind, context) {
-        Some(scalar) => copied(alloc, met.front, scalar),
+    match yaml_quoted_at_once(alloc, text, met.front, met.kind, context) {
+        Some(lexeme) => Some(lexeme),
         None => read_other(alloc, text, met, context),
     }
 }

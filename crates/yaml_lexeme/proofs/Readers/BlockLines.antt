@@ -111,7 +111,7 @@ blanks_refused limit start p old s o h e =
     blanks_is limit start ∙ ap (after_blanks limit) (from_gather (many (blank_line limit) start) old o none)
 
 taken : (limit : Option ℕ) (m : Read (List Blank)) (old out : List ℕ) (column : ℕ) (p q : Place) (end : yaml_mark_t) → gather add_blank (old, 0) m ≡ found (out, column) p → after_indent limit p ≡ Ok q → end ≡ p.mark
-    → TakesBlanks (Ok (record { column = column; end = end })) old out q (after_blanks limit m)
+    → TakesBlanks (Ok column) old out end q (after_blanks limit m)
 taken limit (Err e) old out column p q end h i m = absurd cc
 taken limit (Ok r) old out column p q end h i m =
     let state : fold_list add_blank (old, 0) r.value ≡ (out, column) = ap (value_or ([], 0)) h in
@@ -122,7 +122,7 @@ taken limit (Ok r) old out column p q end h i m =
 
 -- the empty lines are over
 pub blanks_taken : (limit : Option ℕ) (start : Place) (old : List ℕ) (q : Place) (out : List ℕ) (column : ℕ) (end : yaml_mark_t) → break_len q ≡ 0 → Blanking limit start old q out column end
-    → TakesBlanks (Ok (record { column = column; end = end })) old out q (blank_lines limit start)
+    → TakesBlanks (Ok column) old out end q (blank_lines limit start)
 blanks_taken limit start old q out column end h b =
     let all = gathers_all add_blank (blank_line limit) (blank_shortens limit) b.line (out, column) (gather add_blank (old, 0) (many (blank_line limit) start)) (blank_none limit b.line q b.indent h) b.so_far in
     rw (blanks_is limit start) (taken limit (many (blank_line limit) start) old out column b.line q end all b.indent b.mark)
@@ -149,7 +149,7 @@ next_line limit start old q r out new column wide end last h b e f g i =
     (omega (arith, t.0, indent_within limit p r i), record { line = p; indent = i; mark = g; so_far = rw (e, f) t.1 })
 
 -- empty lines that were taken
-pub blanks_from : (column : ℕ) (end : yaml_mark_t) (old new : List ℕ) (q : Place) (read : Read Blanks) → TakesBlanks (Ok (record { column = column; end = end })) old new q read
+pub blanks_from : (column : ℕ) (end : yaml_mark_t) (old new : List ℕ) (q : Place) (read : Read Blanks) → TakesBlanks (Ok column) old new end q read
     → (b : Blanks) × (read ≡ found b q) × (column ≡ b.column) × (new ≡ old ++ utf8 b.breaks) × (end ≡ b.end)
 blanks_from column end old new q (Ok f) h = (f.value, rw h.3 refl, h.0, h.1, h.2)
 blanks_from column end old new q (Err e) h = absurd h
@@ -180,7 +180,7 @@ first_blank true p h = ap (λ (cs : List ℕ). is_blank (slice_index cs 0)) (run
 first_blank false p h = ap (λ (cs : List ℕ). is_blank (slice_index cs 0)) (run_none is_in_line p h) ∙ sym (no_blank (first p) h)
 
 pub line_taken : (indent : ℕ) (p q : Place) (old new : List ℕ) (tail : tail_t) (column : ℕ) → tail.lead ≡ break_at (behind is_in_line p) → tail.indented ≡ is_blank (first p) → new ≡ old ++ utf8 (run is_in_line p)
-    → TakesBlanks (Ok (record { column = column; end = tail.end })) [] tail.empties.items q (blank_lines (Some indent) (line_end p)) → TakesLine (Ok tail) old new q (line_at indent p)
+    → TakesBlanks (Ok column) [] tail.empties.items tail.end q (blank_lines (Some indent) (line_end p)) → TakesLine (Ok tt) old new tail q (line_at indent p)
 line_taken indent p q old new tail column l i v h =
     let (b, read, wide, breaks, end) = blanks_from column tail.end [] tail.empties.items q (blank_lines (Some indent) (line_end p)) h in
     let whole : line_at indent p ≡ found (record { text = run is_in_line p; break = break_at (behind is_in_line p); empties = b.breaks; end = b.end }) q = line_is indent p ∙ ap (after_text p) read in
@@ -258,7 +258,7 @@ abbrev text_of : Read Line → List ℕ
 text_of (Ok l) = l.value.text
 text_of (Err e) = []
 
-line_from : (tail : tail_t) (old new : List ℕ) (q : Place) (read : Read Line) → TakesLine (Ok tail) old new q read → (l : Line) × (read ≡ found l q) × Keeps tail l × (new ≡ old ++ utf8 l.text)
+line_from : (tail : tail_t) (old new : List ℕ) (q : Place) (read : Read Line) → TakesLine (Ok tt) old new tail q read → (l : Line) × (read ≡ found l q) × Keeps tail l × (new ≡ old ++ utf8 l.text)
 line_from tail old new q (Ok f) h = (f.value, rw h.2 refl, h.0, h.1)
 line_from tail old new q (Err e) h = absurd h
 
@@ -273,7 +273,7 @@ pub record Blocking (folded : Bool) (level : Option ℕ) (start : Place) (chomp 
   pub so_far : finish chomp (gather (add_line folded) (out, last) (many (text_line indent) p)) ≡ block folded level start
 
 pub blocks_more : (folded : Bool) (level : Option ℕ) (start : Place) (chomp : chomp_t) (indent : ℕ) (p q : Place) (out mid new : List ℕ) (tail next : tail_t) (blank : Bool)
-    → is_text indent p ≡ true → Blocking folded level start chomp indent p out tail → blank ≡ is_blank (first p) → mid ≡ out ++ between_tail folded tail blank → TakesLine (Ok next) mid new q (line_at indent p)
+    → is_text indent p ≡ true → Blocking folded level start chomp indent p out tail → blank ≡ is_blank (first p) → mid ≡ out ++ between_tail folded tail blank → TakesLine (Ok tt) mid new next q (line_at indent p)
     → (length q.rest < length p.rest) × Blocking folded level start chomp indent q new next
 blocks_more folded level start chomp indent p q out mid new tail next blank h b c m t =
     let (l, read, keeps, value) = line_from next mid new q (line_at indent p) t in
@@ -334,7 +334,7 @@ leading_refused (errors.OFFENCE problem) folded level p q header a b e f h =
     block_is folded level p ∙ ap (after_header folded level) e ∙ ap (after_start folded level header) f ∙ ap (after_leading folded level header) h
 
 pub blocks_begin : (folded : Bool) (level : Option ℕ) (p : Place) (header : header_t) (a b q : Place) (column indent : ℕ) (tail : tail_t) → header_at (skip 1 p) ≡ found header a → after_line a ≡ Ok b
-    → TakesBlanks (Ok (record { column = column; end = tail.end })) [] tail.empties.items q (blank_lines (set_indent level header.digit) b)
+    → TakesBlanks (Ok column) [] tail.empties.items tail.end q (blank_lines (set_indent level header.digit) b)
     → tail.lead ≡ None → tail.indented ≡ false → indent ≡ block_indent level (set_indent level header.digit) column q.mark.column → Blocking folded level p header.chomp indent q [] tail
 blocks_begin folded level p header a b q column indent tail e f t l i n =
     let (leading, read, wide, breaks, end) = blanks_from column tail.end [] tail.empties.items q (blank_lines (set_indent level header.digit) b) t in

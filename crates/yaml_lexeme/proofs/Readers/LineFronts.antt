@@ -19,15 +19,18 @@ front_of xs left ys e = record {
   within = omega (arith, ap (λ (zs : List ℕ). length zs) e, length-append xs left);
 }
 
-whole_run : (test : ℕ → Bool) (p : Place) → utf8 p.rest ≡ utf8 (run test p) ++ utf8 (drop (run_len test p) p.rest)
-whole_run test p = ap utf8 (sym (take-append-drop (run_len test p) p.rest)) ∙ encodes-append (take (run_len test p) p.rest) (drop (run_len test p) p.rest)
+whole : (n : ℕ) (cs : List ℕ) → utf8 cs ≡ utf8 (take n cs) ++ utf8 (drop n cs)
+whole n cs = ap utf8 (sym (take-append-drop n cs)) ∙ encodes-append (take n cs) (drop n cs)
+
+pub taken_front : (n : ℕ) (cs : List ℕ) → IsFront (utf8 (take n cs)) (utf8 cs)
+taken_front n cs = front_of (utf8 (take n cs)) (utf8 (drop n cs)) (utf8 cs) (whole n cs)
 
 pub run_front : (test : ℕ → Bool) (p : Place) → IsFront (utf8 (run test p)) (utf8 p.rest)
-run_front test p = front_of (utf8 (run test p)) (utf8 (drop (run_len test p) p.rest)) (utf8 p.rest) (whole_run test p)
+run_front test p = taken_front (run_len test p) p.rest
 
 pub trimmed_front : (test : ℕ → Bool) (p : Place) → IsFront (trim (utf8 (run test p))) (utf8 p.rest)
 trimmed_front test p =
     let bs = utf8 (run test p) in
     let t = trimmed bs in
     front_of (trim bs) (t.blanks ++ utf8 (drop (run_len test p) p.rest)) (utf8 p.rest)
-    (whole_run test p ∙ ap (λ (x : List ℕ). x ++ utf8 (drop (run_len test p) p.rest)) t.parts ∙ append_assoc (trim bs) t.blanks (utf8 (drop (run_len test p) p.rest)))
+    (whole (run_len test p) p.rest ∙ ap (λ (x : List ℕ). x ++ utf8 (drop (run_len test p) p.rest)) t.parts ∙ append_assoc (trim bs) t.blanks (utf8 (drop (run_len test p) p.rest)))

@@ -125,6 +125,13 @@ head_dropped old new y w t l g n L T d a f = go old.groups.items refl
           same_early = inr a;
         }
 
+-- without early block ends it does not matter what their mark is
+pub front_free : (e : yaml_encoding_t) (n : ℕ) (f m : yaml_mark_t) (ys : List group_t) (xs : List Token) → (0 < n → m ≡ f) → IsQueue e n f ys xs → IsQueue e n m ys xs
+front_free e zero f m [] xs h q = q
+front_free e zero f m (y ∷ []) xs h q = q
+front_free e zero f m (y ∷ (z ∷ ys)) xs h (x, rest, i, t, l, q) = (x, rest, i, t, l, front_free e zero f m (z ∷ ys) rest h q)
+front_free e (suc n) f m ys xs h q = subst (λ (k : yaml_mark_t). IsQueue e (suc n) k ys xs) (sym (h (omega arith))) q
+
 -- TAKING
 -- the other groups hand out what they did
 others_same : (e : yaml_encoding_t) (m : yaml_mark_t) (a b : ℕ) (ys : List group_t) (xs : List Token) → ys ≡ [] ⊎ (b ≡ a) → IsQueue e a m ys xs → IsQueue e b m ys xs

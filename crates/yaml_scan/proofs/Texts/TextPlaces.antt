@@ -77,11 +77,11 @@ read_is cs k d l p (Err x) (inr a) = inr (go (lex k (record { depth = d; level =
     go (Ok f) e = cc
     go (Err f) e = (_, refl, same_fault _ (fault_of x) e)
 
--- a copy of a scalar that was found is the lexeme
-pub copied_is : (cs : List ℕ) (k : Kind) (d : ℕ) (l : Option ℕ) (at : yaml_mark_t) (x : yaml_lexeme_t) (o : Option code_lexeme_t) → ((p : ℕ) → IsMarkOf cs at p → lexeme_at k (record { depth = d; level = l }) (place_at cs p) ≡ Ok x)
-    → IfSome o (λ y. lexeme_of y ≡ x) → IfSome o (λ y. (p : ℕ) → IsMarkOf cs at p → IsRead cs k d l p (lexeme_of y))
-copied_is cs k d l at x None f e = tt
-copied_is cs k d l at x (Some y) f e = λ p i. read_is cs k d l p (Ok y) (f p i ∙ ap Ok (sym e))
+-- a lexeme that was found at once is the lexeme
+pub found_is : (cs : List ℕ) (k : Kind) (d : ℕ) (l : Option ℕ) (at : yaml_mark_t) (o : Option code_lexeme_t) → IfSome o (λ y. (p : ℕ) → IsMarkOf cs at p → lexeme_at k (record { depth = d; level = l }) (place_at cs p) ≡ Ok (lexeme_of y))
+    → IfSome o (λ y. (p : ℕ) → IsMarkOf cs at p → IsRead cs k d l p (lexeme_of y))
+found_is cs k d l at None f = tt
+found_is cs k d l at (Some y) f = λ p i. read_is cs k d l p (Ok y) (f p i)
 
 -- characters take a byte or more
 pub level_bytes : (cs : List ℕ) (o : Option ℕ) → IfSome o (λ l. l ≤ length cs) → IfSome o (λ l. l ≤ length (utf8 cs))

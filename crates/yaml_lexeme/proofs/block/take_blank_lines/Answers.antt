@@ -10,7 +10,7 @@ use Rattle.yaml_lexeme.proofs.block.take_blank_lines.Goals as goal
 use Rattle.yaml_lexeme.proofs.block.take_blank_lines.Goals.{In_ok-take_indent-2}
 
 pub lines-init : goal.lines-init
-lines-init c = blanking_begins c.args.limit c.args.cursor.now c.take_indent.new.cursor c.args.breaks.now.items c.mark-end.result c.mark-end.ensures.value c.in_ok-take_indent.ensures
+lines-init c = blanking_begins c.args.limit c.args.cursor.now c.take_indent.new.cursor c.args.breaks.now.items c.mark.result c.mark.ensures.value c.in_ok-take_indent.ensures
 
 pub returns-in_err-take_indent : goal.returns-in_err-take_indent
 returns-in_err-take_indent c =
@@ -18,15 +18,15 @@ returns-in_err-take_indent c =
     rw (e.1, e.2) (first_refused c.in_err-take_indent.field-0.0 c.args.limit c.args.cursor.now c.take_indent.new.cursor c.args.breaks.now.items c.in_err-take_indent.ensures)
 
 next : (c : In_ok-take_indent-2) → (length c.take_indent-in-lines.new.cursor.rest < length c.lines.cursor.rest)
-    × Blanking c.args.limit c.args.cursor.now c.args.breaks.now.items c.take_indent-in-lines.new.cursor c.push_char.new.out.items c.max-column.result c.mark-end-in-lines.result
+    × Blanking c.args.limit c.args.cursor.now c.args.breaks.now.items c.take_indent-in-lines.new.cursor c.push_char.new.out.items c.max-column.result c.mark-in-lines-2.result
 next c =
     let q = c.lines.cursor in
     let at : c.skip.new.self ≡ skip (break_len q) q = cc in
     let pushed : c.push_char.new.out.items ≡ c.lines.breaks.items ++ encode_utf8 (written (first q)) = cc (c.in_ok-push_char.ensures) in
-    let wide : c.max-column.result ≡ max c.lines.column q.mark.column = omega (arith, c.max-column.ensures, ap (λ (m : yaml_mark_t). m.column) c.mark.ensures.value) in
-    let mark : c.mark-end-in-lines.result ≡ (skip (break_len q) q).mark = rw at at c.mark-end-in-lines.ensures.value in
+    let wide : c.max-column.result ≡ max c.lines.column q.mark.column = omega (arith, c.max-column.ensures, ap (λ (m : yaml_mark_t). m.column) c.mark-in-lines.ensures.value) in
+    let mark : c.mark-in-lines-2.result ≡ (skip (break_len q) q).mark = rw at at c.mark-in-lines-2.ensures.value in
     let indent : after_indent c.args.limit (skip (break_len q) q) ≡ Ok c.take_indent-in-lines.new.cursor = rw at at c.in_ok-take_indent-2.ensures in
-    next_line c.args.limit c.args.cursor.now c.args.breaks.now.items q c.take_indent-in-lines.new.cursor c.lines.breaks.items c.push_char.new.out.items c.lines.column c.max-column.result c.lines.end c.mark-end-in-lines.result (omega arith) c.lines.invariant pushed wide mark indent
+    next_line c.args.limit c.args.cursor.now c.args.breaks.now.items q c.take_indent-in-lines.new.cursor c.lines.breaks.items c.push_char.new.out.items c.lines.column c.max-column.result c.lines.end c.mark-in-lines-2.result (omega arith) c.lines.invariant pushed wide mark indent
 
 pub lines-preserved : goal.lines-preserved
 lines-preserved c = (next (goal.at.lines-preserved c).In_ok-take_indent-2).1

@@ -7,18 +7,18 @@ use Rattle.yaml_lexeme.specs.Place.{first, behind}
 use Rattle.yaml_text.specs.Classes.{is_blank}
 use Rattle.yaml_lexeme.proofs.block.take_line.Goals as goal
 
-pub returns-in_err-blanks : goal.returns-in_err-blanks
-returns-in_err-blanks c =
+pub returns-in_err-take_blank_lines : goal.returns-in_err-take_blank_lines
+returns-in_err-take_blank_lines c =
     let p = c.args.cursor.now in
-    let at : c.take_break-lead.new.cursor ≡ line_end p = to_line_end p c.run-text.new.self c.take_break-lead.new.cursor c.run-text.ensures.end c.take_break-lead.ensures.end in
-    let e = err_from_is_err_and c.from_residual-in_err-blanks.result c.from_residual-in_err-blanks.ensures.1 in
-    rw (e.1, e.2) (line_refused c.in_err-blanks.field-0.0 c.args.indent p c.take_blank_lines.new.cursor (rw at at c.in_err-blanks.ensures))
+    let at : c.take_break-tail.new.cursor ≡ line_end p = to_line_end p c.run-text.new.self c.take_break-tail.new.cursor c.run-text.ensures.end c.take_break-tail.ensures.end in
+    let e = err_from_is_err_and c.from_residual-in_err-take_blank_lines.result c.from_residual-in_err-take_blank_lines.ensures.1 in
+    rw (e.1, e.2) (line_refused c.in_err-take_blank_lines.field-0.0 c.args.indent p c.take_blank_lines.new.cursor (rw at at c.in_err-take_blank_lines.ensures))
 
 pub returns : goal.returns
 returns c =
     let p = c.args.cursor.now in
-    let at : c.take_break-lead.new.cursor ≡ line_end p = to_line_end p c.run-text.new.self c.take_break-lead.new.cursor c.run-text.ensures.end c.take_break-lead.ensures.end in
-    let lead : c.take_break-lead.result ≡ break_at (behind is_in_line p) = c.take_break-lead.ensures.value ∙ ap break_at c.run-text.ensures.end in
-    let indented : c.is_blank-indented.result ≡ is_blank (first p) = c.is_blank-indented.ensures ∙ ap is_blank c.peek.ensures in
-    let blanks = rw (at, c.new-empties.ensures.items) at c.in_ok-blanks.ensures in
-    line_taken c.args.indent p c.take_blank_lines.new.cursor c.args.out.now.items c.extend_from_slice.new.self.items _ c.in_ok-blanks.blanks.column lead indented (c.in_ok-extend_from_slice.ensures.items ∙ ap (λ (x : List ℕ). c.args.out.now.items ++ x) c.run-text.ensures.value) blanks
+    let at : c.take_break-tail.new.cursor ≡ line_end p = to_line_end p c.run-text.new.self c.take_break-tail.new.cursor c.run-text.ensures.end c.take_break-tail.ensures.end in
+    let lead : c.take_break-tail.result ≡ break_at (behind is_in_line p) = c.take_break-tail.ensures.value ∙ ap break_at c.run-text.ensures.end in
+    let indented : c.is_blank-tail.result ≡ is_blank (first p) = c.is_blank-tail.ensures ∙ ap is_blank c.peek.ensures in
+    let blanks = rw (at, c.clear.ensures.items) at c.in_ok-take_blank_lines.ensures in
+    line_taken c.args.indent p c.take_blank_lines.new.cursor c.args.out.now.items c.extend_from_slice.new.self.items _ c.in_ok-take_blank_lines.field-0 lead indented (c.in_ok-extend_from_slice.ensures.items ∙ ap (λ (x : List ℕ). c.args.out.now.items ++ x) c.run-text.ensures.value) blanks

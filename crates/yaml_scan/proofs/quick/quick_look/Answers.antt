@@ -6,7 +6,7 @@ use Rattle.yaml_scan.specs.inside.Slots.{Held}
 use Rattle.yaml_scan.specs.SourceOf.{source_of}
 use Rattle.yaml_scan.specs.Step.{front_of}
 use Rattle.yaml_scan.proofs.Texts.TextOrder.{text_sums}
-use Rattle.yaml_scan.proofs.RunningStep.TestsBefore.{mark_is, none_of}
+use Rattle.yaml_scan.proofs.RunningStep.TestsBefore.{mark_is}
 use Rattle.yaml_scan.proofs.RunningStep.StepLaid.{levels_fall, level_within, kind_there}
 use Rattle.yaml_scan.proofs.quick.quick_look.Goals as goal
 

@@ -1,6 +1,5 @@
-use Rattle.std.proofs.Common.{Ok}
-use Rattle.yaml_scan.proofs.Texts.TextPlaces.{read_is}
+use Rattle.yaml_scan.proofs.Texts.TextPlaces.{found_is}
 use Rattle.yaml_scan.proofs.source.read_character.Goals as goal
 
 pub returns : goal.returns
-returns c = λ p i. read_is c.args.text.now.chars c.args.met.kind c.args.context.depth c.args.context.level p (Ok c.in-Some.lexeme) (c.in-Some.ensures p i)
+returns c = found_is c.args.text.now.chars c.args.met.kind c.args.context.depth c.args.context.level c.args.met.front c.yaml_character_at.result c.yaml_character_at.ensures

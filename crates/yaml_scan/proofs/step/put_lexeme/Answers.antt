@@ -4,6 +4,7 @@ use Rattle.yaml_scan.specs.Levels.{greatest_level}
 use Rattle.yaml_scan.specs.inside.Slots.{Held, AreNested}
 use Rattle.yaml_lexeme.specs.Lexeme.{lexeme_of}
 use Rattle.yaml_scan.proofs.RunningStep.StepLaid.{levels_fall, l_falls, history, place_within, index_is, place_then, fitting, levels_then, columns_then, queue_then, allowed_then, step_reads, fresh_then, outer_then, top_then, taken_then, reach_then, number_then, early_then}
+use Rattle.yaml_scan.proofs.RunningQueue.QueueGroups.{front_free}
 use Rattle.yaml_scan.proofs.RunningQueue.SlotOrder.{outer_nested}
 use Rattle.yaml_scan.proofs.step.put_lexeme.Goals as goal
 
@@ -18,6 +19,9 @@ put_key-opens-requires-clause-falls g c = l_falls g.before (c.args.scanner.now.m
 
 pub put_key-opens-requires-clause-fits : goal.put_key-opens-requires-clause-fits
 put_key-opens-requires-clause-fits g c = fitting g.before (c.args.scanner.now.made + 1) c.args.scanner.now c.requires.can.holds c.requires.can.running c.args.met c.requires.can.met c.args.margin c.requires.is_new.at_margin c.args.new.start c.requires.is_new.start c.close_levels-closed.new.levels.items c.close_levels-closed.ensures.levels c.requires.level (c.requires.is_new.is_greatest ∙ ap greatest_level (sym c.close_levels-closed.ensures.levels)) (vec_len c.args.scanner.now.slots.outer) refl (lexeme_of c.args.x) c.requires.read c.completed_by-completed.result c.completed_by-completed.ensures
+
+pub put_group-requires-clause-none : goal.put_group-requires-clause-none
+put_group-requires-clause-none g c = let k = c.put_key-opens.ensures.rest in k.early ∙ c.requires.can.holds.early c.requires.can.running
 
 pub returns : goal.returns
 returns g c =
@@ -38,7 +42,7 @@ returns g c =
         top = top_then g.before (c.args.scanner.now.made + 1) c.args.scanner.now c.requires.can.holds c.requires.can.running c.args.met c.requires.can.met c.args.margin c.requires.is_new.at_margin c.args.new.start c.requires.is_new.start c.close_levels-closed.new.levels.items c.close_levels-closed.ensures.levels c.requires.level (c.requires.is_new.is_greatest ∙ ap greatest_level (sym c.close_levels-closed.ensures.levels)) (vec_len c.args.scanner.now.slots.outer) refl (lexeme_of c.args.x) c.requires.read c.completed_by-completed.result c.completed_by-completed.ensures c.args.new c.requires.is_new.step refl c.requires.is_new.required c.args.met.allowed c.requires.can.met.allowed _ refl _ c.args.scanner.now.slots.outer.items refl c.keep_candidates.ensures.top;
         awaited = c.keep_candidates.ensures.awaited;
         allowed = allowed_then g.before (c.args.scanner.now.made + 1) c.args.scanner.now c.requires.can.holds c.requires.can.running c.args.met c.requires.can.met c.args.margin c.requires.is_new.at_margin c.args.new.start c.requires.is_new.start c.close_levels-closed.new.levels.items c.close_levels-closed.ensures.levels c.requires.level (c.requires.is_new.is_greatest ∙ ap greatest_level (sym c.close_levels-closed.ensures.levels)) (vec_len c.args.scanner.now.slots.outer) refl (lexeme_of c.args.x) c.requires.read c.completed_by-completed.result c.completed_by-completed.ensures c.is_none.result c.is_none.ensures c.is_allowed_after-scanner.result c.is_allowed_after-scanner.ensures;
-        queue = rw (c.put_group.ensures.early, c.put_group.ensures.front) (queue_then g.before (c.args.scanner.now.made + 1) c.args.scanner.now c.requires.can.holds c.requires.can.running c.args.met c.requires.can.met c.args.margin c.requires.is_new.at_margin c.args.new.start c.requires.is_new.start c.close_levels-closed.new.levels.items c.close_levels-closed.ensures.levels c.requires.level (c.requires.is_new.is_greatest ∙ ap greatest_level (sym c.close_levels-closed.ensures.levels)) (vec_len c.args.scanner.now.slots.outer) refl (lexeme_of c.args.x) c.requires.read c.completed_by-completed.result c.completed_by-completed.ensures _ closed.early c.args.met.front c.close_levels-closed.ensures.ends c.token_of-token.ensures refl c.put_key-opens.ensures.opens c.put_group.new.queue.groups.items groups);
+        queue = rw c.put_group.ensures.early (front_free c.args.scanner.now.text.encoding closed.early c.args.met.front c.put_group.new.queue.front c.put_group.new.queue.groups.items _ c.put_group.ensures.front (queue_then g.before (c.args.scanner.now.made + 1) c.args.scanner.now c.requires.can.holds c.requires.can.running c.args.met c.requires.can.met c.args.margin c.requires.is_new.at_margin c.args.new.start c.requires.is_new.start c.close_levels-closed.new.levels.items c.close_levels-closed.ensures.levels c.requires.level (c.requires.is_new.is_greatest ∙ ap greatest_level (sym c.close_levels-closed.ensures.levels)) (vec_len c.args.scanner.now.slots.outer) refl (lexeme_of c.args.x) c.requires.read c.completed_by-completed.result c.completed_by-completed.ensures _ closed.early c.args.met.front c.close_levels-closed.ensures.ends c.token_of-token.ensures refl c.put_key-opens.ensures.opens c.put_group.new.queue.groups.items groups));
         count = (let k = c.put_key-opens.ensures.rest in let a = c.put_group.ensures.done in let b = k.done in let l = k.long in
             let m = ap (λ (ys : List group_t). length ys) c.put_group.ensures.groups in
             let o = length-append c.put_key-opens.new.layout.queue.groups.items (record { ends = closed.ends; opens = c.put_key-opens.result; key = false; token = c.token_of-token.result } ∷ []) in

@@ -1,6 +1,6 @@
 use Rattle.std.proofs.Common.{length}
 use Rattle.yaml_lexeme.proofs.Readers.BlockLines.{Blocking}
-use Rattle.yaml_lexeme.proofs.block.take_block.Given as goal
+use Rattle.yaml_lexeme.proofs.block.take_lines.Given as goal
 
 abbrev pub invariant-lines : goal.invariant-lines
 invariant-lines l = Blocking l.folded l.fn.level l.fn.cursor l.header.chomp l.indent l.cursor l.out.items l.tail

@@ -6,8 +6,8 @@ use Rattle.yaml_lexeme.specs.Block.{header_at, block_indent, set_indent, is_text
 use Rattle.yaml_lexeme.specs.Place.{first, skip}
 use Rattle.yaml_lexeme.specs.Reading.{found}
 use Rattle.yaml_text.specs.Classes.{is_blank}
-use Rattle.yaml_lexeme.proofs.block.take_block.Goals as goal
-use Rattle.yaml_lexeme.proofs.block.take_block.Goals.{In_ok-tail}
+use Rattle.yaml_lexeme.proofs.block.take_lines.Goals as goal
+use Rattle.yaml_lexeme.proofs.block.take_lines.Goals.{In_ok-take_line}
 
 pub returns-in_err-header : goal.returns-in_err-header
 returns-in_err-header c =
@@ -21,43 +21,43 @@ returns-in_err-take_line_end c =
     let header : header_at (skip 1 p) ≡ found c.in_ok-header.header c.take_header.new.cursor = rw c.advance.ensures at c.in_ok-header.ensures.value in
     rw (e.1, e.2) (start_refused c.in_err-take_line_end.field-0.0 c.args.folded c.args.level p c.take_line_end.new.cursor c.in_ok-header.header c.take_header.new.cursor header c.in_err-take_line_end.ensures)
 
-pub returns-in_err-leading : goal.returns-in_err-leading
-returns-in_err-leading c =
-    let e = err_from_is_err_and c.from_residual-in_err-leading.result c.from_residual-in_err-leading.ensures.1 in
+pub returns-in_err-column : goal.returns-in_err-column
+returns-in_err-column c =
+    let e = err_from_is_err_and c.from_residual-in_err-column.result c.from_residual-in_err-column.ensures.1 in
     let p = c.args.cursor.now in
     let header : header_at (skip 1 p) ≡ found c.in_ok-header.header c.take_header.new.cursor = rw c.advance.ensures at c.in_ok-header.ensures.value in
-    rw (e.1, e.2) (leading_refused c.in_err-leading.field-0.0 c.args.folded c.args.level p c.take_blank_lines.new.cursor c.in_ok-header.header c.take_header.new.cursor c.take_line_end.new.cursor header c.in_ok-take_line_end.ensures (rw c.set_indent-set.ensures at c.in_err-leading.ensures))
+    rw (e.1, e.2) (leading_refused c.in_err-column.field-0.0 c.args.folded c.args.level p c.take_blank_lines.new.cursor c.in_ok-header.header c.take_header.new.cursor c.take_line_end.new.cursor header c.in_ok-take_line_end.ensures (rw c.set_indent-set.ensures at c.in_err-column.ensures))
 
 pub lines-init : goal.lines-init
 lines-init c =
     let p = c.args.cursor.now in
     let q = c.take_blank_lines.new.cursor in
     let header : header_at (skip 1 p) ≡ found c.in_ok-header.header c.take_header.new.cursor = rw c.advance.ensures at c.in_ok-header.ensures.value in
-    let blanks = rw (c.set_indent-set.ensures, c.new-empties.ensures.items) at c.in_ok-leading.ensures in
-    let indent : c.block_indent-indent.result ≡ block_indent c.args.level (set_indent c.args.level c.in_ok-header.header.digit) c.in_ok-leading.leading.column q.mark.column =
-    rw c.set_indent-set.ensures at c.block_indent-indent.ensures ∙ ap (λ (m : yaml_mark_t). block_indent c.args.level (set_indent c.args.level c.in_ok-header.header.digit) c.in_ok-leading.leading.column m.column) c.mark.ensures.value in
-    rw c.in_ok-out.ensures.items (blocks_begin c.args.folded c.args.level p c.in_ok-header.header c.take_header.new.cursor c.take_line_end.new.cursor q c.in_ok-leading.leading.column c.block_indent-indent.result _ header c.in_ok-take_line_end.ensures blanks refl refl indent)
+    let blanks = rw (c.set_indent-set.ensures, c.new.ensures.items) at c.in_ok-column.ensures in
+    let indent : c.block_indent-indent.result ≡ block_indent c.args.level (set_indent c.args.level c.in_ok-header.header.digit) c.in_ok-column.column q.mark.column =
+    rw c.set_indent-set.ensures at c.block_indent-indent.ensures ∙ ap (λ (m : yaml_mark_t). block_indent c.args.level (set_indent c.args.level c.in_ok-header.header.digit) c.in_ok-column.column m.column) c.mark-2.ensures.value in
+    rw c.in_ok-out.ensures.items (blocks_begin c.args.folded c.args.level p c.in_ok-header.header c.take_header.new.cursor c.take_line_end.new.cursor q c.in_ok-column.column c.block_indent-indent.result _ header c.in_ok-take_line_end.ensures blanks refl refl indent)
 
-pub returns-in_err-tail : goal.returns-in_err-tail
-returns-in_err-tail c =
-    let e = err_from_is_err_and c.from_residual-in_err-tail.result c.from_residual-in_err-tail.ensures.1 in
+pub returns-in_err-take_line : goal.returns-in_err-take_line
+returns-in_err-take_line c =
+    let e = err_from_is_err_and c.from_residual-in_err-take_line.result c.from_residual-in_err-take_line.ensures.1 in
     let p = c.lines.cursor in
     let there : is_text c.block_indent-indent.result p ≡ true = sym c.is_text.ensures ∙ c.lines-test.true in
-    rw (e.1, e.2) (blocks_refused c.in_err-tail.field-0.0 c.args.folded c.args.level c.args.cursor.now c.in_ok-header.header.chomp c.block_indent-indent.result p c.take_line.new.cursor c.lines.out.items c.lines.tail there c.lines.invariant c.in_err-tail.ensures)
+    rw (e.1, e.2) (blocks_refused c.in_err-take_line.field-0.0 c.args.folded c.args.level c.args.cursor.now c.in_ok-header.header.chomp c.block_indent-indent.result p c.take_line.new.cursor c.lines.out.items c.lines.tail there c.lines.invariant c.in_err-take_line.ensures)
 
-next : (c : In_ok-tail) → (length c.take_line.new.cursor.rest < length c.lines.cursor.rest)
-    × Blocking c.args.folded c.args.level c.args.cursor.now c.in_ok-header.header.chomp c.block_indent-indent.result c.take_line.new.cursor c.take_line.new.out.items c.in_ok-tail.tail
+next : (c : In_ok-take_line) → (length c.take_line.new.cursor.rest < length c.lines.cursor.rest)
+    × Blocking c.args.folded c.args.level c.args.cursor.now c.in_ok-header.header.chomp c.block_indent-indent.result c.take_line.new.cursor c.take_line.new.out.items c.take_line.new.tail
 next c =
     let p = c.lines.cursor in
     let there : is_text c.block_indent-indent.result p ≡ true = sym c.is_text.ensures ∙ c.lines-test.true in
     let blank : c.is_blank.result ≡ is_blank (first p) = c.is_blank.ensures ∙ ap is_blank c.peek.ensures in
-    blocks_more c.args.folded c.args.level c.args.cursor.now c.in_ok-header.header.chomp c.block_indent-indent.result p c.take_line.new.cursor c.lines.out.items c.push_between.new.out.items c.take_line.new.out.items c.lines.tail c.in_ok-tail.tail c.is_blank.result there c.lines.invariant blank c.in_ok-push_between.ensures c.in_ok-tail.ensures
+    blocks_more c.args.folded c.args.level c.args.cursor.now c.in_ok-header.header.chomp c.block_indent-indent.result p c.take_line.new.cursor c.lines.out.items c.push_between.new.out.items c.take_line.new.out.items c.lines.tail c.take_line.new.tail c.is_blank.result there c.lines.invariant blank c.in_ok-push_between.ensures c.in_ok-take_line.ensures
 
 pub lines-preserved : goal.lines-preserved
-lines-preserved c = (next (goal.at.lines-preserved c).In_ok-tail).1
+lines-preserved c = (next (goal.at.lines-preserved c).In_ok-take_line).1
 
 pub lines-smaller : goal.lines-smaller
-lines-smaller c = (next (goal.at.lines-smaller c).In_ok-tail).0
+lines-smaller c = (next (goal.at.lines-smaller c).In_ok-take_line).0
 
 pub returns : goal.returns
 returns c =
