@@ -2,8 +2,9 @@
 """Scans deep and long inputs with the program: deep.py PROGRAM.
 
 Depth and levels have no limit but the input's length. Each input gives the lines that are expected, and the time of a scan
-grows with the input: twice the input takes at most three times as long. The program `lexlist`, which is beside the given
-one, is used for the times.
+grows with the input: twice the input takes at most three times as long. Where the input outgrows a cache of the machine,
+one doubling may take longer; so it is wrong only if three doublings, one after the other, take longer. The program
+`lexlist`, which is beside the given one, is used for the times.
 """
 
 import math
@@ -20,6 +21,8 @@ LEAST = 0.05
 # pairs of times that are always taken, and how many at most are taken if the growth is over
 FEW_PAIRS = 3
 MOST_PAIRS = 12
+# how often the input is doubled if the growth is over
+DOUBLINGS = 3
 # in seconds; a scan that is linear needs much less
 TIMEOUT = 120
 
@@ -95,10 +98,9 @@ def count_to_measure(lexlist, text_of):
     return count
 
 
-def growth_problem(lexlist, text_of):
+def doubling_problem(lexlist, text_of, count):
     """Compares the best time of an input with the best time of one twice as long, each the best of several."""
-    count, limit = count_to_measure(lexlist, text_of), LIMITS.get(text_of, [])
-    once, twice = text_of(count), text_of(2 * count)
+    limit, once, twice = LIMITS.get(text_of, []), text_of(count), text_of(2 * count)
     best_once = best_twice = math.inf
     for pair in range(1, MOST_PAIRS + 1):
         best_once = min(best_once, max(seconds_of(lexlist, once, limit), LEAST))
@@ -106,6 +108,18 @@ def growth_problem(lexlist, text_of):
         if pair >= FEW_PAIRS and best_twice <= GROWTH * best_once:
             return None
     return f"{2 * count} took {best_twice:.2f} seconds, {count} took {best_once:.2f}"
+
+
+def growth_problem(lexlist, text_of):
+    """What is wrong with the growth of an input's time: each of several doublings takes too long."""
+    count = count_to_measure(lexlist, text_of)
+    problems = []
+    for doubling in range(DOUBLINGS):
+        found = doubling_problem(lexlist, text_of, count << doubling)
+        if found is None:
+            return None
+        problems.append(found)
+    return "; ".join(problems)
 
 
 def listing_problem(program, text, wanted):
