@@ -93,18 +93,16 @@ fn skip_words(cursor: &mut cursor_t, in_flow: bool, least: u64)
     cursor.skip_solid(words_class(in_flow));
 }
 
-/// The place after the rest of a chunk, and after the separators and chunks that follow it in the same line.
+/// Takes the rest of a chunk, and the separators and chunks that follow it in the same line.
 #[inline(never)]
-fn some_chunks<'a>(from: &cursor_t<'a>, in_flow: bool, least: u64) -> cursor_t<'a>
-    ensures goes { Goes in_flow least from.now result }
-    ensures over { spec.is_chunk in_flow (first result) (peek result 1) ≡ false }
+fn some_chunks(cursor: &mut cursor_t, in_flow: bool, least: u64)
+    ensures goes { Goes in_flow least cursor.old cursor.new }
+    ensures over { spec.is_chunk in_flow (first cursor.new) (peek cursor.new 1) ≡ false }
 {
-    let mut cursor = from.again();
-    'chunk: while is_chunk(&cursor, in_flow) {
+    'chunk: while is_chunk(cursor, in_flow) {
         cursor.advance();
-        skip_words(&mut cursor, in_flow, least);
+        skip_words(cursor, in_flow, least);
     }
-    cursor
 }
 
 /// Takes what is left of a chunk, if any is, and the separators and chunks after it in the same line.
@@ -115,7 +113,9 @@ fn skip_chunks(cursor: &mut cursor_t, in_flow: bool, least: u64)
 {
     if is_chunk(cursor, in_flow) {
         // a copy, so that the cursor itself stays in registers
-        *cursor = some_chunks(&cursor.again(), in_flow, least);
+        let mut here = cursor.again();
+        some_chunks(&mut here, in_flow, least);
+        *cursor = here;
     }
 }
 

@@ -1,6 +1,6 @@
 //! Simple keys: the candidate of each flow depth, which a `:` may yet make a key (YAML 1.1, 10.2 Mappings, simple
 //! keys).
-ghost use Rattle.std.specs.Prelude.{◌≡◌, ◌+◌, ◌-◌, ◌<◌, ◌&&◌, ◌++◌, ◌∷◌, [], not, List, Option, None, map, vec_len};
+ghost use Rattle.std.specs.Prelude.{◌≡◌, ◌+◌, ◌-◌, ◌<◌, ◌&&◌, ◌++◌, ◌∷◌, [], not, List, Option, None, map, vec_len, length, ◌==◌};
 ghost use Rattle.std.specs.Prelude.{if◌then◌else◌};
 ghost use Rattle.std.specs.Vec.{vec_capacity};
 ghost use Rattle.yaml_scan.specs.inside.Slots.{is_live, still_held, lost_held, needed, slot_after, root_of, step_of};
@@ -143,6 +143,16 @@ pub(crate) fn root(outer: &[Option<held_t>], top: Option<held_t>) -> Option<held
     }
 }
 
+/// The candidate of depth 0. `margin`: it is the present depth. Written so, the compiler knows the depth if it knows
+/// `margin`.
+#[inline(always)]
+pub(crate) fn root_at(outer: &[Option<held_t>], top: Option<held_t>, margin: bool) -> Option<held_t>
+    requires { margin ≡ length outer.now == 0 }
+    ensures { result ≡ root_of outer.now top }
+{
+    if margin { top } else { root(outer, top) }
+}
+
 /// Changes the slot of a depth after a lexeme was read at it.
 #[inline(always)]
 pub(crate) fn settle(
@@ -212,14 +222,17 @@ fn step_of(held: Option<held_t>) -> u64
     }
 }
 
-/// Gives up what is stale at a mark, and changes the depth after a lexeme. There is room for one.
+/// Gives up what is stale at a mark, and changes the depth after a lexeme. There is room for one. `margin`: the depth was
+/// 0.
 #[inline(always)]
 pub(crate) fn move_slots(
     slots: &mut slots_t,
+    margin: bool,
     kind: yaml_lexeme_kind_t,
     limit: u64,
     mark: yaml_mark_t,
 )
+    requires margin { margin ≡ vec_len slots.old.outer == 0 }
     requires empty { slots.old.not_simple_keys ≡ empty_slots slots.old.outer.items }
     requires nested { AreNested slots.old.outer.items }
     requires room { vec_len slots.old.outer < vec_capacity slots.old.outer }
@@ -230,7 +243,7 @@ pub(crate) fn move_slots(
     ensures empty { slots.new.not_simple_keys ≡ empty_slots slots.new.outer.items }
     ensures awaited { slots.new.awaited ≡ step_of (lowest (slots.new.outer.items ++ slots.new.top ∷ [])) }
 {
-    if slots.outer.is_empty() && !is_flow_start(kind) {
+    if margin && !is_flow_start(kind) {
         give_up(&mut slots.top, limit, mark);
         slots.awaited = step_of(slots.top);
         return;

@@ -3,7 +3,6 @@ ghost use Rattle.std.specs.Prelude.{◌≡◌, ◌<◌, ◌^◌, ◌+◌, List, 
 ghost use Rattle.std.specs.Prelude.{◌&&◌, ◌==◌, not, None, if◌then◌else◌};
 ghost use Rattle.yaml_scan.specs.Laid.{Laid};
 ghost use Rattle.yaml_scan.specs.Step.{problem_of};
-ghost use Rattle.yaml_scan.specs.inside.Slots.{root_of};
 ghost use Rattle.yaml_scan.specs.inside.StepFaults.{IsRefused};
 ghost use Rattle.yaml_scan.specs.Order.{ended};
 ghost use Rattle.yaml_scan.specs.inside.Scanning.{CanRead, CanStep, Comes, HasRoom, IsMet, IsQuick, IsReadAt};
@@ -11,7 +10,7 @@ ghost use Rattle.yaml_scan.specs.inside.Scanning.{Runs, Steps};
 ghost use Rattle.yaml_scan.specs.inside.Scanning.{history};
 
 use crate::allowed::is_key_allowed;
-use crate::keys::{completed_by, held_t, lost_at, root, slots_t};
+use crate::keys::{completed_by, held_t, lost_at, root_at, slots_t};
 use crate::kind::start_after;
 use crate::levels::level_at;
 use crate::quick_flow::quick_in_flow;
@@ -40,19 +39,6 @@ fn is_refused(met: met_t, margin: bool, none: bool) -> bool
     margin && !met.allowed && problem(met.kind, none).is_some()
 }
 
-/// The candidate of depth 0. `margin`: it is the present depth.
-#[inline(always)]
-fn root_at(slots: &slots_t, margin: bool) -> Option<held_t>
-    requires { margin ≡ vec_len slots.now.outer == 0 }
-    ensures { result ≡ root_of slots.now.outer.items slots.now.top }
-{
-    if margin {
-        slots.top
-    } else {
-        root(&slots.outer, slots.top)
-    }
-}
-
 /// The flow depth. `margin`: it is 0. Written so, the compiler knows whether it is 0 if it knows `margin`.
 #[inline(always)]
 fn depth_at(slots: &slots_t, margin: bool) -> u64
@@ -79,7 +65,7 @@ fn meet_at_once(
     ensures met { IfSome result (λ m. IsMet before scanner.now m) }
     ensures kind { IfSome result (λ m. m.kind ≡ kind) }
 {
-    let root = root_at(&scanner.slots, margin);
+    let root = root_at(&scanner.slots.outer, scanner.slots.top, margin);
     if lost_at(root, scanner.limit, front).is_some() {
         return None;
     }
@@ -152,7 +138,14 @@ pub(crate) fn quick_put(
     let Some(x) = read else {
         return false;
     };
-    let lost = lost_after(&scanner.slots, ready.met, ready.new, scanner.limit, x.reach);
+    let lost = lost_after(
+        &scanner.slots,
+        margin,
+        ready.met,
+        ready.new,
+        scanner.limit,
+        x.reach,
+    );
     if lost.is_some() {
         return false;
     }

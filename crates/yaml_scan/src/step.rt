@@ -1,7 +1,7 @@
 //! The steps of a text: the next lexeme, and what the layout makes of it.
 ghost use Rattle.std.specs.Prelude.{◌≡◌, ◌⊎◌, ℕ, ◌+◌, ◌-◌, ◌<◌, ◌≤◌, ◌^◌, ◌&&◌, ◌||◌, not, nat_lt, nat_eq, length};
 ghost use Rattle.std.specs.Prelude.{List, [], ◌∷◌, ◌++◌, vec_len, reverse, map, true, false, Option, Some, None};
-ghost use Rattle.std.specs.Prelude.{option_map, IfOk, OnOk, OnErr, MatchResult, if◌then◌else◌};
+ghost use Rattle.std.specs.Prelude.{option_map, IfOk, OnOk, OnErr, MatchResult, if◌then◌else◌, ◌==◌};
 ghost use Rattle.yaml_text.specs.Fault.{memory_fault, scanner_fault};
 ghost use Rattle.yaml_scan.specs.inside.Stop.{fault_at};
 ghost use Rattle.yaml_text.specs.Token.{data_of, token_of};
@@ -23,7 +23,9 @@ ghost use Rattle.std.specs.Option.{option_copied};
 
 use crate::allowed::{is_allowed_after, is_key_allowed};
 use crate::fault::{keep_fault, stop_t};
-use crate::keys::{completed_by, held_t, lost_at, move_slots, needed_at, root, settle, slots_t};
+use crate::keys::{
+    completed_by, held_t, lost_at, move_slots, needed_at, root, root_at, settle, slots_t,
+};
 use crate::kind::{is_candidate, is_colon, start_after};
 use crate::levels::{close_levels, is_level, layout_t, level_at, put_group, put_key};
 use crate::source::{gap_end, kind_at, read_lexeme};
@@ -179,25 +181,37 @@ pub(crate) fn meet(scanner: &scanner_t, kept: &mut yaml_fault_t) -> Result<met_t
     Ok(met)
 }
 
-/// The required candidate that is stale at a mark after a lexeme that was met, of which `new` would be kept.
+/// The required candidate that is stale at a mark after a lexeme that was met, of which `new` would be kept. `margin`: the
+/// lexeme is at depth 0.
 #[inline(always)]
 pub(crate) fn lost_after(
     slots: &slots_t,
+    margin: bool,
     met: met_t,
     new: held_t,
     limit: u64,
     mark: yaml_mark_t,
 ) -> Option<held_t>
+    requires { margin ≡ vec_len slots.now.outer == 0 }
     ensures { result ≡ lost_after limit slots.now met new mark }
 {
     let mut top = slots.top;
     settle(&mut top, met.kind, met.allowed, new);
-    lost_at(root(&slots.outer, top), limit, mark)
+    lost_at(root_at(&slots.outer, top, margin), limit, mark)
 }
 
-/// Changes the candidates after a lexeme that was read to a mark. There is room for one more depth.
+/// Changes the candidates after a lexeme that was read to a mark. There is room for one more depth. `margin`: the lexeme is
+/// at depth 0.
 #[inline(always)]
-fn keep_candidates(slots: &mut slots_t, met: met_t, new: held_t, limit: u64, mark: yaml_mark_t)
+fn keep_candidates(
+    slots: &mut slots_t,
+    margin: bool,
+    met: met_t,
+    new: held_t,
+    limit: u64,
+    mark: yaml_mark_t,
+)
+    requires margin { margin ≡ vec_len slots.old.outer == 0 }
     requires empty { slots.old.not_simple_keys ≡ empty_slots slots.old.outer.items }
     requires nested { AreNested slots.old.outer.items }
     requires room { vec_len slots.old.outer < vec_capacity slots.old.outer }
@@ -211,7 +225,7 @@ fn keep_candidates(slots: &mut slots_t, met: met_t, new: held_t, limit: u64, mar
     ensures awaited { slots.new.awaited ≡ step_of (lowest (slots.new.outer.items ++ slots.new.top ∷ [])) }
 {
     settle(&mut slots.top, met.kind, met.allowed, new);
-    move_slots(slots, met.kind, limit, mark);
+    move_slots(slots, margin, met.kind, limit, mark);
 }
 
 /// The token of a lexeme that starts at a mark.
@@ -267,7 +281,7 @@ pub(crate) fn put_lexeme(
     let passed_break = x.passed_break;
     let closed = close_levels(&mut scanner.layout.levels, !margin, kind, met.front, start);
     let completed = completed_by(kind, scanner.slots.top, scanner.limit, start);
-    keep_candidates(&mut scanner.slots, met, new, scanner.limit, reach);
+    keep_candidates(&mut scanner.slots, margin, met, new, scanner.limit, reach);
     let opens = put_key(&mut scanner.layout, margin, completed, kind, start);
     let token = token_of(start, x);
     put_group(&mut scanner.layout.queue, closed, met.front, opens, token);
@@ -299,7 +313,7 @@ pub(crate) fn lay(
     };
     let x = read_lexeme(scanner.alloc, kept, &scanner.text, met, context)?;
     let new = new_candidate(scanner.made + 1, start, margin, level);
-    let lost = lost_after(&scanner.slots, met, new, scanner.limit, x.reach);
+    let lost = lost_after(&scanner.slots, margin, met, new, scanner.limit, x.reach);
     refuse_lost(kept, lost, x.reach)?;
     put_lexeme(scanner, met, margin, new, x);
     Ok(())

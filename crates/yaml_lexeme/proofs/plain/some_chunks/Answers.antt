@@ -11,7 +11,7 @@ pub chunk-preserved : goal.chunk-preserved
 chunk-preserved c =
     let flow = c.args.in_flow in
     let least = c.args.least in
-    let p = c.args.from.now in
+    let p = c.args.cursor.now in
     let q = c.chunk.cursor in
     let h : is_chunk flow (first q) (peek q 1) ≡ true = cc in
     let one : Goes flow least q c.advance.new.self = subst (λ (r : Place). Goes flow least q r) (sym c.advance.ensures) (goes_char flow least q h) in
@@ -26,4 +26,4 @@ chunk-smaller c =
     less
 
 pub chunk-init : goal.chunk-init
-chunk-init c = subst (λ (q : Place). Goes c.args.in_flow c.args.least c.args.from.now q) (sym c.again-cursor.ensures) (goes_none c.args.in_flow c.args.least c.args.from.now)
+chunk-init c = goes_none c.args.in_flow c.args.least c.args.cursor.now
