@@ -1,6 +1,7 @@
 //! Simple keys: the candidate of each flow depth, which a `:` may yet make a key (YAML 1.1, 10.2 Mappings, simple
 //! keys).
-ghost use Rattle.std.specs.Prelude.{◌≡◌, ◌+◌, ◌-◌, ◌<◌, ◌&&◌, ◌++◌, ◌∷◌, [], not, List, Option, None, map, vec_len, length, ◌==◌};
+ghost use Rattle.std.specs.Prelude.{◌≡◌, ◌+◌, ◌-◌, ◌<◌, ◌&&◌, ◌++◌, ◌∷◌, [], not, List, Option, None, map, vec_len};
+ghost use Rattle.std.specs.Prelude.{length, ◌==◌};
 ghost use Rattle.std.specs.Prelude.{if◌then◌else◌};
 ghost use Rattle.std.specs.Vec.{vec_capacity};
 ghost use Rattle.yaml_scan.specs.inside.Slots.{is_live, still_held, lost_held, needed, slot_after, root_of, step_of};
@@ -222,8 +223,8 @@ fn step_of(held: Option<held_t>) -> u64
     }
 }
 
-/// Gives up what is stale at a mark, and changes the depth after a lexeme. There is room for one. `margin`: the depth was
-/// 0.
+/// Gives up what is stale at a mark, and changes the depth after a lexeme. There is room for one. `margin`: the depth
+/// was 0.
 #[inline(always)]
 pub(crate) fn move_slots(
     slots: &mut slots_t,

@@ -181,8 +181,8 @@ pub(crate) fn meet(scanner: &scanner_t, kept: &mut yaml_fault_t) -> Result<met_t
     Ok(met)
 }
 
-/// The required candidate that is stale at a mark after a lexeme that was met, of which `new` would be kept. `margin`: the
-/// lexeme is at depth 0.
+/// The required candidate that is stale at a mark after a lexeme that was met, of which `new` would be kept. `margin`:
+/// the lexeme is at depth 0.
 #[inline(always)]
 pub(crate) fn lost_after(
     slots: &slots_t,
@@ -200,8 +200,8 @@ pub(crate) fn lost_after(
     lost_at(root_at(&slots.outer, top, margin), limit, mark)
 }
 
-/// Changes the candidates after a lexeme that was read to a mark. There is room for one more depth. `margin`: the lexeme is
-/// at depth 0.
+/// Changes the candidates after a lexeme that was read to a mark. There is room for one more depth. `margin`: the
+/// lexeme is at depth 0.
 #[inline(always)]
 fn keep_candidates(
     slots: &mut slots_t,
