@@ -365,7 +365,7 @@ fn take_lines(
 }
 
 /// Takes a literal or folded scalar, from its first character on. The level is the greatest one that is open.
-#[inline(always)]
+#[inline(never)]
 pub(crate) fn take_block(
     alloc: Global,
     cursor: &mut cursor_t,

@@ -420,6 +420,55 @@ pub fn yaml_quoted_at_once(
     }
 }
 
+/// Takes a literal or folded scalar, if it has no offence and there is memory for it.
+#[inline(always)]
+fn block_there(
+    alloc: Global,
+    cursor: &mut cursor_t,
+    folded: bool,
+    context: yaml_context_t,
+) -> Option<yaml_lexeme_t>
+    requires { spec.least context + 10 < 2 ^ 64 }
+    ensures { IfSome result (λ x. lexeme (scalar_to (spec.block_style folded)) cursor.old
+        (blocks.block folded context.level cursor.old) ≡ found (lexeme_of x) cursor.new) }
+{
+    let start = cursor.mark();
+    match take_block(alloc, cursor, folded, context.level) {
+        Ok(s) => Some(scalar_to(block_style(folded), start, s, cursor.mark())),
+        Err(_) => None,
+    }
+}
+
+/// The literal or folded scalar at a place, if it has no offence and there is memory for its value.
+///
+/// `at` must be the mark of a place of this text, as for `yaml_lexeme_at`. The level of the context must be at most
+/// the number of the text's bytes. It is what `yaml_lexeme_at` returns there for the kind. Marks count as everywhere:
+/// the index in bytes, the line and the column from 0.
+///
+/// `None` says nothing: there may be an offence, the kind may be another one, or there is no memory for the value. Ask
+/// `yaml_lexeme_at` then.
+#[tactic(auto, unfolding(crate::specs::Lex::lex))]
+#[inline(always)]
+pub fn yaml_block_at_once(
+    alloc: Global,
+    text: &yaml_text_t,
+    at: yaml_mark_t,
+    kind: yaml_lexeme_kind_t,
+    context: yaml_context_t,
+) -> Option<yaml_lexeme_t>
+    requires place { (n : ℕ) × IsMarkOf text.now.chars at n }
+    requires level { IfSome context.level (λ l. l ≤ length (utf8 text.now.chars)) }
+    ensures { IfSome result (λ x. (n : ℕ) → IsMarkOf text.now.chars at n
+        → spec.lexeme_at kind context (place_at text.now.chars n) ≡ Ok (lexeme_of x)) }
+{
+    let mut cursor = cursor_t::at(text, at);
+    match kind {
+        yaml_lexeme_kind_t::LITERAL => block_there(alloc, &mut cursor, false, context),
+        yaml_lexeme_kind_t::FOLDED => block_there(alloc, &mut cursor, true, context),
+        _ => None,
+    }
+}
+
 /// The lexeme of one character, or the document marker, at a place; `None` for the other kinds.
 ///
 /// `at` must be the mark of a place of this text, as for [`yaml_lexeme_at`], and `kind` what `yaml_lexeme_kind` returns

@@ -28,6 +28,7 @@ mod uri;
 pub use gap::yaml_gap;
 pub use kind::{yaml_lexeme_kind, yaml_lexeme_kind_t};
 pub use lex::{
-    yaml_character_at, yaml_context_t, yaml_lexeme_at, yaml_plain_at_once, yaml_quoted_at_once,
+    yaml_block_at_once, yaml_character_at, yaml_context_t, yaml_lexeme_at, yaml_plain_at_once,
+    yaml_quoted_at_once,
 };
 pub use lexeme::yaml_lexeme_t;

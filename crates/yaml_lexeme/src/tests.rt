@@ -164,7 +164,7 @@ fn lexed(alloc: Global, bytes: &[u8], depth: u64, level: Option<u64>) -> Result<
     }
 }
 
-/// The scalar at the front of a text, if it is found without a further look: value, style, end, reach and flag.
+/// The scalar at the front of a text, if it is found at once.
 fn found_at_once(
     alloc: Global,
     bytes: &[u8],
@@ -183,6 +183,9 @@ fn found_at_once(
     let context = yaml_context_t { depth, level };
     let found = match kind {
         yaml_lexeme_kind_t::PLAIN => yaml_plain_at_once(alloc, &text, FRONT, context),
+        yaml_lexeme_kind_t::LITERAL | yaml_lexeme_kind_t::FOLDED => {
+            yaml_block_at_once(alloc, &text, FRONT, kind, context)
+        }
         _ => yaml_quoted_at_once(alloc, &text, FRONT, kind, context),
     };
     match found {
@@ -718,15 +721,15 @@ fn directives_refused(rt: HostRuntime) -> Result<(), Fail> {
 fn plain_scalars_at_once(rt: HostRuntime) -> Result<(), Fail> {
     let alloc = rt.alloc();
     let rows: [(&str, u64, Option<u64>, &str); 9] = [
-        ("ab: c", 0, None, "6162 plain 2:0:2 2:0:2 false"),
-        ("a b]", 1, None, "612062 plain 3:0:3 3:0:3 false"),
-        ("a b\n", 0, Some(0), "612062 plain 3:0:3 4:1:0 true"),
-        ("a\n b", 0, Some(1), "61 plain 1:0:1 3:1:1 true"),
+        ("ab: c", 0, None, "plain 6162 0:0:0 2:0:2 2:0:2 false"),
+        ("a b]", 1, None, "plain 612062 0:0:0 3:0:3 3:0:3 false"),
+        ("a b\n", 0, Some(0), "plain 612062 0:0:0 3:0:3 4:1:0 true"),
+        ("a\n b", 0, Some(1), "plain 61 0:0:0 1:0:1 3:1:1 true"),
         ("a\n b", 0, Some(0), "none"),
         ("a\nb", 0, None, "none"),
         ("a # c", 0, None, "none"),
         ("a:]", 1, None, "none"),
-        ("a:]", 0, None, "613a5d plain 3:0:3 3:0:3 false"),
+        ("a:]", 0, None, "plain 613a5d 0:0:0 3:0:3 3:0:3 false"),
     ];
     for (text, depth, level, want) in rows {
         let plain = yaml_lexeme_kind_t::PLAIN;
@@ -746,9 +749,17 @@ fn quoted_scalars_at_once(rt: HostRuntime) -> Result<(), Fail> {
         yaml_lexeme_kind_t::DOUBLE_QUOTED,
     );
     let rows: [(&str, yaml_lexeme_kind_t, &str); 9] = [
-        ("\"a b\": c", double, "612062 double 5:0:5 5:0:5 false"),
-        ("''", single, "- single 2:0:2 2:0:2 false"),
-        ("'a\\n\"'\n", single, "615c6e22 single 6:0:6 6:0:6 false"),
+        (
+            "\"a b\": c",
+            double,
+            "double 612062 0:0:0 5:0:5 5:0:5 false",
+        ),
+        ("''", single, "single - 0:0:0 2:0:2 2:0:2 false"),
+        (
+            "'a\\n\"'\n",
+            single,
+            "single 615c6e22 0:0:0 6:0:6 6:0:6 false",
+        ),
         ("'a''b'", single, "none"),
         ("\"a\\n\"", double, "none"),
         ("\"a\n b\"", double, "none"),
@@ -758,6 +769,53 @@ fn quoted_scalars_at_once(rt: HostRuntime) -> Result<(), Fail> {
     ];
     for (text, kind, want) in rows {
         let shown = found_at_once(alloc, text.as_bytes(), kind, 0, None)?;
+        assert_eq!(rt; shown.as_str(), want, "{text}");
+    }
+    Ok(())
+}
+
+/// Literal and folded scalars, some that have an offence, and a kind that is neither.
+#[test]
+fn block_scalars_at_once(rt: HostRuntime) -> Result<(), Fail> {
+    let alloc = rt.alloc();
+    let (literal, folded) = (yaml_lexeme_kind_t::LITERAL, yaml_lexeme_kind_t::FOLDED);
+    let rows: [(&str, yaml_lexeme_kind_t, Option<u64>, &str); 8] = [
+        (
+            "|\n a\n b\n",
+            literal,
+            None,
+            "literal 610a620a 0:0:0 8:3:0 8:3:0 false",
+        ),
+        (
+            ">\n a\n b\n",
+            folded,
+            None,
+            "folded 6120620a 0:0:0 8:3:0 8:3:0 false",
+        ),
+        (
+            "|+\n a\n\n",
+            literal,
+            None,
+            "literal 610a0a 0:0:0 7:3:0 7:3:0 false",
+        ),
+        (
+            ">-\n  a\n\n  b\nc",
+            folded,
+            Some(1),
+            "folded 610a62 0:0:0 12:4:0 12:4:0 false",
+        ),
+        ("|", literal, None, "literal - 0:0:0 1:0:1 1:0:1 false"),
+        ("| a", literal, None, "none"),
+        ("|\n\ta", literal, Some(0), "none"),
+        (
+            "'a'",
+            yaml_lexeme_kind_t::SINGLE_QUOTED,
+            None,
+            "single 61 0:0:0 3:0:3 3:0:3 false",
+        ),
+    ];
+    for (text, kind, level, want) in rows {
+        let shown = found_at_once(alloc, text.as_bytes(), kind, 0, level)?;
         assert_eq!(rt; shown.as_str(), want, "{text}");
     }
     Ok(())

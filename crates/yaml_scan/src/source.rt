@@ -12,8 +12,8 @@ use crate::fault::stop_t;
 use crate::step::met_t;
 use std::alloc::Global;
 use yaml_lexeme::{
-    yaml_character_at, yaml_context_t, yaml_gap, yaml_lexeme_at, yaml_lexeme_kind,
-    yaml_lexeme_kind_t, yaml_lexeme_t, yaml_plain_at_once, yaml_quoted_at_once,
+    yaml_block_at_once, yaml_character_at, yaml_context_t, yaml_gap, yaml_lexeme_at,
+    yaml_lexeme_kind, yaml_lexeme_kind_t, yaml_lexeme_t, yaml_plain_at_once, yaml_quoted_at_once,
 };
 use yaml_text::{yaml_fault_t, yaml_mark_t, yaml_text_t};
 
@@ -72,8 +72,8 @@ pub(crate) fn read_lexeme(
     }
 }
 
-/// The lexeme that was met, if it has no offence and there is memory for it. Quoted scalars and lexemes of one
-/// character are tried at once.
+/// The lexeme that was met, if it has no offence and there is memory for it. Scalars that are not plain and lexemes of
+/// one character are tried at once.
 #[inline(always)]
 pub(crate) fn read_at_once(
     alloc: Global,
@@ -90,6 +90,9 @@ pub(crate) fn read_at_once(
     match met.kind {
         yaml_lexeme_kind_t::SINGLE_QUOTED | yaml_lexeme_kind_t::DOUBLE_QUOTED => {
             read_quoted(alloc, text, met, context)
+        }
+        yaml_lexeme_kind_t::LITERAL | yaml_lexeme_kind_t::FOLDED => {
+            read_block(alloc, text, met, context)
         }
         yaml_lexeme_kind_t::FLOW_SEQUENCE_START
         | yaml_lexeme_kind_t::FLOW_MAPPING_START
@@ -111,6 +114,22 @@ fn read_character(text: &yaml_text_t, met: met_t, context: yaml_context_t) -> Op
         → IsRead text.now.chars met.kind context.depth context.level p (lexeme_of l)) }
 {
     yaml_character_at(text, met.front, met.kind, context)
+}
+
+/// A literal or folded scalar that was met, if it has no offence and there is memory for it.
+#[inline(always)]
+fn read_block(
+    alloc: Global,
+    text: &yaml_text_t,
+    met: met_t,
+    context: yaml_context_t,
+) -> Option<yaml_lexeme_t>
+    requires place { (p : ℕ) × IsMarkOf text.now.chars met.front p }
+    requires level { IfSome context.level (λ l. l ≤ length text.now.chars) }
+    ensures { IfSome result (λ l. (p : ℕ) → IsMarkOf text.now.chars met.front p
+        → IsRead text.now.chars met.kind context.depth context.level p (lexeme_of l)) }
+{
+    yaml_block_at_once(alloc, text, met.front, met.kind, context)
 }
 
 /// The lexeme that was met, if it has no offence and there is memory for it.

@@ -6,3 +6,6 @@ yaml_plain_at_once-found-requires-clause-place c = (0, at_front c.in-Ok.text.cha
 
 pub yaml_quoted_at_once-found-requires : goal.yaml_quoted_at_once-found-requires
 yaml_quoted_at_once-found-requires c = (0, at_front c.in-Ok.text.chars)
+
+pub yaml_block_at_once-found-requires-clause-place : goal.yaml_block_at_once-found-requires-clause-place
+yaml_block_at_once-found-requires-clause-place c = (0, at_front c.in-Ok.text.chars)
