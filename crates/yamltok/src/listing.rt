@@ -16,6 +16,7 @@ ghost use Rattle.yamltok.specs.Listing.{parted, encoding_word, bytes_text, type_
 ghost use Rattle.yamltok.specs.Listing.{head_parts, data_parts, reader_line, scanner_line, fault_line, text_line};
 ghost use Rattle.yamltok.specs.Listing.{token_line, peek_line, answer_line, answer_lines};
 
+use crate::line::{LINE, set_line};
 use crate::put::{cut_back, put_bytes, put_decimal, put_mark, put_part, put_signed, put_text};
 use std::alloc::AllocError;
 use yaml_scan::yaml_answer_t;
@@ -268,6 +269,10 @@ fn put_token(out: &mut Vec<u8>, token: &yaml_token_t) -> Result<(), AllocError>
     requires { HasWords (data_of token.now.token_data) }
     ensures { Puts result out.old.items (token_line (token_of token.now)) out.new.items }
 {
+    let mut buffer = [0u8; LINE];
+    if let Some(at) = set_line(&mut buffer, token) {
+        return out.extend_from_slice(&buffer[at..]);
+    }
     put_head(out, token.type_(), token.start_mark, token.end_mark)?;
     put_data(out, &token.token_data)?;
     put_text(out, "\n")

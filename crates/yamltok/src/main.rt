@@ -19,6 +19,7 @@ mod args;
 #[cfg(test)]
 mod decode_tests;
 mod devices;
+mod line;
 mod listing;
 mod outcome;
 mod put;

@@ -1,37 +1,41 @@
--- Digit after digit, from the last to the first.
-use Rattle.std.proofs.Common.{◌≡◌, ◌+◌, ◌-◌, ◌/◌, ◌%◌, ◌^◌, ◌<◌, ◌≤◌, ◌++◌, length, drop, set, ◌∙◌, arith, length-set}
+-- Two digits after two, from the last to the first.
+use Rattle.std.proofs.Common.{◌≡◌, ◌-◌, ◌/◌, ◌^◌, ◌<◌, ◌≤◌, ◌++◌, ℕ, List, length, drop, refl, ap, ◌∙◌, arith}
 use Rattle.std.specs.Fmt.{decimal}
-use Rattle.yamltok.proofs.Digits.{digits_room, digits_more, digits_first}
+use Rattle.std.proofs.lemmas.Fmt.{length-decimal-le}
+use Rattle.yamltok.proofs.Digits.{digits_room, two_digits, pair_more}
 use Rattle.yamltok.proofs.put.set_digits.Goals as goal
+
+pub digits-init : goal.digits-init
+digits-init c = record {
+  within = omega arith;
+  room = omega (arith, length-decimal-le 20 c.args.number (omega arith) (omega arith) c.ranges.number.fits);
+  fits = c.ranges.number.fits;
+  written = refl;
+}
+
+pub set_pair-requires-clause-room : goal.set_pair-requires-clause-room
+set_pair-requires-clause-room c =
+    let i = c.digits.invariant in
+    let some : 10 ≤ c.digits.left = omega (arith, c.digits-test.true) in
+    omega (arith, i.room, c.requires.room, two_digits c.digits.left some i.fits)
 
 pub digits-preserved : goal.digits-preserved
 digits-preserved c =
     let i = c.digits.invariant in
     let left = c.digits.left in
     let at = c.digits.at in
-    let b = c.digits.buffer in
     let before = c.args.buffer.now in
-    let low : 1 ≤ at = omega (arith, i.room, c.requires.room) in
-    let high : at ≤ length b = omega (arith, i.within, c.requires.within, c.digits.auto.buffer) in
-    let fits : left / 10 < 2 ^ 64 = omega (arith, i.fits) in
-    let within : at - 1 ≤ c.args.end = omega (arith, i.within) in
-    let same : length (set b (at - 1) (48 + left % 10)) ≡ length before =
-    length-set b (at - 1) (48 + left % 10) ∙ c.digits.auto.buffer in
-    let written : decimal (left / 10) ++ drop (at - 1) (set b (at - 1) (48 + left % 10))
-    ≡ decimal c.args.number ++ drop c.args.end before =
-    digits_more left at b c.digits-test.true i.fits low high ∙ i.written in
+    let after = c.set_pair.new.buffer in
+    let fits : left / 100 < 2 ^ 64 = omega (arith, i.fits) in
+    let within : at - 2 ≤ c.args.end = omega (arith, i.within) in
+    let same : length after ≡ length before = c.set_pair.auto.buffer ∙ c.digits.auto.buffer in
+    let written : decimal (left / 100) ++ drop (at - 2) after ≡ decimal c.args.number ++ drop c.args.end before =
+    ap (λ (z : List ℕ). decimal (left / 100) ++ z) c.set_pair.ensures
+    ∙ pair_more left (drop at c.digits.buffer) c.digits-test.true i.fits ∙ i.written in
     record {
       within = within;
-      room = digits_room (left / 10) c.args.number (at - 1) c.args.end _ before fits c.ranges.number.fits
+      room = digits_room (left / 100) c.args.number (at - 2) c.args.end after before c.ranges.number.fits
           within c.requires.within same written;
       fits = fits;
       written = written;
     }
-
-pub returns-clause-digits : goal.returns-clause-digits
-returns-clause-digits c =
-    let i = c.digits.invariant in
-    let low : 1 ≤ c.digits.at = omega (arith, i.room, c.requires.room) in
-    let high : c.digits.at ≤ length c.digits.buffer =
-    omega (arith, i.within, c.requires.within, c.digits.auto.buffer) in
-    digits_first c.digits.left c.digits.at c.digits.buffer c.digits-test.false low high ∙ i.written
