@@ -2,8 +2,8 @@
 use Rattle.std.proofs.Common.{◌≡◌, ℕ, ◌+◌, ◌-◌, ◌/◌, ◌%◌, ◌^◌, ◌<◌, ◌≤◌, List, [], ◌∷◌, ◌++◌, length, drop, set}
 use Rattle.std.proofs.Common.{sym, ap, ◌∙◌, append_assoc, arith, length-append, length-drop, length-set}
 use Rattle.std.specs.Fmt.{decimal}
-use Rattle.std.proofs.lemmas.List.{drop-set}
-use Rattle.std.proofs.lemmas.Fmt.{decimal_step, decimal_digit, decimal_nonempty, length-decimal-le}
+use Rattle.std.proofs.lemmas.List.{drop-set, drop-drop}
+use Rattle.std.proofs.lemmas.Fmt.{decimal_step, decimal_digit, length-decimal-le}
 
 -- there is room for the digits that are left
 pub digits_room : (left number at end : ℕ) (b before : List ℕ) → number < 2 ^ 64
@@ -14,18 +14,21 @@ digits_room left number at end b before whole within room same written =
     simp (length-append, length-drop) at (ap length written) in
     omega (arith, length-decimal-le 20 number (omega arith) (omega arith) whole, lengths)
 
--- a number of more than one digit has two
-pub two_digits : (n : ℕ) → 10 ≤ n → n < 2 ^ 64 → 2 ≤ length (decimal n)
-two_digits n some fits =
-    let lengths : length (decimal n) ≡ length (decimal (n / 10)) + 1 =
-    ap length (decimal_step n some fits) ∙ length-append (decimal (n / 10)) ((48 + n % 10) ∷ []) in
-    omega (arith, lengths, decimal_nonempty (n / 10) (omega (arith, fits)))
-
 -- a number below 100, of two digits
 pub pair_whole : (n : ℕ) → 10 ≤ n → n < 100 → decimal n ≡ (48 + n / 10) ∷ (48 + n % 10) ∷ []
 pair_whole n some small =
     decimal_step n some (omega (arith, small))
     ∙ ap (λ (z : List ℕ). z ++ ((48 + n % 10) ∷ [])) (decimal_digit (n / 10) (omega (arith, small)))
+
+-- of the digits of a number below 10, written as two, the last one is its digit
+pub digit_whole : (n end : ℕ) (b rest : List ℕ) → n < 10 → 2 ≤ end
+    → drop (end - 2) b ≡ (48 + n / 10) ∷ (48 + n % 10) ∷ rest → drop (end - 1) b ≡ decimal n ++ rest
+digit_whole n end b rest small low written =
+    let next : end - 1 ≡ end - 2 + 1 = omega (arith, low) in
+    let ones : 48 + n % 10 ≡ 48 + n = omega (arith, small) in
+    ap (λ (k : ℕ). drop k b) next ∙ sym (drop-drop 1 (end - 2) b) ∙ ap (λ (z : List ℕ). drop 1 z) written
+    ∙ ap (λ (d : ℕ). d ∷ rest) ones
+    ∙ ap (λ (z : List ℕ). z ++ rest) (sym (decimal_digit n small))
 
 -- a byte that is written before a place
 pub drop_written : (at y : ℕ) (b : List ℕ) → 1 ≤ at → at ≤ length b

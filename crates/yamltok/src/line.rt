@@ -12,10 +12,10 @@ use crate::put::{set_bytes, set_mark};
 use yaml_text::{unnamed_yaml_token_t_data, yaml_scalar_style_t, yaml_token_t, yaml_token_type_t};
 
 /// There is room for the line of a token that says a short scalar.
-pub const LINE: usize = 256;
+pub const LINE: usize = 1024;
 
 /// A scalar of at most so many bytes is short.
-const SHORT: usize = 48;
+const SHORT: usize = 400;
 
 /// A name has at most 20 bytes.
 const ROW: usize = 20;
@@ -81,11 +81,11 @@ fn set_row(buffer: &mut [u8], end: usize, row: &[u8; ROW], len: usize) -> usize
 
 /// Writes a space and the digits of bytes before a place, or `-` if there are none, and returns where the space is.
 fn set_short(buffer: &mut [u8], end: usize, bytes: &[u8]) -> usize
-    requires short { length bytes.now ≤ 48 }
-    requires room { 97 ≤ end }
+    requires short { length bytes.now ≤ 400 }
+    requires room { 801 ≤ end }
     requires within { end ≤ length buffer.old }
     ensures text { drop result buffer.new ≡ (codes " " ++ bytes_text bytes.now) ++ drop end buffer.old }
-    ensures low { end ≤ result + 97 }
+    ensures low { end ≤ result + 801 }
     ensures high { result ≤ end }
 {
     if bytes.is_empty() {
@@ -102,12 +102,12 @@ fn set_short(buffer: &mut [u8], end: usize, bytes: &[u8]) -> usize
 /// Writes a style and a short text before a place, with a space before each, and returns where they begin.
 fn set_scalar(buffer: &mut [u8], end: usize, value: &[u8], style: yaml_scalar_style_t) -> usize
     requires words { style ≢ YAML_ANY_SCALAR_STYLE }
-    requires short { length value.now ≤ 48 }
-    requires room { 117 ≤ end }
+    requires short { length value.now ≤ 400 }
+    requires room { 821 ≤ end }
     requires within { end ≤ length buffer.old }
     ensures text { drop result buffer.new
         ≡ spaced (style_word style ∷ bytes_text value.now ∷ []) ++ drop end buffer.old }
-    ensures low { end ≤ result + 105 }
+    ensures low { end ≤ result + 809 }
     ensures high { result ≤ end }
 {
     let at = set_short(buffer, end, value);
@@ -118,11 +118,11 @@ fn set_scalar(buffer: &mut [u8], end: usize, value: &[u8], style: yaml_scalar_st
 /// Writes what a token says before a place if it is nothing or a short scalar, and returns where it begins.
 fn set_data(buffer: &mut [u8], end: usize, said: &unnamed_yaml_token_t_data) -> Option<usize>
     requires words { HasWords (data_of said.now) }
-    requires room { 117 ≤ end }
+    requires room { 821 ≤ end }
     requires within { end ≤ length buffer.old }
     ensures text { IfSome result (λ at. drop at buffer.new
         ≡ spaced (data_parts (data_of said.now)) ++ drop end buffer.old) }
-    ensures low { IfSome result (λ at. end ≤ at + 105) }
+    ensures low { IfSome result (λ at. end ≤ at + 809) }
     ensures high { IfSome result (λ at. at ≤ end) }
     ensures named { IfSome result (λ at. type_of (data_of said.now) ≢ YAML_NO_TOKEN) }
 {
@@ -153,9 +153,9 @@ fn set_data(buffer: &mut [u8], end: usize, said: &unnamed_yaml_token_t_data) -> 
 /// Writes the line of a token at the end of a buffer if it says nothing or a short scalar, and returns where it begins.
 pub fn set_line(buffer: &mut [u8], token: &yaml_token_t) -> Option<usize>
     requires words { HasWords (data_of token.now.token_data) }
-    requires room { length buffer.old ≡ 256 }
+    requires room { length buffer.old ≡ 1024 }
     ensures line { IfSome result (λ at. drop at buffer.new ≡ token_line (token_of token.now)) }
-    ensures within { IfSome result (λ at. at ≤ 256) }
+    ensures within { IfSome result (λ at. at ≤ 1024) }
 {
     buffer[LINE - 1] = b'\n';
     let said = set_data(buffer, LINE - 1, &token.token_data)?;

@@ -265,17 +265,37 @@ fn put_data(out: &mut Vec<u8>, said: &unnamed_yaml_token_t_data) -> Result<(), A
 }
 
 /// Appends the line of a token to `out`. If memory is refused, a part of it may stay.
-fn put_token(out: &mut Vec<u8>, token: &yaml_token_t) -> Result<(), AllocError>
+fn put_token(
+    out: &mut Vec<u8>,
+    token: &yaml_token_t,
+    stage: &mut [u8; LINE],
+) -> Result<(), AllocError>
     requires { HasWords (data_of token.now.token_data) }
     ensures { Puts result out.old.items (token_line (token_of token.now)) out.new.items }
 {
-    let mut buffer = [0u8; LINE];
-    if let Some(at) = set_line(&mut buffer, token) {
-        return out.extend_from_slice(&buffer[at..]);
+    if let Some(at) = set_line(stage, token) {
+        return out.extend_from_slice(&stage[at..]);
     }
     put_head(out, token.type_(), token.start_mark, token.end_mark)?;
     put_data(out, &token.token_data)?;
     put_text(out, "\n")
+}
+
+/// Appends the line of a token to `out`. If memory is refused, `out` is as before.
+///
+/// It is that of `list_token`. What the stage holds does not matter, so that it can serve one token after another.
+pub fn list_token_by(
+    stage: &mut [u8; LINE],
+    token: &yaml_token_t,
+    out: &mut Vec<u8>,
+) -> Result<(), AllocError>
+    requires { HasWords (data_of token.now.token_data) }
+    ensures ok { OnOk result (out.new.items ≡ out.old.items ++ token_line (token_of token.now)) }
+    ensures err { OnErr result (out.new.items ≡ out.old.items) }
+{
+    let len = out.len();
+    let outcome = put_token(out, token, stage);
+    cut_back(out, len, outcome)
 }
 
 /// Appends the line of a token to `out`. If memory is refused, `out` is as before.
@@ -288,9 +308,8 @@ pub fn list_token(token: &yaml_token_t, out: &mut Vec<u8>) -> Result<(), AllocEr
     ensures ok { OnOk result (out.new.items ≡ out.old.items ++ token_line (token_of token.now)) }
     ensures err { OnErr result (out.new.items ≡ out.old.items) }
 {
-    let len = out.len();
-    let outcome = put_token(out, token);
-    cut_back(out, len, outcome)
+    let mut stage = [0u8; LINE];
+    list_token_by(&mut stage, token, out)
 }
 
 /// Appends the line of a token that is shown to `out`. If memory is refused, a part of it may stay.

@@ -66,25 +66,22 @@ fn set_pair(buffer: &mut [u8], end: usize, number: u64)
 }
 
 /// Writes the digits of a number below 100 before a place, and returns where they begin.
+///
+/// If it has one digit, a `0` is left before it.
 fn set_first_digits(buffer: &mut [u8], end: usize, number: u64) -> usize
     requires small { number < 100 }
-    requires room { length (decimal number) ≤ end }
+    requires room { 2 ≤ end }
     requires within { end ≤ length buffer.old }
     ensures digits { drop result buffer.new ≡ decimal number ++ drop end buffer.old }
     ensures place { result + length (decimal number) ≡ end }
 {
-    if number >= 10 {
-        set_pair(buffer, end, number);
-        end - 2
-    } else {
-        buffer[end - 1] = b'0' + number as u8;
-        end - 1
-    }
+    set_pair(buffer, end, number);
+    if number >= 10 { end - 2 } else { end - 1 }
 }
 
 /// Writes the digits of a number before a place, and returns where they begin.
 fn set_digits(buffer: &mut [u8], end: usize, number: u64) -> usize
-    requires room { 20 ≤ end }
+    requires room { 21 ≤ end }
     requires within { end ≤ length buffer.old }
     ensures digits { drop result buffer.new ≡ decimal number ++ drop end buffer.old }
     ensures low { end ≤ result + 20 }

@@ -10,10 +10,10 @@ use Rattle.yamltok.proofs.WholeLine.{whole_line}
 use Rattle.yamltok.proofs.line.set_line.Goals as goal
 
 -- the line feed at the end
-feed_written : (b : List ℕ) → length b ≡ 256 → drop 255 (set b 255 10) ≡ 10 ∷ []
+feed_written : (b : List ℕ) → length b ≡ 1024 → drop 1023 (set b 1023 10) ≡ 10 ∷ []
 feed_written b whole =
-    drop_written 256 10 b (omega arith) (omega (arith, whole))
-    ∙ ap (λ (z : List ℕ). 10 ∷ z) (drop_all 256 b (omega (arith, whole)))
+    drop_written 1024 10 b (omega arith) (omega (arith, whole))
+    ∙ ap (λ (z : List ℕ). 10 ∷ z) (drop_all 1024 b (omega (arith, whole)))
 
 pub returns-clause-line : goal.returns-clause-line
 returns-clause-line c =

@@ -1,8 +1,8 @@
 -- Two digits after two, from the last to the first.
 use Rattle.std.proofs.Common.{◌≡◌, ◌-◌, ◌/◌, ◌^◌, ◌<◌, ◌≤◌, ◌++◌, ℕ, List, length, drop, refl, ap, ◌∙◌, arith}
 use Rattle.std.specs.Fmt.{decimal}
-use Rattle.std.proofs.lemmas.Fmt.{length-decimal-le}
-use Rattle.yamltok.proofs.Digits.{digits_room, two_digits, pair_more}
+use Rattle.std.proofs.lemmas.Fmt.{decimal_nonempty, length-decimal-le}
+use Rattle.yamltok.proofs.Digits.{digits_room, pair_more}
 use Rattle.yamltok.proofs.put.set_digits.Goals as goal
 
 pub digits-init : goal.digits-init
@@ -16,8 +16,12 @@ digits-init c = record {
 pub set_pair-requires-clause-room : goal.set_pair-requires-clause-room
 set_pair-requires-clause-room c =
     let i = c.digits.invariant in
-    let some : 10 ≤ c.digits.left = omega (arith, c.digits-test.true) in
-    omega (arith, i.room, c.requires.room, two_digits c.digits.left some i.fits)
+    omega (arith, i.room, c.requires.room, decimal_nonempty c.digits.left i.fits)
+
+pub set_first_digits-requires-clause-room : goal.set_first_digits-requires-clause-room
+set_first_digits-requires-clause-room c =
+    let i = c.digits.invariant in
+    omega (arith, i.room, c.requires.room, decimal_nonempty c.digits.left i.fits)
 
 pub digits-preserved : goal.digits-preserved
 digits-preserved c =

@@ -1,24 +1,9 @@
 -- One digit or two.
-use Rattle.std.proofs.Common.{◌≡◌, ◌≤◌, ◌++◌, ◌+◌, ℕ, List, length, drop, ap, sym, ◌∙◌, arith}
+use Rattle.std.proofs.Common.{◌≡◌, ◌++◌, ℕ, List, length, drop, ap, sym, ◌∙◌, arith}
 use Rattle.std.specs.Fmt.{decimal}
-use Rattle.std.proofs.lemmas.Fmt.{decimal_digit, decimal_nonempty}
-use Rattle.yamltok.proofs.Digits.{two_digits, pair_whole, drop_written}
+use Rattle.std.proofs.lemmas.Fmt.{decimal_digit}
+use Rattle.yamltok.proofs.Digits.{pair_whole, digit_whole}
 use Rattle.yamltok.proofs.put.set_first_digits.Goals as goal
-
-pub set_pair-requires-clause-room : goal.set_pair-requires-clause-room
-set_pair-requires-clause-room c =
-    omega (arith, c.requires.room, two_digits c.args.number c.if-number-ge10.true c.ranges.number.fits)
-
-pub overflow_sub-buffer : goal.overflow_sub-buffer
-overflow_sub-buffer c = omega (arith, c.requires.room, decimal_nonempty c.args.number c.ranges.number.fits)
-
-pub bounds-buffer-end : goal.bounds-buffer-end
-bounds-buffer-end c =
-    omega (arith, c.requires.room, c.requires.within, decimal_nonempty c.args.number c.ranges.number.fits)
-
-pub overflow_sub-result-else-number-ge10 : goal.overflow_sub-result-else-number-ge10
-overflow_sub-result-else-number-ge10 c =
-    omega (arith, c.requires.room, decimal_nonempty c.args.number c.ranges.number.fits)
 
 pub returns-then-number-ge10-clause-digits : goal.returns-then-number-ge10-clause-digits
 returns-then-number-ge10-clause-digits c =
@@ -34,11 +19,8 @@ returns-then-number-ge10-clause-place c =
 
 pub returns-else-number-ge10-clause-digits : goal.returns-else-number-ge10-clause-digits
 returns-else-number-ge10-clause-digits c =
-    let n = c.args.number in
-    let rest = drop c.args.end c.args.buffer.now in
-    let low : 1 ≤ c.args.end = omega (arith, c.requires.room, decimal_nonempty n c.ranges.number.fits) in
-    drop_written c.args.end (48 + n) c.args.buffer.now low c.requires.within
-    ∙ ap (λ (z : List ℕ). z ++ rest) (sym (decimal_digit n c.if-number-ge10.false))
+    digit_whole c.args.number c.args.end c.set_pair.new.buffer (drop c.args.end c.args.buffer.now)
+    c.if-number-ge10.false c.requires.room c.set_pair.ensures
 
 pub returns-else-number-ge10-clause-place : goal.returns-else-number-ge10-clause-place
 returns-else-number-ge10-clause-place c =
