@@ -20,6 +20,8 @@ mod args;
 mod decode_tests;
 mod devices;
 mod line;
+#[cfg(test)]
+mod line_tests;
 mod listing;
 mod outcome;
 mod put;
