@@ -65,3 +65,29 @@ pair_more left rest some fits =
     sym (ap (λ (z : List ℕ). z ++ rest) both
     ∙ append_assoc (decimal (left / 100) ++ ((48 + left % 100 / 10) ∷ [])) ((48 + left % 100 % 10) ∷ []) rest
     ∙ append_assoc (decimal (left / 100)) ((48 + left % 100 / 10) ∷ []) ((48 + left % 100 % 10) ∷ rest))
+
+-- the same of four digits
+pub four_more : (left : ℕ) (rest : List ℕ) → 10000 ≤ left → left < 2 ^ 64
+    → decimal (left / 10000) ++ ((48 + left % 10000 / 100 / 10) ∷ (48 + left % 10000 / 100 % 10)
+    ∷ (48 + left % 10000 % 100 / 10) ∷ (48 + left % 10000 % 100 % 10) ∷ rest) ≡ decimal left ++ rest
+four_more left rest some fits =
+    let front : left / 10000 ≡ left / 100 / 100 = omega arith in
+    let high : left % 10000 / 100 ≡ left / 100 % 100 = omega arith in
+    let low : left % 10000 % 100 ≡ left % 100 = omega arith in
+    let last : List ℕ = (48 + left % 100 / 10) ∷ (48 + left % 100 % 10) ∷ rest in
+    ap (λ (n : ℕ). decimal n ++ ((48 + left % 10000 / 100 / 10) ∷ (48 + left % 10000 / 100 % 10)
+    ∷ (48 + left % 10000 % 100 / 10) ∷ (48 + left % 10000 % 100 % 10) ∷ rest)) front
+    ∙ ap (λ (n : ℕ). decimal (left / 100 / 100) ++ ((48 + n / 10) ∷ (48 + n % 10)
+    ∷ (48 + left % 10000 % 100 / 10) ∷ (48 + left % 10000 % 100 % 10) ∷ rest)) high
+    ∙ ap (λ (n : ℕ). decimal (left / 100 / 100) ++ ((48 + left / 100 % 100 / 10) ∷ (48 + left / 100 % 100 % 10)
+    ∷ (48 + n / 10) ∷ (48 + n % 10) ∷ rest)) low
+    ∙ pair_more (left / 100) last (omega (arith, some)) (omega (arith, fits))
+    ∙ pair_more left rest (omega (arith, some)) fits
+
+-- a number of more than two digits has two after those of its hundredth
+pub length_more : (n : ℕ) → 100 ≤ n → n < 2 ^ 64 → length (decimal n) ≡ length (decimal (n / 100)) + 2
+length_more n some fits =
+    let whole : decimal (n / 100) ++ ((48 + n % 100 / 10) ∷ (48 + n % 100 % 10) ∷ []) ≡ decimal n ++ [] =
+    pair_more n [] some fits in
+    let lengths : length (decimal (n / 100)) + 2 ≡ length (decimal n) + 0 = simp length-append at (ap length whole) in
+    omega (arith, lengths)

@@ -79,6 +79,24 @@ fn set_first_digits(buffer: &mut [u8], end: usize, number: u64) -> usize
     if number >= 10 { end - 2 } else { end - 1 }
 }
 
+/// Writes the digits of a number below 10,000 before a place, and returns where they begin.
+///
+/// If it has one digit or three, a `0` is left before it.
+fn set_front(buffer: &mut [u8], end: usize, number: u64) -> usize
+    requires small { number < 10000 }
+    requires room { length (decimal number) + 1 ≤ end }
+    requires within { end ≤ length buffer.old }
+    ensures digits { drop result buffer.new ≡ decimal number ++ drop end buffer.old }
+    ensures place { result + length (decimal number) ≡ end }
+{
+    if number >= 100 {
+        set_pair(buffer, end, number % 100);
+        set_first_digits(buffer, end - 2, number / 100)
+    } else {
+        set_first_digits(buffer, end, number)
+    }
+}
+
 /// Writes the digits of a number before a place, and returns where they begin.
 fn set_digits(buffer: &mut [u8], end: usize, number: u64) -> usize
     requires room { 21 ≤ end }
@@ -89,12 +107,14 @@ fn set_digits(buffer: &mut [u8], end: usize, number: u64) -> usize
 {
     let mut at = end;
     let mut left = number;
-    'digits: while left >= 100 {
-        set_pair(buffer, at, left % 100);
-        at -= 2;
-        left /= 100;
+    'digits: while left >= 10000 {
+        let four = left % 10000;
+        set_pair(buffer, at, four % 100);
+        set_pair(buffer, at - 2, four / 100);
+        at -= 4;
+        left /= 10000;
     }
-    set_first_digits(buffer, at, left)
+    set_front(buffer, at, left)
 }
 
 /// Writes a byte and the digits of a number before a place, and returns where the byte is.
