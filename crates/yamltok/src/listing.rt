@@ -1,6 +1,6 @@
 //! The lines that the program writes: numbers are decimal, one space separates parts, and a line
-//! ends with a line feed. A line is appended straight to the bytes, which grow by their own allocator;
-//! nothing else is allocated.
+//! ends with a line feed. A line is appended to the bytes, part by part or whole. They grow by their own
+//! allocator, and nothing else is allocated.
 ghost use Rattle.std.specs.Prelude.{◌≡◌, ◌≢◌, ◌++◌, ◌∷◌, [], codes, map, OnOk, OnErr};
 ghost use Rattle.std.specs.Fmt.{signed_decimal};
 ghost use Rattle.yaml_text.specs.declared.types.yaml_encoding_t.TheVariants.{YAML_ANY_ENCODING};
