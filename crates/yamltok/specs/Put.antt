@@ -1,5 +1,5 @@
 -- What is appended to bytes that grow.
-use Rattle.std.specs.Prelude.{◌≡◌, ◌++◌, ℕ, List, flat_map, Result, Ok, Err, codes}
+use Rattle.std.specs.Prelude.{◌≡◌, ◌++◌, ◌∷◌, [], ◌+◌, ◌/◌, ◌%◌, ℕ, List, flat_map, Result, Ok, Err, codes}
 
 -- the old bytes are a beginning of the new ones
 pub record Grows (old new : List ℕ) : Type 0 where
@@ -14,3 +14,7 @@ Puts (Err _) old text new = Grows old new
 -- parts with a space before each
 abbrev pub spaced : List (List ℕ) → List ℕ
 spaced parts = flat_map (λ part. codes " " ++ part) parts
+
+-- the two decimal digits of a number below 100
+abbrev pub pair_text : ℕ → List ℕ
+pair_text n = (48 + n / 10) ∷ (48 + n % 10) ∷ []

@@ -8,7 +8,8 @@ ghost use Rattle.yamltok.specs.Listing.{is_fault};
 ghost use Rattle.yamltok.specs.Run.{Lists, ListsDecode, ListsScan, AnswersCalls, ListsCalls, call_for, calls_in};
 
 use crate::args::yaml_command_t;
-use crate::listing::{list_answers, list_fault, list_text, list_token};
+use crate::line::LINE;
+use crate::listing::{list_answers, list_fault, list_text, list_token_by};
 use std::alloc::{AllocError, Global};
 use yaml_scan::{
     yaml_answer_t, yaml_call_t, yaml_parser_t, yaml_run, yaml_scan_to, yaml_token_sink_t,
@@ -39,10 +40,11 @@ fn list_decoded(
     }
 }
 
-/// The lines of the tokens that were given.
+/// The lines of the tokens that were given, and the stage where a line is made.
 #[derive(Drop)]
 struct token_lines_t {
     lines: Vec<u8>,
+    stage: [u8; LINE],
 }
 
 impl yaml_token_sink_t for token_lines_t {
@@ -55,7 +57,7 @@ impl yaml_token_sink_t for token_lines_t {
     ghost may_refuse = { Unit {0} };
 
     fn put(&mut self, token: yaml_token_t) -> Result<(), AllocError> {
-        list_token(&token, &mut self.lines)
+        list_token_by(&mut self.stage, &token, &mut self.lines)
     }
 
     ghost took_none = { λ s. lines_none s.lines.items };
@@ -75,6 +77,7 @@ fn list_scanned(
 {
     let mut sink = token_lines_t {
         lines: Vec::new(alloc),
+        stage: [0; LINE],
     };
     match yaml_scan_to(alloc, input, setting, limit, &mut sink)? {
         Some(fault) => {

@@ -19,6 +19,9 @@ mod args;
 #[cfg(test)]
 mod decode_tests;
 mod devices;
+mod line;
+#[cfg(test)]
+mod line_tests;
 mod listing;
 mod outcome;
 mod put;

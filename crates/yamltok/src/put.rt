@@ -1,10 +1,11 @@
 //! Appends texts, numbers, marks and bytes to bytes. If memory is refused, the old bytes stay at the beginning.
-ghost use Rattle.std.specs.Prelude.{◌≡◌, ◌++◌, ◌∷◌, ◌+◌, ◌*◌, ◌<◌, ◌≤◌, OnOk, OnErr};
+ghost use Rattle.std.specs.Prelude.{◌≡◌, ◌++◌, ◌∷◌, ◌+◌, ◌-◌, ◌*◌, ◌/◌, ◌%◌, ◌<◌, ◌≤◌, OnOk, OnErr};
 ghost use Rattle.std.specs.Prelude.{codes, drop, take, flat_map, length};
-ghost use Rattle.std.specs.Char.{digit_char};
 ghost use Rattle.std.specs.Fmt.{decimal, signed_decimal};
+ghost use Rattle.std.specs.List.{range_with_len};
+ghost use Rattle.std.specs.Char.{digit_char};
 ghost use Rattle.yamltok.specs.Listing.{mark_text, byte_text, bytes_text};
-ghost use Rattle.yamltok.specs.Put.{Puts};
+ghost use Rattle.yamltok.specs.Put.{Puts, pair_text};
 
 use std::alloc::AllocError;
 use yaml_text::yaml_mark_t;
@@ -33,9 +34,72 @@ pub fn put_part(out: &mut Vec<u8>, text: &str) -> Result<(), AllocError>
     put_text(out, text)
 }
 
+/// The two digits of each number below 100, one number after another.
+fn pairs() -> &'static [u8; 200]
+    ensures { result.now ≡ flat_map pair_text (range_with_len 0 100) }
+{
+    b"0001020304050607080910111213141516171819202122232425262728293031323334353637383940414243444546474849\
+    5051525354555657585960616263646566676869707172737475767778798081828384858687888990919293949596979899"
+}
+
+/// The two digits of a number below 100.
+fn pair_digits(number: u64) -> (u8, u8)
+    requires { number < 100 }
+    ensures tens { result.0 ≡ 48 + number / 10 }
+    ensures ones { result.1 ≡ 48 + number % 10 }
+{
+    let digits = pairs();
+    let place = 2 * number as usize;
+    (digits[place], digits[place + 1])
+}
+
+/// Writes the two digits of a number below 100 before a place.
+fn set_pair(buffer: &mut [u8], end: usize, number: u64)
+    requires small { number < 100 }
+    requires room { 2 ≤ end }
+    requires within { end ≤ length buffer.old }
+    ensures { drop (end - 2) buffer.new ≡ (48 + number / 10) ∷ (48 + number % 10) ∷ drop end buffer.old }
+{
+    let (tens, ones) = pair_digits(number);
+    buffer[end - 1] = ones;
+    buffer[end - 2] = tens;
+}
+
+/// Writes the digits of a number below 100 before a place, and returns where they begin.
+///
+/// If it has one digit, a `0` is left before it.
+fn set_first_digits(buffer: &mut [u8], end: usize, number: u64) -> usize
+    requires small { number < 100 }
+    requires room { 2 ≤ end }
+    requires within { end ≤ length buffer.old }
+    ensures digits { drop result buffer.new ≡ decimal number ++ drop end buffer.old }
+    ensures place { result + length (decimal number) ≡ end }
+{
+    set_pair(buffer, end, number);
+    if number >= 10 { end - 2 } else { end - 1 }
+}
+
+/// Writes the digits of a number below 10,000 before a place, and returns where they begin.
+///
+/// If it has one digit or three, a `0` is left before it.
+fn set_front(buffer: &mut [u8], end: usize, number: u64) -> usize
+    requires small { number < 10000 }
+    requires room { length (decimal number) + 1 ≤ end }
+    requires within { end ≤ length buffer.old }
+    ensures digits { drop result buffer.new ≡ decimal number ++ drop end buffer.old }
+    ensures place { result + length (decimal number) ≡ end }
+{
+    if number >= 100 {
+        set_pair(buffer, end, number % 100);
+        set_first_digits(buffer, end - 2, number / 100)
+    } else {
+        set_first_digits(buffer, end, number)
+    }
+}
+
 /// Writes the digits of a number before a place, and returns where they begin.
 fn set_digits(buffer: &mut [u8], end: usize, number: u64) -> usize
-    requires room { 20 ≤ end }
+    requires room { 21 ≤ end }
     requires within { end ≤ length buffer.old }
     ensures digits { drop result buffer.new ≡ decimal number ++ drop end buffer.old }
     ensures low { end ≤ result + 20 }
@@ -43,14 +107,14 @@ fn set_digits(buffer: &mut [u8], end: usize, number: u64) -> usize
 {
     let mut at = end;
     let mut left = number;
-    'digits: while left >= 10 {
-        at -= 1;
-        buffer[at] = b'0' + (left % 10) as u8;
-        left /= 10;
+    'digits: while left >= 10000 {
+        let four = left % 10000;
+        set_pair(buffer, at, four % 100);
+        set_pair(buffer, at - 2, four / 100);
+        at -= 4;
+        left /= 10000;
     }
-    at -= 1;
-    buffer[at] = b'0' + left as u8;
-    at
+    set_front(buffer, at, left)
 }
 
 /// Writes a byte and the digits of a number before a place, and returns where the byte is.
@@ -95,13 +159,15 @@ pub fn put_signed(out: &mut Vec<u8>, number: i32) -> Result<(), AllocError>
     }
 }
 
-/// Writes a space and a mark at the end of a buffer, and returns where the space is.
-fn set_mark(buffer: &mut [u8], mark: yaml_mark_t) -> usize
-    requires { length buffer.old ≡ 63 }
-    ensures text { drop result buffer.new ≡ codes " " ++ mark_text mark }
-    ensures within { result ≤ 63 }
+/// Writes a space and a mark before a place, and returns where the space is.
+pub fn set_mark(buffer: &mut [u8], end: usize, mark: &yaml_mark_t) -> usize
+    requires room { 63 ≤ end }
+    requires within { end ≤ length buffer.old }
+    ensures text { drop result buffer.new ≡ (codes " " ++ mark_text mark.now) ++ drop end buffer.old }
+    ensures low { end ≤ result + 63 }
+    ensures high { result ≤ end }
 {
-    let column = set_number(buffer, MARK, b':', mark.column);
+    let column = set_number(buffer, end, b':', mark.column);
     let line = set_number(buffer, column, b':', mark.line);
     set_number(buffer, line, b' ', mark.index)
 }
@@ -111,29 +177,43 @@ pub fn put_mark(out: &mut Vec<u8>, mark: yaml_mark_t) -> Result<(), AllocError>
     ensures { Puts result out.old.items (codes " " ++ mark_text mark) out.new.items }
 {
     let mut buffer = [0u8; MARK];
-    let at = set_mark(&mut buffer, mark);
+    let at = set_mark(&mut buffer, MARK, &mark);
     out.extend_from_slice(&buffer[at..])
 }
 
-fn hex_digit(value: u8) -> u8
-    requires { value < 16 }
-    ensures { result ≡ digit_char value }
+/// The two hexadecimal digits of each byte, one byte after another.
+fn hex_pairs() -> &'static [u8; 512]
+    ensures { result.now ≡ flat_map byte_text (range_with_len 0 256) }
 {
-    if value < 10 {
-        b'0' + value
-    } else {
-        b'a' + (value - 10)
-    }
+    b"000102030405060708090a0b0c0d0e0f101112131415161718191a1b1c1d1e1f\
+    202122232425262728292a2b2c2d2e2f303132333435363738393a3b3c3d3e3f\
+    404142434445464748494a4b4c4d4e4f505152535455565758595a5b5c5d5e5f\
+    606162636465666768696a6b6c6d6e6f707172737475767778797a7b7c7d7e7f\
+    808182838485868788898a8b8c8d8e8f909192939495969798999a9b9c9d9e9f\
+    a0a1a2a3a4a5a6a7a8a9aaabacadaeafb0b1b2b3b4b5b6b7b8b9babbbcbdbebf\
+    c0c1c2c3c4c5c6c7c8c9cacbcccdcecfd0d1d2d3d4d5d6d7d8d9dadbdcdddedf\
+    e0e1e2e3e4e5e6e7e8e9eaebecedeeeff0f1f2f3f4f5f6f7f8f9fafbfcfdfeff"
+}
+
+/// The two hexadecimal digits of a byte.
+fn hex_digits(byte: u8) -> (u8, u8)
+    ensures high { result.0 ≡ digit_char (byte / 16) }
+    ensures low { result.1 ≡ digit_char (byte % 16) }
+{
+    let digits = hex_pairs();
+    let place = 2 * byte as usize;
+    (digits[place], digits[place + 1])
 }
 
 /// Writes the two digits of each of these bytes.
-fn set_bytes(place: &mut [u8], bytes: &[u8])
+pub fn set_bytes(place: &mut [u8], bytes: &[u8])
     requires { length place.old ≡ 2 * length bytes.now }
     ensures { place.new ≡ flat_map byte_text bytes.now }
 {
     for (i, byte) in bytes.iter().enumerate() {
-        place[2 * i] = hex_digit(*byte / 16);
-        place[2 * i + 1] = hex_digit(*byte % 16);
+        let (high, low) = hex_digits(*byte);
+        place[2 * i] = high;
+        place[2 * i + 1] = low;
     }
 }
 

@@ -1,37 +1,59 @@
--- Digit after digit, from the last to the first.
-use Rattle.std.proofs.Common.{◌≡◌, ◌+◌, ◌-◌, ◌/◌, ◌%◌, ◌^◌, ◌<◌, ◌≤◌, ◌++◌, length, drop, set, ◌∙◌, arith, length-set}
+-- Four digits after four, from the last to the first.
+use Rattle.std.proofs.Common.{◌≡◌, ◌+◌, ◌-◌, ◌/◌, ◌%◌, ◌^◌, ◌<◌, ◌≤◌, ◌++◌, ◌∷◌, ℕ, List, length, drop}
+use Rattle.std.proofs.Common.{refl, ap, sym, ◌∙◌, arith}
 use Rattle.std.specs.Fmt.{decimal}
-use Rattle.yamltok.proofs.Digits.{digits_room, digits_more, digits_first}
+use Rattle.std.proofs.lemmas.Fmt.{decimal_nonempty, length-decimal-le}
+use Rattle.yamltok.proofs.Digits.{digits_room, four_more, length_more}
 use Rattle.yamltok.proofs.put.set_digits.Goals as goal
+
+pub digits-init : goal.digits-init
+digits-init c = record {
+  within = omega arith;
+  room = omega (arith, length-decimal-le 20 c.args.number (omega arith) (omega arith) c.ranges.number.fits);
+  fits = c.ranges.number.fits;
+  written = refl;
+}
+
+-- there are at least three digits, and so room for four
+four_fit : (left at end : ℕ) → 10000 ≤ left → left < 2 ^ 64 → 21 ≤ end → end + length (decimal left) ≤ at + 20
+    → 4 ≤ at
+four_fit left at end some fits low room =
+    let rest : left / 100 < 2 ^ 64 = omega (arith, fits) in
+    omega (arith, room, low, length_more left (omega (arith, some)) fits, decimal_nonempty (left / 100) rest)
+
+pub set_pair-requires-clause-room : goal.set_pair-requires-clause-room
+set_pair-requires-clause-room c =
+    let i = c.digits.invariant in
+    omega (arith, four_fit c.digits.left c.digits.at c.args.end c.digits-test.true i.fits c.requires.room i.room)
+
+pub set_pair-requires-in-digits-clause-room : goal.set_pair-requires-in-digits-clause-room
+set_pair-requires-in-digits-clause-room c =
+    let i = c.digits.invariant in
+    omega (arith, four_fit c.digits.left c.digits.at c.args.end c.digits-test.true i.fits c.requires.room i.room)
 
 pub digits-preserved : goal.digits-preserved
 digits-preserved c =
     let i = c.digits.invariant in
     let left = c.digits.left in
     let at = c.digits.at in
-    let b = c.digits.buffer in
     let before = c.args.buffer.now in
-    let low : 1 ≤ at = omega (arith, i.room, c.requires.room) in
-    let high : at ≤ length b = omega (arith, i.within, c.requires.within, c.digits.auto.buffer) in
-    let fits : left / 10 < 2 ^ 64 = omega (arith, i.fits) in
-    let within : at - 1 ≤ c.args.end = omega (arith, i.within) in
-    let same : length (set b (at - 1) (48 + left % 10)) ≡ length before =
-    length-set b (at - 1) (48 + left % 10) ∙ c.digits.auto.buffer in
-    let written : decimal (left / 10) ++ drop (at - 1) (set b (at - 1) (48 + left % 10))
-    ≡ decimal c.args.number ++ drop c.args.end before =
-    digits_more left at b c.digits-test.true i.fits low high ∙ i.written in
+    let after = c.set_pair-in-digits.new.buffer in
+    let fits : left / 10000 < 2 ^ 64 = omega (arith, i.fits) in
+    let within : at - 4 ≤ c.args.end = omega (arith, i.within) in
+    let place : at - 2 - 2 ≡ at - 4 = omega arith in
+    let same : length after ≡ length before =
+    c.set_pair-in-digits.auto.buffer ∙ c.set_pair.auto.buffer ∙ c.digits.auto.buffer in
+    let four = left % 10000 in
+    let written : decimal (left / 10000) ++ drop (at - 4) after ≡ decimal c.args.number ++ drop c.args.end before =
+    sym (ap (λ (n : ℕ). decimal (left / 10000) ++ drop n after) place)
+    ∙ ap (λ (z : List ℕ). decimal (left / 10000) ++ z) c.set_pair-in-digits.ensures
+    ∙ ap (λ (z : List ℕ). decimal (left / 10000) ++ ((48 + four / 100 / 10) ∷ (48 + four / 100 % 10) ∷ z))
+    c.set_pair.ensures
+    ∙ four_more left (drop at c.digits.buffer) c.digits-test.true i.fits ∙ i.written in
     record {
       within = within;
-      room = digits_room (left / 10) c.args.number (at - 1) c.args.end _ before fits c.ranges.number.fits
+      room = digits_room (left / 10000) c.args.number (at - 4) c.args.end after before c.ranges.number.fits
           within c.requires.within same written;
       fits = fits;
       written = written;
     }
-
-pub returns-clause-digits : goal.returns-clause-digits
-returns-clause-digits c =
-    let i = c.digits.invariant in
-    let low : 1 ≤ c.digits.at = omega (arith, i.room, c.requires.room) in
-    let high : c.digits.at ≤ length c.digits.buffer =
-    omega (arith, i.within, c.requires.within, c.digits.auto.buffer) in
-    digits_first c.digits.left c.digits.at c.digits.buffer c.digits-test.false low high ∙ i.written

@@ -1,4 +1,4 @@
-use Rattle.std.proofs.Common.{◌≡◌, ◌++◌, ◌+◌, ◌≤◌, ◌^◌, ◌<◌, drop}
+use Rattle.std.proofs.Common.{◌≡◌, ◌++◌, ◌+◌, ◌≤◌, ◌^◌, ◌<◌, length, drop}
 use Rattle.std.specs.Fmt.{decimal}
 use Rattle.yamltok.proofs.put.set_digits.Given as goal
 
@@ -6,7 +6,7 @@ use Rattle.yamltok.proofs.put.set_digits.Given as goal
 abbrev pub invariant-digits : goal.invariant-digits
 invariant-digits l = record {
   within : l.at ≤ l.end;
-  room : l.end + 1 ≤ l.at + 20;
+  room : l.end + length (decimal l.left) ≤ l.at + 20;
   fits : l.left < 2 ^ 64;
   written : decimal l.left ++ drop l.at l.buffer ≡ decimal l.number ++ drop l.end l.fn.buffer;
 }

@@ -1,14 +1,21 @@
--- Nothing follows the last number.
-use Rattle.std.proofs.Common.{◌≡◌, ◌++◌, ◌∷◌, [], ℕ, List, drop, ap, ◌∙◌, arith}
+-- Number before number.
+use Rattle.std.proofs.Common.{◌≡◌, ◌++◌, ◌∷◌, [], ℕ, List, ap, sym, ◌∙◌, append_assoc}
 use Rattle.std.specs.Fmt.{decimal}
-use Rattle.std.proofs.lemmas.List.{drop_all}
 use Rattle.yamltok.proofs.put.set_mark.Goals as goal
+
+-- three numbers and what follows them
+joined : (index line column rest : List ℕ)
+    → (32 ∷ index) ++ ((58 ∷ line) ++ ((58 ∷ column) ++ rest))
+    ≡ (32 ∷ (index ++ ((58 ∷ line) ++ ((58 ∷ column) ++ [])))) ++ rest
+joined index line column rest =
+    ap (λ (z : List ℕ). (32 ∷ index) ++ ((58 ∷ line) ++ z)) (sym (append_assoc (58 ∷ column) [] rest))
+    ∙ ap (λ (z : List ℕ). (32 ∷ index) ++ z) (sym (append_assoc (58 ∷ line) ((58 ∷ column) ++ []) rest))
+    ∙ sym (append_assoc (32 ∷ index) ((58 ∷ line) ++ ((58 ∷ column) ++ [])) rest)
 
 pub returns-clause-text : goal.returns-clause-text
 returns-clause-text c =
-    let m = c.args.mark in
-    let end : drop 63 c.args.buffer.now ≡ [] = drop_all 63 c.args.buffer.now (omega (arith, c.requires)) in
+    let m = c.args.mark.now in
     c.set_number.ensures.number
     ∙ ap (λ (z : List ℕ). (32 ∷ decimal m.index) ++ z) (c.set_number-line.ensures.number
-    ∙ ap (λ (z : List ℕ). (58 ∷ decimal m.line) ++ z) (c.set_number-column.ensures.number
-    ∙ ap (λ (z : List ℕ). (58 ∷ decimal m.column) ++ z) end))
+    ∙ ap (λ (z : List ℕ). (58 ∷ decimal m.line) ++ z) c.set_number-column.ensures.number)
+    ∙ joined (decimal m.index) (decimal m.line) (decimal m.column) _

@@ -1,0 +1,11 @@
+use Rattle.std.proofs.Common.{◌+◌, ◌/◌, ◌∷◌, ℕ, drop, ap, ◌∙◌}
+use Rattle.yamltok.proofs.Digits.{drop_two_written}
+use Rattle.yamltok.proofs.put.set_pair.Goals as goal
+
+pub returns : goal.returns
+returns c =
+    let digits = c.pair_digits-tens.result in
+    let rest = drop c.args.end c.args.buffer.now in
+    drop_two_written c.args.end digits.0 digits.1 c.args.buffer.now c.requires.room c.requires.within
+    ∙ ap (λ (x : ℕ). x ∷ digits.1 ∷ rest) c.pair_digits-tens.ensures.tens
+    ∙ ap (λ (y : ℕ). (48 + c.args.number / 10) ∷ y ∷ rest) c.pair_digits-tens.ensures.ones
