@@ -4,12 +4,15 @@ ghost use Rattle.std.specs.List.{list_any};
 ghost use Rattle.yaml_scan.specs.Seen.{call_of, seen_of};
 ghost use Rattle.yaml_scan.specs.CallWords.{SeenHaveLines};
 ghost use Rattle.yamltok.specs.Args.{is_limit, is_right};
-ghost use Rattle.yamltok.specs.Listing.{is_fault};
+ghost use Rattle.std.specs.Prelude.{◌++◌, OnOk};
+ghost use Rattle.yaml_text.specs.Token.{data_of, token_of};
+ghost use Rattle.yaml_scan.specs.Words.{HasWords};
+ghost use Rattle.yamltok.specs.Listing.{is_fault, token_line};
 ghost use Rattle.yamltok.specs.Run.{Lists, ListsDecode, ListsScan, AnswersCalls, ListsCalls, call_for, calls_in};
 
 use crate::args::yaml_command_t;
-use crate::line::LINE;
-use crate::listing::{list_answers, list_fault, list_text, list_token_by};
+use crate::line::{LINE, put_end, set_line};
+use crate::listing::{list_answers, list_by_parts, list_fault, list_text};
 use std::alloc::{AllocError, Global};
 use yaml_scan::{
     yaml_answer_t, yaml_call_t, yaml_parser_t, yaml_run, yaml_scan_to, yaml_token_sink_t,
@@ -40,6 +43,16 @@ fn list_decoded(
     }
 }
 
+/// Appends the line of a token to `out`, and drops the token. It is called with a token of its own, so that the tokens of
+/// other calls stay in registers.
+#[inline(never)]
+fn list_moved(token: yaml_token_t, out: &mut Vec<u8>) -> Result<(), AllocError>
+    requires { HasWords (data_of token.token_data) }
+    ensures { OnOk result (out.new.items ≡ out.old.items ++ token_line (token_of token)) }
+{
+    list_by_parts(&token, out)
+}
+
 /// The lines of the tokens that were given, and the stage where a line is made.
 #[derive(Drop)]
 struct token_lines_t {
@@ -57,7 +70,10 @@ impl yaml_token_sink_t for token_lines_t {
     ghost may_refuse = { Unit {0} };
 
     fn put(&mut self, token: yaml_token_t) -> Result<(), AllocError> {
-        list_token_by(&mut self.stage, &token, &mut self.lines)
+        match set_line(&mut self.stage, &token) {
+            Some(at) => put_end(&mut self.lines, &self.stage, at),
+            None => list_moved(token, &mut self.lines),
+        }
     }
 
     ghost took_none = { λ s. lines_none s.lines.items };

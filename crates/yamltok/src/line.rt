@@ -1,6 +1,6 @@
 //! The line of a token that says nothing, or a short scalar: it is made whole, from its end to its beginning.
 ghost use Rattle.std.specs.Prelude.{◌≡◌, ◌≢◌, ◌++◌, ◌∷◌, [], ◌+◌, ◌-◌, ◌*◌, ◌≤◌, IfSome};
-ghost use Rattle.std.specs.Prelude.{codes, drop, length};
+ghost use Rattle.std.specs.Prelude.{codes, drop, length, OnOk, OnErr};
 ghost use Rattle.yaml_text.specs.declared.types.yaml_scalar_style_t.TheVariants.{YAML_ANY_SCALAR_STYLE};
 ghost use Rattle.yaml_text.specs.declared.types.yaml_token_type_t.TheVariants.{YAML_NO_TOKEN};
 ghost use Rattle.yaml_text.specs.Token.{data_of, token_of, type_of};
@@ -9,6 +9,7 @@ ghost use Rattle.yamltok.specs.Put.{spaced};
 ghost use Rattle.yamltok.specs.Listing.{bytes_text, type_name, style_word, data_parts, token_line};
 
 use crate::put::{set_bytes, set_mark};
+use std::alloc::AllocError;
 use yaml_text::{unnamed_yaml_token_t_data, yaml_scalar_style_t, yaml_token_t, yaml_token_type_t};
 
 /// There is room for the line of a token that says a short scalar.
@@ -116,6 +117,7 @@ fn set_scalar(buffer: &mut [u8], end: usize, value: &[u8], style: yaml_scalar_st
 }
 
 /// Writes what a token says before a place if it is nothing or a short scalar, and returns where it begins.
+#[inline(always)]
 fn set_data(buffer: &mut [u8], end: usize, said: &unnamed_yaml_token_t_data) -> Option<usize>
     requires words { HasWords (data_of said.now) }
     requires room { 821 ≤ end }
@@ -151,6 +153,7 @@ fn set_data(buffer: &mut [u8], end: usize, said: &unnamed_yaml_token_t_data) -> 
 }
 
 /// Writes the line of a token at the end of a buffer if it says nothing or a short scalar, and returns where it begins.
+#[inline(always)]
 pub fn set_line(buffer: &mut [u8], token: &yaml_token_t) -> Option<usize>
     requires words { HasWords (data_of token.now.token_data) }
     requires room { length buffer.old ≡ 1024 }
@@ -159,8 +162,18 @@ pub fn set_line(buffer: &mut [u8], token: &yaml_token_t) -> Option<usize>
 {
     buffer[LINE - 1] = b'\n';
     let said = set_data(buffer, LINE - 1, &token.token_data)?;
-    let end = set_mark(buffer, said, &token.end_mark);
-    let start = set_mark(buffer, end, &token.start_mark);
+    let end = set_mark(buffer, said, token.end_mark);
+    let start = set_mark(buffer, end, token.start_mark);
     let (row, len) = name_row(token.type_());
     Some(set_row(buffer, start, row, len))
+}
+
+/// Appends the end of a stage, from a place on, to `out`. If memory is refused, `out` is as before.
+#[inline(always)]
+pub fn put_end(out: &mut Vec<u8>, stage: &[u8; LINE], at: usize) -> Result<(), AllocError>
+    requires { at ≤ 1024 }
+    ensures ok { OnOk result (out.new.items ≡ out.old.items ++ drop at stage.now) }
+    ensures err { OnErr result (out.new.items ≡ out.old.items) }
+{
+    out.extend_from_slice(&stage[at..])
 }

@@ -16,7 +16,7 @@ ghost use Rattle.yamltok.specs.Listing.{parted, encoding_word, bytes_text, type_
 ghost use Rattle.yamltok.specs.Listing.{head_parts, data_parts, reader_line, scanner_line, fault_line, text_line};
 ghost use Rattle.yamltok.specs.Listing.{token_line, peek_line, answer_line, answer_lines};
 
-use crate::line::{LINE, set_line};
+use crate::line::{LINE, put_end, set_line};
 use crate::put::{cut_back, put_bytes, put_decimal, put_mark, put_part, put_signed, put_text};
 use std::alloc::AllocError;
 use yaml_scan::yaml_answer_t;
@@ -265,36 +265,23 @@ fn put_data(out: &mut Vec<u8>, said: &unnamed_yaml_token_t_data) -> Result<(), A
 }
 
 /// Appends the line of a token to `out`. If memory is refused, a part of it may stay.
-fn put_token(
-    out: &mut Vec<u8>,
-    token: &yaml_token_t,
-    stage: &mut [u8; LINE],
-) -> Result<(), AllocError>
+fn put_token(out: &mut Vec<u8>, token: &yaml_token_t) -> Result<(), AllocError>
     requires { HasWords (data_of token.now.token_data) }
     ensures { Puts result out.old.items (token_line (token_of token.now)) out.new.items }
 {
-    if let Some(at) = set_line(stage, token) {
-        return out.extend_from_slice(&stage[at..]);
-    }
     put_head(out, token.type_(), token.start_mark, token.end_mark)?;
     put_data(out, &token.token_data)?;
     put_text(out, "\n")
 }
 
-/// Appends the line of a token to `out`. If memory is refused, `out` is as before.
-///
-/// It is that of `list_token`. What the stage holds does not matter, so that it can serve one token after another.
-pub fn list_token_by(
-    stage: &mut [u8; LINE],
-    token: &yaml_token_t,
-    out: &mut Vec<u8>,
-) -> Result<(), AllocError>
+/// Appends the line of a token to `out`, part by part. If memory is refused, `out` is as before.
+pub fn list_by_parts(token: &yaml_token_t, out: &mut Vec<u8>) -> Result<(), AllocError>
     requires { HasWords (data_of token.now.token_data) }
     ensures ok { OnOk result (out.new.items ≡ out.old.items ++ token_line (token_of token.now)) }
     ensures err { OnErr result (out.new.items ≡ out.old.items) }
 {
     let len = out.len();
-    let outcome = put_token(out, token, stage);
+    let outcome = put_token(out, token);
     cut_back(out, len, outcome)
 }
 
@@ -309,7 +296,10 @@ pub fn list_token(token: &yaml_token_t, out: &mut Vec<u8>) -> Result<(), AllocEr
     ensures err { OnErr result (out.new.items ≡ out.old.items) }
 {
     let mut stage = [0u8; LINE];
-    list_token_by(&mut stage, token, out)
+    match set_line(&mut stage, token) {
+        Some(at) => put_end(out, &stage, at),
+        None => list_by_parts(token, out),
+    }
 }
 
 /// Appends the line of a token that is shown to `out`. If memory is refused, a part of it may stay.

@@ -159,17 +159,31 @@ pub fn put_signed(out: &mut Vec<u8>, number: i32) -> Result<(), AllocError>
     }
 }
 
-/// Writes a space and a mark before a place, and returns where the space is.
-pub fn set_mark(buffer: &mut [u8], end: usize, mark: &yaml_mark_t) -> usize
+/// Writes a space and the three numbers of a mark before a place, and returns where the space is.
+#[inline(never)]
+fn set_counts(buffer: &mut [u8], end: usize, index: u64, line: u64, column: u64) -> usize
     requires room { 63 ≤ end }
     requires within { end ≤ length buffer.old }
-    ensures text { drop result buffer.new ≡ (codes " " ++ mark_text mark.now) ++ drop end buffer.old }
+    ensures text { drop result buffer.new
+        ≡ (codes " " ++ mark_text (record { index = index; line = line; column = column })) ++ drop end buffer.old }
     ensures low { end ≤ result + 63 }
     ensures high { result ≤ end }
 {
-    let column = set_number(buffer, end, b':', mark.column);
-    let line = set_number(buffer, column, b':', mark.line);
-    set_number(buffer, line, b' ', mark.index)
+    let at = set_number(buffer, end, b':', column);
+    let at = set_number(buffer, at, b':', line);
+    set_number(buffer, at, b' ', index)
+}
+
+/// Writes a space and a mark before a place, and returns where the space is.
+#[inline(always)]
+pub fn set_mark(buffer: &mut [u8], end: usize, mark: yaml_mark_t) -> usize
+    requires room { 63 ≤ end }
+    requires within { end ≤ length buffer.old }
+    ensures text { drop result buffer.new ≡ (codes " " ++ mark_text mark) ++ drop end buffer.old }
+    ensures low { end ≤ result + 63 }
+    ensures high { result ≤ end }
+{
+    set_counts(buffer, end, mark.index, mark.line, mark.column)
 }
 
 /// Appends a space and a mark to `out`.
@@ -177,7 +191,7 @@ pub fn put_mark(out: &mut Vec<u8>, mark: yaml_mark_t) -> Result<(), AllocError>
     ensures { Puts result out.old.items (codes " " ++ mark_text mark) out.new.items }
 {
     let mut buffer = [0u8; MARK];
-    let at = set_mark(&mut buffer, MARK, &mark);
+    let at = set_mark(&mut buffer, MARK, mark);
     out.extend_from_slice(&buffer[at..])
 }
 

@@ -1,7 +1,7 @@
 -- Number before number.
 use Rattle.std.proofs.Common.{◌≡◌, ◌++◌, ◌∷◌, [], ℕ, List, ap, sym, ◌∙◌, append_assoc}
 use Rattle.std.specs.Fmt.{decimal}
-use Rattle.yamltok.proofs.put.set_mark.Goals as goal
+use Rattle.yamltok.proofs.put.set_counts.Goals as goal
 
 -- three numbers and what follows them
 joined : (index line column rest : List ℕ)
@@ -14,8 +14,8 @@ joined index line column rest =
 
 pub returns-clause-text : goal.returns-clause-text
 returns-clause-text c =
-    let m = c.args.mark.now in
+    let m = c.args in
     c.set_number.ensures.number
-    ∙ ap (λ (z : List ℕ). (32 ∷ decimal m.index) ++ z) (c.set_number-line.ensures.number
-    ∙ ap (λ (z : List ℕ). (58 ∷ decimal m.line) ++ z) c.set_number-column.ensures.number)
+    ∙ ap (λ (z : List ℕ). (32 ∷ decimal m.index) ++ z) (c.set_number-at-2.ensures.number
+    ∙ ap (λ (z : List ℕ). (58 ∷ decimal m.line) ++ z) c.set_number-at.ensures.number)
     ∙ joined (decimal m.index) (decimal m.line) (decimal m.column) _
