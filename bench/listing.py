@@ -13,18 +13,22 @@ from texts import LARGE, dense, realistic
 
 RUNS = 9
 COLUMNS = ["Text", "Bytes", "Bytes of the listing", "`scan any`, ms", "Scanning alone, ms", "Times as long", "Most memory, MB"]
-NOTE = """`yamltok scan any` reads a file and writes its listing to a file, from the start of the program to its end, best of
-nine. `lexlist measure scan` scans the same bytes from memory and lists nothing. The memory is the largest resident size
-of `yamltok`, in millions of bytes, of which the input is about 10."""
+NOTE = """`yamltok scan any` reads a file and writes its listing to a file, from the start of the program to its end.
+`lexlist measure scan` scans the same bytes from memory and lists nothing. The two take turns, nine times, and each time
+is the best of all. The memory is the largest resident size of `yamltok`, in millions of bytes, of which the input is
+about 10."""
 
 
 def row(folder, name, data):
     path, listing = write_file(folder, data), os.path.join(folder, "listing")
     words = [*PINNED, sys.executable, os.path.join(HERE, "child.py"), path, listing, YAMLTOK, "scan", "any"]
-    done = [subprocess.run(words, capture_output=True, check=True).stdout.split() for _ in range(RUNS)]
+    done, scans = [], []
+    for _ in range(RUNS):
+        done.append(subprocess.run(words, capture_output=True, check=True).stdout.split())
+        scans.append(measure_ours(data, "scan").best)
     best = min(int(time) for time, _ in done)
     memory = max(int(kilobytes) for _, kilobytes in done) * 1024
-    scan = measure_ours(data, "scan").best
+    scan = min(scans)
     figures = [milliseconds(best), milliseconds(scan), ratio(best / scan), f"{memory / 1e6:.0f}"]
     return [name, str(len(data)), str(os.path.getsize(listing)), *figures]
 
