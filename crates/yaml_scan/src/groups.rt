@@ -41,8 +41,9 @@ pub(crate) struct queue_t {
     pub groups: VecDeque<group_t>,
     /// How many groups were taken.
     pub done: u64,
-    /// How many block ends come before the last group, at `front`: only the stream end has them.
+    /// How many block ends come before the last group: only the stream end has them.
     pub early: usize,
+    /// The mark of these block ends, if there are any.
     pub front: yaml_mark_t,
 }
 

@@ -43,8 +43,8 @@ fn list_decoded(
     }
 }
 
-/// Appends the line of a token to `out`, and drops the token. It is called with a token of its own, so that the tokens
-/// of other calls stay in registers.
+/// Appends the line of a token to `out`, part by part, and drops the token. The token is moved here, so that a token
+/// whose line is made whole can stay in registers.
 #[inline(never)]
 fn list_moved(token: yaml_token_t, out: &mut Vec<u8>) -> Result<(), AllocError>
     requires { HasWords (data_of token.token_data) }
