@@ -8,6 +8,10 @@ ghost use Rattle.yaml_lexeme.specs.Classes as spec;
 pub(crate) fn is_break(c: char) -> bool
     ensures { result ≡ classes.is_break c }
 {
+    // No break of ASCII is above a carriage return.
+    if c > '\r' && c < '\u{85}' {
+        return false;
+    }
     matches!(c, '\n' | '\r' | '\u{85}' | '\u{2028}' | '\u{2029}')
 }
 

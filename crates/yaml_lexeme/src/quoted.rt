@@ -1,7 +1,9 @@
 //! Quoted scalars.
-ghost use Rattle.std.specs.Prelude.{ℕ, ◌≡◌, ◌≤◌, ◌++◌, false, true, List, Ok, Err, if◌then◌else◌, length};
+ghost use Rattle.std.specs.Prelude.{ℕ, Bool, ◌≡◌, ◌≤◌, ◌++◌, false, true, List, Ok, Err, if◌then◌else◌, length};
 ghost use Rattle.std.specs.Prelude.{OnOk, IfSome, take};
 ghost use Rattle.yaml_text.specs.Chars.{utf8};
+ghost use Rattle.yaml_text.specs.Classes.{is_break};
+ghost use Rattle.yaml_lexeme.specs.Classes.{is_white};
 ghost use Rattle.yaml_lexeme.specs.declared.problem.refusal_t.TheVariants.{OFFENCE};
 ghost use Rattle.yaml_lexeme.specs.declared.problem.problem_t.TheVariants.{DOCUMENT_MARKER};
 ghost use Rattle.yaml_lexeme.specs.Kind as kind;
@@ -9,7 +11,7 @@ ghost use Rattle.yaml_lexeme.specs.Quoted as spec;
 ghost use Rattle.yaml_lexeme.specs.Runs as runs;
 ghost use Rattle.yaml_lexeme.specs.Gives.{Gives, Takes};
 ghost use Rattle.yaml_lexeme.specs.Words.{GoesOn};
-ghost use Rattle.yaml_lexeme.specs.Place.{first};
+ghost use Rattle.yaml_lexeme.specs.Place.{first, peek};
 ghost use Rattle.yaml_lexeme.specs.Reading.{found, over};
 ghost use Rattle.yaml_lexeme.specs.Escape.{backslash};
 
@@ -39,8 +41,36 @@ fn quote(single: bool) -> char
     if single { '\'' } else { '"' }
 }
 
-/// Takes what a backslash begins, and appends its bytes to `out`: an escape, or a break that is dropped. Functions that
-/// are called get a copy of the cursor, here and below, so that the cursor itself stays in registers.
+/// Takes a run of blanks and breaks, and appends its value to `out`. Functions that are called get a copy of the
+/// cursor, here and below, so that the cursor itself stays in registers.
+#[inline(always)]
+fn take_separator(cursor: &mut cursor_t, out: &mut Vec<u8>) -> Result<bool, refusal_t>
+    requires { is_white (first cursor.old) ≡ true }
+    ensures { (single : Bool)
+        → Takes utf8 result out.old.items out.new.items cursor.old cursor.new (spec.body_part single cursor.old) }
+{
+    let mut here = cursor.again();
+    push_separator(&mut here, out)?;
+    *cursor = here;
+    unmarked(&cursor.again())
+}
+
+/// Takes a backslash and the break after it, which is dropped, and appends the value of the run after them to `out`.
+#[inline(always)]
+fn take_dropped_break(cursor: &mut cursor_t, out: &mut Vec<u8>) -> Result<bool, refusal_t>
+    requires backslash { first cursor.old ≡ backslash }
+    requires line_end { is_break (peek cursor.old 1) ≡ true }
+    ensures { Takes utf8 result out.old.items out.new.items cursor.old cursor.new (spec.body_part false cursor.old) }
+{
+    let mut here = cursor.again();
+    here.pass();
+    here.skip(here.break_len());
+    push_breaks(&mut here, out)?;
+    *cursor = here;
+    unmarked(&cursor.again())
+}
+
+/// Takes what a backslash begins, and appends its bytes to `out`: an escape, or a break that is dropped.
 #[tactic(auto, unfolding(crate::specs::Quoted::body_part))]
 #[inline(always)]
 fn take_escaped(cursor: &mut cursor_t, out: &mut Vec<u8>) -> Result<bool, refusal_t>
@@ -49,12 +79,7 @@ fn take_escaped(cursor: &mut cursor_t, out: &mut Vec<u8>) -> Result<bool, refusa
 {
     let next = cursor.peek(1);
     if is_break(next) {
-        let mut here = cursor.again();
-        here.pass();
-        here.skip(here.break_len());
-        push_breaks(&mut here, out)?;
-        *cursor = here;
-        return unmarked(&cursor.again());
+        return take_dropped_break(cursor, out);
     }
     let c = take_escape(cursor, next)?;
     push_char(out, c)?;
@@ -74,10 +99,7 @@ fn take_part(cursor: &mut cursor_t, single: bool, out: &mut Vec<u8>) -> Result<b
         return Err(refusal_t::OFFENCE(problem_t::END_OF_TEXT));
     }
     if is_white(c) {
-        let mut here = cursor.again();
-        push_separator(&mut here, out)?;
-        *cursor = here;
-        return unmarked(&cursor.again());
+        return take_separator(cursor, out);
     }
     if c == quote(single) {
         if !(single && check_at!(cursor, c, 1)) {

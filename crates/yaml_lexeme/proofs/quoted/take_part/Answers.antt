@@ -1,21 +1,12 @@
 use Rattle.std.proofs.Common.{◌≡◌, ℕ, Bool, true, false, not, ◌||◌, ◌==◌, ◌∙◌, refl, arith}
 use Rattle.std.proofs.lemmas.Bool.Decides.{nat_tests}
-use Rattle.yaml_lexeme.proofs.Readers.QuotedBody.{at_space, at_char, takes_unmarked, takes_char}
+use Rattle.yaml_lexeme.proofs.Readers.QuotedBody.{at_char, takes_char}
 use Rattle.yaml_lexeme.specs.Classes.{is_white}
-use Rattle.yaml_lexeme.specs.Fold.{fold}
-use Rattle.yaml_lexeme.specs.Place.{first, skip, behind, run}
+use Rattle.yaml_lexeme.specs.Place.{first, skip}
 use Rattle.yaml_lexeme.specs.Quoted.{quote, body_part}
 use Rattle.yaml_text.specs.Classes.{is_z}
 use Rattle.yaml_lexeme.proofs.quoted.take_part.Goals as goal
 use Rattle.yaml_lexeme.proofs.quoted.take_part.Goals.{else-not-single-via-then-not-single+else-c-eq92, else-not-single-via-else-not-single}
-
-pub returns-then-is_white : goal.returns-then-is_white
-returns-then-is_white c =
-    let p = c.args.cursor.now in
-    let more : is_z (first p) ≡ false = grind (arith, nat_tests) in
-    let space : is_white (first p) ≡ true = cc in
-    let end = rw c.again-here.ensures at c.in_ok-push_separator.ensures.end in
-    rw end (takes_unmarked (body_part c.args.single p) c.unmarked.result (fold (run is_white p)) _ _ p (behind is_white p) (at_space c.args.single p more space) (rw (c.again.ensures ∙ end) at c.unmarked.ensures) (rw c.again-here.ensures at c.in_ok-push_separator.ensures.value))
 
 other_plain : (single : Bool) (c : ℕ) → (c ≡ 0x5C → ⊥) → (single || not (c == 0x5C)) ≡ true
 other_plain single c h = grind (arith, nat_tests)
