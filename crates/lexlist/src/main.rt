@@ -26,8 +26,14 @@
 //! ENC is `any`, `utf8`, `utf16le` or `utf16be`, LIMIT a key limit of 1 to 65536 bytes.
 #![tactic(auto)]
 
+#[cfg(test)]
+mod all_tests;
 mod ask;
+#[cfg(test)]
+mod lexeme_tests;
 mod measure;
+#[cfg(test)]
+mod parser_tests;
 mod session;
 mod show;
 mod words;

@@ -21,8 +21,6 @@ mod quoted;
 mod runs;
 mod stream_end;
 mod tag;
-#[cfg(test)]
-mod tests;
 mod uri;
 
 pub use gap::yaml_gap;

@@ -2,8 +2,6 @@
 #![tactic(auto)]
 
 mod all;
-#[cfg(test)]
-mod all_tests;
 mod allowed;
 mod calls;
 mod depth;
@@ -23,8 +21,6 @@ mod settled;
 mod sink;
 mod source;
 mod step;
-#[cfg(test)]
-mod tests;
 
 pub use all::{yaml_scan_all, yaml_scan_all_limit};
 pub use calls::{yaml_answer_t, yaml_call_t, yaml_run};

@@ -1,6 +1,8 @@
 //! All tokens in one call, and lists of calls.
-use super::*;
 use std::test::Fail;
+use yaml_scan::{
+    yaml_answer_t, yaml_call_t, yaml_parser_t, yaml_run, yaml_scan_all, yaml_scan_all_limit,
+};
 use yaml_text::{yaml_encoding_t, yaml_error_type_t, yaml_token_t, yaml_token_type_t};
 
 const ANY: yaml_encoding_t = yaml_encoding_t::YAML_ANY_ENCODING;

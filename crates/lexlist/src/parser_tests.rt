@@ -1,6 +1,10 @@
-use super::*;
+//! Calls of a parser.
 use std::process::Abort;
 use std::test::Fail;
+use yaml_scan::{
+    yaml_parser_fault, yaml_parser_has_token, yaml_parser_mark, yaml_parser_peek,
+    yaml_parser_queued, yaml_parser_scan, yaml_parser_skip, yaml_parser_t,
+};
 use yaml_text::{
     yaml_encoding_t, yaml_error_type_t, yaml_fault_t, yaml_mark_t, yaml_token_t, yaml_token_type_t,
 };

@@ -1,5 +1,5 @@
 use Rattle.yaml_lexeme.proofs.Places.CursorMoves.{at_front}
-use Rattle.yaml_lexeme.proofs.tests.found_at_once.Goals as goal
+use Rattle.lexlist.proofs.lexeme_tests.found_at_once.Goals as goal
 
 pub yaml_plain_at_once-found-requires-clause-place : goal.yaml_plain_at_once-found-requires-clause-place
 yaml_plain_at_once-found-requires-clause-place c = (0, at_front c.in-Ok.text.chars)

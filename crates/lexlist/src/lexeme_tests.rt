@@ -1,7 +1,11 @@
-use super::*;
+//! Gaps, kinds and lexemes.
 use std::alloc::Global;
 use std::process::Abort;
 use std::test::Fail;
+use yaml_lexeme::{
+    yaml_block_at_once, yaml_character_at, yaml_context_t, yaml_gap, yaml_lexeme_at,
+    yaml_lexeme_kind, yaml_lexeme_kind_t, yaml_lexeme_t, yaml_plain_at_once, yaml_quoted_at_once,
+};
 use yaml_text::{
     unnamed_yaml_token_t_data, yaml_decode, yaml_encoding_t, yaml_fault_t, yaml_is_place,
     yaml_mark_at, yaml_mark_t, yaml_scalar_style_t,
