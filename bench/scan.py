@@ -8,28 +8,31 @@ scan.py FILE.. measures those files instead of its own texts.
 
 import os
 import sys
+import time
 
 from common import Table, measure_libyaml, measure_ours, milliseconds, print_table, ratio
 from texts import scanned
 
-# How often they take turns, and how often libyaml scans at each turn. Ours scans nine times.
+# They take turns so often at least, and for so many seconds.
 TURNS = 5
+SECONDS = 5
+# libyaml scans so often at each turn. Ours scans nine times.
 SCANS = 3
 # There is one turn if libyaml takes as many nanoseconds as this.
 LONG = 1e9
 # A scan by libyaml is stopped after so many seconds.
 LIMIT = 60
 COLUMNS = ["Text", "Bytes", "Tokens", "Ours, ms", "libyaml, ms", "Times as fast"]
-NOTE = f"""All tokens are scanned from memory to the end or the fault, and thrown away. The two take turns, {TURNS} times, so that
-a machine whose speed changes changes it for both; each time is the best of all scans. libyaml has one turn if it takes a
-second, begins no scan after 20 seconds of a turn, and is stopped after {LIMIT} seconds: "over" is written before such a
-time."""
+NOTE = f"""All tokens are scanned from memory to the end or the fault, and thrown away. The two take turns for {SECONDS} seconds, and {TURNS}
+times at least, so that a machine whose speed changes changes it for both; each time is the best of all scans. libyaml has
+one turn if it takes a second, begins no scan after 20 seconds of a turn, and is stopped after {LIMIT} seconds: "over" is
+written before such a time."""
 
 
 def turns(folder, data):
     """The best scan of ours and the best of libyaml's."""
-    ours, theirs = [], []
-    for _ in range(TURNS):
+    ours, theirs, start = [], [], time.monotonic()
+    while len(ours) < TURNS or time.monotonic() < start + SECONDS:
         ours.append(measure_ours(data, "scan"))
         theirs.append(measure_libyaml(folder, data, str(SCANS), str(LIMIT)))
         if theirs[-1].best > LONG:
