@@ -39,9 +39,6 @@ use yaml_text::{
     yaml_text_t, yaml_token_t,
 };
 
-#[cfg(test)]
-mod tests;
-
 /// A parser of an input. Its tokens are taken one after the other.
 #[derive(Drop)]
 pub struct yaml_parser_t<'a> {
