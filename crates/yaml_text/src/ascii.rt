@@ -22,12 +22,24 @@ fn others(v: u8x16) -> u64
             & (v.simd_ne(u8x16::splat(b'\t')) & v.simd_ne(u8x16::splat(b'\r'))))).to_bitmask()
 }
 
+/// Which bytes are neither printable nor line feeds. If there are none, all are characters by themselves.
+#[inline(always)]
+fn rare(v: u8x64) -> u64
+    ensures { result ≡ 0 → mask_l (map is_other v) ≡ 0 }
+{
+    ((v.simd_lt(u8x64::splat(0x20)) | v.simd_ge(u8x64::splat(0x7F)))
+        & v.simd_ne(u8x64::splat(b'\n'))).to_bitmask()
+}
+
 /// Whether the first 64 bytes are characters by themselves.
 #[inline(always)]
 fn are_single(bytes: &[u8]) -> bool
     requires { 64 ≤ length bytes.now }
     ensures { result ≡ true → prefix_len is_single bytes.now ≡ 64 + prefix_len is_single (drop 64 bytes.now) }
 {
+    if rare(u8x64::from_slice(bytes)) == 0 {
+        return true;
+    }
     if others(u8x16::from_slice(bytes)) != 0 {
         return false;
     }

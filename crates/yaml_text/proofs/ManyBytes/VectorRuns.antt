@@ -3,7 +3,7 @@ use Rattle.std.proofs.Common.{◌≡◌, ℕ, ◌+◌, ◌*◌, ◌<◌, ◌≤�
 use Rattle.std.proofs.lemmas.Simd.{chunk-drop, length-chunk, leading_from_mask_l, trailing_mask_l}
 use Rattle.std.proofs.lemmas.List.Folds.{prefix_len-append}
 use Rattle.std.proofs.lemmas.List.Sums.{prefix_len-le-length}
-use Rattle.std.proofs.lemmas.Bool.{eq-eqb, ne_eqb}
+use Rattle.std.proofs.lemmas.Bool.{eq-eqb, ne_eqb, true≢false}
 use Rattle.std.specs.List.{prefix_len}
 use lib.Lanes.{chunk, mask_l}
 use lib.Count.{count_trailing_zeros}
@@ -11,6 +11,17 @@ use lib.Count.{count_trailing_zeros}
 none_fails : (b : Bool) (n l m : ℕ) → n ≤ l → cond (not b) (1 + n) 0 ≡ 1 + l → (n ≡ l → m ≡ 0) → cond b 1 0 + 2 * m ≡ 0
 none_fails true n l m le e ih = let no : ⊥ = omega arith in absurd no
 none_fails false n l m le e ih = let z = ih (omega arith) in omega arith
+
+fewer_here : (a b : Bool) (m n : ℕ) → (a ≡ true → b ≡ true) → (n ≡ 0 → m ≡ 0) → cond b 1 0 + 2 * n ≡ 0 → cond a 1 0 + 2 * m ≡ 0
+fewer_here false false m n more rest e = let z = rest (omega (arith, e)) in omega (arith, z)
+fewer_here false true m n more rest e = let no : ⊥ = omega (arith, e) in absurd no
+fewer_here true false m n more rest e = absurd (true≢false (sym (more refl)))
+fewer_here true true m n more rest e = let no : ⊥ = omega (arith, e) in absurd no
+
+-- if no byte passes a test, none passes one that asks for more
+pub fewer : (p r : ℕ → Bool) → ((x : ℕ) → p x ≡ true → r x ≡ true) → (xs : List ℕ) → mask_l (map r xs) ≡ 0 → mask_l (map p xs) ≡ 0
+fewer p r more [] e = refl
+fewer p r more (x ∷ xs) e = fewer_here (p x) (r x) _ _ (more x) (fewer p r more xs) e
 
 module _ (p q : ℕ → Bool) (opposite : (x : ℕ) → q x ≡ not (p x)) where
   same_run : (xs : List ℕ) → prefix_len q xs ≡ prefix_len (λ x. not (p x)) xs

@@ -3,6 +3,10 @@ use Rattle.yaml_text.specs.Utf8.{is_single, is_other}
 use Rattle.yaml_text.proofs.ManyBytes.VectorRuns.{run_through, twice}
 use Rattle.yaml_text.proofs.ascii.are_single.Goals as goal
 
+pub returns-then-rare-eq0 : goal.returns-then-rare-eq0
+returns-then-rare-eq0 c = λ _.
+    run_through is_other is_single (λ x. twice (is_single x)) c.args.bytes.now 0 64 (omega arith) (c.rare.ensures c.if-rare-eq0.true)
+
 pub returns : goal.returns
 returns c = λ none.
     let d = c.args.bytes.now in
