@@ -3,8 +3,9 @@ use std::alloc::Global;
 use std::process::Abort;
 use std::test::Fail;
 use yaml_lexeme::{
-    yaml_block_at_once, yaml_character_at, yaml_context_t, yaml_gap, yaml_lexeme_at,
-    yaml_lexeme_kind, yaml_lexeme_kind_t, yaml_lexeme_t, yaml_plain_at_once, yaml_quoted_at_once,
+    yaml_block_at_once, yaml_character_at, yaml_colon_at_once, yaml_context_t, yaml_gap,
+    yaml_lexeme_at, yaml_lexeme_kind, yaml_lexeme_kind_t, yaml_lexeme_t, yaml_plain_at_once,
+    yaml_quoted_at_once,
 };
 use yaml_text::{
     unnamed_yaml_token_t_data, yaml_decode, yaml_encoding_t, yaml_fault_t, yaml_is_place,
@@ -853,5 +854,29 @@ fn characters_at_once(rt: HostRuntime) -> Result<(), Fail> {
         3
     );
     assert_eq!(rt; characters_end(alloc, b"a", yaml_lexeme_kind_t::PLAIN)?, 0);
+    Ok(())
+}
+
+/// The column after the `:` that is found at once at the front, or 0 if none is.
+fn colon_end(alloc: Global, bytes: &[u8]) -> Result<u64, Fail> {
+    let Ok(text) = yaml_decode(alloc, bytes, ANY) else {
+        return Err("refused".into());
+    };
+    match yaml_colon_at_once(&text, FRONT) {
+        Some(end) => Ok(end.column),
+        None => Ok(0),
+    }
+}
+
+/// A `:` that a space or a line feed follows is found at once; one after a gap, or before anything else, is not.
+#[test]
+fn colons_at_once(rt: HostRuntime) -> Result<(), Fail> {
+    let alloc = rt.alloc();
+    assert_eq!(rt; colon_end(alloc, b": a")?, 1);
+    assert_eq!(rt; colon_end(alloc, b":\na")?, 1);
+    assert_eq!(rt; colon_end(alloc, b":a b")?, 0);
+    assert_eq!(rt; colon_end(alloc, b":")?, 0);
+    assert_eq!(rt; colon_end(alloc, b" : a")?, 0);
+    assert_eq!(rt; colon_end(alloc, b"- a")?, 0);
     Ok(())
 }

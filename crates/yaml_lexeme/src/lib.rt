@@ -3,6 +3,7 @@
 
 mod block;
 mod classes;
+mod colon;
 mod directive;
 mod escape;
 mod fault;
@@ -23,6 +24,7 @@ mod stream_end;
 mod tag;
 mod uri;
 
+pub use colon::yaml_colon_at_once;
 pub use gap::yaml_gap;
 pub use kind::{yaml_lexeme_kind, yaml_lexeme_kind_t};
 pub use lex::{

@@ -17,3 +17,7 @@ pub mod QuickLook
 pub mod ScannerOneOn
 -- The tests of a step after its lexeme, and that the lexeme is laid as the definition says.
 pub mod StepLaid
+-- A key and the `:` after it are laid at once as they are laid one after the other.
+pub mod PairLaid
+-- A lexeme that was read is laid if levels, queue and slots change as its definition says.
+pub mod StepPut

@@ -40,7 +40,7 @@ pub(crate) struct slots_t {
 
 /// Whether a candidate is live at a mark: on its line, and at most `limit` bytes from its start.
 #[inline(always)]
-fn is_still_live(limit: u64, mark: yaml_mark_t, held: held_t) -> bool
+pub(crate) fn is_still_live(limit: u64, mark: yaml_mark_t, held: held_t) -> bool
     ensures { result ≡ is_live limit mark held }
 {
     mark.line == held.start.line && mark.index.saturating_sub(held.start.index) <= limit

@@ -29,7 +29,7 @@ fn is_early(kind: yaml_lexeme_kind_t, front: yaml_mark_t, column: u64) -> bool
 
 /// The greatest level, if a lexeme closes it.
 #[inline(always)]
-fn closing(
+pub(crate) fn closing(
     levels: &[u64],
     in_flow: bool,
     kind: yaml_lexeme_kind_t,
@@ -130,7 +130,7 @@ pub(crate) fn is_level(margin: bool, level: Option<u64>, column: u64) -> bool
 
 /// Whether a column opens a level.
 #[inline(always)]
-fn is_new_level(levels: &[u64], margin: bool, column: u64) -> bool
+pub(crate) fn is_new_level(levels: &[u64], margin: bool, column: u64) -> bool
     requires { IsFalling (reverse levels.now) }
     ensures { result ≡ is_new margin column (reverse levels.now) }
 {
@@ -152,7 +152,7 @@ fn opens_at(levels: &[u64], margin: bool, kind: yaml_lexeme_kind_t, column: u64)
 
 /// Opens a level, or none. There is room for it.
 #[inline(always)]
-fn open_level(levels: &mut Vec<u64>, opens: bool, column: u64)
+pub(crate) fn open_level(levels: &mut Vec<u64>, opens: bool, column: u64)
     requires { vec_len levels.old < vec_capacity levels.old }
     ensures { reverse levels.new.items ≡ (if opens then column ∷ [] else []) ++ reverse levels.old.items }
 {

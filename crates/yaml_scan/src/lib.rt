@@ -16,6 +16,7 @@ mod parser;
 mod quick;
 mod quick_flow;
 mod quick_margin;
+mod quick_pair;
 mod session;
 mod settled;
 mod sink;

@@ -6,7 +6,7 @@ ghost use Rattle.yaml_scan.specs.Step.{problem_of};
 ghost use Rattle.yaml_scan.specs.inside.StepFaults.{IsRefused};
 ghost use Rattle.yaml_scan.specs.Order.{ended};
 ghost use Rattle.yaml_scan.specs.inside.Scanning.{CanRead, CanStep, Comes, HasRoom, IsMet, IsQuick, IsReadAt};
-ghost use Rattle.yaml_scan.specs.inside.Scanning.{Runs, Steps};
+ghost use Rattle.yaml_scan.specs.inside.Scanning.{Runs, StepsOn};
 ghost use Rattle.yaml_scan.specs.inside.Scanning.{history};
 
 use crate::allowed::is_key_allowed;
@@ -187,13 +187,13 @@ fn quick_lay(scanner: &mut scanner_t) -> bool
     }
 }
 
-/// Makes the step of an input that was not refused, if nothing is in its way, and returns whether it was made. If not,
-/// nothing has changed.
+/// Makes the step of an input that was not refused, or two that the next token needs, if nothing is in the way, and
+/// returns whether any was made. If not, nothing has changed.
 #[inline(always)]
 pub(crate) fn quick_step(scanner: &mut scanner_t) -> bool
     requires runs { Runs scanner.old }
     requires running { ended (history scanner.old) ≡ false }
-    ensures made { result ≡ true → Steps scanner.old scanner.new }
+    ensures made { result ≡ true → StepsOn scanner.old scanner.new }
     ensures none { result ≡ false → scanner.new ≡ scanner.old }
 {
     if scanner.refusal.is_some() || !has_room(scanner) {

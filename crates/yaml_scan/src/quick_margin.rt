@@ -8,12 +8,14 @@ ghost use Rattle.yaml_scan.specs.Laid.{Laid};
 ghost use Rattle.yaml_scan.specs.inside.Scanning.{CanStep, Comes, IsQuick};
 
 use crate::quick::{quick_lexeme, quick_look, quick_put};
+use crate::quick_pair::{colon_after, put_pair};
 use crate::source::{gap_end, kind_at, read_line};
 use crate::step::scanner_t;
 use yaml_lexeme::yaml_lexeme_kind_t;
 use yaml_text::yaml_mark_t;
 
-/// Makes the step of a plain scalar, if nothing is in its way.
+/// Makes the step of a plain scalar, if nothing is in its way, and with it that of the `:` after it, if the next token
+/// needs both.
 #[inline(never)]
 fn quick_plain(scanner: &mut scanner_t, front: yaml_mark_t) -> bool
     ghost before: { List Laid }
@@ -23,8 +25,16 @@ fn quick_plain(scanner: &mut scanner_t, front: yaml_mark_t) -> bool
     let Some(ready) = quick_look(scanner, true, yaml_lexeme_kind_t::PLAIN, front) else {
         return false;
     };
-    let read = read_line(scanner.alloc, &scanner.text, ready.met.front, ready.context);
-    quick_put(scanner, true, ready, read)
+    let Some(x) = read_line(scanner.alloc, &scanner.text, ready.met.front, ready.context) else {
+        return false;
+    };
+    match colon_after(scanner, ready, x.reach) {
+        Some(end) => {
+            put_pair(scanner, ready, x, end);
+            true
+        }
+        None => quick_put(scanner, true, ready, Some(x)),
+    }
 }
 
 /// Makes the step of a `:`, if nothing is in its way.

@@ -8,8 +8,8 @@ ghost use Rattle.yaml_scan.specs.inside.Queue.{begins_with_end, pending};
 ghost use Rattle.yaml_scan.specs.Settled.{before};
 ghost use Rattle.yaml_scan.specs.Order.{ended};
 ghost use Rattle.yaml_scan.specs.inside.Stop.{fault_at};
-ghost use Rattle.yaml_scan.specs.inside.Scanning.{Runs, Advances, Offends, Steps, IsLast, Stays, IsOpen, Settles};
-ghost use Rattle.yaml_scan.specs.inside.Scanning.{Fails};
+ghost use Rattle.yaml_scan.specs.inside.Scanning.{Runs, Advances, Offends, Steps, StepsOn, IsLast, Stays, IsOpen};
+ghost use Rattle.yaml_scan.specs.inside.Scanning.{Fails, Settles};
 ghost use Rattle.yaml_scan.specs.inside.Scanning.{Stops, history};
 
 use crate::fault::{fault_at, stop_t};
@@ -81,12 +81,13 @@ fn advance_slowly(scanner: &mut scanner_t, kept: &mut yaml_fault_t) -> Result<()
     }
 }
 
-/// Makes a step, at once if it is a common one, unless the reader's fault is near.
+/// Makes a step, at once if it is a common one, unless the reader's fault is near. Two may be made at once, if the next
+/// token needs both.
 #[inline(always)]
 fn advance(scanner: &mut scanner_t, kept: &mut yaml_fault_t) -> Result<(), stop_t>
     requires runs { Runs scanner.old }
     requires running { ended (history scanner.old) ≡ false }
-    ensures { MatchResult result (λ _. Steps scanner.old scanner.new) (λ s.
+    ensures { MatchResult result (λ _. StepsOn scanner.old scanner.new) (λ s.
         ((fault_at s kept.new ≡ memory_fault) ⊎ IsLast scanner.old (fault_at s kept.new))
         × Stays scanner.old scanner.new) }
 {

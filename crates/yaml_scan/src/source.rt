@@ -6,14 +6,15 @@ ghost use Rattle.yaml_lexeme.specs.Lexeme.{lexeme_of};
 ghost use Rattle.yaml_lexeme.specs.declared.kind.yaml_lexeme_kind_t.TheVariants.{PLAIN};
 ghost use Rattle.yaml_lexeme.specs.Place.{IsMarkOf};
 ghost use Rattle.yaml_scan.specs.SourceOf.{source_of};
-ghost use Rattle.yaml_scan.specs.inside.TextReads.{IsRead, IsOffence};
+ghost use Rattle.yaml_scan.specs.inside.TextReads.{IsColon, IsRead, IsOffence};
 
 use crate::fault::stop_t;
 use crate::step::met_t;
 use std::alloc::Global;
 use yaml_lexeme::{
-    yaml_block_at_once, yaml_character_at, yaml_context_t, yaml_gap, yaml_lexeme_at,
-    yaml_lexeme_kind, yaml_lexeme_kind_t, yaml_lexeme_t, yaml_plain_at_once, yaml_quoted_at_once,
+    yaml_block_at_once, yaml_character_at, yaml_colon_at_once, yaml_context_t, yaml_gap,
+    yaml_lexeme_at, yaml_lexeme_kind, yaml_lexeme_kind_t, yaml_lexeme_t, yaml_plain_at_once,
+    yaml_quoted_at_once,
 };
 use yaml_text::{yaml_fault_t, yaml_mark_t, yaml_text_t};
 
@@ -166,6 +167,15 @@ pub(crate) fn read_line(
         → IsRead text.now.chars PLAIN context.depth context.level p (lexeme_of l)) }
 {
     yaml_plain_at_once(alloc, text, at, context)
+}
+
+/// The mark after the `:` at a mark, if a quick look shows that it is a lexeme there and no gap comes before it.
+#[inline(always)]
+pub(crate) fn colon_at(text: &yaml_text_t, at: yaml_mark_t) -> Option<yaml_mark_t>
+    requires { (p : ℕ) × IsMarkOf text.now.chars at p }
+    ensures { IfSome result (λ end. (p : ℕ) → IsMarkOf text.now.chars at p → IsColon text.now.chars p at end) }
+{
+    yaml_colon_at_once(text, at)
 }
 
 /// The quoted scalar that was met, if it has no offence and there is memory for it.

@@ -230,7 +230,7 @@ fn keep_candidates(
 
 /// The token of a lexeme that starts at a mark.
 #[inline(always)]
-fn token_of(start: yaml_mark_t, x: yaml_lexeme_t) -> yaml_token_t
+pub(crate) fn token_of(start: yaml_mark_t, x: yaml_lexeme_t) -> yaml_token_t
     ensures { token_of result ≡ record {
       token_data = data_of x.token_data;
       start_mark = start;

@@ -18,7 +18,8 @@ use Rattle.yaml_scan.specs.Cut.{Cut, cut_from, oldest, IsRun, EndsWith}
 use Rattle.yaml_scan.specs.Answers.{Course, course, course_from, next}
 use Rattle.yaml_scan.specs.Near.{unless_near, is_near, place_of, starts_near}
 use Rattle.yaml_scan.specs.inside.NearFault.{near_fault, or_fault, if_scanner, instead}
-use Rattle.yaml_scan.specs.inside.Scanning.{Holds, Advances, Offends, Runs, Steps, IsLast, Same, IsNearFrom, history}
+use Rattle.yaml_scan.specs.Settled.{before}
+use Rattle.yaml_scan.specs.inside.Scanning.{Holds, Advances, AdvancesTwice, Offends, Runs, Steps, IsLast, Same, IsNearFrom, counted, history}
 use Rattle.yaml_scan.specs.inside.Scanning.{course_of, input_of}
 use Rattle.yaml_scan.proofs.Course.LongestCut.{IsHistory-from_run, run_short}
 use Rattle.yaml_scan.proofs.Course.CourseSteps.{next_orderly, steps_are}
@@ -159,7 +160,7 @@ module _ (s : scanner_t) (r : Runs s) where
         u_made : u.made ≡ s.made + 1
         u_made = let m = a.made in omega arith
 
-        u_history : history u ≡ laid s.limit (history s) a.lexeme ∷ history s
+        pub u_history : history u ≡ laid s.limit (history s) a.lexeme ∷ history s
         unfolding history
         u_history = let m : u.made - 1 ≡ s.made = (let k = u_made in omega arith) in rw (course_same s u u_same, m) (next_is a.lexeme reads)
 
@@ -215,6 +216,30 @@ module _ (s : scanner_t) (r : Runs s) where
         go : (x : Option Fault) → near_fault s.near o.offence.fault.problem_mark.index (refusal_seen s.refusal) ≡ x → IsLast s g
         go None q = rw (e ∙ ap (or_fault f) (scanner_kind ∙ q) ∙ sym o.fault) (last_is o.offence (step_near ∙ near_none s.text.chars s.near r.near (Faults o.offence) place_in o.offence.fault.problem_mark.index o.problem.index (refusal_seen s.refusal) q))
         go (Some h) q = rw (e ∙ ap (or_fault f) (scanner_kind ∙ q)) (last_is _ (step_near ∙ near_some s.text.chars s.near r.near (Faults o.offence) place_in o.offence.fault.problem_mark.index o.problem.index (refusal_seen s.refusal) h q))
+
+-- two steps at once, neither of which is near
+module _ (s : scanner_t) (r : Runs s) (e : ended (history s) ≡ false) (none : s.refusal ≡ None) (t : scanner_t) (a : AdvancesTwice (history s) s t) where
+  abbrev between : scanner_t
+  between = counted a.between
+
+  once : Steps s between
+  once = stepped s r e a.between a.first between refl refl refl refl refl refl refl refl refl refl between.reach.index refl (rw none refl)
+
+  history_then : history between ≡ laid s.limit (history s) a.first.lexeme ∷ history s
+  history_then = u_history s r e a.between a.first between refl refl refl refl refl refl refl refl refl refl between.reach.index refl (rw none refl)
+
+  then_advances : Advances (history between) between t
+  then_advances = subst (λ (H : List Laid). Advances H between t) (sym history_then) a.second
+
+  then_none : between.refusal ≡ None
+  then_none = let q = once.same in q.refusal ∙ none
+
+  pub stepped_twice : (u : scanner_t) → u ≡ counted t → Steps s between × (length (before between.limit (history between)) ≤ between.taken) × Steps between u
+  stepped_twice u q = let f = once.same in (
+    once,
+    rw (history_then, f.limit, f.taken) a.needed,
+    rw q (stepped between once.runs (rw history_then a.running) t then_advances (counted t) refl refl refl refl refl refl refl refl refl refl t.reach.index refl (rw then_none refl)),
+  )
 
 pub memory_stays : (near : ℕ) (r : Option Fault) (f : Fault) → f ≡ memory_fault → instead near r f ≡ memory_fault
 memory_stays near r f e = rw e refl

@@ -11,7 +11,7 @@ use Rattle.yaml_scan.specs.Step.{Outcome}
 use Rattle.yaml_scan.specs.Cut.{oldest, IsRun}
 use Rattle.yaml_scan.specs.Answers.{Course, next}
 use Rattle.yaml_scan.specs.Settled.{steps_for, pace}
-use Rattle.yaml_scan.specs.inside.Scanning.{Runs, Steps, IsLast, Stays, Same, IsOpen, Fails, Stops, history, course_of}
+use Rattle.yaml_scan.specs.inside.Scanning.{Runs, Steps, StepsOn, IsLast, Stays, Same, IsOpen, Fails, Stops, history, course_of}
 use Rattle.yaml_scan.specs.inside.Scanning.{input_of}
 use Rattle.yaml_scan.proofs.TokenList.OneLexemeMore.{all_is_handed_out}
 use Rattle.yaml_scan.proofs.Course.NextStep.{oldest_all, oldest_tail}
@@ -98,3 +98,41 @@ module _ (s t : scanner_t) (r : Runs t) (S : Same s t) where
 pub least_pace : (s : scanner_t) → s.made ≤ pace s.limit (course_of s).read s.taken s.made
 unfolding pace
 least_pace s = omega arith
+
+-- t is s after steps that its next token needs
+pub record Goes (s t : scanner_t) : Type 0 where
+  pub runs : Runs t
+  pub same : Same s t
+  pub least : s.made ≤ t.made
+  pub most : t.made ≤ pace s.limit (course_of s).read s.taken s.made
+
+-- after one step, or two that were needed
+pub goes_on : (s t u : scanner_t) → Runs t → Same s t → s.made ≤ t.made → length (before t.limit (history t)) ≤ t.taken → StepsOn t u → Goes s u
+goes_on s t u r S l n (inl k) = record {
+  runs = k.runs;
+  same = same_trans s t u S k.same;
+  least = (let b = k.made in omega arith);
+  most = one_more s t r S u k n;
+}
+goes_on s t u r S l n (inr k) =
+    let v : scanner_t = k.0 in
+    let a = k.1 in
+    let b = k.3 in
+    record {
+      runs = b.runs;
+      same = same_trans s v u (same_trans s t v S a.same) b.same;
+      least = (let c = a.made in let d = b.made in omega arith);
+      most = one_more s v a.runs (same_trans s t v S a.same) u b k.2;
+    }
+
+pub fewer_left : (t u : scanner_t) → Runs t → StepsOn t u → length (course_of u).read + 2 - u.made < length (course_of t).read + 2 - t.made
+fewer_left t u r (inl k) = let m = k.made in let e = ap (λ (x : Course). length x.read) (course_same t u k.same) in let w = r.within in omega arith
+fewer_left t u r (inr k) =
+    let v : scanner_t = k.0 in
+    let a = k.1 in
+    let b = k.3 in
+    let m = a.made in
+    let n = b.made in
+    let e = ap (λ (x : Course). length x.read) (course_same t v a.same) in
+    let f = ap (λ (x : Course). length x.read) (course_same v u b.same) in
+    let w = r.within in omega arith

@@ -1,6 +1,6 @@
 -- What a running scanner holds after the lexemes H.
 use Rattle.std.specs.Prelude.{◌≡◌, ℕ, ◌+◌, ◌-◌, ◌≤◌, ◌<◌, ◌^◌, true, false, List, [], ◌∷◌, ◌++◌, reverse, drop, length}
-use Rattle.std.specs.Prelude.{Bool, Option, None, Some, nat_lt, not, filter, vec_len}
+use Rattle.std.specs.Prelude.{◌⊎◌, Bool, Option, None, Some, nat_lt, not, filter, vec_len}
 use Rattle.std.specs.Bool.{◌==◌}
 use Rattle.std.specs.Option.{IfSome}
 use Rattle.std.specs.Vec.{vec_capacity}
@@ -11,6 +11,7 @@ use Rattle.yaml_text.specs.Fault.{Fault}
 use Rattle.yaml_text.specs.Chars.{AreChars}
 use Rattle.yaml_text.specs.Decode.{refusal_seen}
 use Rattle.yaml_lexeme.specs.Place.{IsMarkOf}
+use Rattle.yaml_lexeme.specs.declared.kind.yaml_lexeme_kind_t.TheVariants.{PLAIN, VALUE}
 use Rattle.yaml_scan.specs.declared.step.scanner_t.{scanner_t}
 use Rattle.yaml_scan.specs.declared.step.met_t.{met_t}
 use Rattle.yaml_scan.specs.declared.quick.ready_t.{ready_t}
@@ -21,7 +22,7 @@ use Rattle.yaml_scan.specs.Kind.{Kind}
 use Rattle.yaml_scan.specs.Lexeme.{Lexeme}
 use Rattle.yaml_scan.specs.Source.{Source, Offence}
 use Rattle.yaml_scan.specs.SourceOf.{source_of}
-use Rattle.yaml_scan.specs.inside.TextReads.{IsProblem, IsRead}
+use Rattle.yaml_scan.specs.inside.TextReads.{IsColon, IsProblem, IsRead}
 use Rattle.yaml_scan.specs.Laid.{Laid, reach}
 use Rattle.yaml_scan.specs.Depth.{depth}
 use Rattle.yaml_scan.specs.Allowed.{allowed, allowed_after}
@@ -30,8 +31,8 @@ use Rattle.yaml_scan.specs.Order.{IsHistory, ended}
 use Rattle.yaml_scan.specs.Groups.{offline}
 use Rattle.yaml_scan.specs.Settled.{before, pace}
 use Rattle.yaml_scan.specs.inside.Slots.{Held, held, outer_to, empty_slots, lowest, step_of}
-use Rattle.yaml_scan.specs.inside.Slots.{is_margin_level, lost_held, root_of, slot_after}
-use Rattle.yaml_scan.specs.inside.Queue.{IsQueue}
+use Rattle.yaml_scan.specs.inside.Slots.{is_live, is_margin_level, lost_held, root_of, slot_after}
+use Rattle.yaml_scan.specs.inside.Queue.{IsQueue, closing}
 use Rattle.yaml_scan.specs.Step.{step, read_step, stale, place_after, front_of, start_at}
 use Rattle.yaml_scan.specs.Step.Outcome.{Reads, Faults}
 use Rattle.yaml_scan.specs.Cut.{oldest}
@@ -93,12 +94,12 @@ pub record HasRoom (s : scanner_t) : Type 0 where
   pub levels : vec_len s.layout.levels < vec_capacity s.layout.levels
   pub groups : length s.layout.queue.groups.items < deque_capacity s.layout.queue.groups
 
--- a step can be made, and there is room for it
+-- a step can be made, or two, and there is room for one
 pub record CanStep (H : List Laid) (s : scanner_t) : Type 0 where
   pub holds : Holds H (s.made + 1) s
   pub running : ended H ≡ false
   pub small : length s.text.chars < 2 ^ 63
-  pub few_steps : s.made + 1 < 2 ^ 64
+  pub few_steps : s.made + 2 < 2 ^ 64
   pub room : HasRoom s
 
 -- a lexeme of kind k comes next, which starts at g after the gap, at depth 0 (margin) or not
@@ -164,9 +165,52 @@ pub record Advances (H : List Laid) (s t : scanner_t) : Type 0 where
   pub same : Same s t
   pub made : t.made ≡ s.made
 
--- what a quick look does: the flag says whether it made the step, and if not, nothing has changed
+-- What was met was read to `at` and is a key: the `:` there completes it, and ends at `end`. No level ends at them, the
+-- key is the head of the queue, and there is room for both.
+pub record IsKeyBefore (s : scanner_t) (r : ready_t) (at end : yaml_mark_t) : Type 0 where
+  pub allowed : r.met.allowed ≡ true
+  pub alone : s.layout.queue.groups.items ≡ []
+  pub room : 1 < deque_capacity s.layout.queue.groups
+  pub live : is_live s.limit at r.new ≡ true
+  pub kept : closing false r.met.kind r.new.start (reverse s.layout.levels.items) ≡ None
+  pub kept_after : closing false VALUE at (reverse s.layout.levels.items) ≡ None
+  pub colon : (p : ℕ) → IsMarkOf s.text.chars at p → IsColon s.text.chars p at end
+
+-- a plain key that was read, and the `:` after it, can be laid
+pub record CanPair (H : List Laid) (s : scanner_t) (r : ready_t) (x : yaml_lexeme_t) (end : yaml_mark_t) : Type 0 where
+  pub can : CanRead H s true r
+  pub kind : r.met.kind ≡ PLAIN
+  pub read : (p : ℕ) → IsMarkOf s.text.chars r.met.front p
+      → IsRead s.text.chars r.met.kind r.context.depth r.context.level p x
+  pub key : IsKeyBefore s r x.reach end
+
+-- a scanner that has made a step more
+abbrev pub counted : scanner_t → scanner_t
+counted s = record {
+  alloc = s.alloc;
+  text = s.text;
+  refusal = s.refusal;
+  near = s.near;
+  limit = s.limit;
+  slots = s.slots;
+  allowed = s.allowed;
+  layout = s.layout;
+  reach = s.reach;
+  taken = s.taken;
+  made = s.made + 1;
+}
+
+-- the next two lexemes, both of which the next token needs
+pub record AdvancesTwice (H : List Laid) (s t : scanner_t) : Type 0 where
+  pub between : scanner_t
+  pub first : Advances H s between
+  pub running : ended (laid s.limit H first.lexeme ∷ H) ≡ false
+  pub needed : length (before s.limit (laid s.limit H first.lexeme ∷ H)) ≤ s.taken
+  pub second : Advances (laid s.limit H first.lexeme ∷ H) (counted between) t
+
+-- what a quick look does: the flag says whether it made a step, or two, and if not, nothing has changed
 abbrev pub IsQuick : List Laid → scanner_t → scanner_t → Bool → Type 0
-IsQuick H s t made = (made ≡ true → Advances H s t) × (made ≡ false → t ≡ s)
+IsQuick H s t made = (made ≡ true → Advances H s t ⊎ AdvancesTwice H s t) × (made ≡ false → t ≡ s)
 
 -- the offence of a step
 pub record Offends (H : List Laid) (s : scanner_t) (f : Fault) : Type 0 where
@@ -197,6 +241,10 @@ pub record Steps (s t : scanner_t) : Type 0 where
   pub runs : Runs t
   pub made : t.made ≡ s.made + 1
   pub same : Same s t
+
+-- one step more, or two if the next token needs both
+abbrev pub StepsOn : scanner_t → scanner_t → Type 0
+StepsOn s t = Steps s t ⊎ ((u : scanner_t) × Steps s u × (length (before u.limit (history u)) ≤ u.taken) × Steps u t)
 
 -- the step after the last one is faulty
 pub record IsLast (s : scanner_t) (f : Fault) : Type 0 where

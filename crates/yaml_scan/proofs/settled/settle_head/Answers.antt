@@ -1,10 +1,8 @@
-use Rattle.std.proofs.Common.{◌<◌, ◌∙◌, sym, ap, refl, length, arith, inl, inr, ltb-true, ltb-false}
+use Rattle.std.proofs.Common.{◌<◌, ◌∙◌, sym, refl, length, arith, inl, inr, ltb-true, ltb-false}
 use Rattle.std.proofs.lemmas.Result.{err_from_is_err_and}
 use Rattle.yaml_scan.specs.Settled.{before}
-use Rattle.yaml_scan.specs.Answers.{Course}
 use Rattle.yaml_scan.specs.inside.Scanning.{history}
-use Rattle.yaml_scan.proofs.RunningCalls.NextOfInput.{same_trans, course_same}
-use Rattle.yaml_scan.proofs.RunningCalls.StepsMade.{still_running, open_too, fails, made_is, one_more, stops, least_pace}
+use Rattle.yaml_scan.proofs.RunningCalls.StepsMade.{still_running, open_too, fails, made_is, stops, least_pace, goes_on, fewer_left}
 use Rattle.yaml_scan.proofs.settled.settle_head.Goals as goal
 
 pub advance-requires-clause-running : goal.advance-requires-clause-running
@@ -13,12 +11,7 @@ advance-requires-clause-running c = let v = c.steps.invariant in
     (ltb-false _ _ (sym c.is_settled.ensures ∙ c.steps-test.true))
 
 pub steps-preserved : goal.steps-preserved
-steps-preserved c = let v = c.steps.invariant in let k = c.in_ok-advance.ensures in record {
-  runs = k.runs;
-  same = same_trans c.args.scanner.now c.steps.scanner _ v.same k.same;
-  least = (let a = v.least in let b = k.made in omega arith);
-  most = one_more c.args.scanner.now c.steps.scanner v.runs v.same _ k (ltb-false _ _ (sym c.is_settled.ensures ∙ c.steps-test.true));
-}
+steps-preserved c = let v = c.steps.invariant in goes_on c.args.scanner.now c.steps.scanner _ v.runs v.same v.least (ltb-false _ _ (sym c.is_settled.ensures ∙ c.steps-test.true)) c.in_ok-advance.ensures
 
 pub returns : goal.returns
 returns c = let v = c.steps.invariant in
@@ -33,7 +26,7 @@ pub steps-init : goal.steps-init
 steps-init c = record { runs = c.requires.runs; same = record { text = refl; refusal = refl; near = refl; limit = refl; taken = refl; done = refl }; least = omega arith; most = least_pace c.args.scanner.now }
 
 pub steps-smaller : goal.steps-smaller
-steps-smaller c = let k = c.in_ok-advance.ensures in let m = k.made in let e = ap (λ (x : Course). length x.read) (course_same c.steps.scanner c.advance.new.scanner k.same) in let w = c.steps.invariant.runs.within in omega arith
+steps-smaller c = fewer_left c.steps.scanner c.advance.new.scanner c.steps.invariant.runs c.in_ok-advance.ensures
 
 pub returns-in_err-advance : goal.returns-in_err-advance
 returns-in_err-advance c = let v = c.steps.invariant in let p = err_from_is_err_and c.from_residual.result c.from_residual.ensures.1 in let l = ltb-false _ _ (sym c.is_settled.ensures ∙ c.steps-test.true) in rw (p.1, p.2)
