@@ -14,7 +14,8 @@ One line of output for each check; what is wrong is printed before it. The check
   it has a line `mod NAME` for each file there, with a sentence on the line before it or after it on the same line. A crate
   with more than ten such files has them in folders.
 - edits: every must-fail edit has a line in edits.txt, and every line has its edit. The README.md of a crate's must-fail edits
-  names each of them, and no others.
+  names each of them, and no others. If its last column, "Refused by", begins with a name, the code has a function of that
+  name. What an edit replaces stands once in its file.
 - lines: no line of the code or of a definition is longer than 120 characters.
 """
 
@@ -231,7 +232,29 @@ def check_proofs():
 
 # EDITS
 
+def misplaced(path, crate):
+    """The texts that an edit replaces and that do not stand once in their file."""
+    for line in read(path).split("\n"):
+        key, _, value = line.partition(": ")
+        if key == "crate":
+            crate = value
+        elif key == "file":
+            text = read(f"crates/{crate}/{value}")
+        elif key == "old" and text.count(value) != 1:
+            yield f"{path}: {value!r} stands {text.count(value)} times in its file"
+
+
+def refused_by_none(path, names):
+    """The functions that are said to refuse an edit, and are not in the code."""
+    for line in read(path).split("\n"):
+        cells = re.fullmatch(r"\| `(\w+)` \|.*\|([^|]*)\|", line)
+        name = re.match(r" `(?:\w+::)?(\w+)`", cells[2]) if cells else None
+        if name and name[1] not in names:
+            yield f"{path}: {cells[1]} is refused by {name[1]}, which is no function"
+
+
 def check_edits():
+    code = set(re.findall(r"\bfn (\w+)", "".join(read(path) for path in found("crates/*/src/**/*.rt"))))
     edits = {f"wrong/{name}" for name in names_of("tests/wrong/*.edit")}
     for path in found("crates/*/must-fail/*.edit"):
         edits.add(f"{path.split('/')[1]}/{os.path.basename(path)[:-len('.edit')]}")
@@ -245,6 +268,9 @@ def check_edits():
         wanted = {edit for edit in edits if edit.startswith(f"{crate}/")}
         wrong += [f"{path}: {name} is missing" for name in sorted(wanted - named)]
         wrong += [f"{path}: {name} is gone" for name in sorted(named - wanted)]
+        wrong += refused_by_none(path, code) if found(path) else []
+        wrong += [line for edit in found(f"{folder}/*.edit") for line in misplaced(edit, crate)]
+    wrong += [line for edit in found("tests/wrong/*.edit") for line in misplaced(edit, None)]
     return len(edits), wrong
 
 

@@ -86,8 +86,3 @@ laid limit H x = record {
   level = level H x.kind x.start;
   closed = filter (λ c. not (keeps (depth H) x.kind x.start c)) (open_columns H);
 }
-
--- a list of lexemes, newest first, each in its setting
-unfoldable pub laid_out : ℕ → List Lexeme → List Laid
-laid_out limit [] = []
-laid_out limit (x ∷ xs) = laid limit (laid_out limit xs) x ∷ laid_out limit xs

@@ -1,9 +1,11 @@
 -- What a sink is given.
-use Rattle.std.specs.Prelude.{◌≡◌, ◌++◌, [], ℕ, List, Option}
+use Rattle.std.specs.Prelude.{◌≡◌, ◌++◌, [], ◌∷◌, ℕ, List, Option}
 use Rattle.std.proofs.Common.{sym, ap, ◌∙◌, append-nil, append_assoc}
 use Rattle.yaml_text.specs.declared.types.yaml_encoding_t.{yaml_encoding_t}
 use Rattle.yaml_scan.specs.Token.{yaml_token_t}
 use Rattle.yaml_scan.specs.Fault.{Fault}
+use Rattle.yaml_scan.specs.Begins.{Begins}
+use Rattle.yaml_scan.specs.Inputs.{answers_to}
 use Rattle.yaml_scan.specs.All.{ReadsAll}
 
 -- a sink was given, in order, what reading an input to its end returns
@@ -12,6 +14,14 @@ pub record IsGivenAll (took : List yaml_token_t
   pub tokens : List yaml_token_t
   pub given : took tokens
   pub reads : ReadsAll limit setting input tokens fault
+
+-- a sink was given, in order, the tokens of an input before one that it refused
+pub record IsGivenFront (took : List yaml_token_t
+    → Type 0) (limit : ℕ) (setting : yaml_encoding_t) (input : List ℕ) : Type 0 where
+  pub tokens : List yaml_token_t
+  pub given : took tokens
+  pub refused : yaml_token_t
+  pub beginning : Begins (tokens ++ refused ∷ []) (answers_to limit setting input).tokens
 
 -- what a list of tokens has taken: none, and some and then others
 pub list_none : (xs : List yaml_token_t) → xs ≡ xs ++ []

@@ -204,7 +204,7 @@ fn lead_mark(queue: &queue_t) -> yaml_mark_t
     }
 }
 
-/// The token that is handed out before that of the head. There is one.
+/// The token that is handed out before that of the head, or an empty one if there is none.
 #[inline(always)]
 pub(crate) fn lead(queue: &queue_t) -> yaml_token_t
     ensures { (e : yaml_encoding_t) → IsLead e queue.now (token_of result) }

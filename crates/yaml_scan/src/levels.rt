@@ -190,7 +190,7 @@ fn complete(layout: &mut layout_t, margin: bool, held: held_t)
 
 /// The start that a kind of lexeme opens a block collection with, or none.
 #[inline(always)]
-fn block_start(opens: bool, kind: yaml_lexeme_kind_t) -> block_t
+pub(crate) fn block_start(opens: bool, kind: yaml_lexeme_kind_t) -> block_t
     ensures { result ≡ (if opens then start_of kind else NONE) }
 {
     if !opens {

@@ -135,7 +135,7 @@ pub(crate) fn quick_put(
     requires read { IsReadAt scanner.old ready ready.met.kind read }
     ensures { IsQuick before scanner.old scanner.new result }
 {
-    let Some(x) = read else {
+    let Some(lexeme) = read else {
         return false;
     };
     let lost = lost_after(
@@ -144,12 +144,12 @@ pub(crate) fn quick_put(
         ready.met,
         ready.new,
         scanner.limit,
-        x.reach,
+        lexeme.reach,
     );
     if lost.is_some() {
         return false;
     }
-    put_lexeme(scanner, ready.met, margin, ready.new, x);
+    put_lexeme(scanner, ready.met, margin, ready.new, lexeme);
     true
 }
 

@@ -25,15 +25,16 @@ fn quick_plain(scanner: &mut scanner_t, front: yaml_mark_t) -> bool
     let Some(ready) = quick_look(scanner, true, yaml_lexeme_kind_t::PLAIN, front) else {
         return false;
     };
-    let Some(x) = read_line(scanner.alloc, &scanner.text, ready.met.front, ready.context) else {
+    let Some(lexeme) = read_line(scanner.alloc, &scanner.text, ready.met.front, ready.context)
+    else {
         return false;
     };
-    match colon_after(scanner, ready, x.reach) {
+    match colon_after(scanner, ready, lexeme.reach) {
         Some(end) => {
-            put_pair(scanner, ready, x, end);
+            put_pair(scanner, ready, lexeme, end);
             true
         }
-        None => quick_put(scanner, true, ready, Some(x)),
+        None => quick_put(scanner, true, ready, Some(lexeme)),
     }
 }
 

@@ -14,7 +14,9 @@ ghost use Rattle.yaml_scan.specs.inside.Scanning.{AdvancesTwice, CanPair, IsKeyB
 
 use crate::groups::{block_t, group_t, queue_t};
 use crate::keys::is_still_live;
-use crate::levels::{closed_t, closing, is_new_level, layout_t, open_level, put_group};
+use crate::levels::{
+    block_start, closed_t, closing, is_new_level, layout_t, open_level, put_group,
+};
 use crate::quick::ready_t;
 use crate::source::colon_at;
 use crate::step::{scanner_t, token_of};
@@ -66,18 +68,6 @@ pub(crate) fn colon_after(
     }
 }
 
-/// The start of a block mapping, or none.
-#[inline(always)]
-fn mapping_start(opens: bool) -> block_t
-    ensures { result ≡ (if opens then MAPPING else NONE) }
-{
-    if opens {
-        block_t::MAPPING
-    } else {
-        block_t::NONE
-    }
-}
-
 /// Appends the group of a key that starts in a column at depth 0. If the column is above the levels, opens it. There is
 /// room for both.
 #[inline(always)]
@@ -102,22 +92,29 @@ fn put_key_group(layout: &mut layout_t, column: u64, token: yaml_token_t)
     open_level(&mut layout.levels, opens, column);
     layout.queue.groups.push_back_reserved(group_t {
         ends: 0,
-        opens: mapping_start(opens),
+        opens: block_start(opens, yaml_lexeme_kind_t::PLAIN),
         key: true,
         token,
     });
 }
 
 /// Lays a key that was met and read, and the `:` after it, which ends at `end`.
+///
+/// After a `:` that completes a key there is no candidate, and no key is allowed.
 #[inline(always)]
-pub(crate) fn put_pair(scanner: &mut scanner_t, ready: ready_t, x: yaml_lexeme_t, end: yaml_mark_t)
+pub(crate) fn put_pair(
+    scanner: &mut scanner_t,
+    ready: ready_t,
+    lexeme: yaml_lexeme_t,
+    end: yaml_mark_t,
+)
     ghost before: { List Laid }
-    requires { CanPair before scanner.old ready (lexeme_of x) end }
+    requires { CanPair before scanner.old ready (lexeme_of lexeme) end }
     ensures { AdvancesTwice before scanner.old scanner.new }
 {
     let start = ready.new.start;
-    let front = x.reach;
-    put_key_group(&mut scanner.layout, start.column, token_of(start, x));
+    let front = lexeme.reach;
+    put_key_group(&mut scanner.layout, start.column, token_of(start, lexeme));
     let token = yaml_token_t {
         token_data: unnamed_yaml_token_t_data::VALUE,
         start_mark: front,

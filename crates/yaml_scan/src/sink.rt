@@ -4,7 +4,7 @@ ghost use Rattle.yaml_text.specs.Fault.{fault_of};
 ghost use Rattle.yaml_text.specs.Token.{Token, token_of};
 ghost use Rattle.yaml_scan.specs.Keys.{most_key_limit};
 ghost use Rattle.yaml_scan.specs.Session.{new_session};
-ghost use Rattle.yaml_scan.specs.Sink.{IsGivenAll};
+ghost use Rattle.yaml_scan.specs.Sink.{IsGivenAll, IsGivenFront};
 ghost use Rattle.yaml_scan.specs.Words.{HasWords};
 
 use crate::parser::{yaml_parser_scan, yaml_parser_t};
@@ -20,10 +20,11 @@ pub trait yaml_token_sink_t {
     // What is known if it found no memory for a token: nothing, or that this does not happen.
     ghost may_refuse: { Type 0 };
 
-    /// Takes a token. `AllocError` if it found no memory.
+    /// Takes a token. `AllocError` if it found no memory; then nothing was taken.
     fn put(&mut self, token: yaml_token_t) -> Result<(), AllocError>
         requires { HasWords (token_of token).token_data }
         ensures taken { OnOk result (took self.old (token_of token ∷ []) self.new) }
+        ensures kept { OnErr result (took self.old [] self.new) }
         ensures refused { OnErr result may_refuse };
 
     ghost took_none: { (s : Self) → took s [] s };
@@ -31,7 +32,7 @@ pub trait yaml_token_sink_t {
     ghost took_more: { (a b c : Self) (xs ys : List Token) → took a xs b → took b ys c → took a (xs ++ ys) c };
 }
 
-/// Gives all tokens of a new parser to a sink, and returns the fault after them.
+/// Gives the tokens of a new parser to a sink, and returns the fault after them. It ends at a token that is refused.
 fn scan_rest<S: yaml_token_sink_t>(
     parser: &mut yaml_parser_t,
     sink: &mut S,
@@ -41,6 +42,8 @@ fn scan_rest<S: yaml_token_sink_t>(
         IsGivenAll (λ tokens.
         S.took sink.old tokens sink.new) parser.old.limit parser.old.setting parser.old.input
         (option_map fault_of fault)) }
+    ensures cut { OnErr result (IsGivenFront (λ tokens.
+        S.took sink.old tokens sink.new) parser.old.limit parser.old.setting parser.old.input) }
     ensures refused { OnErr result S.may_refuse }
 {
     let mut last = false;
@@ -63,7 +66,7 @@ fn scan_rest<S: yaml_token_sink_t>(
 /// settle, STREAM-END not among them.
 ///
 /// # Errors
-/// `AllocError` if the sink found no memory for a token.
+/// `AllocError` if the sink found no memory for a token. Then it was given the tokens before that one.
 pub fn yaml_scan_to<S: yaml_token_sink_t>(
     alloc: Global,
     input: &[u8],
@@ -75,6 +78,8 @@ pub fn yaml_scan_to<S: yaml_token_sink_t>(
     requires most { limit ≤ most_key_limit }
     ensures given { IfOk result (λ fault.
         IsGivenAll (λ tokens. S.took sink.old tokens sink.new) limit setting input.now (option_map fault_of fault)) }
+    ensures cut { OnErr result (
+        IsGivenFront (λ tokens. S.took sink.old tokens sink.new) limit setting input.now) }
     ensures refused { OnErr result S.may_refuse }
 {
     let mut parser = yaml_parser_t::with_key_limit(alloc, input, setting, limit);

@@ -230,17 +230,17 @@ fn keep_candidates(
 
 /// The token of a lexeme that starts at a mark.
 #[inline(always)]
-pub(crate) fn token_of(start: yaml_mark_t, x: yaml_lexeme_t) -> yaml_token_t
+pub(crate) fn token_of(start: yaml_mark_t, lexeme: yaml_lexeme_t) -> yaml_token_t
     ensures { token_of result ≡ record {
-      token_data = data_of x.token_data;
+      token_data = data_of lexeme.token_data;
       start_mark = start;
-      end_mark = x.end_mark;
+      end_mark = lexeme.end_mark;
     } }
 {
     yaml_token_t {
-        token_data: x.token_data,
+        token_data: lexeme.token_data,
         start_mark: start,
-        end_mark: x.end_mark,
+        end_mark: lexeme.end_mark,
     }
 }
 
@@ -269,21 +269,21 @@ pub(crate) fn put_lexeme(
     met: met_t,
     margin: bool,
     new: held_t,
-    x: yaml_lexeme_t,
+    lexeme: yaml_lexeme_t,
 )
     ghost before: { List Laid }
-    requires { CanPut before scanner.old met margin new (lexeme_of x) }
+    requires { CanPut before scanner.old met margin new (lexeme_of lexeme) }
     ensures { Advances before scanner.old scanner.new }
 {
     let kind = met.kind;
     let start = new.start;
-    let reach = x.reach;
-    let passed_break = x.passed_break;
+    let reach = lexeme.reach;
+    let passed_break = lexeme.passed_break;
     let closed = close_levels(&mut scanner.layout.levels, !margin, kind, met.front, start);
     let completed = completed_by(kind, scanner.slots.top, scanner.limit, start);
     keep_candidates(&mut scanner.slots, margin, met, new, scanner.limit, reach);
     let opens = put_key(&mut scanner.layout, margin, completed, kind, start);
-    let token = token_of(start, x);
+    let token = token_of(start, lexeme);
     put_group(&mut scanner.layout.queue, closed, met.front, opens, token);
     scanner.allowed = is_allowed_after(kind, margin, completed.is_none(), passed_break);
     scanner.reach = reach;
@@ -311,10 +311,17 @@ pub(crate) fn lay(
         depth: scanner.slots.outer.len() as u64,
         level,
     };
-    let x = read_lexeme(scanner.alloc, kept, &scanner.text, met, context)?;
+    let lexeme = read_lexeme(scanner.alloc, kept, &scanner.text, met, context)?;
     let new = new_candidate(scanner.made + 1, start, margin, level);
-    let lost = lost_after(&scanner.slots, margin, met, new, scanner.limit, x.reach);
-    refuse_lost(kept, lost, x.reach)?;
-    put_lexeme(scanner, met, margin, new, x);
+    let lost = lost_after(
+        &scanner.slots,
+        margin,
+        met,
+        new,
+        scanner.limit,
+        lexeme.reach,
+    );
+    refuse_lost(kept, lost, lexeme.reach)?;
+    put_lexeme(scanner, met, margin, new, lexeme);
     Ok(())
 }

@@ -4,7 +4,7 @@ ghost use Rattle.std.specs.List.{list_any};
 ghost use Rattle.yaml_scan.specs.Seen.{call_of, seen_of};
 ghost use Rattle.yaml_scan.specs.CallWords.{SeenHaveLines};
 ghost use Rattle.yamltok.specs.Args.{is_limit, is_right};
-ghost use Rattle.std.specs.Prelude.{◌++◌, OnOk};
+ghost use Rattle.std.specs.Prelude.{◌++◌, OnErr, OnOk};
 ghost use Rattle.yaml_text.specs.Token.{data_of, token_of};
 ghost use Rattle.yaml_scan.specs.Words.{HasWords};
 ghost use Rattle.yamltok.specs.Listing.{is_fault, token_line};
@@ -43,12 +43,14 @@ fn list_decoded(
     }
 }
 
-/// Appends the line of a token to `out`, part by part, and drops the token. The token is moved here, so that a token
-/// whose line is made whole can stay in registers.
+/// Appends the line of a token to `out`, part by part, and drops the token. If memory is refused, `out` is as before.
+///
+/// The token is moved here, so that a token whose line is made whole can stay in registers.
 #[inline(never)]
 fn list_moved(token: yaml_token_t, out: &mut Vec<u8>) -> Result<(), AllocError>
     requires { HasWords (data_of token.token_data) }
-    ensures { OnOk result (out.new.items ≡ out.old.items ++ token_line (token_of token)) }
+    ensures ok { OnOk result (out.new.items ≡ out.old.items ++ token_line (token_of token)) }
+    ensures err { OnErr result (out.new.items ≡ out.old.items) }
 {
     list_by_parts(&token, out)
 }

@@ -126,6 +126,11 @@ module _ (limit : ℕ) (setting : yaml_encoding_t) (input : List ℕ) where
     whole = λ e. absurd (false≢true e);
   }
 
+  -- what was returned is a beginning of the whole list
+  pub scans_begin : (q : Parser) (tokens : List yaml_token_t) (last : Bool) → HasScanned q tokens last → Begins tokens (answers_to limit setting input).tokens
+  unfolding answers_to answers
+  scans_begin q tokens last h = subst (λ (z : List yaml_token_t). Begins z (map (handed_out I.encoding) L)) (sym h.tokens_are) (begins_take (handed_out I.encoding) L q.session.taken)
+
   module _ (q : Parser) (tokens : List yaml_token_t) (h : HasScanned q tokens false) where
     abbrev S : Session
     S = q.session
@@ -226,7 +231,7 @@ module _ (limit : ℕ) (setting : yaml_encoding_t) (input : List ℕ) where
       steps = S.steps;
       within = h.steps_within;
       tokens_are = h.tokens_are ∙ ap (λ (z : List Token). map (handed_out I.encoding) z) (all_taken limit I (inputs_keep_order setting input) S.taken S.steps r.session.steps h.steps_within w.least h.are_settled unsettled);
-      beginning = subst (λ (z : List yaml_token_t). Begins z (map (handed_out I.encoding) L)) (sym h.tokens_are) (begins_take (handed_out I.encoding) L S.taken);
+      beginning = scans_begin q tokens false h;
       in_utf8 = λ u. sym (ap (λ (c : Course). c.begun) course_same) ∙ w.in_utf8 (ap (λ (i : Input). i.encoding) input_same ∙ u);
       no_end = h.no_end refl;
     }

@@ -19,7 +19,6 @@ use Rattle.yaml_scan.specs.Groups.{Token, end_mark, group, groups, inserted, blo
 use Rattle.yaml_scan.specs.Groups.{handed_out}
 use Rattle.yaml_scan.specs.Settled.{up_to}
 use Rattle.yaml_scan.specs.Groups.Token.{StreamStart, BlockEnd, BlockSequenceStart, BlockMappingStart, InsertedKey, OfLexeme}
-use Rattle.yaml_scan.specs.inside.Opened.{key_at}
 use Rattle.yaml_scan.specs.inside.Queue.{IsQueue, ends_at, start_at, leads, early_before, pending, begins_with_end}
 use Rattle.yaml_scan.specs.inside.Queue.{keyed, keyed_at}
 use Rattle.yaml_scan.proofs.History.KeyCandidates.{IsCandidateOf, candidate_split}
@@ -280,6 +279,10 @@ ends_only y p = go y.opens y.key (skip y.ends p) refl refl
     go NONE true p e f = absurd (false≢true p.0)
     go SEQUENCE k p e f = absurd (false≢true p.0)
     go MAPPING k p e f = absurd (false≢true p.0)
+
+-- the key of a candidate that starts at m
+abbrev pub key_at : Bool → yaml_mark_t → List Token
+key_at new m = (if new then BlockMappingStart m ∷ [] else []) ++ (InsertedKey m ∷ [])
 
 keyed_leads : (y : group_t) (b : Bool) (m : yaml_mark_t) → y.opens ≡ NONE → y.key ≡ false → y.token.start_mark ≡ m → leads (keyed b y) ≡ leads y ++ key_at b m
 keyed_leads y b m o k e = rw (o, k, ← e) (go b)

@@ -24,12 +24,12 @@ use Rattle.yaml_scan.specs.declared.groups.block_t.{block_t}
 use Rattle.yaml_scan.specs.declared.groups.block_t.TheVariants.{NONE, SEQUENCE, MAPPING}
 use Rattle.yaml_scan.specs.declared.groups.group_t.{group_t}
 use Rattle.yaml_text.specs.Token.{token_of}
-use Rattle.yaml_scan.specs.inside.Opened.{is_new, key_at, opened}
+use Rattle.yaml_scan.specs.inside.Opened.{is_new, opened}
 use Rattle.yaml_scan.specs.Laws.{key_tokens}
 use Rattle.yaml_scan.specs.inside.Queue.{IsQueue, Fitting, ends_at, start_at, start_of, leads, keyed_at, completed_in}
 use Rattle.yaml_scan.specs.inside.Queue.{opened_by}
 use Rattle.yaml_scan.proofs.RunningQueue.QueueGroups.{put_after}
-use Rattle.yaml_scan.proofs.RunningQueue.CandidateGroup.{Stands, stands, count, taken_count, key_put}
+use Rattle.yaml_scan.proofs.RunningQueue.CandidateGroup.{Stands, stands, count, taken_count, key_put, key_at}
 use Rattle.yaml_scan.proofs.History.HistoryOrder.{to_start, laid_completed, completion_is, IsCompletion, live_earlier}
 use Rattle.yaml_scan.proofs.History.KindTests.{flow_kinds}
 use Rattle.yaml_scan.proofs.History.KeyCandidates.{candidate_split}

@@ -2,18 +2,12 @@
 use Rattle.std.specs.Prelude.{ℕ, Bool, true, ◌&&◌, List, [], ◌∷◌, ◌++◌, Option, Some, None, if◌then◌else◌}
 use Rattle.yaml_text.specs.declared.types.yaml_mark_t.{yaml_mark_t}
 use Rattle.yaml_scan.specs.Kind.{Kind}
-use Rattle.yaml_scan.specs.Groups.{Token}
-use Rattle.yaml_scan.specs.Groups.Token.{BlockMappingStart, InsertedKey}
 use Rattle.yaml_scan.specs.Levels.{is_above, greatest_level, opens_level}
 use Rattle.yaml_scan.specs.inside.Slots.{Held}
 
 -- a column at depth 0 (margin) is above the levels that are open
 abbrev pub is_new : Bool → ℕ → List ℕ → Bool
 is_new margin c cs = margin && is_above c (greatest_level cs)
-
--- the key of a candidate that starts at m
-abbrev pub key_at : Bool → yaml_mark_t → List Token
-key_at new m = (if new then BlockMappingStart m ∷ [] else []) ++ (InsertedKey m ∷ [])
 
 -- the levels after a lexeme of kind k at m, which completes the candidate that is held
 abbrev pub opened : Bool → Option Held → Kind → yaml_mark_t → List ℕ → List ℕ

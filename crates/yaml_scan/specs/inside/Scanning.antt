@@ -165,8 +165,8 @@ pub record Advances (H : List Laid) (s t : scanner_t) : Type 0 where
   pub same : Same s t
   pub made : t.made ≡ s.made
 
--- What was met was read to `at` and is a key: the `:` there completes it, and ends at `end`. No level ends at them, the
--- key is the head of the queue, and there is room for both.
+-- If what was met is read to `at`, it is a key: the `:` there completes it, and ends at `end`. No level ends at either.
+-- The queue is empty, and has room for both.
 pub record IsKeyBefore (s : scanner_t) (r : ready_t) (at end : yaml_mark_t) : Type 0 where
   pub allowed : r.met.allowed ≡ true
   pub alone : s.layout.queue.groups.items ≡ []

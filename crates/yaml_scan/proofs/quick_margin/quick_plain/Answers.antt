@@ -26,18 +26,18 @@ read_line-requires-clause-level g c = let r = c.in-Some.ensures.ready in r.withi
 
 pub colon_after-requires : goal.colon_after-requires
 colon_after-requires g c = let s = c.args.scanner.now in
-    read_place g.before s c.in-Some.ready (lexeme_of c.in-Some-read_line.x) c.in-Some.ensures.ready c.in-Some.ensures.kind (read_met s c.in-Some.ready c.read_line.result c.in-Some-read_line.x c.in-Some.ensures.kind c.read_line.ensures c.in-Some-read_line.is)
+    read_place g.before s c.in-Some.ready (lexeme_of c.in-Some-read_line.lexeme) c.in-Some.ensures.ready c.in-Some.ensures.kind (read_met s c.in-Some.ready c.read_line.result c.in-Some-read_line.lexeme c.in-Some.ensures.kind c.read_line.ensures c.in-Some-read_line.is)
 
 pub put_pair-requires : goal.put_pair-requires
 put_pair-requires g c = let s = c.args.scanner.now in record {
   can = c.in-Some.ensures.ready;
   kind = c.in-Some.ensures.kind;
-  read = read_met s c.in-Some.ready c.read_line.result c.in-Some-read_line.x c.in-Some.ensures.kind c.read_line.ensures c.in-Some-read_line.is;
+  read = read_met s c.in-Some.ready c.read_line.result c.in-Some-read_line.lexeme c.in-Some.ensures.kind c.read_line.ensures c.in-Some-read_line.is;
   key = c.in-Some-colon_after.ensures;
 }
 
 pub quick_put-requires : goal.quick_put-requires
-quick_put-requires g c = (c.in-Some.ensures.ready, read_met c.args.scanner.now c.in-Some.ready c.read_line.result c.in-Some-read_line.x c.in-Some.ensures.kind c.read_line.ensures c.in-Some-read_line.is)
+quick_put-requires g c = (c.in-Some.ensures.ready, read_met c.args.scanner.now c.in-Some.ready c.read_line.result c.in-Some-read_line.lexeme c.in-Some.ensures.kind c.read_line.ensures c.in-Some-read_line.is)
 
 pub returns-in-Some-colon_after : goal.returns-in-Some-colon_after
 returns-in-Some-colon_after g c = (λ e. inr c.put_pair.ensures, λ e. absurd (cc))

@@ -33,13 +33,13 @@ read_lexeme-requires-clause-place g c = (front_of (source_of c.args.scanner.now.
 pub read_lexeme-requires-clause-level : goal.read_lexeme-requires-clause-level
 read_lexeme-requires-clause-level g c = level_within g.before (c.args.scanner.now.made + 1) c.args.scanner.now c.requires.holds c.requires.running c.args.met c.requires.met c.is_empty-margin.result c.is_empty-margin.ensures c.start_after-start.result c.start_after-start.ensures (reverse (filter (stays (not c.is_empty-margin.result) c.args.met.kind c.start_after-start.result) (reverse c.args.scanner.now.layout.levels.items))) (reverse-reverse (filter (stays (not c.is_empty-margin.result) c.args.met.kind c.start_after-start.result) (reverse c.args.scanner.now.layout.levels.items))) c.level_at-level.result (c.level_at-level.ensures ∙ (ap (λ (l : List ℕ). greatest_level (filter (stays (not c.is_empty-margin.result) c.args.met.kind c.start_after-start.result) (reverse l))) (c.deref.ensures.value ∙ c.in_ok-reserve-2.ensures.items)) ∙ ap greatest_level (sym (reverse-reverse (filter (stays (not c.is_empty-margin.result) c.args.met.kind c.start_after-start.result) (reverse c.args.scanner.now.layout.levels.items))))) c.len.result (c.len.ensures ∙ c.in_ok-reserve.ensures.len)
 
-pub returns-in_err-x : goal.returns-in_err-x
-returns-in_err-x g c = let p = err_from_is_err_and c.from_residual-in_err-x.result c.from_residual-in_err-x.ensures.1 in rw (p.1, p.2)
-    (elim (c.in_err-x.ensures (front_of (source_of c.args.scanner.now.text.chars) g.before) c.requires.met.front) [ inl m ↦ inl m | inr e ↦ inr (row_offence g.before (c.args.scanner.now.made + 1) c.args.scanner.now c.requires.holds c.requires.running c.args.met c.requires.met c.is_empty-margin.result c.is_empty-margin.ensures c.start_after-start.result c.start_after-start.ensures (reverse (filter (stays (not c.is_empty-margin.result) c.args.met.kind c.start_after-start.result) (reverse c.args.scanner.now.layout.levels.items))) (reverse-reverse (filter (stays (not c.is_empty-margin.result) c.args.met.kind c.start_after-start.result) (reverse c.args.scanner.now.layout.levels.items))) c.level_at-level.result (c.level_at-level.ensures ∙ (ap (λ (l : List ℕ). greatest_level (filter (stays (not c.is_empty-margin.result) c.args.met.kind c.start_after-start.result) (reverse l))) (c.deref.ensures.value ∙ c.in_ok-reserve-2.ensures.items)) ∙ ap greatest_level (sym (reverse-reverse (filter (stays (not c.is_empty-margin.result) c.args.met.kind c.start_after-start.result) (reverse c.args.scanner.now.layout.levels.items))))) c.len.result (c.len.ensures ∙ c.in_ok-reserve.ensures.len) _ e) ], record { same = record { text = refl; refusal = refl; near = refl; limit = refl; taken = refl; done = refl }; made = refl; reach = refl })
+pub returns-in_err-lexeme : goal.returns-in_err-lexeme
+returns-in_err-lexeme g c = let p = err_from_is_err_and c.from_residual-in_err-lexeme.result c.from_residual-in_err-lexeme.ensures.1 in rw (p.1, p.2)
+    (elim (c.in_err-lexeme.ensures (front_of (source_of c.args.scanner.now.text.chars) g.before) c.requires.met.front) [ inl m ↦ inl m | inr e ↦ inr (row_offence g.before (c.args.scanner.now.made + 1) c.args.scanner.now c.requires.holds c.requires.running c.args.met c.requires.met c.is_empty-margin.result c.is_empty-margin.ensures c.start_after-start.result c.start_after-start.ensures (reverse (filter (stays (not c.is_empty-margin.result) c.args.met.kind c.start_after-start.result) (reverse c.args.scanner.now.layout.levels.items))) (reverse-reverse (filter (stays (not c.is_empty-margin.result) c.args.met.kind c.start_after-start.result) (reverse c.args.scanner.now.layout.levels.items))) c.level_at-level.result (c.level_at-level.ensures ∙ (ap (λ (l : List ℕ). greatest_level (filter (stays (not c.is_empty-margin.result) c.args.met.kind c.start_after-start.result) (reverse l))) (c.deref.ensures.value ∙ c.in_ok-reserve-2.ensures.items)) ∙ ap greatest_level (sym (reverse-reverse (filter (stays (not c.is_empty-margin.result) c.args.met.kind c.start_after-start.result) (reverse c.args.scanner.now.layout.levels.items))))) c.len.result (c.len.ensures ∙ c.in_ok-reserve.ensures.len) _ e) ], record { same = record { text = refl; refusal = refl; near = refl; limit = refl; taken = refl; done = refl }; made = refl; reach = refl })
 
 pub returns-in_err-refuse_lost : goal.returns-in_err-refuse_lost
 returns-in_err-refuse_lost g c = let p = err_from_is_err_and c.from_residual-in_err-refuse_lost.result c.from_residual-in_err-refuse_lost.ensures.1 in rw (p.1, p.2)
-    (inr (row_stale g.before (c.args.scanner.now.made + 1) c.args.scanner.now c.requires.holds c.requires.running c.args.met c.requires.met c.is_empty-margin.result c.is_empty-margin.ensures c.start_after-start.result c.start_after-start.ensures (reverse (filter (stays (not c.is_empty-margin.result) c.args.met.kind c.start_after-start.result) (reverse c.args.scanner.now.layout.levels.items))) (reverse-reverse (filter (stays (not c.is_empty-margin.result) c.args.met.kind c.start_after-start.result) (reverse c.args.scanner.now.layout.levels.items))) c.level_at-level.result (c.level_at-level.ensures ∙ (ap (λ (l : List ℕ). greatest_level (filter (stays (not c.is_empty-margin.result) c.args.met.kind c.start_after-start.result) (reverse l))) (c.deref.ensures.value ∙ c.in_ok-reserve-2.ensures.items)) ∙ ap greatest_level (sym (reverse-reverse (filter (stays (not c.is_empty-margin.result) c.args.met.kind c.start_after-start.result) (reverse c.args.scanner.now.layout.levels.items))))) c.len.result (c.len.ensures ∙ c.in_ok-reserve.ensures.len) (lexeme_of c.in_ok-x.x) (c.in_ok-x.ensures (front_of (source_of c.args.scanner.now.text.chars) g.before) c.requires.met.front) _ refl c.new_candidate-new.result (ap (λ (h : Held). h.step) c.new_candidate-new.ensures) (ap (λ (h : Held). h.start) c.new_candidate-new.ensures) (ap (λ (h : Held). h.required) c.new_candidate-new.ensures) c.args.met.allowed c.requires.met.allowed _ refl _ _ c.in_ok-reserve.ensures.items refl _ refl _ (lost_as _ _ _ _ c.lost_after-lost.ensures c.in_err-refuse_lost.ensures)), record { same = record { text = refl; refusal = refl; near = refl; limit = refl; taken = refl; done = refl }; made = refl; reach = refl })
+    (inr (row_stale g.before (c.args.scanner.now.made + 1) c.args.scanner.now c.requires.holds c.requires.running c.args.met c.requires.met c.is_empty-margin.result c.is_empty-margin.ensures c.start_after-start.result c.start_after-start.ensures (reverse (filter (stays (not c.is_empty-margin.result) c.args.met.kind c.start_after-start.result) (reverse c.args.scanner.now.layout.levels.items))) (reverse-reverse (filter (stays (not c.is_empty-margin.result) c.args.met.kind c.start_after-start.result) (reverse c.args.scanner.now.layout.levels.items))) c.level_at-level.result (c.level_at-level.ensures ∙ (ap (λ (l : List ℕ). greatest_level (filter (stays (not c.is_empty-margin.result) c.args.met.kind c.start_after-start.result) (reverse l))) (c.deref.ensures.value ∙ c.in_ok-reserve-2.ensures.items)) ∙ ap greatest_level (sym (reverse-reverse (filter (stays (not c.is_empty-margin.result) c.args.met.kind c.start_after-start.result) (reverse c.args.scanner.now.layout.levels.items))))) c.len.result (c.len.ensures ∙ c.in_ok-reserve.ensures.len) (lexeme_of c.in_ok-lexeme.lexeme) (c.in_ok-lexeme.ensures (front_of (source_of c.args.scanner.now.text.chars) g.before) c.requires.met.front) _ refl c.new_candidate-new.result (ap (λ (h : Held). h.step) c.new_candidate-new.ensures) (ap (λ (h : Held). h.start) c.new_candidate-new.ensures) (ap (λ (h : Held). h.required) c.new_candidate-new.ensures) c.args.met.allowed c.requires.met.allowed _ refl _ _ c.in_ok-reserve.ensures.items refl _ refl _ (lost_as _ _ _ _ c.lost_after-lost.ensures c.in_err-refuse_lost.ensures)), record { same = record { text = refl; refusal = refl; near = refl; limit = refl; taken = refl; done = refl }; made = refl; reach = refl })
 
 pub put_lexeme-requires : goal.put_lexeme-requires
 put_lexeme-requires g c =
@@ -63,6 +63,6 @@ put_lexeme-requires g c =
         start = ap (λ (h : Held). h.start) c.new_candidate-new.ensures ∙ c.start_after-start.ensures;
         required = rw (ap (λ (h : Held). h.start) c.new_candidate-new.ensures) (ap (λ (h : Held). h.required) c.new_candidate-new.ensures);
       };
-      read = rw (← c.len.ensures) (c.in_ok-x.ensures (front_of (source_of c.args.scanner.now.text.chars) g.before) c.requires.met.front);
+      read = rw (← c.len.ensures) (c.in_ok-lexeme.ensures (front_of (source_of c.args.scanner.now.text.chars) g.before) c.requires.met.front);
       kept = sym c.lost_after-lost.ensures ∙ c.in_ok-refuse_lost.ensures;
     }

@@ -18,7 +18,7 @@ pub put_key-opens-requires-clause-falls : goal.put_key-opens-requires-clause-fal
 put_key-opens-requires-clause-falls g c = l_falls g.before (c.args.scanner.now.made + 1) c.args.scanner.now c.requires.can.holds c.requires.can.running c.args.met c.requires.can.met c.args.margin c.requires.is_new.at_margin c.args.new.start c.requires.is_new.start c.close_levels-closed.new.levels.items c.close_levels-closed.ensures.levels
 
 pub put_key-opens-requires-clause-fits : goal.put_key-opens-requires-clause-fits
-put_key-opens-requires-clause-fits g c = fitting g.before (c.args.scanner.now.made + 1) c.args.scanner.now c.requires.can.holds c.requires.can.running c.args.met c.requires.can.met c.args.margin c.requires.is_new.at_margin c.args.new.start c.requires.is_new.start c.close_levels-closed.new.levels.items c.close_levels-closed.ensures.levels c.requires.level (c.requires.is_new.is_greatest ∙ ap greatest_level (sym c.close_levels-closed.ensures.levels)) (vec_len c.args.scanner.now.slots.outer) refl (lexeme_of c.args.x) c.requires.read c.completed_by-completed.result c.completed_by-completed.ensures
+put_key-opens-requires-clause-fits g c = fitting g.before (c.args.scanner.now.made + 1) c.args.scanner.now c.requires.can.holds c.requires.can.running c.args.met c.requires.can.met c.args.margin c.requires.is_new.at_margin c.args.new.start c.requires.is_new.start c.close_levels-closed.new.levels.items c.close_levels-closed.ensures.levels c.requires.level (c.requires.is_new.is_greatest ∙ ap greatest_level (sym c.close_levels-closed.ensures.levels)) (vec_len c.args.scanner.now.slots.outer) refl (lexeme_of c.args.lexeme) c.requires.read c.completed_by-completed.result c.completed_by-completed.ensures
 
 pub put_group-requires-clause-none : goal.put_group-requires-clause-none
 put_group-requires-clause-none g c = let k = c.put_key-opens.ensures.rest in k.early ∙ c.requires.can.holds.early c.requires.can.running
@@ -27,7 +27,7 @@ pub returns : goal.returns
 returns g c =
     let k = c.put_key-opens.ensures.rest in
     let groups = c.put_group.ensures.groups ∙ ap (λ (ys : List group_t). ys ++ record { ends = c.close_levels-closed.result.ends; opens = c.put_key-opens.result; key = false; token = c.token_of-token.result } ∷ []) c.put_key-opens.ensures.groups in
-    let laid = put_advances g.before c.args.scanner.now c.args.met c.args.margin c.args.new (lexeme_of c.args.x) c.requires c.keep_candidates.new.slots c.is_allowed_after-scanner.result record { levels = c.put_key-opens.new.layout.levels; queue = c.put_group.new.queue } record {
+    let laid = put_advances g.before c.args.scanner.now c.args.met c.args.margin c.args.new (lexeme_of c.args.lexeme) c.requires c.keep_candidates.new.slots c.is_allowed_after-scanner.result record { levels = c.put_key-opens.new.layout.levels; queue = c.put_group.new.queue } record {
       kept = c.close_levels-closed.new.levels.items;
       kept_is = c.close_levels-closed.ensures.levels;
       early = c.close_levels-closed.result.early;
