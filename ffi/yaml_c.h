@@ -36,7 +36,7 @@ struct yaml_c_token {
     uint64_t text_at;              /* the first text is texts[text_at] to texts[text_at + first_len - 1] */
     uint64_t first_len;            /* TAG_DIRECTIVE, TAG: the handle; ALIAS, ANCHOR: the name; SCALAR: the value; otherwise 0 */
     uint64_t second_len;           /* TAG_DIRECTIVE: the prefix; TAG: the suffix; otherwise 0 */
-    struct yaml_c_mark start_mark; /* of its first character */
+    struct yaml_c_mark start_mark; /* of its first character; a token without characters has one mark twice */
     struct yaml_c_mark end_mark;   /* after its last character */
 };
 

@@ -59,7 +59,7 @@ pub(crate) enum stop_t {
 impl From<AllocError> for stop_t {
     ghost from_gives = { λ _ stop. stop ≡ MEMORY };
 
-    fn from(_e: AllocError) -> stop_t {
+    fn from(_error: AllocError) -> stop_t {
         stop_t::MEMORY
     }
 }

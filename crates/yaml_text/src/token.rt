@@ -157,7 +157,8 @@ impl unnamed_yaml_token_t_data {
 pub struct yaml_token_t {
     /// What it says.
     pub token_data: unnamed_yaml_token_t_data,
-    /// The mark of its first character.
+    /// The mark of its first character. A token without characters (the start or end of a stream or of a block
+    /// collection, or a KEY without a `?`) has one mark twice: that of its place.
     pub start_mark: yaml_mark_t,
     /// The mark after its last character.
     pub end_mark: yaml_mark_t,

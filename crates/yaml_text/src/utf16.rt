@@ -50,24 +50,24 @@ pub(crate) fn first_char16(bytes: &[u8], big: bool) -> Result<(u32, usize), offe
     if bytes.len() < 2 {
         return refused(problem_t::HALF_UNIT, 0, -1);
     }
-    let u = unit_at(bytes, 0, big);
-    if is_low(u) {
-        return refused(problem_t::LOW_UNIT, 0, u as i32);
+    let first = unit_at(bytes, 0, big);
+    if is_low(first) {
+        return refused(problem_t::LOW_UNIT, 0, first as i32);
     }
-    if !is_high(u) {
-        if !is_char(u) {
-            return refused(problem_t::CONTROL, 0, u as i32);
+    if !is_high(first) {
+        if !is_char(first) {
+            return refused(problem_t::CONTROL, 0, first as i32);
         }
-        return Ok((u, 2));
+        return Ok((first, 2));
     }
     if bytes.len() < 4 {
         return refused(problem_t::HALF_PAIR, 0, -1);
     }
-    let v = unit_at(bytes, 2, big);
-    if !is_low(v) {
-        return refused(problem_t::NO_LOW_UNIT, 2, v as i32);
+    let second = unit_at(bytes, 2, big);
+    if !is_low(second) {
+        return refused(problem_t::NO_LOW_UNIT, 2, second as i32);
     }
-    let value = 0x10000 + (u - 0xD800) * 1024 + (v - 0xDC00);
+    let value = 0x10000 + (first - 0xD800) * 1024 + (second - 0xDC00);
     if !is_char(value) {
         return refused(problem_t::CONTROL, 0, value as i32);
     }

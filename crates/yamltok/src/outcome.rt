@@ -26,7 +26,7 @@ pub enum tool_fault_t {
 impl From<AllocError> for tool_fault_t {
     ghost from_gives = { λ _ e. e ≡ Memory };
 
-    fn from(_e: AllocError) -> tool_fault_t {
+    fn from(_error: AllocError) -> tool_fault_t {
         tool_fault_t::Memory
     }
 }
