@@ -1,7 +1,6 @@
 //! Lists of calls, and the answer to each.
 ghost use Rattle.std.specs.Prelude.{◌≡◌, ◌+◌, ◌≤◌, length, map, OnOk, OnErr, vec_len};
 ghost use Rattle.std.specs.Vec.{vec_capacity};
-ghost use Rattle.yaml_text.specs.Fault.{fault_of};
 ghost use Rattle.yaml_text.specs.Token.{token_of};
 ghost use Rattle.yaml_scan.specs.Session.{session_queued};
 ghost use Rattle.yaml_scan.specs.Session.Call.{SCAN, PEEK, SKIP};

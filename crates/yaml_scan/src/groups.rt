@@ -1,16 +1,15 @@
 //! The queue: of each step, in order, what it hands out that was not taken.
-ghost use Rattle.std.specs.Prelude.{◌≡◌, ◌+◌, ◌-◌, ◌<◌, ◌++◌, ◌∷◌, [], ◌&&◌, nat_eq, nat_lt, length, take, drop, OnOk};
+ghost use Rattle.std.specs.Prelude.{◌≡◌, ◌+◌, ◌-◌, ◌<◌, ◌∷◌, [], ◌&&◌, nat_eq, nat_lt, length, take, drop, OnOk};
 ghost use Rattle.std.specs.Prelude.{List, ◌^◌};
 ghost use Rattle.std.specs.VecDeque.{deque_capacity};
 ghost use Rattle.yaml_text.specs.declared.types.yaml_encoding_t.{yaml_encoding_t};
 ghost use Rattle.yaml_text.specs.Token.{data_of, token_of};
-ghost use Rattle.yaml_text.specs.declared.types.yaml_encoding_t.{yaml_encoding_t};
 ghost use Rattle.yaml_text.specs.declared.types.yaml_mark_t.{yaml_mark_t};
 ghost use Rattle.yaml_scan.specs.Token.{at_mark};
 ghost use Rattle.yaml_scan.specs.inside.Queue.{IsQueue, IsLead, Takes, DropsLead, keyed_at, leads, pending};
 ghost use Rattle.yaml_scan.specs.inside.Queue.{begins_with_end};
 ghost use Rattle.yaml_scan.specs.inside.Queue.{mark_next, lead_tokens};
-ghost use Rattle.yaml_scan.specs.Groups.{Token, handed_out};
+ghost use Rattle.yaml_scan.specs.Groups.{Token};
 ghost use Rattle.yaml_scan.specs.Groups.Token.{StreamStart};
 
 use std::alloc::AllocError;

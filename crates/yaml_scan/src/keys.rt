@@ -1,8 +1,7 @@
 //! Simple keys: the candidate of each flow depth, which a `:` may yet make a key (YAML 1.1, 10.2 Mappings, simple
 //! keys).
-ghost use Rattle.std.specs.Prelude.{◌≡◌, ◌+◌, ◌-◌, ◌<◌, ◌&&◌, ◌++◌, ◌∷◌, [], not, List, Option, None, map, vec_len};
+ghost use Rattle.std.specs.Prelude.{◌≡◌, ◌+◌, ◌-◌, ◌<◌, ◌&&◌, ◌++◌, ◌∷◌, [], Option, None, map, vec_len};
 ghost use Rattle.std.specs.Prelude.{length, ◌==◌};
-ghost use Rattle.std.specs.Prelude.{if◌then◌else◌};
 ghost use Rattle.std.specs.Vec.{vec_capacity};
 ghost use Rattle.yaml_scan.specs.inside.Slots.{is_live, still_held, lost_held, needed, slot_after, root_of, step_of};
 ghost use Rattle.yaml_scan.specs.inside.Slots.{completed_held, nested_outer, nested_top, empty_slots, lowest};

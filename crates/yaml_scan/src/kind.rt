@@ -1,10 +1,8 @@
 //! What the layout asks of a kind of lexeme.
-ghost use Rattle.std.specs.Prelude.{◌≡◌, ℕ, nat_eq, true, ◌+◌, ◌<◌, ◌^◌};
+ghost use Rattle.std.specs.Prelude.{◌≡◌, true, ◌+◌, ◌<◌, ◌^◌};
 ghost use Rattle.yaml_scan.specs.Kind.{is_candidate_kind, is_value, is_stream_end, closes_all};
-ghost use Rattle.yaml_scan.specs.Allowed.{allows};
 ghost use Rattle.yaml_scan.specs.Levels.{opens_level, stays};
 ghost use Rattle.yaml_scan.specs.Step.{end_of, start_at};
-ghost use Rattle.yaml_scan.specs.Kind as kinds;
 
 use yaml_lexeme::yaml_lexeme_kind_t;
 use yaml_text::yaml_mark_t;

@@ -5,7 +5,7 @@ ghost use Rattle.std.specs.Vec.{vec_capacity};
 ghost use Rattle.std.specs.VecDeque.{deque_capacity};
 ghost use Rattle.yaml_scan.specs.declared.groups.block_t.TheVariants.{NONE};
 ghost use Rattle.yaml_scan.specs.Kind.{is_stream_end};
-ghost use Rattle.yaml_scan.specs.Levels.{stays, is_above, greatest_level, opens_level, IsFalling};
+ghost use Rattle.yaml_scan.specs.Levels.{stays, greatest_level, opens_level, IsFalling};
 ghost use Rattle.yaml_scan.specs.Groups.{end_at};
 ghost use Rattle.yaml_scan.specs.Groups.Token.{BlockEnd};
 ghost use Rattle.yaml_scan.specs.inside.Opened.{is_new, opened};

@@ -1,14 +1,13 @@
 //! The parser: scan, peek and skip, one call after the other.
-ghost use Rattle.std.specs.Prelude.{◌≡◌, ◌⊎◌, ℕ, ◌+◌, ◌≤◌, ◌<◌, [], length, MatchResult, Some, true, false, option_map};
+ghost use Rattle.std.specs.Prelude.{◌≡◌, ◌⊎◌, ◌+◌, ◌≤◌, ◌<◌, length, MatchResult, Some, true, false, option_map};
 ghost use Rattle.std.specs.Borrow.{sem};
-ghost use Rattle.yaml_text.specs.Fault.{Fault, fault_of, zero_mark};
-ghost use Rattle.yaml_text.specs.Token.{data_of, token_of};
+ghost use Rattle.yaml_text.specs.Fault.{Fault, fault_of};
+ghost use Rattle.yaml_text.specs.Token.{token_of};
 ghost use Rattle.yaml_text.specs.declared.types.yaml_encoding_t.TheVariants.{YAML_UTF8_ENCODING};
-ghost use Rattle.yaml_text.specs.Decode.{refusal_seen};
 ghost use Rattle.yaml_scan.specs.Keys.{key_limit, most_key_limit};
-ghost use Rattle.yaml_scan.specs.Settled.{before, queued};
+ghost use Rattle.yaml_scan.specs.Settled.{before};
 ghost use Rattle.yaml_scan.specs.Session.{new_session, session_queued, session_reach};
-ghost use Rattle.yaml_scan.specs.inside.Scanning.{Runs, IsOpen, history};
+ghost use Rattle.yaml_scan.specs.inside.Scanning.{Runs, history};
 ghost use Rattle.yaml_scan.specs.inside.Ready.{IsNew, IsReady, IsSettled, IsStopped, IsShort, IsEnded, Pops, Begins};
 ghost use Rattle.yaml_scan.specs.inside.Ready.{IsStarted, IsShown};
 ghost use Rattle.yaml_scan.specs.Headline.{Calls};
@@ -16,8 +15,6 @@ ghost use Rattle.yaml_scan.specs.Parser.{Parser, told, token_shown, after_call, 
 ghost use Rattle.yaml_scan.specs.inside.Shown.{Shows};
 ghost use Rattle.yaml_scan.specs.Parser.{answered, told_copied, shown, course_read};
 ghost use Rattle.yaml_scan.specs.CallMarks.{IsCountedIn, ReachesTo};
-ghost use Rattle.yaml_scan.specs.Token.{is_last_type, type_of};
-ghost use Rattle.yaml_scan.specs.inside.NearFault.{near_fault};
 ghost use Rattle.yaml_scan.specs.Session.Call.{SKIP, SCAN, PEEK};
 ghost use Rattle.yaml_scan.specs.Peek.{OnceLetGo};
 ghost use Rattle.yaml_scan.specs.Puts.{HasNext, IsAnsweredAlike};
@@ -35,8 +32,7 @@ use std::alloc::Global;
 use std::collections::VecDeque;
 use std::marker::Model;
 use yaml_text::{
-    unnamed_yaml_token_t_data, yaml_decode_front, yaml_encoding_t, yaml_fault_t, yaml_mark_t,
-    yaml_text_t, yaml_token_t,
+    yaml_decode_front, yaml_encoding_t, yaml_fault_t, yaml_mark_t, yaml_text_t, yaml_token_t,
 };
 
 /// A parser of an input. Its tokens are taken one after the other.

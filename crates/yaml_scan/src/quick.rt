@@ -1,5 +1,5 @@
 //! Quick steps: a step is made at once if a quick look shows that no fault comes of it.
-ghost use Rattle.std.specs.Prelude.{◌≡◌, ◌<◌, ◌^◌, ◌+◌, List, length, true, false, IfSome, vec_len};
+ghost use Rattle.std.specs.Prelude.{◌≡◌, ◌<◌, ◌+◌, List, true, false, IfSome, vec_len};
 ghost use Rattle.std.specs.Prelude.{◌&&◌, ◌==◌, not, None, if◌then◌else◌};
 ghost use Rattle.yaml_scan.specs.Laid.{Laid};
 ghost use Rattle.yaml_scan.specs.Step.{problem_of};

@@ -1,5 +1,5 @@
 //! Quick steps in flow.
-ghost use Rattle.std.specs.Prelude.{◌≡◌, ◌<◌, List, false, vec_len};
+ghost use Rattle.std.specs.Prelude.{◌<◌, List, false, vec_len};
 ghost use Rattle.yaml_lexeme.specs.declared.kind.yaml_lexeme_kind_t.TheVariants.{DOUBLE_QUOTED, FLOW_ENTRY};
 ghost use Rattle.yaml_lexeme.specs.declared.kind.yaml_lexeme_kind_t.TheVariants.{FLOW_MAPPING_END, FLOW_MAPPING_START};
 ghost use Rattle.yaml_lexeme.specs.declared.kind.yaml_lexeme_kind_t.TheVariants.{FLOW_SEQUENCE_END};

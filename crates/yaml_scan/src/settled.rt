@@ -1,9 +1,7 @@
 //! The running scanner: as many steps are made as the next token needs.
-ghost use Rattle.std.specs.Prelude.{◌≡◌, ◌⊎◌, ℕ, ◌+◌, ◌-◌, ◌<◌, ◌≤◌, ◌^◌, ◌&&◌, not, nat_lt, nat_eq, length, true};
+ghost use Rattle.std.specs.Prelude.{◌≡◌, ◌⊎◌, ◌+◌, ◌-◌, ◌<◌, ◌^◌, ◌&&◌, not, nat_lt, nat_eq, length};
 ghost use Rattle.std.specs.Prelude.{false, MatchResult};
-ghost use Rattle.yaml_text.specs.Decode.{refusal_seen};
-ghost use Rattle.yaml_text.specs.Fault.{fault_of, memory_fault};
-ghost use Rattle.yaml_scan.specs.inside.NearFault.{near_fault, instead};
+ghost use Rattle.yaml_text.specs.Fault.{memory_fault};
 ghost use Rattle.yaml_scan.specs.inside.Queue.{begins_with_end, pending};
 ghost use Rattle.yaml_scan.specs.Settled.{before};
 ghost use Rattle.yaml_scan.specs.Order.{ended};
@@ -17,7 +15,7 @@ use crate::groups::has_ends;
 use crate::near::{near_problem, near_reading};
 use crate::quick::quick_step;
 use crate::step::{lay, meet, scanner_t};
-use yaml_text::{yaml_error_type_t, yaml_fault_t, yaml_mark_t, yaml_token_t};
+use yaml_text::yaml_fault_t;
 
 /// Whether the head of the queue is the token of the lowest candidate.
 #[inline(always)]

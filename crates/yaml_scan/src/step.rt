@@ -1,7 +1,7 @@
 //! The steps of a text: the next lexeme, and what the layout makes of it.
-ghost use Rattle.std.specs.Prelude.{◌≡◌, ◌⊎◌, ℕ, ◌+◌, ◌-◌, ◌<◌, ◌≤◌, ◌^◌, ◌&&◌, ◌||◌, not, nat_lt, nat_eq, length};
-ghost use Rattle.std.specs.Prelude.{List, [], ◌∷◌, ◌++◌, vec_len, reverse, map, true, false, Option, Some, None};
-ghost use Rattle.std.specs.Prelude.{option_map, IfOk, OnOk, OnErr, MatchResult, if◌then◌else◌, ◌==◌};
+ghost use Rattle.std.specs.Prelude.{◌≡◌, ◌⊎◌, ◌+◌, ◌-◌, ◌<◌, ◌^◌, ◌&&◌, ◌||◌, not, length};
+ghost use Rattle.std.specs.Prelude.{List, [], ◌∷◌, ◌++◌, vec_len, map, false, Option, Some, None};
+ghost use Rattle.std.specs.Prelude.{MatchResult, if◌then◌else◌, ◌==◌};
 ghost use Rattle.yaml_text.specs.Fault.{memory_fault, scanner_fault};
 ghost use Rattle.yaml_scan.specs.inside.Stop.{fault_at};
 ghost use Rattle.yaml_text.specs.Token.{data_of, token_of};
@@ -9,7 +9,7 @@ ghost use Rattle.yaml_scan.specs.Fault.{no_token, in_next_token};
 ghost use Rattle.yaml_scan.specs.Laid.{Laid};
 ghost use Rattle.yaml_scan.specs.Allowed.{allowed};
 ghost use Rattle.yaml_scan.specs.Order.{ended};
-ghost use Rattle.yaml_scan.specs.inside.Slots.{is_margin_level, needed, lost_held, still_held, root_of, slot_after};
+ghost use Rattle.yaml_scan.specs.inside.Slots.{is_margin_level, needed, still_held, slot_after};
 ghost use Rattle.yaml_scan.specs.inside.Slots.{nested_outer};
 ghost use Rattle.yaml_scan.specs.inside.Slots.{nested_top};
 ghost use Rattle.yaml_scan.specs.inside.Slots.{empty_slots, lowest, step_of, AreNested};
@@ -17,7 +17,7 @@ ghost use Rattle.std.specs.Vec.{vec_capacity};
 ghost use Rattle.yaml_scan.specs.Step.{problem_of, replaces, step};
 ghost use Rattle.yaml_scan.specs.inside.StepFaults.{IsLost, IsRefused};
 ghost use Rattle.yaml_scan.specs.inside.Scanning.{CanLay, CanPut, Holds, IsMet, Advances, Offends, Stays};
-ghost use Rattle.yaml_scan.specs.inside.Scanning.{lost_after, text_of};
+ghost use Rattle.yaml_scan.specs.inside.Scanning.{lost_after};
 ghost use Rattle.yaml_lexeme.specs.Lexeme.{lexeme_of};
 ghost use Rattle.std.specs.Option.{option_copied};
 

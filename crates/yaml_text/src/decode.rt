@@ -1,6 +1,6 @@
 //! Decoding: the text that an input spells, or its longest front and what is wrong after it.
-ghost use Rattle.std.specs.Prelude.{ℕ, ◌≡◌, ◌+◌, ◌<◌, ◌≤◌, ◌^◌, ◌⊎◌, option_map, length, take, drop, true, false};
-ghost use Rattle.std.specs.Prelude.{if◌then◌else◌, IfOk, IfErr, IsOk, IsNone, OnSome, IfSome};
+ghost use Rattle.std.specs.Prelude.{◌≡◌, ◌+◌, ◌<◌, ◌≤◌, ◌^◌, ◌⊎◌, option_map, length, take, drop, true, false};
+ghost use Rattle.std.specs.Prelude.{IfOk, IfErr, IsOk, IsNone, IfSome};
 ghost use Rattle.yaml_text.specs.Chars.{IsText, utf8};
 ghost use Rattle.yaml_text.specs.Utf8.{offence8};
 ghost use Rattle.yaml_text.specs.Decode.{BeginsWithNone, Fronts, IsFrontOf, encoding_of, dropped, behind_mark};

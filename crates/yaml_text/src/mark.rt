@@ -1,5 +1,5 @@
 //! The marks of a text's places.
-ghost use Rattle.std.specs.Prelude.{ℕ, ◌≡◌, ◌+◌, ◌-◌, ◌<◌, ◌≤◌, ◌↔◌, ◌&&◌, [], true, false, not, nat_le, nat_lt};
+ghost use Rattle.std.specs.Prelude.{ℕ, ◌≡◌, ◌+◌, ◌-◌, ◌<◌, ◌↔◌, ◌&&◌, [], true, false, not, nat_le, nat_lt};
 ghost use Rattle.std.specs.Prelude.{length, slice_index, if◌then◌else◌, IsTrue};
 ghost use Rattle.yaml_text.specs.Classes.{is_break, is_crlf_at};
 ghost use Rattle.yaml_text.specs.Utf8.{width_of, continues};

@@ -1,5 +1,5 @@
 //! Reading UTF-16.
-ghost use Rattle.std.specs.Prelude.{ℕ, ◌≡◌, ◌+◌, ◌-◌, ◌<◌, ◌≤◌, ◌++◌, length, take, drop, slice_index, IfOk, IfErr};
+ghost use Rattle.std.specs.Prelude.{◌≡◌, ◌+◌, ◌-◌, ◌<◌, length, drop, IfOk, IfErr};
 ghost use Rattle.std.specs.Prelude.{OnErr, IfSome, IsNone};
 ghost use Rattle.yaml_text.specs.Chars.{IsChar};
 ghost use Rattle.yaml_text.specs.Utf16.{unit_at, is_low, is_high, spelling16, offence16, Begins16, BeginsWithNone16};
