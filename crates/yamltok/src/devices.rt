@@ -20,11 +20,11 @@ pub trait yaml_source_t {
 
     /// Reads into the front of the slice, and returns how many bytes; 0 is the end. An `Err` comes if the
     /// device fails in this call; then nothing was read.
-    fn pull(&mut self, buf: &mut [u8]) -> Result<usize, yaml_broken_t>
+    fn pull(&mut self, buffer: &mut [u8]) -> Result<usize, yaml_broken_t>
         requires working { failed self.old ≡ false }
-        requires room { 0 < length buf.old }
-        ensures bound { ReadsAtMost result buf.new }
-        ensures bytes { ReadConsumes (remaining self.old) (remaining self.new) result buf.new }
+        requires room { 0 < length buffer.old }
+        ensures bound { ReadsAtMost result buffer.new }
+        ensures bytes { ReadConsumes (remaining self.old) (remaining self.new) result buffer.new }
         ensures failed { failed self.new ≡ is_err result };
 
     /// Whether a call has failed.
@@ -81,8 +81,8 @@ impl<R: Read + Drop> yaml_source_t for yaml_source_of_t<R> {
 
     ghost failed = { λ s. source_failed s };
 
-    fn pull(&mut self, buf: &mut [u8]) -> Result<usize, yaml_broken_t> {
-        match self.inner.read(buf) {
+    fn pull(&mut self, buffer: &mut [u8]) -> Result<usize, yaml_broken_t> {
+        match self.inner.read(buffer) {
             Ok(count) => Ok(count),
             Err(_) => {
                 self.failed = true;

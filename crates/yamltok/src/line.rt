@@ -5,7 +5,7 @@ ghost use Rattle.yaml_text.specs.declared.types.yaml_scalar_style_t.TheVariants.
 ghost use Rattle.yaml_text.specs.declared.types.yaml_token_type_t.TheVariants.{YAML_NO_TOKEN};
 ghost use Rattle.yaml_text.specs.Token.{data_of, token_of, type_of};
 ghost use Rattle.yaml_scan.specs.Words.{HasWords};
-ghost use Rattle.yamltok.specs.Put.{spaced};
+ghost use Rattle.yamltok.specs.Put.{Puts, spaced};
 ghost use Rattle.yamltok.specs.Listing.{bytes_text, type_name, style_word, data_parts, token_line};
 
 use crate::put::{set_bytes, set_mark};
@@ -19,10 +19,10 @@ pub const LINE: usize = 1024;
 const SHORT: usize = 400;
 
 /// A name has at most 20 bytes.
-const ROW: usize = 20;
+pub const ROW: usize = 20;
 
 /// A row that ends with the name of a type of tokens, and how long the name is.
-fn name_row(kind: yaml_token_type_t) -> (&'static [u8; ROW], usize)
+pub fn name_row(kind: yaml_token_type_t) -> (&'static [u8; ROW], usize)
     ensures row { drop (20 - result.1) result.0.now ≡ type_name kind }
     ensures len { result.1 ≤ 20 }
 {
@@ -53,7 +53,7 @@ fn name_row(kind: yaml_token_type_t) -> (&'static [u8; ROW], usize)
 }
 
 /// A row that ends with a space and the word of a style, and how long they are.
-fn style_row(style: yaml_scalar_style_t) -> (&'static [u8; ROW], usize)
+pub fn style_row(style: yaml_scalar_style_t) -> (&'static [u8; ROW], usize)
     requires { style ≢ YAML_ANY_SCALAR_STYLE }
     ensures row { drop (20 - result.1) result.0.now ≡ codes " " ++ style_word style }
     ensures len { result.1 ≤ 8 }
@@ -66,6 +66,14 @@ fn style_row(style: yaml_scalar_style_t) -> (&'static [u8; ROW], usize)
         yaml_scalar_style_t::YAML_LITERAL_SCALAR_STYLE => (b"             literal", 8),
         yaml_scalar_style_t::YAML_FOLDED_SCALAR_STYLE => (b"              folded", 7),
     }
+}
+
+/// Appends the last bytes of a row to `out`.
+pub fn put_row(out: &mut Vec<u8>, row: &[u8; ROW], len: usize) -> Result<(), AllocError>
+    requires { len ≤ 20 }
+    ensures { Puts result out.old.items (drop (20 - len) row.now) out.new.items }
+{
+    out.extend_from_slice(&row[ROW - len..])
 }
 
 /// Writes the last bytes of a row before a place, and returns where they begin.

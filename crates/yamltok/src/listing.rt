@@ -12,11 +12,11 @@ ghost use Rattle.yaml_scan.specs.Words.{HasLine, HasWords};
 ghost use Rattle.yaml_scan.specs.Seen.{seen_of};
 ghost use Rattle.yaml_scan.specs.CallWords.{SeenHasLine, SeenHaveLines};
 ghost use Rattle.yamltok.specs.Put.{Puts, spaced};
-ghost use Rattle.yamltok.specs.Listing.{parted, encoding_word, bytes_text, type_name, style_word};
+ghost use Rattle.yamltok.specs.Listing.{parted, encoding_word, bytes_text, style_word};
 ghost use Rattle.yamltok.specs.Listing.{head_parts, data_parts, reader_line, scanner_line, fault_line, text_line};
 ghost use Rattle.yamltok.specs.Listing.{token_line, peek_line, answer_line, answer_lines};
 
-use crate::line::{LINE, put_end, set_line};
+use crate::line::{LINE, name_row, put_end, put_row, set_line, style_row};
 use crate::put::{cut_back, put_bytes, put_decimal, put_mark, put_part, put_signed, put_text};
 use std::alloc::AllocError;
 use yaml_scan::yaml_answer_t;
@@ -148,51 +148,6 @@ pub fn list_text(text: &yaml_text_t, out: &mut Vec<u8>) -> Result<(), AllocError
     cut_back(out, len, outcome)
 }
 
-/// The name of a type of tokens.
-fn type_name(kind: yaml_token_type_t) -> &'static str
-    ensures { result.now ≡ type_name kind }
-{
-    match kind {
-        yaml_token_type_t::YAML_NO_TOKEN => "NO-TOKEN",
-        yaml_token_type_t::YAML_STREAM_START_TOKEN => "STREAM-START",
-        yaml_token_type_t::YAML_STREAM_END_TOKEN => "STREAM-END",
-        yaml_token_type_t::YAML_VERSION_DIRECTIVE_TOKEN => "VERSION-DIRECTIVE",
-        yaml_token_type_t::YAML_TAG_DIRECTIVE_TOKEN => "TAG-DIRECTIVE",
-        yaml_token_type_t::YAML_DOCUMENT_START_TOKEN => "DOCUMENT-START",
-        yaml_token_type_t::YAML_DOCUMENT_END_TOKEN => "DOCUMENT-END",
-        yaml_token_type_t::YAML_BLOCK_SEQUENCE_START_TOKEN => "BLOCK-SEQUENCE-START",
-        yaml_token_type_t::YAML_BLOCK_MAPPING_START_TOKEN => "BLOCK-MAPPING-START",
-        yaml_token_type_t::YAML_BLOCK_END_TOKEN => "BLOCK-END",
-        yaml_token_type_t::YAML_FLOW_SEQUENCE_START_TOKEN => "FLOW-SEQUENCE-START",
-        yaml_token_type_t::YAML_FLOW_SEQUENCE_END_TOKEN => "FLOW-SEQUENCE-END",
-        yaml_token_type_t::YAML_FLOW_MAPPING_START_TOKEN => "FLOW-MAPPING-START",
-        yaml_token_type_t::YAML_FLOW_MAPPING_END_TOKEN => "FLOW-MAPPING-END",
-        yaml_token_type_t::YAML_BLOCK_ENTRY_TOKEN => "BLOCK-ENTRY",
-        yaml_token_type_t::YAML_FLOW_ENTRY_TOKEN => "FLOW-ENTRY",
-        yaml_token_type_t::YAML_KEY_TOKEN => "KEY",
-        yaml_token_type_t::YAML_VALUE_TOKEN => "VALUE",
-        yaml_token_type_t::YAML_ALIAS_TOKEN => "ALIAS",
-        yaml_token_type_t::YAML_ANCHOR_TOKEN => "ANCHOR",
-        yaml_token_type_t::YAML_TAG_TOKEN => "TAG",
-        yaml_token_type_t::YAML_SCALAR_TOKEN => "SCALAR",
-    }
-}
-
-/// The word of a style that a scalar has.
-fn style_word(style: yaml_scalar_style_t) -> &'static str
-    requires { style ≢ YAML_ANY_SCALAR_STYLE }
-    ensures { result.now ≡ style_word style }
-{
-    match style {
-        yaml_scalar_style_t::YAML_ANY_SCALAR_STYLE => unreachable!(),
-        yaml_scalar_style_t::YAML_PLAIN_SCALAR_STYLE => "plain",
-        yaml_scalar_style_t::YAML_SINGLE_QUOTED_SCALAR_STYLE => "single",
-        yaml_scalar_style_t::YAML_DOUBLE_QUOTED_SCALAR_STYLE => "double",
-        yaml_scalar_style_t::YAML_LITERAL_SCALAR_STYLE => "literal",
-        yaml_scalar_style_t::YAML_FOLDED_SCALAR_STYLE => "folded",
-    }
-}
-
 /// Appends the type and the marks of a token to `out`; the empty token has no marks.
 fn put_head(
     out: &mut Vec<u8>,
@@ -202,7 +157,8 @@ fn put_head(
 ) -> Result<(), AllocError>
     ensures { Puts result out.old.items (parted (head_parts kind start_mark end_mark)) out.new.items }
 {
-    put_text(out, type_name(kind))?;
+    let (row, len) = name_row(kind);
+    put_row(out, row, len)?;
     match kind {
         yaml_token_type_t::YAML_NO_TOKEN => Ok(()),
         _ => {
@@ -233,7 +189,8 @@ fn put_scalar(out: &mut Vec<u8>, value: &[u8], style: yaml_scalar_style_t) -> Re
     requires { style ≢ YAML_ANY_SCALAR_STYLE }
     ensures { Puts result out.old.items (spaced (style_word style ∷ bytes_text value.now ∷ [])) out.new.items }
 {
-    put_part(out, style_word(style))?;
+    let (row, len) = style_row(style);
+    put_row(out, row, len)?;
     put_bytes(out, value)
 }
 
@@ -350,10 +307,10 @@ pub fn list_answer(answer: &yaml_answer_t, out: &mut Vec<u8>) -> Result<(), Allo
     }
 }
 
-/// Appends the lines of these answers to `out`. If memory is refused, `out` may have some of them.
+/// Appends the lines of these answers to `out`. If memory is refused, the old bytes are still its beginning.
 pub fn list_answers(answers: &[yaml_answer_t], out: &mut Vec<u8>) -> Result<(), AllocError>
     requires { SeenHaveLines (map seen_of answers.now) }
-    ensures { OnOk result (out.new.items ≡ out.old.items ++ answer_lines (map seen_of answers.now)) }
+    ensures { Puts result out.old.items (answer_lines (map seen_of answers.now)) out.new.items }
 {
     for answer in answers {
         list_answer(answer, out)?;
