@@ -206,6 +206,24 @@ fn begins(b: u8) -> bool
     b / 64 != 2
 }
 
+/// How many bytes from a place on begin a character, one byte at a time.
+#[inline(always)]
+fn count_slowly(text: &[u8], from: usize) -> usize
+    requires { from ≤ length text.now }
+    ensures value { result ≡ count_by spec.begins (drop from text.now) }
+    ensures bound { result ≤ length text.now - from }
+{
+    let mut n: usize = 0;
+    let mut i = from;
+    'bytes: while i < text.len() {
+        if begins(text[i]) {
+            n += 1;
+        }
+        i += 1;
+    }
+    n
+}
+
 /// How many bytes begin a character.
 #[inline(never)]
 fn count_chars(text: &[u8]) -> usize
@@ -218,13 +236,7 @@ fn count_chars(text: &[u8]) -> usize
         n += starts(u8x16::from_slice(&text[i..])).count_ones() as usize;
         i += 16;
     }
-    'bytes: while i < text.len() {
-        if begins(text[i]) {
-            n += 1;
-        }
-        i += 1;
-    }
-    n
+    n + count_slowly(text, i)
 }
 
 fn part(text: &[u8], from: usize, to: usize) -> &[u8]

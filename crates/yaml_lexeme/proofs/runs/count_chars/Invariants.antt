@@ -8,9 +8,3 @@ invariant-wide l = (l.n + count_by begins (drop l.i l.text) ≡ count_by begins 
 
 abbrev pub decreases-wide : goal.decreases-wide
 decreases-wide l = length l.text - l.i
-
-abbrev pub invariant-bytes : goal.invariant-bytes
-invariant-bytes l = (l.n + count_by begins (drop l.i l.text) ≡ count_by begins l.text) × (l.i ≤ length l.text)
-
-abbrev pub decreases-bytes : goal.decreases-bytes
-decreases-bytes l = length l.text - l.i
