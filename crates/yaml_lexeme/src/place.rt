@@ -368,7 +368,8 @@ impl<'a> cursor_t<'a> {
     /// Takes the spaces that are here, but at most `most`.
     #[inline(always)]
     pub fn skip_spaces(&mut self, most: u64)
-        ensures { self.new ≡ skip (min (run_len (class_test SPACE) self.old) most) self.old }
+        ensures value { self.new ≡ skip (min (run_len (class_test SPACE) self.old) most) self.old }
+        ensures room { run_len (class_test SPACE) self.old < 2 ^ 64 }
     {
         let n = (spaces_len(self.bytes) as u64).min(most);
         self.mark = yaml_mark_t {
@@ -384,13 +385,7 @@ impl<'a> cursor_t<'a> {
     pub fn skip_all_spaces(&mut self)
         ensures { self.new ≡ behind (class_test SPACE) self.old }
     {
-        let n = spaces_len(self.bytes);
-        self.mark = yaml_mark_t {
-            index: self.mark.index + n as u64,
-            line: self.mark.line,
-            column: self.mark.column + n as u64,
-        };
-        self.bytes = rest(self.bytes, n);
+        self.skip_spaces(u64::MAX);
     }
 
     /// Takes the longest run of characters of the class.
