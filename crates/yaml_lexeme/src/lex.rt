@@ -147,8 +147,8 @@ fn take_whole_directive(alloc: Global, cursor: &mut cursor_t) -> Result<yaml_lex
     ensures { Gives lexeme_of result cursor.new (lexeme directive_to cursor.old (directives.directive cursor.old)) }
 {
     let start = cursor.mark();
-    let d = take_directive(alloc, cursor)?;
-    Ok(directive_to(start, d, cursor.mark()))
+    let directive = take_directive(alloc, cursor)?;
+    Ok(directive_to(start, directive, cursor.mark()))
 }
 
 fn block_style(folded: bool) -> yaml_scalar_style_t
@@ -174,8 +174,8 @@ fn take_block_scalar(
         (lexeme (scalar_to (spec.block_style folded)) cursor.old (blocks.block folded context.level cursor.old)) }
 {
     let start = cursor.mark();
-    let s = take_block(alloc, cursor, folded, context.level)?;
-    Ok(scalar_to(block_style(folded), start, s, cursor.mark()))
+    let scalar = take_block(alloc, cursor, folded, context.level)?;
+    Ok(scalar_to(block_style(folded), start, scalar, cursor.mark()))
 }
 
 /// What a quoted scalar says.
@@ -223,11 +223,11 @@ fn take_plain_scalar(
         (plains.plain (spec.in_flow context) (spec.least context) cursor.old)) }
 {
     let start = cursor.mark();
-    let s = take_plain(alloc, cursor, context.depth > 0, least(context))?;
+    let scalar = take_plain(alloc, cursor, context.depth > 0, least(context))?;
     Ok(scalar_to(
         yaml_scalar_style_t::YAML_PLAIN_SCALAR_STYLE,
         start,
-        s,
+        scalar,
         cursor.mark(),
     ))
 }
@@ -434,7 +434,7 @@ fn block_there(
 {
     let start = cursor.mark();
     match take_block(alloc, cursor, folded, context.level) {
-        Ok(s) => Some(scalar_to(block_style(folded), start, s, cursor.mark())),
+        Ok(scalar) => Some(scalar_to(block_style(folded), start, scalar, cursor.mark())),
         Err(_) => None,
     }
 }
@@ -471,8 +471,8 @@ pub fn yaml_block_at_once(
 
 /// The lexeme of one character, or the document marker, at a place; `None` for the other kinds.
 ///
-/// `at` must be the mark of a place of this text, as for [`yaml_lexeme_at`], and `kind` what `yaml_lexeme_kind` returns
-/// there. No memory is taken.
+/// `at` must be the mark of a place of this text, as for [`yaml_lexeme_at`]. It is what `yaml_lexeme_at` returns there
+/// for the kind. Marks count as everywhere: the index in bytes, the line and the column from 0. No memory is taken.
 #[tactic(auto, unfolding(crate::specs::Lex::lex))]
 #[inline(always)]
 pub fn yaml_character_at(
