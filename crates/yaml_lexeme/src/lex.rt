@@ -18,6 +18,7 @@ ghost use Rattle.yaml_lexeme.specs.Gives.{Gives};
 ghost use Rattle.yaml_lexeme.specs.Answers.{Answers};
 ghost use Rattle.yaml_lexeme.specs.Lexeme.{lexeme, lexeme_of, span_lexeme, whole, scalar_to, directive_to};
 ghost use Rattle.yaml_lexeme.specs.declared.kind.yaml_lexeme_kind_t.TheVariants.{PLAIN};
+ghost use Rattle.yaml_lexeme.specs.declared.lex.yaml_context_t.{yaml_context_t};
 ghost use Rattle.yaml_text.specs.Token.{data_of};
 
 use crate::block::{above, take_block};
@@ -391,7 +392,7 @@ fn quoted_there<'a>(cursor: &mut cursor_t<'a>, single: bool) -> Option<span_t<'a
 /// The quoted scalar at a place, if a quick look shows that its value is the bytes between its quotes.
 ///
 /// `at` must be the mark of a place of this text, as for `yaml_lexeme_at`. It is what `yaml_lexeme_at` returns there
-/// for the kind. Marks count as everywhere: the index in bytes, the line and the column from 0.
+/// for the kind, in any context. Marks count as everywhere: the index in bytes, the line and the column from 0.
 ///
 /// `None` says nothing: the scalar may go on in a further line, it may have an escape or an offence, the kind may be
 /// that of no quoted scalar, or there is no memory for the value. Ask `yaml_lexeme_at` then.
@@ -402,10 +403,9 @@ pub fn yaml_quoted_at_once(
     text: &yaml_text_t,
     at: yaml_mark_t,
     kind: yaml_lexeme_kind_t,
-    context: yaml_context_t,
 ) -> Option<yaml_lexeme_t>
     requires { (n : ℕ) × IsMarkOf text.now.chars at n }
-    ensures { IfSome result (λ x. (n : ℕ) → IsMarkOf text.now.chars at n
+    ensures { IfSome result (λ x. (n : ℕ) (context : yaml_context_t) → IsMarkOf text.now.chars at n
         → spec.lexeme_at kind context (place_at text.now.chars n) ≡ Ok (lexeme_of x)) }
 {
     let mut cursor = cursor_t::at(text, at);
@@ -472,17 +472,17 @@ pub fn yaml_block_at_once(
 /// The lexeme of one character, or the document marker, at a place; `None` for the other kinds.
 ///
 /// `at` must be the mark of a place of this text, as for [`yaml_lexeme_at`]. It is what `yaml_lexeme_at` returns there
-/// for the kind. Marks count as everywhere: the index in bytes, the line and the column from 0. No memory is taken.
+/// for the kind, in any context. Marks count as everywhere: the index in bytes, the line and the column from 0. No
+/// memory is taken.
 #[tactic(auto, unfolding(crate::specs::Lex::lex))]
 #[inline(always)]
 pub fn yaml_character_at(
     text: &yaml_text_t,
     at: yaml_mark_t,
     kind: yaml_lexeme_kind_t,
-    context: yaml_context_t,
 ) -> Option<yaml_lexeme_t>
     requires { (n : ℕ) × IsMarkOf text.now.chars at n }
-    ensures { IfSome result (λ x. (n : ℕ) → IsMarkOf text.now.chars at n
+    ensures { IfSome result (λ x. (n : ℕ) (context : yaml_context_t) → IsMarkOf text.now.chars at n
         → spec.lexeme_at kind context (place_at text.now.chars n) ≡ Ok (lexeme_of x)) }
 {
     let mut cursor = cursor_t::at(text, at);
