@@ -3,8 +3,8 @@ ghost use Rattle.std.specs.Prelude.{◌≡◌, ◌<◌, ◌≤◌, Some, false, 
 ghost use Rattle.yaml_text.specs.Classes.{is_break};
 ghost use Rattle.yaml_lexeme.specs.Place.{first, peek, skip};
 ghost use Rattle.yaml_lexeme.specs.Escape as spec;
-ghost use Rattle.yaml_lexeme.specs.Runs as runs;
-ghost use Rattle.yaml_lexeme.specs.Gives.{Gives};
+ghost use Rattle.yaml_lexeme.specs.inside.Runs as runs;
+ghost use Rattle.yaml_lexeme.specs.inside.Gives.{Gives};
 
 use crate::place::cursor_t;
 use crate::problem::{problem_t, refusal_t};

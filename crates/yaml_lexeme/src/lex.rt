@@ -14,7 +14,7 @@ ghost use Rattle.yaml_lexeme.specs.Tag as tags;
 ghost use Rattle.yaml_text.specs.declared.types.yaml_scalar_style_t.TheVariants.{YAML_PLAIN_SCALAR_STYLE};
 ghost use Rattle.yaml_lexeme.specs.Place.{IsMarkOf, place_at, skip};
 ghost use Rattle.yaml_lexeme.specs.Reading.{found};
-ghost use Rattle.yaml_lexeme.specs.Gives.{Gives};
+ghost use Rattle.yaml_lexeme.specs.inside.Gives.{Gives};
 ghost use Rattle.yaml_lexeme.specs.Answers.{Answers};
 ghost use Rattle.yaml_lexeme.specs.Lexeme.{lexeme, lexeme_of, span_lexeme, whole, scalar_to, directive_to};
 ghost use Rattle.yaml_lexeme.specs.declared.kind.yaml_lexeme_kind_t.TheVariants.{PLAIN};

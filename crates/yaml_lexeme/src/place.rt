@@ -7,7 +7,7 @@ ghost use Rattle.yaml_text.specs.Utf8.{value_of};
 ghost use Rattle.yaml_lexeme.specs.Place.{peek, first, place_at, IsMarkOf, skip, mark_behind, width, behind, run};
 ghost use Rattle.yaml_lexeme.specs.Place.{run_len, break_len};
 ghost use Rattle.yaml_lexeme.specs.declared.runs.class_t.TheVariants.{SPACE};
-ghost use Rattle.yaml_lexeme.specs.Runs.{class_test, is_line, Stands};
+ghost use Rattle.yaml_lexeme.specs.inside.Runs.{class_test, is_line, Stands};
 
 use crate::classes::is_break;
 use crate::runs::{class_t, is_in, quiet_len, spaces_len, trimmed};

@@ -2,7 +2,7 @@
 ghost use Rattle.std.specs.Prelude.{◌≡◌, ◌+◌, ◌-◌, ◌≤◌, true, length, take, drop, map};
 ghost use Rattle.std.specs.List.{prefix_len, count_by};
 ghost use Rattle.std.specs.Simd.Lanes.{mask_l};
-ghost use Rattle.yaml_lexeme.specs.Runs as spec;
+ghost use Rattle.yaml_lexeme.specs.inside.Runs as spec;
 ghost use Rattle.yaml_lexeme.specs.declared.runs.class_t.TheVariants.{SPACE, ALPHA, BLANK, IN_LINE, DOUBLE, SINGLE};
 ghost use Rattle.yaml_lexeme.specs.declared.runs.class_t.TheVariants.{PLAIN, FLOW};
 

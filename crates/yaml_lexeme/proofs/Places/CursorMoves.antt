@@ -16,7 +16,7 @@ use Rattle.yaml_text.proofs.Marks.MarkMoves.{AreChars-parts}
 use Rattle.yaml_text.proofs.Characters.ClassTables.{Leads, leads}
 use Rattle.yaml_lexeme.specs.Place.{first, Place, place_at, IsMarkOf, ends_line, skip_from, skip, behind, run, run_len, mark_behind, width}
 use Rattle.yaml_lexeme.specs.declared.runs.class_t.{class_t}
-use Rattle.yaml_lexeme.specs.Runs.{is_quiet, class_test, begins}
+use Rattle.yaml_lexeme.specs.inside.Runs.{is_quiet, class_test, begins}
 use Rattle.yaml_lexeme.proofs.Places.PlaceMoves.{skip_skip, moved, rest_skip, is_there}
 use Rattle.yaml_lexeme.proofs.Places.FirstCharacters.{head, ascii_head, past_ascii, some_bytes}
 use Rattle.yaml_lexeme.proofs.ManyBytes.QuietRuns.{Over, over, along, count_chars, spaces_bytes, over_spaces}

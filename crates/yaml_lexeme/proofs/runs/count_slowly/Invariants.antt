@@ -1,6 +1,6 @@
 use Rattle.std.proofs.Common.{◌≡◌, ◌+◌, ◌-◌, ◌≤◌, length, drop}
 use Rattle.std.specs.List.{count_by}
-use Rattle.yaml_lexeme.specs.Runs.{begins}
+use Rattle.yaml_lexeme.specs.inside.Runs.{begins}
 use Rattle.yaml_lexeme.proofs.runs.count_slowly.Given as goal
 
 abbrev pub invariant-bytes : goal.invariant-bytes

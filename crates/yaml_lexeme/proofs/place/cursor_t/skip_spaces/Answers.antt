@@ -1,7 +1,7 @@
 use Rattle.std.proofs.Common.{◌≡◌, ◌∙◌, min, ap, arith}
 use Rattle.std.proofs.lemmas.List.{length-drop}
 use Rattle.yaml_lexeme.specs.Place.{run_len, skip}
-use Rattle.yaml_lexeme.specs.Runs.{class_test}
+use Rattle.yaml_lexeme.specs.inside.Runs.{class_test}
 use Rattle.yaml_lexeme.specs.declared.runs.class_t.TheVariants.{SPACE}
 use Rattle.yaml_lexeme.proofs.Places.CursorMoves.{SpaceMove, space_moves, spaces_here}
 use Rattle.yaml_lexeme.proofs.place.cursor_t.skip_spaces.Goals as goal
