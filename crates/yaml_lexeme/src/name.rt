@@ -1,5 +1,5 @@
 //! Anchors and aliases.
-ghost use Rattle.std.specs.Prelude.{◌≡◌, ◌++◌, OnOk};
+ghost use Rattle.std.specs.Prelude.{◌≡◌};
 ghost use Rattle.yaml_text.specs.Classes.{is_alpha};
 ghost use Rattle.yaml_lexeme.specs.Place as place;
 ghost use Rattle.yaml_lexeme.specs.Name as spec;

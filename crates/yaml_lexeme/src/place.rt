@@ -1,7 +1,7 @@
 //! A place that moves through a text.
-ghost use Rattle.std.specs.Prelude.{ℕ, min, ◌≡◌, ◌+◌, ◌-◌, ◌^◌, ◌<◌, ◌≤◌, length, slice_index, take, drop, false, true};
+ghost use Rattle.std.specs.Prelude.{ℕ, min, ◌≡◌, ◌+◌, ◌^◌, ◌<◌, ◌≤◌, length, slice_index, take, drop, false, true};
 ghost use Rattle.std.specs.Str.{chars};
-ghost use Rattle.yaml_text.specs.Chars.{IsText, AreChars, utf8};
+ghost use Rattle.yaml_text.specs.Chars.{IsText, utf8};
 ghost use Rattle.yaml_text.specs.Classes.{is_break};
 ghost use Rattle.yaml_text.specs.Utf8.{value_of};
 ghost use Rattle.yaml_lexeme.specs.Place.{peek, first, place_at, IsMarkOf, skip, mark_behind, width, behind, run};

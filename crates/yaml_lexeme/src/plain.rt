@@ -14,7 +14,7 @@ ghost use Rattle.yaml_lexeme.specs.Reading.{found, with_front, over};
 ghost use Rattle.yaml_lexeme.specs.inside.Words.{links, words, plain_of, Goes, LeadsTo, Leaves, LeavesMore};
 
 use crate::classes::{ends, is_break, is_white};
-use crate::fold::{push_char, push_separator};
+use crate::fold::push_separator;
 use crate::kind::is_marker;
 use crate::lexeme::span_t;
 use crate::place::{check_at, cursor_t, is_at};

@@ -1,5 +1,5 @@
 //! Uris of tags, and their escapes.
-ghost use Rattle.std.specs.Prelude.{◌≡◌, ◌++◌, ◌∷◌, [], ◌<◌, ◌≤◌, true, OnOk};
+ghost use Rattle.std.specs.Prelude.{◌≡◌, ◌++◌, ◌∷◌, [], ◌<◌, true, OnOk};
 ghost use Rattle.yaml_lexeme.specs.Uri as spec;
 ghost use Rattle.yaml_lexeme.specs.inside.Gives.{Gives, Takes, Appends, OctetIs};
 
