@@ -191,7 +191,7 @@ fn found_at_once(
         yaml_lexeme_kind_t::LITERAL | yaml_lexeme_kind_t::FOLDED => {
             yaml_block_at_once(alloc, &text, FRONT, kind, context)
         }
-        _ => yaml_quoted_at_once(alloc, &text, FRONT, kind, context),
+        _ => yaml_quoted_at_once(alloc, &text, FRONT, kind),
     };
     match found {
         Some(lexeme) => show_lexeme(alloc, &lexeme),
@@ -831,11 +831,7 @@ fn characters_end(alloc: Global, bytes: &[u8], kind: yaml_lexeme_kind_t) -> Resu
     let Ok(text) = yaml_decode(alloc, bytes, ANY) else {
         return Err("refused".into());
     };
-    let context = yaml_context_t {
-        depth: 0,
-        level: None,
-    };
-    match yaml_character_at(&text, FRONT, kind, context) {
+    match yaml_character_at(&text, FRONT, kind) {
         Some(lexeme) => Ok(lexeme.end_mark.index),
         None => Ok(0),
     }

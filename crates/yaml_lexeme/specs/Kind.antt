@@ -23,7 +23,7 @@ is_indicator c = is_one_of (codes "-?:,[]{}#&*!|>'\"%@`") c
 abbrev pub starts_plain : Bool → ℕ → Bool
 starts_plain flow c = not (ends c || is_indicator c) || (c == 0x2D || (not flow && (c == 0x3F || c == 0x3A)))
 
--- the first row that fits, if one does
+-- the first of these kinds that fits, if one does
 unfoldable pub kind_at : Bool → Place → Option yaml_lexeme_kind_t
 kind_at flow p =
     let c = first p in

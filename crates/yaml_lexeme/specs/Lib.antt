@@ -17,13 +17,10 @@ pub mod Tag
 pub mod Directive
 pub mod Lex
 pub mod FaultTexts
-pub mod Gives
-pub mod Words
-pub mod Tails
 pub mod Answers
-pub mod Runs
 pub mod Order
 pub mod Locality
 pub mod Counted
 pub mod Whole
 pub mod Parts
+pub mod inside

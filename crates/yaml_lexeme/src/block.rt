@@ -3,9 +3,9 @@ ghost use Rattle.std.specs.Prelude.{◌≡◌, ◌+◌, ◌++◌, ◌<◌, ◌^�
 ghost use Rattle.yaml_text.specs.Chars.{utf8};
 ghost use Rattle.yaml_lexeme.specs.Block as spec;
 ghost use Rattle.yaml_lexeme.specs.Lexeme.{scalar_of};
-ghost use Rattle.yaml_lexeme.specs.Gives.{Gives, Moves};
+ghost use Rattle.yaml_lexeme.specs.inside.Gives.{Gives, Moves};
 ghost use Rattle.yaml_lexeme.specs.Place.{skip, break_len};
-ghost use Rattle.yaml_lexeme.specs.Tails.{TakesBlanks, TakesLine, between_tail, chomped_tail};
+ghost use Rattle.yaml_lexeme.specs.inside.Tails.{TakesBlanks, TakesLine, between_tail, chomped_tail};
 
 use crate::classes::{is_blank, is_break};
 use crate::fold::{push_char, written};

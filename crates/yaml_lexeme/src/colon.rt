@@ -1,5 +1,5 @@
 //! The `:` of a value, found at once.
-ghost use Rattle.std.specs.Prelude.{ℕ, Bool, ◌≡◌, false, Some, Ok, IfSome};
+ghost use Rattle.std.specs.Prelude.{ℕ, ◌≡◌, false, Some, Ok, IfSome};
 ghost use Rattle.yaml_lexeme.specs.Gap as gaps;
 ghost use Rattle.yaml_lexeme.specs.Kind as kinds;
 ghost use Rattle.yaml_lexeme.specs.Lex as spec;

@@ -4,7 +4,7 @@ ghost use Rattle.yaml_text.specs.Classes as classes;
 ghost use Rattle.yaml_text.specs.Token.{data_of};
 ghost use Rattle.yaml_lexeme.specs.Directive as spec;
 ghost use Rattle.yaml_lexeme.specs.Lexeme.{directive_of};
-ghost use Rattle.yaml_lexeme.specs.Gives.{Gives};
+ghost use Rattle.yaml_lexeme.specs.inside.Gives.{Gives};
 
 use crate::block::take_line_end;
 use crate::classes::{ends, is_blank};

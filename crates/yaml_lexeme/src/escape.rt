@@ -3,8 +3,8 @@ ghost use Rattle.std.specs.Prelude.{◌≡◌, ◌<◌, ◌≤◌, Some, false, 
 ghost use Rattle.yaml_text.specs.Classes.{is_break};
 ghost use Rattle.yaml_lexeme.specs.Place.{first, peek, skip};
 ghost use Rattle.yaml_lexeme.specs.Escape as spec;
-ghost use Rattle.yaml_lexeme.specs.Runs as runs;
-ghost use Rattle.yaml_lexeme.specs.Gives.{Gives};
+ghost use Rattle.yaml_lexeme.specs.inside.CommonEscapes.{is_common};
+ghost use Rattle.yaml_lexeme.specs.inside.Gives.{Gives};
 
 use crate::place::cursor_t;
 use crate::problem::{problem_t, refusal_t};
@@ -35,15 +35,15 @@ fn simple_escape(c: char) -> Option<char>
 /// Whether an escape is a common one: it gives a line feed, a tab or the character that is written.
 #[inline(always)]
 fn is_common(c: char) -> bool
-    ensures { result ≡ runs.is_common c }
+    ensures { result ≡ is_common c }
 {
-    matches!(c, 'n' | 't' | '"' | '\\' | '/' | ' ')
+    matches!(c, 'n' | 't' | '\t' | '"' | '\\' | '/' | ' ')
 }
 
 /// The character that a common escape gives. It is computed, since the processor can't guess which escape comes next.
 #[inline(always)]
 fn common_escape(c: char) -> char
-    requires { runs.is_common c ≡ true }
+    requires { is_common c ≡ true }
     ensures { Some result ≡ spec.simple_escape c }
 {
     let b = c as u32 as u8;

@@ -1,5 +1,5 @@
 //! What is between lexemes.
-ghost use Rattle.std.specs.Prelude.{ℕ, ◌≡◌, true, false, IfSome};
+ghost use Rattle.std.specs.Prelude.{ℕ, ◌≡◌, true, IfSome};
 ghost use Rattle.yaml_lexeme.specs.Place.{IsMarkOf, place_at, behind, peek};
 ghost use Rattle.yaml_lexeme.specs.Classes.{is_in_line};
 ghost use Rattle.yaml_lexeme.specs.Gap as spec;

@@ -14,10 +14,11 @@ ghost use Rattle.yaml_lexeme.specs.Tag as tags;
 ghost use Rattle.yaml_text.specs.declared.types.yaml_scalar_style_t.TheVariants.{YAML_PLAIN_SCALAR_STYLE};
 ghost use Rattle.yaml_lexeme.specs.Place.{IsMarkOf, place_at, skip};
 ghost use Rattle.yaml_lexeme.specs.Reading.{found};
-ghost use Rattle.yaml_lexeme.specs.Gives.{Gives};
+ghost use Rattle.yaml_lexeme.specs.inside.Gives.{Gives};
 ghost use Rattle.yaml_lexeme.specs.Answers.{Answers};
 ghost use Rattle.yaml_lexeme.specs.Lexeme.{lexeme, lexeme_of, span_lexeme, whole, scalar_to, directive_to};
 ghost use Rattle.yaml_lexeme.specs.declared.kind.yaml_lexeme_kind_t.TheVariants.{PLAIN};
+ghost use Rattle.yaml_lexeme.specs.declared.lex.yaml_context_t.{yaml_context_t};
 ghost use Rattle.yaml_text.specs.Token.{data_of};
 
 use crate::block::{above, take_block};
@@ -147,8 +148,8 @@ fn take_whole_directive(alloc: Global, cursor: &mut cursor_t) -> Result<yaml_lex
     ensures { Gives lexeme_of result cursor.new (lexeme directive_to cursor.old (directives.directive cursor.old)) }
 {
     let start = cursor.mark();
-    let d = take_directive(alloc, cursor)?;
-    Ok(directive_to(start, d, cursor.mark()))
+    let directive = take_directive(alloc, cursor)?;
+    Ok(directive_to(start, directive, cursor.mark()))
 }
 
 fn block_style(folded: bool) -> yaml_scalar_style_t
@@ -174,8 +175,8 @@ fn take_block_scalar(
         (lexeme (scalar_to (spec.block_style folded)) cursor.old (blocks.block folded context.level cursor.old)) }
 {
     let start = cursor.mark();
-    let s = take_block(alloc, cursor, folded, context.level)?;
-    Ok(scalar_to(block_style(folded), start, s, cursor.mark()))
+    let scalar = take_block(alloc, cursor, folded, context.level)?;
+    Ok(scalar_to(block_style(folded), start, scalar, cursor.mark()))
 }
 
 /// What a quoted scalar says.
@@ -223,11 +224,11 @@ fn take_plain_scalar(
         (plains.plain (spec.in_flow context) (spec.least context) cursor.old)) }
 {
     let start = cursor.mark();
-    let s = take_plain(alloc, cursor, context.depth > 0, least(context))?;
+    let scalar = take_plain(alloc, cursor, context.depth > 0, least(context))?;
     Ok(scalar_to(
         yaml_scalar_style_t::YAML_PLAIN_SCALAR_STYLE,
         start,
-        s,
+        scalar,
         cursor.mark(),
     ))
 }
@@ -391,7 +392,7 @@ fn quoted_there<'a>(cursor: &mut cursor_t<'a>, single: bool) -> Option<span_t<'a
 /// The quoted scalar at a place, if a quick look shows that its value is the bytes between its quotes.
 ///
 /// `at` must be the mark of a place of this text, as for `yaml_lexeme_at`. It is what `yaml_lexeme_at` returns there
-/// for the kind. Marks count as everywhere: the index in bytes, the line and the column from 0.
+/// for the kind, in any context. Marks count as everywhere: the index in bytes, the line and the column from 0.
 ///
 /// `None` says nothing: the scalar may go on in a further line, it may have an escape or an offence, the kind may be
 /// that of no quoted scalar, or there is no memory for the value. Ask `yaml_lexeme_at` then.
@@ -402,10 +403,9 @@ pub fn yaml_quoted_at_once(
     text: &yaml_text_t,
     at: yaml_mark_t,
     kind: yaml_lexeme_kind_t,
-    context: yaml_context_t,
 ) -> Option<yaml_lexeme_t>
     requires { (n : ℕ) × IsMarkOf text.now.chars at n }
-    ensures { IfSome result (λ x. (n : ℕ) → IsMarkOf text.now.chars at n
+    ensures { IfSome result (λ x. (n : ℕ) (context : yaml_context_t) → IsMarkOf text.now.chars at n
         → spec.lexeme_at kind context (place_at text.now.chars n) ≡ Ok (lexeme_of x)) }
 {
     let mut cursor = cursor_t::at(text, at);
@@ -434,7 +434,7 @@ fn block_there(
 {
     let start = cursor.mark();
     match take_block(alloc, cursor, folded, context.level) {
-        Ok(s) => Some(scalar_to(block_style(folded), start, s, cursor.mark())),
+        Ok(scalar) => Some(scalar_to(block_style(folded), start, scalar, cursor.mark())),
         Err(_) => None,
     }
 }
@@ -471,18 +471,18 @@ pub fn yaml_block_at_once(
 
 /// The lexeme of one character, or the document marker, at a place; `None` for the other kinds.
 ///
-/// `at` must be the mark of a place of this text, as for [`yaml_lexeme_at`], and `kind` what `yaml_lexeme_kind` returns
-/// there. No memory is taken.
+/// `at` must be the mark of a place of this text, as for [`yaml_lexeme_at`]. It is what `yaml_lexeme_at` returns there
+/// for the kind, in any context. Marks count as everywhere: the index in bytes, the line and the column from 0. No
+/// memory is taken.
 #[tactic(auto, unfolding(crate::specs::Lex::lex))]
 #[inline(always)]
 pub fn yaml_character_at(
     text: &yaml_text_t,
     at: yaml_mark_t,
     kind: yaml_lexeme_kind_t,
-    context: yaml_context_t,
 ) -> Option<yaml_lexeme_t>
     requires { (n : ℕ) × IsMarkOf text.now.chars at n }
-    ensures { IfSome result (λ x. (n : ℕ) → IsMarkOf text.now.chars at n
+    ensures { IfSome result (λ x. (n : ℕ) (context : yaml_context_t) → IsMarkOf text.now.chars at n
         → spec.lexeme_at kind context (place_at text.now.chars n) ≡ Ok (lexeme_of x)) }
 {
     let mut cursor = cursor_t::at(text, at);

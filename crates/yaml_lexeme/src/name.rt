@@ -1,9 +1,9 @@
 //! Anchors and aliases.
-ghost use Rattle.std.specs.Prelude.{◌≡◌, ◌++◌, OnOk};
+ghost use Rattle.std.specs.Prelude.{◌≡◌};
 ghost use Rattle.yaml_text.specs.Classes.{is_alpha};
 ghost use Rattle.yaml_lexeme.specs.Place as place;
 ghost use Rattle.yaml_lexeme.specs.Name as spec;
-ghost use Rattle.yaml_lexeme.specs.Gives.{Gives};
+ghost use Rattle.yaml_lexeme.specs.inside.Gives.{Gives};
 
 use crate::classes::ends;
 use crate::place::{cursor_t, is_at};

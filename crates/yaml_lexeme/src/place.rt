@@ -1,13 +1,13 @@
 //! A place that moves through a text.
-ghost use Rattle.std.specs.Prelude.{ℕ, min, ◌≡◌, ◌+◌, ◌-◌, ◌^◌, ◌<◌, ◌≤◌, length, slice_index, take, drop, false, true};
+ghost use Rattle.std.specs.Prelude.{ℕ, min, ◌≡◌, ◌+◌, ◌^◌, ◌<◌, ◌≤◌, length, slice_index, take, drop, false, true};
 ghost use Rattle.std.specs.Str.{chars};
-ghost use Rattle.yaml_text.specs.Chars.{IsText, AreChars, utf8};
+ghost use Rattle.yaml_text.specs.Chars.{IsText, utf8};
 ghost use Rattle.yaml_text.specs.Classes.{is_break};
 ghost use Rattle.yaml_text.specs.Utf8.{value_of};
 ghost use Rattle.yaml_lexeme.specs.Place.{peek, first, place_at, IsMarkOf, skip, mark_behind, width, behind, run};
 ghost use Rattle.yaml_lexeme.specs.Place.{run_len, break_len};
 ghost use Rattle.yaml_lexeme.specs.declared.runs.class_t.TheVariants.{SPACE};
-ghost use Rattle.yaml_lexeme.specs.Runs.{class_test, is_line, Stands};
+ghost use Rattle.yaml_lexeme.specs.inside.Runs.{class_test, is_line, Stands};
 
 use crate::classes::is_break;
 use crate::runs::{class_t, is_in, quiet_len, spaces_len, trimmed};
@@ -368,7 +368,8 @@ impl<'a> cursor_t<'a> {
     /// Takes the spaces that are here, but at most `most`.
     #[inline(always)]
     pub fn skip_spaces(&mut self, most: u64)
-        ensures { self.new ≡ skip (min (run_len (class_test SPACE) self.old) most) self.old }
+        ensures value { self.new ≡ skip (min (run_len (class_test SPACE) self.old) most) self.old }
+        ensures room { run_len (class_test SPACE) self.old < 2 ^ 64 }
     {
         let n = (spaces_len(self.bytes) as u64).min(most);
         self.mark = yaml_mark_t {
@@ -384,13 +385,7 @@ impl<'a> cursor_t<'a> {
     pub fn skip_all_spaces(&mut self)
         ensures { self.new ≡ behind (class_test SPACE) self.old }
     {
-        let n = spaces_len(self.bytes);
-        self.mark = yaml_mark_t {
-            index: self.mark.index + n as u64,
-            line: self.mark.line,
-            column: self.mark.column + n as u64,
-        };
-        self.bytes = rest(self.bytes, n);
+        self.skip_spaces(u64::MAX);
     }
 
     /// Takes the longest run of characters of the class.

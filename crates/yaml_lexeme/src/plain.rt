@@ -8,13 +8,13 @@ ghost use Rattle.yaml_text.specs.Chars.{utf8};
 ghost use Rattle.yaml_lexeme.specs.Classes as sets;
 ghost use Rattle.yaml_lexeme.specs.Place.{Place, first, peek, run, behind};
 ghost use Rattle.yaml_lexeme.specs.Plain as spec;
-ghost use Rattle.yaml_lexeme.specs.Gives.{Gives, Appends};
+ghost use Rattle.yaml_lexeme.specs.inside.Gives.{Gives, Appends};
 ghost use Rattle.yaml_lexeme.specs.Lexeme.{scalar_of, scalar_there};
 ghost use Rattle.yaml_lexeme.specs.Reading.{found, with_front, over};
-ghost use Rattle.yaml_lexeme.specs.Words.{links, words, plain_of, Goes, LeadsTo, Leaves, LeavesMore};
+ghost use Rattle.yaml_lexeme.specs.inside.Words.{links, words, plain_of, Goes, LeadsTo, Leaves, LeavesMore};
 
 use crate::classes::{ends, is_break, is_white};
-use crate::fold::{push_char, push_separator};
+use crate::fold::push_separator;
 use crate::kind::is_marker;
 use crate::lexeme::span_t;
 use crate::place::{check_at, cursor_t, is_at};

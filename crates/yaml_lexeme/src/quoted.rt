@@ -8,9 +8,9 @@ ghost use Rattle.yaml_lexeme.specs.declared.problem.refusal_t.TheVariants.{OFFEN
 ghost use Rattle.yaml_lexeme.specs.declared.problem.problem_t.TheVariants.{DOCUMENT_MARKER};
 ghost use Rattle.yaml_lexeme.specs.Kind as kind;
 ghost use Rattle.yaml_lexeme.specs.Quoted as spec;
-ghost use Rattle.yaml_lexeme.specs.Runs as runs;
-ghost use Rattle.yaml_lexeme.specs.Gives.{Gives, Takes};
-ghost use Rattle.yaml_lexeme.specs.Words.{GoesOn};
+ghost use Rattle.yaml_lexeme.specs.inside.Runs as runs;
+ghost use Rattle.yaml_lexeme.specs.inside.Gives.{Gives, Takes};
+ghost use Rattle.yaml_lexeme.specs.inside.Words.{GoesOn};
 ghost use Rattle.yaml_lexeme.specs.Place.{first, peek};
 ghost use Rattle.yaml_lexeme.specs.Reading.{found, over};
 ghost use Rattle.yaml_lexeme.specs.Escape.{backslash};

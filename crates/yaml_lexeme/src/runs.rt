@@ -2,7 +2,7 @@
 ghost use Rattle.std.specs.Prelude.{◌≡◌, ◌+◌, ◌-◌, ◌≤◌, true, length, take, drop, map};
 ghost use Rattle.std.specs.List.{prefix_len, count_by};
 ghost use Rattle.std.specs.Simd.Lanes.{mask_l};
-ghost use Rattle.yaml_lexeme.specs.Runs as spec;
+ghost use Rattle.yaml_lexeme.specs.inside.Runs as spec;
 ghost use Rattle.yaml_lexeme.specs.declared.runs.class_t.TheVariants.{SPACE, ALPHA, BLANK, IN_LINE, DOUBLE, SINGLE};
 ghost use Rattle.yaml_lexeme.specs.declared.runs.class_t.TheVariants.{PLAIN, FLOW};
 
@@ -206,6 +206,24 @@ fn begins(b: u8) -> bool
     b / 64 != 2
 }
 
+/// How many bytes from a place on begin a character, one byte at a time.
+#[inline(always)]
+fn count_slowly(text: &[u8], from: usize) -> usize
+    requires { from ≤ length text.now }
+    ensures value { result ≡ count_by spec.begins (drop from text.now) }
+    ensures bound { result ≤ length text.now - from }
+{
+    let mut n: usize = 0;
+    let mut i = from;
+    'bytes: while i < text.len() {
+        if begins(text[i]) {
+            n += 1;
+        }
+        i += 1;
+    }
+    n
+}
+
 /// How many bytes begin a character.
 #[inline(never)]
 fn count_chars(text: &[u8]) -> usize
@@ -218,13 +236,7 @@ fn count_chars(text: &[u8]) -> usize
         n += starts(u8x16::from_slice(&text[i..])).count_ones() as usize;
         i += 16;
     }
-    'bytes: while i < text.len() {
-        if begins(text[i]) {
-            n += 1;
-        }
-        i += 1;
-    }
-    n
+    n + count_slowly(text, i)
 }
 
 fn part(text: &[u8], from: usize, to: usize) -> &[u8]

@@ -2,7 +2,7 @@
 ghost use Rattle.std.specs.Prelude.{◌≡◌, ◌+◌, ◌<◌, ◌^◌, IsOk};
 ghost use Rattle.yaml_lexeme.specs.StreamEnd as spec;
 ghost use Rattle.yaml_lexeme.specs.Lexeme.{lexeme_of};
-ghost use Rattle.yaml_lexeme.specs.Gives.{Gives};
+ghost use Rattle.yaml_lexeme.specs.inside.Gives.{Gives};
 
 use crate::lexeme::{whole_of, yaml_lexeme_t};
 use crate::place::cursor_t;

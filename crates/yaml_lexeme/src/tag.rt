@@ -3,7 +3,7 @@ ghost use Rattle.std.specs.Prelude.{◌≡◌};
 ghost use Rattle.yaml_text.specs.Token.{data_of};
 ghost use Rattle.yaml_text.specs.Token.TokenData.{TAG};
 ghost use Rattle.yaml_lexeme.specs.Tag as spec;
-ghost use Rattle.yaml_lexeme.specs.Gives.{Gives};
+ghost use Rattle.yaml_lexeme.specs.inside.Gives.{Gives};
 
 use crate::classes::ends;
 use crate::name::take_letters;

@@ -1,7 +1,7 @@
 //! Uris of tags, and their escapes.
-ghost use Rattle.std.specs.Prelude.{◌≡◌, ◌++◌, ◌∷◌, [], ◌<◌, ◌≤◌, true, OnOk};
+ghost use Rattle.std.specs.Prelude.{◌≡◌, ◌++◌, ◌∷◌, [], ◌<◌, true, OnOk};
 ghost use Rattle.yaml_lexeme.specs.Uri as spec;
-ghost use Rattle.yaml_lexeme.specs.Gives.{Gives, Takes, Appends, OctetIs};
+ghost use Rattle.yaml_lexeme.specs.inside.Gives.{Gives, Takes, Appends, OctetIs};
 
 use crate::classes::is_alpha;
 use crate::place::{check_at, cursor_t};

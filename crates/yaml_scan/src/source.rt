@@ -1,5 +1,5 @@
 //! The readers of `yaml_lexeme`, with contracts over places instead of marks.
-ghost use Rattle.std.specs.Prelude.{◌≡◌, ℕ, ◌≤◌, ◌⊎◌, Some, Ok, Err, length, nat_lt, IfSome, MatchResult};
+ghost use Rattle.std.specs.Prelude.{◌≡◌, ℕ, ◌≤◌, ◌⊎◌, Option, Some, Ok, Err, length, nat_lt, IfSome, MatchResult};
 ghost use Rattle.yaml_text.specs.Fault.{memory_fault};
 ghost use Rattle.yaml_scan.specs.inside.Stop.{fault_at};
 ghost use Rattle.yaml_lexeme.specs.Lexeme.{lexeme_of};
@@ -102,19 +102,19 @@ pub(crate) fn read_at_once(
         | yaml_lexeme_kind_t::FLOW_ENTRY
         | yaml_lexeme_kind_t::BLOCK_ENTRY
         | yaml_lexeme_kind_t::KEY
-        | yaml_lexeme_kind_t::VALUE => read_character(text, met, context),
+        | yaml_lexeme_kind_t::VALUE => read_character(text, met),
         _ => read_other(alloc, text, met, context),
     }
 }
 
 /// A lexeme of one character that was met.
 #[inline(always)]
-fn read_character(text: &yaml_text_t, met: met_t, context: yaml_context_t) -> Option<yaml_lexeme_t>
+fn read_character(text: &yaml_text_t, met: met_t) -> Option<yaml_lexeme_t>
     requires { (p : ℕ) × IsMarkOf text.now.chars met.front p }
-    ensures { IfSome result (λ l. (p : ℕ) → IsMarkOf text.now.chars met.front p
-        → IsRead text.now.chars met.kind context.depth context.level p (lexeme_of l)) }
+    ensures { IfSome result (λ l. (p depth : ℕ) (level : Option ℕ) → IsMarkOf text.now.chars met.front p
+        → IsRead text.now.chars met.kind depth level p (lexeme_of l)) }
 {
-    yaml_character_at(text, met.front, met.kind, context)
+    yaml_character_at(text, met.front, met.kind)
 }
 
 /// A literal or folded scalar that was met, if it has no offence and there is memory for it.
@@ -192,7 +192,7 @@ fn read_quoted(
     ensures { IfSome result (λ l. (p : ℕ) → IsMarkOf text.now.chars met.front p
         → IsRead text.now.chars met.kind context.depth context.level p (lexeme_of l)) }
 {
-    match yaml_quoted_at_once(alloc, text, met.front, met.kind, context) {
+    match yaml_quoted_at_once(alloc, text, met.front, met.kind) {
         Some(lexeme) => Some(lexeme),
         None => read_other(alloc, text, met, context),
     }

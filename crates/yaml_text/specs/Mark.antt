@@ -93,12 +93,6 @@ is_place_by bytes index =
     (nat_le index (length bytes) && not (continues (slice_index bytes index)))
     && not (nat_lt 0 index && is_crlf_at bytes (index - 1))
 
--- The characters cs are between the mark and the place.
-pub record IsSince (mark : yaml_mark_t) (at : At) (cs : List ℕ) : Type 0 where
-  pub before : List ℕ
-  pub parts : at.before ≡ before ++ cs
-  pub index_is : mark.index ≡ length (utf8 before)
-
 abbrev pub place_at : List ℕ → ℕ → At
 place_at text p = record { before = take p text; left = drop p text }
 

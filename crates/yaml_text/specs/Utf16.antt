@@ -47,7 +47,7 @@ value16 big bytes =
     if is_high (unit_at big bytes 0) then pair_of (unit_at big bytes 0) (unit_at big bytes 2)
     else unit_at big bytes 0
 
--- What is wrong with bytes that begin with no character: the first row that fits.
+-- What is wrong with bytes that begin with no character: the first of these tests that fits.
 unfoldable pub offence16 : Bool → List ℕ → offence_t
 offence16 big bytes =
     let u = unit_at big bytes 0 in

@@ -52,7 +52,7 @@ least_of width = if width == 2 then 0x80 else if width == 3 then 0x800 else if w
 abbrev pub is_scalar : ℕ → Bool
 is_scalar c = nat_lt c 0xD800 || is_within 0xE000 0x10FFFF c
 
--- What is wrong with bytes that begin with no character: the first row that fits.
+-- What is wrong with bytes that begin with no character: the first of these tests that fits.
 unfoldable pub offence8 : List ℕ → offence_t
 offence8 bytes =
     let b = slice_index bytes 0 in

@@ -15,7 +15,7 @@ use Rattle.yaml_text.proofs.Characters.CharRanges.{char_range}
 use Rattle.yaml_lexeme.specs.Place.{skip_from, mark_behind, width}
 use Rattle.yaml_lexeme.specs.declared.runs.class_t.{class_t}
 use Rattle.yaml_lexeme.specs.declared.runs.class_t.TheVariants.{BLANK, GAP_BLANK, SPACE, BLANK_OR_BREAK, ALPHA, IN_LINE, DOUBLE, SINGLE, PLAIN, FLOW}
-use Rattle.yaml_lexeme.specs.Runs.{is_quiet, class_test, begins, may_break, is_line}
+use Rattle.yaml_lexeme.specs.inside.Runs.{is_quiet, class_test, begins, may_break, is_line}
 
 -- What bytes that are quiet for a test of characters must be: either all of them are ASCII, or all that continue a
 -- character are.

@@ -9,7 +9,7 @@ use lib.Utf8.{encode, next}
 use Rattle.yaml_text.specs.Chars.{utf8}
 use Rattle.yaml_text.specs.Classes.{is_blank}
 use Rattle.yaml_text.proofs.Characters.Utf8Spelling.{two, three, four}
-use Rattle.yaml_lexeme.specs.Runs.{trim}
+use Rattle.yaml_lexeme.specs.inside.Runs.{trim}
 use Rattle.yaml_text.proofs.Characters.ClassTables.{high_blank}
 use Rattle.std.proofs.lemmas.List.{length-append, length-take, take-take, take_at, get_or-take}
 

@@ -16,7 +16,7 @@ use Rattle.yaml_text.proofs.Marks.MarkMoves.{AreChars-parts}
 use Rattle.yaml_lexeme.specs.declared.runs.class_t.{class_t}
 use Rattle.yaml_lexeme.specs.declared.runs.class_t.TheVariants.{BLANK, GAP_BLANK, SPACE, BLANK_OR_BREAK, ALPHA, IN_LINE, DOUBLE, SINGLE, PLAIN, FLOW}
 use Rattle.yaml_lexeme.specs.Place.{Place, skip_from, skip, mark_behind, width}
-use Rattle.yaml_lexeme.specs.Runs.{class_test, is_line, is_quiet, begins, trim, Stands}
+use Rattle.yaml_lexeme.specs.inside.Runs.{class_test, is_line, is_quiet, begins, trim, Stands}
 use Rattle.yaml_lexeme.proofs.ManyBytes.QuietRuns.{along, Over, over, count_chars}
 use Rattle.yaml_lexeme.proofs.ManyBytes.TrimmedLists.{trimmed, trim_bytes}
 

@@ -4,7 +4,7 @@ use Rattle.std.proofs.lemmas.List.{append-nil}
 use Rattle.std.specs.List.{flat_map}
 use Rattle.yaml_lexeme.specs.declared.problem.refusal_t.{refusal_t}
 use Rattle.yaml_lexeme.specs.declared.problem.refusal_t.TheVariants as errors
-use Rattle.yaml_lexeme.specs.Gives.{Refuses, TakesPart}
+use Rattle.yaml_lexeme.specs.inside.Gives.{Refuses, TakesPart}
 use Rattle.yaml_lexeme.specs.Place.{Place}
 use Rattle.yaml_lexeme.specs.Reading.{Read, found, ◌>>=◌, Part, over, with_front, go_on, at_most, many}
 

@@ -16,7 +16,7 @@ use Rattle.yaml_text.proofs.Marks.MarkMoves.{AreChars-parts}
 use Rattle.yaml_text.proofs.Characters.ClassTables.{Leads, leads}
 use Rattle.yaml_lexeme.specs.Place.{first, Place, place_at, IsMarkOf, ends_line, skip_from, skip, behind, run, run_len, mark_behind, width}
 use Rattle.yaml_lexeme.specs.declared.runs.class_t.{class_t}
-use Rattle.yaml_lexeme.specs.Runs.{is_quiet, class_test, begins}
+use Rattle.yaml_lexeme.specs.inside.Runs.{is_quiet, class_test, begins}
 use Rattle.yaml_lexeme.proofs.Places.PlaceMoves.{skip_skip, moved, rest_skip, is_there}
 use Rattle.yaml_lexeme.proofs.Places.FirstCharacters.{head, ascii_head, past_ascii, some_bytes}
 use Rattle.yaml_lexeme.proofs.ManyBytes.QuietRuns.{Over, over, along, count_chars, spaces_bytes, over_spaces}
@@ -244,17 +244,13 @@ space_from m bytes k t low =
       place = (λ i. record { mark = along m k k; rest = left i }) ∙ sym o.place ∙ sym (skip_is k m cs);
     }
 
--- the place after all of the first spaces
-pub all_space_moves : (m : yaml_mark_t) (bytes : List ℕ) (p : Place) (n : ℕ) → IsText bytes → (let q : Place = record { mark = m; rest = chars bytes } in q ≡ p) → n ≡ prefix_len (is_quiet SPACE) bytes
-    → (n ≡ run_len (class_test SPACE) p) × SpaceMove m bytes p n
-all_space_moves m bytes p n t view n-is =
-    let same : n ≡ prefix_len (class_test SPACE) (chars bytes) = n-is ∙ ap (prefix_len (is_quiet SPACE)) (sym t.spelled) ∙ spaces_bytes (chars bytes) t.each in
-    let here : prefix_len (class_test SPACE) (chars bytes) ≡ run_len (class_test SPACE) p = ap (λ (x : Place). run_len (class_test SPACE) x) view in
-    (same ∙ here, subst (λ (x : Place). SpaceMove m bytes x n) view (space_from m bytes n t (omega (arith, same))))
+-- how many spaces are here
+pub spaces_here : (m : yaml_mark_t) (bytes : List ℕ) (p : Place) (n : ℕ) → IsText bytes → (let q : Place = record { mark = m; rest = chars bytes } in q ≡ p) → n ≡ prefix_len (is_quiet SPACE) bytes → n ≡ run_len (class_test SPACE) p
+spaces_here m bytes p n t view n-is =
+    n-is ∙ ap (prefix_len (is_quiet SPACE)) (sym t.spelled) ∙ spaces_bytes (chars bytes) t.each ∙ ap (λ (x : Place). run_len (class_test SPACE) x) view
 
 pub space_moves : (m : yaml_mark_t) (bytes : List ℕ) (p : Place) (n most k : ℕ) → IsText bytes → (let q : Place = record { mark = m; rest = chars bytes } in q ≡ p) → n ≡ prefix_len (is_quiet SPACE) bytes → k ≡ min n most
     → (k ≡ min (run_len (class_test SPACE) p) most) × SpaceMove m bytes p k
 space_moves m bytes p n most k t view n-is k-is =
-    let same : n ≡ prefix_len (class_test SPACE) (chars bytes) = n-is ∙ ap (prefix_len (is_quiet SPACE)) (sym t.spelled) ∙ spaces_bytes (chars bytes) t.each in
-    let here : prefix_len (class_test SPACE) (chars bytes) ≡ run_len (class_test SPACE) p = ap (λ (x : Place). run_len (class_test SPACE) x) view in
-    (k-is ∙ ap (λ i. min i most) (same ∙ here), subst (λ (x : Place). SpaceMove m bytes x k) view (space_from m bytes k t (omega (arith, k-is, same))))
+    let same : n ≡ prefix_len (class_test SPACE) (chars bytes) = spaces_here m bytes _ n t refl n-is in
+    (k-is ∙ ap (λ i. min i most) (spaces_here m bytes p n t view n-is), subst (λ (x : Place). SpaceMove m bytes x k) view (space_from m bytes k t (omega (arith, k-is, same))))

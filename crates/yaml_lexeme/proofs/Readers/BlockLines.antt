@@ -17,10 +17,10 @@ use Rattle.yaml_lexeme.proofs.Parts.ReadResults.{value_or, end_or}
 use Rattle.yaml_lexeme.specs.Block.{is_indenting, indent_len, after_indent, Blank, blank_line, Blanks, blanks_of, blank_lines, Line, break_at, line_at, is_text, text_line, header_at, after_line, set_indent, block_indent, between, chomped, behind_line, block_value, end_of as end_of_lines, block, or_none, or_space, is_line_feed, is_more_indented}
 use Rattle.yaml_lexeme.specs.Classes.{is_in_line}
 use Rattle.yaml_lexeme.specs.Fold.{written}
-use Rattle.yaml_lexeme.specs.Gives.{Refuses}
+use Rattle.yaml_lexeme.specs.inside.Gives.{Refuses}
 use Rattle.yaml_lexeme.specs.Place.{Place, first, skip, run, behind, break_len}
 use Rattle.yaml_lexeme.specs.Reading.{Offence, Found, Read, found, Part, part, refuse, over, many, ◌>>=◌}
-use Rattle.yaml_lexeme.specs.Tails.{TakesBlanks, TakesLine, Keeps, between_tail, chomped_tail}
+use Rattle.yaml_lexeme.specs.inside.Tails.{TakesBlanks, TakesLine, Keeps, between_tail, chomped_tail}
 use Rattle.yaml_text.specs.Chars.{utf8}
 use Rattle.yaml_text.specs.Classes.{is_blank}
 use Rattle.yaml_lexeme.specs.declared.block.tail_t.{tail_t}

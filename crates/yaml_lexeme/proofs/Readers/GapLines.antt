@@ -5,7 +5,7 @@ use Rattle.std.proofs.lemmas.Bool.{cases_lt, cases_Bool, and_right}
 use Rattle.std.specs.Prelude.{nat_lt}
 use Rattle.yaml_text.specs.Classes.{is_break}
 use Rattle.yaml_lexeme.specs.declared.runs.class_t.TheVariants.{SPACE}
-use Rattle.yaml_lexeme.specs.Runs.{class_test}
+use Rattle.yaml_lexeme.specs.inside.Runs.{class_test}
 use Rattle.yaml_lexeme.proofs.Places.PlaceMoves.{length_skip, length_one, within_if, break_within, behind_none, behind_more, first_on}
 use Rattle.yaml_lexeme.specs.Classes.{is_in_line}
 use Rattle.yaml_lexeme.specs.Gap.{byte_order_mark, is_gap_blank, is_solid, after_mark, after_comment, after_gap_line, after_gap_lines, gap, IsGap}

@@ -5,7 +5,7 @@ use Rattle.std.proofs.lemmas.Str.{encodes-append}
 use Rattle.std.proofs.Math.Seq.{take-append_seam}
 use Rattle.yaml_text.specs.Chars.{utf8}
 use Rattle.yaml_lexeme.specs.Place.{Place, run, run_len}
-use Rattle.yaml_lexeme.specs.Runs.{trim}
+use Rattle.yaml_lexeme.specs.inside.Runs.{trim}
 use Rattle.yaml_lexeme.proofs.ManyBytes.TrimmedLists.{trimmed}
 
 -- xs are the first of ys

@@ -15,7 +15,7 @@ use Rattle.yaml_lexeme.proofs.Readers.FoldSeparators.{run_more, run_none, behind
 use Rattle.yaml_lexeme.proofs.Parts.ReadResults.{value_or, end_or}
 use Rattle.yaml_lexeme.specs.Classes.{is_white, ends}
 use Rattle.yaml_lexeme.specs.Fold.{fold}
-use Rattle.yaml_lexeme.specs.Gives.{Refuses, TakesPart, TakesRead}
+use Rattle.yaml_lexeme.specs.inside.Gives.{Refuses, TakesPart, TakesRead}
 use Rattle.yaml_lexeme.specs.Place.{Place, first, peek, skip, skip_from, run, run_len, behind, mark_behind}
 use Rattle.yaml_lexeme.specs.Plain.{is_bad_tab, has_bad_tab, bad_tab, is_flow_indicator, is_bad_colon, is_chunk, chunk_len, chunk, untabbed, separator, is_over, link, plain}
 use Rattle.yaml_lexeme.specs.Reading.{Read, found, Part, part, refuse, over, many, with_front, ◌>>=◌}
@@ -23,7 +23,7 @@ use Rattle.yaml_text.specs.Chars.{utf8}
 use Rattle.yaml_text.specs.Classes.{is_break, is_blank}
 use Rattle.std.specs.Prelude.{nat_lt, option_map}
 use Rattle.yaml_lexeme.specs.declared.runs.class_t.TheVariants.{SPACE}
-use Rattle.yaml_lexeme.specs.Runs.{class_test}
+use Rattle.yaml_lexeme.specs.inside.Runs.{class_test}
 
 -- the result of a chunk at its end
 abbrev stopped_at : Bool → List ℕ → Place → Read (List ℕ)

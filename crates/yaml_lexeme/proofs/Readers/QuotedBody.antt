@@ -12,7 +12,7 @@ use Rattle.yaml_lexeme.proofs.Readers.FoldSeparators.{breaks_at}
 use Rattle.yaml_lexeme.specs.Classes.{is_white}
 use Rattle.yaml_lexeme.specs.Escape.{escape, hex_escape, simple_at, hex_len, simple_escape, is_scalar}
 use Rattle.yaml_lexeme.specs.Fold.{fold}
-use Rattle.yaml_lexeme.specs.Gives.{Refuses, TakesPart, Takes}
+use Rattle.yaml_lexeme.specs.inside.Gives.{Refuses, TakesPart, Takes}
 use Rattle.yaml_lexeme.specs.Kind.{is_marker}
 use Rattle.yaml_lexeme.specs.Place.{Place, first, peek, skip, run, run_len, behind, break_len}
 use Rattle.yaml_lexeme.specs.Quoted.{quote, unmarked, body_part, spelled, quoted}

@@ -20,8 +20,8 @@ use Rattle.yaml_lexeme.specs.Kind.{is_marker}
 use Rattle.yaml_lexeme.specs.Place.{Place, first, skip, run, behind, break_len}
 use Rattle.yaml_lexeme.specs.Quoted.{body_part, unmarked}
 use Rattle.yaml_lexeme.specs.Reading.{Read, ◌>>=◌, go_on, many, with_front}
-use Rattle.yaml_lexeme.specs.Runs.{class_test, line_of, trim}
-use Rattle.yaml_lexeme.specs.Words.{GoesOn}
+use Rattle.yaml_lexeme.specs.inside.Runs.{class_test, line_of, trim}
+use Rattle.yaml_lexeme.specs.inside.Words.{GoesOn}
 
 stops_at : (line : class_t) (cs : List ℕ) → class_test line (get_or cs (prefix_len (class_test line) cs) 0) ≡ false
 stops_at line cs =

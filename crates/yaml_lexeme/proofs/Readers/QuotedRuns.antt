@@ -13,12 +13,12 @@ use Rattle.yaml_lexeme.proofs.Parts.PartByPart.{Reading, reads_more}
 use Rattle.yaml_lexeme.proofs.Places.PlaceMoves.{skip_skip, skip_none, rest_skip}
 use Rattle.yaml_lexeme.specs.Classes.{is_white}
 use Rattle.yaml_lexeme.specs.Fold.{fold, breaks}
-use Rattle.yaml_lexeme.specs.Gives.{TakesPart}
+use Rattle.yaml_lexeme.specs.inside.Gives.{TakesPart}
 use Rattle.yaml_lexeme.specs.Kind.{is_marker}
 use Rattle.yaml_lexeme.specs.Place.{Place, first, skip_from, skip, mark_behind}
 use Rattle.yaml_lexeme.specs.Quoted.{body_part, quote}
 use Rattle.yaml_lexeme.specs.Reading.{Read, Part, part}
-use Rattle.yaml_lexeme.specs.Runs.{class_test, line_of}
+use Rattle.yaml_lexeme.specs.inside.Runs.{class_test, line_of}
 use Rattle.yaml_text.specs.Chars.{utf8}
 use Rattle.yaml_text.specs.Classes.{is_break, is_z}
 use Rattle.yaml_lexeme.specs.declared.runs.class_t.{class_t}

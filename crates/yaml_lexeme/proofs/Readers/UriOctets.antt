@@ -13,7 +13,7 @@ use Rattle.yaml_lexeme.proofs.MarkOrder.ReadingAhead.{Ahead, PartAhead, ahead_he
 use Rattle.yaml_lexeme.proofs.Parts.PartByPart.{Shortens, joined}
 use Rattle.yaml_lexeme.proofs.Places.PlaceMoves.{is_there}
 use Rattle.yaml_lexeme.proofs.Parts.ReadResults.{value_or, end_or}
-use Rattle.yaml_lexeme.specs.Gives.{Refuses, TakesRead, Appends}
+use Rattle.yaml_lexeme.specs.inside.Gives.{Refuses, TakesRead, Appends}
 use Rattle.yaml_lexeme.specs.Place.{Place, first, peek, skip}
 use Rattle.yaml_lexeme.specs.Reading.{Read, found, part, refuse, over, many, with_front, ◌>>=◌}
 use Rattle.yaml_lexeme.specs.Uri.{octet, octet_width, is_bad_next, next_octets, uri_escape, uri_part, is_uri, uri}

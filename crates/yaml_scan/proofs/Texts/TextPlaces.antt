@@ -87,6 +87,12 @@ pub found_is : (cs : List ℕ) (k : Kind) (d : ℕ) (l : Option ℕ) (at : yaml_
 found_is cs k d l at None f = tt
 found_is cs k d l at (Some y) f = λ p i. read_is cs k d l p (Ok y) (f p i)
 
+-- and one that is the same in every context
+pub found_anywhere : (cs : List ℕ) (k : Kind) (at : yaml_mark_t) (o : Option code_lexeme_t) → IfSome o (λ y. (p : ℕ) (context : yaml_context_t) → IsMarkOf cs at p → lexeme_at k context (place_at cs p) ≡ Ok (lexeme_of y))
+    → IfSome o (λ y. (p depth : ℕ) (level : Option ℕ) → IsMarkOf cs at p → IsRead cs k depth level p (lexeme_of y))
+found_anywhere cs k at None f = tt
+found_anywhere cs k at (Some y) f = λ p d l i. read_is cs k d l p (Ok y) (f p (record { depth = d; level = l }) i)
+
 -- a `:` that was found at once
 read_there : (cs : List ℕ) (k : Kind) (d : ℕ) (l : Option ℕ) (p : ℕ) (x : yaml_lexeme_t) → lexeme_at k (record { depth = d; level = l }) (place_at cs p) ≡ Ok x → IsRead cs k d l p x
 unfolding source_of

@@ -5,7 +5,7 @@ use Rattle.std.specs.Str.{chars}
 use Rattle.std.specs.Char.{len_utf8}
 use Rattle.std.proofs.lemmas.Bool.{cases_Bool, and_parts, eqb-true, false≢true, le-leb, lt-leb, ne_eqb}
 use Rattle.std.proofs.lemmas.Bool.Decides.{nat_tests}
-use Rattle.std.proofs.lemmas.List.{append-nil, take-append-drop, take_at, drop_at, length-append, length-take, reverse-append, get_or-drop, length-reverse, length-drop, drop-take}
+use Rattle.std.proofs.lemmas.List.{append-nil, take-append-drop, take_at, drop_at, length-append, length-take, reverse-append, get_or-drop, length-reverse, length-drop}
 use Rattle.std.proofs.lemmas.List.Sums.{prefix_len-le-length}
 use Rattle.std.proofs.lemmas.Str.{encodes-append, length-encode, length-le-encodes, len_utf8_bounds}
 use Rattle.std.proofs.Math.Seq.{get_or-append_seam}
@@ -14,7 +14,7 @@ use Rattle.yaml_text.specs.declared.types.yaml_mark_t.{yaml_mark_t}
 use Rattle.yaml_text.specs.Chars.{AreChars, IsText, utf8}
 use Rattle.yaml_text.specs.Utf8.{width_of}
 use Rattle.yaml_text.specs.Classes.{Stands, is_break, is_crlf, is_crlf_at, is_z}
-use Rattle.yaml_text.specs.Mark.{At, IsAt, at_of, past, breaks, one_more_if, IsSince, column, cuts_break, ends_break, mark_of, break_len}
+use Rattle.yaml_text.specs.Mark.{At, IsAt, at_of, past, breaks, one_more_if, column, cuts_break, ends_break, mark_of, break_len}
 use Rattle.yaml_text.proofs.Characters.CharRanges.{char_range}
 use Rattle.yaml_text.proofs.Characters.Utf8Spelling.{stands}
 use Rattle.yaml_text.proofs.Characters.ClassTables.{crlf_law}
@@ -277,13 +277,3 @@ unfolding chars
 front_is_of bytes cs e each =
     let t : IsText bytes = subst IsText (sym e) (IsText-utf8 cs each) in
     record { is_at = front_of bytes t; place = same_at [] [] (chars bytes) cs refl (ap chars e ∙ chars-utf8 cs each) }
-
-pub since_is : (bytes : List ℕ) (mark from : yaml_mark_t) (at : At) (cs : List ℕ) → IsAt bytes mark → at_of bytes mark ≡ at → IsSince from at cs
-    → (from.index ≤ mark.index) × (take (mark.index - from.index) (drop from.index bytes) ≡ utf8 cs)
-since_is bytes mark from at cs h e s =
-    let i = from.index in
-    let whole : take mark.index bytes ≡ utf8 s.before ++ utf8 cs = sym h.front.spelled ∙ ap (λ (a : At). utf8 a.before) e ∙ ap utf8 s.parts ∙ encodes-append s.before cs in
-    let le : i ≤ mark.index = omega (arith, ap length whole, length-append (utf8 s.before) (utf8 cs), length-take mark.index bytes, s.index_is) in
-    let j : mark.index ≡ i + (mark.index - i) = omega arith in
-    let piece : drop i (take mark.index bytes) ≡ utf8 cs = ap (λ (x : List ℕ). drop i x) whole ∙ drop_at (utf8 s.before) (utf8 cs) i (sym s.index_is) in
-    (le, sym (drop-take i (mark.index - i) bytes) ∙ ap (λ n. drop i (take n bytes)) (sym j) ∙ piece)

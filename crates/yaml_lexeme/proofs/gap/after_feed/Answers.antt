@@ -1,7 +1,7 @@
 use Rattle.std.proofs.Common.{◌≡◌, ◌∙◌, sym, ap, arith}
 use Rattle.yaml_lexeme.proofs.Readers.GapLines.{gap_feed}
 use Rattle.yaml_lexeme.specs.Place.{first, skip, behind}
-use Rattle.yaml_lexeme.specs.Runs.{class_test}
+use Rattle.yaml_lexeme.specs.inside.Runs.{class_test}
 use Rattle.yaml_lexeme.specs.declared.runs.class_t.TheVariants.{SPACE}
 use Rattle.yaml_lexeme.proofs.gap.after_feed.Goals as goal
 

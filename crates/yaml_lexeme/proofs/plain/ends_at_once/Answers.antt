@@ -4,7 +4,7 @@ use Rattle.yaml_lexeme.proofs.Readers.PlainLinks.{link_none}
 use Rattle.yaml_lexeme.proofs.Readers.PlainLines.{over_below, passed_feed}
 use Rattle.yaml_lexeme.specs.Classes.{is_white}
 use Rattle.yaml_lexeme.specs.Place.{first, skip, behind}
-use Rattle.yaml_lexeme.specs.Runs.{class_test}
+use Rattle.yaml_lexeme.specs.inside.Runs.{class_test}
 use Rattle.yaml_lexeme.specs.declared.runs.class_t.TheVariants.{SPACE}
 use Rattle.yaml_lexeme.proofs.plain.ends_at_once.Goals as goal
 

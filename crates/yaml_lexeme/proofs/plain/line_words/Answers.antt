@@ -2,7 +2,7 @@ use Rattle.std.proofs.Common.{◌≡◌, ℕ, List, take, sym, subst, ◌∙◌,
 use Rattle.yaml_text.specs.Chars.{utf8}
 use Rattle.yaml_lexeme.specs.Place.{Place, skip}
 use Rattle.yaml_lexeme.specs.Reading.{with_front}
-use Rattle.yaml_lexeme.specs.Words.{Goes, words}
+use Rattle.yaml_lexeme.specs.inside.Words.{Goes, words}
 use Rattle.yaml_lexeme.proofs.Readers.PlainLines.{goes_on, goes_shorter}
 use Rattle.yaml_lexeme.proofs.Readers.LineFronts.{IsFront, taken_front}
 use Rattle.yaml_lexeme.proofs.plain.line_words.Goals as goal

@@ -7,7 +7,7 @@ use Rattle.yaml_lexeme.specs.Place.{Place, first, run, run_len, behind}
 use Rattle.yaml_lexeme.specs.Plain.{is_bad_tab, separator}
 use Rattle.yaml_text.specs.Classes.{is_break}
 use Rattle.yaml_lexeme.specs.declared.runs.class_t.TheVariants.{SPACE}
-use Rattle.yaml_lexeme.specs.Runs.{class_test}
+use Rattle.yaml_lexeme.specs.inside.Runs.{class_test}
 use Rattle.yaml_lexeme.proofs.plain.skip_separator.Goals as goal
 
 pub run-init : goal.run-init

@@ -2,7 +2,7 @@ use Rattle.std.proofs.Common.{◌≡◌, true, subst}
 use Rattle.std.specs.Prelude.{◌||◌, ◌+◌, nat_le}
 use Rattle.yaml_lexeme.proofs.Readers.PlainLines.{goes_none, goes_solid}
 use Rattle.yaml_lexeme.specs.declared.runs.class_t.{class_t}
-use Rattle.yaml_lexeme.specs.Runs.{class_test, Stands}
+use Rattle.yaml_lexeme.specs.inside.Runs.{class_test, Stands}
 use Rattle.yaml_lexeme.proofs.plain.skip_words.Goals as goal
 
 pub returns-then-not-goes_far : goal.returns-then-not-goes_far

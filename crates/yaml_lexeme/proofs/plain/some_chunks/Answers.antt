@@ -4,7 +4,7 @@ use Rattle.yaml_lexeme.proofs.Readers.PlainLinks.{chunk_there}
 use Rattle.yaml_lexeme.proofs.Readers.PlainLines.{goes_char, goes_none, goes_on, goes_shorter}
 use Rattle.yaml_lexeme.specs.Place.{Place, first, peek}
 use Rattle.yaml_lexeme.specs.Plain.{is_chunk}
-use Rattle.yaml_lexeme.specs.Words.{Goes}
+use Rattle.yaml_lexeme.specs.inside.Words.{Goes}
 use Rattle.yaml_lexeme.proofs.plain.some_chunks.Goals as goal
 
 pub chunk-preserved : goal.chunk-preserved

@@ -1,5 +1,5 @@
 use Rattle.std.proofs.Common.{length}
-use Rattle.yaml_lexeme.specs.Words.{Goes}
+use Rattle.yaml_lexeme.specs.inside.Words.{Goes}
 use Rattle.yaml_lexeme.proofs.plain.some_chunks.Given as goal
 
 abbrev pub invariant-chunk : goal.invariant-chunk

@@ -8,7 +8,7 @@ use Rattle.yaml_lexeme.specs.Fold.{fold}
 use Rattle.yaml_lexeme.specs.Place.{first, peek, run}
 use Rattle.yaml_lexeme.specs.Plain.{is_over, is_chunk, is_bad_colon}
 use Rattle.yaml_lexeme.specs.Reading.{with_front}
-use Rattle.yaml_lexeme.specs.Words.{links, words}
+use Rattle.yaml_lexeme.specs.inside.Words.{links, words}
 use Rattle.yaml_lexeme.proofs.Readers.PlainLinks.{gap_is, ends_here, link_refused, is_over_there, colon_there, nothing_there}
 use Rattle.yaml_lexeme.proofs.Readers.PlainLines.{links_over, links_none, links_go, links_go_wrong, white_shorter}
 use Rattle.yaml_lexeme.proofs.plain.take_link.Goals as goal

@@ -4,7 +4,7 @@ use Rattle.yaml_text.specs.Classes.{is_blank, is_break}
 use Rattle.yaml_lexeme.specs.Classes.{is_white}
 use Rattle.yaml_lexeme.specs.Place.{first, behind}
 use Rattle.yaml_lexeme.specs.Reading.{with_front}
-use Rattle.yaml_lexeme.specs.Words.{links}
+use Rattle.yaml_lexeme.specs.inside.Words.{links}
 use Rattle.yaml_lexeme.proofs.Readers.PlainLinks.{scalar_made}
 use Rattle.yaml_lexeme.proofs.Readers.PlainLines.{plain_words, plain_none, links_go_wrong}
 use Rattle.yaml_lexeme.proofs.plain.take_links.Goals as goal

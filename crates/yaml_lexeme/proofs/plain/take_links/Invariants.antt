@@ -1,6 +1,6 @@
 use Rattle.std.proofs.Common.{◌≡◌, length}
 use Rattle.yaml_lexeme.specs.Reading.{with_front}
-use Rattle.yaml_lexeme.specs.Words.{links}
+use Rattle.yaml_lexeme.specs.inside.Words.{links}
 use Rattle.yaml_lexeme.proofs.plain.take_links.Given as goal
 
 abbrev pub invariant-links : goal.invariant-links

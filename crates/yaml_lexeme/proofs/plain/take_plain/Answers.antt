@@ -4,7 +4,7 @@ use Rattle.yaml_lexeme.specs.declared.problem.refusal_t.TheVariants.{OFFENCE}
 use Rattle.yaml_lexeme.specs.Place.{Place, first, peek}
 use Rattle.yaml_lexeme.specs.Plain.{is_bad_colon}
 use Rattle.yaml_lexeme.specs.Reading.{with_front}
-use Rattle.yaml_lexeme.specs.Words.{links, words}
+use Rattle.yaml_lexeme.specs.inside.Words.{links, words}
 use Rattle.yaml_lexeme.proofs.Readers.PlainLinks.{scalar_ends}
 use Rattle.yaml_lexeme.proofs.Readers.PlainLines.{plain_none, plain_words, words_colon, plain_out, links_end}
 use Rattle.yaml_lexeme.proofs.Parts.PartByPart.{no_front}

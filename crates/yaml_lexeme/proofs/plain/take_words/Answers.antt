@@ -2,7 +2,7 @@ use Rattle.std.proofs.Common.{◌≡◌, ◌∙◌, true, false, ap}
 use Rattle.yaml_lexeme.specs.Place.{first, peek}
 use Rattle.yaml_lexeme.specs.Plain.{is_bad_colon}
 use Rattle.yaml_lexeme.specs.Reading.{with_front}
-use Rattle.yaml_lexeme.specs.Words.{words}
+use Rattle.yaml_lexeme.specs.inside.Words.{words}
 use Rattle.yaml_lexeme.proofs.Readers.PlainLines.{goes_out, words_colon, words_links}
 use Rattle.yaml_lexeme.proofs.plain.take_words.Goals as goal
 

@@ -6,7 +6,7 @@ use Rattle.yaml_lexeme.proofs.ManyBytes.TrimmedLists.{trim_bytes}
 use Rattle.yaml_lexeme.proofs.Readers.LineFronts.{IsFront, run_front, trimmed_front}
 use Rattle.yaml_lexeme.proofs.Readers.QuotedLines.{run_goes_on, trimmed_goes_on}
 use Rattle.yaml_lexeme.specs.Place.{Place, first, behind, run, run_len}
-use Rattle.yaml_lexeme.specs.Runs.{class_test, line_of, trim}
+use Rattle.yaml_lexeme.specs.inside.Runs.{class_test, line_of, trim}
 use Rattle.yaml_lexeme.proofs.quoted.line_piece.Goals as goal
 use Rattle.yaml_lexeme.proofs.quoted.line_piece.Goals.{After-run-piece}
 

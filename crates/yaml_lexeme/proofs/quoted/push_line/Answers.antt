@@ -1,5 +1,5 @@
 use Rattle.std.proofs.Common.{◌≡◌, ◌++◌, ◌∙◌, sym, ap, subst, length, take, List, ℕ}
-use Rattle.yaml_lexeme.specs.Words.{GoesOn}
+use Rattle.yaml_lexeme.specs.inside.Words.{GoesOn}
 use Rattle.yaml_lexeme.proofs.quoted.push_line.Goals as goal
 
 pub returns-clause-goes : goal.returns-clause-goes

@@ -2,7 +2,7 @@ use Rattle.std.proofs.Common.{◌≡◌, ◌+◌, ap, sym, arith, drop, ◌∙�
 use Rattle.std.specs.List.{count_by}
 use Rattle.std.specs.Int.RustNames.{count_ones}
 use Rattle.std.proofs.lemmas.List.Sums.{count_by-le-length}
-use Rattle.yaml_lexeme.specs.Runs.{begins}
+use Rattle.yaml_lexeme.specs.inside.Runs.{begins}
 use Rattle.yaml_lexeme.proofs.ManyBytes.VectorMasks.{counted}
 use Rattle.yaml_lexeme.proofs.runs.count_chars.Goals as goal
 use Rattle.yaml_lexeme.proofs.runs.count_chars.Goals.{After-starts}

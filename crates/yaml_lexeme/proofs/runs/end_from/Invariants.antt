@@ -1,6 +1,6 @@
 use Rattle.std.proofs.Common.{◌≡◌, ◌+◌, ◌-◌, ◌≤◌, length, drop}
 use Rattle.std.specs.List.{prefix_len}
-use Rattle.yaml_lexeme.specs.Runs.{is_quiet}
+use Rattle.yaml_lexeme.specs.inside.Runs.{is_quiet}
 use Rattle.yaml_lexeme.proofs.runs.end_from.Given as goal
 
 abbrev pub invariant-bytes : goal.invariant-bytes

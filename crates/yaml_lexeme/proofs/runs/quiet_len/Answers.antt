@@ -1,7 +1,7 @@
 use Rattle.std.proofs.Common.{◌≡◌, ◌∙◌, false, sym, ap, take, arith}
 use Rattle.std.proofs.lemmas.List.Sums.{prefix_len-le-length}
 use Rattle.std.specs.List.{prefix_len, count_by}
-use Rattle.yaml_lexeme.specs.Runs.{is_quiet, begins, is_line}
+use Rattle.yaml_lexeme.specs.inside.Runs.{is_quiet, begins, is_line}
 use Rattle.yaml_lexeme.proofs.ManyBytes.QuietRuns.{quiet_counted}
 use Rattle.yaml_lexeme.proofs.runs.quiet_len.Goals as goal
 

@@ -3,7 +3,7 @@ use Rattle.std.proofs.lemmas.List.Sums.{prefix_len-le-length}
 use lib.Count.{count_trailing_zeros}
 use lib.Lanes.{chunk}
 use Rattle.std.specs.List.{count_by}
-use Rattle.yaml_lexeme.specs.Runs.{is_stop, is_quiet, begins}
+use Rattle.yaml_lexeme.specs.inside.Runs.{is_stop, is_quiet, begins}
 use Rattle.yaml_text.proofs.ManyBytes.VectorRuns.{run_through, run_stops}
 use Rattle.yaml_lexeme.proofs.ManyBytes.VectorMasks.{stop_within}
 use Rattle.yaml_lexeme.proofs.ManyBytes.CharacterCounts.{count_stops, count_goes, count_small, count_part}

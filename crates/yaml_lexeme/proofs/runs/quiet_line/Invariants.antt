@@ -1,6 +1,6 @@
 use Rattle.std.proofs.Common.{◌≡◌, ◌+◌, ◌-◌, ◌≤◌, length, take, drop}
 use Rattle.std.specs.List.{prefix_len, count_by}
-use Rattle.yaml_lexeme.specs.Runs.{is_quiet, begins}
+use Rattle.yaml_lexeme.specs.inside.Runs.{is_quiet, begins}
 use Rattle.yaml_lexeme.proofs.runs.quiet_line.Given as goal
 
 abbrev pub invariant-wide : goal.invariant-wide

@@ -1,6 +1,6 @@
 use Rattle.std.proofs.Common.{◌∙◌, sym, ap, refl, arith}
 use lib.Count.{count_trailing_zeros}
-use Rattle.yaml_lexeme.specs.Runs.{is_stop, is_quiet}
+use Rattle.yaml_lexeme.specs.inside.Runs.{is_stop, is_quiet}
 use Rattle.yaml_lexeme.specs.declared.runs.class_t.TheVariants.{SPACE}
 use Rattle.yaml_text.proofs.ManyBytes.VectorRuns.{run_stops}
 use Rattle.yaml_lexeme.proofs.runs.spaces_len.Goals as goal

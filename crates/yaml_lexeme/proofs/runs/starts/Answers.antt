@@ -1,6 +1,6 @@
 use Rattle.std.proofs.Common.{arith}
 use Rattle.std.proofs.lemmas.Simd.{zip2_splat}
-use Rattle.yaml_lexeme.specs.Runs.{begins}
+use Rattle.yaml_lexeme.specs.inside.Runs.{begins}
 use Rattle.yaml_text.proofs.ManyBytes.VectorLanes.{below, at_most, from_splat, either, masked}
 use Rattle.yaml_lexeme.proofs.runs.starts.Goals as goal
 

@@ -2,7 +2,7 @@ use Rattle.std.proofs.Common.{◌-◌, ◌∙◌, ap, refl, arith, ℕ}
 use Rattle.std.proofs.lemmas.Grind.{one_shifted}
 use Rattle.std.specs.Int.RustNames.{count_ones}
 use lib.Bits.{bit_and}
-use Rattle.yaml_lexeme.specs.Runs.{begins}
+use Rattle.yaml_lexeme.specs.inside.Runs.{begins}
 use Rattle.yaml_lexeme.proofs.ManyBytes.CharacterCounts.{counted_front}
 use Rattle.yaml_lexeme.proofs.runs.starts_before.Goals as goal
 

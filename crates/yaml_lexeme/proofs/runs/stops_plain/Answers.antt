@@ -1,6 +1,6 @@
 use Rattle.std.proofs.Common.{arith}
 use Rattle.std.proofs.lemmas.Simd.{zip2_splat}
-use Rattle.yaml_lexeme.specs.Runs.{is_stop}
+use Rattle.yaml_lexeme.specs.inside.Runs.{is_stop}
 use Rattle.yaml_lexeme.specs.declared.runs.class_t.TheVariants.{PLAIN}
 use Rattle.yaml_text.proofs.ManyBytes.VectorLanes.{either, masked}
 use Rattle.yaml_lexeme.proofs.ManyBytes.VectorLanes.{hit}

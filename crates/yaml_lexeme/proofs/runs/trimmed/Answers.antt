@@ -1,7 +1,7 @@
 use Rattle.std.proofs.Common.{◌≡◌, ◌-◌, ◌≤◌, suc, zero, take, get_or, true, false, sym, ap, ◌∙◌, arith, ℕ, List}
 use Rattle.yaml_text.specs.Classes.{is_blank}
 use Rattle.yaml_lexeme.proofs.ManyBytes.TrimmedLists.{trim_step, trim_stop}
-use Rattle.yaml_lexeme.specs.Runs.{trim}
+use Rattle.yaml_lexeme.specs.inside.Runs.{trim}
 use Rattle.yaml_lexeme.proofs.runs.trimmed.Goals as goal
 use Rattle.yaml_lexeme.proofs.runs.trimmed.Goals.{then-blanks-test+else-is_blank_byte, else-blanks-test}
 

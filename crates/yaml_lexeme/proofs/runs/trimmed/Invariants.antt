@@ -1,5 +1,5 @@
 use Rattle.std.proofs.Common.{◌≡◌, ◌≤◌, take, length}
-use Rattle.yaml_lexeme.specs.Runs.{trim}
+use Rattle.yaml_lexeme.specs.inside.Runs.{trim}
 use Rattle.yaml_lexeme.proofs.runs.trimmed.Given as goal
 
 abbrev pub invariant-blanks : goal.invariant-blanks

@@ -1,7 +1,7 @@
 use Rattle.std.proofs.Common.{◌≡◌, ◌∙◌, sym, ap, arith, length, false, true}
 use Rattle.yaml_lexeme.specs.Place.{Place, first, behind}
 use Rattle.yaml_lexeme.proofs.Places.PlaceMoves.{behind_none, behind_more, class_end, length_one}
-use Rattle.yaml_lexeme.specs.Runs.{class_test}
+use Rattle.yaml_lexeme.specs.inside.Runs.{class_test}
 use Rattle.yaml_lexeme.proofs.Places.CursorMoves.{run_bytes}
 use Rattle.yaml_lexeme.proofs.place.cursor_t.run.Goals as goal
 

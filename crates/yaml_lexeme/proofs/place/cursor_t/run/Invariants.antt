@@ -1,6 +1,6 @@
 use Rattle.std.proofs.Common.{◌≡◌, length}
 use Rattle.yaml_lexeme.specs.Place.{behind}
-use Rattle.yaml_lexeme.specs.Runs.{class_test}
+use Rattle.yaml_lexeme.specs.inside.Runs.{class_test}
 use Rattle.yaml_lexeme.proofs.place.cursor_t.run.Given as goal
 
 abbrev pub invariant-run : goal.invariant-run

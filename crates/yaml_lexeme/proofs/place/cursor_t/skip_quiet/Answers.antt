@@ -1,7 +1,7 @@
 use Rattle.std.proofs.Common.{◌∙◌, ap, arith, length}
 use Rattle.std.proofs.lemmas.List.{length-drop}
 use Rattle.yaml_lexeme.specs.Place.{Place, behind}
-use Rattle.yaml_lexeme.specs.Runs.{class_test, begins}
+use Rattle.yaml_lexeme.specs.inside.Runs.{class_test, begins}
 use Rattle.yaml_lexeme.proofs.ManyBytes.CharacterCounts.{count_small}
 use Rattle.yaml_lexeme.proofs.Places.CursorMoves.{QuietMove, quiet_moves}
 use Rattle.yaml_lexeme.proofs.place.cursor_t.skip_quiet.Goals as goal

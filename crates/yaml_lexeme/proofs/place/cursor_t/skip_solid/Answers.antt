@@ -1,6 +1,6 @@
 use Rattle.std.proofs.Common.{◌∙◌, ap, arith, length}
 use Rattle.std.proofs.lemmas.List.{length-drop}
-use Rattle.yaml_lexeme.specs.Runs.{trim}
+use Rattle.yaml_lexeme.specs.inside.Runs.{trim}
 use Rattle.yaml_lexeme.proofs.ManyBytes.TrimmedRuns.{Back, backs}
 use Rattle.yaml_lexeme.proofs.place.cursor_t.skip_solid.Goals as goal
 use Rattle.yaml_lexeme.proofs.place.cursor_t.skip_solid.Goals.{After-trimmed-kept}

@@ -1,9 +1,9 @@
 use Rattle.std.proofs.Common.{◌≡◌, ◌∙◌, min, ap, arith}
 use Rattle.std.proofs.lemmas.List.{length-drop}
 use Rattle.yaml_lexeme.specs.Place.{run_len, skip}
-use Rattle.yaml_lexeme.specs.Runs.{class_test}
+use Rattle.yaml_lexeme.specs.inside.Runs.{class_test}
 use Rattle.yaml_lexeme.specs.declared.runs.class_t.TheVariants.{SPACE}
-use Rattle.yaml_lexeme.proofs.Places.CursorMoves.{SpaceMove, space_moves}
+use Rattle.yaml_lexeme.proofs.Places.CursorMoves.{SpaceMove, space_moves, spaces_here}
 use Rattle.yaml_lexeme.proofs.place.cursor_t.skip_spaces.Goals as goal
 use Rattle.yaml_lexeme.proofs.place.cursor_t.skip_spaces.Goals.{After-min-n}
 
@@ -24,7 +24,10 @@ invariant_of-self c =
     let w = (moved (goal.at.invariant_of-self c).After-min-n).1 in
     rw c.rest-self-inside.ensures (w.text, omega (arith, w.within, c.self.invariant.1, length-drop c.min-n.result c.self.inside.bytes.now), omega (arith, c.self.invariant.2))
 
-pub returns : goal.returns
-returns c =
-    let w = moved (goal.at.returns c).After-min-n in
+pub returns-clause-value : goal.returns-clause-value
+returns-clause-value c =
+    let w = moved (goal.at.returns-clause-value c).After-min-n in
     rw c.rest-self-inside.ensures (w.1.place ∙ ap (λ i. skip i c.args.self.now) w.0)
+
+pub returns-clause-room : goal.returns-clause-room
+returns-clause-room c = omega (arith, c.spaces_len.type_inv, spaces_here c.self.inside.mark c.self.inside.bytes.now c.args.self.now c.spaces_len.result c.self.invariant.0 c.self.view_is c.spaces_len.ensures)

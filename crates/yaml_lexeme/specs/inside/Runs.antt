@@ -78,10 +78,6 @@ abbrev pub line_of : Bool → class_t
 line_of true = SINGLE
 line_of false = DOUBLE
 
--- the escapes that the code looks for first: of a line feed, of a tab, and of what stands for itself
-abbrev pub is_common : ℕ → Bool
-is_common c = c == 0x6E || (c == 0x74 || (c == 0x22 || (c == 0x5C || (c == 0x2F || c == 0x20))))
-
 -- without the blanks at the end
 abbrev pub trim : List ℕ → List ℕ
 trim [] = []

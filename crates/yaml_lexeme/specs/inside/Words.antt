@@ -8,7 +8,7 @@ use Rattle.yaml_lexeme.specs.Place.{Place, skip}
 use Rattle.yaml_lexeme.specs.Reading.{Read, found, ◌>>=◌, many, with_front}
 use Rattle.yaml_lexeme.specs.Quoted.{body_part, spelled}
 use Rattle.yaml_lexeme.specs.Plain.{chunk, link}
-use Rattle.yaml_lexeme.specs.Gives.{Refuses}
+use Rattle.yaml_lexeme.specs.inside.Gives.{Refuses}
 
 -- What is still to be read makes the same whole: after `old` from p on, and after `new` from q on.
 abbrev pub GoesOn : Bool → Place → List ℕ → Place → List ℕ → Type 0

@@ -8,7 +8,7 @@ use Rattle.yaml_lexeme.specs.declared.block.chomp_t.TheVariants.{STRIP, CLIP, KE
 use Rattle.yaml_lexeme.specs.declared.problem.refusal_t.{refusal_t}
 use Rattle.yaml_lexeme.specs.Place.{Place}
 use Rattle.yaml_lexeme.specs.Reading.{Read}
-use Rattle.yaml_lexeme.specs.Gives.{Refuses}
+use Rattle.yaml_lexeme.specs.inside.Gives.{Refuses}
 use Rattle.yaml_lexeme.specs.Block.{Blanks, Line, is_more_indented, or_none, or_space, is_line_feed}
 
 -- empty lines were read up to a mark: the greatest column of their spaces, and their breaks appended to `old`
