@@ -12,7 +12,7 @@ LETTERS = "etaoinshrdlucmfwypvbgkjqxz"
 LENGTHS = [1, 2, 2, 3, 3, 3, 4, 4, 5, 5, 6, 7, 8, 9, 10]
 SHORT_ESCAPES = ["\\n", "\\t", '\\"', "\\\\"]
 ALL_ESCAPES = [*SHORT_ESCAPES, "\\x41", "\\u263A", "\\U0001F600", "a", "bc"]
-# characters of two, three and four bytes, with the letters of ASCII most of the time
+# characters of two, three and four bytes
 OTHERS = "äöüßéèñçøåαβγδελμπστωжзийклмн中文字符日本語データ😀🚀"
 
 
@@ -85,18 +85,57 @@ def nested_keys(count):
     return f"- {keys_of_keys(12_500)}\n" * (count // 12_500)
 
 
-def mixed(r, text):
-    """The text with a tenth of its letters replaced by characters that are not in ASCII."""
-    return "".join(r.choice(OTHERS) if c.isalpha() and r.random() < 0.1 else c for c in text)
+def mixed(r, text, part=0.1):
+    """The text with a part of its letters replaced by characters that are not in ASCII."""
+    return "".join(r.choice(OTHERS) if c.isalpha() and r.random() < part else c for c in text)
+
+
+def accented(r, text):
+    """The text with one in fifty of its characters an accented letter of two bytes."""
+    return "".join(r.choice("äöüßéèñçøå") if r.random() < 0.02 else c for c in text)
+
+
+def written_in(r, letters, size):
+    """Words of these letters, with spaces between them and a line feed after every tenth."""
+    made, count = [], 0
+    while count < size:
+        made.append("".join(r.choice(letters) for _ in range(r.choice(LENGTHS))))
+        made.append("\n" if len(made) % 20 == 19 else " ")
+        count += len(made[-2]) + 1
+    return "".join(made)[:size]
+
+
+def letters_between(least, most):
+    return [chr(point) for point in range(least, most + 1)]
+
+
+# scripts whose characters have two bytes in UTF-8, three and three, and four; a text of emoji has no spaces
+CYRILLIC, CHINESE, HINDI = letters_between(0x430, 0x44F), letters_between(0x4E00, 0x9FA5), letters_between(0x905, 0x939)
+EMOJI = letters_between(0x1F600, 0x1F64F)
+
+
+def scripts(size, r):
+    """Texts in other scripts than that of ASCII, of so many bytes in UTF-8."""
+    yield "Cyrillic", written_in(r, CYRILLIC, size // 2)
+    yield "Chinese", written_in(r, CHINESE, size // 3)
+    yield "Hindi", written_in(r, HINDI, size // 3)
+    yield "emoji", "".join(r.choice(EMOJI) for _ in range(size // 4))
 
 
 def decoded():
     """The name of each text that is decoded, its characters, and its bytes."""
     plain = realistic(LARGE, 7)
     other = mixed(random.Random(7), realistic(LARGE * 9 // 10, 7))
+    written = dict(scripts(LARGE, random.Random(7)))
     yield "UTF-8, ASCII only", plain, plain.encode()
     yield "UTF-8, mixed", other, other.encode()
-    half = plain[: LARGE // 2]
-    yield "UTF-16, ASCII only", half, b"\xff\xfe" + half.encode("utf-16-le")
-    other = other[: LARGE // 2]
-    yield "UTF-16, mixed", other, b"\xff\xfe" + other.encode("utf-16-le")
+    for name, text in written.items():
+        yield f"UTF-8, {name}", text, text.encode()
+    accents = accented(random.Random(7), plain)
+    yield "UTF-8, 2 % accents", accents, accents.encode()
+    for order, mark, codec in ("LE", b"\xff\xfe", "utf-16-le"), ("BE", b"\xfe\xff", "utf-16-be"):
+        for name, text in ("ASCII only", plain[: LARGE // 2]), ("mixed", other[: LARGE // 2]):
+            yield f"UTF-16{order}, {name}", text, mark + text.encode(codec)
+    for name in "Chinese", "Cyrillic", "emoji":
+        text = written[name][: LARGE // (4 if name == "emoji" else 2)]
+        yield f"UTF-16LE, {name}", text, b"\xff\xfe" + text.encode("utf-16-le")

@@ -1,5 +1,5 @@
 #!/usr/bin/env python3
-"""Checks that the documents and the repository name the same things: documents.py [PROGRAM]. No program is run.
+"""Checks that the documents and the repository name the same things: documents.py [PROGRAM]. No program is run but `rt version`.
 
 One line of output for each check; what is wrong is printed before it. The checks:
 
@@ -17,11 +17,13 @@ One line of output for each check; what is wrong is printed before it. The check
   names each of them, and no others. If its last column, "Refused by", begins with a name, the code has a function of that
   name. What an edit replaces stands once in its file.
 - lines: no line of the code or of a definition is longer than 120 characters.
+- kits: README.md names the kit that `rt version` names, in one place.
 """
 
 import glob
 import os
 import re
+import subprocess
 import sys
 
 ROOT = os.path.dirname(os.path.dirname(os.path.abspath(__file__)))
@@ -316,9 +318,17 @@ def check_lines():
     return count, wrong
 
 
+# KITS
+
+def check_kits():
+    said = subprocess.run(["rt", "version"], capture_output=True, check=True, text=True).stdout.strip()
+    named = re.findall(r"`(rattle-kit-[^`]*)`", read("README.md"))
+    return len(named), [] if named == [said] else [f"README.md: it names {named}, and rt version says {said}"]
+
+
 CHECKS = {"paths": check_paths, "rules": check_rules, "topics": check_topics,
           "laws, functions and lemma files": check_proofs, "lemma files": check_lemmas, "edits": check_edits,
-          "lines": check_lines}
+          "lines": check_lines, "kits": check_kits}
 
 
 def main():

@@ -3,8 +3,8 @@ ghost use Rattle.std.specs.Prelude.{ℕ, ◌≤◌, IfSome, IsTrue, length};
 ghost use Rattle.yaml_text.specs.Chars.{utf8};
 ghost use Rattle.yaml_lexeme.specs.Place.{IsMarkOf};
 
-use crate::show::{kind_name, show_fault, show_lexeme, show_mark};
-use crate::words::{bytes_of, flag_of, level_of};
+use crate::show::{kind_name, show_bytes, show_fault, show_lexeme, show_mark, show_refusal};
+use crate::words::{bytes_of, flag_of, level_of, setting_of};
 use std::alloc::{AllocError, Global};
 use yaml_lexeme::{yaml_context_t, yaml_gap, yaml_lexeme_at, yaml_lexeme_kind};
 use yaml_text::{
@@ -121,6 +121,38 @@ fn mark_of(text: &yaml_text_t, index: &str) -> Option<yaml_mark_t>
     }
 }
 
+/// What the input decodes to: the encoding, the text in UTF-8 and the mark of its end, or what is wrong with it.
+fn ask_decoded(
+    alloc: Global,
+    input: &[u8],
+    setting: yaml_encoding_t,
+) -> Result<String, AllocError> {
+    let text = match yaml_decode(alloc, input, setting) {
+        Ok(text) => text,
+        Err(fault) => return show_refusal(alloc, &fault),
+    };
+    let end = match mark_at(&text, text.bytes().len()) {
+        Some(end) => show_mark(alloc, end)?,
+        None => String::from_str(alloc, "-")?,
+    };
+    let (encoding, bytes) = (text.encoding(), show_bytes(alloc, text.bytes())?);
+    format!(in alloc; "TEXT {encoding:?} {bytes} {end}")
+}
+
+/// The answer to the question of these words, of which the last one spells the bytes.
+fn ask_bytes(alloc: Global, words: &[&str], bytes: &[u8]) -> Result<Option<String>, AllocError> {
+    if let ["decode", setting, _] = words {
+        return match setting_of(setting) {
+            Some(setting) => Ok(Some(ask_decoded(alloc, bytes, setting)?)),
+            None => Ok(None),
+        };
+    }
+    match yaml_decode(alloc, bytes, yaml_encoding_t::YAML_UTF8_ENCODING) {
+        Ok(text) => ask(alloc, words, &text),
+        Err(_) => Ok(None),
+    }
+}
+
 /// The answer to a line.
 pub fn answer(alloc: Global, line: &str) -> Result<String, AllocError> {
     let words: Vec<&str> = line.split(' ').collect(alloc)?;
@@ -129,10 +161,8 @@ pub fn answer(alloc: Global, line: &str) -> Result<String, AllocError> {
         None => None,
     };
     if let Some(bytes) = bytes {
-        if let Ok(text) = yaml_decode(alloc, &bytes, yaml_encoding_t::YAML_UTF8_ENCODING) {
-            if let Some(answer) = ask(alloc, &words, &text)? {
-                return Ok(answer);
-            }
+        if let Some(answer) = ask_bytes(alloc, &words, &bytes)? {
+            return Ok(answer);
         }
     }
     String::from_str(alloc, "?")

@@ -1,14 +1,16 @@
 //! Lists what is at places of texts, for tests of the lexemes and for measuring them.
 //!
-//! Each line of the input is a question about a text in UTF-8, and the answer is one line:
+//! Each line of the input is a question about a text in UTF-8, or about an input, and the answer is one line:
 //!
 //! - `gap FLOW ALLOWED INDEX TEXT`: the mark after the gap, and whether a break is in it;
 //! - `kind FLOW INDEX TEXT`: the kind of lexeme, or `-`;
 //! - `lex DEPTH LEVEL INDEX TEXT`: the lexeme of the kind at that place: its type, the bytes of its parts, its start,
-//!   end and reach, and whether it passed a break; or the fault's context, problem and their marks; or `-`.
+//!   end and reach, and whether it passed a break; or the fault's context, problem and their marks; or `-`;
+//! - `decode ENC TEXT`: the encoding, the text in UTF-8, and the mark of its end; or the offset of what is wrong, its
+//!   value and the problem.
 //!
-//! FLOW and ALLOWED are 0 or 1, INDEX counts bytes, LEVEL is a column or `-`, TEXT is hexadecimal or `-`. The answer
-//! to a line that is no such question is `?`.
+//! FLOW and ALLOWED are 0 or 1, INDEX counts bytes, LEVEL is a column or `-`, TEXT is hexadecimal or `-`, ENC is as
+//! below. The answer to a line that is no such question is `?`.
 //!
 //! With the word `measure` something is done nine times with the input as a text: the lexeme at its front is read,
 //! with `measure walk` all its lexemes one after the other, with `measure scan` or `measure scan LIMIT` its tokens

@@ -4,7 +4,7 @@
 //! and lines are written piece by piece. So each request for memory comes from the call that is tested.
 ghost use Rattle.std.specs.Prelude.{◌≤◌, IfOk, IfSome, length};
 
-use crate::words::word_at;
+use crate::words::{setting_of, word_at};
 use std::alloc::{AllocError, Global};
 use std::io;
 use std::io::{Read, Write};
@@ -279,16 +279,6 @@ fn decode(rt: &HostRuntime, setting: yaml_encoding_t) -> io::Result<()> {
             writeln!(out)
         }
         Err(fault) => put_fault(&mut out, &fault),
-    }
-}
-
-fn setting_of(word: &str) -> Option<yaml_encoding_t> {
-    match word {
-        "any" => Some(yaml_encoding_t::YAML_ANY_ENCODING),
-        "utf8" => Some(yaml_encoding_t::YAML_UTF8_ENCODING),
-        "utf16le" => Some(yaml_encoding_t::YAML_UTF16LE_ENCODING),
-        "utf16be" => Some(yaml_encoding_t::YAML_UTF16BE_ENCODING),
-        _ => None,
     }
 }
 

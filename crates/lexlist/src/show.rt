@@ -35,7 +35,8 @@ pub fn kind_name(kind: yaml_lexeme_kind_t) -> &'static str {
     }
 }
 
-fn show_bytes(alloc: Global, bytes: &[u8]) -> Result<String, AllocError> {
+/// Bytes in hexadecimal, and `-` for none.
+pub fn show_bytes(alloc: Global, bytes: &[u8]) -> Result<String, AllocError> {
     let mut text = String::new(alloc);
     for b in bytes {
         let b = *b;
@@ -120,4 +121,11 @@ pub fn show_fault(alloc: Global, fault: &yaml_fault_t) -> Result<String, AllocEr
     let at = show_mark(alloc, fault.problem_mark)?;
     let from = show_mark(alloc, fault.context_mark)?;
     format!(in alloc; "FAULT {from} {at} {context}; {problem}")
+}
+
+/// The line of what is wrong with an input that is no text: the offset, the byte, unit or code point, and the problem.
+pub fn show_refusal(alloc: Global, fault: &yaml_fault_t) -> Result<String, AllocError> {
+    let problem = fault.problem.unwrap_or("-");
+    let (offset, value) = (fault.problem_offset, fault.problem_value);
+    format!(in alloc; "REFUSED {offset} {value} {problem}")
 }

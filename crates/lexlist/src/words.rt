@@ -1,5 +1,6 @@
 //! The words of a line.
 use std::alloc::{AllocError, Global};
+use yaml_text::yaml_encoding_t;
 
 fn digit_of(b: u8) -> Option<u8> {
     match b {
@@ -56,5 +57,16 @@ pub fn level_of(word: &str) -> Option<Option<u64>> {
     match word.parse() {
         Ok(level) => Some(Some(level)),
         Err(_) => None,
+    }
+}
+
+/// The encoding setting of a word, if it is one.
+pub fn setting_of(word: &str) -> Option<yaml_encoding_t> {
+    match word {
+        "any" => Some(yaml_encoding_t::YAML_ANY_ENCODING),
+        "utf8" => Some(yaml_encoding_t::YAML_UTF8_ENCODING),
+        "utf16le" => Some(yaml_encoding_t::YAML_UTF16LE_ENCODING),
+        "utf16be" => Some(yaml_encoding_t::YAML_UTF16BE_ENCODING),
+        _ => None,
     }
 }

@@ -6,3 +6,5 @@ pub mod DecodeFronts
 pub mod DecodeReadings
 -- What the functions of decoding return is the front, what is wrong after it, and what an input decodes to.
 pub mod DecodeResults
+-- A text in UTF-8 is the part of its input that begins after the byte order mark and has as many bytes as the text.
+pub mod KeptTexts

@@ -6,3 +6,9 @@ pub mod VectorLanes
 pub mod VectorRuns
 -- Bytes that are characters by themselves make the front grow by as many characters.
 pub mod AsciiFronts
+-- Units that are characters of one byte make what was read of UTF-16 grow by as many characters.
+pub mod UnitRuns
+-- A vector that is computed lane by lane from windows of bytes is a test of each window.
+pub mod WindowLanes
+-- Bytes whose windows are clean are whole characters.
+pub mod WholeRuns

@@ -1,10 +1,12 @@
 pub mod Chars
 pub mod Offence
 pub mod Utf8
+pub mod Windows
 pub mod Utf16
 pub mod Text
 pub mod Fault
 pub mod Decode
+pub mod Kept
 pub mod Classes
 pub mod Mark
 pub mod Token

@@ -13,8 +13,9 @@ fn is_single(b: u8) -> bool
     matches!(b, 0x20..=0x7E | 9 | 10 | 13)
 }
 
+/// Which bytes are no characters by themselves.
 #[inline(always)]
-fn others(v: u8x16) -> u64
+pub(crate) fn others(v: u8x16) -> u64
     ensures { result ≡ mask_l (map is_other v) }
 {
     ((v.simd_lt(u8x16::splat(0x20)) | v.simd_ge(u8x16::splat(0x7F)))
@@ -52,8 +53,9 @@ fn are_single(bytes: &[u8]) -> bool
     others(u8x16::from_slice(&bytes[48..])) == 0
 }
 
+/// The bytes from a place on.
 #[inline(always)]
-fn rest(bytes: &[u8], n: usize) -> &[u8]
+pub(crate) fn rest(bytes: &[u8], n: usize) -> &[u8]
     requires { n ≤ length bytes.now }
     ensures { result.now ≡ drop n bytes.now }
 {

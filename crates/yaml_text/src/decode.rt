@@ -12,6 +12,7 @@ ghost use Rattle.yaml_text.specs.declared.types.yaml_encoding_t.TheVariants.{YAM
 ghost use Rattle.yaml_text.specs.declared.types.yaml_encoding_t.TheVariants.{YAML_UTF16BE_ENCODING};
 
 use crate::ascii::single_len;
+use crate::blocks::whole_len;
 use crate::fault::{make_memory_fault, make_reader_fault, yaml_fault_t};
 use crate::offence::offence_t;
 use crate::text::{borrowed_text, owned_text, yaml_text_t};
@@ -36,6 +37,18 @@ fn up_to(bytes: &[u8], at: usize) -> &[u8]
     &bytes[..at]
 }
 
+/// How many of the first bytes are whole characters, as far as they are looked at many at a time.
+fn quick_len(bytes: &[u8]) -> usize
+    ensures text { IsText (take result bytes.now) }
+    ensures within { result ≤ length bytes.now }
+{
+    let run = single_len(bytes);
+    if run >= 32 {
+        return run;
+    }
+    run + whole_len(from(bytes, run))
+}
+
 /// How many bytes the front of a text has, and what is wrong after it.
 fn front8(bytes: &[u8]) -> (usize, Option<offence_t>)
     ensures within { result.0 ≤ length bytes.now }
@@ -45,20 +58,20 @@ fn front8(bytes: &[u8]) -> (usize, Option<offence_t>)
     ensures offence { IfSome result.1 (λ o. o ≡ offence8 (drop result.0 bytes.now)) }
     ensures left { IfSome result.1 (λ o. result.0 + o.offset < length bytes.now) }
 {
-    let mut at = single_len(bytes);
+    let mut at = quick_len(bytes);
     while at < bytes.len() {
         match first_char(from(bytes, at)) {
             Ok(width) => at += width,
             Err(offence) => return (at, Some(offence)),
         }
-        at += single_len(from(bytes, at));
+        at += quick_len(from(bytes, at));
     }
     (at, None)
 }
 
 /// The encoding that is set, or else that of the byte order mark, or else UTF-8; and how many bytes of such a
 /// mark are dropped.
-fn find_encoding(setting: yaml_encoding_t, input: &[u8]) -> (yaml_encoding_t, usize)
+pub(crate) fn find_encoding(setting: yaml_encoding_t, input: &[u8]) -> (yaml_encoding_t, usize)
     ensures encoding { result.0 ≡ encoding_of setting input.now }
     ensures dropped { result.1 ≡ dropped setting input.now }
     ensures within { result.1 ≤ length input.now }

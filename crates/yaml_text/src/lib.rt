@@ -2,6 +2,7 @@
 #![tactic(auto)]
 
 mod ascii;
+mod blocks;
 mod chars;
 #[cfg(test)]
 mod class_tests;
@@ -10,6 +11,7 @@ mod decode;
 #[cfg(test)]
 mod enum_tests;
 mod fault;
+mod kept;
 pub mod laws;
 mod mark;
 mod offence;
@@ -27,6 +29,7 @@ pub use classes::{
 };
 pub use decode::{yaml_decode, yaml_decode_front};
 pub use fault::yaml_fault_t;
+pub use kept::yaml_kept_text_t;
 pub use mark::{yaml_is_place, yaml_mark_at};
 pub use text::yaml_text_t;
 pub use token::{unnamed_yaml_token_t_data, yaml_token_t};

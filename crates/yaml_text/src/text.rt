@@ -1,5 +1,5 @@
 //! A decoded text.
-ghost use Rattle.std.specs.Prelude.{◌≡◌, ◌≢◌};
+ghost use Rattle.std.specs.Prelude.{◌≡◌, ◌≢◌, IfSome, IsNone};
 ghost use Rattle.std.specs.Str.{chars};
 ghost use Rattle.yaml_text.specs.Chars.{utf8, AreChars, IsText};
 ghost use Rattle.yaml_text.specs.declared.types.yaml_encoding_t.TheVariants.{YAML_ANY_ENCODING, YAML_UTF8_ENCODING};
@@ -20,14 +20,17 @@ impl<'a> Model for yaml_text_t<'a> {
     ghost use Rattle.std.specs.Str.{chars};
     ghost use Rattle.std.specs.Cow.{cow_slice_items};
     ghost use Rattle.yaml_text.specs.Chars.{IsText};
-    ghost use Rattle.yaml_text.specs.Text.{Text};
+    ghost use Rattle.std.specs.Prelude.{◌≡◌, true};
+    ghost use Rattle.yaml_text.specs.Text.{Text, is_borrowed};
     ghost use Rattle.yaml_text.specs.declared.types.yaml_encoding_t.TheVariants.{YAML_ANY_ENCODING};
+    ghost use Rattle.yaml_text.specs.declared.types.yaml_encoding_t.TheVariants.{YAML_UTF8_ENCODING};
 
     ghost Value = { Text };
 
     ghost view = { λ t. record { encoding = t.encoding; chars = chars (cow_slice_items t.held) } };
 
-    ghost invariant = { λ t. IsText (cow_slice_items t.held) × (t.encoding ≢ YAML_ANY_ENCODING) };
+    ghost invariant = { λ t. IsText (cow_slice_items t.held) × (t.encoding ≢ YAML_ANY_ENCODING)
+        × (is_borrowed t.held ≡ true → t.encoding ≡ YAML_UTF8_ENCODING) };
 }
 
 impl<'a> yaml_text_t<'a> {
@@ -45,6 +48,17 @@ impl<'a> yaml_text_t<'a> {
         ensures characters { AreChars self.now.chars }
     {
         self.held.as_slice()
+    }
+
+    /// Its bytes, if it has its own, and does not borrow them.
+    pub(crate) fn into_own(self) -> Option<Vec<u8>>
+        ensures own { IfSome result (λ bytes. IsText bytes.items × (self.entry.chars ≡ chars bytes.items)) }
+        ensures borrowed { IsNone result → self.entry.encoding ≡ YAML_UTF8_ENCODING }
+    {
+        match self.held {
+            CowSlice::Borrowed(_) => None,
+            CowSlice::Owned(bytes) => Some(bytes),
+        }
     }
 }
 

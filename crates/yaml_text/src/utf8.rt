@@ -127,7 +127,17 @@ pub(crate) fn push_char(out: &mut Vec<u8>, c: u32) -> Result<(), AllocError>
     ensures ok { OnOk result (out.new.items ≡ out.old.items ++ encode_utf8 c) }
     ensures err { OnErr result (out.new.items ≡ out.old.items) }
 {
-    let c = char::from_u32(c).unwrap();
-    let mut buffer = [0u8; 4];
-    out.extend_from_slice(c.encode_utf8(&mut buffer).as_bytes())
+    let last = (0x80 + c % 64) as u8;
+    if c < 0x80 {
+        return out.extend_from_slice(&[c as u8]);
+    }
+    if c < 0x800 {
+        return out.extend_from_slice(&[(0xC0 + c / 64) as u8, last]);
+    }
+    let middle = (0x80 + c / 64 % 64) as u8;
+    if c < 0x10000 {
+        return out.extend_from_slice(&[(0xE0 + c / 4096) as u8, middle, last]);
+    }
+    let second = (0x80 + c / 4096 % 64) as u8;
+    out.extend_from_slice(&[(0xF0 + c / 262144) as u8, second, middle, last])
 }

@@ -98,7 +98,7 @@ unit_below : (big : Bool) (a b : ℕ) → a < 256 → b < 256 → unit_of big a 
 unit_below true a b x y = omega arith
 unit_below false a b x y = omega arith
 
-abbrev AreBytes : List ℕ → Type 0
+abbrev pub AreBytes : List ℕ → Type 0
 AreBytes bytes = (i : ℕ) → get_or bytes i 0 < 256
 
 -- the bytes begin with the character c, which has n bytes

@@ -87,13 +87,13 @@ pub record Reads (w : ℕ) (bytes : List ℕ) (v : ℕ) : Type 0 where
   pub begins : Begins YAML_UTF8_ENCODING v bytes
   pub width : w ≡ len_utf8 v
 
-abbrev CanRead : ℕ → List ℕ → ℕ → Type 0
+abbrev pub CanRead : ℕ → List ℕ → ℕ → Type 0
 CanRead w bytes v = stray_at w bytes ≡ 0 → least_of w ≤ v → v < 0x110000 → Reads w bytes v
 
-reads1 : (b : ℕ) (more : List ℕ) → b < 128 → Reads 1 (b ∷ more) b
+pub reads1 : (b : ℕ) (more : List ℕ) → b < 128 → Reads 1 (b ∷ more) b
 reads1 b more h = record { begins = (more, rw (encode_ascii b h) refl); width = grind (arith, nat_tests) }
 
-reads2 : (b c : ℕ) (more : List ℕ) → 192 ≤ b → b < 224 → CanRead 2 (b ∷ c ∷ more) (b % 32 * 64 + c % 64)
+pub reads2 : (b c : ℕ) (more : List ℕ) → 192 ≤ b → b < 224 → CanRead 2 (b ∷ c ∷ more) (b % 32 * 64 + c % 64)
 reads2 b c more l h joined least top =
     let v = b % 32 * 64 + c % 64 in
     let cs = joined2 b c more joined in
@@ -101,7 +101,7 @@ reads2 b c more l h joined least top =
     let q : next v ≡ c = omega arith in
     record { begins = (more, rw (two v least (omega arith), p, q) refl); width = grind (arith, nat_tests) }
 
-reads3 : (b c d : ℕ) (more : List ℕ) → 224 ≤ b → b < 240 → CanRead 3 (b ∷ c ∷ d ∷ more) (b % 16 * 4096 + c % 64 * 64 + d % 64)
+pub reads3 : (b c d : ℕ) (more : List ℕ) → 224 ≤ b → b < 240 → CanRead 3 (b ∷ c ∷ d ∷ more) (b % 16 * 4096 + c % 64 * 64 + d % 64)
 reads3 b c d more l h joined least top =
     let v = b % 16 * 4096 + c % 64 * 64 + d % 64 in
     let cs = joined3 b c d more joined in
@@ -110,7 +110,7 @@ reads3 b c d more l h joined least top =
     let r : next v ≡ d = omega arith in
     record { begins = (more, rw (three v least (omega arith), p, q, r) refl); width = grind (arith, nat_tests) }
 
-reads4 : (b c d e : ℕ) (more : List ℕ) → 240 ≤ b → b < 248 → CanRead 4 (b ∷ c ∷ d ∷ e ∷ more) (b % 8 * 262144 + c % 64 * 4096 + d % 64 * 64 + e % 64)
+pub reads4 : (b c d e : ℕ) (more : List ℕ) → 240 ≤ b → b < 248 → CanRead 4 (b ∷ c ∷ d ∷ e ∷ more) (b % 8 * 262144 + c % 64 * 4096 + d % 64 * 64 + e % 64)
 reads4 b c d e more l h joined least top =
     let v = b % 8 * 262144 + c % 64 * 4096 + d % 64 * 64 + e % 64 in
     let cs = joined4 b c d e more joined in

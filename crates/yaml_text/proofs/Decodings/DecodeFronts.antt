@@ -4,7 +4,8 @@ use Rattle.std.specs.Str.{chars}
 use Rattle.std.specs.Char.{len_utf8}
 use Rattle.std.proofs.lemmas.Bool.{and_from}
 use Rattle.std.proofs.lemmas.Bool.Decides.{nat_tests}
-use Rattle.std.proofs.lemmas.List.{append-nil, take-append-drop, take_at, length-append, length-take}
+use Rattle.std.proofs.Math.Seq.{take-add}
+use Rattle.std.proofs.lemmas.List.{append-nil, take-append-drop, take_at, length-append, length-take, length-drop}
 use Rattle.std.proofs.lemmas.Str.{chars-encodes, encodes-append, length-encode, len_utf8_bounds}
 use lib.Utf8.{encode, encodes, scalar, scalars}
 use Rattle.yaml_text.specs.declared.types.yaml_encoding_t.TheVariants.{YAML_UTF8_ENCODING}
@@ -39,6 +40,15 @@ pub IsText-push : (bytes : List ℕ) (c : ℕ) → IsText bytes → IsChar c →
 IsText-push bytes c t ok =
     let e : utf8 (chars bytes ++ c ∷ []) ≡ bytes ++ encode c = encodes-append (chars bytes) (c ∷ []) ∙ ap (λ (x : List ℕ). encodes (chars bytes) ++ x) (append-nil (encode c)) ∙ ap (λ (x : List ℕ). x ++ encode c) t.spelled in
     subst IsText e (IsText-utf8 (chars bytes ++ c ∷ []) (AreChars-append (chars bytes) (c ∷ []) t.each (ok, tt)))
+
+IsText-join : (a b : List ℕ) → IsText a → IsText b → IsText (a ++ b)
+IsText-join a b t u =
+    let e : utf8 (chars a ++ chars b) ≡ a ++ b = encodes-append (chars a) (chars b) ∙ ap (λ (x : List ℕ). x ++ utf8 (chars b)) t.spelled ∙ ap (λ (x : List ℕ). a ++ x) u.spelled in
+    subst IsText e (IsText-utf8 (chars a ++ chars b) (AreChars-append (chars a) (chars b) t.each u.each))
+
+-- the front with more characters after the place at
+pub text_grows : (bytes : List ℕ) (at n : ℕ) → at ≤ length bytes → IsText (take at bytes) → n ≤ length (drop at bytes) → IsText (take n (drop at bytes)) → (at + n ≤ length bytes) × IsText (take (at + n) bytes)
+text_grows bytes at n le t few u = (omega (arith, few, length-drop at bytes), rw (take-add at n bytes) (IsText-join (take at bytes) (take n (drop at bytes)) t u))
 
 -- the front with one more character after the place at
 pub front_grows : (bytes : List ℕ) (at w c : ℕ) → at ≤ length bytes → IsText (take at bytes) → IsChar c → Begins YAML_UTF8_ENCODING c (drop at bytes) → w ≡ len_utf8 c → (at + w ≤ length bytes) × IsText (take (at + w) bytes)

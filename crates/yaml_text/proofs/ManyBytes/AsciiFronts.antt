@@ -9,13 +9,13 @@ use Rattle.std.proofs.lemmas.List.Sums.{prefix_len-le-length}
 use Rattle.std.proofs.lemmas.Str.{encodes-append, encode_ascii}
 use Rattle.yaml_text.specs.Chars.{AreChars, IsText, is_char, utf8}
 use Rattle.yaml_text.specs.Utf8.{is_single}
-use Rattle.yaml_text.proofs.Decodings.DecodeFronts.{IsText-utf8, AreChars-append}
+use Rattle.yaml_text.proofs.Decodings.DecodeFronts.{IsText-nil, IsText-utf8, AreChars-append}
 
-single_char : (b : ℕ) → is_single b ≡ true → is_char b ≡ true
+pub single_char : (b : ℕ) → is_single b ≡ true → is_char b ≡ true
 unfolding is_char
 single_char b h = grind (arith, nat_tests)
 
-single_low : (b : ℕ) → is_single b ≡ true → b < 128
+pub single_low : (b : ℕ) → is_single b ≡ true → b < 128
 single_low b h = grind (arith, nat_tests)
 
 record Own (xs : List ℕ) : Type 0 where
@@ -50,3 +50,8 @@ singles_grow bytes at n le t e =
     let len : length front ≡ at + n = omega (arith, length-append (take at bytes) (take n d), length-take at bytes, length-take n d) in
     let is : front ≡ take (at + n) bytes = sym (take_at front (drop n d) (at + n) len) ∙ ap (λ (x : List ℕ). take (at + n) x) (sym parts) in
     (omega (arith, bound, length-drop at bytes), subst IsText is (IsText-append (take at bytes) (take n d) t (subst (λ k. Own (take k d)) (sym e) (own_front d))))
+
+pub single_front : (bytes : List ℕ) (n : ℕ) → n ≡ prefix_len is_single bytes → IsText (take n bytes)
+single_front bytes n e =
+    let z : 0 + n ≡ n = omega arith in
+    subst (λ k. IsText (take k bytes)) z (singles_grow bytes 0 n (omega arith) IsText-nil e).1

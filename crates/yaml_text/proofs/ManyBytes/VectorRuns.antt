@@ -24,7 +24,7 @@ fewer p r more [] e = refl
 fewer p r more (x ∷ xs) e = fewer_here (p x) (r x) _ _ (more x) (fewer p r more xs) e
 
 module _ (p q : ℕ → Bool) (opposite : (x : ℕ) → q x ≡ not (p x)) where
-  same_run : (xs : List ℕ) → prefix_len q xs ≡ prefix_len (λ x. not (p x)) xs
+  pub same_run : (xs : List ℕ) → prefix_len q xs ≡ prefix_len (λ x. not (p x)) xs
   same_run [] = refl
   same_run (x ∷ xs) = ap₂ (λ b n. cond b (1 + n) 0) (opposite x) (same_run xs)
 

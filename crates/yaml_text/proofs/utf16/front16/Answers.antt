@@ -9,8 +9,8 @@ loop-at-init c = rw c.new-out.ensures.items (reads_none c.args.big c.args.bytes.
 pub push_char-requires : goal.push_char-requires
 push_char-requires c = scalar-IsChar c.in-Ok.c c.in-Ok.ensures.char
 
-pub loop-at-preserved : goal.loop-at-preserved
-loop-at-preserved c =
+pub push_quick-requires : goal.push_quick-requires
+push_quick-requires c =
     let f = c.in-Ok.ensures.found in
     rw c.in_ok-push_char-in-Ok.ensures.ok (reads_more c.args.big c.args.bytes.now c.loop-at.out.items c.loop-at.at c.in-Ok.width c.in-Ok.c c.loop-at.invariant c.in-Ok.ensures.char (rw c.from.ensures at f.0) f.1)
 

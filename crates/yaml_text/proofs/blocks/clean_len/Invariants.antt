@@ -1,0 +1,9 @@
+use Rattle.std.proofs.Common.{◌-◌, ◌≤◌, length}
+use Rattle.yaml_text.specs.Windows.{AreClean}
+use Rattle.yaml_text.proofs.blocks.clean_len.Given as goal
+
+abbrev pub invariant-clean : goal.invariant-clean
+invariant-clean l = record { clean : AreClean l.bytes l.i; within : l.i ≤ length l.bytes }
+
+abbrev pub decreases-clean : goal.decreases-clean
+decreases-clean l = length l.bytes - l.i
