@@ -15,3 +15,5 @@ pub mod ParserInvariant
 pub mod MemoryRefused
 -- Scan after scan to the end of an input gives the whole list.
 pub mod ScansToTheEnd
+-- A parser that was kept without its input goes on as if it had kept it.
+pub mod KeptParser

@@ -27,6 +27,7 @@ pub mod Locality
 pub mod Inputs
 pub mod All
 pub mod Sink
+pub mod Scanned
 pub mod Seen
 pub mod Headline
 pub mod Words

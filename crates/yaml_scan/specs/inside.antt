@@ -9,3 +9,4 @@ pub mod NearFault
 pub mod Scanning
 pub mod Ready
 pub mod Shown
+pub mod Kept

@@ -7,6 +7,7 @@ mod calls;
 mod depth;
 mod fault;
 mod groups;
+mod kept;
 mod keys;
 mod kind;
 pub mod laws;
@@ -17,6 +18,7 @@ mod quick;
 mod quick_flow;
 mod quick_margin;
 mod quick_pair;
+mod scanned;
 mod session;
 mod settled;
 mod sink;
@@ -25,10 +27,12 @@ mod step;
 
 pub use all::{yaml_scan_all, yaml_scan_all_limit};
 pub use calls::{yaml_answer_t, yaml_call_t, yaml_run};
+pub use kept::yaml_kept_parser_t;
 pub use parser::{
     yaml_parser_fault, yaml_parser_has_token, yaml_parser_mark, yaml_parser_peek,
     yaml_parser_queued, yaml_parser_scan, yaml_parser_skip, yaml_parser_t,
 };
+pub use scanned::yaml_scan_next;
 pub use sink::{yaml_scan_to, yaml_token_sink_t};
 pub use yaml_lexeme::{
     yaml_context_t, yaml_gap, yaml_lexeme_at, yaml_lexeme_kind, yaml_lexeme_kind_t, yaml_lexeme_t,

@@ -38,15 +38,15 @@ use yaml_text::{
 /// A parser of an input. Its tokens are taken one after the other.
 #[derive(Drop)]
 pub struct yaml_parser_t<'a> {
-    input: &'a [u8],
-    setting: yaml_encoding_t,
-    scanner: scanner_t<'a>,
-    session: session_t,
+    pub(crate) input: &'a [u8],
+    pub(crate) setting: yaml_encoding_t,
+    pub(crate) scanner: scanner_t<'a>,
+    pub(crate) session: session_t,
     /// The fault of a step that stopped.
-    kept: yaml_fault_t,
-    empty: yaml_token_t,
+    pub(crate) kept: yaml_fault_t,
+    pub(crate) empty: yaml_token_t,
     /// The token that is shown if the head of the queue hands out one before its own.
-    lead: yaml_token_t,
+    pub(crate) lead: yaml_token_t,
 }
 
 impl<'a> Model for yaml_parser_t<'a> {
@@ -61,7 +61,7 @@ impl<'a> Model for yaml_parser_t<'a> {
 }
 
 /// The text of no characters.
-fn empty_text<'a>(alloc: Global) -> yaml_text_t<'a> {
+pub(crate) fn empty_text<'a>(alloc: Global) -> yaml_text_t<'a> {
     match yaml_decode_front(alloc, b"", yaml_encoding_t::YAML_UTF8_ENCODING) {
         Ok((text, _)) => text,
         Err(_) => unreachable!(),

@@ -123,7 +123,7 @@ module _ (setting : yaml_encoding_t) (input : List ℕ) (s t u : scanner_t) (x :
   course_u = rw (p.text, p.refusal, p.limit) refl
 
   pub stands_u : IsIn setting input u
-  stands_u = record { runs = p.runs; reads = (rw (p.text, p.refusal) refl) ∙ k.stands.reads }
+  stands_u = record { runs = p.runs; reads = (rw (p.text, p.refusal) refl) ∙ k.stands.reads; text = p.text ∙ k.stands.text }
 
   pub open_u : is_last p.token ≡ false → IsOpen u
   open_u n = λ e.

@@ -22,6 +22,7 @@ use Rattle.yaml_scan.specs.Session.Call.{SCAN}
 use Rattle.yaml_scan.specs.Session.Answer.{TOKEN, FAULT}
 use Rattle.yaml_scan.specs.Parser.{Parser, told, answered, after_call, course_read, input_read}
 use Rattle.yaml_scan.specs.Headline.{WantsMemory, Calls}
+use Rattle.yaml_scan.specs.Scanned.{Scanned}
 use Rattle.yaml_scan.specs.All.{AllOf, AreSettled, ReadsAll}
 use Rattle.yaml_scan.proofs.Course.AnswerOrder.{fit_course}
 use Rattle.yaml_scan.proofs.Course.CourseSteps.{none_is_stuck}
@@ -95,19 +96,8 @@ module _ (limit : ℕ) (setting : yaml_encoding_t) (input : List ℕ) where
   L = tokens_of limit C
 
   -- a parser that returned these tokens, and nothing else
-  pub record HasScanned (q : Parser) (tokens : List yaml_token_t) (last : Bool) : Type 0 where
-    pub input_is : q.input ≡ input
-    pub setting_is : q.setting ≡ setting
-    pub limit_is : q.limit ≡ limit
-    pub calls : List Call
-    pub calls_are : q.session ≡ after_all limit C calls new_session
-    pub over : q.session.over ≡ last
-    pub tokens_are : tokens ≡ map (handed_out I.encoding) (take q.session.taken L)
-    pub within : q.session.taken ≤ length L
-    pub steps_within : q.session.steps ≤ all_steps C
-    pub are_settled : q.session.taken ≤ length (settled_tokens limit C q.session.steps)
-    pub no_end : last ≡ false → list_any is_end tokens ≡ false
-    pub whole : last ≡ true → (q.session.taken ≡ length L) × (C.fault ≡ None)
+  abbrev pub HasScanned : Parser → List yaml_token_t → Bool → Type 0
+  HasScanned q tokens last = Scanned limit setting input q tokens last
 
   pub has_begun : (q : Parser) → q.input ≡ input → q.setting ≡ setting → q.limit ≡ limit → q.session ≡ new_session → HasScanned q [] false
   unfolding after_all

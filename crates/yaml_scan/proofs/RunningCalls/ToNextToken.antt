@@ -54,7 +54,7 @@ module _ (setting : yaml_encoding_t) (input : List ℕ) (s t u : scanner_t) (b :
 
   pub settled_in : Settles t u → IsSettled setting input s u
   settled_in k = record {
-    stands = record { runs = k.runs; reads = input_same k.same ∙ b.stands.reads };
+    stands = record { runs = k.runs; reads = input_same k.same ∙ b.stands.reads; text = k.same.text ∙ b.stands.text };
     still_open = open_too t u k.runs k.same b.still_open;
     settled = k.settled;
     made = k.made ∙ pace_is;

@@ -167,4 +167,4 @@ module _ (setting : yaml_encoding_t) (input : List ℕ) (s t : scanner_t) (n : I
   runs = record { small = small; near = N; holds = subst (λ (Z : List Laid). Holds Z (t.made + 1) t) (sym history_none) holds; begun = omega (arith, M); start = begun; within = omega (arith, M) }
 
   pub begins : Begins setting input s t
-  begins = record { stands = record { runs = runs; reads = input_is }; still_open = λ z. (let a = offline_some (course_of t).read in let k = n.taken in omega (arith, K)); made = M; limit = L; taken = K; done = D }
+  begins = record { stands = record { runs = runs; reads = input_is; text = T }; still_open = λ z. (let a = offline_some (course_of t).read in let k = n.taken in omega (arith, K)); made = M; limit = L; taken = K; done = D }

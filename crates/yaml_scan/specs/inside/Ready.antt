@@ -3,6 +3,7 @@ use Rattle.std.specs.Prelude.{◌≡◌, ◌⊎◌, ℕ, ◌+◌, ◌≤◌, ◌
 use Rattle.std.specs.Prelude.{option_map}
 use Rattle.yaml_text.specs.declared.types.yaml_encoding_t.{yaml_encoding_t}
 use Rattle.yaml_text.specs.declared.types.yaml_encoding_t.TheVariants.{YAML_UTF8_ENCODING}
+use Rattle.yaml_text.specs.Decode.{front}
 use Rattle.yaml_text.specs.Fault.{Fault, memory_fault, zero_mark, fault_of}
 use Rattle.yaml_scan.specs.declared.step.scanner_t.{scanner_t}
 use Rattle.yaml_scan.specs.declared.parser.yaml_parser_t.TheInside.{Inside}
@@ -38,6 +39,7 @@ pub record IsNew (s : scanner_t) : Type 0 where
 pub record IsIn (setting : yaml_encoding_t) (input : List ℕ) (s : scanner_t) : Type 0 where
   pub runs : Runs s
   pub reads : input_of s ≡ decoded_input setting input
+  pub text : s.text ≡ front setting input
 
 -- the next token can be requested
 abbrev pub IsReady : yaml_encoding_t → List ℕ → scanner_t → Type 0

@@ -1,0 +1,31 @@
+-- A parser of which only tokens were taken.
+use Rattle.std.specs.Prelude.{◌≡◌, ℕ, ◌≤◌, Bool, true, false, List, map, take, length, None}
+use Rattle.std.specs.List.{list_any}
+use Rattle.yaml_text.specs.declared.types.yaml_encoding_t.{yaml_encoding_t}
+use Rattle.yaml_scan.specs.Token.{yaml_token_t, is_last_type, type_of}
+use Rattle.yaml_scan.specs.Groups.{handed_out}
+use Rattle.yaml_scan.specs.Answers.{tokens_of}
+use Rattle.yaml_scan.specs.Inputs.{decoded_input}
+use Rattle.yaml_scan.specs.Session.{Call, settled_tokens, all_steps, new_session, after_all}
+use Rattle.yaml_scan.specs.Parser.{Parser}
+use Rattle.yaml_scan.specs.All.{course_to}
+
+-- A parser of an input that returned these tokens, and nothing else. The last flag says whether the stream end is among
+-- them.
+pub record Scanned
+    (limit : ℕ) (setting : yaml_encoding_t) (input : List ℕ) (q : Parser) (tokens : List yaml_token_t) (last : Bool)
+    : Type 0 where
+  pub input_is : q.input ≡ input
+  pub setting_is : q.setting ≡ setting
+  pub limit_is : q.limit ≡ limit
+  pub calls : List Call
+  pub calls_are : q.session ≡ after_all limit (course_to limit setting input) calls new_session
+  pub over : q.session.over ≡ last
+  pub tokens_are : tokens ≡ map (handed_out (decoded_input setting input).encoding)
+      (take q.session.taken (tokens_of limit (course_to limit setting input)))
+  pub within : q.session.taken ≤ length (tokens_of limit (course_to limit setting input))
+  pub steps_within : q.session.steps ≤ all_steps (course_to limit setting input)
+  pub are_settled : q.session.taken ≤ length (settled_tokens limit (course_to limit setting input) q.session.steps)
+  pub no_end : last ≡ false → list_any (λ t. is_last_type (type_of t.token_data)) tokens ≡ false
+  pub whole : last ≡ true → (q.session.taken ≡ length (tokens_of limit (course_to limit setting input)))
+      × ((course_to limit setting input).fault ≡ None)
