@@ -1,3 +1,5 @@
 pub mod TokensPut
 pub mod Rooms
 pub mod Scanned
+pub mod Batches
+pub mod BatchEnds

@@ -4,8 +4,8 @@ use Rattle.yaml_text.specs.declared.types.yaml_encoding_t.{yaml_encoding_t}
 use Rattle.yaml_text.specs.Fault.{Fault}
 use Rattle.yaml_scan.specs.All.{ReadsAll}
 use Rattle.yaml_scan.specs.Sink.{IsGivenAll}
-use Rattle.yaml_c.specs.declared.answer.yaml_c_answer.{yaml_c_answer}
-use Rattle.yaml_c.specs.declared.record.yaml_c_token.{yaml_c_token}
+use Rattle.yaml_c.specs.declared.answer.bogzhami_answer.{bogzhami_answer}
+use Rattle.yaml_c.specs.declared.record.bogzhami_token.{bogzhami_token}
 use Rattle.yaml_c.specs.declared.sink.token_rooms_t.{token_rooms_t}
 use Rattle.yaml_c.specs.Answer.{IsScanned, answer_with, fault_texts, status_of}
 use Rattle.yaml_c.specs.Record.{held, records_of, all_texts}
@@ -17,7 +17,7 @@ use Rattle.yaml_c.proofs.Rooms.{covered_held, length-covered_from, more_covered_
 -- rooms, answer and status of a call that scanned
 pub are_scanned : (setting e : yaml_encoding_t) (limit : ℕ) (input : List ℕ)
     (a b : token_rooms_t) (fault : Option Fault)
-    (tokens : List yaml_c_token) (texts last : List ℕ) (answer : yaml_c_answer) (status : ℕ)
+    (tokens : List bogzhami_token) (texts last : List ℕ) (answer : bogzhami_answer) (status : ℕ)
     → setting ≡ e → Fits a → a.token_count ≡ 0 → a.text_len ≡ 0
     → IsGivenAll (λ list. ArePut a list b) limit setting input fault
     → (a.tokens.ghost_name ≡ b.tokens.ghost_name → tokens ≡ b.tokens.now)

@@ -2,7 +2,7 @@
 use Rattle.std.proofs.Common.{◌≡◌, ◌<◌, ◌^◌, ◌+◌, ◌∷◌, [], ℕ, List, length}
 use Rattle.std.proofs.Common.{arith, refl, sym, ap, ◌∙◌, subst, length-append}
 use Rattle.yaml_text.specs.Token.{Token}
-use Rattle.yaml_c.specs.declared.record.yaml_c_token.{yaml_c_token}
+use Rattle.yaml_c.specs.declared.record.bogzhami_token.{bogzhami_token}
 use Rattle.yaml_c.specs.declared.sink.token_rooms_t.{token_rooms_t}
 use Rattle.yaml_c.specs.Room.{covered_from}
 use Rattle.yaml_c.specs.Record.{held, record_of, records_of, texts_of, all_texts}
@@ -21,8 +21,8 @@ records_of_held n (t ∷ ts) =
     let here : record_of (held n) t ≡ record_of n t = ap (λ (m : ℕ). record (record_of n t) { text_at = m }) same in
     let rest : records_of (held n + k) ts ≡ records_of (n + k) ts = sym (records_of_held (held n + k) ts)
     ∙ ap (λ (m : ℕ). records_of m ts) (held_held n k) ∙ records_of_held (n + k) ts in
-    ap (λ (r : yaml_c_token). r ∷ records_of (held n + k) ts) here
-    ∙ ap (λ (rs : List yaml_c_token). record_of n t ∷ rs) rest
+    ap (λ (r : bogzhami_token). r ∷ records_of (held n + k) ts) here
+    ∙ ap (λ (rs : List bogzhami_token). record_of n t ∷ rs) rest
 
 -- rooms and counts as a machine has them
 pub record Fits (a : token_rooms_t) : Type 0 where
@@ -73,9 +73,9 @@ one_more a m b t ts fits put more =
           ∙ ap (λ (n : ℕ). covered_from n (records_of m.text_len ts) m.tokens.now) put.token_count
           ∙ covered_held (a.token_count + 1) (records_of m.text_len ts) m.tokens.now next.tokens
           ∙ ap (λ (n : ℕ). covered_from (a.token_count + 1) (records_of n ts) m.tokens.now) put.text_len
-          ∙ ap (λ (rs : List yaml_c_token). covered_from (a.token_count + 1) rs m.tokens.now)
+          ∙ ap (λ (rs : List bogzhami_token). covered_from (a.token_count + 1) rs m.tokens.now)
           (records_of_held (a.text_len + k) ts)
-          ∙ ap (λ (z : List yaml_c_token). covered_from (a.token_count + 1) (records_of (a.text_len + k) ts) z)
+          ∙ ap (λ (z : List bogzhami_token). covered_from (a.token_count + 1) (records_of (a.text_len + k) ts) z)
           put.records
           ∙ more_covered_from a.token_count (record_of a.text_len t ∷ []) (records_of (a.text_len + k) ts) a.tokens.now;
       texts = more.texts

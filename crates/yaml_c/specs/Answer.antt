@@ -7,8 +7,8 @@ use Rattle.yaml_scan.specs.All.{ReadsAll}
 use Rattle.yaml_c.specs.Numbers.{error_number, encoding_of}
 use Rattle.yaml_c.specs.Record.{held, mark_of, records_of, all_texts}
 use Rattle.yaml_c.specs.Room.{covered}
-use Rattle.yaml_c.specs.declared.answer.yaml_c_answer.{yaml_c_answer}
-use Rattle.yaml_c.specs.declared.record.yaml_c_token.{yaml_c_token}
+use Rattle.yaml_c.specs.declared.answer.bogzhami_answer.{bogzhami_answer}
+use Rattle.yaml_c.specs.declared.record.bogzhami_token.{bogzhami_token}
 
 -- a text, or the empty one if there is none
 abbrev pub text_or_none : Option (List ℕ) → List ℕ
@@ -30,7 +30,7 @@ status_of None = 0
 status_of (Some f) = 1
 
 -- two counts, and a fault with the lengths of its texts instead of the texts
-abbrev pub answer_with : ℕ → ℕ → Option Fault → yaml_c_answer
+abbrev pub answer_with : ℕ → ℕ → Option Fault → bogzhami_answer
 answer_with token_count text_len None = record {
   token_count = token_count;
   text_len = text_len;
@@ -55,11 +55,11 @@ answer_with token_count text_len (Some f) = record {
 }
 
 -- the answer for tokens and the fault after them: how many tokens, how many bytes of texts, and the fault
-abbrev pub answer_of : List Token → Option Fault → yaml_c_answer
+abbrev pub answer_of : List Token → Option Fault → bogzhami_answer
 answer_of tokens fault = answer_with (held (length tokens)) (held (length (all_texts tokens))) fault
 
 -- the answer if nothing was scanned: zeros
-abbrev pub no_answer : yaml_c_answer
+abbrev pub no_answer : bogzhami_answer
 no_answer = answer_with 0 0 None
 
 -- a setting that names no encoding, or a key limit that is not from 1 to the greatest
@@ -68,11 +68,11 @@ IsWrong setting limit = (3 < setting) ⊎ (limit < 1) ⊎ (most_key_limit < limi
 
 -- what a call leaves and what was there before: the caller's two rooms
 pub record Rooms : Type 0 where
-  pub tokens : List yaml_c_token
+  pub tokens : List bogzhami_token
   pub texts : List ℕ
 
 -- both, by what they hold
-abbrev pub rooms : List yaml_c_token → List ℕ → Rooms
+abbrev pub rooms : List bogzhami_token → List ℕ → Rooms
 rooms tokens texts = record { tokens = tokens; texts = texts }
 
 -- What a call that scanned an input leaves: there are tokens and a fault which are those of the whole list, and status,
@@ -82,7 +82,7 @@ pub record IsScanned
     (limit : ℕ)
     (input : List ℕ)
     (before after : Rooms)
-    (answer : yaml_c_answer)
+    (answer : bogzhami_answer)
     (status : ℕ) : Type 0 where
   pub list : List Token
   pub fault : Option Fault
@@ -95,17 +95,17 @@ pub record IsScanned
   pub texts_are : after.texts ≡ covered (all_texts list ++ fault_texts fault) before.texts
 
 -- Nothing is touched but the answer, and the status is 2.
-pub record IsUntouched (before after : Rooms) (answer : yaml_c_answer) (status : ℕ) : Type 0 where
+pub record IsUntouched (before after : Rooms) (answer : bogzhami_answer) (status : ℕ) : Type 0 where
   pub status_is : status ≡ 2
   pub answer_is : answer ≡ no_answer
   pub rooms_are : after ≡ before
 
 -- What a call with a right setting and limit leaves.
-abbrev pub ScansRight : ℕ → ℕ → List ℕ → Rooms → Rooms → yaml_c_answer → ℕ → Type 0
+abbrev pub ScansRight : ℕ → ℕ → List ℕ → Rooms → Rooms → bogzhami_answer → ℕ → Type 0
 ScansRight setting limit input before after answer status =
     (e : yaml_encoding_t) → encoding_of setting ≡ Some e → 1 ≤ limit → limit ≤ most_key_limit
     → IsScanned e limit input before after answer status
 
 -- What a call with a wrong setting or limit leaves.
-abbrev pub RefusesWrong : ℕ → ℕ → Rooms → Rooms → yaml_c_answer → ℕ → Type 0
+abbrev pub RefusesWrong : ℕ → ℕ → Rooms → Rooms → bogzhami_answer → ℕ → Type 0
 RefusesWrong setting limit before after answer status = IsWrong setting limit → IsUntouched before after answer status

@@ -4,3 +4,7 @@ pub mod Numbers
 pub mod Record
 pub mod Room
 pub mod Sink
+pub mod Status
+pub mod Ahead
+pub mod Held
+pub mod Handle

@@ -4,15 +4,15 @@ use Rattle.yaml_text.specs.declared.types.yaml_mark_t.{yaml_mark_t}
 use Rattle.yaml_text.specs.Token.{Token, TokenData, type_of}
 use Rattle.yaml_text.specs.Token.TokenData.{STREAM_START, VERSION_DIRECTIVE, TAG_DIRECTIVE, ALIAS, ANCHOR, TAG, SCALAR}
 use Rattle.yaml_c.specs.Numbers.{type_number, style_number, encoding_number}
-use Rattle.yaml_c.specs.declared.record.yaml_c_mark.{yaml_c_mark}
-use Rattle.yaml_c.specs.declared.record.yaml_c_token.{yaml_c_token}
+use Rattle.yaml_c.specs.declared.record.bogzhami_mark.{bogzhami_mark}
+use Rattle.yaml_c.specs.declared.record.bogzhami_token.{bogzhami_token}
 
 -- A number as 64 bits hold it: itself, or the greatest that they hold if it is greater.
 abbrev pub held : ℕ → ℕ
 held n = min n 18446744073709551615
 
 -- a mark as a record
-abbrev pub mark_of : yaml_mark_t → yaml_c_mark
+abbrev pub mark_of : yaml_mark_t → bogzhami_mark
 mark_of m = record { index = m.index; line = m.line; column = m.column }
 
 -- a token's first text: a handle, a name or a value
@@ -51,7 +51,7 @@ abbrev pub texts_of : Token → List ℕ
 texts_of t = first_text t.token_data ++ second_text t.token_data
 
 -- the record of a token whose texts begin at a place
-abbrev pub record_of : ℕ → Token → yaml_c_token
+abbrev pub record_of : ℕ → Token → bogzhami_token
 record_of at t = record {
   token_type = type_number (type_of t.token_data);
   detail = detail_of t.token_data;
@@ -65,7 +65,7 @@ record_of at t = record {
 }
 
 -- the records of tokens whose texts follow one another, from a place on
-abbrev pub records_of : ℕ → List Token → List yaml_c_token
+abbrev pub records_of : ℕ → List Token → List bogzhami_token
 records_of at [] = []
 records_of at (t ∷ ts) = record_of at t ∷ records_of (at + length (texts_of t)) ts
 

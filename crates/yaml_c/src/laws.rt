@@ -2,7 +2,7 @@
 ghost use Rattle.std.specs.Prelude.{ℕ};
 ghost use Rattle.yaml_c.specs.Laws.{HoldsAll, HoldsBeginning, KeepsSize};
 
-use crate::record::yaml_c_token;
+use crate::record::bogzhami_token;
 
 /// What holds of the room for texts.
 ///
@@ -19,7 +19,7 @@ pub fn texts_in_room()
 /// If it has room for all of them, it holds all, and what follows them is unchanged. Otherwise it holds a beginning of
 /// them. It keeps its size.
 pub fn records_in_room()
-    ensures all { HoldsAll yaml_c_token }
-    ensures beginning { HoldsBeginning yaml_c_token }
-    ensures size { KeepsSize yaml_c_token }
+    ensures all { HoldsAll bogzhami_token }
+    ensures beginning { HoldsBeginning bogzhami_token }
+    ensures size { KeepsSize bogzhami_token }
 {}

@@ -8,24 +8,26 @@ ghost use Rattle.yaml_c.specs.Answer.{RefusesWrong, ScansRight, most_key_limit, 
 ghost use Rattle.yaml_c.specs.Sink.{ArePut};
 
 mod answer;
+mod calls;
+mod handle;
+mod held;
 pub mod laws;
 mod numbers;
 mod record;
 mod room;
 mod sink;
+mod status;
 #[cfg(test)]
 mod tests;
 
 use crate::answer::{counts, counts_and_fault, put_fault_texts};
+use crate::calls::MOST_KEY_LIMIT;
 use crate::numbers::encoding_of;
 use crate::sink::token_rooms_t;
-pub use answer::yaml_c_answer;
-pub use record::{yaml_c_mark, yaml_c_token};
+pub use answer::bogzhami_answer;
+pub use record::{bogzhami_mark, bogzhami_token};
 use std::alloc::Global;
 use yaml_scan::{yaml_encoding_t, yaml_fault_t, yaml_scan_to};
-
-/// The greatest key limit, in bytes.
-const MOST_KEY_LIMIT: u32 = 65536;
 
 /// Puts all tokens of an input into two rooms, and returns the fault after them.
 fn scan(
@@ -57,14 +59,14 @@ fn scan(
 /// Returns 0 if the stream ended, 1 if there is a fault, and 2 for another setting or limit. If it returns 2, `out` is
 /// all zeros, and the rooms are as they were.
 #[unsafe(no_mangle)]
-pub extern "C" fn yaml_c_scan_all(
+pub extern "C" fn bogzhami_scan_all(
     alloc: Global,
     input: &[u8],
     setting: u32,
     limit: u32,
-    tokens: &mut [yaml_c_token],
+    tokens: &mut [bogzhami_token],
     texts: &mut [u8],
-    out: &mut yaml_c_answer,
+    out: &mut bogzhami_answer,
 ) -> u32
     ensures wrong { RefusesWrong setting limit
         (rooms tokens.old texts.old) (rooms tokens.new texts.new) out.new result }

@@ -10,7 +10,7 @@ use yaml_scan::{unnamed_yaml_token_t_data, yaml_mark_t, yaml_token_t};
 /// A place in a text.
 #[repr(C)]
 #[derive(Clone, Copy)]
-pub struct yaml_c_mark {
+pub struct bogzhami_mark {
     /// How many bytes of the text in UTF-8 come before it.
     pub index: u64,
     /// How many line breaks end before it.
@@ -22,7 +22,7 @@ pub struct yaml_c_mark {
 /// A token. Its texts follow one another in the room for texts, from `text_at` on.
 #[repr(C)]
 #[derive(Clone, Copy)]
-pub struct yaml_c_token {
+pub struct bogzhami_token {
     /// The number of its type.
     pub token_type: u32,
     /// The number of a scalar's style, or of a stream's encoding; otherwise 0.
@@ -38,16 +38,16 @@ pub struct yaml_c_token {
     /// The length in bytes of its prefix or suffix; 0 if it has none.
     pub second_len: u64,
     /// Where it starts.
-    pub start_mark: yaml_c_mark,
+    pub start_mark: bogzhami_mark,
     /// Where it ends.
-    pub end_mark: yaml_c_mark,
+    pub end_mark: bogzhami_mark,
 }
 
 /// A mark as a record.
-pub(crate) fn mark_of(mark: yaml_mark_t) -> yaml_c_mark
+pub(crate) fn mark_of(mark: yaml_mark_t) -> bogzhami_mark
     ensures { result ≡ records.mark_of mark }
 {
-    yaml_c_mark {
+    bogzhami_mark {
         index: mark.index,
         line: mark.line,
         column: mark.column,
@@ -100,11 +100,11 @@ fn version_of(said: &unnamed_yaml_token_t_data) -> (i32, i32)
 }
 
 /// The record of a token whose texts begin at a place.
-pub(crate) fn record_of(text_at: u64, token: &yaml_token_t) -> yaml_c_token
+pub(crate) fn record_of(text_at: u64, token: &yaml_token_t) -> bogzhami_token
     ensures { result ≡ record_of text_at (token_of token.now) }
 {
     let (major, minor) = version_of(&token.token_data);
-    yaml_c_token {
+    bogzhami_token {
         token_type: type_number(token.type_()),
         detail: detail_of(&token.token_data),
         major,

@@ -2,7 +2,7 @@
 ghost use Rattle.std.specs.Prelude.{◌≡◌, ◌∷◌, []};
 ghost use Rattle.yaml_c.specs.Room.{covered_from};
 
-use crate::record::yaml_c_token;
+use crate::record::bogzhami_token;
 
 /// Puts bytes into a room from a place on, as many as there is room for.
 pub(crate) fn put_bytes(room: &mut [u8], at: u64, bytes: &[u8])
@@ -16,7 +16,7 @@ pub(crate) fn put_bytes(room: &mut [u8], at: u64, bytes: &[u8])
 }
 
 /// Puts a record into a room at a place, if it has that place.
-pub(crate) fn put_record(room: &mut [yaml_c_token], at: u64, token: yaml_c_token)
+pub(crate) fn put_record(room: &mut [bogzhami_token], at: u64, token: bogzhami_token)
     ensures { room.new ≡ covered_from at (token ∷ []) room.old }
 {
     if at < room.len() as u64 {

@@ -1,14 +1,15 @@
 //! A caller's two rooms, as the sink of the tokens of an input.
-use crate::record::{first_text, record_of, second_text, yaml_c_token};
+use crate::answer::put_fault_texts;
+use crate::record::{bogzhami_token, first_text, record_of, second_text};
 use crate::room::{put_bytes, put_record};
 use std::alloc::AllocError;
-use yaml_scan::{yaml_token_sink_t, yaml_token_t};
+use yaml_scan::{yaml_fault_t, yaml_token_sink_t, yaml_token_t};
 
 /// A room for records and a room for texts, and how much was put into each, also of what it had no room for.
 #[derive(Drop)]
 pub(crate) struct token_rooms_t<'a> {
     /// The room for records.
-    pub(crate) tokens: &'a mut [yaml_c_token],
+    pub(crate) tokens: &'a mut [bogzhami_token],
     /// The room for texts.
     pub(crate) texts: &'a mut [u8],
     /// How many tokens were put.
@@ -18,10 +19,24 @@ pub(crate) struct token_rooms_t<'a> {
 }
 
 impl<'a> token_rooms_t<'a> {
+    ghost use Rattle.std.specs.Prelude.{◌≡◌, ◌↔◌, ◌+◌, ◌≤◌, IsTrue, Some, length};
+    ghost use Rattle.yaml_text.specs.Fault.{fault_of};
+    ghost use Rattle.yaml_c.specs.Answer.{fault_texts};
+    ghost use Rattle.yaml_c.specs.Room.{covered_from};
     ghost use Rattle.yaml_text.specs.Token.{token_of};
     ghost use Rattle.yaml_c.specs.Sink.{IsPut};
 
-    fn put_token(&mut self, token: &yaml_token_t)
+    /// Whether so many bytes find room after the texts that were put.
+    #[inline(always)]
+    pub(crate) fn has_room(&self, len: u64) -> bool
+        ensures { IsTrue result ↔ (self.now.text_len + len ≤ length self.now.texts.now) }
+    {
+        self.text_len.saturating_add(len) <= self.texts.len() as u64
+    }
+
+    /// Puts a token's record and its texts.
+    #[inline(always)]
+    pub(crate) fn put_token(&mut self, token: &yaml_token_t)
         ensures { IsPut self.old (token_of token.now) self.new }
     {
         let first = first_text(&token.token_data);
@@ -36,6 +51,18 @@ impl<'a> token_rooms_t<'a> {
         put_bytes(self.texts, second_at, second);
         self.token_count = self.token_count.saturating_add(1);
         self.text_len = second_at.saturating_add(second.len() as u64);
+    }
+
+    /// Puts the texts of a fault after those of the tokens.
+    pub(crate) fn put_fault(&mut self, fault: yaml_fault_t)
+        ensures tokens { self.new.tokens ≡ self.old.tokens }
+        ensures same_texts { self.new.texts.ghost_name ≡ self.old.texts.ghost_name }
+        ensures texts { self.new.texts.now ≡ covered_from self.old.text_len
+            (fault_texts (Some (fault_of fault))) self.old.texts.now }
+        ensures token_count { self.new.token_count ≡ self.old.token_count }
+        ensures text_len { self.new.text_len ≡ self.old.text_len }
+    {
+        put_fault_texts(self.texts, self.text_len, fault);
     }
 }
 

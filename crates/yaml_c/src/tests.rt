@@ -5,13 +5,13 @@ use std::test::Fail;
 /// The usual key limit, in bytes.
 const KEY_LIMIT: u32 = 1024;
 
-const NO_MARK: yaml_c_mark = yaml_c_mark {
+const NO_MARK: bogzhami_mark = bogzhami_mark {
     index: 77,
     line: 77,
     column: 77,
 };
 
-const NO_TOKEN: yaml_c_token = yaml_c_token {
+const NO_TOKEN: bogzhami_token = bogzhami_token {
     token_type: 77,
     detail: 77,
     major: 77,
@@ -23,7 +23,7 @@ const NO_TOKEN: yaml_c_token = yaml_c_token {
     end_mark: NO_MARK,
 };
 
-const NO_ANSWER: yaml_c_answer = yaml_c_answer {
+const NO_ANSWER: bogzhami_answer = bogzhami_answer {
     token_count: 77,
     text_len: 77,
     error: 77,
@@ -43,7 +43,7 @@ fn records_and_texts(rt: HostRuntime) -> Result<(), Fail> {
     let mut tokens = [NO_TOKEN; 5];
     let mut texts = [77u8; 8];
     let mut out = NO_ANSWER;
-    let status = yaml_c_scan_all(
+    let status = bogzhami_scan_all(
         rt.alloc(),
         TAGGED,
         0,
@@ -74,7 +74,7 @@ fn fault_and_its_texts(rt: HostRuntime) -> Result<(), Fail> {
     let mut texts = [77u8; 64];
     let mut out = NO_ANSWER;
     let input = b"!!a\n\"\" \"\n";
-    let status = yaml_c_scan_all(
+    let status = bogzhami_scan_all(
         rt.alloc(),
         input,
         0,
@@ -102,7 +102,7 @@ fn rooms_that_are_too_small(rt: HostRuntime) -> Result<(), Fail> {
     let mut tokens = [NO_TOKEN; 1];
     let mut texts = [77u8; 4];
     let mut out = NO_ANSWER;
-    let status = yaml_c_scan_all(
+    let status = bogzhami_scan_all(
         rt.alloc(),
         TAGGED,
         0,
@@ -131,7 +131,7 @@ fn wrong_settings_and_limits(rt: HostRuntime) -> Result<(), Fail> {
         let mut tokens = [NO_TOKEN; 1];
         let mut texts = [77u8; 1];
         let mut out = NO_ANSWER;
-        let status = yaml_c_scan_all(
+        let status = bogzhami_scan_all(
             rt.alloc(),
             b"",
             setting,

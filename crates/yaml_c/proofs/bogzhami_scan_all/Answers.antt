@@ -1,7 +1,7 @@
 use Rattle.std.proofs.Common.{rules, ◌≡◌, refl, sym}
 use Rattle.yaml_c.proofs.Rooms.{covered_from_by_none}
 use Rattle.yaml_c.proofs.Scanned.{are_scanned}
-use Rattle.yaml_c.proofs.yaml_c_scan_all.Goals as goal
+use Rattle.yaml_c.proofs.bogzhami_scan_all.Goals as goal
 
 pub returns-in_default-scan-clause-scanned : goal.returns-in_default-scan-clause-scanned
 returns-in_default-scan-clause-scanned c e is_e least most =

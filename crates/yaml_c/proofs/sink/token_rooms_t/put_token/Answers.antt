@@ -1,5 +1,5 @@
 use Rattle.std.proofs.Common.{rules, ◌<◌, ◌^◌, ◌∷◌, [], length, refl, ap, ◌∙◌}
-use Rattle.yaml_c.specs.declared.record.yaml_c_token.{yaml_c_token}
+use Rattle.yaml_c.specs.declared.record.bogzhami_token.{bogzhami_token}
 use Rattle.yaml_c.specs.Room.{covered_from}
 use Rattle.yaml_c.proofs.Rooms.{both_covered, both_counted}
 use Rattle.yaml_c.proofs.sink.token_rooms_t.put_token.Goals as goal
@@ -14,7 +14,7 @@ returns c =
       text_len = both_counted _ _ _ _ _ _ _ c.first_text-first.ensures c.second_text-second.ensures
           c.saturating_add-second_at.ensures c.saturating_add-self-2.ensures;
       records = c.put_record.ensures
-          ∙ ap (λ (r : yaml_c_token). covered_from c.args.self.now.token_count (r ∷ []) c.args.self.now.tokens.now)
+          ∙ ap (λ (r : bogzhami_token). covered_from c.args.self.now.token_count (r ∷ []) c.args.self.now.tokens.now)
           c.record_of.ensures;
       texts = both_covered _ _ _ _ _ _ _ _ _ c.first_text-first.ensures c.second_text-second.ensures
           low c.saturating_add-second_at.ensures c.put_bytes.ensures c.put_bytes-2.ensures;

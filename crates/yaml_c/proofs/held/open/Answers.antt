@@ -1,0 +1,18 @@
+use Rattle.std.proofs.Common.{refl, sym, ap, ◌∙◌, subst}
+use Rattle.yaml_scan.specs.Parser.{Parser}
+use Rattle.yaml_scan.specs.inside.Kept.{IsKept}
+use Rattle.yaml_scan.proofs.RunningCalls.ScansToTheEnd.{has_begun}
+use Rattle.yaml_c.specs.declared.held.held_t.{held_t}
+use Rattle.yaml_c.specs.Held.{IsAt, opened}
+use Rattle.yaml_c.specs.Numbers.{encoding_number}
+use Rattle.yaml_c.proofs.held.open.Goals as goal
+
+pub returns-in-Ok : goal.returns-in-Ok
+returns-in-Ok c =
+    let s = opened c.args.input.now c.args.setting c.args.limit in
+    subst (λ (z : held_t). IsAt s z) (sym c.in-Ok.ensures.ok) (record {
+      kept = subst (λ (z : Parser). IsKept z c.new.result) c.with_key_limit-parser.ensures c.new.ensures;
+      ahead = refl;
+      stands = has_begun s.limit s.setting s.input s.parser refl refl refl refl;
+      encoding = c.encoding_number-encoding.ensures ∙ ap encoding_number c.in_ok-found_encoding.ensures;
+    })
