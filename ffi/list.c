@@ -1,6 +1,6 @@
 /* list [ENC [LIMIT]] < FILE: lists the tokens of a file, one a line, as `./run scan ENC LIMIT` does.
- * An example of yaml_c.h. The exit status is 0, 1 if there is a fault, 2 for wrong words, 3 if memory is refused. */
-#include "yaml_c.h"
+ * An example of bogzhami.h. The exit status is 0, 1 if there is a fault, 2 for wrong words, 3 if memory is refused. */
+#include "bogzhami.h"
 
 #include <inttypes.h>
 #include <stdio.h>
@@ -16,11 +16,14 @@ static const char *const encodings[] = {"ANY", "UTF8", "UTF16LE", "UTF16BE"};
 static const char *const settings[] = {"any", "utf8", "utf16le", "utf16be"};
 static const char *const styles[] = {"any", "plain", "single", "double", "literal", "folded"};
 
-struct scanned {
-    struct yaml_c_token *tokens;
+enum { BATCH = 256, FIRST_TEXTS = 4096 };
+
+/* Rooms for a batch of tokens, which are used again for the next one. */
+struct rooms {
+    struct bogzhami_token tokens[BATCH];
     uint8_t *texts;
-    struct yaml_c_answer answer;
-    uint32_t status;
+    size_t texts_len;
+    struct bogzhami_answer answer;
 };
 
 /* Reads standard input to its end; NULL if memory is refused. */
@@ -40,29 +43,26 @@ static uint8_t *read_all(size_t *len) {
     return NULL;
 }
 
-/* Scans, with rooms that grow until all fits. At the end tokens or texts are NULL if memory was refused. */
-static struct scanned scan_all(const uint8_t *input, size_t len, uint32_t setting, uint32_t limit) {
-    struct scanned s = {NULL, NULL, {0}, 0};
-    size_t tokens_len = len / 12 + 16, texts_len = len + 256;
+/* Makes the room for texts anew, of a length; false if memory is refused, and then there is none. */
+static bool make_texts(struct rooms *r, uint64_t len) {
+    free(r->texts);
+    r->texts = len <= SIZE_MAX ? calloc((size_t)len, 1) : NULL;
+    r->texts_len = r->texts ? (size_t)len : 0;
+    return r->texts != NULL;
+}
+
+/* Gets the next batch, with more room for texts if it needs that. Returns what bogzhami_next does, or BOGZHAMI_NO_MEMORY. */
+static uint32_t next_batch(struct bogzhami_handle *handle, const uint8_t *input, size_t len, struct rooms *r) {
     for (;;) {
-        s.tokens = calloc(tokens_len, sizeof *s.tokens);
-        s.texts = calloc(texts_len, 1);
-        if (!s.tokens || !s.texts)
-            return s;
-        s.status = yaml_c_scan_all(input, len, setting, limit, s.tokens, tokens_len, s.texts, texts_len, &s.answer);
-        uint64_t wanted = s.answer.text_len + s.answer.problem_len + s.answer.context_len;
-        if (s.answer.token_count <= tokens_len && wanted <= texts_len)
-            return s;
-        if (s.answer.token_count > tokens_len)
-            tokens_len = s.answer.token_count;
-        if (wanted > texts_len)
-            texts_len = wanted;
-        free(s.tokens);
-        free(s.texts);
+        uint32_t status = bogzhami_next(handle, input, len, r->tokens, BATCH, r->texts, r->texts_len, &r->answer);
+        if (status != BOGZHAMI_NO_ROOM)
+            return status;
+        if (!make_texts(r, r->answer.text_len))
+            return BOGZHAMI_NO_MEMORY;
     }
 }
 
-static void list_mark(struct yaml_c_mark m) {
+static void list_mark(struct bogzhami_mark m) {
     printf(" %" PRIu64 ":%" PRIu64 ":%" PRIu64, m.index, m.line, m.column);
 }
 
@@ -72,28 +72,28 @@ static void list_text(const uint8_t *text, uint64_t len) {
         printf("%02x", text[i]);
 }
 
-static void list_token(const struct yaml_c_token *t, const uint8_t *texts) {
+static void list_token(const struct bogzhami_token *t, const uint8_t *texts) {
     const uint8_t *first = texts + t->text_at, *second = first + t->first_len;
     printf("%s", types[t->token_type]);
     list_mark(t->start_mark);
     list_mark(t->end_mark);
     switch (t->token_type) {
-    case YAML_C_STREAM_START_TOKEN:
+    case BOGZHAMI_STREAM_START_TOKEN:
         printf(" %s", encodings[t->detail]);
         break;
-    case YAML_C_VERSION_DIRECTIVE_TOKEN:
+    case BOGZHAMI_VERSION_DIRECTIVE_TOKEN:
         printf(" %" PRId32 " %" PRId32, t->major, t->minor);
         break;
-    case YAML_C_TAG_DIRECTIVE_TOKEN:
-    case YAML_C_TAG_TOKEN:
+    case BOGZHAMI_TAG_DIRECTIVE_TOKEN:
+    case BOGZHAMI_TAG_TOKEN:
         list_text(first, t->first_len);
         list_text(second, t->second_len);
         break;
-    case YAML_C_ALIAS_TOKEN:
-    case YAML_C_ANCHOR_TOKEN:
+    case BOGZHAMI_ALIAS_TOKEN:
+    case BOGZHAMI_ANCHOR_TOKEN:
         list_text(first, t->first_len);
         break;
-    case YAML_C_SCALAR_TOKEN:
+    case BOGZHAMI_SCALAR_TOKEN:
         printf(" %s", styles[t->detail]);
         list_text(first, t->first_len);
         break;
@@ -101,14 +101,14 @@ static void list_token(const struct yaml_c_token *t, const uint8_t *texts) {
     printf("\n");
 }
 
-static void list_fault(const struct yaml_c_answer *a, const uint8_t *texts) {
+static void list_fault(const struct bogzhami_answer *a, const uint8_t *texts) {
     const char *problem = (const char *)texts + a->text_len, *context = problem + a->problem_len;
     int problem_len = (int)a->problem_len, context_len = (int)a->context_len;
     switch (a->error) {
-    case YAML_C_READER_ERROR:
+    case BOGZHAMI_READER_ERROR:
         printf("FAULT reader %" PRIu64 " %" PRId32 " %.*s\n", a->problem_offset, a->problem_value, problem_len, problem);
         break;
-    case YAML_C_SCANNER_ERROR:
+    case BOGZHAMI_SCANNER_ERROR:
         printf("FAULT scanner");
         list_mark(a->context_mark);
         list_mark(a->problem_mark);
@@ -119,27 +119,42 @@ static void list_fault(const struct yaml_c_answer *a, const uint8_t *texts) {
     }
 }
 
-static int list(uint32_t setting, uint32_t limit) {
-    size_t len;
-    uint8_t *input = read_all(&len);
-    struct scanned s = {NULL, NULL, {0}, 0};
-    if (input)
-        s = scan_all(input, len, setting, limit);
-    int status = s.tokens && s.texts ? (int)s.status : 3;
-    if (status < 2)
-        for (uint64_t i = 0; i < s.answer.token_count; i++)
-            list_token(&s.tokens[i], s.texts);
-    if (status == 1)
-        list_fault(&s.answer, s.texts);
-    free(s.tokens);
-    free(s.texts);
-    free(input);
+static void list_batch(const struct rooms *r) {
+    for (uint64_t i = 0; i < r->answer.token_count; i++)
+        list_token(&r->tokens[i], r->texts);
+}
+
+/* Lists all tokens of a scanner, and returns the status after them. */
+static uint32_t list_tokens(struct bogzhami_handle *handle, const uint8_t *input, size_t len, struct rooms *r) {
+    uint32_t status = make_texts(r, FIRST_TEXTS) ? BOGZHAMI_DONE : BOGZHAMI_NO_MEMORY;
+    while (status == BOGZHAMI_DONE) {
+        status = next_batch(handle, input, len, r);
+        if (status == BOGZHAMI_DONE || status == BOGZHAMI_FAULT)
+            list_batch(r);
+    }
+    if (status == BOGZHAMI_FAULT)
+        list_fault(&r->answer, r->texts);
     return status;
+}
+
+static int list(const uint8_t *input, size_t len, uint32_t setting, uint32_t limit) {
+    static struct rooms rooms;
+    struct bogzhami_handle handle = BOGZHAMI_CLOSED;
+    uint32_t status = bogzhami_open(&handle, input, len, setting, limit);
+    if (status == BOGZHAMI_DONE)
+        status = list_tokens(&handle, input, len, &rooms);
+    bogzhami_close(&handle);
+    free(rooms.texts);
+    return status == BOGZHAMI_OVER ? 0 : (int)status;
 }
 
 int main(int argc, char **argv) {
     uint32_t setting = 0;
     while (argc > 1 && setting < 4 && strcmp(argv[1], settings[setting]))
         setting++;
-    return list(setting, argc > 2 ? (uint32_t)strtoul(argv[2], NULL, 10) : 1024);
+    size_t len;
+    uint8_t *input = read_all(&len);
+    int status = input ? list(input, len, setting, argc > 2 ? (uint32_t)strtoul(argv[2], NULL, 10) : 1024) : 3;
+    free(input);
+    return status;
 }
