@@ -2,7 +2,7 @@
 //! An example of scanner.rs. The exit status is 0, 1 if there is a fault, 2 for wrong words.
 mod scanner;
 
-use scanner::{Data, Encoding, Fault, Mark, Scanner, Style, Token};
+use scanner::{Batch, Data, Encoding, Fault, Mark, Scanner, Settings, Style, Token};
 use std::error::Error;
 use std::io::{self, Read, Write};
 use std::process::ExitCode;
@@ -23,7 +23,7 @@ fn words(data: Data) -> String {
         Data::StreamStart { encoding } => format!("STREAM-START {}", format!("{encoding:?}").to_uppercase()),
         Data::StreamEnd => "STREAM-END".into(),
         Data::VersionDirective { major, minor } => format!("VERSION-DIRECTIVE {major} {minor}"),
-        Data::TagDirective { handle, prefix } => format!("TAG-DIRECTIVE {} {}", hex(handle), hex(prefix)),
+        Data::TagDirective { handle, prefix } => format!("TAG-DIRECTIVE {} {}", hex(&handle), hex(&prefix)),
         Data::DocumentStart => "DOCUMENT-START".into(),
         Data::DocumentEnd => "DOCUMENT-END".into(),
         Data::BlockSequenceStart => "BLOCK-SEQUENCE-START".into(),
@@ -37,10 +37,10 @@ fn words(data: Data) -> String {
         Data::FlowEntry => "FLOW-ENTRY".into(),
         Data::Key => "KEY".into(),
         Data::Value => "VALUE".into(),
-        Data::Alias { name } => format!("ALIAS {}", hex(name)),
-        Data::Anchor { name } => format!("ANCHOR {}", hex(name)),
-        Data::Tag { handle, suffix } => format!("TAG {} {}", hex(handle), hex(suffix)),
-        Data::Scalar { value, style } => format!("SCALAR {} {}", style_word(style), hex(value)),
+        Data::Alias { name } => format!("ALIAS {}", hex(&name)),
+        Data::Anchor { name } => format!("ANCHOR {}", hex(&name)),
+        Data::Tag { handle, suffix } => format!("TAG {} {}", hex(&handle), hex(&suffix)),
+        Data::Scalar { value, style } => format!("SCALAR {} {}", style_word(style), hex(&value)),
     }
 }
 
@@ -72,7 +72,7 @@ fn fault_line(fault: &Fault) -> String {
     }
 }
 
-fn setting(words: &[String]) -> Option<(Encoding, u32)> {
+fn settings(words: &[String]) -> Option<Settings> {
     let encoding = match words.first().map_or("any", String::as_str) {
         "any" => Encoding::Any,
         "utf8" => Encoding::Utf8,
@@ -80,25 +80,40 @@ fn setting(words: &[String]) -> Option<(Encoding, u32)> {
         "utf16be" => Encoding::Utf16Be,
         _ => return None,
     };
-    Some((encoding, words.get(1).map_or(Some(1024), |word| word.parse().ok())?))
+    let key_limit = words.get(1).map_or(Some(1024), |word| word.parse().ok())?;
+    Some(Settings { encoding, key_limit, ..Settings::default() })
+}
+
+/// Lists all tokens, a batch at a time, and returns the fault after them.
+fn list(out: &mut dyn Write, scanner: &mut Scanner) -> io::Result<Option<Fault>> {
+    while let Some(batch) = scanner.next_batch() {
+        match batch {
+            Ok(tokens) => list_batch(out, tokens)?,
+            Err(fault) => return Ok(Some(fault)),
+        }
+    }
+    Ok(None)
+}
+
+fn list_batch(out: &mut dyn Write, tokens: Batch) -> io::Result<()> {
+    for token in tokens {
+        writeln!(out, "{}", line(token))?;
+    }
+    Ok(())
 }
 
 fn main() -> Result<ExitCode, Box<dyn Error>> {
     let words: Vec<String> = std::env::args().skip(1).collect();
     let mut input = Vec::new();
     io::stdin().read_to_end(&mut input)?;
-    let Some(scanner) = setting(&words).and_then(|(encoding, limit)| Scanner::with(&input, encoding, limit)) else {
+    let Some(mut scanner) = settings(&words).and_then(|settings| Scanner::with_settings(&input, settings).ok()) else {
         return Ok(ExitCode::from(2));
     };
     let mut out = io::stdout().lock();
-    for token in &scanner {
-        writeln!(out, "{}", line(token))?;
-    }
-    let Some(fault) = scanner.fault() else {
+    let Some(fault) = list(&mut out, &mut scanner)? else {
         return Ok(ExitCode::SUCCESS);
     };
-    writeln!(out, "{}", fault_line(fault))?;
-    let error: &dyn Error = fault;
-    eprintln!("{error}");
+    writeln!(out, "{}", fault_line(&fault))?;
+    eprintln!("{fault}");
     Ok(ExitCode::from(1))
 }

@@ -2,14 +2,21 @@
 //!
 //! ```ignore
 //! mod scanner;
-//! let scanner = scanner::Scanner::new(b"a: 1");
-//! for token in scanner.tokens() { .. }
-//! if let Some(fault) = scanner.fault() { return Err(fault.clone().into()); }
+//! for token in scanner::Scanner::new(b"a: 1") {
+//!     let token = token?;
+//!     println!("{:?} at {:?}", token.data, token.start);
+//! }
 //! ```
+//!
+//! The tokens come one by one. [`Scanner::next_batch`] lends many at once, with no copy of their texts.
 #![allow(dead_code)]
 
+use std::borrow::Cow;
 use std::error::Error;
+use std::ffi::c_void;
 use std::fmt;
+use std::iter::FusedIterator;
+use std::ops::Deref;
 
 /// A place in the text. The index counts bytes of the text in UTF-8.
 #[repr(C)]
@@ -23,7 +30,7 @@ pub struct Mark {
     pub column: u64,
 }
 
-// `struct yaml_c_token` and `struct yaml_c_answer` of yaml_c.h.
+// `struct bogzhami_token`, `struct bogzhami_answer` and `struct bogzhami_handle` of bogzhami.h.
 #[repr(C)]
 #[derive(Clone, Copy, Default)]
 pub(crate) struct Record {
@@ -52,18 +59,40 @@ pub(crate) struct Answer {
     pub(crate) context_len: u64,
 }
 
+#[repr(C)]
+pub(crate) struct Handle {
+    pub(crate) live: bool,
+    pub(crate) held: *mut c_void,
+}
+
+impl Default for Handle {
+    /// `BOGZHAMI_CLOSED`.
+    fn default() -> Handle {
+        Handle { live: false, held: std::ptr::null_mut() }
+    }
+}
+
+// `enum bogzhami_status` of bogzhami.h.
+const DONE: u32 = 0;
+const FAULT: u32 = 1;
+const WRONG: u32 = 2;
+const NO_ROOM: u32 = 5;
+
 unsafe extern "C" {
-    fn yaml_c_scan_all(
+    fn bogzhami_open(handle: *mut Handle, input: *const u8, input_len: usize, encoding: u32, key_limit: u32) -> u32;
+    fn bogzhami_next(
+        handle: *mut Handle,
         input: *const u8,
         input_len: usize,
-        setting: u32,
-        limit: u32,
         tokens: *mut Record,
         tokens_len: usize,
         texts: *mut u8,
         texts_len: usize,
         answer: *mut Answer,
     ) -> u32;
+    fn bogzhami_reach(handle: *const Handle, mark: *mut Mark) -> u32;
+    fn bogzhami_encoding(handle: *const Handle) -> u32;
+    fn bogzhami_close(handle: *mut Handle) -> u32;
 }
 
 /// How bytes spell a text. `Any` is for a setting only: a byte order mark decides; without one it is UTF-8.
@@ -85,13 +114,46 @@ pub enum Style {
     Folded,
 }
 
-/// What a token says. Texts are UTF-8, except what a tag or a `%TAG` directive writes by `%`.
-#[derive(Clone, Copy, Debug, PartialEq, Eq)]
+/// A text of a token: bytes that are UTF-8, except what a tag or a `%TAG` directive writes by `%`.
+#[derive(Clone, PartialEq, Eq, Hash)]
+pub struct Text<'a>(pub Cow<'a, [u8]>);
+
+impl Text<'_> {
+    /// The text, or `None` if its bytes are no UTF-8.
+    pub fn as_str(&self) -> Option<&str> {
+        std::str::from_utf8(&self.0).ok()
+    }
+
+    /// The same text in memory of its own.
+    pub fn into_owned(self) -> Text<'static> {
+        Text(Cow::Owned(self.0.into_owned()))
+    }
+}
+
+impl Deref for Text<'_> {
+    type Target = [u8];
+
+    fn deref(&self) -> &[u8] {
+        &self.0
+    }
+}
+
+impl fmt::Debug for Text<'_> {
+    fn fmt(&self, f: &mut fmt::Formatter<'_>) -> fmt::Result {
+        match self.as_str() {
+            Some(text) => text.fmt(f),
+            None => self.0.fmt(f),
+        }
+    }
+}
+
+/// What a token says.
+#[derive(Clone, Debug, PartialEq, Eq)]
 pub enum Data<'a> {
     StreamStart { encoding: Encoding },
     StreamEnd,
     VersionDirective { major: i32, minor: i32 },
-    TagDirective { handle: &'a [u8], prefix: &'a [u8] },
+    TagDirective { handle: Text<'a>, prefix: Text<'a> },
     DocumentStart,
     DocumentEnd,
     BlockSequenceStart,
@@ -105,18 +167,56 @@ pub enum Data<'a> {
     FlowEntry,
     Key,
     Value,
-    Alias { name: &'a [u8] },
-    Anchor { name: &'a [u8] },
-    Tag { handle: &'a [u8], suffix: &'a [u8] },
-    Scalar { value: &'a [u8], style: Style },
+    Alias { name: Text<'a> },
+    Anchor { name: Text<'a> },
+    Tag { handle: Text<'a>, suffix: Text<'a> },
+    Scalar { value: Text<'a>, style: Style },
+}
+
+impl Data<'_> {
+    /// The same with texts in memory of their own.
+    pub fn into_owned(self) -> Data<'static> {
+        match self {
+            Data::StreamStart { encoding } => Data::StreamStart { encoding },
+            Data::StreamEnd => Data::StreamEnd,
+            Data::VersionDirective { major, minor } => Data::VersionDirective { major, minor },
+            Data::TagDirective { handle, prefix } => {
+                Data::TagDirective { handle: handle.into_owned(), prefix: prefix.into_owned() }
+            }
+            Data::DocumentStart => Data::DocumentStart,
+            Data::DocumentEnd => Data::DocumentEnd,
+            Data::BlockSequenceStart => Data::BlockSequenceStart,
+            Data::BlockMappingStart => Data::BlockMappingStart,
+            Data::BlockEnd => Data::BlockEnd,
+            Data::FlowSequenceStart => Data::FlowSequenceStart,
+            Data::FlowSequenceEnd => Data::FlowSequenceEnd,
+            Data::FlowMappingStart => Data::FlowMappingStart,
+            Data::FlowMappingEnd => Data::FlowMappingEnd,
+            Data::BlockEntry => Data::BlockEntry,
+            Data::FlowEntry => Data::FlowEntry,
+            Data::Key => Data::Key,
+            Data::Value => Data::Value,
+            Data::Alias { name } => Data::Alias { name: name.into_owned() },
+            Data::Anchor { name } => Data::Anchor { name: name.into_owned() },
+            Data::Tag { handle, suffix } => Data::Tag { handle: handle.into_owned(), suffix: suffix.into_owned() },
+            Data::Scalar { value, style } => Data::Scalar { value: value.into_owned(), style },
+        }
+    }
 }
 
 /// A token, with the mark of its start and the mark after its last character.
-#[derive(Clone, Copy, Debug, PartialEq, Eq)]
+#[derive(Clone, Debug, PartialEq, Eq)]
 pub struct Token<'a> {
     pub data: Data<'a>,
     pub start: Mark,
     pub end: Mark,
+}
+
+impl Token<'_> {
+    /// The same token with texts in memory of their own.
+    pub fn into_owned(self) -> Token<'static> {
+        Token { data: self.data.into_owned(), start: self.start, end: self.end }
+    }
 }
 
 /// Why an input was refused.
@@ -148,87 +248,217 @@ impl fmt::Display for Fault {
 
 impl Error for Fault {}
 
-/// The tokens of an input, up to its end or its first fault.
-pub struct Scanner {
+/// How an input is scanned.
+#[derive(Clone, Copy, Debug, PartialEq, Eq)]
+pub struct Settings {
+    /// The encoding of the input.
+    pub encoding: Encoding,
+    /// The key limit in bytes, 1 to 65,536: how far a simple key may reach. 1,024 is that of YAML 1.1 and of libyaml.
+    pub key_limit: u32,
+    /// How many tokens are read at once, at most; 0 counts as 1.
+    pub batch_len: usize,
+}
+
+impl Default for Settings {
+    /// Any encoding, a key limit of 1,024 bytes, and 256 tokens at once.
+    fn default() -> Settings {
+        Settings { encoding: Encoding::Any, key_limit: 1024, batch_len: 256 }
+    }
+}
+
+/// A key limit, in bytes, that is not from 1 to 65,536.
+#[derive(Clone, Copy, Debug, PartialEq, Eq)]
+pub struct WrongKeyLimit(pub u32);
+
+impl fmt::Display for WrongKeyLimit {
+    fn fmt(&self, f: &mut fmt::Formatter<'_>) -> fmt::Result {
+        write!(f, "a key limit of {} bytes, which is not from 1 to 65536", self.0)
+    }
+}
+
+impl Error for WrongKeyLimit {}
+
+/// How many bytes the room for texts has at first.
+const FIRST_TEXTS: usize = 1 << 14;
+
+/// A scanner of an input, which reads as much of it as the tokens need that were asked for.
+///
+/// As an iterator it gives the tokens in order, up to the stream end or the first fault. The fault comes once, as the
+/// last item. A scanner may be dropped at any time, and frees all that it holds.
+pub struct Scanner<'a> {
+    input: &'a [u8],
+    handle: Handle,
+    /// The rooms, which each batch uses again.
     records: Vec<Record>,
     texts: Vec<u8>,
+    /// How many records of the batch were given, and how many it has.
+    given: usize,
+    count: usize,
+    /// The fault that comes after the batch.
     fault: Option<Fault>,
 }
 
-impl Scanner {
-    /// Scans an input in any encoding, with a key limit of 1,024 bytes.
-    pub fn new(input: &[u8]) -> Scanner {
-        Scanner::with(input, Encoding::Any, 1024).expect("1,024 is a key limit")
+impl<'a> Scanner<'a> {
+    /// A scanner with the usual [`Settings`]: any encoding, and a key limit of 1,024 bytes.
+    pub fn new(input: &'a [u8]) -> Scanner<'a> {
+        Scanner::with_settings(input, Settings::default()).expect("1,024 is a key limit")
     }
 
-    /// Scans an input in an encoding, with a key limit in bytes; `None` if the limit is not from 1 to 65,536.
-    pub fn with(input: &[u8], encoding: Encoding, limit: u32) -> Option<Scanner> {
-        let mut records = vec![Record::default(); input.len() / 12 + 16];
-        let mut texts = vec![0; input.len() + 256];
-        loop {
-            let mut answer = Answer::default();
-            // SAFETY: each pointer and length is of one live slice, initialised, apart from the others and not null, and
-            // `answer` is a value of its own.
-            let status = unsafe {
-                yaml_c_scan_all(
-                    input.as_ptr(),
-                    input.len(),
-                    encoding as u32,
-                    limit,
-                    records.as_mut_ptr(),
-                    records.len(),
-                    texts.as_mut_ptr(),
-                    texts.len(),
-                    &mut answer,
-                )
-            };
-            let token_count = usize::try_from(answer.token_count).expect("so many tokens were made in memory");
-            let end = answer.text_len.saturating_add(answer.problem_len).saturating_add(answer.context_len);
-            let end = usize::try_from(end).expect("so many bytes were made in memory");
-            if status > 1 {
-                return None;
-            }
-            if token_count <= records.len() && end <= texts.len() {
-                records.truncate(token_count);
-                let fault = (status == 1).then(|| fault_of(&answer, &texts));
-                return Some(Scanner { records, texts, fault });
-            }
-            records.resize(records.len().max(token_count), Record::default());
-            texts.resize(texts.len().max(end), 0);
+    /// A scanner with settings of the caller's. Refused memory is no error here: it is the fault, and comes first.
+    pub fn with_settings(input: &'a [u8], settings: Settings) -> Result<Scanner<'a>, WrongKeyLimit> {
+        let mut handle = Handle::default();
+        let (encoding, key_limit) = (settings.encoding as u32, settings.key_limit);
+        // SAFETY: the handle holds nothing yet, and pointer and length are those of one live slice.
+        let status = unsafe { bogzhami_open(&mut handle, input.as_ptr(), input.len(), encoding, key_limit) };
+        if status == WRONG {
+            return Err(WrongKeyLimit(key_limit));
+        }
+        let records = vec![Record::default(); settings.batch_len.max(1)];
+        let fault = (status != DONE).then_some(Fault::Memory);
+        Ok(Scanner { input, handle, records, texts: vec![0; FIRST_TEXTS], given: 0, count: 0, fault })
+    }
+
+    /// The next tokens at once, or the fault if it is next, or `None` if all was given.
+    ///
+    /// The tokens borrow their texts from the scanner. All of them count as taken, whether they are looked at or not.
+    pub fn next_batch(&mut self) -> Option<Result<Batch<'_>, Fault>> {
+        self.fill();
+        if self.given == self.count {
+            return self.fault.take().map(Err);
+        }
+        let records = self.records[self.given..self.count].iter();
+        self.given = self.count;
+        Some(Ok(Batch { records, texts: &self.texts }))
+    }
+
+    /// What the next item will be. Nothing is taken.
+    pub fn peek(&mut self) -> Option<Result<Token<'_>, &Fault>> {
+        self.fill();
+        match self.records[self.given..self.count].first() {
+            Some(record) => Some(Ok(token_of(record, &self.texts))),
+            None => self.fault.as_ref().map(Err),
         }
     }
 
-    /// The tokens in order, which borrow their texts.
-    pub fn tokens(&self) -> Tokens<'_> {
-        Tokens { records: self.records.iter(), texts: &self.texts }
+    /// How far the last step without a fault was read; zeros before the first one.
+    ///
+    /// Steps are made for a whole batch, so it may be past tokens that were not given yet. With a `batch_len` of 1 it is
+    /// that of the last token that was given or shown.
+    pub fn reach(&self) -> Mark {
+        let mut mark = Mark::default();
+        // SAFETY: `mark` is a value of its own. The handle is used only here.
+        unsafe { bogzhami_reach(&self.handle, &mut mark) };
+        mark
     }
 
-    /// The fault after the tokens, or `None` if the stream ended.
-    pub fn fault(&self) -> Option<&Fault> {
-        self.fault.as_ref()
+    /// The encoding of the input, or `None` if no token was read yet.
+    pub fn encoding(&self) -> Option<Encoding> {
+        // SAFETY: the handle is used only here.
+        match encoding_of(unsafe { bogzhami_encoding(&self.handle) }) {
+            Encoding::Any => None,
+            encoding => Some(encoding),
+        }
+    }
+
+    /// Reads the next batch if all of the last one was given and no fault waits.
+    fn fill(&mut self) {
+        if self.given < self.count || self.fault.is_some() {
+            return;
+        }
+        (self.given, self.count) = (0, 0);
+        let mut answer = Answer::default();
+        let mut status = self.read(&mut answer);
+        if status == NO_ROOM && self.grow(answer.text_len) {
+            status = self.read(&mut answer);
+        }
+        match status {
+            DONE | FAULT => self.count = answer.token_count as usize, // at most the length of the room
+            NO_ROOM => self.stop(),
+            _ => (),
+        }
+        if status == FAULT {
+            self.fault = Some(fault_of(&answer, &self.texts));
+        }
+    }
+
+    /// Calls `bogzhami_next`, and returns its status.
+    fn read(&mut self, answer: &mut Answer) -> u32 {
+        // SAFETY: each pointer and length is of one live slice, initialised and apart from the others. The input is that
+        // of `bogzhami_open`, and nothing changes it while it is borrowed. `answer` is a value of its own.
+        unsafe {
+            bogzhami_next(
+                &mut self.handle,
+                self.input.as_ptr(),
+                self.input.len(),
+                self.records.as_mut_ptr(),
+                self.records.len(),
+                self.texts.as_mut_ptr(),
+                self.texts.len(),
+                answer,
+            )
+        }
+    }
+
+    /// Makes the room for texts as long as that, or returns false if memory is refused.
+    fn grow(&mut self, text_len: u64) -> bool {
+        let text_len = usize::try_from(text_len).unwrap_or(usize::MAX);
+        let has_room = self.texts.try_reserve_exact(text_len.saturating_sub(self.texts.len())).is_ok();
+        if has_room {
+            self.texts.resize(text_len, 0);
+        }
+        has_room
+    }
+
+    /// Ends the scanner with a fault, since it has no room for what comes next.
+    fn stop(&mut self) {
+        self.fault = Some(Fault::Memory);
+        self.close();
+    }
+
+    fn close(&mut self) {
+        // SAFETY: the handle is used only here. If it holds nothing, nothing happens.
+        unsafe { bogzhami_close(&mut self.handle) };
     }
 }
 
-impl<'a> IntoIterator for &'a Scanner {
-    type Item = Token<'a>;
-    type IntoIter = Tokens<'a>;
-
-    fn into_iter(self) -> Tokens<'a> {
-        self.tokens()
+impl Drop for Scanner<'_> {
+    fn drop(&mut self) {
+        self.close();
     }
 }
 
-/// The tokens of a [`Scanner`], in order.
+impl<'a> Iterator for Scanner<'a> {
+    type Item = Result<Token<'a>, Fault>;
+
+    fn next(&mut self) -> Option<Result<Token<'a>, Fault>> {
+        self.fill();
+        let Some(record) = self.records[self.given..self.count].first() else {
+            return self.fault.take().map(Err);
+        };
+        self.given += 1;
+        Some(Ok(token_of(record, &self.texts).into_owned()))
+    }
+}
+
+impl FusedIterator for Scanner<'_> {}
+
+impl fmt::Debug for Scanner<'_> {
+    fn fmt(&self, f: &mut fmt::Formatter<'_>) -> fmt::Result {
+        f.debug_struct("Scanner").field("reach", &self.reach()).finish_non_exhaustive()
+    }
+}
+
+/// Tokens in order, which borrow their texts from their [`Scanner`].
 #[derive(Clone)]
-pub struct Tokens<'a> {
-    records: std::slice::Iter<'a, Record>,
-    texts: &'a [u8],
+pub struct Batch<'b> {
+    records: std::slice::Iter<'b, Record>,
+    texts: &'b [u8],
 }
 
-impl<'a> Iterator for Tokens<'a> {
-    type Item = Token<'a>;
+impl<'b> Iterator for Batch<'b> {
+    type Item = Token<'b>;
 
-    fn next(&mut self) -> Option<Token<'a>> {
+    fn next(&mut self) -> Option<Token<'b>> {
         self.records.next().map(|record| token_of(record, self.texts))
     }
 
@@ -237,7 +467,9 @@ impl<'a> Iterator for Tokens<'a> {
     }
 }
 
-impl ExactSizeIterator for Tokens<'_> {}
+impl ExactSizeIterator for Batch<'_> {}
+
+impl FusedIterator for Batch<'_> {}
 
 fn part(texts: &[u8], at: u64, len: u64) -> &[u8] {
     &texts[at as usize..][..len as usize]
@@ -279,8 +511,9 @@ fn style_of(number: u32) -> Style {
 }
 
 fn token_of<'a>(record: &Record, texts: &'a [u8]) -> Token<'a> {
-    let first = part(texts, record.text_at, record.first_len);
-    let second = part(texts, record.text_at + record.first_len, record.second_len);
+    let text = |at, len| Text(Cow::Borrowed(part(texts, at, len)));
+    let first = text(record.text_at, record.first_len);
+    let second = text(record.text_at + record.first_len, record.second_len);
     let data = match record.token_type {
         1 => Data::StreamStart { encoding: encoding_of(record.detail) },
         2 => Data::StreamEnd,
