@@ -51,7 +51,8 @@ static bool make_texts(struct rooms *r, uint64_t len) {
     return r->texts != NULL;
 }
 
-/* Gets the next batch, with more room for texts if it needs that. Returns what bogzhami_next does, or BOGZHAMI_NO_MEMORY. */
+/* Gets the next batch, with more room for texts if it needs that. Returns what bogzhami_next does, or
+ * BOGZHAMI_NO_MEMORY. */
 static uint32_t next_batch(struct bogzhami_handle *handle, const uint8_t *input, size_t len, struct rooms *r) {
     for (;;) {
         uint32_t status = bogzhami_next(handle, input, len, r->tokens, BATCH, r->texts, r->texts_len, &r->answer);

@@ -1,9 +1,10 @@
 /* lint [-w WIDTH] FILE ..: looks for likely mistakes in YAML files, and prints each as file:line:column: message.
  * The exit status is 0, 1 when there is a message, 2 when a file can not be read, memory is refused or the words are wrong.
  *
- * A file is scanned in one call. One walk over the tokens collects the keys, the anchors and aliases, and the lines that hold a
- * key. Each list is sorted, so that what belongs together is side by side. The time is that of sorting, for every input. */
-#include "yaml_c.h"
+ * A file is scanned in batches, into rooms that are used again. Of the tokens only the keys, the anchors and aliases, and
+ * the lines that hold a key are kept. Each list is sorted, so that what belongs together is side by side. The time is that
+ * of sorting, for every input. */
+#include "bogzhami.h"
 
 #include <errno.h>
 #include <inttypes.h>
@@ -14,6 +15,8 @@
 
 #define DEFAULT_WIDTH 80
 #define SHOWN_NAME 60 /* bytes of a name that a message shows */
+
+enum { BATCH = 256, FIRST_TEXTS = 1 << 14, BLOCK = 1 << 16 };
 
 enum kind { FAULT, DUPLICATE_KEY, TAB, TRAILING_BLANK, UNUSED_ANCHOR, MISSING_ANCHOR, LONG_LINE };
 
@@ -26,12 +29,26 @@ struct message {
     uint64_t number; /* DUPLICATE_KEY: the line of the first; LONG_LINE: characters in it */
 };
 
-/* A key, an anchor or an alias, with the number of its mapping or of its document. */
+/* A key, an anchor or an alias, with the number of its mapping or of its document, and its place. */
 struct entry {
     uint64_t group;
     const uint8_t *name;
     uint64_t name_len;
-    const struct yaml_c_token *token;
+    uint64_t line, column;
+    bool is_alias;
+};
+
+/* A list that grows. */
+struct entries {
+    struct entry *items;
+    size_t count, room;
+};
+
+/* Memory for names, which never moves. The blocks are chained, the last one first. */
+struct block {
+    struct block *before;
+    size_t used, room;
+    uint8_t bytes[];
 };
 
 /* A collection that is open: the type of the token that started it, and a number of its own. */
@@ -44,38 +61,78 @@ struct level {
 struct file {
     uint8_t *input;
     size_t input_len;
-    struct yaml_c_token *tokens;
+    struct bogzhami_handle scanner;
+    struct bogzhami_token tokens[BATCH]; /* the rooms for a batch */
     uint8_t *texts;
-    struct yaml_c_answer answer;
-    uint8_t *decoded;    /* the text of an input in UTF-16, otherwise NULL */
-    const uint8_t *text; /* in UTF-8, without the byte order mark, up to what is no text */
+    size_t texts_len;
+    struct bogzhami_answer answer; /* of the last call, so at the end it has the fault */
+    uint8_t *decoded;              /* the text of an input in UTF-16, otherwise NULL */
+    const uint8_t *text;           /* in UTF-8, without the byte order mark, up to what is no text */
     size_t text_len;
     struct level *levels; /* those that are open, the innermost last */
-    size_t depth;
+    size_t depth, level_room;
     uint64_t level_count; /* all that were ever open */
     bool key_next;        /* whether a scalar that comes now is a key */
     uint64_t document;    /* how many document markers came before */
-    struct entry *keys;
-    size_t key_count;
-    struct entry *names; /* anchors and aliases */
-    size_t name_count;
-    uint64_t *key_lines; /* ascending */
-    size_t key_line_count;
+    struct entries keys;
+    struct entries names; /* anchors and aliases */
+    struct block *block;  /* the names of both */
+    uint64_t *key_lines;  /* ascending */
+    size_t key_line_count, key_line_room;
     struct message *messages;
     size_t message_count, message_room;
-    bool out_of_memory; /* a message found no room */
+    bool out_of_memory; /* something found no room */
 };
 
+static void free_blocks(struct block *block) {
+    while (block) {
+        struct block *before = block->before;
+        free(block);
+        block = before;
+    }
+}
+
 static void free_file(struct file *f) {
+    bogzhami_close(&f->scanner);
     free(f->input);
-    free(f->tokens);
     free(f->texts);
     free(f->decoded);
     free(f->levels);
-    free(f->keys);
-    free(f->names);
+    free(f->keys.items);
+    free(f->names.items);
+    free_blocks(f->block);
     free(f->key_lines);
     free(f->messages);
+}
+
+/* Makes room for one more item in a list, and returns where the list is now; NULL if memory is refused. */
+static void *with_room(struct file *f, void *items, size_t count, size_t *room, size_t size) {
+    if (count < *room)
+        return items;
+    size_t wanted = *room ? *room * 2 : 16;
+    void *more = realloc(items, wanted * size);
+    if (more)
+        *room = wanted;
+    else
+        f->out_of_memory = true;
+    return more;
+}
+
+/* A copy of a name in memory that stays; NULL if memory is refused. */
+static const uint8_t *kept_name(struct file *f, const uint8_t *name, size_t len) {
+    if (!f->block || f->block->room - f->block->used < len) {
+        size_t room = len > BLOCK ? len : BLOCK;
+        struct block *block = malloc(sizeof *block + room);
+        f->out_of_memory = f->out_of_memory || !block;
+        if (!block)
+            return NULL;
+        *block = (struct block){f->block, 0, room};
+        f->block = block;
+    }
+    uint8_t *copy = f->block->bytes + f->block->used;
+    memcpy(copy, name, len);
+    f->block->used += len;
+    return copy;
 }
 
 /* Reading and scanning. A function that returns bool returns false when memory is refused. */
@@ -93,28 +150,6 @@ static bool read_all(struct file *f, FILE *from) {
         f->input = more;
     }
     return false;
-}
-
-/* Scans the input, with rooms that grow until all fits. */
-static bool scan_all(struct file *f) {
-    size_t tokens_len = f->input_len / 8 + 16, texts_len = f->input_len + 256;
-    for (;;) {
-        f->tokens = calloc(tokens_len, sizeof *f->tokens);
-        f->texts = calloc(texts_len, 1);
-        if (!f->tokens || !f->texts)
-            return false;
-        yaml_c_scan_all(f->input, f->input_len, YAML_C_ANY_ENCODING, 1024, f->tokens, tokens_len, f->texts, texts_len,
-                        &f->answer);
-        uint64_t wanted = f->answer.text_len + f->answer.problem_len + f->answer.context_len;
-        if (f->answer.token_count <= tokens_len && wanted <= texts_len)
-            return f->answer.error != YAML_C_MEMORY_ERROR;
-        if (f->answer.token_count > tokens_len)
-            tokens_len = f->answer.token_count;
-        if (wanted > texts_len)
-            texts_len = wanted;
-        free(f->tokens);
-        free(f->texts);
-    }
 }
 
 /* Writes a character in UTF-8, and returns how many bytes it has. */
@@ -162,7 +197,7 @@ static size_t whole_characters(const uint8_t *text, size_t len) {
 
 /* Finds the text of the input, up to what the scanner's reader refused. */
 static bool find_text(struct file *f) {
-    bool refused = f->answer.error == YAML_C_READER_ERROR;
+    bool refused = f->answer.error == BOGZHAMI_READER_ERROR;
     size_t len = refused ? (size_t)f->answer.problem_offset : f->input_len;
     bool big = f->input_len >= 2 && !memcmp(f->input, "\xFE\xFF", 2);
     if (big || (f->input_len >= 2 && !memcmp(f->input, "\xFF\xFE", 2))) {
@@ -181,7 +216,7 @@ static bool find_text(struct file *f) {
 /* The walk over the tokens. */
 
 static bool is_flow(uint32_t start) {
-    return start == YAML_C_FLOW_SEQUENCE_START_TOKEN || start == YAML_C_FLOW_MAPPING_START_TOKEN;
+    return start == BOGZHAMI_FLOW_SEQUENCE_START_TOKEN || start == BOGZHAMI_FLOW_MAPPING_START_TOKEN;
 }
 
 /* Whether the innermost collection was started by a token of that type. */
@@ -190,17 +225,34 @@ static bool is_in(const struct file *f, uint32_t start) {
 }
 
 static void add_key_line(struct file *f, uint64_t line) {
-    if (!f->key_line_count || f->key_lines[f->key_line_count - 1] != line)
-        f->key_lines[f->key_line_count++] = line;
+    if (f->key_line_count && f->key_lines[f->key_line_count - 1] == line)
+        return;
+    uint64_t *lines = with_room(f, f->key_lines, f->key_line_count, &f->key_line_room, sizeof *lines);
+    if (!lines)
+        return;
+    f->key_lines = lines;
+    f->key_lines[f->key_line_count++] = line;
 }
 
-static struct entry entry_of(const struct file *f, uint64_t group, const struct yaml_c_token *t) {
-    return (struct entry){group, f->texts + t->text_at, t->first_len, t};
+static void add_entry(struct file *f, struct entries *to, uint64_t group, const struct bogzhami_token *t) {
+    struct entry *items = with_room(f, to->items, to->count, &to->room, sizeof *items);
+    if (!items)
+        return;
+    to->items = items;
+    const uint8_t *name = kept_name(f, f->texts + t->text_at, (size_t)t->first_len);
+    struct bogzhami_mark at = t->start_mark;
+    bool is_alias = t->token_type == BOGZHAMI_ALIAS_TOKEN;
+    if (name)
+        items[to->count++] = (struct entry){group, name, t->first_len, at.line, at.column, is_alias};
 }
 
 static void open_level(struct file *f, uint32_t start) {
+    struct level *levels = with_room(f, f->levels, f->depth, &f->level_room, sizeof *levels);
+    if (!levels)
+        return;
+    f->levels = levels;
     f->levels[f->depth++] = (struct level){start, f->level_count++};
-    f->key_next = start == YAML_C_FLOW_MAPPING_START_TOKEN;
+    f->key_next = start == BOGZHAMI_FLOW_MAPPING_START_TOKEN;
 }
 
 /* Closes the innermost collection, unless it is of the other style: what is closed was never opened, or a flow collection was
@@ -210,99 +262,117 @@ static void close_level(struct file *f, bool flow) {
         f->depth--;
 }
 
-static void take_key(struct file *f, const struct yaml_c_token *t) {
-    f->keys[f->key_count++] = entry_of(f, f->levels[f->depth - 1].number, t);
+static void take_key(struct file *f, const struct bogzhami_token *t) {
+    add_entry(f, &f->keys, f->levels[f->depth - 1].number, t);
     add_key_line(f, t->start_mark.line);
 }
 
-static void take_name(struct file *f, const struct yaml_c_token *t) {
-    f->names[f->name_count++] = entry_of(f, f->document, t);
-}
+static void take_name(struct file *f, const struct bogzhami_token *t) { add_entry(f, &f->names, f->document, t); }
 
 /* What a token does to the collections that are open. */
 static void take_structure(struct file *f, uint32_t type) {
     switch (type) {
-    case YAML_C_DOCUMENT_START_TOKEN:
-    case YAML_C_DOCUMENT_END_TOKEN:
+    case BOGZHAMI_DOCUMENT_START_TOKEN:
+    case BOGZHAMI_DOCUMENT_END_TOKEN:
         f->document++;
         f->depth = 0;
         break;
-    case YAML_C_BLOCK_SEQUENCE_START_TOKEN:
-    case YAML_C_BLOCK_MAPPING_START_TOKEN:
-    case YAML_C_FLOW_SEQUENCE_START_TOKEN:
-    case YAML_C_FLOW_MAPPING_START_TOKEN:
+    case BOGZHAMI_BLOCK_SEQUENCE_START_TOKEN:
+    case BOGZHAMI_BLOCK_MAPPING_START_TOKEN:
+    case BOGZHAMI_FLOW_SEQUENCE_START_TOKEN:
+    case BOGZHAMI_FLOW_MAPPING_START_TOKEN:
         open_level(f, type);
         break;
-    case YAML_C_BLOCK_END_TOKEN:
+    case BOGZHAMI_BLOCK_END_TOKEN:
         close_level(f, false);
         break;
-    case YAML_C_FLOW_SEQUENCE_END_TOKEN:
-    case YAML_C_FLOW_MAPPING_END_TOKEN:
+    case BOGZHAMI_FLOW_SEQUENCE_END_TOKEN:
+    case BOGZHAMI_FLOW_MAPPING_END_TOKEN:
         close_level(f, true);
         break;
     }
 }
 
-static void take_token(struct file *f, const struct yaml_c_token *t) {
+static void take_token(struct file *f, const struct bogzhami_token *t) {
     bool is_key = f->key_next;
     f->key_next = false;
     take_structure(f, t->token_type);
     switch (t->token_type) {
-    case YAML_C_KEY_TOKEN:
+    case BOGZHAMI_KEY_TOKEN:
         add_key_line(f, t->start_mark.line);
-        f->key_next = is_in(f, YAML_C_BLOCK_MAPPING_START_TOKEN) || is_in(f, YAML_C_FLOW_MAPPING_START_TOKEN);
+        f->key_next = is_in(f, BOGZHAMI_BLOCK_MAPPING_START_TOKEN) || is_in(f, BOGZHAMI_FLOW_MAPPING_START_TOKEN);
         break;
-    case YAML_C_FLOW_ENTRY_TOKEN: /* in { } a key may stand alone */
-        f->key_next = is_in(f, YAML_C_FLOW_MAPPING_START_TOKEN);
+    case BOGZHAMI_FLOW_ENTRY_TOKEN: /* in { } a key may stand alone */
+        f->key_next = is_in(f, BOGZHAMI_FLOW_MAPPING_START_TOKEN);
         break;
-    case YAML_C_ALIAS_TOKEN:
+    case BOGZHAMI_ALIAS_TOKEN:
         take_name(f, t);
         break;
-    case YAML_C_ANCHOR_TOKEN:
+    case BOGZHAMI_ANCHOR_TOKEN:
         take_name(f, t);
         f->key_next = is_key;
         break;
-    case YAML_C_TAG_TOKEN:
+    case BOGZHAMI_TAG_TOKEN:
         f->key_next = is_key;
         break;
-    case YAML_C_SCALAR_TOKEN:
+    case BOGZHAMI_SCALAR_TOKEN:
         if (is_key)
             take_key(f, t);
         break;
     }
 }
 
-static bool walk(struct file *f) {
-    size_t count = (size_t)f->answer.token_count + 1;
-    f->levels = calloc(count, sizeof *f->levels);
-    f->keys = calloc(count, sizeof *f->keys);
-    f->names = calloc(count, sizeof *f->names);
-    f->key_lines = calloc(count, sizeof *f->key_lines);
-    if (!f->levels || !f->keys || !f->names || !f->key_lines)
-        return false;
-    for (size_t i = 0; i + 1 < count; i++)
+static bool take_batch(struct file *f) {
+    for (uint64_t i = 0; i < f->answer.token_count && !f->out_of_memory; i++)
         take_token(f, &f->tokens[i]);
-    return true;
+    return !f->out_of_memory;
+}
+
+/* Makes the room for texts anew. What was in it is not needed any more. */
+static bool make_texts(struct file *f, uint64_t len) {
+    free(f->texts);
+    f->texts = calloc((size_t)len, 1);
+    f->texts_len = (size_t)len;
+    return f->texts != NULL;
+}
+
+/* Gets the next batch, with more room for texts if it needs that. */
+static uint32_t next_batch(struct file *f) {
+    for (;;) {
+        uint32_t status = bogzhami_next(&f->scanner, f->input, f->input_len, f->tokens, BATCH, f->texts, f->texts_len,
+                                        &f->answer);
+        if (status != BOGZHAMI_NO_ROOM)
+            return status;
+        if (!make_texts(f, f->answer.text_len))
+            return BOGZHAMI_NO_MEMORY;
+    }
+}
+
+/* Scans the input to its end or its fault, and takes all tokens. */
+static bool scan(struct file *f) {
+    uint32_t status = bogzhami_open(&f->scanner, f->input, f->input_len, BOGZHAMI_ANY_ENCODING, 1024);
+    if (status != BOGZHAMI_DONE || !make_texts(f, FIRST_TEXTS))
+        return false;
+    while (status == BOGZHAMI_DONE) {
+        status = next_batch(f);
+        if (status == BOGZHAMI_NO_MEMORY || !take_batch(f))
+            return false;
+    }
+    return f->answer.error != BOGZHAMI_MEMORY_ERROR;
 }
 
 /* Messages. */
 
 static void add(struct file *f, struct message m) {
-    if (f->message_count == f->message_room) {
-        size_t room = f->message_room ? f->message_room * 2 : 16;
-        struct message *more = realloc(f->messages, room * sizeof *more);
-        f->out_of_memory = f->out_of_memory || !more;
-        if (!more)
-            return;
-        f->messages = more;
-        f->message_room = room;
-    }
+    struct message *messages = with_room(f, f->messages, f->message_count, &f->message_room, sizeof *messages);
+    if (!messages)
+        return;
+    f->messages = messages;
     f->messages[f->message_count++] = m;
 }
 
-static void add_entry(struct file *f, const struct entry *e, enum kind kind, uint64_t number) {
-    struct yaml_c_mark at = e->token->start_mark;
-    add(f, (struct message){at.line, at.column, kind, e->name, e->name_len, number});
+static void tell_entry(struct file *f, const struct entry *e, enum kind kind, uint64_t number) {
+    add(f, (struct message){e->line, e->column, kind, e->name, e->name_len, number});
 }
 
 static bool is_same(const struct entry *a, const struct entry *b) {
@@ -319,14 +389,22 @@ static int compare_entries(const void *left, const void *right) {
     int names = memcmp(a->name, b->name, a->name_len);
     if (names)
         return names;
-    return (a->token > b->token) - (a->token < b->token);
+    if (a->line != b->line)
+        return a->line < b->line ? -1 : 1;
+    return (a->column > b->column) - (a->column < b->column);
+}
+
+static void sort_entries(struct entries *e) {
+    if (e->count)
+        qsort(e->items, e->count, sizeof *e->items, compare_entries);
 }
 
 static void check_keys(struct file *f) {
-    qsort(f->keys, f->key_count, sizeof *f->keys, compare_entries);
-    for (size_t i = 1, first = 0; i < f->key_count; i++) {
-        if (is_same(&f->keys[first], &f->keys[i]))
-            add_entry(f, &f->keys[i], DUPLICATE_KEY, f->keys[first].token->start_mark.line);
+    const struct entry *keys = f->keys.items;
+    sort_entries(&f->keys);
+    for (size_t i = 1, first = 0; i < f->keys.count; i++) {
+        if (is_same(&keys[first], &keys[i]))
+            tell_entry(f, &keys[i], DUPLICATE_KEY, keys[first].line);
         else
             first = i;
     }
@@ -338,27 +416,28 @@ static void check_name(struct file *f, const struct entry *names, size_t count) 
     const struct entry *unused = NULL;
     bool cut = f->answer.error && names->group == f->document, anchored = false;
     for (size_t i = 0; i < count; i++) {
-        if (names[i].token->token_type == YAML_C_ALIAS_TOKEN) {
+        if (names[i].is_alias) {
             if (!anchored)
-                add_entry(f, &names[i], MISSING_ANCHOR, 0);
+                tell_entry(f, &names[i], MISSING_ANCHOR, 0);
             unused = NULL;
         } else {
             if (unused)
-                add_entry(f, unused, UNUSED_ANCHOR, 0);
+                tell_entry(f, unused, UNUSED_ANCHOR, 0);
             unused = &names[i];
             anchored = true;
         }
     }
     if (unused && !cut)
-        add_entry(f, unused, UNUSED_ANCHOR, 0);
+        tell_entry(f, unused, UNUSED_ANCHOR, 0);
 }
 
 static void check_names(struct file *f) {
-    qsort(f->names, f->name_count, sizeof *f->names, compare_entries);
-    for (size_t i = 0, end; i < f->name_count; i = end) {
-        for (end = i + 1; end < f->name_count && is_same(&f->names[i], &f->names[end]);)
+    const struct entry *names = f->names.items;
+    sort_entries(&f->names);
+    for (size_t i = 0, end; i < f->names.count; i = end) {
+        for (end = i + 1; end < f->names.count && is_same(&names[i], &names[end]);)
             end++;
-        check_name(f, &f->names[i], end - i);
+        check_name(f, &names[i], end - i);
     }
 }
 
@@ -385,7 +464,7 @@ static void check_key_line(struct file *f, uint64_t number, const uint8_t *line,
     size_t kept = len;
     while (kept && (line[kept - 1] == ' ' || line[kept - 1] == '\t'))
         kept--;
-    bool cut = line + len == f->text + f->text_len && f->answer.error == YAML_C_READER_ERROR;
+    bool cut = line + len == f->text + f->text_len && f->answer.error == BOGZHAMI_READER_ERROR;
     if (kept < len && !cut)
         add(f, (struct message){number, count_characters(line, kept), TRAILING_BLANK, NULL, 0, 0});
     const uint8_t *tab = kept ? memchr(line, '\t', kept) : NULL;
@@ -407,7 +486,7 @@ static void check_lines(struct file *f, uint64_t width) {
             check_key_line(f, number, line, len);
             key++;
         }
-        if (!broken && f->answer.error == YAML_C_READER_ERROR)
+        if (!broken && f->answer.error == BOGZHAMI_READER_ERROR)
             add(f, (struct message){number, characters, FAULT, NULL, 0, 0});
         if (!broken)
             return;
@@ -416,12 +495,12 @@ static void check_lines(struct file *f, uint64_t width) {
 }
 
 static bool check(struct file *f, uint64_t width) {
-    if (!find_text(f) || !walk(f))
+    if (!find_text(f))
         return false;
     check_keys(f);
     check_names(f);
     check_lines(f, width);
-    if (f->answer.error == YAML_C_SCANNER_ERROR)
+    if (f->answer.error == BOGZHAMI_SCANNER_ERROR)
         add(f, (struct message){f->answer.problem_mark.line, f->answer.problem_mark.column, FAULT, NULL, 0, 0});
     return !f->out_of_memory;
 }
@@ -455,10 +534,10 @@ static void print_name(const uint8_t *name, uint64_t name_len) {
 }
 
 static void print_fault(const struct file *f) {
-    const struct yaml_c_answer *a = &f->answer;
+    const struct bogzhami_answer *a = &f->answer;
     const uint8_t *problem = f->texts + a->text_len;
     fwrite(problem, 1, a->problem_len, stdout);
-    if (a->error == YAML_C_READER_ERROR)
+    if (a->error == BOGZHAMI_READER_ERROR)
         printf(" (byte %" PRIu64 " of the file)", a->problem_offset + 1);
     if (!a->context_len)
         return;
@@ -506,7 +585,7 @@ static int fail(const char *name, const char *problem) {
 }
 
 static int lint_read(struct file *f, const char *name, uint64_t width) {
-    if (!scan_all(f) || !check(f, width))
+    if (!scan(f) || !check(f, width))
         return fail(name, "out of memory");
     if (f->message_count)
         qsort(f->messages, f->message_count, sizeof *f->messages, compare_messages);
@@ -517,7 +596,7 @@ static int lint_read(struct file *f, const char *name, uint64_t width) {
 
 /* Prints the messages of one file, and returns the exit status that they ask for. */
 static int lint(const char *name, uint64_t width) {
-    struct file f = {0};
+    struct file f = {.scanner = BOGZHAMI_CLOSED};
     FILE *from = fopen(name, "rb");
     if (!from)
         return fail(name, strerror(errno));
