@@ -7,6 +7,7 @@ mod scanner;
 mod terminal;
 mod text;
 
+use pieces::Cutter;
 use scanner::{Fault, Scanner};
 use std::ffi::{OsStr, OsString};
 use std::io::{self, BufWriter, Read, Write};
@@ -15,20 +16,21 @@ use text::Text;
 
 /// Shows an input, and returns the exit status that it asks for.
 fn show(out: &mut dyn Write, title: &str, input: &[u8], is_page: bool) -> io::Result<u8> {
-    let scanner = Scanner::new(input);
-    let fault = scanner.fault();
-    if fault == Some(&Fault::Memory) {
+    let text = Text::new(input);
+    let mut cutter = Cutter::new(&text.bytes);
+    let fault = cutter.tokens(Scanner::new(input));
+    if fault == Some(Fault::Memory) {
         eprintln!("highlight: {title}: out of memory");
         return Ok(2);
     }
-    let text = Text::new(input, fault);
-    let pieces = pieces::pieces(&text, &scanner);
+    let problem = fault.map(|fault| text.problem(input, &fault));
+    let pieces = cutter.finish(problem.as_ref());
     if is_page {
-        page::write(out, title, &text, &pieces)?;
+        page::write(out, title, &text, &pieces, problem.as_ref())?;
     } else {
         terminal::write(out, &text, &pieces)?;
     }
-    let Some(problem) = &text.problem else {
+    let Some(problem) = problem else {
         return Ok(0);
     };
     out.flush()?;

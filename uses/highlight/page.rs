@@ -38,9 +38,15 @@ pub fn end(out: &mut dyn Write) -> io::Result<()> {
 }
 
 /// Writes a text under its name, each line in an element of its own, and its problem below it.
-pub fn write(out: &mut dyn Write, title: &str, text: &Text, pieces: &[Piece]) -> io::Result<()> {
+pub fn write(
+    out: &mut dyn Write,
+    title: &str,
+    text: &Text,
+    pieces: &[Piece],
+    problem: Option<&Problem>,
+) -> io::Result<()> {
     write!(out, "<h1>{}</h1>\n<pre tabindex=\"0\"><code>", escaped(title))?;
-    let message = text.problem.as_ref().map_or(String::new(), |problem| escaped(&problem.message));
+    let message = problem.map_or(String::new(), |problem| escaped(&problem.message));
     let mut lines = Lines { out, is_open: false };
     lines.piece(Class::Other, text.mark, &message)?;
     for piece in pieces {
@@ -48,7 +54,7 @@ pub fn write(out: &mut dyn Write, title: &str, text: &Text, pieces: &[Piece]) ->
     }
     lines.close()?;
     writeln!(out, "</code></pre>")?;
-    if let Some(Problem { line, column, .. }) = text.problem {
+    if let Some(Problem { line, column, .. }) = problem {
         writeln!(out, "<p class=\"problem\">Line {line}, column {column}: {message}</p>")?;
     }
     Ok(())

@@ -1,6 +1,6 @@
 //! A text cut into pieces, each with what it is, by the exact places of the tokens.
-use crate::scanner::{Data, Scanner, Style, Token};
-use crate::text::{break_len, character_len, find_break, Text};
+use crate::scanner::{Data, Fault, Scanner, Style, Token};
+use crate::text::{break_len, character_len, find_break, Problem};
 
 /// What a piece of the text is.
 #[derive(Clone, Copy, Debug, PartialEq, Eq)]
@@ -34,27 +34,6 @@ pub struct Piece {
     pub class: Class,
     pub start: usize,
     pub end: usize,
-}
-
-/// The pieces of a text, in order. Joined they are the text.
-pub fn pieces(text: &Text, scanner: &Scanner) -> Vec<Piece> {
-    let mut cutter = Cutter { text: &text.bytes, at: 0, pieces: Vec::new() };
-    let mut keys = Keys::default();
-    for token in scanner {
-        let is_key = keys.take(&token);
-        let (start, end) = (token.start.index as usize, token.end.index as usize);
-        if start < end {
-            cutter.gap(start);
-            cutter.token(class_of(&token, is_key), end);
-        }
-    }
-    cutter.gap(text.problem.as_ref().map_or(text.bytes.len(), |problem| problem.at));
-    if let Some(problem) = &text.problem {
-        cutter.piece(Class::Other, problem.at);
-        cutter.fault();
-    }
-    cutter.piece(Class::Other, text.bytes.len());
-    cutter.pieces
 }
 
 fn class_of(token: &Token, is_key: bool) -> Class {
@@ -114,13 +93,50 @@ impl Keys {
 }
 
 /// Cuts a text from its beginning on.
-struct Cutter<'a> {
+pub struct Cutter<'a> {
     text: &'a [u8],
     at: usize,
+    keys: Keys,
     pieces: Vec<Piece>,
 }
 
-impl Cutter<'_> {
+impl<'a> Cutter<'a> {
+    pub fn new(text: &'a [u8]) -> Cutter<'a> {
+        Cutter { text, at: 0, keys: Keys::default(), pieces: Vec::new() }
+    }
+
+    /// Cuts the text at the tokens of its input, and returns the fault after them.
+    pub fn tokens(&mut self, mut scanner: Scanner) -> Option<Fault> {
+        while let Some(batch) = scanner.next_batch() {
+            match batch {
+                Ok(tokens) => tokens.for_each(|token| self.token(&token)),
+                Err(fault) => return Some(fault),
+            }
+        }
+        None
+    }
+
+    /// The pieces in order, with what follows the tokens. Joined they are the text.
+    pub fn finish(mut self, problem: Option<&Problem>) -> Vec<Piece> {
+        self.gap(problem.map_or(self.text.len(), |problem| problem.at));
+        if let Some(problem) = problem {
+            self.piece(Class::Other, problem.at);
+            self.fault();
+        }
+        self.piece(Class::Other, self.text.len());
+        self.pieces
+    }
+
+    /// Puts what comes before a token, and the token unless it has no characters.
+    fn token(&mut self, token: &Token) {
+        let is_key = self.keys.take(token);
+        let (start, end) = (token.start.index as usize, token.end.index as usize);
+        if start < end {
+            self.gap(start);
+            self.characters(class_of(token, is_key), end);
+        }
+    }
+
     /// Puts what comes before an index, unless that is nothing.
     fn piece(&mut self, class: Class, end: usize) {
         if self.at < end {
@@ -151,8 +167,8 @@ impl Cutter<'_> {
         self.piece(Class::Other, at);
     }
 
-    /// Puts a token. The header of a literal or folded scalar may have a comment.
-    fn token(&mut self, class: Class, end: usize) {
+    /// Puts the characters of a token. The header of a literal or folded scalar may have a comment.
+    fn characters(&mut self, class: Class, end: usize) {
         let token = &self.text[self.at..end];
         if matches!(token[0], b'|' | b'>') {
             let header = find_break(token).map_or(token, |(len, _)| &token[..len]);

@@ -18,26 +18,49 @@ pub struct Text<'a> {
     /// The byte order mark of UTF-8, or nothing. The scanner's marks do not count it.
     pub mark: &'a [u8],
     pub bytes: Cow<'a, [u8]>,
-    pub problem: Option<Problem>,
 }
 
 impl Text<'_> {
-    /// The text of an input, with the fault that the scanner found in it.
-    pub fn new<'a>(input: &'a [u8], fault: Option<&Fault>) -> Text<'a> {
-        let offset = match fault {
-            Some(Fault::Reader { offset, .. }) => *offset as usize,
-            _ => input.len(),
-        };
-        let (mark, bytes, front) = if input.starts_with(b"\xFE\xFF") || input.starts_with(b"\xFF\xFE") {
-            let (bytes, front) = utf16_and_front(input, offset);
-            (&input[..0], Cow::Owned(bytes), front)
-        } else {
-            let (mark, bytes) = input.split_at(if input.starts_with(UTF8_MARK) { 3 } else { 0 });
-            (mark, Cow::Borrowed(bytes), utf8_len(&bytes[..offset - mark.len()]))
-        };
-        let problem = fault.map(|fault| problem_of(fault, &bytes[..front]));
-        Text { mark, bytes, problem }
+    /// The text of an input.
+    pub fn new(input: &[u8]) -> Text<'_> {
+        if is_utf16(input) {
+            return Text { mark: &input[..0], bytes: Cow::Owned(utf16(&input[2..], input[0] == 0xFE)) };
+        }
+        let (mark, bytes) = input.split_at(if input.starts_with(UTF8_MARK) { 3 } else { 0 });
+        Text { mark, bytes: Cow::Borrowed(bytes) }
     }
+
+    /// The problem of a fault that the scanner found in the input of this text. That of a reader fault is at the end of the
+    /// text before it.
+    pub fn problem(&self, input: &[u8], fault: &Fault) -> Problem {
+        match fault {
+            Fault::Scanner { problem, mark, context, context_mark } => {
+                let start = format!("that starts at {}:{}", context_mark.line + 1, context_mark.column + 1);
+                let context = context.as_ref().map_or(String::new(), |context| format!(", {context} {start}"));
+                let message = format!("{problem}{context}");
+                Problem { at: mark.index as usize, line: mark.line + 1, column: mark.column + 1, message }
+            }
+            Fault::Reader { problem, offset, .. } => {
+                let front = self.front_len(input, *offset as usize);
+                let (line, column) = place(&self.bytes[..front]);
+                let message = format!("{problem} (byte {} of the file)", offset + 1);
+                Problem { at: front, line, column, message }
+            }
+            Fault::Memory => Problem { at: 0, line: 1, column: 1, message: fault.to_string() },
+        }
+    }
+
+    /// How many bytes of the text come before the character that an offset of its input is in.
+    fn front_len(&self, input: &[u8], offset: usize) -> usize {
+        if is_utf16(input) {
+            return utf16_front_len(input, offset);
+        }
+        utf8_len(&self.bytes[..offset - self.mark.len()])
+    }
+}
+
+fn is_utf16(input: &[u8]) -> bool {
+    input.starts_with(b"\xFE\xFF") || input.starts_with(b"\xFF\xFE")
 }
 
 /// How many bytes of UTF-8 a text begins with.
@@ -45,15 +68,12 @@ fn utf8_len(text: &[u8]) -> usize {
     std::str::from_utf8(text).map_or_else(|error| error.valid_up_to(), str::len)
 }
 
-/// The text of an input in UTF-16 in UTF-8, and how many bytes of it come before the character that an offset is in.
-fn utf16_and_front(input: &[u8], offset: usize) -> (Vec<u8>, usize) {
+/// How many bytes of UTF-8 the text of an input in UTF-16 has before the character that an offset is in.
+fn utf16_front_len(input: &[u8], offset: usize) -> usize {
     let is_big = input[0] == 0xFE;
     let is_half = matches!(input[if is_big { offset - 2 } else { offset - 1 }], 0xD8..=0xDB);
     let start = if is_half && offset < input.len() { offset - 2 } else { offset };
-    let mut bytes = utf16(&input[2..start], is_big);
-    let front = bytes.len();
-    bytes.extend(utf16(&input[start..], is_big));
-    (bytes, front)
+    utf16(&input[2..start], is_big).len()
 }
 
 /// Decodes UTF-16 without its byte order mark.
@@ -64,24 +84,6 @@ fn utf16(input: &[u8], is_big: bool) -> Vec<u8> {
         _ => 0xDC00, // half a unit, which is no character either
     });
     char::decode_utf16(units).map(|unit| unit.unwrap_or(char::REPLACEMENT_CHARACTER)).collect::<String>().into_bytes()
-}
-
-/// The problem of a fault. That of a reader fault is at the end of the text before it.
-fn problem_of(fault: &Fault, front: &[u8]) -> Problem {
-    match fault {
-        Fault::Scanner { problem, mark, context, context_mark } => {
-            let start = format!("that starts at {}:{}", context_mark.line + 1, context_mark.column + 1);
-            let context = context.as_ref().map_or(String::new(), |context| format!(", {context} {start}"));
-            let message = format!("{problem}{context}");
-            Problem { at: mark.index as usize, line: mark.line + 1, column: mark.column + 1, message }
-        }
-        Fault::Reader { problem, offset, .. } => {
-            let (line, column) = place(front);
-            let message = format!("{problem} (byte {} of the file)", offset + 1);
-            Problem { at: front.len(), line, column, message }
-        }
-        Fault::Memory => Problem { at: 0, line: 1, column: 1, message: fault.to_string() },
-    }
 }
 
 /// The line and the column after a text, from 1.
