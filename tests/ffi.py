@@ -19,16 +19,15 @@ import tempfile
 from concurrent.futures import ProcessPoolExecutor, ThreadPoolExecutor
 
 HERE = os.path.dirname(os.path.abspath(__file__))
-FFI = os.path.join(os.path.dirname(HERE), "ffi")
 CRATE = os.path.join(os.path.dirname(HERE), "crates", "yaml_c", "src")
 sys.path.insert(0, os.path.join(HERE, "lib"))
 sys.dont_write_bytecode = True
+from held import FFI, SETTINGS, Handle, build_held, try_long, try_reach, try_tests, try_valgrind
 from library import build_library
 from worked import MEMORY, build_refuser, run
 
 PLAIN = {"u32": c.c_uint32, "i32": c.c_int32, "u64": c.c_uint64}
-RECORDS = ["yaml_c_mark", "yaml_c_token", "yaml_c_answer"]
-SETTINGS = ["any", "utf8", "utf16le", "utf16be"]
+RECORDS = ["mark", "token", "answer"]
 ENCODINGS = ["ANY", "UTF8", "UTF16LE", "UTF16BE"]
 STYLES = ["any", "plain", "single", "double", "literal", "folded"]
 NOWHERE = c.c_void_p(64)  # an address that holds nothing and is not null
@@ -43,51 +42,62 @@ def source(name):
 
 
 def crate_records():
-    """The records that the crate declares, as ctypes has them."""
+    """The records that the crate declares, as ctypes has them, and the handle."""
     text, made = source("record.rt") + source("answer.rt"), {}
     for name in RECORDS:
-        body = re.search(r"#\[repr\(C\)\]\n#\[derive\(Clone, Copy\)\]\npub struct " + name + r" \{\n(.*?)\n\}", text, re.S).group(1)
-        fields = re.findall(r"^    pub (\w+): (\w+),$", body, re.M)
+        start = r"#\[repr\(C\)\]\n#\[derive\(Clone, Copy\)\]\npub struct \w+_" + name
+        body = re.search(start + r" \{\n(.*?)\n\}", text, re.S).group(1)
+        fields = re.findall(r"^    pub (\w+): (?:\w+_)?(\w+),$", body, re.M)
         made[name] = type(name, (c.Structure,), {"_fields_": [(field, {**PLAIN, **made}[kind]) for field, kind in fields]})
-    return made
+    return {**made, "handle": Handle}
 
 
 MADE = crate_records()
-Token, Answer = MADE["yaml_c_token"], MADE["yaml_c_answer"]
+Token, Answer = MADE["token"], MADE["answer"]
 
 
 def layout():
     """A line for each record's size, and for each field's place and size."""
-    for name in RECORDS:
-        yield f"{name} {c.sizeof(MADE[name])}"
-        for field, _ in MADE[name]._fields_:
-            place = getattr(MADE[name], field)
+    for name, record in MADE.items():
+        yield f"{name} {c.sizeof(record)}"
+        for field, _ in record._fields_:
+            place = getattr(record, field)
             yield f"{name}.{field} {place.offset} {place.size}"
 
 
 def c_layout(room):
     """The same, from a C program that includes the header."""
     lines = []
-    for name in RECORDS:
-        lines.append(f'printf("{name} %zu\\n", sizeof(struct {name}));')
-        for field, _ in MADE[name]._fields_:
-            at, size = f"offsetof(struct {name}, {field})", f"sizeof(((struct {name} *)0)->{field})"
+    for name, record in MADE.items():
+        lines.append(f'printf("{name} %zu\\n", sizeof(struct bogzhami_{name}));')
+        for field, _ in record._fields_:
+            at, size = f"offsetof(struct bogzhami_{name}, {field})", f"sizeof(((struct bogzhami_{name} *)0)->{field})"
             lines.append(f'printf("{name}.{field} %zu %zu\\n", {at}, {size});')
     path = os.path.join(room, "layout")
     with open(path + ".c", "w", encoding="ascii") as text:
-        text.write('#include "yaml_c.h"\n#include <stdio.h>\nint main(void) {\n' + "\n".join(lines) + "\nreturn 0;\n}\n")
+        text.write('#include "bogzhami.h"\n#include <stdio.h>\nint main(void) {\n' + "\n".join(lines) + "\nreturn 0;\n}\n")
     subprocess.run(["cc", "-Wall", "-Werror", "-I", FFI, path + ".c", "-o", path], check=True)
-    if shutil.which("c++"):
-        subprocess.run(["c++", "-x", "c++", "-Wall", "-Werror", "-fsyntax-only", os.path.join(FFI, "yaml_c.h")], check=True)
     return subprocess.run([path], check=True, capture_output=True, text=True).stdout.split("\n")[:-1]
 
 
+def check_cplusplus(room):
+    """Compiles a C++ program that includes the header, if there is a compiler."""
+    if shutil.which("c++"):
+        path = os.path.join(room, "closed.cc")
+        with open(path, "w", encoding="ascii") as text:
+            text.write('#include "bogzhami.h"\nint main() {\n')
+            text.write("bogzhami_handle handle = BOGZHAMI_CLOSED;\nreturn bogzhami_close(&handle) != BOGZHAMI_NOT_LIVE;\n}\n")
+        words = ["-Wall", "-Wextra", "-Werror", "-I", FFI, path, os.path.join(FFI, "out", "libbogzhami.a")]
+        subprocess.run(["c++", *words, "-o", path[:-3]], check=True)
+        subprocess.run([path[:-3]], check=True)
+
+
 def rust_layout(room):
-    """The same, from a Rust program that has scanner.rs as a module."""
-    names, lines = dict(zip(RECORDS, ["Mark", "Record", "Answer"])), []
-    for name in RECORDS:
+    """The same as c_layout, from a Rust program that has scanner.rs as a module."""
+    names, lines = {"mark": "Mark", "token": "Record", "answer": "Answer", "handle": "Handle"}, []
+    for name, record in MADE.items():
         lines.append(f'println!("{name} {{}}", std::mem::size_of::<scanner::{names[name]}>());')
-        for field, _ in MADE[name]._fields_:
+        for field, _ in record._fields_:
             at = f"std::mem::offset_of!(scanner::{names[name]}, {field})"
             size = f"std::mem::size_of_val(&scanner::{names[name]}::default().{field})"
             lines.append(f'println!("{name}.{field} {{}} {{}}", {at}, {size});')
@@ -109,28 +119,29 @@ def has_rust():
 
 
 def build_rust(text, path):
-    link = "link-arg=" + os.path.join(FFI, "out", "libyaml_c.a")
+    link = "link-arg=" + os.path.join(FFI, "out", "libbogzhami.a")
     subprocess.run(["rustc", "-O", "--edition", "2021", text, "-C", link, "-o", path], check=True)
 
 
 def build_c(room):
     path = os.path.join(room, "list")
     words = ["-std=c99", "-Wall", "-Wextra", "-Wpedantic", "-Werror", "-O2", "-I", FFI]
-    subprocess.run(["cc", *words, os.path.join(FFI, "list.c"), os.path.join(FFI, "out", "libyaml_c.a"), "-o", path], check=True)
+    subprocess.run(["cc", *words, os.path.join(FFI, "list.c"), os.path.join(FFI, "out", "libbogzhami.a"), "-o", path], check=True)
     return path
 
 
 def same_numbers():
-    """How many names of the header have the crate's numbers, and those that have not."""
-    with open(os.path.join(FFI, "yaml_c.h"), encoding="ascii") as text:
-        header = {name: int(number) for name, number in re.findall(r"\bYAML_C_(\w+) = (\d+)", text.read())}
+    """How many names of the header have the crate's numbers, and those that have not. The statuses are the header's own."""
+    with open(os.path.join(FFI, "bogzhami.h"), encoding="ascii") as text:
+        enums = re.sub(r"enum bogzhami_status \{.*?\};", "", text.read(), flags=re.S)
+    header = {name: int(number) for name, number in re.findall(r"\bBOGZHAMI_(\w+) = (\d+)", enums)}
     crate = {name: int(number) for name, number in re.findall(r"::YAML_(\w+) => (\d+),", source("numbers.rt"))}
     return len(header), sorted(set(header.items()) ^ set(crate.items()))
 
 
 def load():
-    library = c.CDLL(os.path.join(FFI, "out", "libyaml_c.so"))
-    call = library.yaml_c_scan_all
+    library = c.CDLL(os.path.join(FFI, "out", "libbogzhami.so"))
+    call = library.bogzhami_scan_all
     call.restype = c.c_uint32
     size, number = c.c_size_t, c.c_uint32
     call.argtypes = [c.c_void_p, size, number, number, c.c_void_p, size, c.c_void_p, size, c.c_void_p]
@@ -192,9 +203,9 @@ def fault_line(a, texts):
 
 def type_names():
     """The names of the types as the program lists them, by their numbers in the header."""
-    with open(os.path.join(FFI, "yaml_c.h"), encoding="ascii") as text:
-        found = re.findall(r"\bYAML_C_(\w+?)(?:_TOKEN)? = (\d+)", text.read().split("enum yaml_c_encoding")[0])
-    return {int(number): name.replace("_", "-") for name, number in found}
+    with open(os.path.join(FFI, "bogzhami.h"), encoding="ascii") as text:
+        found = re.findall(r"\bBOGZHAMI_(\w+)_TOKEN = (\d+)", text.read())
+    return {int(number): name.replace("_", "-") for name, number in found if name != "NO"}
 
 
 def vectors():
@@ -268,7 +279,7 @@ def lists_wrong(program, row):
 def refused(program, refuser, data):
     """Refuses each request for memory in turn until three runs in a row are whole; how many runs there were of each kind."""
     whole = subprocess.run([program], input=data, capture_output=True, timeout=60).stdout.decode("ascii").split("\n")[:-1]
-    seen, in_a_row, number = {"whole": 0, "beginning": 0, "nothing": 0, "wrong": 0}, 0, 0
+    seen, in_a_row, number = {"whole": 0, "beginning": 0, "no room": 0, "wrong": 0}, 0, 0
     while in_a_row < 3 and number < 2000:
         number += 1
         # a quick step that was refused memory asks once more
@@ -277,8 +288,8 @@ def refused(program, refuser, data):
         kind = "wrong"
         if found == whole and done.returncode in (0, 1):
             kind = "whole"
-        elif done.returncode == 3 and not found:
-            kind = "nothing"
+        elif done.returncode == 3 and found == whole[: len(found)]:
+            kind = "no room"
         elif done.returncode == 1 and found[-1:] == [MEMORY] and found[:-1] == whole[: len(found) - 1]:
             kind = "beginning"
         seen[kind] += 1
@@ -307,6 +318,7 @@ def try_library(every):
 
 def try_records(room, rust):
     wanted = list(layout())
+    check_cplusplus(room)
     differ = [line for found in [c_layout(room), *([rust_layout(room)] if rust else [])] for line in set(found) ^ set(wanted)]
     print(f"ffi: {len(wanted)} sizes and places in C{' and Rust' if rust else ''}, {len(differ)} differ from the crate's {differ or ''}")
     return not differ and len(wanted) > 20
@@ -322,6 +334,12 @@ def try_examples(programs, rows):
     return good
 
 
+def try_held(room, every):
+    programs = build_held(room)
+    good = [try_tests(programs, every), try_valgrind(programs[0], every), try_long(programs[0]), try_reach(MADE)]
+    return all(good)
+
+
 def try_memory(program, rows):
     with tempfile.TemporaryDirectory() as room:
         refuser = build_refuser(room)
@@ -329,7 +347,7 @@ def try_memory(program, rows):
             seen = list(pool.map(lambda data: refused(program, refuser, data), SMALL))
     total = {kind: sum(one[kind] for one in seen) for kind in seen[0]}
     print(f"ffi: growths refused, {len(SMALL)} inputs: " + ", ".join(f"{count} {kind}" for kind, count in total.items()))
-    good = not total["wrong"] and total["whole"] and total["beginning"] and total["nothing"]
+    good = not total["wrong"] and total["whole"] and total["beginning"] and total["no room"]
     if shutil.which("valgrind") is None:
         print("ffi: leaks skipped: no valgrind")
         return good
@@ -358,6 +376,7 @@ def main():
             try_records(room, rust),
             try_examples(programs, every[::40]),
             try_memory(programs[0], every[::2000]),
+            try_held(room, every),
         ]
     return 0 if all(good) else 1
 

@@ -118,7 +118,7 @@ def build(room):
     build_library()
     lint = os.path.join(room, "lint")
     words = ["-std=c11", "-Wall", "-Wextra", "-pedantic", "-Werror", "-O2", "-I", FFI, os.path.join(USES, "lint", "lint.c")]
-    subprocess.run(["cc", *words, os.path.join(FFI, "out", "libyaml_c.a"), "-o", lint], check=True)
+    subprocess.run(["cc", *words, os.path.join(FFI, "out", "libbogzhami.a"), "-o", lint], check=True)
     if not has_rust():
         return lint, None
     highlight = os.path.join(room, "highlight")

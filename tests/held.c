@@ -1,0 +1,618 @@
+/* held TEST < INPUTS, or held long BYTES: checks a scanner that is held against bogzhami_scan_all, for tests/ffi.py.
+ *
+ * An input is its encoding and its key limit in 4 bytes each, its length in 8 bytes, and its bytes. What a call has to
+ * return is computed here from all tokens of the input, by the words of bogzhami.h. Printed are how many checks there
+ * were and what was wrong. The exit status is 1 if anything was wrong, or nothing was checked.
+ *
+ * It is linked with --wrap for malloc, calloc, realloc and free, so that blocks are counted and requests refused. */
+#include "bogzhami.h"
+
+#include <pthread.h>
+#include <stdio.h>
+#include <stdlib.h>
+#include <string.h>
+
+enum { MOST_TOKENS = 1000, SPARE = 3, FILL = 0xA5, PREFIXES = 20, FIRST_TOKENS = 10, MOST_SHOWN = 20 };
+
+struct input {
+    uint32_t encoding, key_limit;
+    uint64_t len;
+    uint8_t *bytes;
+};
+
+/* All that bogzhami_scan_all says of an input. */
+struct whole {
+    struct bogzhami_token *tokens;
+    uint8_t *texts;
+    struct bogzhami_answer answer;
+    uint32_t status;
+};
+
+/* A scanner that is held, with how many tokens were taken and whether the stream end or the fault was. */
+struct run {
+    const struct input *input;
+    const struct whole *whole;
+    struct bogzhami_handle handle;
+    uint64_t taken;
+    bool is_over;
+};
+
+/* What a call has to return: the tokens and the bytes of their texts, or the need of what comes next. */
+struct expected {
+    uint32_t status;
+    uint64_t count, text_len, need;
+};
+
+static size_t input_number;
+static uint64_t checks, wrongs;
+
+/* The rooms. Those for texts have one for each input, SPARE bytes longer than all its texts. */
+static struct bogzhami_token tokens[MOST_TOKENS + SPARE];
+static uint8_t *texts;
+static struct bogzhami_answer answer;
+
+static void check(bool is_right, const char *what) {
+    checks++;
+    if (!is_right && wrongs++ < MOST_SHOWN)
+        printf("input %zu: wrong: %s\n", input_number, what);
+}
+
+/* Memory. */
+
+extern void *__real_malloc(size_t size);
+extern void *__real_calloc(size_t count, size_t size);
+extern void *__real_realloc(void *old, size_t size);
+extern void __real_free(void *block);
+
+static long blocks; /* that were given and not freed */
+static long requests, first_refused,
+    last_refused; /* requests since refuse(), and the numbers of those refused, from 1 */
+
+static void refuse(long first, long last) {
+    requests = 0;
+    first_refused = first;
+    last_refused = last;
+}
+
+static bool is_refused(void) {
+    requests++;
+    return requests >= first_refused && requests <= last_refused;
+}
+
+static void *counted(void *block) {
+    blocks += block != NULL;
+    return block;
+}
+
+void *__wrap_malloc(size_t size) { return is_refused() ? NULL : counted(__real_malloc(size)); }
+
+void *__wrap_calloc(size_t count, size_t size) { return is_refused() ? NULL : counted(__real_calloc(count, size)); }
+
+void *__wrap_realloc(void *old, size_t size) {
+    if (is_refused())
+        return NULL;
+    return old ? __real_realloc(old, size) : counted(__real_malloc(size));
+}
+
+void __wrap_free(void *block) {
+    blocks -= block != NULL;
+    __real_free(block);
+}
+
+static void *need(void *block) {
+    if (!block) {
+        fprintf(stderr, "held: out of memory\n");
+        exit(3);
+    }
+    return block;
+}
+
+/* Inputs, and what bogzhami_scan_all says of them. */
+
+/* Reads the next input; false at the end. */
+static bool read_input(struct input *i) {
+    uint32_t settings[2];
+    if (fread(settings, sizeof settings, 1, stdin) != 1 || fread(&i->len, sizeof i->len, 1, stdin) != 1)
+        return false;
+    i->encoding = settings[0];
+    i->key_limit = settings[1];
+    i->bytes = need(malloc(i->len + 1));
+    return fread(i->bytes, 1, i->len, stdin) == i->len;
+}
+
+static uint64_t fault_len(const struct whole *w) { return w->answer.problem_len + w->answer.context_len; }
+
+static uint64_t all_texts(const struct whole *w) { return w->answer.text_len + fault_len(w); }
+
+static struct whole scan_whole(const struct input *i) {
+    struct whole w;
+    struct bogzhami_token none;
+    uint8_t no_text;
+    bogzhami_scan_all(i->bytes, i->len, i->encoding, i->key_limit, &none, 0, &no_text, 0, &w.answer);
+    uint64_t count = w.answer.token_count, len = all_texts(&w);
+    w.tokens = need(calloc(count + 1, sizeof *w.tokens));
+    w.texts = need(calloc(len + 1, 1));
+    w.status = bogzhami_scan_all(i->bytes, i->len, i->encoding, i->key_limit, w.tokens, count, w.texts, len, &w.answer);
+    texts = need(malloc(len + SPARE));
+    return w;
+}
+
+static void forget(struct input *i, struct whole *w) {
+    free(w->tokens);
+    free(w->texts);
+    free(texts);
+    free(i->bytes);
+}
+
+/* What calls have to return. */
+
+static uint64_t text_len(const struct bogzhami_token *t) { return t->first_len + t->second_len; }
+
+static struct expected expect(const struct run *r, size_t tokens_len, size_t texts_len) {
+    const struct whole *w = r->whole;
+    const struct bogzhami_token *next = w->tokens + r->taken;
+    uint64_t left = w->answer.token_count - r->taken;
+    struct expected e = {r->is_over ? BOGZHAMI_OVER : BOGZHAMI_DONE, 0, 0, 0};
+    if (r->is_over || tokens_len == 0)
+        return e;
+    for (; e.count < tokens_len && e.count < left && text_len(next + e.count) <= texts_len - e.text_len; e.count++)
+        e.text_len += text_len(next + e.count);
+    bool meets_fault = w->status == BOGZHAMI_FAULT && e.count == left && e.count < tokens_len;
+    if (meets_fault && fault_len(w) <= texts_len - e.text_len) {
+        e.status = BOGZHAMI_FAULT;
+    } else if (e.count == 0) {
+        e.status = BOGZHAMI_NO_ROOM;
+        e.need = left ? text_len(next) : fault_len(w);
+    }
+    return e;
+}
+
+static struct bogzhami_answer expected_answer(const struct whole *w, struct expected e) {
+    struct bogzhami_answer wanted = {0};
+    if (e.status == BOGZHAMI_FAULT)
+        wanted = w->answer;
+    wanted.token_count = e.count;
+    wanted.text_len = e.status == BOGZHAMI_NO_ROOM ? e.need : e.text_len;
+    return wanted;
+}
+
+/* Whether the first records are those of the next tokens, with their texts in the room from its beginning on. */
+static bool are_next(const struct whole *w, uint64_t taken, uint64_t count) {
+    uint64_t at = 0;
+    for (uint64_t i = 0; i < count; i++) {
+        struct bogzhami_token wanted = w->tokens[taken + i];
+        if (memcmp(texts + at, w->texts + wanted.text_at, text_len(&wanted)))
+            return false;
+        wanted.text_at = at;
+        at += text_len(&wanted);
+        if (memcmp(&wanted, &tokens[i], sizeof wanted))
+            return false;
+    }
+    return true;
+}
+
+/* Whether all bytes of a room from one place up to another are as fill_rooms left them. */
+static bool is_filled(const void *from, const void *to) {
+    const uint8_t *first = from;
+    size_t len = (size_t)((const uint8_t *)to - first);
+    return first[0] == FILL && !memcmp(first, first + 1, len - 1);
+}
+
+static void fill_rooms(size_t tokens_len, size_t texts_len) {
+    memset(tokens, FILL, (tokens_len + SPARE) * sizeof *tokens);
+    memset(texts, FILL, texts_len + SPARE);
+    memset(&answer, FILL, sizeof answer);
+}
+
+/* Checks what a call left behind. */
+static void check_left(const struct run *r, struct expected e, size_t tokens_len, size_t texts_len) {
+    uint64_t written = e.text_len;
+    struct bogzhami_answer wanted = expected_answer(r->whole, e);
+    check(!memcmp(&answer, &wanted, sizeof answer), "the answer");
+    check(are_next(r->whole, r->taken, e.count), "a token or its text");
+    if (e.status == BOGZHAMI_FAULT) {
+        check(!memcmp(texts + written, r->whole->texts + r->whole->answer.text_len, fault_len(r->whole)),
+              "the fault's texts");
+        written += fault_len(r->whole);
+    }
+    check(is_filled(tokens + e.count, tokens + tokens_len + SPARE), "something is behind the last record");
+    check(is_filled(texts + written, texts + texts_len + SPARE), "something is behind the last text");
+}
+
+/* Calls bogzhami_next, checks everything, and returns its status. */
+static uint32_t next(struct run *r, size_t tokens_len, size_t texts_len) {
+    struct expected e = expect(r, tokens_len, texts_len);
+    fill_rooms(tokens_len, texts_len);
+    uint32_t status =
+        bogzhami_next(&r->handle, r->input->bytes, r->input->len, tokens, tokens_len, texts, texts_len, &answer);
+    check(status == e.status, "the status of bogzhami_next");
+    check_left(r, e, tokens_len, texts_len);
+    r->taken += e.count;
+    bool is_last = r->whole->status == BOGZHAMI_DONE && r->taken == r->whole->answer.token_count;
+    r->is_over = r->is_over || is_last || e.status == BOGZHAMI_FAULT;
+    return status == e.status ? status : BOGZHAMI_OVER;
+}
+
+/* The same of bogzhami_peek, which takes nothing. */
+static uint32_t peek(struct run *r, size_t texts_len) {
+    struct expected e = expect(r, 1, texts_len);
+    fill_rooms(1, texts_len);
+    uint32_t status = bogzhami_peek(&r->handle, r->input->bytes, r->input->len, tokens, texts, texts_len, &answer);
+    check(status == e.status, "the status of bogzhami_peek");
+    check_left(r, e, 1, texts_len);
+    return status;
+}
+
+static uint32_t open_run(struct bogzhami_handle *handle, const struct input *i) {
+    return bogzhami_open(handle, i->bytes, i->len, i->encoding, i->key_limit);
+}
+
+static struct run begin(const struct input *i, const struct whole *w) {
+    struct run r = {i, w, BOGZHAMI_CLOSED, 0, false};
+    check(open_run(&r.handle, i) == BOGZHAMI_DONE && r.handle.live, "bogzhami_open");
+    check(bogzhami_encoding(&r.handle) == BOGZHAMI_ANY_ENCODING, "an encoding before the first token");
+    return r;
+}
+
+static void end(struct run *r) {
+    uint32_t wanted = r->taken ? r->whole->tokens[0].detail : BOGZHAMI_ANY_ENCODING;
+    check(bogzhami_encoding(&r->handle) == wanted, "the encoding");
+    check(bogzhami_close(&r->handle) == BOGZHAMI_DONE && !r->handle.live, "bogzhami_close");
+}
+
+/* Takes all that is left. */
+static void drain(struct run *r, size_t tokens_len, size_t texts_len) {
+    while (next(r, tokens_len, texts_len) == BOGZHAMI_DONE)
+        ;
+    check(next(r, tokens_len, texts_len) == BOGZHAMI_OVER, "what comes after all is given");
+}
+
+/* The tests. Each gets one input. */
+
+static void try_batches(const struct input *i, const struct whole *w) {
+    static const size_t sizes[] = {1, 2, 3, 7, 64, MOST_TOKENS};
+    for (size_t n = 0; n < sizeof sizes / sizeof *sizes; n++) {
+        struct run r = begin(i, w);
+        check(next(&r, 0, all_texts(w)) == BOGZHAMI_DONE, "a room for no tokens");
+        drain(&r, sizes[n], all_texts(w));
+        end(&r);
+    }
+}
+
+/* Takes all, with a room for texts that is made as long as it has to be whenever it is too short. */
+static void drain_by_need(struct run *r, size_t texts_len) {
+    uint32_t status = BOGZHAMI_DONE;
+    while (status == BOGZHAMI_DONE) {
+        status = next(r, FIRST_TOKENS, texts_len);
+        if (status == BOGZHAMI_NO_ROOM)
+            status = next(r, FIRST_TOKENS, (size_t)answer.text_len);
+        check(status != BOGZHAMI_NO_ROOM, "the room that was told is too short");
+    }
+    check(r->is_over, "the end is not reached");
+}
+
+static void try_rooms(const struct input *i, const struct whole *w) {
+    uint64_t most = 0;
+    for (uint64_t n = 0; n < w->answer.token_count && n < FIRST_TOKENS; n++)
+        most += text_len(&w->tokens[n]);
+    if (w->answer.token_count < FIRST_TOKENS)
+        most = all_texts(w);
+    for (size_t texts_len = 0; texts_len <= most; texts_len++) {
+        struct run r = begin(i, w);
+        drain_by_need(&r, texts_len);
+        end(&r);
+    }
+}
+
+static void take_some(struct run *r, size_t count) {
+    for (size_t n = 0; n < count; n++)
+        next(r, 1, all_texts(r->whole));
+}
+
+static void try_prefixes(const struct input *i, const struct whole *w) {
+    for (size_t count = 0; count <= PREFIXES; count++) {
+        long before = blocks;
+        struct run r = begin(i, w);
+        take_some(&r, count);
+        end(&r);
+        check(blocks == before, "closing does not free all");
+    }
+}
+
+static void try_peeks(const struct input *i, const struct whole *w) {
+    struct run r = begin(i, w);
+    while (!r.is_over) {
+        peek(&r, all_texts(w));
+        peek(&r, 0);
+        peek(&r, all_texts(w));
+        if (r.taken % 3)
+            peek(&r, all_texts(w));
+        if (next(&r, 1, all_texts(w)) == BOGZHAMI_OVER)
+            break;
+    }
+    check(peek(&r, all_texts(w)) == BOGZHAMI_OVER, "a peek after all is given");
+    check(next(&r, 1, all_texts(w)) == BOGZHAMI_OVER, "a call after all is given");
+    end(&r);
+}
+
+/* Two scanners by turns, the second one a token ahead. */
+static void try_turns(const struct input *i, const struct whole *w) {
+    struct run one = begin(i, w), other = begin(i, w);
+    next(&other, 1, all_texts(w));
+    while (!one.is_over || !other.is_over) {
+        uint32_t first = next(&one, 2, all_texts(w)), second = next(&other, 3, all_texts(w));
+        if (first == BOGZHAMI_OVER && second == BOGZHAMI_OVER)
+            break;
+    }
+    end(&one);
+    drain(&other, 1, all_texts(w));
+    end(&other);
+}
+
+static void *drain_there(void *run) {
+    struct run *r = run;
+    drain(r, 2, all_texts(r->whole));
+    return NULL;
+}
+
+/* Opened here, used on another thread, closed here. */
+static void try_threads(const struct input *i, const struct whole *w) {
+    pthread_t thread;
+    struct run r = begin(i, w);
+    next(&r, 1, all_texts(w));
+    if (pthread_create(&thread, NULL, drain_there, &r) || pthread_join(thread, NULL))
+        check(false, "there is no thread");
+    check(r.is_over, "the other thread did not take all");
+    end(&r);
+}
+
+/* Checks that every call says that the handle holds nothing, and touches no room. */
+static void check_not_live(struct bogzhami_handle *handle, const struct input *i) {
+    static const struct bogzhami_mark zeros;
+    static const struct bogzhami_answer no_answer;
+    struct bogzhami_mark mark = {1, 1, 1};
+    fill_rooms(1, 0);
+    check(bogzhami_next(handle, i->bytes, i->len, tokens, 1, texts, 0, &answer) == BOGZHAMI_NOT_LIVE, "next, not live");
+    check(!memcmp(&answer, &no_answer, sizeof answer), "the answer of next, not live");
+    memset(&answer, FILL, sizeof answer);
+    check(bogzhami_peek(handle, i->bytes, i->len, tokens, texts, 0, &answer) == BOGZHAMI_NOT_LIVE, "peek, not live");
+    check(!memcmp(&answer, &no_answer, sizeof answer), "the answer of peek, not live");
+    check(is_filled(tokens, tokens + 1 + SPARE) && is_filled(texts, texts + SPARE), "the rooms, not live");
+    check(bogzhami_reach(handle, &mark) == BOGZHAMI_NOT_LIVE, "reach, not live");
+    check(!memcmp(&mark, &zeros, sizeof mark), "the mark of reach, not live");
+    check(bogzhami_encoding(handle) == BOGZHAMI_ANY_ENCODING, "encoding, not live");
+    check(bogzhami_close(handle) == BOGZHAMI_NOT_LIVE && !handle->live, "close, not live");
+}
+
+/* Checks that settings are refused, and that what the handle held is freed. */
+static void check_wrong(const struct input *i, const struct whole *w, uint32_t encoding, uint32_t key_limit) {
+    struct run r = begin(i, w);
+    next(&r, 2, all_texts(w));
+    check(bogzhami_open(&r.handle, i->bytes, i->len, encoding, key_limit) == BOGZHAMI_WRONG, "wrong settings");
+    check_not_live(&r.handle, i);
+}
+
+static void try_statuses(const struct input *i, const struct whole *w) {
+    long before = blocks;
+    struct bogzhami_handle fresh = BOGZHAMI_CLOSED;
+    check_not_live(&fresh, i);
+    check_wrong(i, w, 4, i->key_limit);
+    check_wrong(i, w, UINT32_MAX, i->key_limit);
+    check_wrong(i, w, i->encoding, 0);
+    check_wrong(i, w, i->encoding, 65537);
+    check(blocks == before, "wrong settings do not free what was held");
+    struct run r = begin(i, w);
+    next(&r, 2, all_texts(w));
+    check(open_run(&r.handle, i) == BOGZHAMI_DONE, "opening a handle that is live");
+    r.taken = 0;
+    r.is_over = false;
+    drain(&r, 3, all_texts(w));
+    end(&r);
+    check_not_live(&r.handle, i);
+    check(blocks == before, "opening anew does not free what was held");
+}
+
+/* The same scanner with a null pointer in place of an input of length 0. */
+static void try_nothing(const struct input *i, const struct whole *w) {
+    struct input nothing = {i->encoding, i->key_limit, 0, NULL};
+    struct bogzhami_answer all;
+    if (i->len != 0)
+        return;
+    check(bogzhami_scan_all(NULL, 0, i->encoding, i->key_limit, tokens, 0, texts, 0, &all) == w->status,
+          "no input at once");
+    check(!memcmp(&all, &w->answer, sizeof all), "the answer to no input at once");
+    struct run r = begin(&nothing, w);
+    peek(&r, all_texts(w));
+    drain(&r, 1, all_texts(w));
+    end(&r);
+}
+
+/* Refused memory. */
+
+static long whole_runs, beginnings, not_opened;
+
+static bool is_memory_fault(uint64_t count) {
+    struct bogzhami_answer wanted = {.token_count = count, .text_len = answer.text_len, .error = BOGZHAMI_MEMORY_ERROR};
+    return !memcmp(&answer, &wanted, sizeof answer);
+}
+
+/* Peeks, and returns whether the memory fault was shown. */
+static bool peek_refused(struct run *r) {
+    fill_rooms(1, all_texts(r->whole));
+    uint32_t status =
+        bogzhami_peek(&r->handle, r->input->bytes, r->input->len, tokens, texts, all_texts(r->whole), &answer);
+    bool is_fault = status == BOGZHAMI_FAULT && answer.error == BOGZHAMI_MEMORY_ERROR;
+    if (is_fault)
+        check(is_memory_fault(0), "the memory fault that is shown");
+    else if (answer.token_count)
+        check(are_next(r->whole, r->taken, 1), "a token that is shown");
+    return is_fault;
+}
+
+/* Takes the next two tokens, and returns whether more may come. */
+static bool take_refused(struct run *r, bool is_fault_shown) {
+    const struct whole *w = r->whole;
+    fill_rooms(2, all_texts(w));
+    uint32_t status =
+        bogzhami_next(&r->handle, r->input->bytes, r->input->len, tokens, 2, texts, all_texts(w), &answer);
+    check(are_next(w, r->taken, answer.token_count), "a token before refused memory");
+    r->taken += answer.token_count;
+    if (status == BOGZHAMI_DONE && !is_fault_shown)
+        return true;
+    bool is_memory = status == BOGZHAMI_FAULT && answer.error == BOGZHAMI_MEMORY_ERROR;
+    check(is_memory || !is_fault_shown, "a memory fault that was shown is not given");
+    if (is_memory) {
+        check(is_memory_fault(answer.token_count), "the memory fault");
+        beginnings++;
+    } else {
+        check(status == (w->status == BOGZHAMI_FAULT ? BOGZHAMI_FAULT : BOGZHAMI_OVER), "the last status");
+        check(r->taken == w->answer.token_count, "tokens are missing");
+        check(answer.error == (status == BOGZHAMI_FAULT ? w->answer.error : 0), "the last fault");
+        whole_runs++;
+    }
+    return false;
+}
+
+/* One run in which requests are refused. Returns whether there were so many. */
+static bool run_refused(const struct input *i, const struct whole *w, long first, long last, bool peeks) {
+    long before = blocks;
+    struct run r = {i, w, BOGZHAMI_CLOSED, 0, false};
+    refuse(first, last);
+    uint32_t status = open_run(&r.handle, i);
+    if (status == BOGZHAMI_DONE) {
+        while (take_refused(&r, peeks && peek_refused(&r)))
+            ;
+        fill_rooms(1, 0);
+        status = bogzhami_next(&r.handle, i->bytes, i->len, tokens, 1, texts, 0, &answer);
+        check(status == BOGZHAMI_OVER && answer.token_count == 0, "what comes after the end");
+        check(bogzhami_close(&r.handle) == BOGZHAMI_DONE, "closing after refused memory");
+    } else {
+        check(status == BOGZHAMI_NO_MEMORY && !r.handle.live, "bogzhami_open without memory");
+        not_opened++;
+    }
+    bool were_so_many = requests >= first;
+    refuse(0, 0);
+    check(blocks == before, "refused memory leaves blocks");
+    return were_so_many;
+}
+
+/* The same of all tokens at once. */
+static bool scan_all_refused(const struct input *i, const struct whole *w, long first, long last) {
+    long before = blocks;
+    fill_rooms(0, 0);
+    refuse(first, last);
+    uint32_t status = bogzhami_scan_all(i->bytes, i->len, i->encoding, i->key_limit, tokens, MOST_TOKENS, texts,
+                                        all_texts(w), &answer);
+    bool were_so_many = requests >= first;
+    refuse(0, 0);
+    check(blocks == before, "refused memory leaves blocks");
+    if (answer.error == BOGZHAMI_MEMORY_ERROR) {
+        check(status == BOGZHAMI_FAULT && is_memory_fault(answer.token_count), "the memory fault of all at once");
+        check(answer.token_count <= w->answer.token_count && answer.text_len <= w->answer.text_len, "more than all");
+    } else {
+        check(status == w->status && !memcmp(&answer, &w->answer, sizeof answer), "the answer of all at once");
+    }
+    if (answer.token_count <= MOST_TOKENS && answer.token_count <= w->answer.token_count)
+        check(are_next(w, 0, answer.token_count), "a token before refused memory, all at once");
+    return were_so_many;
+}
+
+/* Refuses each request in turn: alone, with the next one, and with all after it. */
+static void try_refused(const struct input *i, const struct whole *w) {
+    long first = 1;
+    bool were_so_many = true;
+    for (; were_so_many && first < 5000; first++) {
+        were_so_many = run_refused(i, w, first, first, false);
+        were_so_many = run_refused(i, w, first, first + 1, false) || were_so_many;
+        were_so_many = run_refused(i, w, first, first + 1, true) || were_so_many;
+        were_so_many = run_refused(i, w, first, 1L << 40, true) || were_so_many;
+        were_so_many = scan_all_refused(i, w, first, first + 1) || were_so_many;
+    }
+    check(!were_so_many, "the requests do not end");
+}
+
+/* The peak of memory. */
+
+/* The most memory that this process ever had, in kilobytes. */
+static long peak_kilobytes(void) {
+    FILE *status = fopen("/proc/self/status", "r");
+    char line[256];
+    long peak = -1;
+    while (status && peak < 0 && fgets(line, sizeof line, status))
+        sscanf(line, "VmHWM: %ld kB", &peak);
+    if (status)
+        fclose(status);
+    return peak;
+}
+
+/* Repeats a text as often as a length holds it. */
+static struct input repeated(const char *text, size_t len) {
+    size_t text_len = strlen(text), count = len / text_len;
+    struct input i = {BOGZHAMI_ANY_ENCODING, 1024, count * text_len, need(malloc(len))};
+    for (size_t n = 0; n < count; n++)
+        memcpy(i.bytes + n * text_len, text, text_len);
+    return i;
+}
+
+/* Takes all tokens of an input in batches of 256, and returns how many there are. */
+static uint64_t count_tokens(const struct input *i, uint8_t *room, size_t room_len) {
+    struct bogzhami_handle handle = BOGZHAMI_CLOSED;
+    uint64_t count = 0;
+    uint32_t status = open_run(&handle, i);
+    while (status == BOGZHAMI_DONE) {
+        status = bogzhami_next(&handle, i->bytes, i->len, tokens, 256, room, room_len, &answer);
+        count += answer.token_count;
+    }
+    check(status == BOGZHAMI_OVER, "the end of a long input");
+    check(bogzhami_close(&handle) == BOGZHAMI_DONE, "closing after a long input");
+    return count;
+}
+
+/* Scans so many bytes. Prints by how many kilobytes the peak of memory grew in that, and counts the tokens once more.
+ */
+static int try_long(size_t len) {
+    static const char entry[] =
+        "- name: a b c\n  \"quoted\": [one, 'two', {three: 4}]\n  ? &x !!str key\n  : |\n   text\n";
+    static uint8_t room[1 << 14];
+    struct input i = repeated(entry, len);
+    memset(room, 0xA5, sizeof room);
+    memset(tokens, 0xA5, sizeof tokens);
+    long before = peak_kilobytes();
+    uint64_t count = count_tokens(&i, room, sizeof room);
+    long grown = peak_kilobytes() - before;
+    bogzhami_scan_all(i.bytes, i.len, i.encoding, i.key_limit, tokens, 0, room, 0, &answer);
+    check(count > 100 && count == answer.token_count, "the number of tokens");
+    printf("long: %zu bytes, %llu tokens, %ld kilobytes, %llu wrong\n", (size_t)i.len, (unsigned long long)count, grown,
+           (unsigned long long)wrongs);
+    free(i.bytes);
+    return before < 0 || wrongs;
+}
+
+static const struct {
+    const char *name;
+    void (*test)(const struct input *, const struct whole *);
+} tests[] = {{"batches", try_batches},   {"rooms", try_rooms},     {"prefixes", try_prefixes},
+             {"peeks", try_peeks},       {"turns", try_turns},     {"threads", try_threads},
+             {"statuses", try_statuses}, {"nothing", try_nothing}, {"refused", try_refused}};
+
+int main(int argc, char **argv) {
+    size_t number = 0;
+    struct input i;
+    if (argc == 3 && !strcmp(argv[1], "long"))
+        return try_long((size_t)strtoull(argv[2], NULL, 10));
+    while (argc == 2 && number < sizeof tests / sizeof *tests && strcmp(argv[1], tests[number].name))
+        number++;
+    if (argc != 2 || number == sizeof tests / sizeof *tests)
+        return 2;
+    for (; read_input(&i); input_number++) {
+        struct whole w = scan_whole(&i);
+        tests[number].test(&i, &w);
+        forget(&i, &w);
+    }
+    printf("%s: %zu inputs, %llu checks, %llu wrong", argv[1], input_number, (unsigned long long)checks,
+           (unsigned long long)wrongs);
+    if (number + 1 == sizeof tests / sizeof *tests)
+        printf(", %ld whole runs, %ld beginnings, %ld not opened", whole_runs, beginnings, not_opened);
+    printf("\n");
+    return wrongs || !checks;
+}

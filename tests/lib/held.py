@@ -1,0 +1,134 @@
+"""A scanner that is held between calls: what held.c and held.rs check of it, and how far it has read."""
+
+import ctypes as c
+import gzip
+import os
+import shutil
+import struct
+import subprocess
+from concurrent.futures import ThreadPoolExecutor
+
+HERE = os.path.dirname(os.path.dirname(os.path.abspath(__file__)))
+FFI = os.path.join(os.path.dirname(HERE), "ffi")
+SETTINGS = ["any", "utf8", "utf16le", "utf16be"]
+WRAPPED = ["-Wl,--wrap=" + name for name in ("malloc", "calloc", "realloc", "free")]
+SHARED = ["-L", os.path.join(FFI, "out"), "-lbogzhami", "-Wl,-rpath," + os.path.join(FFI, "out")]
+
+# The tests of held.c, and how many inputs are left out between two that each gets: alone, and under valgrind.
+TESTS = {"batches": 1, "rooms": 1, "prefixes": 1, "peeks": 1, "turns": 1, "threads": 50, "statuses": 50, "refused": 200}
+CHECKED = {"prefixes": 400, "peeks": 400, "turns": 400, "threads": 2000, "statuses": 1000, "refused": 4000}
+
+LONG = 100_000_000  # bytes of an input that is scanned in batches of 256
+MOST_GROWTH = 1000  # kilobytes that this may take besides the input
+
+
+def packed(rows):
+    """The inputs as held.c reads them."""
+    made = []
+    for words, data, _ in rows:
+        limit = int(words[1]) if len(words) > 1 else 1024
+        made.append(struct.pack("=IIQ", SETTINGS.index(words[0]), limit, len(data)) + data)
+    return b"".join(made)
+
+
+def build_held(room):
+    """Builds held.c with the static library and with the shared one."""
+    words = ["cc", "-std=c11", "-Wall", "-Wextra", "-Wpedantic", "-Werror", "-O2", "-pthread", "-I", FFI]
+    words += [os.path.join(HERE, "held.c"), *WRAPPED]
+    programs = [os.path.join(room, name) for name in ("held", "held_shared")]
+    for program, link in zip(programs, [[os.path.join(FFI, "out", "libbogzhami.a")], SHARED]):
+        subprocess.run([*words, *link, "-o", program], check=True)
+    return programs
+
+
+def run_test(words, data):
+    """What a program printed, and whether it found all right."""
+    done = subprocess.run(words, input=data, capture_output=True, timeout=600)
+    told = (done.stdout + done.stderr).decode("utf-8", "replace").strip()
+    return told if done.returncode == 0 else f"{told}\nstatus {done.returncode}", done.returncode == 0
+
+
+def try_tests(programs, rows):
+    nothing = [row for row in rows if not row[1]]
+    jobs = [([programs[0], name], packed(rows[::step])) for name, step in TESTS.items()]
+    jobs += [([programs[0], "nothing"], packed(nothing)), ([programs[1], "batches"], packed(rows))]
+    with ThreadPoolExecutor(max_workers=os.cpu_count()) as pool:
+        ends = list(pool.map(lambda job: run_test(*job), jobs))
+    for (words, _), (told, _) in zip(jobs, ends):
+        print(f"ffi: {os.path.basename(words[0])} {told}")
+    return all(good for _, good in ends) and len(nothing) > 10
+
+
+def try_valgrind(program, rows):
+    if shutil.which("valgrind") is None:
+        print("ffi: held under valgrind skipped: no valgrind")
+        return True
+    words = ["valgrind", "-q", "--error-exitcode=99", "--leak-check=full", "--show-leak-kinds=all", program]
+    jobs = [([*words, name], packed(rows[::step])) for name, step in CHECKED.items()]
+    with ThreadPoolExecutor(max_workers=os.cpu_count()) as pool:
+        ends = list(pool.map(lambda job: run_test(*job), jobs))
+    for told, good in ends:
+        print(f"ffi: held under valgrind, {told if good else told[-2000:]}")
+    return all(good for _, good in ends)
+
+
+def try_long(program):
+    told, good = run_test([program, "long", str(LONG)], b"")
+    grown = int(told.split(" kilobytes")[0].rsplit(" ", 1)[1]) if good else None
+    print(f"ffi: held {told}, at most {MOST_GROWTH}")
+    return good and grown <= MOST_GROWTH
+
+
+class Handle(c.Structure):
+    _fields_ = [("live", c.c_bool), ("held", c.c_void_p)]
+
+
+class Reader:
+    """A scanner that is held by the shared library, which is called from here."""
+
+    def __init__(self, records, words, data):
+        self.library = c.CDLL(os.path.join(FFI, "out", "libbogzhami.so"))
+        self.handle, self.input = Handle(), (c.c_char_p(data), c.c_size_t(len(data)))
+        self.token, self.answer = records["token"](), records["answer"]()
+        self.mark, self.is_shown = records["mark"](), False
+        self.texts = (c.c_uint8 * (len(data) * 3 + 256))()
+        self.library.bogzhami_open(c.byref(self.handle), *self.input, SETTINGS.index(words[0]), int(words[1]))
+
+    def get(self, call, *count):
+        texts, answer = (self.texts, c.c_size_t(len(self.texts))), c.byref(self.answer)
+        call(c.byref(self.handle), *self.input, c.byref(self.token), *count, *texts, answer)
+        return self.answer.token_count == 1
+
+    def call(self, letter):
+        """Scans, peeks, or skips the token that a peek has shown; returns how far was read."""
+        if letter == "p":
+            self.is_shown = self.get(self.library.bogzhami_peek)
+        elif letter == "s" or self.is_shown:
+            self.get(self.library.bogzhami_next, c.c_size_t(1))
+            self.is_shown = False
+        self.library.bogzhami_reach(c.byref(self.handle), c.byref(self.mark))
+        return f"{self.mark.index}:{self.mark.line}:{self.mark.column}"
+
+    def close(self):
+        self.library.bogzhami_close(c.byref(self.handle))
+
+
+def reaches(records, words, data):
+    reader = Reader(records, words, data)
+    found = [reader.call(letter) for letter in words[2]]
+    reader.close()
+    return found
+
+
+def try_reach(records):
+    """How far is read after each call, compared with paces.txt.gz."""
+    with gzip.open(os.path.join(HERE, "paces.txt.gz"), "rt", encoding="ascii") as lines:
+        rows = [line.rstrip("\n").split("\t") for line in lines]
+    wrong = []
+    for words, data, wanted in rows:
+        marks = [one.split(" ")[1] for one in wanted.split(" / ")]
+        found = reaches(records, words.split(" "), bytes.fromhex(data.strip("-")))
+        if found != marks:
+            wrong.append((words, data[:80], found, marks))
+    print(f"ffi: how far is read, {len(rows)} lists of calls, {len(wrong)} differ {wrong[:1] or ''}")
+    return not wrong and len(rows) > 2000
