@@ -284,7 +284,7 @@ static void drain_by_need(struct run *r, size_t texts_len) {
     uint32_t status = BOGZHAMI_DONE;
     while (status == BOGZHAMI_DONE) {
         status = next(r, FIRST_TOKENS, texts_len);
-        if (status == BOGZHAMI_NO_ROOM)
+        if (status == BOGZHAMI_NO_ROOM && answer.text_len <= all_texts(r->whole))
             status = next(r, FIRST_TOKENS, (size_t)answer.text_len);
         check(status != BOGZHAMI_NO_ROOM, "the room that was told is too short");
     }
@@ -444,8 +444,8 @@ static bool peek_refused(struct run *r) {
     bool is_fault = status == BOGZHAMI_FAULT && answer.error == BOGZHAMI_MEMORY_ERROR;
     if (is_fault)
         check(is_memory_fault(0), "the memory fault that is shown");
-    else if (answer.token_count)
-        check(are_next(r->whole, r->taken, 1), "a token that is shown");
+    else if (expect(r, 1, all_texts(r->whole)).status == BOGZHAMI_DONE)
+        check(answer.token_count == 1 && are_next(r->whole, r->taken, 1), "a token that is shown");
     return is_fault;
 }
 
@@ -457,7 +457,7 @@ static bool take_refused(struct run *r, bool is_fault_shown) {
         bogzhami_next(&r->handle, r->input->bytes, r->input->len, tokens, 2, texts, all_texts(w), &answer);
     check(are_next(w, r->taken, answer.token_count), "a token before refused memory");
     r->taken += answer.token_count;
-    if (status == BOGZHAMI_DONE && !is_fault_shown)
+    if (status == BOGZHAMI_DONE && !is_fault_shown && answer.token_count)
         return true;
     bool is_memory = status == BOGZHAMI_FAULT && answer.error == BOGZHAMI_MEMORY_ERROR;
     check(is_memory || !is_fault_shown, "a memory fault that was shown is not given");
