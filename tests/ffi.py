@@ -1,11 +1,16 @@
 #!/usr/bin/env python3
 """Builds the library of ffi/, and calls it from C, from Rust and from here: ffi.py [PROGRAM].
 
-All inputs of vectors/scan.txt.gz are scanned through the shared library: with no room, with exactly the room that is needed
-and with about half of it; the tokens and the fault are the expected ones, and nothing else in a room has changed. Wrong
+All inputs of vectors/scan.txt.gz are scanned at once through the shared library: with no room, with exactly the room that is
+needed and with about half of it; the tokens and the fault are the expected ones, and nothing else in a room has changed. Wrong
 settings and limits touch nothing but the answer. The records have the same sizes and places in C, in Rust and in the crate, and
 the header's numbers are the crate's. The examples list.c and list.rs list what is expected, and list.c frees all that it took.
-Each request for memory of list.c is refused in turn. What needs a C compiler, rustc or valgrind is skipped if there is none.
+Each request for memory of list.c is refused in turn.
+
+A scanner that is held gives what the scan at once gives, whatever the batches, rooms, peeks, turns, threads and refused
+requests are (held.c), and takes less than a megabyte besides a long input. How far it has read is that of paces.txt.gz.
+scanner.rs gives the same tokens one by one, in batches and after peeks (held.rs). What needs a C compiler, rustc or valgrind is
+skipped if there is none.
 """
 
 import ctypes as c
@@ -22,7 +27,7 @@ HERE = os.path.dirname(os.path.abspath(__file__))
 CRATE = os.path.join(os.path.dirname(HERE), "crates", "yaml_c", "src")
 sys.path.insert(0, os.path.join(HERE, "lib"))
 sys.dont_write_bytecode = True
-from held import FFI, SETTINGS, Handle, build_held, try_long, try_reach, try_tests, try_valgrind
+from held import FFI, SETTINGS, VALGRIND, Handle, build_held, build_rust, try_long, try_reach, try_rust, try_tests, try_valgrind
 from library import build_library
 from worked import MEMORY, build_refuser, run
 
@@ -116,11 +121,6 @@ def has_rust():
     told = subprocess.run(["rustc", "--version"], capture_output=True, text=True).stdout
     found = re.match(r"rustc (\d+)\.(\d+)", told)
     return bool(found) and (int(found[1]), int(found[2])) >= (1, 82)
-
-
-def build_rust(text, path):
-    link = "link-arg=" + os.path.join(FFI, "out", "libbogzhami.a")
-    subprocess.run(["rustc", "-O", "--edition", "2021", text, "-C", link, "-o", path], check=True)
 
 
 def build_c(room):
@@ -299,8 +299,7 @@ def refused(program, refuser, data):
 
 def leaks(program, row):
     """Whether valgrind finds a leak, or a wrong access."""
-    words = ["valgrind", "-q", "--error-exitcode=99", "--leak-check=full", "--show-leak-kinds=all", program, *row[0]]
-    return subprocess.run(words, input=row[1], capture_output=True, timeout=300).returncode == 99
+    return subprocess.run([*VALGRIND, program, *row[0]], input=row[1], capture_output=True, timeout=300).returncode == 99
 
 
 def try_library(every):
@@ -334,9 +333,15 @@ def try_examples(programs, rows):
     return good
 
 
-def try_held(room, every):
+def try_held(room, every, rust):
     programs = build_held(room)
-    good = [try_tests(programs, every), try_valgrind(programs[0], every), try_long(programs[0]), try_reach(MADE)]
+    good = [
+        try_tests(programs, every),
+        try_valgrind(programs[0], every),
+        not rust or try_rust(room, every),
+        try_long(programs[0]),
+        try_reach(MADE),
+    ]
     return all(good)
 
 
@@ -376,7 +381,7 @@ def main():
             try_records(room, rust),
             try_examples(programs, every[::40]),
             try_memory(programs[0], every[::2000]),
-            try_held(room, every),
+            try_held(room, every, rust),
         ]
     return 0 if all(good) else 1
 

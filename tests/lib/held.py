@@ -14,6 +14,8 @@ SETTINGS = ["any", "utf8", "utf16le", "utf16be"]
 WRAPPED = ["-Wl,--wrap=" + name for name in ("malloc", "calloc", "realloc", "free")]
 SHARED = ["-L", os.path.join(FFI, "out"), "-lbogzhami", "-Wl,-rpath," + os.path.join(FFI, "out")]
 
+VALGRIND = ["valgrind", "-q", "--error-exitcode=99", "--leak-check=full", "--show-leak-kinds=all"]
+
 # The tests of held.c, and how many inputs are left out between two that each gets: alone, and under valgrind.
 TESTS = {"batches": 1, "rooms": 1, "prefixes": 1, "peeks": 1, "turns": 1, "threads": 50, "statuses": 50, "refused": 200}
 CHECKED = {"prefixes": 400, "peeks": 400, "turns": 400, "threads": 2000, "statuses": 1000, "refused": 4000}
@@ -41,11 +43,29 @@ def build_held(room):
     return programs
 
 
+def build_rust(text, path):
+    link = "link-arg=" + os.path.join(FFI, "out", "libbogzhami.a")
+    subprocess.run(["rustc", "-O", "--edition", "2021", text, "-C", link, "-o", path], check=True)
+
+
 def run_test(words, data):
     """What a program printed, and whether it found all right."""
     done = subprocess.run(words, input=data, capture_output=True, timeout=600)
     told = (done.stdout + done.stderr).decode("utf-8", "replace").strip()
     return told if done.returncode == 0 else f"{told}\nstatus {done.returncode}", done.returncode == 0
+
+
+def try_rust(room, rows):
+    program = os.path.join(room, "held_rs")
+    build_rust(os.path.join(HERE, "held.rs"), program)
+    jobs = [([program], packed(rows)), ([*VALGRIND, program], packed(rows[::200]))]
+    if shutil.which("valgrind") is None:
+        jobs.pop()
+    with ThreadPoolExecutor(max_workers=os.cpu_count()) as pool:
+        ends = list(pool.map(lambda job: run_test(*job), jobs))
+    for (words, _), (told, good) in zip(jobs, ends):
+        print(f"ffi: held {'under valgrind, ' if len(words) > 1 else ''}{told[-2000:]}, {'all right' if good else 'wrong'}")
+    return all(good for _, good in ends)
 
 
 def try_tests(programs, rows):
@@ -63,8 +83,7 @@ def try_valgrind(program, rows):
     if shutil.which("valgrind") is None:
         print("ffi: held under valgrind skipped: no valgrind")
         return True
-    words = ["valgrind", "-q", "--error-exitcode=99", "--leak-check=full", "--show-leak-kinds=all", program]
-    jobs = [([*words, name], packed(rows[::step])) for name, step in CHECKED.items()]
+    jobs = [([*VALGRIND, program, name], packed(rows[::step])) for name, step in CHECKED.items()]
     with ThreadPoolExecutor(max_workers=os.cpu_count()) as pool:
         ends = list(pool.map(lambda job: run_test(*job), jobs))
     for told, good in ends:
