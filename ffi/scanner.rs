@@ -306,16 +306,15 @@ impl<'a> Scanner<'a> {
 
     /// A scanner with settings of the caller's. Refused memory is no error here: it is the fault, and comes first.
     pub fn with_settings(input: &'a [u8], settings: Settings) -> Result<Scanner<'a>, WrongKeyLimit> {
-        let mut handle = Handle::default();
-        let (encoding, key_limit) = (settings.encoding as u32, settings.key_limit);
-        // SAFETY: the handle holds nothing yet, and pointer and length are those of one live slice.
-        let status = unsafe { bogzhami_open(&mut handle, input.as_ptr(), input.len(), encoding, key_limit) };
-        if status == WRONG {
-            return Err(WrongKeyLimit(key_limit));
-        }
         let records = vec![Record::default(); settings.batch_len.max(1)];
-        let fault = (status != DONE).then_some(Fault::Memory);
-        Ok(Scanner { input, handle, records, texts: vec![0; FIRST_TEXTS], given: 0, count: 0, fault })
+        let (handle, texts) = (Handle::default(), vec![0; FIRST_TEXTS]);
+        let mut scanner = Scanner { input, handle, records, texts, given: 0, count: 0, fault: None };
+        match scanner.open(settings.encoding, settings.key_limit) {
+            DONE => (),
+            WRONG => return Err(WrongKeyLimit(settings.key_limit)),
+            _ => scanner.fault = Some(Fault::Memory),
+        }
+        Ok(scanner)
     }
 
     /// The next tokens at once, or the fault if it is next, or `None` if all was given.
@@ -379,6 +378,13 @@ impl<'a> Scanner<'a> {
         if status == FAULT {
             self.fault = Some(fault_of(&answer, &self.texts));
         }
+    }
+
+    /// Calls `bogzhami_open`, and returns its status.
+    fn open(&mut self, encoding: Encoding, key_limit: u32) -> u32 {
+        let (input, input_len) = (self.input.as_ptr(), self.input.len());
+        // SAFETY: pointer and length are those of one live slice. The handle was made by `Handle::default`.
+        unsafe { bogzhami_open(&mut self.handle, input, input_len, encoding as u32, key_limit) }
     }
 
     /// Calls `bogzhami_next`, and returns its status.
