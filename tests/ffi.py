@@ -315,6 +315,17 @@ def try_library(every):
     return not bad and not wrong and not others and numbers > 30 and len(every) > 20000
 
 
+def try_names():
+    """Whether the shared library exports the functions of the header and nothing else."""
+    with open(os.path.join(FFI, "bogzhami.h"), encoding="ascii") as text:
+        wanted = set(re.findall(r"^uint32_t (bogzhami_\w+)\(", text.read(), re.M))
+    words = ["nm", "-D", "--defined-only", os.path.join(FFI, "out", "libbogzhami.so")]
+    told = subprocess.run(words, check=True, capture_output=True, text=True).stdout
+    found = {line.split(" ")[-1] for line in told.splitlines()}
+    print(f"ffi: {len(found)} names exported, {len(found ^ wanted)} not those of the header {sorted(found ^ wanted) or ''}")
+    return found == wanted and len(found) == 7
+
+
 def try_records(room, rust):
     wanted = list(layout())
     check_cplusplus(room)
@@ -378,6 +389,7 @@ def main():
             build_rust(os.path.join(FFI, "list.rs"), programs[1])
         good = [
             try_library(every),
+            try_names(),
             try_records(room, rust),
             try_examples(programs, every[::40]),
             try_memory(programs[0], every[::2000]),

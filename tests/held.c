@@ -46,9 +46,13 @@ struct expected {
 static size_t input_number;
 static uint64_t checks, wrongs;
 
-/* The rooms. Those for texts have one for each input, SPARE bytes longer than all its texts. */
+/* The rooms. That for texts is SPARE bytes longer than all texts of the input and of the one before it. */
 static struct bogzhami_token tokens[MOST_TOKENS + SPARE];
 static uint8_t *texts;
+
+/* The input before, for what two scanners do by turns. The first input is before itself. */
+static struct input before;
+static struct whole whole_before;
 static struct bogzhami_answer answer;
 
 static void check(bool is_right, const char *what) {
@@ -116,7 +120,7 @@ static bool read_input(struct input *i) {
         return false;
     i->encoding = settings[0];
     i->key_limit = settings[1];
-    i->bytes = need(malloc(i->len + 1));
+    i->bytes = need(malloc(i->len ? i->len : 1));
     return fread(i->bytes, 1, i->len, stdin) == i->len;
 }
 
@@ -133,14 +137,12 @@ static struct whole scan_whole(const struct input *i) {
     w.tokens = need(calloc(count + 1, sizeof *w.tokens));
     w.texts = need(calloc(len + 1, 1));
     w.status = bogzhami_scan_all(i->bytes, i->len, i->encoding, i->key_limit, w.tokens, count, w.texts, len, &w.answer);
-    texts = need(malloc(len + SPARE));
     return w;
 }
 
 static void forget(struct input *i, struct whole *w) {
     free(w->tokens);
     free(w->texts);
-    free(texts);
     free(i->bytes);
 }
 
@@ -311,11 +313,11 @@ static void take_some(struct run *r, size_t count) {
 
 static void try_prefixes(const struct input *i, const struct whole *w) {
     for (size_t count = 0; count <= PREFIXES; count++) {
-        long before = blocks;
+        long blocks_before = blocks;
         struct run r = begin(i, w);
         take_some(&r, count);
         end(&r);
-        check(blocks == before, "closing does not free all");
+        check(blocks == blocks_before, "closing does not free all");
     }
 }
 
@@ -335,18 +337,21 @@ static void try_peeks(const struct input *i, const struct whole *w) {
     end(&r);
 }
 
-/* Two scanners by turns, the second one a token ahead. */
+/* Three scanners by turns: two of this input, of which one is a token ahead, and one of the input before. */
 static void try_turns(const struct input *i, const struct whole *w) {
-    struct run one = begin(i, w), other = begin(i, w);
-    next(&other, 1, all_texts(w));
-    while (!one.is_over || !other.is_over) {
-        uint32_t first = next(&one, 2, all_texts(w)), second = next(&other, 3, all_texts(w));
-        if (first == BOGZHAMI_OVER && second == BOGZHAMI_OVER)
-            break;
+    struct run one = begin(i, w), ahead = begin(i, w), other = begin(&before, &whole_before);
+    next(&ahead, 1, all_texts(w));
+    for (uint32_t status = BOGZHAMI_DONE; status == BOGZHAMI_DONE;) {
+        peek(&ahead, all_texts(w));
+        next(&other, 1, all_texts(&whole_before));
+        status = next(&one, 2, all_texts(w));
+        next(&ahead, 3, all_texts(w));
     }
     end(&one);
-    drain(&other, 1, all_texts(w));
+    drain(&other, 3, all_texts(&whole_before));
     end(&other);
+    drain(&ahead, 1, all_texts(w));
+    end(&ahead);
 }
 
 static void *drain_there(void *run) {
@@ -393,14 +398,14 @@ static void check_wrong(const struct input *i, const struct whole *w, uint32_t e
 }
 
 static void try_statuses(const struct input *i, const struct whole *w) {
-    long before = blocks;
+    long blocks_before = blocks;
     struct bogzhami_handle fresh = BOGZHAMI_CLOSED;
     check_not_live(&fresh, i);
     check_wrong(i, w, 4, i->key_limit);
     check_wrong(i, w, UINT32_MAX, i->key_limit);
     check_wrong(i, w, i->encoding, 0);
     check_wrong(i, w, i->encoding, 65537);
-    check(blocks == before, "wrong settings do not free what was held");
+    check(blocks == blocks_before, "wrong settings do not free what was held");
     struct run r = begin(i, w);
     next(&r, 2, all_texts(w));
     check(open_run(&r.handle, i) == BOGZHAMI_DONE, "opening a handle that is live");
@@ -409,7 +414,7 @@ static void try_statuses(const struct input *i, const struct whole *w) {
     drain(&r, 3, all_texts(w));
     end(&r);
     check_not_live(&r.handle, i);
-    check(blocks == before, "opening anew does not free what was held");
+    check(blocks == blocks_before, "opening anew does not free what was held");
 }
 
 /* The same scanner with a null pointer in place of an input of length 0. */
@@ -475,7 +480,7 @@ static bool take_refused(struct run *r, bool is_fault_shown) {
 
 /* One run in which requests are refused. Returns whether there were so many. */
 static bool run_refused(const struct input *i, const struct whole *w, long first, long last, bool peeks) {
-    long before = blocks;
+    long blocks_before = blocks;
     struct run r = {i, w, BOGZHAMI_CLOSED, 0, false};
     refuse(first, last);
     uint32_t status = open_run(&r.handle, i);
@@ -492,20 +497,20 @@ static bool run_refused(const struct input *i, const struct whole *w, long first
     }
     bool were_so_many = requests >= first;
     refuse(0, 0);
-    check(blocks == before, "refused memory leaves blocks");
+    check(blocks == blocks_before, "refused memory leaves blocks");
     return were_so_many;
 }
 
 /* The same of all tokens at once. */
 static bool scan_all_refused(const struct input *i, const struct whole *w, long first, long last) {
-    long before = blocks;
+    long blocks_before = blocks;
     fill_rooms(0, 0);
     refuse(first, last);
     uint32_t status = bogzhami_scan_all(i->bytes, i->len, i->encoding, i->key_limit, tokens, MOST_TOKENS, texts,
                                         all_texts(w), &answer);
     bool were_so_many = requests >= first;
     refuse(0, 0);
-    check(blocks == before, "refused memory leaves blocks");
+    check(blocks == blocks_before, "refused memory leaves blocks");
     if (answer.error == BOGZHAMI_MEMORY_ERROR) {
         check(status == BOGZHAMI_FAULT && is_memory_fault(answer.token_count), "the memory fault of all at once");
         check(answer.token_count <= w->answer.token_count && answer.text_len <= w->answer.text_len, "more than all");
@@ -577,15 +582,15 @@ static int try_long(size_t len) {
     struct input i = repeated(entry, len);
     memset(room, 0xA5, sizeof room);
     memset(tokens, 0xA5, sizeof tokens);
-    long before = peak_kilobytes();
+    long peak_before = peak_kilobytes();
     uint64_t count = count_tokens(&i, room, sizeof room);
-    long grown = peak_kilobytes() - before;
+    long grown = peak_kilobytes() - peak_before;
     bogzhami_scan_all(i.bytes, i.len, i.encoding, i.key_limit, tokens, 0, room, 0, &answer);
     check(count > 100 && count == answer.token_count, "the number of tokens");
     printf("long: %zu bytes, %llu tokens, %ld kilobytes, %llu wrong\n", (size_t)i.len, (unsigned long long)count, grown,
            (unsigned long long)wrongs);
     free(i.bytes);
-    return before < 0 || wrongs;
+    return peak_before < 0 || wrongs;
 }
 
 static const struct {
@@ -594,6 +599,23 @@ static const struct {
 } tests[] = {{"batches", try_batches},   {"rooms", try_rooms},     {"prefixes", try_prefixes},
              {"peeks", try_peeks},       {"turns", try_turns},     {"threads", try_threads},
              {"statuses", try_statuses}, {"nothing", try_nothing}, {"refused", try_refused}};
+
+/* Runs a test, and keeps the input as the one before. */
+static void try_input(void (*test)(const struct input *, const struct whole *), struct input i) {
+    struct whole w = scan_whole(&i);
+    if (input_number == 0) {
+        before = (struct input){i.encoding, i.key_limit, i.len, need(malloc(i.len ? i.len : 1))};
+        memcpy(before.bytes, i.bytes, i.len);
+        whole_before = scan_whole(&before);
+    }
+    size_t len = all_texts(&w), len_before = all_texts(&whole_before);
+    texts = need(malloc((len > len_before ? len : len_before) + SPARE));
+    test(&i, &w);
+    free(texts);
+    forget(&before, &whole_before);
+    before = i;
+    whole_before = w;
+}
 
 int main(int argc, char **argv) {
     size_t number = 0;
@@ -604,11 +626,9 @@ int main(int argc, char **argv) {
         number++;
     if (argc != 2 || number == sizeof tests / sizeof *tests)
         return 2;
-    for (; read_input(&i); input_number++) {
-        struct whole w = scan_whole(&i);
-        tests[number].test(&i, &w);
-        forget(&i, &w);
-    }
+    for (; read_input(&i); input_number++)
+        try_input(tests[number].test, i);
+    forget(&before, &whole_before);
     printf("%s: %zu inputs, %llu checks, %llu wrong", argv[1], input_number, (unsigned long long)checks,
            (unsigned long long)wrongs);
     if (number + 1 == sizeof tests / sizeof *tests)

@@ -13,7 +13,7 @@ type Item = Result<Token<'static>, Fault>;
 /// How many items an iterator may give; no input here has as many.
 const MOST: usize = 100_000;
 
-fn take<'a, const N: usize>(from: &mut &'a [u8]) -> Option<[u8; N]> {
+fn take<const N: usize>(from: &mut &[u8]) -> Option<[u8; N]> {
     let (taken, left) = from.split_at_checked(N)?;
     *from = left;
     taken.try_into().ok()
