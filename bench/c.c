@@ -1,9 +1,14 @@
-/* Scans a file and takes its events, nine times in turn with each library, and says how long the best and the median took, in
- * nanoseconds: c FILE LIBYAML OURS. The last two are shared libraries that have libyaml's functions. A line for each
- * measure: what, how many tokens or events, best, median. Compiled with WITH_LIBFYAML, and with libfyaml, it measures that too.
- * Memory is taken and given back within each time. The exit status is 1 if something fails. */
+/* Measures how a file is scanned, and how its events are taken. The exit status is 1 if something fails.
+ *
+ * c times FILE LIBYAML OURS: does so nine times, in turn with each library, and says how long the best and the median
+ * took, in nanoseconds. The last two are shared libraries that have libyaml's functions. A line for each measure, with
+ * tabs in it: what, by which library, how many tokens or events, best, median. Compiled with WITH_LIBFYAML, and with
+ * libfyaml, it measures that too. Memory is taken and given back within each time.
+ *
+ * c memory FILE LIBRARY WHAT: does so once with one library that has libyaml's functions, and prints how many kilobytes
+ * that takes beside the input. The input is in memory before, and is given as a string. WHAT is tokens or events. */
 #define _POSIX_C_SOURCE 200809L
-#include "yaml_c.h"
+#include "bogzhami.h"
 
 #include <dlfcn.h>
 #include <stdio.h>
@@ -16,6 +21,7 @@
 #endif
 
 #define RUNS 9
+#define TEXT_ROOM 65536
 
 static const unsigned char *bytes;
 static size_t size;
@@ -44,7 +50,8 @@ static int open_library(struct library *made, const char *path) {
     return library && find(library, "yaml_parser_initialize", &made->initialize) &&
            find(library, "yaml_parser_set_input_string", &made->set_input) &&
            find(library, "yaml_parser_scan", &made->scan) && find(library, "yaml_token_delete", &made->delete_token) &&
-           find(library, "yaml_parser_parse", &made->parse) && find(library, "yaml_event_delete", &made->delete_event) &&
+           find(library, "yaml_parser_parse", &made->parse) &&
+           find(library, "yaml_event_delete", &made->delete_event) &&
            find(library, "yaml_parser_delete", &made->delete_parser);
 }
 
@@ -83,26 +90,62 @@ static long parse_by(const struct library *library) {
     return type == YAML_STREAM_END_EVENT ? count : 0;
 }
 
-static struct yaml_c_answer counts; /* how large the rooms have to be, by a scan that is not timed */
+/* Makes the room for texts as long as that in place of what it was. */
+static int make_text_room(uint8_t **texts, size_t *len, uint64_t wanted) {
+    free(*texts);
+    *len = wanted;
+    *texts = calloc(wanted, 1);
+    return *texts != NULL;
+}
 
-static long scan_all(void) {
-    struct yaml_c_token *tokens = calloc(counts.token_count + 1, sizeof *tokens);
-    uint8_t *texts = calloc(counts.text_len + 1, 1);
-    struct yaml_c_answer answer = {0};
-    uint32_t status = 1;
-    if (tokens && texts)
-        status = yaml_c_scan_all(bytes, size, 0, 1024, tokens, counts.token_count, texts, counts.text_len, &answer);
+/* Scans by calls that give so many tokens at most. The rooms are the same in all calls, unless a text is too long. */
+static long next_by(size_t most) {
+    struct bogzhami_handle handle = BOGZHAMI_CLOSED;
+    struct bogzhami_token *tokens = calloc(most, sizeof *tokens);
+    struct bogzhami_answer answer = {0};
+    size_t text_room = 0;
+    uint8_t *texts = NULL;
+    uint32_t status = BOGZHAMI_NO_MEMORY;
+    long count = 0;
+    if (make_text_room(&texts, &text_room, TEXT_ROOM) && tokens)
+        status = bogzhami_open(&handle, bytes, size, BOGZHAMI_ANY_ENCODING, 1024);
+    while (status == BOGZHAMI_DONE) {
+        status = bogzhami_next(&handle, bytes, size, tokens, most, texts, text_room, &answer);
+        count += (long)answer.token_count;
+        if (status == BOGZHAMI_NO_ROOM && make_text_room(&texts, &text_room, answer.text_len))
+            status = BOGZHAMI_DONE;
+    }
+    bogzhami_close(&handle);
     free(tokens);
     free(texts);
-    return status == 0 ? (long)answer.token_count : 0;
+    return status == BOGZHAMI_OVER ? count : 0;
+}
+
+static struct bogzhami_answer counts; /* how large the rooms for all have to be, by a scan that is not timed */
+
+static long scan_all(void) {
+    struct bogzhami_token *tokens = calloc(counts.token_count + 1, sizeof *tokens);
+    uint8_t *texts = calloc(counts.text_len + 1, 1);
+    struct bogzhami_answer answer = {0};
+    uint32_t status = BOGZHAMI_NO_MEMORY;
+    if (tokens && texts)
+        status = bogzhami_scan_all(bytes, size, BOGZHAMI_ANY_ENCODING, 1024, tokens, counts.token_count, texts,
+                                   counts.text_len, &answer);
+    free(tokens);
+    free(texts);
+    return status == BOGZHAMI_DONE ? (long)answer.token_count : 0;
 }
 
 static int count_all(void) {
-    struct yaml_c_token token = {0};
+    struct bogzhami_token token = {0};
     uint8_t text = 0;
-    return yaml_c_scan_all(bytes, size, 0, 1024, &token, 0, &text, 0, &counts) == 0;
+    return bogzhami_scan_all(bytes, size, BOGZHAMI_ANY_ENCODING, 1024, &token, 0, &text, 0, &counts) == BOGZHAMI_DONE;
 }
 
+static long next_256(void) { return next_by(256); }
+static long next_64(void) { return next_by(64); }
+static long next_16(void) { return next_by(16); }
+static long next_1(void) { return next_by(1); }
 static long scan_libyaml(void) { return scan_by(&libyaml); }
 static long scan_ours(void) { return scan_by(&ours); }
 static long parse_libyaml(void) { return parse_by(&libyaml); }
@@ -124,19 +167,23 @@ static long scan_libfyaml(void) {
 #endif
 
 static struct measure {
-    const char *name;
+    const char *what, *by;
     long (*take)(void);
     long count;
     double times[RUNS];
 } measures[] = {
-    {.name = "scan yaml_c_scan_all", .take = scan_all},
-    {.name = "scan uses/libyaml", .take = scan_ours},
-    {.name = "scan libyaml", .take = scan_libyaml},
+    {.what = "tokens", .by = "bogzhami_next, 256 a call", .take = next_256},
+    {.what = "tokens", .by = "bogzhami_next, 64 a call", .take = next_64},
+    {.what = "tokens", .by = "bogzhami_next, 16 a call", .take = next_16},
+    {.what = "tokens", .by = "bogzhami_next, 1 a call", .take = next_1},
+    {.what = "tokens", .by = "bogzhami_scan_all", .take = scan_all},
+    {.what = "tokens", .by = "uses/libyaml", .take = scan_ours},
+    {.what = "tokens", .by = "libyaml", .take = scan_libyaml},
 #ifdef WITH_LIBFYAML
-    {.name = "scan libfyaml", .take = scan_libfyaml},
+    {.what = "tokens", .by = "libfyaml", .take = scan_libfyaml},
 #endif
-    {.name = "events uses/libyaml", .take = parse_ours},
-    {.name = "events libyaml", .take = parse_libyaml},
+    {.what = "events", .by = "uses/libyaml", .take = parse_ours},
+    {.what = "events", .by = "libyaml", .take = parse_libyaml},
 };
 #define MEASURES (sizeof measures / sizeof *measures)
 
@@ -165,20 +212,64 @@ static int read_file(const char *path) {
     return is_read;
 }
 
-int main(int argc, char **argv) {
-    if (argc != 4 || !read_file(argv[1]) || !open_library(&libyaml, argv[2]) || !open_library(&ours, argv[3]) || !count_all())
-        return 1;
-    for (int run = 0; run < RUNS; run++)
-        for (size_t i = 0; i < MEASURES; i++) {
-            double start = now();
-            measures[i].count = measures[i].take();
-            measures[i].times[run] = now() - start;
-            if (measures[i].count == 0)
-                return 1;
-        }
+static int measure_once(int run) {
     for (size_t i = 0; i < MEASURES; i++) {
-        qsort(measures[i].times, RUNS, sizeof *measures[i].times, compare);
-        printf("%s %ld %.0f %.0f\n", measures[i].name, measures[i].count, measures[i].times[0], measures[i].times[RUNS / 2]);
+        double start = now();
+        measures[i].count = measures[i].take();
+        measures[i].times[run] = now() - start;
+        if (measures[i].count == 0)
+            return 0;
     }
-    return 0;
+    return 1;
+}
+
+static void print_times(void) {
+    for (size_t i = 0; i < MEASURES; i++) {
+        struct measure *one = &measures[i];
+        qsort(one->times, RUNS, sizeof *one->times, compare);
+        printf("%s\t%s\t%ld\t%.0f\t%.0f\n", one->what, one->by, one->count, one->times[0], one->times[RUNS / 2]);
+    }
+}
+
+static int measure_times(const char *libyaml_path, const char *our_path) {
+    if (!open_library(&libyaml, libyaml_path) || !open_library(&ours, our_path) || !count_all())
+        return 0;
+    for (int run = 0; run < RUNS; run++)
+        if (!measure_once(run))
+            return 0;
+    print_times();
+    return 1;
+}
+
+/* The most kilobytes that this program had in memory at a time, or -1. getrusage would count those of the program that
+ * started it. */
+static long most_memory(void) {
+    char line[256];
+    long most = -1;
+    FILE *lines = fopen("/proc/self/status", "r");
+    while (lines && most < 0 && fgets(line, sizeof line, lines))
+        if (sscanf(line, "VmHWM: %ld", &most) != 1)
+            most = -1;
+    if (lines)
+        fclose(lines);
+    return most;
+}
+
+static int measure_memory(const char *path, const char *what) {
+    struct library library;
+    if (!open_library(&library, path))
+        return 0;
+    long before = most_memory();
+    long count = strcmp(what, "events") ? scan_by(&library) : parse_by(&library);
+    long after = most_memory();
+    printf("%ld\n", after - before);
+    return count > 0 && before > 0 && after > 0;
+}
+
+int main(int argc, char **argv) {
+    if (argc != 5 || !read_file(argv[2]))
+        return 1;
+    if (!strcmp(argv[1], "times"))
+        return !measure_times(argv[3], argv[4]);
+    return strcmp(argv[1], "memory") || !measure_memory(argv[3], argv[4]);
 }

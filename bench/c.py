@@ -1,9 +1,10 @@
 #!/usr/bin/env python3
 """Measures the scanner as C calls it, and under libyaml's parser, beside libyaml and libfyaml: best and median of nine.
 
-c.py needs the libraries that ffi/build and uses/libyaml/build make, a C compiler and libyaml's header and library (Debian:
-libyaml-dev); libfyaml is measured if its header is there (libfyaml-dev). All take the same bytes, from memory, in turn, in one run
-on one core, and nothing is listed. c.py FILE.. measures those files in place of its own text.
+c.py needs the libraries that ffi/build and uses/libyaml/build make, a C compiler and libyaml's header and library
+(Debian: libyaml-dev); libfyaml is measured if its header is there (libfyaml-dev). All take the same bytes, from memory,
+in turn, in one run on one core, and nothing is listed. Then it tells how much memory uses/libyaml and libyaml take
+beside the input. c.py FILE.. measures those files in place of its own two texts.
 """
 
 import datetime
@@ -13,6 +14,7 @@ import subprocess
 import sys
 import tempfile
 
+from dense import dense
 from realistic import realistic
 
 HERE = os.path.dirname(os.path.abspath(__file__))
@@ -36,20 +38,24 @@ def has_libfyaml():
 
 def build(room):
     path = os.path.join(room, "c")
-    words = ["cc", "-std=c11", "-O2", "-I", FFI, os.path.join(HERE, "c.c"), os.path.join(FFI, "out", "libyaml_c.a"), "-ldl", "-o", path]
-    subprocess.run([*words, *(["-DWITH_LIBFYAML", "-lfyaml"] if has_libfyaml() else [])], check=True)
+    more = ["-DWITH_LIBFYAML", "-lfyaml"] if has_libfyaml() else []
+    parts = [os.path.join(HERE, "c.c"), os.path.join(FFI, "out", "libbogzhami.a"), "-ldl"]
+    subprocess.run(["cc", "-std=c11", "-O2", "-I", FFI, *parts, *more, "-o", path], check=True)
     return path
+
+
+def run(*words):
+    return subprocess.run([*PINNED, *words], check=True, capture_output=True, text=True).stdout
 
 
 def measure(program, path, libyaml):
     """A line for each measure: whether tokens or events are taken, by which library, how many, and two times."""
-    told = subprocess.run([*PINNED, program, path, libyaml, OURS], check=True, capture_output=True, text=True)
-    for line in told.stdout.splitlines():
-        what, who, count, best, median = line.split(" ")
+    for line in run(program, "times", path, libyaml, OURS).splitlines():
+        what, who, count, best, median = line.split("\t")
         yield what, who, int(count), float(best), float(median)
 
 
-def table(name, size, lines):
+def tell_times(name, size, lines):
     print(f"\n{name}, {size} bytes\n")
     print("| what | by | number | best (median) in s | MB/s | times as fast as libyaml |\n|---|---|---|---|---|---|")
     libyaml = {what: best for what, who, _, best, _ in lines if who == "libyaml"}
@@ -58,15 +64,33 @@ def table(name, size, lines):
         print(f"| {what} | {who} | {count} | {best / 1e9:.4f} ({median / 1e9:.4f}) | {speed:.1f} | {times:.2f} |")
 
 
+def tell_memory(program, path, libyaml):
+    """The most of three runs, since the system counts the memory of a program a little late."""
+    print("\n| what | by | memory beside the input, KB |\n|---|---|---|")
+    for what in ("tokens", "events"):
+        for who, library in (("uses/libyaml", OURS), ("libyaml", libyaml)):
+            most = max(int(run(program, "memory", path, library, what)) for _ in range(3))
+            print(f"| {what} | {who} | {most} |")
+
+
+def write_texts(room):
+    """Writes the two texts into a folder, and yields their paths."""
+    for name, text in (("realistic.yaml", realistic(10_000_000, 7)), ("dense.yaml", dense(10_000_000, 7))):
+        path = os.path.join(room, name)
+        with open(path, "w", encoding="ascii") as file:
+            file.write(text)
+        yield path
+
+
 def main():
-    libyaml = subprocess.run(["cc", "-print-file-name=libyaml.so"], check=True, capture_output=True, text=True).stdout.strip()
+    words = ["cc", "-print-file-name=libyaml.so"]
+    libyaml = subprocess.run(words, check=True, capture_output=True, text=True).stdout.strip()
     print(f"{datetime.date.today()}; {machine()}")
     with tempfile.TemporaryDirectory() as room:
-        program, path = build(room), os.path.join(room, "realistic.yaml")
-        with open(path, "w", encoding="ascii") as text:
-            text.write(realistic(10_000_000, 7))
-        for one in sys.argv[1:] or [path]:
-            table(os.path.basename(one), os.path.getsize(one), list(measure(program, one, libyaml)))
+        program = build(room)
+        for path in sys.argv[1:] or write_texts(room):
+            tell_times(os.path.basename(path), os.path.getsize(path), list(measure(program, path, libyaml)))
+            tell_memory(program, path, libyaml)
 
 
 if __name__ == "__main__":
