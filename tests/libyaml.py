@@ -15,9 +15,11 @@ lists are the same, but for this:
 - The input is read to its end before the first token. So it makes no difference in what pieces it is read, and a read that fails
   is told before all tokens.
 
-PyYAML's C loader is run over either library: the objects are the same, and so are the words of the errors, but for the same
-differences. Of a few small inputs each request for memory is refused in turn. Valgrind looks at a hundred inputs. What needs a C
-compiler, libyaml-dev, a PyYAML that stands on libyaml's shared library, or valgrind is skipped if there is none.
+A parser that is given up half-way has given a beginning of what it would have given. PyYAML's C loader is run over either
+library: the objects are the same, and so are the words of the errors, but for the same differences. Of a few small inputs
+each request for memory is refused in turn. Valgrind looks at a hundred inputs and some longer ones: scanned to their end,
+read in pieces, with reads that fail, and given up half-way. What needs a C compiler, libyaml-dev, a PyYAML that stands on
+libyaml's shared library, or valgrind is skipped if there is none.
 """
 
 import codecs
@@ -49,13 +51,32 @@ KINDS = ["tokens", "events", "nodes"]
 DIFFERENCES = ["index", "limit", "spelling", "late"]
 READER_FAULT = "ERROR 2 "
 NO_ERROR = "'-'"
+GIVEN_UP = "GIVEN UP"
+ALL = 10**9
+# what the shim has room for: the tokens of a batch, and at first the bytes of their texts
+BATCH = 256
+TEXT_ROOM = 16384
 SMALL = [
     b"%YAML 1.1\n%TAG ! x:\n---\n- &a a: [\xc3\xa9, \"b\"]\n- !b {c: *a, d: !!str e}\n- |\n  x\n...\n--- f\n",
     b'a: "\\xZ"\n',
     b"a: [b, c\n",
     b"- a\n- b\n- \xff\n",
     b"? " * 40,
-    b"...\n" * 80,
+    b"...\n" * (BATCH + 40),
+    b"- 'a'\n- '" + b"b" * 3 * TEXT_ROOM + b"'\n- c @\n- @",
+]
+# how valgrind runs each input: what is taken, in pieces of how many bytes, which read fails, and how much is taken at most
+WAYS = [
+    ("tokens", 0, 0, ALL),
+    ("events", 0, 0, ALL),
+    ("nodes", 7, 0, ALL),
+    ("tokens", 1, 3, ALL),
+    ("events", 5, 2, ALL),
+    ("tokens", 0, 0, 0),
+    ("tokens", 0, 0, 3),
+    ("tokens", 0, 0, BATCH + 1),
+    ("events", 1, 0, 2),
+    ("nodes", 1, 0, 1),
 ]
 
 # Loads each question's bytes by PyYAML's C loader: a line with the objects, and one with the error.
@@ -115,9 +136,19 @@ def long_texts():
         yield 0, text + b"last: \x01\n"
         yield 0, text + b"last: @\nvery: \xff\n"
         yield 2, text.decode().encode("utf-16-le") + b"\x00\xdc"
-    # more tokens, and longer texts, than the first guess has room for
-    yield 0, b"...\n" * 200 + b"last"
-    yield 2, ("- '" + "\u4e2d" * 700 + "' @").encode("utf-16-le")
+
+
+def batch_ends():
+    """Texts in which a fault, the end of the stream or a long text comes where a batch or the room for its texts ends."""
+    for count in range(BATCH - 4, BATCH + 3):
+        yield 0, b"...\n" * count
+        yield 0, b"...\n" * count + b"@"
+        yield 0, b"...\n" * count + b"- \x01"
+    for count in [*range(TEXT_ROOM - 2, TEXT_ROOM + 3), TEXT_ROOM - 30, TEXT_ROOM - 60, 3 * TEXT_ROOM]:
+        yield 0, b"- '" + b"a" * count + b"'\n- b\n- '" + b"c" * 2 * count + b"'\n"
+        yield 0, b"- '" + b"a" * count + b"'\n- @"
+        yield 0, b"- '" + b"a" * count + b'\'\n- "\\xZ"'
+    yield 2, ("- '" + "\u4e2d" * TEXT_ROOM + "' @").encode("utf-16-le")
 
 
 def yaml_files():
@@ -129,13 +160,14 @@ def yaml_files():
                     yield 0, file.read()
 
 
-def questions(kind, inputs, chunk=0, fail=0):
-    return b"".join(b"%s %d %d %d %d\n%s" % (kind.encode(), setting, chunk, fail, len(data), data) for setting, data in inputs)
+def questions(kind, inputs, chunk=0, fail=0, most=ALL):
+    words = [(kind.encode(), setting, chunk, fail, most, len(data), data) for setting, data in inputs]
+    return b"".join(b"%s %d %d %d %d %d\n%s" % one for one in words)
 
 
-def listed(program, library, kind, inputs, chunk=0, fail=0):
+def listed(program, library, kind, inputs, chunk=0, fail=0, most=ALL):
     """What the program lists for each input with the library of that folder, or with libyaml's own if it is empty."""
-    asked = questions(kind, inputs, chunk, fail)
+    asked = questions(kind, inputs, chunk, fail, most)
     told = subprocess.run([program], input=asked, capture_output=True, check=True, env=environment(library), timeout=600)
     lists = told.stdout.decode("utf-8", "replace").split("\n\n")[:-1]
     if len(lists) != len(inputs):
@@ -259,18 +291,50 @@ def try_lists(program, every):
     return all([one.tell() for one in made]), [given for one in made for given in one.limited]
 
 
-def try_pieces(program, inputs):
-    """Small pieces make no difference; a read that fails, and an encoding that there is not, are told."""
-    whole = listed(program, OURS, "events", inputs)
-    differ = sum(listed(program, OURS, "events", inputs, chunk) != whole for chunk in (1, 3, 4096))
-    wrong = 0
-    for chunk, fail in [(1, 1), (1, 2), (2, 3), (5, 2)]:
+def failing_reads(program, kind, inputs):
+    """How many inputs have a read that fails, and how many of them are told wrongly."""
+    total, wrong = 0, 0
+    for chunk, fail in [(1, 1), (1, 2), (2, 3), (5, 2), (1, 40), (4096, 2)]:
         long_enough = [one for one in inputs if len(one[1]) > chunk * fail]
         wanted = [f"ERROR 2 0:0:0 0:0:0 {chunk * (fail - 1)} -1 -; input error"]
-        wrong += sum(lines != wanted for lines in listed(program, OURS, "events", long_enough, chunk, fail))
+        total += len(long_enough)
+        wrong += sum(lines != wanted for lines in listed(program, OURS, kind, long_enough, chunk, fail))
+    return total, wrong
+
+
+def try_pieces(program, inputs):
+    """Small pieces make no difference; a read that fails, and an encoding that there is not, are told."""
+    differ = failing = wrong = 0
+    for kind in KINDS:
+        whole = listed(program, OURS, kind, inputs)
+        differ += sum(listed(program, OURS, kind, inputs, chunk) != whole for chunk in (1, 3, 4096))
+        counts = failing_reads(program, kind, inputs)
+        failing, wrong = failing + counts[0], wrong + counts[1]
     wrong += listed(program, OURS, "tokens", [(4, b"a")]) != [["ERROR 2 0:0:0 0:0:0 0 -1 -; unknown encoding"]]
-    print(f"libyaml: {len(inputs)} inputs read in three sizes of pieces, {differ} sizes differ; what can't be read: {wrong} wrong")
-    return not differ and not wrong and len(inputs) > 100
+    print(f"libyaml: {len(inputs)} inputs read in three sizes of pieces, {differ} sizes differ; {failing} reads fail, {wrong} wrong")
+    return not differ and not wrong and len(inputs) > 100 and failing > 1000
+
+
+def given_up(kind, lines, most):
+    """The list of a parser that is given up after so many tokens, events or documents, by its whole list."""
+    is_failed = lines[-1].startswith("ERROR ")
+    ends = [at for at, line in enumerate(lines[: len(lines) - is_failed], 1) if kind != "nodes" or line.startswith("DOCUMENT ")]
+    if most > len(ends) or (most == len(ends) and not is_failed):
+        return lines
+    return [*lines[: ends[most - 1] if most else 0], GIVEN_UP]
+
+
+def try_given_up(program, inputs):
+    """A parser that is given up has given a beginning, whether of a string or of what a handler reads byte by byte."""
+    total, wrong = 0, 0
+    for kind in KINDS:
+        whole = listed(program, OURS, kind, inputs)
+        for chunk, most in [(0, 0), (1, 0), (0, 1), (1, 2), (0, 7), (1, BATCH), (0, BATCH + 1)]:
+            wanted = [given_up(kind, lines, most) for lines in whole]
+            total += sum(lines[-1] == GIVEN_UP for lines in wanted)
+            wrong += sum(map(list.__ne__, listed(program, OURS, kind, inputs, chunk, most=most), wanted))
+    print(f"libyaml: {total} parsers given up half-way, {wrong} wrong")
+    return not wrong and total > 1000
 
 
 def loading_python():
@@ -337,7 +401,7 @@ def try_python(program, every):
 def try_refusals(refuse):
     """Whether each refused request for memory ends well.
 
-    It leads to an error, unless it is for one of the two rooms that are guessed, or by a quick step, which asks once more.
+    It leads to an error, unless it is by a quick step, which asks once more.
     """
     total, bad = 0, []
     for data in SMALL:
@@ -345,24 +409,26 @@ def try_refusals(refuse):
         for line in told.stdout.decode().splitlines():
             requests, failed, wrong, keeping = (int(count) for count in line.split(" ")[1:])
             total += requests
-            if wrong or keeping or not requests // 2 <= failed <= requests - 2:
+            if wrong or keeping or not requests // 2 <= failed:
                 bad.append((data[:40], line))
     print(f"libyaml: {total} requests for memory refused, {len(bad)} inputs wrong {bad or ''}")
     return not bad and total > 100
 
 
-def try_leaks(program, every):
+def try_leaks(program, inputs):
+    """Whether valgrind finds nothing in any of the ways, and the lists are the same as without it."""
     if shutil.which("valgrind") is None:
         print("libyaml: leaks skipped: no valgrind")
         return True
-    some = [one for one in every if len(one[1]) < 2000][::180][:100]
-    asked = b"".join(questions(kind, some, chunk) for kind, chunk in zip(KINDS, (0, 0, 7)))
+    asked = b"".join(questions(kind, inputs, *more) for kind, *more in WAYS)
     words = ["valgrind", "-q", "--error-exitcode=99", "--leak-check=full", "--show-leak-kinds=all", "--errors-for-leak-kinds=all"]
+    plain = subprocess.run([program], input=asked, capture_output=True, check=True, env=environment(OURS), timeout=600)
     told = subprocess.run([*words, program], input=asked, capture_output=True, env=environment(OURS), timeout=600)
-    good = told.returncode == 0 and told.stdout.count(b"\n\n") == 300 == 3 * len(some)
+    good = told.returncode == 0 and told.stdout == plain.stdout
     found = "no leak and no wrong access" if good else "WRONG " + told.stderr.decode()[:2000]
-    print(f"libyaml: {len(some)} inputs under valgrind, {found}")
-    return good
+    count = told.stdout.count(b"\n\n")
+    print(f"libyaml: {len(inputs)} inputs under valgrind, each in {len(WAYS)} ways, {found}")
+    return good and count == len(WAYS) * len(inputs) and len(inputs) > 100
 
 
 def build(room, name):
@@ -377,7 +443,9 @@ def main():
         return 0
     build_library()
     subprocess.run([os.path.join(USE, "build")], check=True)
-    every = [*yaml_files(), *long_texts(), *vectors()]
+    ends = list(batch_ends())
+    every = [*yaml_files(), *long_texts(), *ends, *vectors()]
+    few = [one for one in every if len(one[1]) < 2000][::180][:100]
     with tempfile.TemporaryDirectory() as room:
         program, refuse = build(room, "list"), build(room, "refuse")
         are_right, limited = try_lists(program, every)
@@ -385,9 +453,10 @@ def main():
             are_right,
             try_names(program),
             try_pieces(program, every[::20]),
+            try_given_up(program, [*every[::20], *ends]),
             try_python(program, [one for one in every[::2] if one not in limited]),
             try_refusals(refuse),
-            try_leaks(program, every),
+            try_leaks(program, [*few, *ends]),
         ]
     return 0 if all(good) else 1
 

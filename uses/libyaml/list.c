@@ -1,9 +1,11 @@
-/* list: lists what libyaml makes of inputs, for tests/libyaml.py, which runs it with libyaml's own library and with the one here.
+/* list: lists what libyaml makes of inputs, for tests/libyaml.py, which runs it with libyaml's own library and with the
+ * one here.
  *
- * Standard input holds questions. Each is a line `KIND ENCODING CHUNK FAIL LEN` and LEN bytes of YAML. KIND is tokens, events or
- * nodes; ENCODING a number of yaml_encoding_t; CHUNK how many bytes the read handler gives at most in a call, or 0 if the
- * bytes are given by yaml_parser_set_input_string; FAIL the number of the call of the read handler that fails, or 0. What is
- * listed for a question ends with a line that is empty. The exit status is 2 for a wrong question. */
+ * Standard input holds questions. Each is a line `KIND ENCODING CHUNK FAIL MOST LEN` and LEN bytes of YAML. KIND is
+ * tokens, events or nodes; ENCODING a number of yaml_encoding_t; CHUNK how many bytes the read handler gives at most in
+ * a call, or 0 if the bytes are given by yaml_parser_set_input_string; FAIL the number of the call of the read handler
+ * that fails, or 0; MOST how many tokens, events or documents are taken at most, after which the parser is given up.
+ * What is listed for a question ends with a line that is empty. The exit status is 2 for a wrong question. */
 #include <stdio.h>
 #include <stdlib.h>
 #include <string.h>
@@ -80,17 +82,21 @@ static void list_token(const yaml_token_t *token) {
     printf("\n");
 }
 
-static int list_tokens(yaml_parser_t *parser) {
+enum end { FAILED, ENDED, GIVEN_UP };
+
+static enum end list_tokens(yaml_parser_t *parser, size_t most) {
     yaml_token_t token;
     int type;
     do {
+        if (most-- == 0)
+            return GIVEN_UP;
         if (!yaml_parser_scan(parser, &token))
-            return 0;
+            return FAILED;
         type = token.type;
         list_token(&token);
         yaml_token_delete(&token);
     } while (type != YAML_STREAM_END_TOKEN);
-    return 1;
+    return ENDED;
 }
 
 static void list_document_start(const yaml_event_t *event) {
@@ -123,7 +129,8 @@ static void list_data(const yaml_event_t *event) {
         list_text(event->data.scalar.anchor);
         list_text(event->data.scalar.tag);
         list_bytes(event->data.scalar.value, event->data.scalar.length);
-        printf(" %d %d %d", event->data.scalar.plain_implicit, event->data.scalar.quoted_implicit, event->data.scalar.style);
+        printf(" %d %d", event->data.scalar.plain_implicit, event->data.scalar.quoted_implicit);
+        printf(" %d", event->data.scalar.style);
         break;
     case YAML_SEQUENCE_START_EVENT:
         list_text(event->data.sequence_start.anchor);
@@ -140,12 +147,14 @@ static void list_data(const yaml_event_t *event) {
     }
 }
 
-static int list_events(yaml_parser_t *parser) {
+static enum end list_events(yaml_parser_t *parser, size_t most) {
     yaml_event_t event;
     int type;
     do {
+        if (most-- == 0)
+            return GIVEN_UP;
         if (!yaml_parser_parse(parser, &event))
-            return 0;
+            return FAILED;
         type = event.type;
         printf("%d", type);
         list_mark(event.start_mark);
@@ -154,7 +163,17 @@ static int list_events(yaml_parser_t *parser) {
         printf("\n");
         yaml_event_delete(&event);
     } while (type != YAML_STREAM_END_EVENT);
-    return 1;
+    return ENDED;
+}
+
+static void list_pairs(const yaml_node_t *node) {
+    for (yaml_node_pair_t *pair = node->data.mapping.pairs.start; pair < node->data.mapping.pairs.top; pair++)
+        printf(" %d %d", pair->key, pair->value);
+}
+
+static void list_items(const yaml_node_t *node) {
+    for (yaml_node_item_t *item = node->data.sequence.items.start; item < node->data.sequence.items.top; item++)
+        printf(" %d", *item);
 }
 
 static void list_node(const yaml_node_t *node) {
@@ -165,33 +184,43 @@ static void list_node(const yaml_node_t *node) {
     if (node->type == YAML_SCALAR_NODE)
         list_bytes(node->data.scalar.value, node->data.scalar.length);
     if (node->type == YAML_SEQUENCE_NODE)
-        for (yaml_node_item_t *item = node->data.sequence.items.start; item < node->data.sequence.items.top; item++)
-            printf(" %d", *item);
+        list_items(node);
     if (node->type == YAML_MAPPING_NODE)
-        for (yaml_node_pair_t *pair = node->data.mapping.pairs.start; pair < node->data.mapping.pairs.top; pair++)
-            printf(" %d %d", pair->key, pair->value);
+        list_pairs(node);
     printf("\n");
 }
 
-static int list_nodes(yaml_parser_t *parser) {
+static void list_document(yaml_document_t *document) {
+    for (int number = 1; yaml_document_get_node(document, number); number++)
+        list_node(yaml_document_get_node(document, number));
+    printf("DOCUMENT");
+    list_mark(document->start_mark);
+    list_mark(document->end_mark);
+    printf("\n");
+}
+
+static enum end list_nodes(yaml_parser_t *parser, size_t most) {
     yaml_document_t document;
     int is_last;
     do {
+        if (most-- == 0)
+            return GIVEN_UP;
         if (!yaml_parser_load(parser, &document))
-            return 0;
+            return FAILED;
         is_last = yaml_document_get_root_node(&document) == NULL;
-        for (int number = 1; yaml_document_get_node(&document, number); number++)
-            list_node(yaml_document_get_node(&document, number));
-        printf("DOCUMENT");
-        list_mark(document.start_mark);
-        list_mark(document.end_mark);
-        printf("\n");
+        list_document(&document);
         yaml_document_delete(&document);
     } while (!is_last);
-    return 1;
+    return ENDED;
 }
 
-static int list(const char *kind, int encoding, struct source source) {
+static enum end list_kind(const char *kind, yaml_parser_t *parser, size_t most) {
+    if (!strcmp(kind, "tokens"))
+        return list_tokens(parser, most);
+    return strcmp(kind, "events") ? list_nodes(parser, most) : list_events(parser, most);
+}
+
+static int list(const char *kind, int encoding, struct source source, size_t most) {
     yaml_parser_t parser;
     if (!yaml_parser_initialize(&parser))
         return 0;
@@ -201,29 +230,30 @@ static int list(const char *kind, int encoding, struct source source) {
         yaml_parser_set_input_string(&parser, source.bytes, source.len);
     if (encoding)
         yaml_parser_set_encoding(&parser, (yaml_encoding_t)encoding);
-    int is_ended;
-    if (!strcmp(kind, "tokens"))
-        is_ended = list_tokens(&parser);
-    else if (!strcmp(kind, "events"))
-        is_ended = list_events(&parser);
-    else
-        is_ended = list_nodes(&parser);
-    if (!is_ended)
+    enum end end = list_kind(kind, &parser, most);
+    if (end == FAILED)
         list_error(&parser);
-    printf("\n");
+    printf(end == GIVEN_UP ? "GIVEN UP\n\n" : "\n");
     yaml_parser_delete(&parser);
     return 1;
+}
+
+/* Reads the first line of a question. */
+static int read_words(char *kind, int *encoding, struct source *source, size_t *most) {
+    size_t *chunk = &source->chunk, *fail = &source->fail, *len = &source->len;
+    return scanf("%7s %d %zu %zu %zu %zu", kind, encoding, chunk, fail, most, len) == 6 && getchar() == '\n';
 }
 
 int main(void) {
     char kind[8];
     int encoding;
+    size_t most;
     struct source source;
-    while (scanf("%7s %d %zu %zu %zu", kind, &encoding, &source.chunk, &source.fail, &source.len) == 5 && getchar() == '\n') {
+    while (read_words(kind, &encoding, &source, &most)) {
         unsigned char *bytes = malloc(source.len + 1);
         source.bytes = bytes;
         source.calls = 0;
-        int is_listed = bytes && fread(bytes, 1, source.len, stdin) == source.len && list(kind, encoding, source);
+        int is_listed = bytes && fread(bytes, 1, source.len, stdin) == source.len && list(kind, encoding, source, most);
         free(bytes);
         if (!is_listed)
             return 2;

@@ -1,10 +1,11 @@
-/* refuse < FILE: takes the tokens and the events of a file again and again, and each time refuses another request for memory: the
- * first, then the second, and so on to the last. For tests/libyaml.py.
+/* refuse < FILE: takes the tokens and the events of a file again and again, and each time refuses another request for
+ * memory: the first, then the second, and so on to the last. For tests/libyaml.py.
  *
- * Prints a line for tokens and one for events: how many requests there are, how many refusals led to an error, how many ended
- * wrongly, and how many kept memory. One leads to an error if a beginning of what is taken with ample memory is taken, and then a
- * call returns 0 with a memory error. It ends wrongly if it does not and not everything is taken either. It keeps memory if some
- * is not freed after the parser was deleted. The exit status is 0, or 2 if the file is too large. */
+ * Prints a line for tokens and one for events of a string, and one for tokens of an input that a read handler gives:
+ * how many requests there are, how many refusals led to an error, how many ended wrongly, and how many kept memory. One
+ * leads to an error if a beginning of what is taken with ample memory is taken, and then a call returns 0 with a memory
+ * error. It ends wrongly if it does not and not everything is taken either. It keeps memory if some is not freed after
+ * the parser was deleted. The exit status is 0, or 2 if the file is too large. */
 #include <stdint.h>
 #include <stdio.h>
 #include <stdlib.h>
@@ -19,6 +20,8 @@ extern void __libc_free(void *old);
 #define MOST 100000
 static unsigned char input[MOST];
 static size_t input_len;
+static int is_read;     /* whether a read handler gives the input */
+static size_t read_len; /* how much of it was given */
 static uint64_t traces[MOST]; /* of what was taken with ample memory: a number for each beginning of it */
 static size_t trace_count;
 
@@ -103,6 +106,22 @@ static int take_events(yaml_parser_t *parser, struct run *run) {
     return 1;
 }
 
+static int read_input(void *data, unsigned char *buffer, size_t size, size_t *count) {
+    (void)data;
+    *count = size < input_len - read_len ? size : input_len - read_len;
+    memcpy(buffer, input + read_len, *count);
+    read_len += *count;
+    return 1;
+}
+
+static void set_input(yaml_parser_t *parser) {
+    read_len = 0;
+    if (is_read)
+        yaml_parser_set_input(parser, read_input, NULL);
+    else
+        yaml_parser_set_input_string(parser, input, input_len);
+}
+
 /* How a run ended in which the request of that number is refused, or none for 0. */
 struct end {
     int error, is_beginning;
@@ -118,7 +137,7 @@ static struct end run_refusing(int (*take)(yaml_parser_t *, struct run *), size_
     requests = 0;
     refused = number;
     if (yaml_parser_initialize(&parser)) {
-        yaml_parser_set_input_string(&parser, input, input_len);
+        set_input(&parser);
         is_ended = take(&parser, &run);
         error = parser.error;
         yaml_parser_delete(&parser);
@@ -148,5 +167,7 @@ int main(void) {
         return 2;
     refuse_each("tokens", take_tokens);
     refuse_each("events", take_events);
+    is_read = 1;
+    refuse_each("read", take_tokens);
     return 0;
 }
