@@ -1,25 +1,26 @@
 #!/usr/bin/env python3
 """Builds the libyaml of uses/libyaml, and compares it with libyaml's own library: libyaml.py [PROGRAM].
 
-Both have the same name and export the same functions. A small C program (uses/libyaml/list.c) lists tokens, events and the nodes
-of documents with marks, texts, styles and flags, and the error with its words and marks. It is run with either library on the
-worked rows, on all inputs of vectors/scan.txt.gz, on texts of bench/realistic.py and on the YAML files of the repository. The
-lists are the same, but for this:
+Both have the same name and export the same functions. A small C program (uses/libyaml/list.c) lists tokens, events and
+the nodes of documents with marks, texts, styles and flags, and the error with its words and marks. It is run with
+either library on the worked rows, on all inputs of vectors/scan.txt.gz, on texts of bench/realistic.py, on texts made
+for the ends of batches, and on the YAML files of the repository. The lists are the same, but for this:
 
 - The index of a mark counts bytes of UTF-8, and libyaml's counts characters. The line and the column are the same.
 - The limit of a simple key, 1,024, is of bytes too. A key that has more bytes, and no more characters, is refused.
 - The error for a wrong escape has `hexadecimal`, which libyaml spells `hexdecimal`.
-- A fault of the reader is told at another token. libyaml decodes a block of the input at once, and tells a fault in it before all
-  tokens of that block. Here most tokens in front of the fault come first. Either list is a beginning of what libyaml makes of the
-  text in front of the fault, and then the same fault; or it is all that libyaml makes of that text, if that ends with an error.
-- The input is read to its end before the first token. So it makes no difference in what pieces it is read, and a read that fails
-  is told before all tokens.
+- A fault of the reader is told at another token. libyaml decodes a block of the input at once, and tells a fault in it
+  before all tokens of that block. Here most tokens in front of the fault come first. Either list is a beginning of what
+  libyaml makes of the text in front of the fault, and then the same fault; or it is all that libyaml makes of that
+  text, if that ends with an error.
+- An input that is no string is read to its end before the first token. So it makes no difference in what pieces it is
+  read, and a read that fails is told before all tokens.
 
-A parser that is given up half-way has given a beginning of what it would have given. PyYAML's C loader is run over either
-library: the objects are the same, and so are the words of the errors, but for the same differences. Of a few small inputs
-each request for memory is refused in turn. Valgrind looks at a hundred inputs and some longer ones: scanned to their end,
-read in pieces, with reads that fail, and given up half-way. What needs a C compiler, libyaml-dev, a PyYAML that stands on
-libyaml's shared library, or valgrind is skipped if there is none.
+A parser that is given up half-way has given a beginning of what it would have given. PyYAML's C loader is run over
+either library: the objects are the same, and so are the words of the errors, but for the same differences. Of a few
+small inputs each request for memory is refused in turn. Valgrind looks at a hundred inputs and some longer ones:
+scanned to their end, read in pieces, with reads that fail, and given up half-way. What needs a C compiler, libyaml-dev,
+a PyYAML that stands on libyaml's shared library, or valgrind is skipped if there is none.
 """
 
 import codecs
@@ -65,7 +66,7 @@ SMALL = [
     b"...\n" * (BATCH + 40),
     b"- 'a'\n- '" + b"b" * 3 * TEXT_ROOM + b"'\n- c @\n- @",
 ]
-# how valgrind runs each input: what is taken, in pieces of how many bytes, which read fails, and how much is taken at most
+# how valgrind runs each input: what is taken, in pieces of how many bytes, which read fails, how much is taken at most
 WAYS = [
     ("tokens", 0, 0, ALL),
     ("events", 0, 0, ALL),
@@ -115,6 +116,10 @@ def environment(library):
     return {**os.environ, "LD_LIBRARY_PATH": library, "PYTHONHASHSEED": "0", "PYTHONIOENCODING": "utf-8"}
 
 
+def run(words, given, library, **more):
+    return subprocess.run(words, input=given, capture_output=True, env=environment(library), timeout=600, **more)
+
+
 def vectors():
     """The setting and the input of each row of the vectors, and of each worked row."""
     for words, data, _ in rows():
@@ -126,7 +131,7 @@ def vectors():
 
 
 def long_texts():
-    """Texts of more than one of libyaml's blocks, of which some have a fault that its reader or its scanner finds late."""
+    """Texts of more than one of libyaml's blocks. Some have a fault that its reader or its scanner finds late."""
     for seed in range(4):
         text = realistic(60_000, seed).encode()
         yield 0, text
@@ -139,7 +144,7 @@ def long_texts():
 
 
 def batch_ends():
-    """Texts in which a fault, the end of the stream or a long text comes where a batch or the room for its texts ends."""
+    """Texts in which a fault, the stream end or a long text comes where a batch or the room for its texts ends."""
     for count in range(BATCH - 4, BATCH + 3):
         yield 0, b"...\n" * count
         yield 0, b"...\n" * count + b"@"
@@ -168,7 +173,7 @@ def questions(kind, inputs, chunk=0, fail=0, most=ALL):
 def listed(program, library, kind, inputs, chunk=0, fail=0, most=ALL):
     """What the program lists for each input with the library of that folder, or with libyaml's own if it is empty."""
     asked = questions(kind, inputs, chunk, fail, most)
-    told = subprocess.run([program], input=asked, capture_output=True, check=True, env=environment(library), timeout=600)
+    told = run([program], asked, library, check=True)
     lists = told.stdout.decode("utf-8", "replace").split("\n\n")[:-1]
     if len(lists) != len(inputs):
         sys.exit(f"libyaml: {len(lists)} lists for {len(inputs)} inputs")
@@ -183,7 +188,7 @@ def codec_of(setting, data):
 
 
 class Front:
-    """What stands in front of a reader's fault: its text, its bytes, and the input with as many bytes of a plain scalar there."""
+    """What stands in front of a reader's fault: text, bytes, and the input with a plain scalar of as many bytes there."""
 
     def __init__(self, setting, data, offset):
         codec, skipped = codec_of(setting, data)
@@ -231,7 +236,7 @@ def widened(text):
 
 
 class Comparison:
-    """The lists of both libraries for many inputs: how many there are of each kind of difference, and which are wrong."""
+    """The lists of both libraries for many inputs: how many there are of each kind, and which are wrong."""
 
     def __init__(self, program, kind, inputs):
         theirs, ours = listed(program, "", kind, inputs), listed(program, OURS, kind, inputs)
@@ -262,7 +267,8 @@ class Comparison:
 
     def tell(self):
         seen = ", ".join(f"{self.seen[name]} {name}" for name in DIFFERENCES)
-        print(f"libyaml: {self.kind}: {self.seen['same']} lists are the same; documented differences: {seen}; {len(self.wrong)} wrong")
+        same = f"{self.seen['same']} lists are the same"
+        print(f"libyaml: {self.kind}: {same}; documented differences: {seen}; {len(self.wrong)} wrong")
         for (setting, data), *lists in self.wrong[:3]:
             print(SETTINGS[setting], data[:100], *(f"\n  {str(lines[-3:])[:400]}" for lines in lists))
         return not self.wrong and self.seen["same"] > 10000 and all(self.seen.values())
@@ -311,14 +317,16 @@ def try_pieces(program, inputs):
         counts = failing_reads(program, kind, inputs)
         failing, wrong = failing + counts[0], wrong + counts[1]
     wrong += listed(program, OURS, "tokens", [(4, b"a")]) != [["ERROR 2 0:0:0 0:0:0 0 -1 -; unknown encoding"]]
-    print(f"libyaml: {len(inputs)} inputs read in three sizes of pieces, {differ} sizes differ; {failing} reads fail, {wrong} wrong")
+    found = f"{differ} sizes differ; {failing} reads fail, {wrong} wrong"
+    print(f"libyaml: {len(inputs)} inputs read in three sizes of pieces, {found}")
     return not differ and not wrong and len(inputs) > 100 and failing > 1000
 
 
 def given_up(kind, lines, most):
     """The list of a parser that is given up after so many tokens, events or documents, by its whole list."""
     is_failed = lines[-1].startswith("ERROR ")
-    ends = [at for at, line in enumerate(lines[: len(lines) - is_failed], 1) if kind != "nodes" or line.startswith("DOCUMENT ")]
+    taken = lines[: len(lines) - is_failed]
+    ends = [at for at, line in enumerate(taken, 1) if kind != "nodes" or line.startswith("DOCUMENT ")]
     if most > len(ends) or (most == len(ends) and not is_failed):
         return lines
     return [*lines[: ends[most - 1] if most else 0], GIVEN_UP]
@@ -340,7 +348,8 @@ def try_given_up(program, inputs):
 def loading_python():
     """A Python whose PyYAML stands on libyaml's shared library, or None."""
     for python in (sys.executable, "/usr/bin/python3"):
-        if shutil.which(python) and subprocess.run([python, "-c", LOAD, ""], input=b"", capture_output=True).returncode == 0:
+        words = [python, "-c", LOAD, ""]
+        if shutil.which(python) and subprocess.run(words, input=b"", capture_output=True).returncode == 0:
             return python
     return None
 
@@ -349,7 +358,7 @@ def loaded(python, library, inputs, way):
     """The objects and the error that PyYAML's C loader makes of each input."""
     asked = b"".join(b"%d %d\n%s" % (len(data), way, data) for data in inputs)
     words = [python, "-c", LOAD, library]
-    told = subprocess.run(words, input=asked, capture_output=True, check=True, env=environment(library), timeout=600)
+    told = run(words, asked, library, check=True)
     lines = told.stdout.decode("ascii").split("\n")[:-1]
     spelled = [line.replace("expected hexadecimal number", "expected hexdecimal number") for line in lines[1::2]]
     pairs = list(zip(lines[::2], spelled))
@@ -369,7 +378,8 @@ def compare_loads(python, program, inputs, way):
     """How many inputs are loaded differently over both because of a reader's fault, and how many for no good reason."""
     theirs, ours = loaded(python, "", inputs, way), loaded(python, OURS, inputs, way)
     read = [(0, data.decode("utf-8", "replace").encode() if way == 2 else data) for data in inputs]
-    offsets = [fault_offset(*lists) for lists in zip(*(listed(program, library, "tokens", read) for library in (OURS, "")))]
+    tokens = [listed(program, library, "tokens", read) for library in (OURS, "")]
+    offsets = [fault_offset(*lists) for lists in zip(*tokens)]
     fronts = [Front(*one, offset) for one, offset in zip(read, offsets)]
     in_front = loaded(python, "", [front.data for front in fronts], way)
     faults = loaded(python, "", [front.probe for front in fronts], way)
@@ -392,7 +402,8 @@ def try_python(program, every):
     for way, some in enumerate([inputs, inputs[::5], inputs[1::5]]):
         more = compare_loads(python, program, some, way)
         late, wrong = late + more[0], wrong + more[1]
-    print(f"libyaml: {len(inputs)} inputs loaded by PyYAML over both; {late} with a late reader fault; {len(wrong)} wrong")
+    found = f"{late} with a late reader fault; {len(wrong)} wrong"
+    print(f"libyaml: {len(inputs)} inputs loaded by PyYAML over both; {found}")
     for one in wrong[:3]:
         print(*one, sep="\n  ")
     return not wrong and late > 0 and len(inputs) > 1000
@@ -405,7 +416,7 @@ def try_refusals(refuse):
     """
     total, bad = 0, []
     for data in SMALL:
-        told = subprocess.run([refuse], input=data, capture_output=True, check=True, env=environment(OURS))
+        told = run([refuse], data, OURS, check=True)
         for line in told.stdout.decode().splitlines():
             requests, failed, wrong, keeping = (int(count) for count in line.split(" ")[1:])
             total += requests
@@ -421,9 +432,9 @@ def try_leaks(program, inputs):
         print("libyaml: leaks skipped: no valgrind")
         return True
     asked = b"".join(questions(kind, inputs, *more) for kind, *more in WAYS)
-    words = ["valgrind", "-q", "--error-exitcode=99", "--leak-check=full", "--show-leak-kinds=all", "--errors-for-leak-kinds=all"]
-    plain = subprocess.run([program], input=asked, capture_output=True, check=True, env=environment(OURS), timeout=600)
-    told = subprocess.run([*words, program], input=asked, capture_output=True, env=environment(OURS), timeout=600)
+    leaks = ["--leak-check=full", "--show-leak-kinds=all", "--errors-for-leak-kinds=all"]
+    plain = run([program], asked, OURS, check=True)
+    told = run(["valgrind", "-q", "--error-exitcode=99", *leaks, program], asked, OURS)
     good = told.returncode == 0 and told.stdout == plain.stdout
     found = "no leak and no wrong access" if good else "WRONG " + told.stderr.decode()[:2000]
     count = told.stdout.count(b"\n\n")
