@@ -57,6 +57,8 @@ ALL = 10**9
 # what the shim has room for: the tokens of a batch, and at first the bytes of their texts
 BATCH = 256
 TEXT_ROOM = 16384
+# the words of the fault in `"\xZ"`
+WORDS = "while parsing a quoted scalar" + "did not find expected hexadecimal number"
 SMALL = [
     b"%YAML 1.1\n%TAG ! x:\n---\n- &a a: [\xc3\xa9, \"b\"]\n- !b {c: *a, d: !!str e}\n- |\n  x\n...\n--- f\n",
     b'a: "\\xZ"\n',
@@ -152,6 +154,8 @@ def batch_ends():
     for count in [*range(TEXT_ROOM - 2, TEXT_ROOM + 3), TEXT_ROOM - 30, TEXT_ROOM - 60, 3 * TEXT_ROOM]:
         yield 0, b"- '" + b"a" * count + b"'\n- b\n- '" + b"c" * 2 * count + b"'\n"
         yield 0, b"- '" + b"a" * count + b"'\n- @"
+    # the words of the fault have room after the text, and just so, or have none
+    for count in range(TEXT_ROOM - len(WORDS) - 2, TEXT_ROOM - len(WORDS) + 2):
         yield 0, b"- '" + b"a" * count + b'\'\n- "\\xZ"'
     yield 2, ("- '" + "\u4e2d" * TEXT_ROOM + "' @").encode("utf-16-le")
 
@@ -188,7 +192,7 @@ def codec_of(setting, data):
 
 
 class Front:
-    """What stands in front of a reader's fault: text, bytes, and the input with a plain scalar of as many bytes there."""
+    """What stands in front of a reader's fault: text, bytes, and the input with a scalar of as many bytes there."""
 
     def __init__(self, setting, data, offset):
         codec, skipped = codec_of(setting, data)
@@ -409,19 +413,26 @@ def try_python(program, every):
     return not wrong and late > 0 and len(inputs) > 1000
 
 
-def try_refusals(refuse):
-    """Whether each refused request for memory ends well.
+def refusals(refuse, data):
+    """For tokens, events, and tokens that are read: how many requests, failures, wrong ends, and ends that keep memory."""
+    told = run([refuse], data, OURS, check=True)
+    lines = [line.split(" ") for line in told.stdout.decode().splitlines()]
+    return {what: [int(count) for count in counts] for what, *counts in lines}
 
-    It leads to an error, unless it is by a quick step, which asks once more.
+
+def try_refusals(refuse):
+    """Whether each refused request for memory ends well, and a string takes fewer than the same input that is read.
+
+    A refusal leads to an error, unless it is by a quick step, which asks once more. A string is not copied.
     """
     total, bad = 0, []
     for data in SMALL:
-        told = run([refuse], data, OURS, check=True)
-        for line in told.stdout.decode().splitlines():
-            requests, failed, wrong, keeping = (int(count) for count in line.split(" ")[1:])
-            total += requests
-            if wrong or keeping or not requests // 2 <= failed:
-                bad.append((data[:40], line))
+        found = refusals(refuse, data)
+        total += sum(requests for requests, *_ in found.values())
+        if any(wrong or keeping or failed < requests // 2 for requests, failed, wrong, keeping in found.values()):
+            bad.append((data[:40], found))
+        if found["tokens"][0] >= found["read"][0]:
+            bad.append((data[:40], "a string is copied"))
     print(f"libyaml: {total} requests for memory refused, {len(bad)} inputs wrong {bad or ''}")
     return not bad and total > 100
 
