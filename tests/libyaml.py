@@ -53,6 +53,8 @@ DIFFERENCES = ["index", "limit", "spelling", "late"]
 READER_FAULT = "ERROR 2 "
 NO_ERROR = "'-'"
 GIVEN_UP = "GIVEN UP"
+# for list.c, in place of how many bytes a read handler gives in a call: the input is a file
+FILE = -1
 ALL = 10**9
 # what the shim has room for: the tokens of a batch, and at first the bytes of their texts
 BATCH = 256
@@ -73,6 +75,7 @@ WAYS = [
     ("tokens", 0, 0, ALL),
     ("events", 0, 0, ALL),
     ("nodes", 7, 0, ALL),
+    ("tokens", FILE, 0, ALL),
     ("tokens", 1, 3, ALL),
     ("events", 5, 2, ALL),
     ("tokens", 0, 0, 0),
@@ -313,16 +316,16 @@ def failing_reads(program, kind, inputs):
 
 
 def try_pieces(program, inputs):
-    """Small pieces make no difference; a read that fails, and an encoding that there is not, are told."""
+    """A file and small pieces make no difference; a read that fails, and an encoding that there is not, are told."""
     differ = failing = wrong = 0
     for kind in KINDS:
         whole = listed(program, OURS, kind, inputs)
-        differ += sum(listed(program, OURS, kind, inputs, chunk) != whole for chunk in (1, 3, 4096))
+        differ += sum(listed(program, OURS, kind, inputs, chunk) != whole for chunk in (FILE, 1, 3, 4096))
         counts = failing_reads(program, kind, inputs)
         failing, wrong = failing + counts[0], wrong + counts[1]
     wrong += listed(program, OURS, "tokens", [(4, b"a")]) != [["ERROR 2 0:0:0 0:0:0 0 -1 -; unknown encoding"]]
-    found = f"{differ} sizes differ; {failing} reads fail, {wrong} wrong"
-    print(f"libyaml: {len(inputs)} inputs read in three sizes of pieces, {found}")
+    found = f"{differ} of these differ; {failing} reads fail, {wrong} wrong"
+    print(f"libyaml: {len(inputs)} inputs read from a file and in three sizes of pieces, {found}")
     return not differ and not wrong and len(inputs) > 100 and failing > 1000
 
 
@@ -341,7 +344,7 @@ def try_given_up(program, inputs):
     total, wrong = 0, 0
     for kind in KINDS:
         whole = listed(program, OURS, kind, inputs)
-        for chunk, most in [(0, 0), (1, 0), (0, 1), (1, 2), (0, 7), (1, BATCH), (0, BATCH + 1)]:
+        for chunk, most in [(0, 0), (1, 0), (0, 1), (1, 2), (FILE, 3), (0, 7), (1, BATCH), (0, BATCH + 1)]:
             wanted = [given_up(kind, lines, most) for lines in whole]
             total += sum(lines[-1] == GIVEN_UP for lines in wanted)
             wrong += sum(map(list.__ne__, listed(program, OURS, kind, inputs, chunk, most=most), wanted))
@@ -414,7 +417,7 @@ def try_python(program, every):
 
 
 def refusals(refuse, data):
-    """For tokens, events, and tokens that are read: how many requests, failures, wrong ends, and ends that keep memory."""
+    """For tokens, events, and tokens that are read: how many requests, errors, wrong ends, and ends that keep some."""
     told = run([refuse], data, OURS, check=True)
     lines = [line.split(" ") for line in told.stdout.decode().splitlines()]
     return {what: [int(count) for count in counts] for what, *counts in lines}

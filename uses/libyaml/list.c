@@ -3,9 +3,10 @@
  *
  * Standard input holds questions. Each is a line `KIND ENCODING CHUNK FAIL MOST LEN` and LEN bytes of YAML. KIND is
  * tokens, events or nodes; ENCODING a number of yaml_encoding_t; CHUNK how many bytes the read handler gives at most in
- * a call, or 0 if the bytes are given by yaml_parser_set_input_string; FAIL the number of the call of the read handler
- * that fails, or 0; MOST how many tokens, events or documents are taken at most, after which the parser is given up.
- * What is listed for a question ends with a line that is empty. The exit status is 2 for a wrong question. */
+ * a call, or 0 if the bytes are given by yaml_parser_set_input_string, or -1 if they are by yaml_parser_set_input_file;
+ * FAIL the number of the call of the read handler that fails, or 0; MOST how many tokens, events or documents are taken
+ * at most, after which the parser is given up. What is listed for a question ends with a line that is empty. The exit
+ * status is 2 for a wrong question. */
 #include <stdio.h>
 #include <stdlib.h>
 #include <string.h>
@@ -13,14 +14,16 @@
 
 struct source {
     const unsigned char *bytes;
-    size_t len, chunk, calls, fail;
+    size_t len, calls, fail;
+    long chunk;
+    FILE *file;
 };
 
 static int read_source(void *data, unsigned char *buffer, size_t size, size_t *count) {
     struct source *source = data;
     if (++source->calls == source->fail)
         return 0;
-    *count = size < source->chunk ? size : source->chunk;
+    *count = size < (size_t)source->chunk ? size : (size_t)source->chunk;
     if (*count > source->len)
         *count = source->len;
     memcpy(buffer, source->bytes, *count);
@@ -220,14 +223,32 @@ static enum end list_kind(const char *kind, yaml_parser_t *parser, size_t most) 
     return strcmp(kind, "events") ? list_nodes(parser, most) : list_events(parser, most);
 }
 
+/* Makes a temporary file that holds the bytes. */
+static int make_file(struct source *source) {
+    source->file = tmpfile();
+    if (!source->file || fwrite(source->bytes, 1, source->len, source->file) != source->len)
+        return 0;
+    rewind(source->file);
+    return 1;
+}
+
+static int set_input(yaml_parser_t *parser, struct source *source) {
+    if (source->chunk > 0)
+        yaml_parser_set_input(parser, read_source, source);
+    else if (source->chunk == 0)
+        yaml_parser_set_input_string(parser, source->bytes, source->len);
+    else if (make_file(source))
+        yaml_parser_set_input_file(parser, source->file);
+    else
+        return 0;
+    return 1;
+}
+
 static int list(const char *kind, int encoding, struct source source, size_t most) {
     yaml_parser_t parser;
-    if (!yaml_parser_initialize(&parser))
+    source.file = NULL;
+    if (!yaml_parser_initialize(&parser) || !set_input(&parser, &source))
         return 0;
-    if (source.chunk)
-        yaml_parser_set_input(&parser, read_source, &source);
-    else
-        yaml_parser_set_input_string(&parser, source.bytes, source.len);
     if (encoding)
         yaml_parser_set_encoding(&parser, (yaml_encoding_t)encoding);
     enum end end = list_kind(kind, &parser, most);
@@ -235,13 +256,16 @@ static int list(const char *kind, int encoding, struct source source, size_t mos
         list_error(&parser);
     printf(end == GIVEN_UP ? "GIVEN UP\n\n" : "\n");
     yaml_parser_delete(&parser);
+    if (source.file)
+        fclose(source.file);
     return 1;
 }
 
 /* Reads the first line of a question. */
 static int read_words(char *kind, int *encoding, struct source *source, size_t *most) {
-    size_t *chunk = &source->chunk, *fail = &source->fail, *len = &source->len;
-    return scanf("%7s %d %zu %zu %zu %zu", kind, encoding, chunk, fail, most, len) == 6 && getchar() == '\n';
+    size_t *fail = &source->fail, *len = &source->len;
+    int count = scanf("%7s %d %ld %zu %zu %zu", kind, encoding, &source->chunk, fail, most, len);
+    return count == 6 && getchar() == '\n';
 }
 
 int main(void) {

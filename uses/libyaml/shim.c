@@ -2,11 +2,11 @@
  * yaml_parser_fetch_more_tokens, programs also call yaml_parser_scan, and everything else in the library stays
  * libyaml's own.
  *
- * When the first token is wanted, a scanner of the input is opened. parser->eof says that this is done. The scanner
- * gives batches of tokens, each in the place of the one before it. What is kept is in the two buffers that libyaml's
- * own reader would fill, since libyaml's yaml_parser_delete frees them: raw_buffer.start holds a struct held, and
- * buffer.start the texts of the batch and the words of the fault. The yaml_parser_delete of this file closes the
- * scanner, and then calls libyaml's. */
+ * When the first token is wanted, a scanner of the input is opened. That is tried once: parser->eof says that it was,
+ * and the handle whether it is open. The scanner gives batches of tokens, each in the place of the one before it. What
+ * is kept is in the two buffers that libyaml's own reader would fill, since libyaml's yaml_parser_delete frees them:
+ * raw_buffer.start holds a struct held, and buffer.start the texts of the batch and the words of the fault. The
+ * yaml_parser_delete of this file closes the scanner, and then calls libyaml's. */
 #include "bogzhami.h"
 
 #include <stdint.h>
@@ -132,7 +132,7 @@ static int open_scanner(yaml_parser_t *parser, struct held *held) {
 int yaml_parser_update_buffer(yaml_parser_t *parser, size_t length) {
     (void)length;
     if (parser->eof)
-        return 1;
+        return held_by(parser)->handle.live;
     return make_held(parser) && take_input(parser, &held_by(parser)->input) &&
            open_scanner(parser, held_by(parser));
 }
