@@ -178,13 +178,12 @@ uint32_t bogzhami_next(struct bogzhami_handle *handle, const uint8_t *input, siz
 uint32_t bogzhami_peek(struct bogzhami_handle *handle, const uint8_t *input, size_t input_len, struct bogzhami_token *token,
                        uint8_t *texts, size_t texts_len, struct bogzhami_answer *answer);
 
-/* How far the last step without a fault was read: zeros before the first one. Tokens that come next depend on no character
- * before it that was not read. Returns BOGZHAMI_DONE, or BOGZHAMI_NOT_LIVE, and then *mark is zeros. */
-uint32_t bogzhami_reach(const struct bogzhami_handle *handle, struct bogzhami_mark *mark);
+/* How far the last step without a fault was read: zeros before the first one. Returns BOGZHAMI_DONE, or BOGZHAMI_NOT_LIVE, and then *mark is zeros. */
+uint32_t bogzhami_reach(struct bogzhami_handle *handle, struct bogzhami_mark *mark);
 
-/* The encoding of the input, as a number of bogzhami_encoding. It is BOGZHAMI_ANY_ENCODING, 0, if the handle holds nothing or
- * no token was read yet. */
-uint32_t bogzhami_encoding(const struct bogzhami_handle *handle);
+/* The encoding of the input, as a number of bogzhami_encoding: the one that was set, or that of the byte order mark. It is
+ * BOGZHAMI_ANY_ENCODING, 0, if the handle holds nothing. */
+uint32_t bogzhami_encoding(struct bogzhami_handle *handle);
 
 /* Frees what a handle holds, at any time. Returns BOGZHAMI_DONE, or BOGZHAMI_NOT_LIVE if it held nothing; then it does nothing. */
 uint32_t bogzhami_close(struct bogzhami_handle *handle);

@@ -90,8 +90,8 @@ unsafe extern "C" {
         texts_len: usize,
         answer: *mut Answer,
     ) -> u32;
-    fn bogzhami_reach(handle: *const Handle, mark: *mut Mark) -> u32;
-    fn bogzhami_encoding(handle: *const Handle) -> u32;
+    fn bogzhami_reach(handle: *mut Handle, mark: *mut Mark) -> u32;
+    fn bogzhami_encoding(handle: *mut Handle) -> u32;
     fn bogzhami_close(handle: *mut Handle) -> u32;
 }
 
@@ -343,20 +343,18 @@ impl<'a> Scanner<'a> {
     ///
     /// Steps are made for a whole batch, so it may be past tokens that were not given yet. With a `batch_len` of 1 it is
     /// that of the last token that was given or shown.
-    pub fn reach(&self) -> Mark {
+    pub fn reach(&mut self) -> Mark {
         let mut mark = Mark::default();
         // SAFETY: `mark` is a value of its own. The handle is used only here.
-        unsafe { bogzhami_reach(&self.handle, &mut mark) };
+        unsafe { bogzhami_reach(&mut self.handle, &mut mark) };
         mark
     }
 
-    /// The encoding of the input, or `None` if no token was read yet.
-    pub fn encoding(&self) -> Option<Encoding> {
+    /// The encoding of the input: the one that was set, or that of the byte order mark. It is never `Any`, but if memory
+    /// was refused when the scanner was made.
+    pub fn encoding(&mut self) -> Encoding {
         // SAFETY: the handle is used only here.
-        match encoding_of(unsafe { bogzhami_encoding(&self.handle) }) {
-            Encoding::Any => None,
-            encoding => Some(encoding),
-        }
+        encoding_of(unsafe { bogzhami_encoding(&mut self.handle) })
     }
 
     /// Reads the next batch if all of the last one was given and no fault waits.
@@ -450,7 +448,7 @@ impl FusedIterator for Scanner<'_> {}
 
 impl fmt::Debug for Scanner<'_> {
     fn fmt(&self, f: &mut fmt::Formatter<'_>) -> fmt::Result {
-        f.debug_struct("Scanner").field("reach", &self.reach()).finish_non_exhaustive()
+        f.debug_struct("Scanner").field("left", &(self.count - self.given)).finish_non_exhaustive()
     }
 }
 

@@ -249,16 +249,26 @@ static uint32_t open_run(struct bogzhami_handle *handle, const struct input *i) 
     return bogzhami_open(handle, i->bytes, i->len, i->encoding, i->key_limit);
 }
 
+/* The encoding that is set, or that of the byte order mark. */
+static uint32_t encoding_of(const struct input *i) {
+    if (i->encoding != BOGZHAMI_ANY_ENCODING || i->len < 2)
+        return i->encoding != BOGZHAMI_ANY_ENCODING ? i->encoding : BOGZHAMI_UTF8_ENCODING;
+    if (i->bytes[0] == 0xFF && i->bytes[1] == 0xFE)
+        return BOGZHAMI_UTF16LE_ENCODING;
+    return i->bytes[0] == 0xFE && i->bytes[1] == 0xFF ? BOGZHAMI_UTF16BE_ENCODING : BOGZHAMI_UTF8_ENCODING;
+}
+
 static struct run begin(const struct input *i, const struct whole *w) {
     struct run r = {i, w, BOGZHAMI_CLOSED, 0, false};
     check(open_run(&r.handle, i) == BOGZHAMI_DONE && r.handle.live, "bogzhami_open");
-    check(bogzhami_encoding(&r.handle) == BOGZHAMI_ANY_ENCODING, "an encoding before the first token");
+    check(bogzhami_encoding(&r.handle) == encoding_of(i), "the encoding before the first token");
     return r;
 }
 
 static void end(struct run *r) {
-    uint32_t wanted = r->taken ? r->whole->tokens[0].detail : BOGZHAMI_ANY_ENCODING;
-    check(bogzhami_encoding(&r->handle) == wanted, "the encoding");
+    check(bogzhami_encoding(&r->handle) == encoding_of(r->input), "the encoding");
+    if (r->taken)
+        check(r->whole->tokens[0].detail == encoding_of(r->input), "the encoding of the first token");
     check(bogzhami_close(&r->handle) == BOGZHAMI_DONE && !r->handle.live, "bogzhami_close");
 }
 

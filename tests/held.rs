@@ -86,11 +86,12 @@ fn by_peeks(mut scanner: Scanner) -> Vec<Item> {
 
 /// All items of an iterator, which gives nothing more after its end.
 fn one_by_one(mut scanner: Scanner) -> Vec<Item> {
-    assert_eq!(scanner.encoding(), None, "nothing was read");
+    let found = scanner.encoding();
+    assert_ne!(found, Encoding::Any, "it is known before anything is read");
     let items: Vec<Item> = scanner.by_ref().take(MOST).map(|item| item.map(Token::into_owned)).collect();
     assert!(scanner.next().is_none() && scanner.next_batch().is_none() && scanner.peek().is_none());
     if let Some(Ok(Token { data: Data::StreamStart { encoding }, .. })) = items.first() {
-        assert_eq!(scanner.encoding(), Some(*encoding), "the encoding is that of the first token");
+        assert_eq!((found, scanner.encoding()), (*encoding, *encoding), "the encoding is that of the first token");
     }
     items
 }

@@ -63,7 +63,7 @@ pub record IsAt (s : Scan) (h : held_t) : Type 0 where
 abbrev pub moved : Scan → Parser → List Token → Ahead → Scan
 moved s p list ahead = record s { parser = p; given = s.given ++ list; ahead = ahead }
 
--- Why no more tokens were put: there is no room for a record, or the texts of what comes next find no room, or nothing
+-- Why no more tokens were put: there is no room for a record, the texts of what comes next find no room, or nothing
 -- is left but perhaps the fault.
 abbrev pub Stops : ℕ → ℕ → List Token → Ahead → Type 0
 Stops records bytes list NONE = length list ≡ records
@@ -83,7 +83,8 @@ pub record GivesNext
   pub stops : Stops (length old.tokens.now) (length old.texts.now) list ahead
 
 -- The same, of a scanner that is at s, with the parser that is kept after it.
-pub record ReadsOn (s : Scan) (old new : token_rooms_t) (kept : Option yaml_kept_parser_t) (ahead : Ahead) : Type 0 where
+pub record ReadsOn (s : Scan) (old new : token_rooms_t) (kept : Option yaml_kept_parser_t) (ahead : Ahead)
+    : Type 0 where
   pub parser : Parser
   pub keeps : IsSomeAnd kept (IsKept parser)
   pub gives : GivesNext s.limit s.setting s.input s.given old parser new ahead
@@ -124,7 +125,7 @@ pub record GivesNoFault
 abbrev pub Ends : token_rooms_t → Ahead → token_rooms_t → Ahead → bogzhami_answer → ℕ → Type 0
 Ends old a new b answer code = GivesFault old a new b answer code ⊎ GivesNoFault old a new b answer code
 
--- Why a batch without a fault ended: all records have tokens, or the stream end is the last, or the texts of what comes
+-- Why a batch without a fault ended: all records have tokens, the stream end is the last, or the texts of what comes
 -- next find no room after at least one token.
 abbrev pub Why : ℕ → ℕ → List Token → Ahead → Type 0
 Why records bytes list after = (length list ≡ records) ⊎ ((0 < length list) × (after ≡ OVER))
@@ -140,8 +141,8 @@ Tells s room list fault after answer code =
     ⊎ ((code ≡ status.no_room) × (list ≡ []) × (fault ≡ None) × (length room.texts < need after)
     × (answer ≡ answer_with 0 (held (need after)) None))
 
--- A call gives the next tokens, whole ones, and perhaps the fault after them. After the fault, and after the stream end,
--- nothing more is given.
+-- A call gives the next tokens, whole ones, and perhaps the fault after them. After the fault, and after the stream
+-- end, nothing more is given.
 pub record IsNext (s : Scan) (old new : Rooms) (h : held_t) (answer : bogzhami_answer) (code : ℕ) : Type 0 where
   pub parser : Parser
   pub list : List Token
@@ -160,16 +161,18 @@ pub record IsNext (s : Scan) (old new : Rooms) (h : held_t) (answer : bogzhami_a
 abbrev pub looked : Scan → Parser → Ahead → Scan
 looked s p ahead = record s { parser = p; ahead = ahead }
 
--- What comes next is shown, if its texts find room: the token and its texts, or the fault and its texts, or that nothing
+-- What comes next is shown, if its texts find room: the token and its texts, the fault and its texts, or that nothing
 -- comes.
 pub record Shows
     (a : Ahead) (old : bogzhami_token) (room : List ℕ) (new : bogzhami_token) (texts : List ℕ)
     (answer : bogzhami_answer) (code : ℕ) : Type 0 where
-  pub no_room : length room < need a → (new ≡ old) × (texts ≡ room) × (code ≡ status.no_room)
-      × (answer ≡ answer_with 0 (held (need a)) None)
-  pub token : (t : Token) → a ≡ TOKEN t → need a ≤ length room → (new ≡ record_of 0 t) × (texts ≡ covered (texts_of t) room)
+  pub no_room : length room < need a
+      → (new ≡ old) × (texts ≡ room) × (code ≡ status.no_room) × (answer ≡ answer_with 0 (held (need a)) None)
+  pub token : (t : Token) → a ≡ TOKEN t → need a ≤ length room
+      → (new ≡ record_of 0 t) × (texts ≡ covered (texts_of t) room)
       × (code ≡ status.done) × (answer ≡ answer_of (t ∷ []) None)
-  pub fault : (f : Fault) → a ≡ FAULT f → need a ≤ length room → (new ≡ old) × (texts ≡ covered (fault_texts (Some f)) room)
+  pub fault : (f : Fault) → a ≡ FAULT f → need a ≤ length room
+      → (new ≡ old) × (texts ≡ covered (fault_texts (Some f)) room)
       × (code ≡ status.fault) × (answer ≡ answer_of [] (Some f))
   pub over : a ≡ OVER → (new ≡ old) × (texts ≡ room) × (code ≡ status.over) × (answer ≡ no_answer)
 

@@ -8,3 +8,4 @@ pub mod Status
 pub mod Ahead
 pub mod Held
 pub mod Handle
+pub mod HeldLaws

@@ -37,7 +37,8 @@ fn close(alloc: Global, handle: &mut bogzhami_handle) -> bool
 
 /// Opens a scanner of an input. What the handle held before is freed. Nothing is read yet.
 ///
-/// `encoding` is the number of an encoding, 0 to 3: any, UTF-8, UTF-16LE, UTF-16BE. `key_limit` is in bytes, 1 to 65,536.
+/// `encoding` is the number of an encoding, 0 to 3: any, UTF-8, UTF-16LE, UTF-16BE. `key_limit` is in bytes, 1 to
+/// 65,536.
 ///
 /// Returns 0; 2 for another encoding or limit; 3 if memory was refused. With 2 and 3 the handle holds nothing.
 #[unsafe(no_mangle)]
@@ -49,8 +50,8 @@ pub extern "C" fn bogzhami_open(
     key_limit: u32,
 ) -> u32
     ensures wrong { IsWrong encoding key_limit → result ≡ status.wrong }
-    ensures right { (e : yaml_encoding_t) → numbers.encoding_of encoding ≡ Some e → 1 ≤ key_limit → key_limit ≤ most_key_limit
-        → (result ≡ status.done) ⊎ (result ≡ status.no_memory) }
+    ensures right { (e : yaml_encoding_t) → numbers.encoding_of encoding ≡ Some e → 1 ≤ key_limit
+        → key_limit ≤ most_key_limit → (result ≡ status.done) ⊎ (result ≡ status.no_memory) }
     ensures opened { result ≡ status.done → (handle.new.live ≡ true) × ((e : yaml_encoding_t)
         → numbers.encoding_of encoding ≡ Some e → IsAt (opened input.now e key_limit) handle.new.held.value) }
     ensures closed { result ≢ status.done → handle.new.live ≡ false }
@@ -147,9 +148,9 @@ pub extern "C" fn bogzhami_peek(
         return NOT_LIVE;
     }
     let mut held = into_box(alloc, held);
-    let after = look_ahead(alloc, std::mem::replace(&mut *held, nothing_held()), input);
-    let (told, status) = show(&after.ahead, token, texts);
-    *held = after;
+    let seen = look_ahead(alloc, std::mem::replace(&mut *held, nothing_held()), input);
+    let (told, status) = show(&seen.ahead, token, texts);
+    *held = seen;
     *handle = handle_of(held);
     *answer = told;
     status

@@ -5,7 +5,8 @@ ghost use Rattle.yaml_text.specs.declared.types.yaml_encoding_t.{yaml_encoding_t
 ghost use Rattle.yaml_c.specs.Record.{held, texts_of};
 ghost use Rattle.yaml_c.specs.Ahead.{ahead_of, after_token, need};
 ghost use Rattle.yaml_c.specs.Ahead.Ahead.{NONE, TOKEN, OVER as ALL_GIVEN};
-ghost use Rattle.yaml_c.specs.Held.{Scan, Stands, IsAt, GivesNext, Ends, ReadsOn, IsNext, Shows, opened, looked, rooms_of};
+ghost use Rattle.yaml_c.specs.Held.{Scan, Stands, IsAt, GivesNext, Ends, ReadsOn, IsNext, Shows};
+ghost use Rattle.yaml_c.specs.Held.{opened, looked, rooms_of};
 ghost use Rattle.yaml_text.specs.Decode.{encoding_of};
 ghost use Rattle.yaml_scan.specs.Parser.{Parser};
 ghost use Rattle.yaml_c.specs.Answer.{most_key_limit};
