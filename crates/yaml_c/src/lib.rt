@@ -1,4 +1,4 @@
-//! The scanner for C and Rust: all tokens of an input as plain records, in room that the caller gives.
+//! The scanner for C and Rust: the tokens of an input as plain records, in room that the caller gives.
 #![tactic(auto)]
 
 ghost use Rattle.std.specs.Prelude.{◌≤◌, option_map};
@@ -25,6 +25,10 @@ use crate::calls::MOST_KEY_LIMIT;
 use crate::numbers::encoding_of;
 use crate::sink::token_rooms_t;
 pub use answer::bogzhami_answer;
+pub use calls::{
+    bogzhami_close, bogzhami_encoding, bogzhami_next, bogzhami_open, bogzhami_peek, bogzhami_reach,
+};
+pub use handle::bogzhami_handle;
 pub use record::{bogzhami_mark, bogzhami_token};
 use std::alloc::Global;
 use yaml_scan::{yaml_encoding_t, yaml_fault_t, yaml_scan_to};
