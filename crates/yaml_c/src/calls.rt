@@ -113,13 +113,7 @@ pub extern "C" fn bogzhami_next(
         token_count: 0,
         text_len: 0,
     };
-    let (after, told, status) = next_batch(
-        alloc,
-        std::mem::replace(&mut *held, nothing_held()),
-        input,
-        &mut rooms,
-    );
-    *held = after;
+    let (told, status) = next_batch(alloc, &mut held, input, &mut rooms);
     *handle = handle_of(held);
     *answer = told;
     status

@@ -158,80 +158,62 @@ pub(crate) fn nothing_held() -> held_t {
     }
 }
 
-/// Reads on, and gives the next tokens, if it is not the fault that comes next.
+/// Reads on, and gives the next tokens, if it is not the fault that comes next. Returns what is ahead then.
 fn read_on(
     alloc: Global,
-    kept: Option<yaml_kept_parser_t>,
+    kept: &mut Option<yaml_kept_parser_t>,
     ahead: ahead_t,
     input: &[u8],
     rooms: &mut token_rooms_t,
-) -> (Option<yaml_kept_parser_t>, ahead_t)
-    requires at { (s : Scan) × (s.input ≡ input.now) × IsSomeAnd kept (IsKept s.parser)
+) -> ahead_t
+    requires at { (s : Scan) × (s.input ≡ input.now) × IsSomeAnd kept.old (IsKept s.parser)
         × Stands s.limit s.setting s.input s.parser s.given (ahead_of ahead) }
     requires more { ahead_of ahead ≢ ALL_GIVEN }
     requires none { rooms.old.token_count ≡ 0 }
     requires no_text { rooms.old.text_len ≡ 0 }
     requires some { 0 < length rooms.old.tokens.now }
-    ensures { (s : Scan) → s.input ≡ input.now → IsSomeAnd kept (IsKept s.parser)
+    ensures { (s : Scan) → s.input ≡ input.now → IsSomeAnd kept.old (IsKept s.parser)
         → Stands s.limit s.setting s.input s.parser s.given (ahead_of ahead)
-        → ReadsOn s rooms.old rooms.new result.0 (ahead_of result.1) }
+        → ReadsOn s rooms.old rooms.new kept.new (ahead_of result) }
 {
-    match (kept, ahead) {
-        (kept, ahead_t::FAULT(fault)) => (kept, ahead_t::FAULT(fault)),
-        (Some(kept), ahead) => {
-            let mut parser = kept.parser(alloc, input);
-            let ahead = give(&mut parser, ahead, rooms);
-            (Some(yaml_kept_parser_t::new(parser)), ahead)
-        }
-        (None, _) => unreachable!(),
+    if let ahead_t::FAULT(_) = ahead {
+        return ahead;
     }
+    let Some(held) = kept.take() else {
+        unreachable!();
+    };
+    let mut parser = held.parser(alloc, input);
+    let ahead = give(&mut parser, ahead, rooms);
+    *kept = Some(yaml_kept_parser_t::new(parser));
+    ahead
 }
 
-/// Gives the next tokens, whole ones, and perhaps the fault after them. Returns what is held then, the answer and the
-/// status.
+/// Gives the next tokens, whole ones, and perhaps the fault after them. Returns the answer and the status.
 pub(crate) fn next_batch(
     alloc: Global,
-    held: held_t,
+    held: &mut held_t,
     input: &[u8],
     rooms: &mut token_rooms_t,
-) -> (held_t, bogzhami_answer, u32)
-    requires at { (s : Scan) × (s.input ≡ input.now) × IsAt s held }
+) -> (bogzhami_answer, u32)
+    requires at { (s : Scan) × (s.input ≡ input.now) × IsAt s held.old }
     requires none { rooms.old.token_count ≡ 0 }
     requires no_text { rooms.old.text_len ≡ 0 }
     ensures same_tokens { rooms.new.tokens.ghost_name ≡ rooms.old.tokens.ghost_name }
     ensures same_texts { rooms.new.texts.ghost_name ≡ rooms.old.texts.ghost_name }
-    ensures next { (s : Scan) → s.input ≡ input.now → IsAt s held
-        → IsNext s (rooms_of rooms.old) (rooms_of rooms.new) result.0 result.1 result.2 }
+    ensures next { (s : Scan) → s.input ≡ input.now → IsAt s held.old
+        → IsNext s (rooms_of rooms.old) (rooms_of rooms.new) held.new result.0 result.1 }
 {
-    let held_t {
-        parser,
-        ahead,
-        encoding,
-    } = held;
-    if let ahead_t::OVER = ahead {
-        let after = held_t {
-            parser,
-            ahead,
-            encoding,
-        };
-        return (after, counts(0, 0), OVER);
+    if let ahead_t::OVER = held.ahead {
+        return (counts(0, 0), OVER);
     }
     if rooms.tokens.len() == 0 {
-        let after = held_t {
-            parser,
-            ahead,
-            encoding,
-        };
-        return (after, counts(0, 0), DONE);
+        return (counts(0, 0), DONE);
     }
-    let (parser, ahead) = read_on(alloc, parser, ahead, input, rooms);
+    let ahead = std::mem::replace(&mut held.ahead, ahead_t::OVER);
+    let ahead = read_on(alloc, &mut held.parser, ahead, input, rooms);
     let (ahead, answer, status) = end_batch(rooms, ahead);
-    let after = held_t {
-        parser,
-        ahead,
-        encoding,
-    };
-    (after, answer, status)
+    held.ahead = ahead;
+    (answer, status)
 }
 
 /// The encoding of an input: the one that is set, or that of the byte order mark, which is in its first three bytes.

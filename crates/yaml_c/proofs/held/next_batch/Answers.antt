@@ -1,35 +1,38 @@
-use Rattle.std.proofs.Common.{rules, ◌≡◌, ◌<◌, length, refl, sym, subst, arith, inl, inr}
+use Rattle.std.proofs.Common.{rules, ◌<◌, length, refl, sym, ap, ◌∙◌, subst, arith, inl, inr}
 use Rattle.yaml_c.specs.Ahead.{Ahead, ahead_of}
-use Rattle.yaml_c.specs.Held.{Scan, Stands, IsAt, ReadsOn}
+use Rattle.yaml_c.specs.Held.{Stands}
 use Rattle.yaml_c.proofs.TokensPut.{Fits}
 use Rattle.yaml_c.proofs.BatchEnds.{nothing_given, batch_is, same_rooms}
 use Rattle.yaml_c.proofs.held.next_batch.Goals as goal
 
 pub returns-in-OVER-clause-next : goal.returns-in-OVER-clause-next
-returns-in-OVER-clause-next c = λ s same at. nothing_given s c.args.rooms.now c.args.held c.counts.result 4 at
+returns-in-OVER-clause-next c = λ s same at. nothing_given s c.args.rooms.now c.args.held.now c.counts.result 4 at
     (inr (inr (inl (refl, (let e = at.ahead in cc), refl, refl, c.counts.ensures))))
 
 pub returns-then-rooms-eq0-clause-next : goal.returns-then-rooms-eq0-clause-next
-returns-then-rooms-eq0-clause-next c = λ s same at. nothing_given s c.args.rooms.now c.args.held c.counts-then-rooms-eq0.result 0 at
+returns-then-rooms-eq0-clause-next c = λ s same at. nothing_given s c.args.rooms.now c.args.held.now c.counts-then-rooms-eq0.result 0 at
     (inl (refl, refl, c.counts-then-rooms-eq0.ensures, inl (sym c.if-rooms-eq0.true)))
-
-made : (c : goal.After-answer-1) → Fits c.args.rooms.now
-made c = record { tokens = search rules; texts = search rules; token_count = omega (arith, c.requires.none); text_len = omega (arith, c.requires.no_text) }
-
-reads_on : (c : goal.After-answer-1) (s : Scan) → s.input ≡ c.args.input.now → IsAt s c.args.held
-    → ReadsOn s c.args.rooms.now c.read_on-parser.new.rooms c.read_on-parser.result.0 (ahead_of c.read_on-parser.result.1)
-reads_on c s same at = c.read_on-parser.ensures s same at.kept (subst (λ (z : Ahead). Stands s.limit s.setting s.input s.parser s.given z) (sym at.ahead) at.stands)
 
 pub returns-clause-next : goal.returns-clause-next
 returns-clause-next c = λ s same at.
     let some : 0 < length c.args.rooms.now.tokens.now = omega (arith, c.if-rooms-eq0.false) in
-    batch_is s c.args.rooms.now c.read_on-parser.new.rooms c.read_on-parser.result.0 (ahead_of c.read_on-parser.result.1) _ (made c) c.requires.none c.requires.no_text some
-    (reads_on c s same at) refl at.encoding c.end_batch-ahead.new.rooms (ahead_of c.end_batch-ahead.result.0) _ _ refl c.end_batch-ahead.ensures
+    let fits : Fits c.args.rooms.now = record { tokens = search rules; texts = search rules; token_count = omega (arith, c.requires.none); text_len = omega (arith, c.requires.no_text) } in
+    let r = c.read_on-ahead.ensures s same at.kept (subst (λ (z : Ahead). Stands s.limit s.setting s.input s.parser s.given z) (sym (ap ahead_of c.replace-ahead.ensures.value ∙ at.ahead)) at.stands) in
+    batch_is s c.args.rooms.now c.read_on-ahead.new.rooms c.read_on-ahead.new.kept (ahead_of c.read_on-ahead.result) _ fits c.requires.none c.requires.no_text some
+    r refl at.encoding c.end_batch-ahead.new.rooms (ahead_of c.end_batch-ahead.result.0) _ _ refl c.end_batch-ahead.ensures
 
 pub returns-clause-same_tokens : goal.returns-clause-same_tokens
 returns-clause-same_tokens c = let w = c.requires.at in
-    (same_rooms w.0 c.args.rooms.now c.read_on-parser.new.rooms c.end_batch-ahead.new.rooms c.read_on-parser.result.0 (ahead_of c.read_on-parser.result.1) (ahead_of c.end_batch-ahead.result.0) _ _ (made c) (reads_on c w.0 w.1 w.2) c.end_batch-ahead.ensures).0
+    let s = w.0 in
+    let at = w.2 in
+    let fits : Fits c.args.rooms.now = record { tokens = search rules; texts = search rules; token_count = omega (arith, c.requires.none); text_len = omega (arith, c.requires.no_text) } in
+    let r = c.read_on-ahead.ensures s w.1 at.kept (subst (λ (z : Ahead). Stands s.limit s.setting s.input s.parser s.given z) (sym (ap ahead_of c.replace-ahead.ensures.value ∙ at.ahead)) at.stands) in
+    (same_rooms s c.args.rooms.now c.read_on-ahead.new.rooms c.end_batch-ahead.new.rooms c.read_on-ahead.new.kept (ahead_of c.read_on-ahead.result) (ahead_of c.end_batch-ahead.result.0) _ _ fits r c.end_batch-ahead.ensures).0
 
 pub returns-clause-same_texts : goal.returns-clause-same_texts
 returns-clause-same_texts c = let w = c.requires.at in
-    (same_rooms w.0 c.args.rooms.now c.read_on-parser.new.rooms c.end_batch-ahead.new.rooms c.read_on-parser.result.0 (ahead_of c.read_on-parser.result.1) (ahead_of c.end_batch-ahead.result.0) _ _ (made c) (reads_on c w.0 w.1 w.2) c.end_batch-ahead.ensures).1
+    let s = w.0 in
+    let at = w.2 in
+    let fits : Fits c.args.rooms.now = record { tokens = search rules; texts = search rules; token_count = omega (arith, c.requires.none); text_len = omega (arith, c.requires.no_text) } in
+    let r = c.read_on-ahead.ensures s w.1 at.kept (subst (λ (z : Ahead). Stands s.limit s.setting s.input s.parser s.given z) (sym (ap ahead_of c.replace-ahead.ensures.value ∙ at.ahead)) at.stands) in
+    (same_rooms s c.args.rooms.now c.read_on-ahead.new.rooms c.end_batch-ahead.new.rooms c.read_on-ahead.new.kept (ahead_of c.read_on-ahead.result) (ahead_of c.end_batch-ahead.result.0) _ _ fits r c.end_batch-ahead.ensures).1

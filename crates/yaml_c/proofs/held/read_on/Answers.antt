@@ -8,10 +8,10 @@ use Rattle.yaml_c.specs.Held.{Stands}
 use Rattle.yaml_c.proofs.Batches.{stands_in}
 use Rattle.yaml_c.proofs.held.read_on.Goals as goal
 
-pub returns-in-Some-default : goal.returns-in-Some-default
-returns-in-Some-default c = λ s same kept stands.
-    let k : IsKept s.parser c.in-Some-default.kept = subst (λ (z : Option yaml_kept_parser_t). IsSomeAnd z (IsKept s.parser)) c.in-Some-default.is-0 kept in
-    let here = stands_in s.limit s.setting s.input s.parser s.given c.args.ahead c.in-Some-default.not-FAULT-1 c.requires.more stands in
+pub returns : goal.returns
+returns c = λ s same kept stands.
+    let k : IsKept s.parser c.in-Some.held = subst (λ (z : Option yaml_kept_parser_t). IsSomeAnd z (IsKept s.parser)) (sym c.take.ensures.value ∙ c.in-Some.is) kept in
+    let here = stands_in s.limit s.setting s.input s.parser s.given c.args.ahead c.in_default.not-FAULT c.requires.more stands in
     let e = c.parser-parser.ensures s.parser (here ∙ same) k in
     record {
       parser = c.give-ahead.new.parser;
