@@ -91,8 +91,8 @@ def mixed(r, text, part=0.1):
 
 
 def accented(r, text):
-    """The text with one in fifty of its letters an accented one, which has two bytes."""
-    return "".join(r.choice("äöüßéèñçøå") if c.isalpha() and r.random() < 0.02 else c for c in text)
+    """The text with one in fifty of its characters an accented letter of two bytes."""
+    return "".join(r.choice("äöüßéèñçøå") if r.random() < 0.02 else c for c in text)
 
 
 def written_in(r, letters, size):
