@@ -15,7 +15,10 @@ use Rattle.yaml_c.specs.Held.{Scan, Stands, Stops, IsAt, ReadsOn, rooms_of, Give
 use Rattle.yaml_c.specs.Numbers.{encoding_number}
 use Rattle.yaml_c.specs.Record.{held, records_of, all_texts}
 use Rattle.yaml_c.specs.Room.{covered, covered_from}
+use Rattle.yaml_c.specs.Status as status
 use Rattle.yaml_c.specs.declared.answer.bogzhami_answer.{bogzhami_answer}
+use Rattle.yaml_c.specs.declared.held.ahead_t.{ahead_t}
+use Rattle.yaml_c.specs.declared.held.ahead_t.TheVariants as code
 use Rattle.yaml_c.specs.declared.held.held_t.{held_t}
 use Rattle.yaml_c.specs.declared.record.bogzhami_token.{bogzhami_token}
 use Rattle.yaml_c.specs.declared.sink.token_rooms_t.{token_rooms_t}
@@ -24,8 +27,8 @@ use Rattle.yaml_c.proofs.TokensPut.{Fits, HavePut, have_put}
 
 -- nothing is given
 pub nothing_given : (s : Scan) (old : token_rooms_t) (h : held_t) (answer : bogzhami_answer) (code : ℕ) → IsAt s h
-    → Tells s (rooms_of old) [] None s.ahead answer code → IsNext s (rooms_of old) (rooms_of old) h answer code
-nothing_given s old h answer code at tells = record {
+    → (s.ahead ≡ OVER → code ≡ status.over) → Tells s (rooms_of old) [] None s.ahead answer code → IsNext s (rooms_of old) (rooms_of old) h answer code
+nothing_given s old h answer code at over tells = record {
   parser = s.parser;
   list = [];
   fault = None;
@@ -41,8 +44,16 @@ nothing_given s old h answer code at tells = record {
   records_are = sym (covered_by_none old.tokens.now);
   texts_are = sym (covered_by_none old.texts.now);
   ends = λ f e. absurd (cc);
+  over = over;
   tells = tells;
 }
+
+-- what the code has read ahead is all, if it is so as the definitions see it
+pub over_is : (a : ahead_t) → ahead_of a ≡ OVER → a ≡ code.OVER
+over_is code.NONE e = absurd (cc)
+over_is (code.TOKEN t) e = absurd (cc)
+over_is (code.FAULT f) e = absurd (cc)
+over_is code.OVER e = refl
 
 -- why the batch ended, if it has a token
 why_ends : (records bytes : ℕ) (list : List Token) (a : Ahead) → ((f : Fault) → a ≡ FAULT f → bytes < length (all_texts list) + need (FAULT f))
@@ -63,7 +74,7 @@ too_long records bytes [] OVER tight none some stops = absurd (omega arith)
 
 -- what a call leaves that read on
 module _ (s : Scan) (old mid : token_rooms_t) (kept : Option yaml_kept_parser_t) (a : Ahead) (h : held_t) (fits : Fits old) (no_token : old.token_count ≡ 0) (no_text : old.text_len ≡ 0)
-    (some : 0 < length old.tokens.now) (r : ReadsOn s old mid kept a) (keeps : h.parser ≡ kept) (encoding : h.encoding ≡ encoding_number (encoding_of s.setting s.input)) where
+    (some : 0 < length old.tokens.now) (more : s.ahead ≡ OVER → ⊥) (r : ReadsOn s old mid kept a) (keeps : h.parser ≡ kept) (encoding : h.encoding ≡ encoding_number (encoding_of s.setting s.input)) where
   put : HavePut old r.gives.list mid
   put = have_put old mid r.gives.list fits r.gives.put
 
@@ -112,6 +123,7 @@ module _ (s : Scan) (old mid : token_rooms_t) (kept : Option yaml_kept_parser_t)
             ∙ ap (λ (z : List ℕ). covered_from (old.text_len + length (all_texts r.gives.list)) ft z) put.texts
             ∙ more_covered_from old.text_len (all_texts r.gives.list) ft old.texts.now
             ∙ ap (λ (n : ℕ). covered_from n (all_texts r.gives.list ++ ft) old.texts.now) no_text;
+        over = λ e. absurd (more e);
         ends = λ x e. (refl, subst (λ (z : Option Fault). ReadsAll s.limit s.setting s.input (s.given ++ r.gives.list) z) e reads);
         tells = inr (inl (g.code_is, λ e. absurd (cc), g.answer_is ∙ told_by (Some f)));
       }
@@ -135,6 +147,7 @@ module _ (s : Scan) (old mid : token_rooms_t) (kept : Option yaml_kept_parser_t)
             ∙ ap (λ (n : ℕ). covered_from n (all_texts r.gives.list) old.texts.now) no_text
             ∙ ap (λ (z : List ℕ). covered z old.texts.now) (sym (append-nil (all_texts r.gives.list)));
         ends = λ f e. absurd (cc);
+        over = λ e. absurd (more e);
         tells = elim tells [
           | inl w ↦ (let none : length r.gives.list ≡ 0 = omega (arith, w.0, count) in
               inr (inr (inr (w.2, nil_from_length r.gives.list none, refl, too_long (length old.tokens.now) bytes r.gives.list a tight_here none some r.gives.stops, w.1))))

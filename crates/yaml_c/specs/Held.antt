@@ -137,7 +137,7 @@ Tells s room list fault after answer code =
     ((code ≡ status.done) × (fault ≡ None) × (answer ≡ answer_of list None)
     × Why (length room.tokens) (length room.texts) list after)
     ⊎ ((code ≡ status.fault) × (fault ≢ None) × (answer ≡ answer_of list fault))
-    ⊎ ((code ≡ status.over) × (s.ahead ≡ OVER) × (list ≡ []) × (fault ≡ None) × (answer ≡ no_answer))
+    ⊎ ((code ≡ status.over) × (s.ahead ≡ OVER) × (list ≡ []) × (fault ≡ None) × (after ≡ OVER) × (answer ≡ no_answer))
     ⊎ ((code ≡ status.no_room) × (list ≡ []) × (fault ≡ None) × (length room.texts < need after)
     × (answer ≡ answer_with 0 (held (need after)) None))
 
@@ -155,6 +155,7 @@ pub record IsNext (s : Scan) (old new : Rooms) (h : held_t) (answer : bogzhami_a
   pub texts_are : new.texts ≡ covered (all_texts list ++ fault_texts fault) old.texts
   pub ends : (f : Fault) → fault ≡ Some f
       → (after ≡ OVER) × ReadsAll s.limit s.setting s.input (s.given ++ list) (Some f)
+  pub over : s.ahead ≡ OVER → code ≡ status.over
   pub tells : Tells s old list fault after answer code
 
 -- The same scanner, with what was read ahead.
