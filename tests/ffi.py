@@ -282,8 +282,7 @@ def refused(program, refuser, data):
     seen, in_a_row, number = {"whole": 0, "beginning": 0, "no room": 0, "wrong": 0}, 0, 0
     while in_a_row < 3 and number < 2000:
         number += 1
-        # a quick step that was refused memory asks once more
-        done = run(program, [], data, refuser, f"{number}+")
+        done = run(program, [], data, refuser, str(number))
         found = done.stdout.decode("ascii").split("\n")[:-1]
         kind = "wrong"
         if found == whole and done.returncode in (0, 1):

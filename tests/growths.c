@@ -1,7 +1,6 @@
 /* Refuses requests for memory; for the scripts that run a program with LD_PRELOAD.
  *
- * REFUSED_GROWTH is the number, from 1, of the request that is refused, or that number and `+`, if the next one is refused
- * too, or that number and `-`, if all after it are. If REFUSED_BEHIND_READ is set, only requests after the first read of the standard input's end are counted. */
+ * REFUSED_GROWTH is the number, from 1, of the request that is refused, or that number and `-`, if all after it are. If REFUSED_BEHIND_READ is set, only requests after the first read of the standard input's end are counted. */
 #include <errno.h>
 #include <stddef.h>
 #include <stdlib.h>
@@ -25,18 +24,17 @@ ssize_t read(int file, void *bytes, size_t count) {
 
 static int is_refused(void) {
     static long refused = -1, number = 0;
-    static int all = 0, next = 0, waits = 0;
+    static int all = 0, waits = 0;
     if (refused < 0) {
         const char *word = getenv("REFUSED_GROWTH");
         refused = word ? atol(word) : 0;
         all = word && strchr(word, '-');
-        next = word && strchr(word, '+');
         waits = getenv("REFUSED_BEHIND_READ") != NULL;
     }
     if (waits && !is_read)
         return 0;
     number++;
-    if (number != refused && !(all && refused > 0 && number > refused) && !(next && number == refused + 1))
+    if (number != refused && !(all && refused > 0 && number > refused))
         return 0;
     errno = ENOMEM;
     return 1;

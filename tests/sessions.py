@@ -143,19 +143,21 @@ def judge(words, data, lines, done):
 
 
 def refuse_each(lexlist, refuser, words, data, lines):
-    """Refuses the first request after the input was read, the second, and so on, each alone and with the next one, until
-    none of three in a row is missed."""
+    """Refuses the first request after the input was read, the second, and so on, until none of three in a row is missed.
+
+    A refused request is answered, so after a run that is whole no other one is refused.
+    """
     seen, in_a_row, number = {}, 0, 0
     while in_a_row < 3 and number < 5000:
         number += 1
-        in_a_row += 1
-        for requests in str(number), f"{number}+":
-            done = run(lexlist, words, data, refuser, requests, behind_read=True)
-            kind = judge(words, data, lines, done)
-            if kind is None:
-                print(f"{words}, {data[:80]!r}, {requests}: {done.returncode}, {done.stdout[-600:]!r}, {done.stderr!r}")
-            seen[kind] = seen.get(kind, 0) + 1
-            in_a_row = in_a_row if kind == "whole" else 0
+        done = run(lexlist, words, data, refuser, str(number), behind_read=True)
+        kind = judge(words, data, lines, done)
+        if kind not in (None, "whole") and in_a_row:
+            kind = None
+        if kind is None:
+            print(f"{words}, {data[:80]!r}, {number}: {done.returncode}, {done.stdout[-600:]!r}, {done.stderr!r}")
+        seen[kind] = seen.get(kind, 0) + 1
+        in_a_row = in_a_row + 1 if kind == "whole" else 0
     return seen
 
 

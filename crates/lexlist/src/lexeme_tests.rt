@@ -3,13 +3,13 @@ use std::alloc::Global;
 use std::process::Abort;
 use std::test::Fail;
 use yaml_lexeme::{
-    yaml_block_at_once, yaml_character_at, yaml_colon_at_once, yaml_context_t, yaml_gap,
-    yaml_lexeme_at, yaml_lexeme_kind, yaml_lexeme_kind_t, yaml_lexeme_t, yaml_plain_at_once,
-    yaml_quoted_at_once,
+    yaml_context_t, yaml_decider_at, yaml_gap, yaml_lexeme_at, yaml_lexeme_fault, yaml_lexeme_kind,
+    yaml_lexeme_kind_t, yaml_lexeme_t, yaml_read_block, yaml_read_character, yaml_read_lexeme,
+    yaml_read_plain, yaml_read_quoted, yaml_refusal_t,
 };
 use yaml_text::{
-    unnamed_yaml_token_t_data, yaml_decode, yaml_encoding_t, yaml_fault_t, yaml_is_place,
-    yaml_mark_at, yaml_mark_t, yaml_scalar_style_t,
+    unnamed_yaml_token_t_data, yaml_decode, yaml_encoding_t, yaml_error_type_t, yaml_fault_t,
+    yaml_is_place, yaml_mark_at, yaml_mark_t, yaml_scalar_style_t,
 };
 
 const ANY: yaml_encoding_t = yaml_encoding_t::YAML_ANY_ENCODING;
@@ -169,8 +169,21 @@ fn lexed(alloc: Global, bytes: &[u8], depth: u64, level: Option<u64>) -> Result<
     }
 }
 
-/// The scalar at the front of a text, if it is found at once.
-fn found_at_once(
+/// What a reader of a kind returned at the front of a text: the lexeme, or the fault of its refusal.
+fn show_read(
+    alloc: Global,
+    read: Result<yaml_lexeme_t, yaml_refusal_t>,
+    kind: yaml_lexeme_kind_t,
+    there: yaml_mark_t,
+) -> Result<String, Fail> {
+    match read {
+        Ok(lexeme) => show_lexeme(alloc, &lexeme),
+        Err(refusal) => show_fault(alloc, &yaml_lexeme_fault(refusal, kind, FRONT, there)),
+    }
+}
+
+/// The scalar at the front of a text, by the reader of its kind.
+fn scalar_read(
     alloc: Global,
     bytes: &[u8],
     kind: yaml_lexeme_kind_t,
@@ -186,17 +199,73 @@ fn found_at_once(
         return Ok(String::from_str(alloc, "no level")?);
     }
     let context = yaml_context_t { depth, level };
-    let found = match kind {
-        yaml_lexeme_kind_t::PLAIN => yaml_plain_at_once(alloc, &text, FRONT, context),
-        yaml_lexeme_kind_t::LITERAL | yaml_lexeme_kind_t::FOLDED => {
-            yaml_block_at_once(alloc, &text, FRONT, kind, context)
+    let mut there = FRONT;
+    let read = match kind {
+        yaml_lexeme_kind_t::PLAIN => yaml_read_plain(alloc, &text, FRONT, context, &mut there),
+        yaml_lexeme_kind_t::SINGLE_QUOTED => {
+            yaml_read_quoted(alloc, &text, FRONT, true, &mut there)
         }
-        _ => yaml_quoted_at_once(alloc, &text, FRONT, kind),
+        yaml_lexeme_kind_t::DOUBLE_QUOTED => {
+            yaml_read_quoted(alloc, &text, FRONT, false, &mut there)
+        }
+        yaml_lexeme_kind_t::LITERAL => {
+            yaml_read_block(alloc, &text, FRONT, false, context, &mut there)
+        }
+        yaml_lexeme_kind_t::FOLDED => {
+            yaml_read_block(alloc, &text, FRONT, true, context, &mut there)
+        }
+        _ => return Ok(String::from_str(alloc, "no scalar")?),
     };
-    match found {
-        Some(lexeme) => show_lexeme(alloc, &lexeme),
-        None => Ok(String::from_str(alloc, "none")?),
+    show_read(alloc, read, kind, there)
+}
+
+/// The lexeme at the front of a text, by the reader of every kind.
+fn lexeme_read(alloc: Global, bytes: &[u8], depth: u64) -> Result<String, Fail> {
+    let Ok(text) = yaml_decode(alloc, bytes, ANY) else {
+        return Err("refused".into());
+    };
+    let Some(kind) = yaml_lexeme_kind(&text, FRONT, depth > 0) else {
+        return Ok(String::from_str(alloc, "no kind")?);
+    };
+    let context = yaml_context_t { depth, level: None };
+    let mut there = FRONT;
+    let read = yaml_read_lexeme(alloc, &text, FRONT, kind, context, &mut there);
+    show_read(alloc, read, kind, there)
+}
+
+/// The lexeme of one character at the front of a text.
+fn character_read(alloc: Global, bytes: &[u8], in_flow: bool) -> Result<String, Fail> {
+    let Ok(text) = yaml_decode(alloc, bytes, ANY) else {
+        return Err("refused".into());
+    };
+    let Some(kind) = yaml_lexeme_kind(&text, FRONT, in_flow) else {
+        return Ok(String::from_str(alloc, "no kind")?);
+    };
+    match kind {
+        yaml_lexeme_kind_t::FLOW_SEQUENCE_START
+        | yaml_lexeme_kind_t::FLOW_MAPPING_START
+        | yaml_lexeme_kind_t::FLOW_SEQUENCE_END
+        | yaml_lexeme_kind_t::FLOW_MAPPING_END
+        | yaml_lexeme_kind_t::FLOW_ENTRY
+        | yaml_lexeme_kind_t::BLOCK_ENTRY
+        | yaml_lexeme_kind_t::KEY
+        | yaml_lexeme_kind_t::VALUE => {
+            show_lexeme(alloc, &yaml_read_character(&text, FRONT, kind))
+        }
+        _ => Ok(String::from_str(alloc, "no character")?),
     }
+}
+
+/// The kind at the front of a text, if it may decide there whether a scalar before it is a key.
+fn decider_at(
+    alloc: Global,
+    bytes: &[u8],
+    in_flow: bool,
+) -> Result<Option<yaml_lexeme_kind_t>, Fail> {
+    let Ok(text) = yaml_decode(alloc, bytes, ANY) else {
+        return Err("refused".into());
+    };
+    Ok(yaml_decider_at(&text, FRONT, in_flow))
 }
 
 /// Texts, the flow depth and the greatest open level at their front, and what their first lexeme must be.
@@ -721,39 +790,43 @@ fn directives_refused(rt: HostRuntime) -> Result<(), Fail> {
     expect_rows(&rt, rt.alloc(), &rows)
 }
 
-/// Plain scalars that are in one line, and some that may not be, or that have an offence.
+/// Plain scalars of one line and of two, and one that has an offence.
 #[test]
-fn plain_scalars_at_once(rt: HostRuntime) -> Result<(), Fail> {
+fn plain_scalars_read(rt: HostRuntime) -> Result<(), Fail> {
     let alloc = rt.alloc();
     let rows: [(&str, u64, Option<u64>, &str); 9] = [
         ("ab: c", 0, None, "plain 6162 0:0:0 2:0:2 2:0:2 false"),
         ("a b]", 1, None, "plain 612062 0:0:0 3:0:3 3:0:3 false"),
         ("a b\n", 0, Some(0), "plain 612062 0:0:0 3:0:3 4:1:0 true"),
         ("a\n b", 0, Some(1), "plain 61 0:0:0 1:0:1 3:1:1 true"),
-        ("a\n b", 0, Some(0), "none"),
-        ("a\nb", 0, None, "none"),
-        ("a # c", 0, None, "none"),
-        ("a:]", 1, None, "none"),
+        ("a\n b", 0, Some(0), "plain 612062 0:0:0 4:1:2 4:1:2 false"),
+        ("a\nb", 0, None, "plain 612062 0:0:0 3:1:1 3:1:1 false"),
+        ("a # c", 0, None, "plain 61 0:0:0 1:0:1 2:0:2 false"),
+        (
+            "a:]",
+            1,
+            None,
+            "while scanning a plain scalar 0:0:0; found unexpected ':' 1:0:1",
+        ),
         ("a:]", 0, None, "plain 613a5d 0:0:0 3:0:3 3:0:3 false"),
     ];
     for (text, depth, level, want) in rows {
         let plain = yaml_lexeme_kind_t::PLAIN;
-        let shown = found_at_once(alloc, text.as_bytes(), plain, depth, level)?;
+        let shown = scalar_read(alloc, text.as_bytes(), plain, depth, level)?;
         assert_eq!(rt; shown.as_str(), want, "{text}");
     }
     Ok(())
 }
 
-/// Quoted scalars whose value is what is between the quotes, some that have an escape, a break or no end, and a kind
-/// that is no scalar.
+/// Quoted scalars whose value is what is between the quotes, some that have an escape or a break, and one with no end.
 #[test]
-fn quoted_scalars_at_once(rt: HostRuntime) -> Result<(), Fail> {
+fn quoted_scalars_read(rt: HostRuntime) -> Result<(), Fail> {
     let alloc = rt.alloc();
     let (single, double) = (
         yaml_lexeme_kind_t::SINGLE_QUOTED,
         yaml_lexeme_kind_t::DOUBLE_QUOTED,
     );
-    let rows: [(&str, yaml_lexeme_kind_t, &str); 9] = [
+    let rows: [(&str, yaml_lexeme_kind_t, &str); 8] = [
         (
             "\"a b\": c",
             double,
@@ -765,26 +838,33 @@ fn quoted_scalars_at_once(rt: HostRuntime) -> Result<(), Fail> {
             single,
             "single 615c6e22 0:0:0 6:0:6 6:0:6 false",
         ),
-        ("'a''b'", single, "none"),
-        ("\"a\\n\"", double, "none"),
-        ("\"a\n b\"", double, "none"),
-        ("\"a", double, "none"),
-        ("'\u{2028}'", single, "none"),
-        ("[", yaml_lexeme_kind_t::FLOW_SEQUENCE_START, "none"),
+        ("'a''b'", single, "single 612762 0:0:0 6:0:6 6:0:6 false"),
+        ("\"a\\n\"", double, "double 610a 0:0:0 5:0:5 5:0:5 false"),
+        ("\"a\n b\"", double, "double 612062 0:0:0 6:1:3 6:1:3 false"),
+        (
+            "\"a",
+            double,
+            "while scanning a quoted scalar 0:0:0; found unexpected end of stream 2:0:2",
+        ),
+        (
+            "'\u{2028}'",
+            single,
+            "single e280a8 0:0:0 5:1:1 5:1:1 false",
+        ),
     ];
     for (text, kind, want) in rows {
-        let shown = found_at_once(alloc, text.as_bytes(), kind, 0, None)?;
+        let shown = scalar_read(alloc, text.as_bytes(), kind, 0, None)?;
         assert_eq!(rt; shown.as_str(), want, "{text}");
     }
     Ok(())
 }
 
-/// Literal and folded scalars, some that have an offence, and a kind that is neither.
+/// Literal and folded scalars, and some that have an offence.
 #[test]
-fn block_scalars_at_once(rt: HostRuntime) -> Result<(), Fail> {
+fn block_scalars_read(rt: HostRuntime) -> Result<(), Fail> {
     let alloc = rt.alloc();
     let (literal, folded) = (yaml_lexeme_kind_t::LITERAL, yaml_lexeme_kind_t::FOLDED);
-    let rows: [(&str, yaml_lexeme_kind_t, Option<u64>, &str); 8] = [
+    let rows: [(&str, yaml_lexeme_kind_t, Option<u64>, &str); 7] = [
         (
             "|\n a\n b\n",
             literal,
@@ -810,69 +890,148 @@ fn block_scalars_at_once(rt: HostRuntime) -> Result<(), Fail> {
             "folded 610a62 0:0:0 12:4:0 12:4:0 false",
         ),
         ("|", literal, None, "literal - 0:0:0 1:0:1 1:0:1 false"),
-        ("| a", literal, None, "none"),
-        ("|\n\ta", literal, Some(0), "none"),
         (
-            "'a'",
-            yaml_lexeme_kind_t::SINGLE_QUOTED,
+            "| a",
+            literal,
             None,
-            "single 61 0:0:0 3:0:3 3:0:3 false",
+            "while scanning a block scalar 0:0:0; did not find expected comment or line break 2:0:2",
+        ),
+        (
+            "|\n\ta",
+            literal,
+            Some(0),
+            "while scanning a block scalar 0:0:0; found a tab character where an indentation space is expected 2:1:0",
         ),
     ];
     for (text, kind, level, want) in rows {
-        let shown = found_at_once(alloc, text.as_bytes(), kind, 0, level)?;
+        let shown = scalar_read(alloc, text.as_bytes(), kind, 0, level)?;
         assert_eq!(rt; shown.as_str(), want, "{text}");
     }
     Ok(())
 }
 
-/// How many bytes the characters at the front take as a lexeme of a kind, or 0 if the kind has none.
-fn characters_end(alloc: Global, bytes: &[u8], kind: yaml_lexeme_kind_t) -> Result<u64, Fail> {
-    let Ok(text) = yaml_decode(alloc, bytes, ANY) else {
-        return Err("refused".into());
-    };
-    match yaml_character_at(&text, FRONT, kind) {
-        Some(lexeme) => Ok(lexeme.end_mark.index),
-        None => Ok(0),
-    }
-}
-
-/// Lexemes of one character, a document marker, and a kind that is neither.
+/// The fault of a scalar's refusal is the one that `yaml_lexeme_at` returns.
 #[test]
-fn characters_at_once(rt: HostRuntime) -> Result<(), Fail> {
+fn refusals_of_scalars(rt: HostRuntime) -> Result<(), Fail> {
     let alloc = rt.alloc();
-    assert_eq!(rt;
-        characters_end(alloc, b": a", yaml_lexeme_kind_t::VALUE)?,
-        1
-    );
-    assert_eq!(rt;
-        characters_end(alloc, b"--- a", yaml_lexeme_kind_t::DOCUMENT_START)?,
-        3
-    );
-    assert_eq!(rt; characters_end(alloc, b"a", yaml_lexeme_kind_t::PLAIN)?, 0);
+    let rows: [(&str, yaml_lexeme_kind_t, u64); 6] = [
+        ("ab:]", yaml_lexeme_kind_t::PLAIN, 1),
+        ("a\n :?", yaml_lexeme_kind_t::PLAIN, 1),
+        ("'a\n--- b'", yaml_lexeme_kind_t::SINGLE_QUOTED, 0),
+        ("\"a\\q\"", yaml_lexeme_kind_t::DOUBLE_QUOTED, 0),
+        ("|0\n", yaml_lexeme_kind_t::LITERAL, 0),
+        (">- a\n", yaml_lexeme_kind_t::FOLDED, 0),
+    ];
+    for (text, kind, depth) in rows {
+        let want = lexed(alloc, text.as_bytes(), depth, None)?;
+        let shown = scalar_read(alloc, text.as_bytes(), kind, depth, None)?;
+        assert!(rt; want.as_str().starts_with("while"), "{text}");
+        assert_eq!(rt; shown.as_str(), want.as_str(), "{text}");
+    }
     Ok(())
 }
 
-/// The column after the `:` that is found at once at the front, or 0 if none is.
-fn colon_end(alloc: Global, bytes: &[u8]) -> Result<u64, Fail> {
-    let Ok(text) = yaml_decode(alloc, bytes, ANY) else {
-        return Err("refused".into());
-    };
-    match yaml_colon_at_once(&text, FRONT) {
-        Some(end) => Ok(end.column),
-        None => Ok(0),
+/// Lexemes of every kind, and their offences, by one reader.
+#[test]
+fn lexemes_read(rt: HostRuntime) -> Result<(), Fail> {
+    let alloc = rt.alloc();
+    let rows: [(&str, u64, &str); 12] = [
+        ("", 0, "end 0:0:0 0:0:0 0:0:0 false"),
+        ("%YAML 1.1", 0, "version 1 1 0:0:0 9:0:9 9:0:9 false"),
+        (
+            "%FOO x",
+            0,
+            "while scanning a directive 0:0:0; found unknown directive name 4:0:4",
+        ),
+        ("---", 0, "document start 0:0:0 3:0:3 3:0:3 false"),
+        ("]", 1, "sequence end 0:0:0 1:0:1 1:0:1 false"),
+        ("&a]", 0, "anchor 61 0:0:0 2:0:2 2:0:2 false"),
+        (
+            "*",
+            0,
+            "while scanning an alias 0:0:0; did not find expected alphabetic or numeric character 1:0:1",
+        ),
+        ("! x", 0, "tag - 21 0:0:0 1:0:1 1:0:1 false"),
+        (
+            "!<x",
+            0,
+            "while scanning a tag 0:0:0; did not find the expected '>' 3:0:3",
+        ),
+        ("|", 0, "literal - 0:0:0 1:0:1 1:0:1 false"),
+        ("'a'", 0, "single 61 0:0:0 3:0:3 3:0:3 false"),
+        (
+            "a:]",
+            1,
+            "while scanning a plain scalar 0:0:0; found unexpected ':' 1:0:1",
+        ),
+    ];
+    for (text, depth, want) in rows {
+        let shown = lexeme_read(alloc, text.as_bytes(), depth)?;
+        assert_eq!(rt; shown.as_str(), want, "{text}");
     }
+    Ok(())
 }
 
-/// A `:` that a space or a line feed follows is found at once; one after a gap, or before anything else, is not.
 #[test]
-fn colons_at_once(rt: HostRuntime) -> Result<(), Fail> {
+fn refusal_of_memory(rt: HostRuntime) -> Result<(), Fail> {
+    let memory = yaml_refusal_t::MEMORY;
+    let fault = yaml_lexeme_fault(memory, yaml_lexeme_kind_t::PLAIN, FRONT, FRONT);
+    assert!(rt; fault.error == yaml_error_type_t::YAML_MEMORY_ERROR);
+    Ok(())
+}
+
+/// Lexemes of one character, each kind of them, and kinds of more than one.
+#[test]
+fn characters_read(rt: HostRuntime) -> Result<(), Fail> {
     let alloc = rt.alloc();
-    assert_eq!(rt; colon_end(alloc, b": a")?, 1);
-    assert_eq!(rt; colon_end(alloc, b":\na")?, 1);
-    assert_eq!(rt; colon_end(alloc, b":a b")?, 0);
-    assert_eq!(rt; colon_end(alloc, b":")?, 0);
-    assert_eq!(rt; colon_end(alloc, b" : a")?, 0);
-    assert_eq!(rt; colon_end(alloc, b"- a")?, 0);
+    let rows: [(&str, bool, &str); 12] = [
+        ("--- a", false, "no character"),
+        ("...", false, "no character"),
+        ("[a", false, "sequence start 0:0:0 1:0:1 1:0:1 false"),
+        ("{a", true, "mapping start 0:0:0 1:0:1 1:0:1 false"),
+        ("]", true, "sequence end 0:0:0 1:0:1 1:0:1 false"),
+        ("}", true, "mapping end 0:0:0 1:0:1 1:0:1 false"),
+        (",", true, "flow entry 0:0:0 1:0:1 1:0:1 false"),
+        ("- a", false, "block entry 0:0:0 1:0:1 1:0:1 false"),
+        ("?", false, "key 0:0:0 1:0:1 1:0:1 false"),
+        (": a", false, "value 0:0:0 1:0:1 1:0:1 false"),
+        (":a", true, "value 0:0:0 1:0:1 1:0:1 false"),
+        ("a", false, "no character"),
+    ];
+    for (text, in_flow, want) in rows {
+        let shown = character_read(alloc, text.as_bytes(), in_flow)?;
+        assert_eq!(rt; shown.as_str(), want, "{text}");
+    }
+    Ok(())
+}
+
+/// A `:` is found outside of flow if a blank, a break or the end follows it, and in flow always; a `,`, `]` or `}` in
+/// flow alone; and nothing after a gap, or of another kind.
+#[test]
+fn deciders(rt: HostRuntime) -> Result<(), Fail> {
+    let alloc = rt.alloc();
+    let rows: [(&str, bool, Option<yaml_lexeme_kind_t>); 17] = [
+        (": a", false, Some(yaml_lexeme_kind_t::VALUE)),
+        (":\na", false, Some(yaml_lexeme_kind_t::VALUE)),
+        (":", false, Some(yaml_lexeme_kind_t::VALUE)),
+        (":a b", false, None),
+        (":a", true, Some(yaml_lexeme_kind_t::VALUE)),
+        (",", true, Some(yaml_lexeme_kind_t::FLOW_ENTRY)),
+        ("]", true, Some(yaml_lexeme_kind_t::FLOW_SEQUENCE_END)),
+        ("}", true, Some(yaml_lexeme_kind_t::FLOW_MAPPING_END)),
+        (",", false, None),
+        ("]", false, None),
+        ("}", false, None),
+        (" : a", false, None),
+        (" ,", true, None),
+        ("- a", false, None),
+        ("[", true, None),
+        ("? a", true, None),
+        ("", true, None),
+    ];
+    for (text, in_flow, want) in rows {
+        let found = decider_at(alloc, text.as_bytes(), in_flow)?;
+        assert!(rt; found == want, "{text}");
+    }
     Ok(())
 }

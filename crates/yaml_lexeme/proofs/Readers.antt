@@ -28,3 +28,5 @@ pub mod NameBytes
 pub mod UriOctets
 -- The decimal digits of a version are read one by one.
 pub mod DirectiveNumbers
+-- A lexeme of one character begins with one of ASCII that is no break.
+pub mod FirstCharacter

@@ -9,8 +9,8 @@ use Rattle.yaml_lexeme.specs.declared.block.chomp_t.{chomp_t}
 use Rattle.yaml_lexeme.specs.declared.block.chomp_t.TheVariants.{STRIP, CLIP, KEEP}
 use Rattle.yaml_lexeme.specs.declared.block.header_t.{header_t}
 use Rattle.yaml_lexeme.specs.Lexeme.{Scalar as scalar_t}
-use Rattle.yaml_lexeme.specs.declared.problem.problem_t.TheVariants.{NO_COMMENT_OR_BREAK, INDICATOR_ZERO}
-use Rattle.yaml_lexeme.specs.declared.problem.problem_t.TheVariants.{TAB_IN_INDENTATION}
+use Rattle.yaml_lexeme.specs.declared.problem.yaml_problem_t.TheVariants.{NO_COMMENT_OR_BREAK, INDICATOR_ZERO}
+use Rattle.yaml_lexeme.specs.declared.problem.yaml_problem_t.TheVariants.{TAB_IN_INDENTATION}
 use Rattle.yaml_lexeme.specs.Classes.{is_in_line, line_feed}
 use Rattle.yaml_lexeme.specs.Place.{Place, first, skip, run, run_len, behind, break_len}
 use Rattle.yaml_lexeme.specs.Gap.{after_comment}

@@ -5,10 +5,10 @@ use Rattle.std.specs.Str.Parse.{digits_value}
 use Rattle.yaml_text.specs.Classes.{is_alpha, is_blank, is_digit}
 use Rattle.yaml_text.specs.Token.{TokenData as unnamed_yaml_token_t_data}
 use Rattle.yaml_text.specs.Token.TokenData.{VERSION_DIRECTIVE, TAG_DIRECTIVE}
-use Rattle.yaml_lexeme.specs.declared.problem.problem_t.TheVariants.{UNKNOWN_DIRECTIVE, NO_DIRECTIVE_NAME}
-use Rattle.yaml_lexeme.specs.declared.problem.problem_t.TheVariants.{DIRECTIVE_NAME_GOES_ON, NO_DOT, LONG_NUMBER}
-use Rattle.yaml_lexeme.specs.declared.problem.problem_t.TheVariants.{NO_NUMBER, NO_BLANK, NO_BLANK_OR_BREAK}
-use Rattle.yaml_lexeme.specs.declared.problem.problem_t.TheVariants.{NO_HANDLE, OPEN_HANDLE}
+use Rattle.yaml_lexeme.specs.declared.problem.yaml_problem_t.TheVariants.{UNKNOWN_DIRECTIVE, NO_DIRECTIVE_NAME}
+use Rattle.yaml_lexeme.specs.declared.problem.yaml_problem_t.TheVariants.{DIRECTIVE_NAME_GOES_ON, NO_DOT, LONG_NUMBER}
+use Rattle.yaml_lexeme.specs.declared.problem.yaml_problem_t.TheVariants.{NO_NUMBER, NO_BLANK, NO_BLANK_OR_BREAK}
+use Rattle.yaml_lexeme.specs.declared.problem.yaml_problem_t.TheVariants.{NO_HANDLE, OPEN_HANDLE}
 use Rattle.yaml_lexeme.specs.Lexeme.{Directive as directive_t}
 use Rattle.yaml_lexeme.specs.Classes.{ends}
 use Rattle.yaml_lexeme.specs.Place.{Place, first, skip, run, run_len, behind}

@@ -4,7 +4,7 @@ use Rattle.std.specs.Prelude.{Some, None}
 use Rattle.std.specs.List.{list_all}
 use Rattle.std.specs.Str.Parse.{digits_value}
 use Rattle.yaml_text.specs.Classes.{is_hex}
-use Rattle.yaml_lexeme.specs.declared.problem.problem_t.TheVariants.{UNKNOWN_ESCAPE, NO_HEX_DIGIT, NO_SCALAR_VALUE}
+use Rattle.yaml_lexeme.specs.declared.problem.yaml_problem_t.TheVariants.{UNKNOWN_ESCAPE, NO_HEX_DIGIT, NO_SCALAR_VALUE}
 use Rattle.yaml_lexeme.specs.Place.{Place, peek, skip}
 use Rattle.yaml_lexeme.specs.Reading.{Read, found, refuse}
 

@@ -2,10 +2,10 @@
 use Rattle.std.specs.Prelude.{ℕ, Bool, true, false, if◌then◌else◌, List, codes}
 use Rattle.yaml_lexeme.specs.declared.kind.yaml_lexeme_kind_t.{yaml_lexeme_kind_t}
 use Rattle.yaml_lexeme.specs.declared.kind.yaml_lexeme_kind_t.TheVariants as kind
-use Rattle.yaml_lexeme.specs.declared.problem.problem_t.{problem_t}
-use Rattle.yaml_lexeme.specs.declared.problem.problem_t.TheVariants as problem
+use Rattle.yaml_lexeme.specs.declared.problem.yaml_problem_t.{yaml_problem_t}
+use Rattle.yaml_lexeme.specs.declared.problem.yaml_problem_t.TheVariants as problem
 
-unfoldable pub problem_text : problem_t → List ℕ
+unfoldable pub problem_text : yaml_problem_t → List ℕ
 problem_text problem.UNKNOWN_DIRECTIVE = codes "found unknown directive name"
 problem_text problem.NO_COMMENT_OR_BREAK = codes "did not find expected comment or line break"
 problem_text problem.NO_DIRECTIVE_NAME = codes "could not find expected directive name"
@@ -50,7 +50,7 @@ abbrev pub uri_context : yaml_lexeme_kind_t → List ℕ
 uri_context k = in_directive k (codes "while parsing a %TAG directive") (codes "while parsing a tag")
 
 -- what was being read, by the kind of the lexeme and its problem
-unfoldable pub context_text : yaml_lexeme_kind_t → problem_t → List ℕ
+unfoldable pub context_text : yaml_lexeme_kind_t → yaml_problem_t → List ℕ
 context_text k problem.UNKNOWN_DIRECTIVE = codes "while scanning a directive"
 context_text k problem.NO_DIRECTIVE_NAME = codes "while scanning a directive"
 context_text k problem.DIRECTIVE_NAME_GOES_ON = codes "while scanning a directive"

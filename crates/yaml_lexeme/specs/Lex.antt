@@ -1,5 +1,6 @@
 -- Lexemes of every kind.
-use Rattle.std.specs.Prelude.{ℕ, Bool, true, false, nat_lt, if◌then◌else◌, List, Some}
+use Rattle.std.specs.Prelude.{ℕ, ◌+◌, Bool, true, false, nat_lt, if◌then◌else◌, List, Some}
+use Rattle.yaml_text.specs.declared.types.yaml_mark_t.{yaml_mark_t}
 use Rattle.std.specs.Prelude.{Result, Ok, Err}
 use Rattle.yaml_text.specs.declared.types.yaml_scalar_style_t.{yaml_scalar_style_t}
 use Rattle.yaml_text.specs.declared.types.yaml_scalar_style_t.TheVariants as styles
@@ -62,6 +63,13 @@ anchor_or_alias anchor name = if anchor then token.ANCHOR name else token.ALIAS 
 abbrev pub quoted_as : yaml_scalar_style_t → List ℕ → unnamed_yaml_token_t_data
 quoted_as style value = token.SCALAR value style
 
+-- the kind of a quoted scalar, and of a literal or folded one
+abbrev pub quoted_kind : Bool → yaml_lexeme_kind_t
+quoted_kind single = if single then kind.SINGLE_QUOTED else kind.DOUBLE_QUOTED
+
+abbrev pub block_kind : Bool → yaml_lexeme_kind_t
+block_kind folded = if folded then kind.FOLDED else kind.LITERAL
+
 -- the lexeme of the kind that is at a place, or its first offence
 unfoldable pub lex : yaml_lexeme_kind_t → yaml_context_t → Place → Read yaml_lexeme_t
 lex kind.STREAM_END context p = at_end p
@@ -99,6 +107,25 @@ is_bare kind.FOLDED = false
 is_bare kind.SINGLE_QUOTED = false
 is_bare kind.DOUBLE_QUOTED = false
 is_bare kind.PLAIN = false
+
+-- kinds whose lexemes are one character
+abbrev pub is_character : yaml_lexeme_kind_t → Bool
+is_character kind.STREAM_END = false
+is_character kind.DOCUMENT_START = false
+is_character kind.DOCUMENT_END = false
+is_character k = is_bare k
+
+-- what may decide, right after a scalar, whether that is a key: a `:`, and in flow a `,`, `]` or `}`
+abbrev pub decides : Bool → yaml_lexeme_kind_t → Bool
+decides flow kind.VALUE = true
+decides flow kind.FLOW_ENTRY = flow
+decides flow kind.FLOW_SEQUENCE_END = flow
+decides flow kind.FLOW_MAPPING_END = flow
+decides flow k = false
+
+-- the mark after a character of ASCII that is no break
+abbrev pub one_on : yaml_mark_t → yaml_mark_t
+one_on m = record { index = m.index + 1; line = m.line; column = m.column + 1 }
 
 -- the lexeme, or the fault of its offence, whose context is at the lexeme's start
 abbrev pub answer : yaml_lexeme_kind_t → Place → Read yaml_lexeme_t → Result yaml_lexeme_t Fault

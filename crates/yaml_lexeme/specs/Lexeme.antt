@@ -1,11 +1,10 @@
 -- Lexemes, and what they are made of.
-use Rattle.std.specs.Prelude.{ℕ, Bool, false, List, take}
+use Rattle.std.specs.Prelude.{ℕ, Bool, false, List}
 use Rattle.yaml_text.specs.declared.types.yaml_mark_t.{yaml_mark_t}
 use Rattle.yaml_text.specs.declared.types.yaml_scalar_style_t.{yaml_scalar_style_t}
 use Rattle.yaml_text.specs.Token.{TokenData, data_of}
 use Rattle.yaml_text.specs.Token.TokenData.{SCALAR}
 use Rattle.yaml_lexeme.specs.declared.lexeme.yaml_lexeme_t.{yaml_lexeme_t}
-use Rattle.yaml_lexeme.specs.declared.lexeme.span_t.{span_t}
 use Rattle.yaml_lexeme.specs.declared.plain.scalar_t.{scalar_t}
 use Rattle.yaml_lexeme.specs.declared.directive.directive_t.{directive_t}
 use Rattle.yaml_lexeme.specs.Place.{Place}
@@ -89,14 +88,10 @@ lexeme_of l = record {
 abbrev pub scalar_of : scalar_t → Scalar
 scalar_of s = record { value = s.value.items; end = s.end; passed_break = s.passed_break }
 
+-- A scalar of a value that ends at a mark, and whether a break is in the separator after it.
+abbrev pub scalar_with : List ℕ → yaml_mark_t → Bool → Scalar
+scalar_with value end passed_break = record { value = value; end = end; passed_break = passed_break }
+
 -- A directive of the code.
 abbrev pub directive_of : directive_t → Directive
 directive_of d = record { says = data_of d.says; end = d.end }
-
--- A scalar of the code whose value is bytes of the text.
-abbrev pub scalar_there : span_t → Scalar
-scalar_there x = record { value = take x.len x.left.now; end = x.end_mark; passed_break = x.passed_break }
-
--- The lexeme that it is, if it starts at a mark.
-abbrev pub span_lexeme : yaml_mark_t → span_t → Lexeme
-span_lexeme start x = scalar_to x.style start (scalar_there x) x.reach

@@ -1,7 +1,7 @@
 -- Anchors and aliases (YAML 1.1, 8.1 Node Anchors and 8.4 Alias Nodes).
 use Rattle.std.specs.Prelude.{ℕ, Bool, ◌&&◌, ◌||◌, nat_lt, if◌then◌else◌, List, length, codes}
 use Rattle.yaml_text.specs.Classes.{is_alpha}
-use Rattle.yaml_lexeme.specs.declared.problem.problem_t.TheVariants.{NO_NAME}
+use Rattle.yaml_lexeme.specs.declared.problem.yaml_problem_t.TheVariants.{NO_NAME}
 use Rattle.yaml_lexeme.specs.Classes.{ends, is_one_of}
 use Rattle.yaml_lexeme.specs.Place.{Place, first, skip, run, behind}
 use Rattle.yaml_lexeme.specs.Reading.{Read, found, refuse}

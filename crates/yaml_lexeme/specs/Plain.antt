@@ -4,7 +4,7 @@ use Rattle.std.specs.Prelude.{length, take, slice_index, codes, Option, Some, No
 use Rattle.std.specs.List.{list_any, flat_map, find, range_with_len}
 use Rattle.yaml_text.specs.Chars.{utf8}
 use Rattle.yaml_text.specs.Classes.{is_break}
-use Rattle.yaml_lexeme.specs.declared.problem.problem_t.TheVariants.{COLON_IN_FLOW, TAB_IN_PLAIN}
+use Rattle.yaml_lexeme.specs.declared.problem.yaml_problem_t.TheVariants.{COLON_IN_FLOW, TAB_IN_PLAIN}
 use Rattle.yaml_lexeme.specs.Lexeme.{Scalar as scalar_t}
 use Rattle.yaml_lexeme.specs.Classes.{is_white, ends, is_one_of}
 use Rattle.yaml_lexeme.specs.Place.{Place, peek, first, skip, run, run_len, behind}

@@ -1,11 +1,11 @@
 -- Readers: what is read at a place, or the first offence.
 use Rattle.std.specs.Prelude.{ℕ, zero, suc, ◌+◌, List, [], ◌∷◌, ◌++◌, length, Option, Some, None, Result, Ok, Err}
-use Rattle.yaml_lexeme.specs.declared.problem.problem_t.{problem_t}
+use Rattle.yaml_lexeme.specs.declared.problem.yaml_problem_t.{yaml_problem_t}
 use Rattle.yaml_lexeme.specs.Place.{Place}
 
 -- a problem, and its place
 pub record Offence : Type 0 where
-  pub problem : problem_t
+  pub problem : yaml_problem_t
   pub at : Place
 
 -- what was read, and the place after it
@@ -19,7 +19,7 @@ Read A = Result (Found A) Offence
 abbrev pub found : {A : Type 0} → A → Place → Read A
 found a p = Ok (record { value = a; end = p })
 
-abbrev pub refuse : {A : Type 0} → problem_t → Place → Result A Offence
+abbrev pub refuse : {A : Type 0} → yaml_problem_t → Place → Result A Offence
 refuse problem p = Err (record { problem = problem; at = p })
 
 infixl 10 ◌>>=◌

@@ -3,7 +3,7 @@ use Rattle.std.specs.Prelude.{Bool, true, false, ◌&&◌, ◌||◌, ◌==◌, i
 use Rattle.yaml_text.specs.Classes.{is_alpha}
 use Rattle.yaml_text.specs.Token.{TokenData as unnamed_yaml_token_t_data}
 use Rattle.yaml_text.specs.Token.TokenData.{TAG}
-use Rattle.yaml_lexeme.specs.declared.problem.problem_t.TheVariants.{NO_BLANK_OR_BREAK, NO_CLOSING_ANGLE}
+use Rattle.yaml_lexeme.specs.declared.problem.yaml_problem_t.TheVariants.{NO_BLANK_OR_BREAK, NO_CLOSING_ANGLE}
 use Rattle.yaml_lexeme.specs.Classes.{ends}
 use Rattle.yaml_lexeme.specs.Place.{Place, first, skip, run, behind}
 use Rattle.yaml_lexeme.specs.Uri.{uri, some_uri}

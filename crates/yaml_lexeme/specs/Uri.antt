@@ -4,7 +4,8 @@ use Rattle.std.specs.Prelude.{◌∷◌, length, codes}
 use Rattle.std.specs.List.{concat}
 use Rattle.std.specs.Str.Parse.{digits_value}
 use Rattle.yaml_text.specs.Classes.{is_alpha, is_hex}
-use Rattle.yaml_lexeme.specs.declared.problem.problem_t.TheVariants.{NO_URI, NO_OCTET, BAD_LEAD_OCTET, BAD_NEXT_OCTET}
+use Rattle.yaml_lexeme.specs.declared.problem.yaml_problem_t.TheVariants.{NO_URI, NO_OCTET}
+use Rattle.yaml_lexeme.specs.declared.problem.yaml_problem_t.TheVariants.{BAD_LEAD_OCTET, BAD_NEXT_OCTET}
 use Rattle.yaml_lexeme.specs.Classes.{is_one_of}
 use Rattle.yaml_lexeme.specs.Place.{Place, peek, first, skip}
 use Rattle.yaml_lexeme.specs.Reading.{Read, found, refuse, ◌>>=◌, Part, part, over, many}

@@ -12,7 +12,7 @@ use crate::fold::{push_char, written};
 use crate::gap::skip_comment;
 use crate::place::{check_at, cursor_t, is_at};
 use crate::plain::scalar_t;
-use crate::problem::{problem_t, refusal_t};
+use crate::problem::{offence, yaml_problem_t, yaml_refusal_t};
 use crate::runs::class_t;
 use std::alloc::{AllocError, Global};
 use yaml_text::yaml_mark_t;
@@ -66,7 +66,7 @@ fn sign_of(c: char) -> chomp_t
 
 /// Takes the digit that is here, if there is one.
 #[tactic(auto, unfolding(crate::specs::Block::digit_at))]
-fn take_digit(cursor: &mut cursor_t) -> Result<Option<u64>, refusal_t>
+fn take_digit(cursor: &mut cursor_t) -> Result<Option<u64>, yaml_refusal_t>
     ensures value { Gives (λ d. d) result cursor.new (spec.digit_at cursor.old) }
     ensures small { IfOk result (λ o. IfSome o (λ d. d < 10)) }
 {
@@ -75,7 +75,7 @@ fn take_digit(cursor: &mut cursor_t) -> Result<Option<u64>, refusal_t>
         return Ok(None);
     }
     if c == '0' {
-        return Err(refusal_t::OFFENCE(problem_t::INDICATOR_ZERO));
+        return Err(offence(yaml_problem_t::INDICATOR_ZERO));
     }
     cursor.advance();
     Ok(Some(u64::from(c as u32 - '0' as u32)))
@@ -83,7 +83,7 @@ fn take_digit(cursor: &mut cursor_t) -> Result<Option<u64>, refusal_t>
 
 /// Takes the header, after its first character.
 #[tactic(auto, unfolding(crate::specs::Block::header_at))]
-fn take_header(cursor: &mut cursor_t) -> Result<header_t, refusal_t>
+fn take_header(cursor: &mut cursor_t) -> Result<header_t, yaml_refusal_t>
     ensures value { Gives (λ h. h) result cursor.new (spec.header_at cursor.old) }
     ensures small { IfOk result (λ h. IfSome h.digit (λ d. d < 10)) }
 {
@@ -114,7 +114,7 @@ fn take_header(cursor: &mut cursor_t) -> Result<header_t, refusal_t>
 /// Takes blanks, a comment and the break that ends the line.
 #[tactic(auto, unfolding(crate::specs::Block::after_line))]
 #[inline(always)]
-pub(crate) fn take_line_end(cursor: &mut cursor_t) -> Result<(), refusal_t>
+pub(crate) fn take_line_end(cursor: &mut cursor_t) -> Result<(), yaml_refusal_t>
     ensures { Moves result cursor.new (spec.after_line cursor.old) }
 {
     cursor.skip_run(class_t::BLANK);
@@ -123,7 +123,7 @@ pub(crate) fn take_line_end(cursor: &mut cursor_t) -> Result<(), refusal_t>
     *cursor = here;
     let c = cursor.peek(0);
     if !(is_break(c) || c == '\0') {
-        return Err(refusal_t::OFFENCE(problem_t::NO_COMMENT_OR_BREAK));
+        return Err(offence(yaml_problem_t::NO_COMMENT_OR_BREAK));
     }
     cursor.skip(cursor.break_len());
     Ok(())
@@ -158,12 +158,12 @@ fn skip_indent(cursor: &mut cursor_t, limit: Option<u64>)
 /// Takes the spaces that are indentation; a tab in their place is an offence.
 #[tactic(auto, unfolding(crate::specs::Block::after_indent))]
 #[inline(always)]
-fn take_indent(cursor: &mut cursor_t, limit: Option<u64>) -> Result<(), refusal_t>
+fn take_indent(cursor: &mut cursor_t, limit: Option<u64>) -> Result<(), yaml_refusal_t>
     ensures { Moves result cursor.new (spec.after_indent limit cursor.old) }
 {
     skip_indent(cursor, limit);
     if is_indenting(cursor, '\t', limit) {
-        return Err(refusal_t::OFFENCE(problem_t::TAB_IN_INDENTATION));
+        return Err(offence(yaml_problem_t::TAB_IN_INDENTATION));
     }
     Ok(())
 }
@@ -176,7 +176,7 @@ fn take_blank_lines(
     limit: Option<u64>,
     breaks: &mut Vec<u8>,
     end: &mut yaml_mark_t,
-) -> Result<u64, refusal_t>
+) -> Result<u64, yaml_refusal_t>
     ensures { TakesBlanks result breaks.old.items breaks.new.items end.new cursor.new
         (spec.blank_lines limit cursor.old) }
 {
@@ -216,7 +216,7 @@ fn take_line(
     indent: u64,
     out: &mut Vec<u8>,
     tail: &mut tail_t,
-) -> Result<(), refusal_t>
+) -> Result<(), yaml_refusal_t>
     ensures { TakesLine result out.old.items out.new.items tail.new cursor.new (spec.line_at indent cursor.old) }
 {
     tail.indented = is_at!(cursor, is_blank, 0);
@@ -335,7 +335,7 @@ fn take_lines(
     cursor: &mut cursor_t,
     folded: bool,
     level: Option<u64>,
-) -> Result<scalar_t, refusal_t>
+) -> Result<scalar_t, yaml_refusal_t>
     requires { spec.above level + 10 < 2 ^ 64 }
     ensures { Gives scalar_of result cursor.new (spec.block folded level cursor.old) }
 {
@@ -371,7 +371,7 @@ pub(crate) fn take_block(
     cursor: &mut cursor_t,
     folded: bool,
     level: Option<u64>,
-) -> Result<scalar_t, refusal_t>
+) -> Result<scalar_t, yaml_refusal_t>
     requires { spec.above level + 10 < 2 ^ 64 }
     ensures { Gives scalar_of result cursor.new (spec.block folded level cursor.old) }
 {

@@ -10,7 +10,7 @@ use crate::block::take_line_end;
 use crate::classes::{ends, is_blank};
 use crate::name::take_letters;
 use crate::place::{check_at, cursor_t, is_at};
-use crate::problem::{problem_t, refusal_t};
+use crate::problem::{offence, yaml_problem_t, yaml_refusal_t};
 use crate::runs::class_t;
 use crate::uri::{push_byte, take_some_uri};
 use std::alloc::Global;
@@ -31,7 +31,7 @@ fn is_digit(c: char) -> bool
 }
 
 /// Takes one to nine digits.
-fn take_number(cursor: &mut cursor_t) -> Result<u32, refusal_t>
+fn take_number(cursor: &mut cursor_t) -> Result<u32, yaml_refusal_t>
     ensures value { Gives (λ n. n) result cursor.new (spec.number cursor.old) }
     ensures small { IfOk result (λ n. n < 10 ^ 9) }
 {
@@ -39,7 +39,7 @@ fn take_number(cursor: &mut cursor_t) -> Result<u32, refusal_t>
     'digits: for k in 0..9 {
         let Some(digit) = cursor.peek(k).to_digit(10) else {
             if k == 0 {
-                return Err(refusal_t::OFFENCE(problem_t::NO_NUMBER));
+                return Err(offence(yaml_problem_t::NO_NUMBER));
             }
             cursor.skip(k);
             return Ok(value);
@@ -49,20 +49,20 @@ fn take_number(cursor: &mut cursor_t) -> Result<u32, refusal_t>
     let long = is_at!(cursor, is_digit, 9);
     cursor.skip(9);
     if long {
-        return Err(refusal_t::OFFENCE(problem_t::LONG_NUMBER));
+        return Err(offence(yaml_problem_t::LONG_NUMBER));
     }
     Ok(value)
 }
 
 /// Takes what follows `YAML`.
 #[tactic(auto, unfolding(crate::specs::Directive::version_at))]
-fn take_version(cursor: &mut cursor_t) -> Result<unnamed_yaml_token_t_data, refusal_t>
+fn take_version(cursor: &mut cursor_t) -> Result<unnamed_yaml_token_t_data, yaml_refusal_t>
     ensures { Gives data_of result cursor.new (spec.version_at cursor.old) }
 {
     cursor.skip_run(class_t::BLANK);
     let major = take_number(cursor)?;
     if !check_at!(cursor, '.', 0) {
-        return Err(refusal_t::OFFENCE(problem_t::NO_DOT));
+        return Err(offence(yaml_problem_t::NO_DOT));
     }
     cursor.advance();
     let minor = take_number(cursor)?;
@@ -74,11 +74,11 @@ fn take_version(cursor: &mut cursor_t) -> Result<unnamed_yaml_token_t_data, refu
 
 /// Takes a handle.
 #[tactic(auto, unfolding(crate::specs::Directive::handle_at))]
-fn take_handle(alloc: Global, cursor: &mut cursor_t) -> Result<Vec<u8>, refusal_t>
+fn take_handle(alloc: Global, cursor: &mut cursor_t) -> Result<Vec<u8>, yaml_refusal_t>
     ensures { Gives (λ v. v.items) result cursor.new (spec.handle_at cursor.old) }
 {
     if !check_at!(cursor, '!', 0) {
-        return Err(refusal_t::OFFENCE(problem_t::NO_HANDLE));
+        return Err(offence(yaml_problem_t::NO_HANDLE));
     }
     cursor.advance();
     let letters = take_letters(cursor);
@@ -91,7 +91,7 @@ fn take_handle(alloc: Global, cursor: &mut cursor_t) -> Result<Vec<u8>, refusal_
         return Ok(handle);
     }
     if !letters.is_empty() {
-        return Err(refusal_t::OFFENCE(problem_t::OPEN_HANDLE));
+        return Err(offence(yaml_problem_t::OPEN_HANDLE));
     }
     Ok(handle)
 }
@@ -101,18 +101,18 @@ fn take_handle(alloc: Global, cursor: &mut cursor_t) -> Result<Vec<u8>, refusal_
 fn take_tag_directive(
     alloc: Global,
     cursor: &mut cursor_t,
-) -> Result<unnamed_yaml_token_t_data, refusal_t>
+) -> Result<unnamed_yaml_token_t_data, yaml_refusal_t>
     ensures { Gives data_of result cursor.new (spec.tag_directive_at cursor.old) }
 {
     cursor.skip_run(class_t::BLANK);
     let handle = take_handle(alloc, cursor)?;
     if !is_at!(cursor, is_blank, 0) {
-        return Err(refusal_t::OFFENCE(problem_t::NO_BLANK));
+        return Err(offence(yaml_problem_t::NO_BLANK));
     }
     cursor.skip_run(class_t::BLANK);
     let prefix = take_some_uri(alloc, cursor, true)?;
     if !is_at!(cursor, ends, 0) {
-        return Err(refusal_t::OFFENCE(problem_t::NO_BLANK_OR_BREAK));
+        return Err(offence(yaml_problem_t::NO_BLANK_OR_BREAK));
     }
     Ok(unnamed_yaml_token_t_data::TAG_DIRECTIVE { handle, prefix })
 }
@@ -123,7 +123,7 @@ fn take_named(
     alloc: Global,
     cursor: &mut cursor_t,
     letters: &[u8],
-) -> Result<unnamed_yaml_token_t_data, refusal_t>
+) -> Result<unnamed_yaml_token_t_data, yaml_refusal_t>
     ensures { Gives data_of result cursor.new (spec.named letters.now cursor.old) }
 {
     if letters == b"YAML".as_slice() {
@@ -131,22 +131,25 @@ fn take_named(
     } else if letters == b"TAG".as_slice() {
         take_tag_directive(alloc, cursor)
     } else {
-        Err(refusal_t::OFFENCE(problem_t::UNKNOWN_DIRECTIVE))
+        Err(offence(yaml_problem_t::UNKNOWN_DIRECTIVE))
     }
 }
 
 /// Takes a directive, and the rest of its line.
 #[tactic(auto, unfolding(crate::specs::Directive::directive))]
-pub(crate) fn take_directive(alloc: Global, cursor: &mut cursor_t) -> Result<directive_t, refusal_t>
+pub(crate) fn take_directive(
+    alloc: Global,
+    cursor: &mut cursor_t,
+) -> Result<directive_t, yaml_refusal_t>
     ensures { Gives directive_of result cursor.new (spec.directive cursor.old) }
 {
     cursor.advance();
     let letters = take_letters(cursor);
     if letters.is_empty() {
-        return Err(refusal_t::OFFENCE(problem_t::NO_DIRECTIVE_NAME));
+        return Err(offence(yaml_problem_t::NO_DIRECTIVE_NAME));
     }
     if !is_at!(cursor, ends, 0) {
-        return Err(refusal_t::OFFENCE(problem_t::DIRECTIVE_NAME_GOES_ON));
+        return Err(offence(yaml_problem_t::DIRECTIVE_NAME_GOES_ON));
     }
     let says = take_named(alloc, cursor, letters)?;
     let end = cursor.mark();

@@ -7,7 +7,7 @@ ghost use Rattle.yaml_lexeme.specs.inside.CommonEscapes.{is_common};
 ghost use Rattle.yaml_lexeme.specs.inside.Gives.{Gives};
 
 use crate::place::cursor_t;
-use crate::problem::{problem_t, refusal_t};
+use crate::problem::{offence, yaml_problem_t, yaml_refusal_t};
 
 /// The character that one after a backslash stands for, or `None`.
 fn simple_escape(c: char) -> Option<char>
@@ -64,7 +64,7 @@ fn hex_len(c: char) -> usize
 }
 
 /// Takes `n` hex digits, and returns the character that they spell.
-fn take_hex_escape(cursor: &mut cursor_t, n: usize) -> Result<char, refusal_t>
+fn take_hex_escape(cursor: &mut cursor_t, n: usize) -> Result<char, yaml_refusal_t>
     requires { n ≤ 8 }
     ensures { Gives (λ c. c) result cursor.new (spec.hex_escape n cursor.old) }
 {
@@ -72,13 +72,13 @@ fn take_hex_escape(cursor: &mut cursor_t, n: usize) -> Result<char, refusal_t>
     let mut at = cursor.again();
     'digits: for k in 0..n {
         let Some(digit) = at.peek(0).to_digit(16) else {
-            return Err(refusal_t::OFFENCE(problem_t::NO_HEX_DIGIT));
+            return Err(offence(yaml_problem_t::NO_HEX_DIGIT));
         };
         value = value * 16 + digit;
         at.pass();
     }
     let Some(c) = char::from_u32(value) else {
-        return Err(refusal_t::OFFENCE(problem_t::NO_SCALAR_VALUE));
+        return Err(offence(yaml_problem_t::NO_SCALAR_VALUE));
     };
     *cursor = at;
     Ok(c)
@@ -100,7 +100,7 @@ fn pass_two(cursor: &mut cursor_t)
 /// Takes an escape, from its backslash on. `next` is the character after the backslash.
 #[tactic(auto, unfolding(crate::specs::Escape::escape))]
 #[inline(always)]
-pub(crate) fn take_escape(cursor: &mut cursor_t, next: char) -> Result<char, refusal_t>
+pub(crate) fn take_escape(cursor: &mut cursor_t, next: char) -> Result<char, yaml_refusal_t>
     requires backslash { first cursor.old ≡ spec.backslash }
     requires next { next ≡ peek cursor.old 1 }
     ensures { Gives (λ c. c) result cursor.new (spec.escape cursor.old) }
@@ -115,7 +115,7 @@ pub(crate) fn take_escape(cursor: &mut cursor_t, next: char) -> Result<char, ref
         return take_hex_escape(cursor, n);
     }
     let Some(c) = simple_escape(next) else {
-        return Err(refusal_t::OFFENCE(problem_t::UNKNOWN_ESCAPE));
+        return Err(offence(yaml_problem_t::UNKNOWN_ESCAPE));
     };
     pass_two(cursor);
     Ok(c)

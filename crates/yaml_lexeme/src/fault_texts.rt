@@ -3,41 +3,41 @@ ghost use Rattle.std.specs.Prelude.{◌≡◌, if◌then◌else◌};
 ghost use Rattle.yaml_lexeme.specs.FaultTexts as spec;
 
 use crate::kind::yaml_lexeme_kind_t;
-use crate::problem::problem_t;
+use crate::problem::yaml_problem_t;
 
 /// The text of a problem.
 #[tactic(auto, unfolding(crate::specs::FaultTexts::problem_text))]
-pub(crate) fn problem_text(problem: problem_t) -> &'static str
+pub(crate) fn problem_text(problem: yaml_problem_t) -> &'static str
     ensures { result.now ≡ spec.problem_text problem }
 {
     match problem {
-        problem_t::UNKNOWN_DIRECTIVE => "found unknown directive name",
-        problem_t::NO_COMMENT_OR_BREAK => "did not find expected comment or line break",
-        problem_t::NO_DIRECTIVE_NAME => "could not find expected directive name",
-        problem_t::DIRECTIVE_NAME_GOES_ON => "found unexpected non-alphabetical character",
-        problem_t::NO_DOT => "did not find expected digit or '.' character",
-        problem_t::LONG_NUMBER => "found extremely long version number",
-        problem_t::NO_NUMBER => "did not find expected version number",
-        problem_t::NO_BLANK => "did not find expected whitespace",
-        problem_t::NO_BLANK_OR_BREAK => "did not find expected whitespace or line break",
-        problem_t::NO_NAME => "did not find expected alphabetic or numeric character",
-        problem_t::NO_CLOSING_ANGLE => "did not find the expected '>'",
-        problem_t::NO_HANDLE | problem_t::OPEN_HANDLE => "did not find expected '!'",
-        problem_t::NO_URI => "did not find expected tag URI",
-        problem_t::NO_OCTET => "did not find URI escaped octet",
-        problem_t::BAD_LEAD_OCTET => "found an incorrect leading UTF-8 octet",
-        problem_t::BAD_NEXT_OCTET => "found an incorrect trailing UTF-8 octet",
-        problem_t::INDICATOR_ZERO => "found an indentation indicator equal to 0",
-        problem_t::TAB_IN_INDENTATION => {
+        yaml_problem_t::UNKNOWN_DIRECTIVE => "found unknown directive name",
+        yaml_problem_t::NO_COMMENT_OR_BREAK => "did not find expected comment or line break",
+        yaml_problem_t::NO_DIRECTIVE_NAME => "could not find expected directive name",
+        yaml_problem_t::DIRECTIVE_NAME_GOES_ON => "found unexpected non-alphabetical character",
+        yaml_problem_t::NO_DOT => "did not find expected digit or '.' character",
+        yaml_problem_t::LONG_NUMBER => "found extremely long version number",
+        yaml_problem_t::NO_NUMBER => "did not find expected version number",
+        yaml_problem_t::NO_BLANK => "did not find expected whitespace",
+        yaml_problem_t::NO_BLANK_OR_BREAK => "did not find expected whitespace or line break",
+        yaml_problem_t::NO_NAME => "did not find expected alphabetic or numeric character",
+        yaml_problem_t::NO_CLOSING_ANGLE => "did not find the expected '>'",
+        yaml_problem_t::NO_HANDLE | yaml_problem_t::OPEN_HANDLE => "did not find expected '!'",
+        yaml_problem_t::NO_URI => "did not find expected tag URI",
+        yaml_problem_t::NO_OCTET => "did not find URI escaped octet",
+        yaml_problem_t::BAD_LEAD_OCTET => "found an incorrect leading UTF-8 octet",
+        yaml_problem_t::BAD_NEXT_OCTET => "found an incorrect trailing UTF-8 octet",
+        yaml_problem_t::INDICATOR_ZERO => "found an indentation indicator equal to 0",
+        yaml_problem_t::TAB_IN_INDENTATION => {
             "found a tab character where an indentation space is expected"
         }
-        problem_t::DOCUMENT_MARKER => "found unexpected document indicator",
-        problem_t::END_OF_TEXT => "found unexpected end of stream",
-        problem_t::UNKNOWN_ESCAPE => "found unknown escape character",
-        problem_t::NO_HEX_DIGIT => "did not find expected hexadecimal number",
-        problem_t::NO_SCALAR_VALUE => "found invalid Unicode character escape code",
-        problem_t::COLON_IN_FLOW => "found unexpected ':'",
-        problem_t::TAB_IN_PLAIN => "found a tab character that violates indentation",
+        yaml_problem_t::DOCUMENT_MARKER => "found unexpected document indicator",
+        yaml_problem_t::END_OF_TEXT => "found unexpected end of stream",
+        yaml_problem_t::UNKNOWN_ESCAPE => "found unknown escape character",
+        yaml_problem_t::NO_HEX_DIGIT => "did not find expected hexadecimal number",
+        yaml_problem_t::NO_SCALAR_VALUE => "found invalid Unicode character escape code",
+        yaml_problem_t::COLON_IN_FLOW => "found unexpected ':'",
+        yaml_problem_t::TAB_IN_PLAIN => "found a tab character that violates indentation",
     }
 }
 
@@ -66,53 +66,55 @@ fn in_directive(
 
 /// What was being read when the problem came.
 #[tactic(auto, unfolding(crate::specs::FaultTexts::context_text))]
-pub(crate) fn context_text(kind: yaml_lexeme_kind_t, problem: problem_t) -> &'static str
+pub(crate) fn context_text(kind: yaml_lexeme_kind_t, problem: yaml_problem_t) -> &'static str
     ensures { result.now ≡ spec.context_text kind problem }
 {
     match problem {
-        problem_t::UNKNOWN_DIRECTIVE
-        | problem_t::NO_DIRECTIVE_NAME
-        | problem_t::DIRECTIVE_NAME_GOES_ON => "while scanning a directive",
-        problem_t::NO_DOT | problem_t::LONG_NUMBER | problem_t::NO_NUMBER => {
+        yaml_problem_t::UNKNOWN_DIRECTIVE
+        | yaml_problem_t::NO_DIRECTIVE_NAME
+        | yaml_problem_t::DIRECTIVE_NAME_GOES_ON => "while scanning a directive",
+        yaml_problem_t::NO_DOT | yaml_problem_t::LONG_NUMBER | yaml_problem_t::NO_NUMBER => {
             "while scanning a %YAML directive"
         }
-        problem_t::NO_BLANK => "while scanning a %TAG directive",
-        problem_t::NO_HANDLE => "while scanning a tag directive",
-        problem_t::OPEN_HANDLE => "while parsing a tag directive",
-        problem_t::NO_CLOSING_ANGLE => "while scanning a tag",
-        problem_t::INDICATOR_ZERO | problem_t::TAB_IN_INDENTATION => {
+        yaml_problem_t::NO_BLANK => "while scanning a %TAG directive",
+        yaml_problem_t::NO_HANDLE => "while scanning a tag directive",
+        yaml_problem_t::OPEN_HANDLE => "while parsing a tag directive",
+        yaml_problem_t::NO_CLOSING_ANGLE => "while scanning a tag",
+        yaml_problem_t::INDICATOR_ZERO | yaml_problem_t::TAB_IN_INDENTATION => {
             "while scanning a block scalar"
         }
-        problem_t::DOCUMENT_MARKER | problem_t::END_OF_TEXT => "while scanning a quoted scalar",
-        problem_t::UNKNOWN_ESCAPE | problem_t::NO_HEX_DIGIT | problem_t::NO_SCALAR_VALUE => {
-            "while parsing a quoted scalar"
-        }
-        problem_t::COLON_IN_FLOW | problem_t::TAB_IN_PLAIN => "while scanning a plain scalar",
-        problem_t::NO_NAME => {
+        yaml_problem_t::DOCUMENT_MARKER | yaml_problem_t::END_OF_TEXT =>
+            "while scanning a quoted scalar",
+        yaml_problem_t::UNKNOWN_ESCAPE
+        | yaml_problem_t::NO_HEX_DIGIT
+        | yaml_problem_t::NO_SCALAR_VALUE => { "while parsing a quoted scalar" }
+        yaml_problem_t::COLON_IN_FLOW | yaml_problem_t::TAB_IN_PLAIN =>
+            "while scanning a plain scalar",
+        yaml_problem_t::NO_NAME => {
             if is_anchor(kind) {
                 "while scanning an anchor"
             } else {
                 "while scanning an alias"
             }
         }
-        problem_t::NO_BLANK_OR_BREAK => {
+        yaml_problem_t::NO_BLANK_OR_BREAK => {
             in_directive(
                 kind,
                 "while scanning a %TAG directive",
                 "while scanning a tag",
             )
         }
-        problem_t::NO_COMMENT_OR_BREAK => {
+        yaml_problem_t::NO_COMMENT_OR_BREAK => {
             in_directive(
                 kind,
                 "while scanning a directive",
                 "while scanning a block scalar",
             )
         }
-        problem_t::NO_URI
-        | problem_t::NO_OCTET
-        | problem_t::BAD_LEAD_OCTET
-        | problem_t::BAD_NEXT_OCTET => {
+        yaml_problem_t::NO_URI
+        | yaml_problem_t::NO_OCTET
+        | yaml_problem_t::BAD_LEAD_OCTET
+        | yaml_problem_t::BAD_NEXT_OCTET => {
             in_directive(
                 kind,
                 "while parsing a %TAG directive",

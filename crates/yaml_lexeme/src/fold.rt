@@ -1,11 +1,13 @@
 //! The value of a run of blanks and breaks.
-ghost use Rattle.std.specs.Prelude.{◌≡◌, ◌≤◌, ◌++◌, IfOk, OnOk, encode_utf8, length, take};
+ghost use Rattle.std.specs.Prelude.{◌≡◌, ◌≤◌, ◌++◌, MatchResult, OnOk, encode_utf8, length, take};
 ghost use Rattle.yaml_text.specs.Chars.{utf8};
 ghost use Rattle.yaml_lexeme.specs.Classes as sets;
 ghost use Rattle.yaml_lexeme.specs.Place as place;
 ghost use Rattle.yaml_lexeme.specs.Fold as spec;
+ghost use Rattle.yaml_lexeme.specs.declared.problem.yaml_refusal_t.TheVariants.{MEMORY};
 
 use crate::place::cursor_t;
+use crate::problem::yaml_refusal_t;
 use crate::runs::class_t;
 use std::alloc::{AllocError, Global};
 
@@ -31,12 +33,12 @@ pub(crate) fn push_front(out: &mut Vec<u8>, bytes: &[u8], n: usize) -> Result<()
 /// A copy of the first `n` bytes. If they are few, a stage of bytes is copied as one, and what is too much of it is cut
 /// off.
 #[inline(always)]
-pub(crate) fn copied_front(alloc: Global, bytes: &[u8], n: usize) -> Result<Vec<u8>, AllocError>
+pub(crate) fn copied_front(alloc: Global, bytes: &[u8], n: usize) -> Result<Vec<u8>, yaml_refusal_t>
     requires { n ≤ length bytes.now }
-    ensures { IfOk result (λ out. out.items ≡ take n bytes.now) }
+    ensures { MatchResult result (λ out. out.items ≡ take n bytes.now) (λ e. e ≡ MEMORY) }
 {
     if n > STAGE || bytes.len() < STAGE {
-        return Vec::from_slice(alloc, &bytes[..n]);
+        return Ok(Vec::from_slice(alloc, &bytes[..n])?);
     }
     let mut out = Vec::with_capacity(alloc, STAGE)?;
     out.extend_from_slice(&bytes[..STAGE])?;

@@ -1,7 +1,11 @@
 //! Kinds of lexemes.
-ghost use Rattle.std.specs.Prelude.{ℕ, ◌≡◌};
+ghost use Rattle.std.specs.Prelude.{ℕ, ◌≡◌, true, false, Some, Ok, IfSome};
+ghost use Rattle.yaml_lexeme.specs.Gap as gaps;
+ghost use Rattle.yaml_lexeme.specs.Lex as lex;
+ghost use Rattle.yaml_lexeme.specs.Lexeme.{whole_of};
 ghost use Rattle.yaml_lexeme.specs.Place.{IsMarkOf, place_at};
 ghost use Rattle.yaml_lexeme.specs.Kind as spec;
+ghost use Rattle.yaml_lexeme.specs.declared.lex.yaml_context_t.{yaml_context_t};
 
 use crate::classes::ends;
 use crate::place::{check_at, cursor_t, is_at};
@@ -164,4 +168,35 @@ pub fn yaml_lexeme_kind(
     ensures { (n : ℕ) → IsMarkOf text.now.chars at n → result ≡ spec.kind_at in_flow (place_at text.now.chars n) }
 {
     kind_at(&cursor_t::at(text, at), in_flow)
+}
+
+/// The kind of the lexeme at a place, if it is a `:`, or in flow a `,`, `]` or `}`, and no gap comes before it.
+///
+/// `at` must be the mark of a place of this text, as for [`yaml_lexeme_kind`]. The kind that is returned is the one
+/// that `yaml_lexeme_kind` returns there, and the lexeme is that one character. `None` says nothing. No memory is
+/// taken.
+#[tactic(auto, unfolding(crate::specs::Kind::kind_at))]
+#[inline(always)]
+pub fn yaml_decider_at(
+    text: &yaml_text_t,
+    at: yaml_mark_t,
+    in_flow: bool,
+) -> Option<yaml_lexeme_kind_t>
+    requires { (n : ℕ) × IsMarkOf text.now.chars at n }
+    ensures decides { IfSome result (λ k. lex.decides in_flow k ≡ true) }
+    ensures gap { IfSome result (λ k. (n : ℕ) → IsMarkOf text.now.chars at n
+        → gaps.IsGap (place_at text.now.chars n) (place_at text.now.chars n) false) }
+    ensures kind { IfSome result (λ k. (n : ℕ) → IsMarkOf text.now.chars at n
+        → spec.kind_at in_flow (place_at text.now.chars n) ≡ Some k) }
+    ensures value { IfSome result (λ k. (n : ℕ) (context : yaml_context_t) → IsMarkOf text.now.chars at n
+        → lex.lexeme_at k context (place_at text.now.chars n) ≡ Ok (whole_of (lex.says_of k) at (lex.one_on at))) }
+{
+    let cursor = cursor_t::at(text, at);
+    match cursor.peek(0) {
+        ':' if in_flow || is_at!(cursor, ends, 1) => Some(yaml_lexeme_kind_t::VALUE),
+        ',' if in_flow => Some(yaml_lexeme_kind_t::FLOW_ENTRY),
+        ']' if in_flow => Some(yaml_lexeme_kind_t::FLOW_SEQUENCE_END),
+        '}' if in_flow => Some(yaml_lexeme_kind_t::FLOW_MAPPING_END),
+        _ => None,
+    }
 }

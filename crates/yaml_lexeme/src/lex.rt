@@ -1,9 +1,8 @@
 //! Lexemes of every kind.
-ghost use Rattle.std.specs.Prelude.{ℕ, ◌≡◌, ◌+◌, ◌<◌, ◌≤◌, ◌^◌, true, Some, Ok, IsOk, IfSome, length};
+ghost use Rattle.std.specs.Prelude.{ℕ, Bool, ◌≡◌, ◌+◌, ◌<◌, ◌≤◌, ◌^◌, true, Some, Ok, IsOk, IfSome, length};
 ghost use Rattle.yaml_text.specs.Chars.{utf8};
-ghost use Rattle.yaml_text.specs.Fault.{fault_of, scanner_fault};
+ghost use Rattle.yaml_text.specs.Fault.{fault_of};
 ghost use Rattle.yaml_lexeme.specs.Kind as kinds;
-ghost use Rattle.yaml_lexeme.specs.FaultTexts as texts;
 ghost use Rattle.yaml_lexeme.specs.Lex as spec;
 ghost use Rattle.yaml_lexeme.specs.Block as blocks;
 ghost use Rattle.yaml_lexeme.specs.Directive as directives;
@@ -12,11 +11,12 @@ ghost use Rattle.yaml_lexeme.specs.Plain as plains;
 ghost use Rattle.yaml_lexeme.specs.Quoted as quotes;
 ghost use Rattle.yaml_lexeme.specs.Tag as tags;
 ghost use Rattle.yaml_text.specs.declared.types.yaml_scalar_style_t.TheVariants.{YAML_PLAIN_SCALAR_STYLE};
-ghost use Rattle.yaml_lexeme.specs.Place.{IsMarkOf, place_at, skip};
-ghost use Rattle.yaml_lexeme.specs.Reading.{found};
+ghost use Rattle.yaml_lexeme.specs.Place.{Place, IsMarkOf, place_at, skip};
+ghost use Rattle.yaml_lexeme.specs.Reading.{Read, found};
 ghost use Rattle.yaml_lexeme.specs.inside.Gives.{Gives};
-ghost use Rattle.yaml_lexeme.specs.Answers.{Answers};
-ghost use Rattle.yaml_lexeme.specs.Lexeme.{lexeme, lexeme_of, span_lexeme, whole, scalar_to, directive_to};
+ghost use Rattle.yaml_lexeme.specs.Answers.{Answers, ReadsAs, refused_at};
+ghost use Rattle.yaml_lexeme.specs.Lexeme.{Lexeme, lexeme, lexeme_of, whole, scalar_to, directive_to};
+ghost use Rattle.yaml_lexeme.specs.declared.kind.yaml_lexeme_kind_t.{yaml_lexeme_kind_t as Kind};
 ghost use Rattle.yaml_lexeme.specs.declared.kind.yaml_lexeme_kind_t.TheVariants.{PLAIN};
 ghost use Rattle.yaml_lexeme.specs.declared.lex.yaml_context_t.{yaml_context_t};
 ghost use Rattle.yaml_text.specs.Token.{data_of};
@@ -26,12 +26,12 @@ use crate::directive::take_directive;
 use crate::fault::{make_memory_fault, make_scanner_fault};
 use crate::fault_texts::{context_text, problem_text};
 use crate::kind::yaml_lexeme_kind_t;
-use crate::lexeme::{directive_to, scalar_to, span_t, span_to, whole_of, yaml_lexeme_t};
+use crate::lexeme::{directive_to, scalar_to, whole_of, yaml_lexeme_t};
 use crate::name::take_name;
 use crate::place::cursor_t;
-use crate::plain::{plain_at_once, take_plain};
-use crate::problem::{problem_t, refusal_t};
-use crate::quoted::{quoted_at_once, take_quoted};
+use crate::plain::take_plain;
+use crate::problem::{refused, yaml_refusal_t};
+use crate::quoted::take_quoted;
 use crate::stream_end::take_stream_end;
 use crate::tag::take_tag;
 use std::alloc::Global;
@@ -49,6 +49,7 @@ pub struct yaml_context_t {
 }
 
 /// What a lexeme of one character, or a document marker, says.
+#[inline(always)]
 fn says_of(kind: yaml_lexeme_kind_t) -> unnamed_yaml_token_t_data
     ensures { data_of result ≡ spec.says_of kind }
 {
@@ -67,17 +68,6 @@ fn says_of(kind: yaml_lexeme_kind_t) -> unnamed_yaml_token_t_data
     }
 }
 
-/// How many characters it takes.
-fn len_of(kind: yaml_lexeme_kind_t) -> usize
-    ensures { result ≡ spec.len_of kind }
-{
-    match kind {
-        yaml_lexeme_kind_t::DOCUMENT_START => 3,
-        yaml_lexeme_kind_t::DOCUMENT_END => 3,
-        _ => 1,
-    }
-}
-
 /// The least column of a line that goes on.
 fn least(context: yaml_context_t) -> u64
     requires { spec.least context < 2 ^ 64 }
@@ -86,19 +76,28 @@ fn least(context: yaml_context_t) -> u64
     above(context.level)
 }
 
-/// Takes a lexeme of one character, or a document marker.
+/// Takes a lexeme of one character.
 #[inline(always)]
-fn take_characters(
-    cursor: &mut cursor_t,
-    kind: yaml_lexeme_kind_t,
-) -> Result<yaml_lexeme_t, refusal_t>
-    ensures value { Gives lexeme_of result cursor.new
-        (lexeme (whole spec.says_of) cursor.old (found kind (skip (spec.len_of kind) cursor.old))) }
-    ensures taken { IsOk result }
+fn take_character(cursor: &mut cursor_t, kind: yaml_lexeme_kind_t) -> yaml_lexeme_t
+    requires character { spec.is_character kind ≡ true }
+    requires there { (flow : Bool) × (kinds.kind_at flow cursor.old ≡ Some kind) }
+    ensures { lexeme (whole spec.says_of) cursor.old (found kind (skip (spec.len_of kind) cursor.old))
+        ≡ found (lexeme_of result) cursor.new }
 {
     let start = cursor.mark();
-    cursor.skip(len_of(kind));
-    Ok(whole_of(says_of(kind), start, cursor.mark()))
+    cursor.pass();
+    whole_of(says_of(kind), start, cursor.mark())
+}
+
+/// Takes a document marker.
+fn take_marker(cursor: &mut cursor_t, kind: yaml_lexeme_kind_t) -> yaml_lexeme_t
+    requires { spec.len_of kind ≡ 3 }
+    ensures { lexeme (whole spec.says_of) cursor.old (found kind (skip (spec.len_of kind) cursor.old))
+        ≡ found (lexeme_of result) cursor.new }
+{
+    let start = cursor.mark();
+    cursor.skip(3);
+    whole_of(says_of(kind), start, cursor.mark())
 }
 
 /// What an anchor or an alias says.
@@ -118,7 +117,7 @@ fn take_anchor_or_alias(
     alloc: Global,
     cursor: &mut cursor_t,
     anchor: bool,
-) -> Result<yaml_lexeme_t, refusal_t>
+) -> Result<yaml_lexeme_t, yaml_refusal_t>
     ensures { Gives lexeme_of result cursor.new
         (lexeme (whole (spec.anchor_or_alias anchor)) cursor.old (names.name cursor.old)) }
 {
@@ -133,7 +132,7 @@ fn take_whole_tag(
     alloc: Global,
     cursor: &mut cursor_t,
     context: yaml_context_t,
-) -> Result<yaml_lexeme_t, refusal_t>
+) -> Result<yaml_lexeme_t, yaml_refusal_t>
     ensures { Gives lexeme_of result cursor.new
         (lexeme (whole (λ t. t)) cursor.old (tags.tag (spec.in_flow context) cursor.old)) }
 {
@@ -144,7 +143,10 @@ fn take_whole_tag(
 
 /// Takes a directive.
 #[inline(never)]
-fn take_whole_directive(alloc: Global, cursor: &mut cursor_t) -> Result<yaml_lexeme_t, refusal_t>
+fn take_whole_directive(
+    alloc: Global,
+    cursor: &mut cursor_t,
+) -> Result<yaml_lexeme_t, yaml_refusal_t>
     ensures { Gives lexeme_of result cursor.new (lexeme directive_to cursor.old (directives.directive cursor.old)) }
 {
     let start = cursor.mark();
@@ -163,20 +165,22 @@ fn block_style(folded: bool) -> yaml_scalar_style_t
 }
 
 /// Takes a literal or folded scalar.
-#[inline(never)]
+#[inline(always)]
 fn take_block_scalar(
     alloc: Global,
     cursor: &mut cursor_t,
     folded: bool,
     context: yaml_context_t,
-) -> Result<yaml_lexeme_t, refusal_t>
+) -> Result<yaml_lexeme_t, yaml_refusal_t>
     requires { spec.least context + 10 < 2 ^ 64 }
     ensures { Gives lexeme_of result cursor.new
         (lexeme (scalar_to (spec.block_style folded)) cursor.old (blocks.block folded context.level cursor.old)) }
 {
     let start = cursor.mark();
-    let scalar = take_block(alloc, cursor, folded, context.level)?;
-    Ok(scalar_to(block_style(folded), start, scalar, cursor.mark()))
+    match take_block(alloc, cursor, folded, context.level) {
+        Ok(scalar) => Ok(scalar_to(block_style(folded), start, scalar, cursor.mark())),
+        Err(refusal) => Err(refused(refusal)),
+    }
 }
 
 /// What a quoted scalar says.
@@ -197,40 +201,87 @@ fn quoted_style(single: bool) -> yaml_scalar_style_t
 }
 
 /// Takes a quoted scalar.
-#[inline(never)]
+#[inline(always)]
 fn take_quoted_scalar(
     alloc: Global,
     cursor: &mut cursor_t,
     single: bool,
-) -> Result<yaml_lexeme_t, refusal_t>
+) -> Result<yaml_lexeme_t, yaml_refusal_t>
     ensures { Gives lexeme_of result cursor.new
         (lexeme (whole (spec.quoted_as (spec.quoted_style single))) cursor.old (quotes.quoted single cursor.old)) }
 {
     let start = cursor.mark();
-    let value = take_quoted(alloc, cursor, single)?;
-    Ok(whole_of(quoted_as(value, quoted_style(single)), start, cursor.mark()))
+    match take_quoted(alloc, cursor, single) {
+        Ok(value) => Ok(whole_of(quoted_as(value, quoted_style(single)), start, cursor.mark())),
+        Err(refusal) => Err(refused(refusal)),
+    }
 }
 
 /// Takes a plain scalar.
-#[inline(never)]
+#[inline(always)]
 fn take_plain_scalar(
     alloc: Global,
     cursor: &mut cursor_t,
     context: yaml_context_t,
-) -> Result<yaml_lexeme_t, refusal_t>
+) -> Result<yaml_lexeme_t, yaml_refusal_t>
     requires { spec.least context + 10 < 2 ^ 64 }
     ensures { Gives lexeme_of result cursor.new
         (lexeme (scalar_to YAML_PLAIN_SCALAR_STYLE) cursor.old
         (plains.plain (spec.in_flow context) (spec.least context) cursor.old)) }
 {
     let start = cursor.mark();
-    let scalar = take_plain(alloc, cursor, context.depth > 0, least(context))?;
-    Ok(scalar_to(
-        yaml_scalar_style_t::YAML_PLAIN_SCALAR_STYLE,
-        start,
-        scalar,
-        cursor.mark(),
-    ))
+    match take_plain(alloc, cursor, context.depth > 0, least(context)) {
+        Ok(scalar) => Ok(scalar_to(
+            yaml_scalar_style_t::YAML_PLAIN_SCALAR_STYLE,
+            start,
+            scalar,
+            cursor.mark(),
+        )),
+        Err(refusal) => Err(refused(refusal)),
+    }
+}
+
+/// Takes a literal or folded scalar in a function of its own.
+#[inline(never)]
+fn take_block_apart(
+    alloc: Global,
+    cursor: &mut cursor_t,
+    folded: bool,
+    context: yaml_context_t,
+) -> Result<yaml_lexeme_t, yaml_refusal_t>
+    requires { spec.least context + 10 < 2 ^ 64 }
+    ensures { Gives lexeme_of result cursor.new
+        (lexeme (scalar_to (spec.block_style folded)) cursor.old (blocks.block folded context.level cursor.old)) }
+{
+    take_block_scalar(alloc, cursor, folded, context)
+}
+
+/// Takes a quoted scalar in a function of its own.
+#[inline(never)]
+fn take_quoted_apart(
+    alloc: Global,
+    cursor: &mut cursor_t,
+    single: bool,
+) -> Result<yaml_lexeme_t, yaml_refusal_t>
+    ensures { Gives lexeme_of result cursor.new
+        (lexeme (whole (spec.quoted_as (spec.quoted_style single))) cursor.old (quotes.quoted single cursor.old)) }
+{
+    take_quoted_scalar(alloc, cursor, single)
+}
+
+/// Takes a plain scalar in a function of its own.
+#[inline(never)]
+fn take_plain_apart(
+    alloc: Global,
+    cursor: &mut cursor_t,
+    context: yaml_context_t,
+) -> Result<yaml_lexeme_t, yaml_refusal_t>
+    requires { spec.least context + 10 < 2 ^ 64 }
+    ensures { Gives lexeme_of result cursor.new
+        (lexeme (scalar_to YAML_PLAIN_SCALAR_STYLE) cursor.old
+        (plains.plain (spec.in_flow context) (spec.least context) cursor.old)) }
+{
+    take_plain_scalar(alloc, cursor, context)
 }
 
 /// Takes a lexeme of the kind. Each kind has a function of its own, so that none pays for the room that another needs.
@@ -241,51 +292,184 @@ fn take_lexeme(
     cursor: &mut cursor_t,
     kind: yaml_lexeme_kind_t,
     context: yaml_context_t,
-) -> Result<yaml_lexeme_t, refusal_t>
-    requires { spec.least context + 10 < 2 ^ 64 }
+) -> Result<yaml_lexeme_t, yaml_refusal_t>
+    requires room { spec.least context + 10 < 2 ^ 64 }
+    requires there { (flow : Bool) × (kinds.kind_at flow cursor.old ≡ Some kind) }
     ensures value { Gives lexeme_of result cursor.new (spec.lex kind context cursor.old) }
     ensures bare { spec.is_bare kind ≡ true → IsOk result }
 {
     match kind {
         yaml_lexeme_kind_t::STREAM_END => take_stream_end(cursor),
-        yaml_lexeme_kind_t::DOCUMENT_START
-        | yaml_lexeme_kind_t::DOCUMENT_END
-        | yaml_lexeme_kind_t::FLOW_SEQUENCE_START
+        yaml_lexeme_kind_t::DOCUMENT_START | yaml_lexeme_kind_t::DOCUMENT_END => {
+            Ok(take_marker(cursor, kind))
+        }
+        yaml_lexeme_kind_t::FLOW_SEQUENCE_START
         | yaml_lexeme_kind_t::FLOW_MAPPING_START
         | yaml_lexeme_kind_t::FLOW_SEQUENCE_END
         | yaml_lexeme_kind_t::FLOW_MAPPING_END
         | yaml_lexeme_kind_t::FLOW_ENTRY
         | yaml_lexeme_kind_t::BLOCK_ENTRY
         | yaml_lexeme_kind_t::KEY
-        | yaml_lexeme_kind_t::VALUE => take_characters(cursor, kind),
+        | yaml_lexeme_kind_t::VALUE => Ok(take_character(cursor, kind)),
         yaml_lexeme_kind_t::DIRECTIVE => take_whole_directive(alloc, cursor),
         yaml_lexeme_kind_t::ALIAS => take_anchor_or_alias(alloc, cursor, false),
         yaml_lexeme_kind_t::ANCHOR => take_anchor_or_alias(alloc, cursor, true),
         yaml_lexeme_kind_t::TAG => take_whole_tag(alloc, cursor, context),
-        yaml_lexeme_kind_t::LITERAL => take_block_scalar(alloc, cursor, false, context),
-        yaml_lexeme_kind_t::FOLDED => take_block_scalar(alloc, cursor, true, context),
-        yaml_lexeme_kind_t::SINGLE_QUOTED => take_quoted_scalar(alloc, cursor, true),
-        yaml_lexeme_kind_t::DOUBLE_QUOTED => take_quoted_scalar(alloc, cursor, false),
-        yaml_lexeme_kind_t::PLAIN => take_plain_scalar(alloc, cursor, context),
+        yaml_lexeme_kind_t::LITERAL => take_block_apart(alloc, cursor, false, context),
+        yaml_lexeme_kind_t::FOLDED => take_block_apart(alloc, cursor, true, context),
+        yaml_lexeme_kind_t::SINGLE_QUOTED => take_quoted_apart(alloc, cursor, true),
+        yaml_lexeme_kind_t::DOUBLE_QUOTED => take_quoted_apart(alloc, cursor, false),
+        yaml_lexeme_kind_t::PLAIN => take_plain_apart(alloc, cursor, context),
     }
 }
 
-/// The fault of a problem in a lexeme.
-fn make_fault(
+/// What was taken, or why nothing was; then `there` is set to the mark of the offence.
+#[inline(always)]
+fn read_to(
+    taken: Result<yaml_lexeme_t, yaml_refusal_t>,
+    cursor: &cursor_t,
+    there: &mut yaml_mark_t,
+) -> Result<yaml_lexeme_t, yaml_refusal_t>
+    ensures value { (k : Kind) (p : Place) (read : Read Lexeme) → Gives lexeme_of taken cursor.now read
+        → ReadsAs lexeme_of k p.mark there.new result (spec.answer k p read) }
+    ensures taken { IsOk taken → IsOk result }
+{
+    match taken {
+        Ok(lexeme) => Ok(lexeme),
+        Err(refusal) => {
+            *there = cursor.mark();
+            Err(refused(refusal))
+        }
+    }
+}
+
+/// The plain scalar at a place, or why there is none; then `there` is the mark of the offence.
+///
+/// The place and the context are as for [`yaml_lexeme_at`], and so is the lexeme. [`yaml_lexeme_fault`] makes the fault
+/// of a refusal. Memory may be refused too.
+#[tactic(auto, unfolding(crate::specs::Lex::lex))]
+#[inline(always)]
+pub fn yaml_read_plain(
+    alloc: Global,
+    text: &yaml_text_t,
+    at: yaml_mark_t,
+    context: yaml_context_t,
+    there: &mut yaml_mark_t,
+) -> Result<yaml_lexeme_t, yaml_refusal_t>
+    requires place { (n : ℕ) × IsMarkOf text.now.chars at n }
+    requires level { IfSome context.level (λ l. l ≤ length (utf8 text.now.chars)) }
+    ensures { (n : ℕ) → IsMarkOf text.now.chars at n
+        → ReadsAs lexeme_of PLAIN at there.new result (spec.lexeme_at PLAIN context (place_at text.now.chars n)) }
+{
+    let mut cursor = cursor_t::at(text, at);
+    let taken = take_plain_scalar(alloc, &mut cursor, context);
+    read_to(taken, &cursor, there)
+}
+
+/// The quoted scalar at a place, or why there is none, as [`yaml_read_plain`] returns a plain one. `single`: it is in
+/// single quotes.
+#[tactic(auto, unfolding(crate::specs::Lex::lex))]
+#[inline(always)]
+pub fn yaml_read_quoted(
+    alloc: Global,
+    text: &yaml_text_t,
+    at: yaml_mark_t,
+    single: bool,
+    there: &mut yaml_mark_t,
+) -> Result<yaml_lexeme_t, yaml_refusal_t>
+    requires { (n : ℕ) × IsMarkOf text.now.chars at n }
+    ensures { (n : ℕ) (context : yaml_context_t) → IsMarkOf text.now.chars at n
+        → ReadsAs lexeme_of (spec.quoted_kind single) at there.new result
+        (spec.lexeme_at (spec.quoted_kind single) context (place_at text.now.chars n)) }
+{
+    let mut cursor = cursor_t::at(text, at);
+    let taken = take_quoted_scalar(alloc, &mut cursor, single);
+    read_to(taken, &cursor, there)
+}
+
+/// The literal or folded scalar at a place, or why there is none, as [`yaml_read_plain`] returns a plain one.
+#[tactic(auto, unfolding(crate::specs::Lex::lex))]
+#[inline(always)]
+pub fn yaml_read_block(
+    alloc: Global,
+    text: &yaml_text_t,
+    at: yaml_mark_t,
+    folded: bool,
+    context: yaml_context_t,
+    there: &mut yaml_mark_t,
+) -> Result<yaml_lexeme_t, yaml_refusal_t>
+    requires place { (n : ℕ) × IsMarkOf text.now.chars at n }
+    requires level { IfSome context.level (λ l. l ≤ length (utf8 text.now.chars)) }
+    ensures { (n : ℕ) → IsMarkOf text.now.chars at n
+        → ReadsAs lexeme_of (spec.block_kind folded) at there.new result
+        (spec.lexeme_at (spec.block_kind folded) context (place_at text.now.chars n)) }
+{
+    let mut cursor = cursor_t::at(text, at);
+    let taken = take_block_scalar(alloc, &mut cursor, folded, context);
+    read_to(taken, &cursor, there)
+}
+
+/// The lexeme of one character at a place. No memory is taken.
+///
+/// `at` must be the mark of a place of this text, as for [`yaml_lexeme_at`], and `kind` what `yaml_lexeme_kind` returns
+/// there: a kind of one character. It is what `yaml_lexeme_at` returns there for the kind, in any context.
+#[tactic(auto, unfolding(crate::specs::Lex::lex))]
+#[inline(always)]
+pub fn yaml_read_character(
+    text: &yaml_text_t,
+    at: yaml_mark_t,
     kind: yaml_lexeme_kind_t,
-    problem: problem_t,
-    start: yaml_mark_t,
+) -> yaml_lexeme_t
+    requires place { (n : ℕ) × IsMarkOf text.now.chars at n
+        × ((flow : Bool) × (kinds.kind_at flow (place_at text.now.chars n) ≡ Some kind)) }
+    requires kind { spec.is_character kind ≡ true }
+    ensures { (n : ℕ) (context : yaml_context_t) → IsMarkOf text.now.chars at n
+        → spec.lexeme_at kind context (place_at text.now.chars n) ≡ Ok (lexeme_of result) }
+{
+    take_character(&mut cursor_t::at(text, at), kind)
+}
+
+/// The lexeme of any kind at a place, or why there is none, as [`yaml_read_plain`] returns a plain scalar.
+#[inline(never)]
+pub fn yaml_read_lexeme(
+    alloc: Global,
+    text: &yaml_text_t,
+    at: yaml_mark_t,
+    kind: yaml_lexeme_kind_t,
+    context: yaml_context_t,
+    there: &mut yaml_mark_t,
+) -> Result<yaml_lexeme_t, yaml_refusal_t>
+    requires place { (n : ℕ) × IsMarkOf text.now.chars at n
+        × ((flow : Bool) × (kinds.kind_at flow (place_at text.now.chars n) ≡ Some kind)) }
+    requires level { IfSome context.level (λ l. l ≤ length (utf8 text.now.chars)) }
+    ensures value { (n : ℕ) → IsMarkOf text.now.chars at n
+        → ReadsAs lexeme_of kind at there.new result (spec.lexeme_at kind context (place_at text.now.chars n)) }
+    ensures bare { spec.is_bare kind ≡ true → IsOk result }
+{
+    let mut cursor = cursor_t::at(text, at);
+    let taken = take_lexeme(alloc, &mut cursor, kind, context);
+    read_to(taken, &cursor, there)
+}
+
+/// The fault of a refusal: of a lexeme of a kind that starts at `at`, for an offence at `there`.
+#[cold]
+pub fn yaml_lexeme_fault(
+    refusal: yaml_refusal_t,
+    kind: yaml_lexeme_kind_t,
+    at: yaml_mark_t,
     there: yaml_mark_t,
 ) -> yaml_fault_t
-    ensures { fault_of result
-        ≡ scanner_fault (texts.problem_text problem) there (Some (texts.context_text kind problem)) start }
+    ensures { fault_of result ≡ refused_at kind at there refusal }
 {
-    make_scanner_fault(
-        problem_text(problem),
-        there,
-        Some(context_text(kind, problem)),
-        start,
-    )
+    match refusal {
+        yaml_refusal_t::MEMORY => make_memory_fault(),
+        yaml_refusal_t::OFFENCE(problem) => make_scanner_fault(
+            problem_text(problem),
+            there,
+            Some(context_text(kind, problem)),
+            at,
+        ),
+    }
 }
 
 /// The lexeme at a place, or the fault of its first offence (YAML 1.1, 7.1 Directives, 7.2 Document
@@ -336,168 +520,6 @@ pub fn yaml_lexeme_at(
     let mut cursor = cursor_t::at(text, at);
     match take_lexeme(alloc, &mut cursor, kind, context) {
         Ok(lexeme) => Ok(lexeme),
-        Err(refusal_t::MEMORY) => Err(make_memory_fault()),
-        Err(refusal_t::OFFENCE(problem)) => Err(make_fault(kind, problem, at, cursor.mark())),
+        Err(refusal) => Err(yaml_lexeme_fault(refusal, kind, at, cursor.mark())),
     }
-}
-
-/// The plain scalar at a place, if a quick look shows that its value is bytes of the text: all of it is in one line.
-///
-/// `at` must be the mark of a place of this text, as for `yaml_lexeme_at`. The level of the context must be at most
-/// the number of the text's bytes. It is what `yaml_lexeme_at` returns there for the kind plain. Marks count as
-/// everywhere: the index in bytes, the line and the column from 0.
-///
-/// `None` says nothing: the scalar may go on in a further line, it may have an offence, a look that is not quick may be
-/// needed, or there is no memory for the value. Ask `yaml_lexeme_at` then.
-#[tactic(auto, unfolding(crate::specs::Lex::lex))]
-#[inline(always)]
-pub fn yaml_plain_at_once(
-    alloc: Global,
-    text: &yaml_text_t,
-    at: yaml_mark_t,
-    context: yaml_context_t,
-) -> Option<yaml_lexeme_t>
-    requires place { (n : ℕ) × IsMarkOf text.now.chars at n }
-    requires level { IfSome context.level (λ l. l ≤ length (utf8 text.now.chars)) }
-    ensures { IfSome result (λ x. (n : ℕ) → IsMarkOf text.now.chars at n
-        → spec.lexeme_at PLAIN context (place_at text.now.chars n) ≡ Ok (lexeme_of x)) }
-{
-    let mut cursor = cursor_t::at(text, at);
-    match plain_at_once(&mut cursor, context.depth > 0, least(context)) {
-        Some(span) => span_to(alloc, at, span),
-        None => None,
-    }
-}
-
-/// Takes a quoted scalar, if a quick look finds it.
-#[inline(always)]
-fn quoted_there<'a>(cursor: &mut cursor_t<'a>, single: bool) -> Option<span_t<'a>>
-    ensures value { IfSome result (λ x. lexeme (whole (spec.quoted_as (spec.quoted_style single))) cursor.old
-        (quotes.quoted single cursor.old) ≡ found (span_lexeme cursor.old.mark x) cursor.new) }
-    ensures within { IfSome result (λ x. x.len ≤ length x.left.now) }
-{
-    let Some((left, len)) = quoted_at_once(cursor, single) else {
-        return None;
-    };
-    Some(span_t {
-        left,
-        len,
-        style: quoted_style(single),
-        end_mark: cursor.mark(),
-        reach: cursor.mark(),
-        passed_break: false,
-    })
-}
-
-/// The quoted scalar at a place, if a quick look shows that its value is the bytes between its quotes.
-///
-/// `at` must be the mark of a place of this text, as for `yaml_lexeme_at`. It is what `yaml_lexeme_at` returns there
-/// for the kind, in any context. Marks count as everywhere: the index in bytes, the line and the column from 0.
-///
-/// `None` says nothing: the scalar may go on in a further line, it may have an escape or an offence, the kind may be
-/// that of no quoted scalar, or there is no memory for the value. Ask `yaml_lexeme_at` then.
-#[tactic(auto, unfolding(crate::specs::Lex::lex))]
-#[inline(always)]
-pub fn yaml_quoted_at_once(
-    alloc: Global,
-    text: &yaml_text_t,
-    at: yaml_mark_t,
-    kind: yaml_lexeme_kind_t,
-) -> Option<yaml_lexeme_t>
-    requires { (n : ℕ) × IsMarkOf text.now.chars at n }
-    ensures { IfSome result (λ x. (n : ℕ) (context : yaml_context_t) → IsMarkOf text.now.chars at n
-        → spec.lexeme_at kind context (place_at text.now.chars n) ≡ Ok (lexeme_of x)) }
-{
-    let mut cursor = cursor_t::at(text, at);
-    let found = match kind {
-        yaml_lexeme_kind_t::SINGLE_QUOTED => quoted_there(&mut cursor, true),
-        yaml_lexeme_kind_t::DOUBLE_QUOTED => quoted_there(&mut cursor, false),
-        _ => return None,
-    };
-    match found {
-        Some(span) => span_to(alloc, at, span),
-        None => None,
-    }
-}
-
-/// Takes a literal or folded scalar, if it has no offence and there is memory for it.
-#[inline(always)]
-fn block_there(
-    alloc: Global,
-    cursor: &mut cursor_t,
-    folded: bool,
-    context: yaml_context_t,
-) -> Option<yaml_lexeme_t>
-    requires { spec.least context + 10 < 2 ^ 64 }
-    ensures { IfSome result (λ x. lexeme (scalar_to (spec.block_style folded)) cursor.old
-        (blocks.block folded context.level cursor.old) ≡ found (lexeme_of x) cursor.new) }
-{
-    let start = cursor.mark();
-    match take_block(alloc, cursor, folded, context.level) {
-        Ok(scalar) => Some(scalar_to(block_style(folded), start, scalar, cursor.mark())),
-        Err(_) => None,
-    }
-}
-
-/// The literal or folded scalar at a place, if it has no offence and there is memory for its value.
-///
-/// `at` must be the mark of a place of this text, as for `yaml_lexeme_at`. The level of the context must be at most
-/// the number of the text's bytes. It is what `yaml_lexeme_at` returns there for the kind. Marks count as everywhere:
-/// the index in bytes, the line and the column from 0.
-///
-/// `None` says nothing: there may be an offence, the kind may be another one, or there is no memory for the value. Ask
-/// `yaml_lexeme_at` then.
-#[tactic(auto, unfolding(crate::specs::Lex::lex))]
-#[inline(always)]
-pub fn yaml_block_at_once(
-    alloc: Global,
-    text: &yaml_text_t,
-    at: yaml_mark_t,
-    kind: yaml_lexeme_kind_t,
-    context: yaml_context_t,
-) -> Option<yaml_lexeme_t>
-    requires place { (n : ℕ) × IsMarkOf text.now.chars at n }
-    requires level { IfSome context.level (λ l. l ≤ length (utf8 text.now.chars)) }
-    ensures { IfSome result (λ x. (n : ℕ) → IsMarkOf text.now.chars at n
-        → spec.lexeme_at kind context (place_at text.now.chars n) ≡ Ok (lexeme_of x)) }
-{
-    let mut cursor = cursor_t::at(text, at);
-    match kind {
-        yaml_lexeme_kind_t::LITERAL => block_there(alloc, &mut cursor, false, context),
-        yaml_lexeme_kind_t::FOLDED => block_there(alloc, &mut cursor, true, context),
-        _ => None,
-    }
-}
-
-/// The lexeme of one character, or the document marker, at a place; `None` for the other kinds.
-///
-/// `at` must be the mark of a place of this text, as for [`yaml_lexeme_at`]. It is what `yaml_lexeme_at` returns there
-/// for the kind, in any context. Marks count as everywhere: the index in bytes, the line and the column from 0. No
-/// memory is taken.
-#[tactic(auto, unfolding(crate::specs::Lex::lex))]
-#[inline(always)]
-pub fn yaml_character_at(
-    text: &yaml_text_t,
-    at: yaml_mark_t,
-    kind: yaml_lexeme_kind_t,
-) -> Option<yaml_lexeme_t>
-    requires { (n : ℕ) × IsMarkOf text.now.chars at n }
-    ensures { IfSome result (λ x. (n : ℕ) (context : yaml_context_t) → IsMarkOf text.now.chars at n
-        → spec.lexeme_at kind context (place_at text.now.chars n) ≡ Ok (lexeme_of x)) }
-{
-    let mut cursor = cursor_t::at(text, at);
-    let taken = match kind {
-        yaml_lexeme_kind_t::DOCUMENT_START
-        | yaml_lexeme_kind_t::DOCUMENT_END
-        | yaml_lexeme_kind_t::FLOW_SEQUENCE_START
-        | yaml_lexeme_kind_t::FLOW_MAPPING_START
-        | yaml_lexeme_kind_t::FLOW_SEQUENCE_END
-        | yaml_lexeme_kind_t::FLOW_MAPPING_END
-        | yaml_lexeme_kind_t::FLOW_ENTRY
-        | yaml_lexeme_kind_t::BLOCK_ENTRY
-        | yaml_lexeme_kind_t::KEY
-        | yaml_lexeme_kind_t::VALUE => take_characters(&mut cursor, kind),
-        _ => return None,
-    };
-    taken.ok()
 }

@@ -1,12 +1,10 @@
 //! Lexemes, and what they are made of.
-ghost use Rattle.std.specs.Prelude.{◌≡◌, ◌≤◌, IfSome, length};
+ghost use Rattle.std.specs.Prelude.{◌≡◌};
 ghost use Rattle.yaml_text.specs.Token.{data_of};
 ghost use Rattle.yaml_lexeme.specs.Lexeme as spec;
 
 use crate::directive::directive_t;
-use crate::fold::copied_front;
 use crate::plain::scalar_t;
-use std::alloc::Global;
 use yaml_text::{unnamed_yaml_token_t_data, yaml_mark_t, yaml_scalar_style_t};
 
 /// A lexeme that was read.
@@ -26,24 +24,6 @@ pub struct yaml_lexeme_t {
     /// its line's break.
     pub reach: yaml_mark_t,
     /// For a plain scalar, whether a break is between `end_mark` and `reach`; false for every other kind.
-    pub passed_break: bool,
-}
-
-/// A scalar whose value is bytes of the text.
-#[derive(Clone, Copy)]
-pub(crate) struct span_t<'a> {
-    /// What is left of the text from the value on.
-    pub left: &'a [u8],
-    /// How many of these bytes are the value: for a plain scalar those up to `end_mark`, for a quoted one those up to
-    /// its closing quote.
-    pub len: usize,
-    /// How it is written.
-    pub style: yaml_scalar_style_t,
-    /// The mark after its last character, which is the closing quote of a quoted one.
-    pub end_mark: yaml_mark_t,
-    /// The mark up to which was read; the next gap begins here. It is `end_mark`, or for a plain scalar after it.
-    pub reach: yaml_mark_t,
-    /// For a plain scalar, whether a break is between `end_mark` and `reach`; false for a quoted one.
     pub passed_break: bool,
 }
 
@@ -83,27 +63,6 @@ pub(crate) fn scalar_to(
         reach,
         passed_break: scalar.passed_break,
     }
-}
-
-/// The lexeme of a scalar that starts at a mark, if there is memory for its value.
-#[inline(always)]
-pub(crate) fn span_to(alloc: Global, start: yaml_mark_t, span: span_t<'_>) -> Option<yaml_lexeme_t>
-    requires { span.len ≤ length span.left.now }
-    ensures { IfSome result (λ l. spec.lexeme_of l ≡ spec.span_lexeme start span.entry) }
-{
-    let Ok(value) = copied_front(alloc, span.left, span.len) else {
-        return None;
-    };
-    Some(yaml_lexeme_t {
-        token_data: unnamed_yaml_token_t_data::SCALAR {
-            value,
-            style: span.style,
-        },
-        start_mark: start,
-        end_mark: span.end_mark,
-        reach: span.reach,
-        passed_break: span.passed_break,
-    })
 }
 
 /// The lexeme of a directive.

@@ -3,7 +3,6 @@
 
 mod block;
 mod classes;
-mod colon;
 mod directive;
 mod escape;
 mod fault;
@@ -24,11 +23,11 @@ mod stream_end;
 mod tag;
 mod uri;
 
-pub use colon::yaml_colon_at_once;
 pub use gap::yaml_gap;
-pub use kind::{yaml_lexeme_kind, yaml_lexeme_kind_t};
+pub use kind::{yaml_decider_at, yaml_lexeme_kind, yaml_lexeme_kind_t};
 pub use lex::{
-    yaml_block_at_once, yaml_character_at, yaml_context_t, yaml_lexeme_at, yaml_plain_at_once,
-    yaml_quoted_at_once,
+    yaml_context_t, yaml_lexeme_at, yaml_lexeme_fault, yaml_read_block, yaml_read_character,
+    yaml_read_lexeme, yaml_read_plain, yaml_read_quoted,
 };
 pub use lexeme::yaml_lexeme_t;
+pub use problem::{yaml_problem_t, yaml_refusal_t};

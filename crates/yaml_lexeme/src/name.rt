@@ -7,7 +7,7 @@ ghost use Rattle.yaml_lexeme.specs.inside.Gives.{Gives};
 
 use crate::classes::ends;
 use crate::place::{cursor_t, is_at};
-use crate::problem::{problem_t, refusal_t};
+use crate::problem::{offence, yaml_problem_t, yaml_refusal_t};
 use crate::runs::class_t;
 use std::alloc::Global;
 
@@ -35,13 +35,13 @@ fn is_behind_name(c: char) -> bool
 
 /// Takes the name after `&` or `*`.
 #[tactic(auto, unfolding(crate::specs::Name::name))]
-pub(crate) fn take_name(alloc: Global, cursor: &mut cursor_t) -> Result<Vec<u8>, refusal_t>
+pub(crate) fn take_name(alloc: Global, cursor: &mut cursor_t) -> Result<Vec<u8>, yaml_refusal_t>
     ensures { Gives (λ v. v.items) result cursor.new (spec.name cursor.old) }
 {
     cursor.advance();
     let letters = take_letters(cursor);
     if letters.is_empty() || !is_at!(cursor, is_behind_name, 0) {
-        return Err(refusal_t::OFFENCE(problem_t::NO_NAME));
+        return Err(offence(yaml_problem_t::NO_NAME));
     }
     Ok(Vec::from_slice(alloc, letters)?)
 }

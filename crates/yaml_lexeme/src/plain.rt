@@ -3,25 +3,23 @@ ghost use Rattle.std.specs.Prelude.{◌≡◌, ◌+◌, ◌||◌, ◌<◌, ◌�
 ghost use Rattle.std.specs.Prelude.{OnOk, IfOk, IfSome, take};
 ghost use Rattle.std.specs.List.{list_any};
 ghost use Rattle.yaml_text.specs.Classes as classes;
-ghost use Rattle.yaml_text.specs.declared.types.yaml_scalar_style_t.TheVariants.{YAML_PLAIN_SCALAR_STYLE};
 ghost use Rattle.yaml_text.specs.Chars.{utf8};
 ghost use Rattle.yaml_lexeme.specs.Classes as sets;
 ghost use Rattle.yaml_lexeme.specs.Place.{Place, first, peek, run, behind};
 ghost use Rattle.yaml_lexeme.specs.Plain as spec;
 ghost use Rattle.yaml_lexeme.specs.inside.Gives.{Gives, Appends};
-ghost use Rattle.yaml_lexeme.specs.Lexeme.{scalar_of, scalar_there};
-ghost use Rattle.yaml_lexeme.specs.Reading.{found, with_front, over};
+ghost use Rattle.yaml_lexeme.specs.Lexeme.{scalar_of, scalar_with};
+ghost use Rattle.yaml_lexeme.specs.Reading.{with_front, over};
 ghost use Rattle.yaml_lexeme.specs.inside.Words.{links, words, plain_of, Goes, LeadsTo, Leaves, LeavesMore};
 
 use crate::classes::{ends, is_break, is_white};
-use crate::fold::push_separator;
+use crate::fold::{copied_front, push_separator};
 use crate::kind::is_marker;
-use crate::lexeme::span_t;
 use crate::place::{check_at, cursor_t, is_at};
-use crate::problem::{problem_t, refusal_t};
+use crate::problem::{offence, refused, yaml_problem_t, yaml_refusal_t};
 use crate::runs::class_t;
 use std::alloc::Global;
-use yaml_text::{yaml_mark_t, yaml_scalar_style_t};
+use yaml_text::yaml_mark_t;
 
 /// A scalar that was read.
 #[derive(Drop)]
@@ -140,7 +138,7 @@ fn take_words(
     in_flow: bool,
     least: u64,
     out: &mut Vec<u8>,
-) -> Result<(), refusal_t>
+) -> Result<(), yaml_refusal_t>
     ensures value { Leaves result
         (with_front out.old.items (words in_flow least cursor.old))
         (with_front out.new.items (links in_flow least cursor.new)) cursor.new }
@@ -148,7 +146,7 @@ fn take_words(
 {
     let piece = line_words(cursor, in_flow, least);
     if is_bad_colon(cursor, in_flow) {
-        return Err(refusal_t::OFFENCE(problem_t::COLON_IN_FLOW));
+        return Err(offence(yaml_problem_t::COLON_IN_FLOW));
     }
     out.extend_from_slice(piece)?;
     Ok(())
@@ -161,13 +159,13 @@ fn is_bad_tab(cursor: &cursor_t, broken: bool, least: u64) -> bool
 }
 
 /// Takes a separator; a tab in indentation is an offence.
-fn skip_separator(cursor: &mut cursor_t, least: u64) -> Result<(), refusal_t>
+fn skip_separator(cursor: &mut cursor_t, least: u64) -> Result<(), yaml_refusal_t>
     ensures { Appends (λ run. []) result [] [] cursor.new (spec.separator least cursor.old) }
 {
     let mut broken = false;
     'run: while is_at!(cursor, is_white, 0) {
         if is_bad_tab(cursor, broken, least) {
-            return Err(refusal_t::OFFENCE(problem_t::TAB_IN_PLAIN));
+            return Err(offence(yaml_problem_t::TAB_IN_PLAIN));
         }
         broken |= is_at!(cursor, is_break, 0);
         cursor.advance();
@@ -188,7 +186,7 @@ fn take_link(
     in_flow: bool,
     least: u64,
     out: &mut Vec<u8>,
-) -> Result<bool, refusal_t>
+) -> Result<bool, yaml_refusal_t>
     ensures value { LeavesMore result
         (with_front out.old.items (links in_flow least cursor.old))
         (with_front out.new.items (links in_flow least cursor.new)) out.new.items cursor.new }
@@ -204,7 +202,7 @@ fn take_link(
         return Ok(false);
     }
     if is_bad_colon(cursor, in_flow) {
-        return Err(refusal_t::OFFENCE(problem_t::COLON_IN_FLOW));
+        return Err(offence(yaml_problem_t::COLON_IN_FLOW));
     }
     if !is_chunk(cursor, in_flow) {
         *cursor = start;
@@ -242,82 +240,81 @@ fn ends_at_once(cursor: &mut cursor_t, in_flow: bool, least: u64) -> Option<bool
     Some(true)
 }
 
-/// Takes a plain scalar, if a quick look shows that its value is bytes of the text. `least` is the least column
-/// of a line that goes on. After `None` the cursor may be at any place.
-#[inline(always)]
-pub(crate) fn plain_at_once<'a>(
-    cursor: &mut cursor_t<'a>,
-    in_flow: bool,
-    least: u64,
-) -> Option<span_t<'a>>
-    ensures value { IfSome result (λ x. spec.plain in_flow least cursor.old ≡ found (scalar_there x) cursor.new) }
-    ensures within { IfSome result (λ x. x.len ≤ length x.left.now) }
-    ensures style { IfSome result (λ x. x.style ≡ YAML_PLAIN_SCALAR_STYLE) }
-    ensures reach { IfSome result (λ x. x.reach ≡ cursor.new.mark) }
-{
-    let left = cursor.left();
-    let value = line_words(cursor, in_flow, least);
-    if is_bad_colon(cursor, in_flow) {
-        return None;
-    }
-    let end_mark = cursor.mark();
-    let Some(passed_break) = ends_at_once(cursor, in_flow, least) else {
-        return None;
-    };
-    Some(span_t {
-        left,
-        len: value.len(),
-        style: yaml_scalar_style_t::YAML_PLAIN_SCALAR_STYLE,
-        end_mark,
-        reach: cursor.mark(),
-        passed_break,
-    })
-}
-
-/// Takes the separators and words after those of the first line, which are in `out`.
-#[inline(never)]
+/// Takes the separators and words after those of the first line, and the separator after all. Appends the words with
+/// what is between them to `out`, and sets the mark after the last word. Returns whether a break is in the last
+/// separator.
+#[cold]
 fn take_links(
     cursor: &mut cursor_t,
     in_flow: bool,
     least: u64,
-    mut out: Vec<u8>,
-) -> Result<scalar_t, refusal_t>
-    ensures { (p : Place) → LeadsTo in_flow least p out.items cursor.old
-        → Gives scalar_of result cursor.new (spec.plain in_flow least p) }
+    out: &mut Vec<u8>,
+    end: &mut yaml_mark_t,
+) -> Result<bool, yaml_refusal_t>
+    ensures { (p : Place) → LeadsTo in_flow least p out.old.items cursor.old
+        → Gives (scalar_with out.new.items end.new) result cursor.new (spec.plain in_flow least p) }
 {
-    'links: while take_link(cursor, in_flow, least, &mut out)? {}
-    let end = cursor.mark();
+    'links: while take_link(cursor, in_flow, least, out)? {}
+    *end = cursor.mark();
     cursor.skip_run(class_t::BLANK);
     let passed_break = is_at!(cursor, is_break, 0);
     cursor.skip_run(class_t::BLANK_OR_BREAK);
-    Ok(scalar_t {
-        value: out,
-        end,
-        passed_break,
-    })
+    Ok(passed_break)
+}
+
+/// Takes what is left of a plain scalar after its first line.
+#[inline(always)]
+fn take_lines(
+    cursor: &mut cursor_t,
+    in_flow: bool,
+    least: u64,
+    value: Vec<u8>,
+) -> Result<scalar_t, yaml_refusal_t>
+    ensures { (p : Place) → LeadsTo in_flow least p value.items cursor.old
+        → Gives scalar_of result cursor.new (spec.plain in_flow least p) }
+{
+    // copies, so that the cursor and the value themselves stay in registers
+    let mut here = cursor.again();
+    let mut out = value;
+    let mut end = cursor.mark();
+    let taken = take_links(&mut here, in_flow, least, &mut out, &mut end);
+    *cursor = here;
+    match taken {
+        Ok(passed_break) => Ok(scalar_t {
+            value: out,
+            end,
+            passed_break,
+        }),
+        Err(refusal) => Err(refused(refusal)),
+    }
 }
 
 /// Takes a plain scalar. `least` is the least column of a line that goes on.
+#[inline(always)]
 pub(crate) fn take_plain(
     alloc: Global,
     cursor: &mut cursor_t,
     in_flow: bool,
     least: u64,
-) -> Result<scalar_t, refusal_t>
+) -> Result<scalar_t, yaml_refusal_t>
     ensures { Gives scalar_of result cursor.new (spec.plain in_flow least cursor.old) }
 {
-    let piece = line_words(cursor, in_flow, least);
+    let left = cursor.left();
+    let len = line_words(cursor, in_flow, least).len();
     if is_bad_colon(cursor, in_flow) {
-        return Err(refusal_t::OFFENCE(problem_t::COLON_IN_FLOW));
+        return Err(offence(yaml_problem_t::COLON_IN_FLOW));
     }
-    let out = Vec::from_slice(alloc, piece)?;
-    let end = cursor.mark();
-    let Some(passed_break) = ends_at_once(cursor, in_flow, least) else {
-        return take_links(cursor, in_flow, least, out);
+    let value = match copied_front(alloc, left, len) {
+        Ok(value) => value,
+        Err(refusal) => return Err(refused(refusal)),
     };
-    Ok(scalar_t {
-        value: out,
-        end,
-        passed_break,
-    })
+    let end = cursor.mark();
+    match ends_at_once(cursor, in_flow, least) {
+        Some(passed_break) => Ok(scalar_t {
+            value,
+            end,
+            passed_break,
+        }),
+        None => take_lines(cursor, in_flow, least, value),
+    }
 }

@@ -1,12 +1,12 @@
 //! Why a lexeme could not be read.
 ghost use Rattle.std.specs.Prelude.{◌≡◌};
-ghost use Rattle.yaml_lexeme.specs.declared.problem.refusal_t.TheVariants.{MEMORY};
+ghost use Rattle.yaml_lexeme.specs.declared.problem.yaml_refusal_t.TheVariants.{MEMORY, OFFENCE};
 
 use std::alloc::{AllocError, AllocFailed};
 
 /// What is wrong with a text at a place.
 #[derive(Clone, Copy, PartialEq, Eq)]
-pub(crate) enum problem_t {
+pub enum yaml_problem_t {
     UNKNOWN_DIRECTIVE,
     NO_COMMENT_OR_BREAK,
     NO_DIRECTIVE_NAME,
@@ -35,27 +35,45 @@ pub(crate) enum problem_t {
     TAB_IN_PLAIN,
 }
 
-/// Why a reader failed.
-#[derive(Drop)]
-pub(crate) enum refusal_t {
+/// Why a reader failed. Two bytes, so that it stays in registers; `yaml_lexeme_fault` makes the fault of it.
+#[derive(Clone, Copy)]
+pub enum yaml_refusal_t {
     /// A growth was refused.
     MEMORY,
     /// An offence, at the place of the cursor.
-    OFFENCE(problem_t),
+    OFFENCE(yaml_problem_t),
 }
 
-impl From<AllocError> for refusal_t {
+impl From<AllocError> for yaml_refusal_t {
     ghost from_gives = { λ _ e. e ≡ MEMORY };
 
-    fn from(_e: AllocError) -> refusal_t {
-        refusal_t::MEMORY
+    #[cold]
+    fn from(_e: AllocError) -> yaml_refusal_t {
+        yaml_refusal_t::MEMORY
     }
 }
 
-impl<T: Drop> From<AllocFailed<T>> for refusal_t {
+impl<T: Drop> From<AllocFailed<T>> for yaml_refusal_t {
     ghost from_gives = { λ _ e. e ≡ MEMORY };
 
-    fn from(_e: AllocFailed<T>) -> refusal_t {
-        refusal_t::MEMORY
+    #[cold]
+    fn from(_e: AllocFailed<T>) -> yaml_refusal_t {
+        yaml_refusal_t::MEMORY
     }
+}
+
+/// An offence, at the place of the cursor. It is cold, so that the compiler takes no reader's fault for likely.
+#[cold]
+pub(crate) fn offence(problem: yaml_problem_t) -> yaml_refusal_t
+    ensures { result ≡ OFFENCE problem }
+{
+    yaml_refusal_t::OFFENCE(problem)
+}
+
+/// The same refusal. It is cold, as [`offence`] is.
+#[cold]
+pub(crate) fn refused(refusal: yaml_refusal_t) -> yaml_refusal_t
+    ensures { result ≡ refusal }
+{
+    refusal
 }

@@ -1,35 +1,35 @@
 //! Quoted scalars.
 ghost use Rattle.std.specs.Prelude.{ℕ, Bool, ◌≡◌, ◌≤◌, ◌++◌, false, true, List, Ok, Err, if◌then◌else◌, length};
-ghost use Rattle.std.specs.Prelude.{OnOk, IfSome, take};
+ghost use Rattle.std.specs.Prelude.{OnOk, take};
 ghost use Rattle.yaml_text.specs.Chars.{utf8};
 ghost use Rattle.yaml_text.specs.Classes.{is_break};
 ghost use Rattle.yaml_lexeme.specs.Classes.{is_white};
-ghost use Rattle.yaml_lexeme.specs.declared.problem.refusal_t.TheVariants.{OFFENCE};
-ghost use Rattle.yaml_lexeme.specs.declared.problem.problem_t.TheVariants.{DOCUMENT_MARKER};
+ghost use Rattle.yaml_lexeme.specs.declared.problem.yaml_refusal_t.TheVariants.{OFFENCE};
+ghost use Rattle.yaml_lexeme.specs.declared.problem.yaml_problem_t.TheVariants.{DOCUMENT_MARKER};
 ghost use Rattle.yaml_lexeme.specs.Kind as kind;
 ghost use Rattle.yaml_lexeme.specs.Quoted as spec;
 ghost use Rattle.yaml_lexeme.specs.inside.Runs as runs;
 ghost use Rattle.yaml_lexeme.specs.inside.Gives.{Gives, Takes};
-ghost use Rattle.yaml_lexeme.specs.inside.Words.{GoesOn};
-ghost use Rattle.yaml_lexeme.specs.Place.{first, peek};
-ghost use Rattle.yaml_lexeme.specs.Reading.{found, over};
+ghost use Rattle.yaml_lexeme.specs.inside.Words.{GoesOn, LeadsOn};
+ghost use Rattle.yaml_lexeme.specs.Place.{Place, first, peek};
+ghost use Rattle.yaml_lexeme.specs.Reading.{over};
 ghost use Rattle.yaml_lexeme.specs.Escape.{backslash};
 
 use crate::classes::{is_break, is_white};
 use crate::escape::take_escape;
-use crate::fold::{push_breaks, push_char, push_front, push_separator};
+use crate::fold::{copied_front, push_breaks, push_char, push_front, push_separator};
 use crate::kind::is_marker;
 use crate::place::{check_at, cursor_t, is_at};
-use crate::problem::{problem_t, refusal_t};
+use crate::problem::{offence, refused, yaml_problem_t, yaml_refusal_t};
 use crate::runs::{class_t, trimmed};
 use std::alloc::{AllocError, Global};
 
 /// A document marker here is an offence.
-fn unmarked(cursor: &cursor_t) -> Result<bool, refusal_t>
+fn unmarked(cursor: &cursor_t) -> Result<bool, yaml_refusal_t>
     ensures { result ≡ (if kind.is_marker cursor.now then Err (OFFENCE DOCUMENT_MARKER) else Ok true) }
 {
     if is_marker(cursor) {
-        Err(refusal_t::OFFENCE(problem_t::DOCUMENT_MARKER))
+        Err(offence(yaml_problem_t::DOCUMENT_MARKER))
     } else {
         Ok(true)
     }
@@ -44,7 +44,7 @@ fn quote(single: bool) -> char
 /// Takes a run of blanks and breaks, and appends its value to `out`. Functions that are called get a copy of the
 /// cursor, here and below, so that the cursor itself stays in registers.
 #[inline(always)]
-fn take_separator(cursor: &mut cursor_t, out: &mut Vec<u8>) -> Result<bool, refusal_t>
+fn take_separator(cursor: &mut cursor_t, out: &mut Vec<u8>) -> Result<bool, yaml_refusal_t>
     requires { is_white (first cursor.old) ≡ true }
     ensures { (single : Bool)
         → Takes utf8 result out.old.items out.new.items cursor.old cursor.new (spec.body_part single cursor.old) }
@@ -57,7 +57,7 @@ fn take_separator(cursor: &mut cursor_t, out: &mut Vec<u8>) -> Result<bool, refu
 
 /// Takes a backslash and the break after it, which is dropped, and appends the value of the run after them to `out`.
 #[inline(always)]
-fn take_dropped_break(cursor: &mut cursor_t, out: &mut Vec<u8>) -> Result<bool, refusal_t>
+fn take_dropped_break(cursor: &mut cursor_t, out: &mut Vec<u8>) -> Result<bool, yaml_refusal_t>
     requires backslash { first cursor.old ≡ backslash }
     requires line_end { is_break (peek cursor.old 1) ≡ true }
     ensures { Takes utf8 result out.old.items out.new.items cursor.old cursor.new (spec.body_part false cursor.old) }
@@ -73,7 +73,7 @@ fn take_dropped_break(cursor: &mut cursor_t, out: &mut Vec<u8>) -> Result<bool, 
 /// Takes what a backslash begins, and appends its bytes to `out`: an escape, or a break that is dropped.
 #[tactic(auto, unfolding(crate::specs::Quoted::body_part))]
 #[inline(always)]
-fn take_escaped(cursor: &mut cursor_t, out: &mut Vec<u8>) -> Result<bool, refusal_t>
+fn take_escaped(cursor: &mut cursor_t, out: &mut Vec<u8>) -> Result<bool, yaml_refusal_t>
     requires { first cursor.old ≡ backslash }
     ensures { Takes utf8 result out.old.items out.new.items cursor.old cursor.new (spec.body_part false cursor.old) }
 {
@@ -88,7 +88,7 @@ fn take_escaped(cursor: &mut cursor_t, out: &mut Vec<u8>) -> Result<bool, refusa
 
 /// Takes a part of the body, and appends its bytes to `out`. The flag is false at the closing quote.
 #[tactic(auto, unfolding(crate::specs::Quoted::body_part))]
-fn take_part(cursor: &mut cursor_t, single: bool, out: &mut Vec<u8>) -> Result<bool, refusal_t>
+fn take_part(cursor: &mut cursor_t, single: bool, out: &mut Vec<u8>) -> Result<bool, yaml_refusal_t>
     ensures { Takes utf8 result out.old.items out.new.items cursor.old cursor.new (spec.body_part single cursor.old) }
 {
     let c = cursor.peek(0);
@@ -96,7 +96,7 @@ fn take_part(cursor: &mut cursor_t, single: bool, out: &mut Vec<u8>) -> Result<b
         return take_escaped(cursor, out);
     }
     if c == '\0' {
-        return Err(refusal_t::OFFENCE(problem_t::END_OF_TEXT));
+        return Err(offence(yaml_problem_t::END_OF_TEXT));
     }
     if is_white(c) {
         return take_separator(cursor, out);
@@ -118,7 +118,8 @@ fn take_part(cursor: &mut cursor_t, single: bool, out: &mut Vec<u8>) -> Result<b
 #[tactic(auto, unfolding(crate::specs::Quoted::body_part))]
 #[inline(always)]
 fn closes(cursor: &cursor_t, single: bool) -> bool
-    ensures { result ≡ true → spec.body_part single cursor.now ≡ over }
+    ensures over { result ≡ true → spec.body_part single cursor.now ≡ over }
+    ensures here { result ≡ true → first cursor.now ≡ spec.quote single }
 {
     let c = quote(single);
     check_at!(cursor, c, 0) && !(single && check_at!(cursor, c, 1))
@@ -164,27 +165,6 @@ fn push_line(cursor: &mut cursor_t, single: bool, out: &mut Vec<u8>) -> Result<(
     Ok(())
 }
 
-/// Takes a quoted scalar, from its opening quote on, if a quick look shows that its value is bytes of the text. Returns
-/// what was left of the text from the value on, and how many bytes of it are the value. After `None` the cursor may be
-/// at any place.
-#[inline(always)]
-pub(crate) fn quoted_at_once<'a>(
-    cursor: &mut cursor_t<'a>,
-    single: bool,
-) -> Option<(&'a [u8], usize)>
-    ensures value { IfSome result (λ v. spec.quoted single cursor.old ≡ found (take v.1 v.0.now) cursor.new) }
-    ensures within { IfSome result (λ v. v.1 ≤ length v.0.now) }
-{
-    cursor.advance();
-    let left = cursor.left();
-    let value = line_piece(cursor, single);
-    if !closes(cursor, single) {
-        return None;
-    }
-    cursor.advance();
-    Some((left, value.len()))
-}
-
 /// How many bytes a scalar gets room for after what was taken of it: none if its quote is here.
 #[inline(always)]
 fn room_behind(cursor: &cursor_t, single: bool) -> usize
@@ -197,15 +177,17 @@ fn room_behind(cursor: &cursor_t, single: bool) -> usize
     }
 }
 
-/// Takes a quoted scalar, from its opening quote on. The cursor is a local variable of the caller.
+/// Takes the parts of a quoted scalar after those of its first line, which are in `out`, and its closing quote. The
+/// cursor is a local variable of the caller.
 #[inline(always)]
-fn take_body(alloc: Global, cursor: &mut cursor_t, single: bool) -> Result<Vec<u8>, refusal_t>
-    ensures { Gives (λ v. v.items) result cursor.new (spec.quoted single cursor.old) }
+fn take_parts(
+    cursor: &mut cursor_t,
+    single: bool,
+    mut out: Vec<u8>,
+) -> Result<Vec<u8>, yaml_refusal_t>
+    ensures { (p : Place) → LeadsOn single p out.items cursor.old
+        → Gives (λ v. v.items) result cursor.new (spec.quoted single p) }
 {
-    cursor.advance();
-    let piece = line_piece(cursor, single);
-    let mut out = Vec::with_capacity(alloc, piece.len() + room_behind(cursor, single))?;
-    out.extend_from_slice(piece)?;
     'parts: while take_part(cursor, single, &mut out)? {
         push_line(cursor, single, &mut out)?;
     }
@@ -213,16 +195,50 @@ fn take_body(alloc: Global, cursor: &mut cursor_t, single: bool) -> Result<Vec<u
     Ok(out)
 }
 
+/// Takes what is left of a quoted scalar after its first line, of which `len` bytes of `left` are kept.
+#[inline(never)]
+fn take_rest(
+    alloc: Global,
+    cursor: &mut cursor_t,
+    single: bool,
+    left: &[u8],
+    len: usize,
+) -> Result<Vec<u8>, yaml_refusal_t>
+    requires { len ≤ length left.now }
+    ensures { (p : Place) → LeadsOn single p (take len left.now) cursor.old
+        → Gives (λ v. v.items) result cursor.new (spec.quoted single p) }
+{
+    let mut here = cursor.again();
+    let mut out = Vec::with_capacity(alloc, len + room_behind(cursor, single))?;
+    out.extend_from_slice(&left[..len])?;
+    let taken = take_parts(&mut here, single, out);
+    *cursor = here;
+    taken
+}
+
 /// Takes a quoted scalar, from its opening quote on.
+#[inline(always)]
 pub(crate) fn take_quoted(
     alloc: Global,
     cursor: &mut cursor_t,
     single: bool,
-) -> Result<Vec<u8>, refusal_t>
+) -> Result<Vec<u8>, yaml_refusal_t>
     ensures { Gives (λ v. v.items) result cursor.new (spec.quoted single cursor.old) }
 {
+    cursor.advance();
+    let left = cursor.left();
+    let len = line_piece(cursor, single).len();
+    if closes(cursor, single) {
+        let value = match copied_front(alloc, left, len) {
+            Ok(value) => value,
+            Err(refusal) => return Err(refused(refusal)),
+        };
+        cursor.pass();
+        return Ok(value);
+    }
+    // a copy, so that the cursor itself stays in registers
     let mut here = cursor.again();
-    let taken = take_body(alloc, &mut here, single);
+    let taken = take_rest(alloc, &mut here, single, left, len);
     *cursor = here;
     taken
 }

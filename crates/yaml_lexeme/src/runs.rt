@@ -32,6 +32,51 @@ pub(crate) enum class_t {
     FLOW,
 }
 
+/// Whether a character is the byte.
+macro_rules! char_is {
+    ($c:expr, $byte:literal) => { $byte as char == $c };
+}
+
+/// Which lanes are the byte.
+macro_rules! lanes_are {
+    ($v:expr, $byte:literal) => { u8x16::splat($byte).simd_eq($v) };
+}
+
+/// Whether `$x`, or which of its lanes, is one of the bytes. `$is` compares it with one byte, and `$none` is the
+/// answer for no bytes.
+macro_rules! is_any {
+    ($is:ident, $x:expr, $none:expr) => { $none };
+    ($is:ident, $x:expr, $none:expr, $byte:literal $(, $more:literal)*) => {
+        $is!($x, $byte) | is_any!($is, $x, $none $(, $more)*)
+    };
+}
+
+/// The same for the bytes of a line that mean something in a scalar of the class, so that a run stops there.
+macro_rules! is_mark {
+    ($class:expr, $is:ident, $x:expr, $none:expr) => {
+        match $class {
+            class_t::DOUBLE => is_any!($is, $x, $none, b'"', b'\\'),
+            class_t::SINGLE => is_any!($is, $x, $none, b'\''),
+            class_t::PLAIN => is_any!($is, $x, $none, b':', b'#'),
+            class_t::FLOW => is_any!($is, $x, $none, b':', b'#', b',', b'[', b'{', b']', b'}'),
+            _ => $none,
+        }
+    };
+}
+
+/// The same for the bytes with which a break may begin.
+macro_rules! is_lead {
+    ($is:ident, $x:expr, $none:expr) => { is_any!($is, $x, $none, b'\n', b'\r', 0xC2, 0xE2) };
+}
+
+/// Whether the character means something in a scalar of the class.
+#[inline(always)]
+fn is_special(class: class_t, c: char) -> bool
+    ensures { result ≡ spec.is_special class c }
+{
+    is_mark!(class, char_is, c, false)
+}
+
 /// Whether a run of the class takes the character.
 #[inline(always)]
 pub(crate) fn is_in(class: class_t, c: char) -> bool
@@ -43,15 +88,7 @@ pub(crate) fn is_in(class: class_t, c: char) -> bool
         class_t::SPACE => c == ' ',
         class_t::BLANK_OR_BREAK => is_white(c),
         class_t::ALPHA => is_alpha(c),
-        class_t::IN_LINE => is_in_line(c),
-        class_t::DOUBLE => !(c == '"' || c == '\\') && is_in_line(c),
-        class_t::SINGLE => !(c == '\'') && is_in_line(c),
-        class_t::PLAIN => is_in_line(c) && !(c == ':' || c == '#'),
-        class_t::FLOW => {
-            is_in_line(c)
-                && !((c == ':' || c == '#')
-                    || (c == ',' || ((c == '[' || c == ']') || (c == '{' || c == '}'))))
-        }
+        _ => !is_special(class, c) && is_in_line(c),
     }
 }
 
@@ -59,117 +96,33 @@ pub(crate) fn is_in(class: class_t, c: char) -> bool
 fn is_line(class: class_t) -> bool
     ensures { result ≡ spec.is_line class }
 {
-    match class {
-        class_t::IN_LINE | class_t::DOUBLE | class_t::SINGLE | class_t::PLAIN | class_t::FLOW =>
-            true,
-        _ => false,
-    }
+    matches!(
+        class,
+        class_t::IN_LINE | class_t::DOUBLE | class_t::SINGLE | class_t::PLAIN | class_t::FLOW
+    )
 }
 
-#[inline(always)]
-fn may_break(b: u8) -> bool
-    ensures { result ≡ spec.may_break b }
-{
-    (b == b'\n' || b == b'\r') || (b == 0xC2 || b == 0xE2)
-}
-
-#[inline(always)]
-fn is_alpha_byte(b: u8) -> bool
-    ensures { result ≡ spec.class_test ALPHA b }
-{
-    matches!(b, b'0'..=b'9' | b'A'..=b'Z' | b'a'..=b'z' | b'_' | b'-')
-}
-
-#[inline(always)]
-fn is_special(class: class_t, b: u8) -> bool
-    ensures { result ≡ spec.is_special class b }
-{
-    match class {
-        class_t::DOUBLE => b == b'"' || b == b'\\',
-        class_t::SINGLE => b == b'\'',
-        class_t::PLAIN => b == b':' || b == b'#',
-        class_t::FLOW => {
-            (b == b':' || b == b'#')
-                || (b == b',' || ((b == b'[' || b == b']') || (b == b'{' || b == b'}')))
-        }
-        _ => false,
-    }
-}
-
+/// Whether a run of the class may end at the byte.
 #[inline(always)]
 fn is_stop(class: class_t, b: u8) -> bool
     ensures { result ≡ spec.is_stop class b }
 {
+    let c = b as char;
     match class {
-        class_t::BLANK | class_t::BLANK_OR_BREAK => !(b == b' ' || b == b'\t'),
-        class_t::GAP_BLANK(tabs) => !(b == b' ' || (b == b'\t' && tabs)),
-        class_t::SPACE => !(b == b' '),
-        class_t::ALPHA => !is_alpha_byte(b),
-        _ => is_special(class, b) || may_break(b),
+        class_t::BLANK_OR_BREAK => !is_blank(c),
+        _ if is_line(class) => is_special(class, c) || is_lead!(char_is, c, false),
+        _ => !is_in(class, c),
     }
 }
 
-#[inline(always)]
-fn stops_any(v: u8x16) -> u64
-    ensures { result ≡ mask_l (map (spec.is_stop IN_LINE) v) }
-{
-    ((v.simd_eq(u8x16::splat(b'\n')) | v.simd_eq(u8x16::splat(b'\r')))
-        | (v.simd_eq(u8x16::splat(0xC2)) | v.simd_eq(u8x16::splat(0xE2)))).to_bitmask()
-}
-
-#[inline(always)]
-fn stops_double(v: u8x16) -> u64
-    ensures { result ≡ mask_l (map (spec.is_stop DOUBLE) v) }
-{
-    ((v.simd_eq(u8x16::splat(b'"')) | v.simd_eq(u8x16::splat(b'\\')))
-        | ((v.simd_eq(u8x16::splat(b'\n')) | v.simd_eq(u8x16::splat(b'\r')))
-            | (v.simd_eq(u8x16::splat(0xC2)) | v.simd_eq(u8x16::splat(0xE2))))).to_bitmask()
-}
-
-#[inline(always)]
-fn stops_single(v: u8x16) -> u64
-    ensures { result ≡ mask_l (map (spec.is_stop SINGLE) v) }
-{
-    (v.simd_eq(u8x16::splat(b'\''))
-        | ((v.simd_eq(u8x16::splat(b'\n')) | v.simd_eq(u8x16::splat(b'\r')))
-            | (v.simd_eq(u8x16::splat(0xC2)) | v.simd_eq(u8x16::splat(0xE2))))).to_bitmask()
-}
-
-#[inline(always)]
-fn stops_plain(v: u8x16) -> u64
-    ensures { result ≡ mask_l (map (spec.is_stop PLAIN) v) }
-{
-    ((v.simd_eq(u8x16::splat(b':')) | v.simd_eq(u8x16::splat(b'#')))
-        | ((v.simd_eq(u8x16::splat(b'\n')) | v.simd_eq(u8x16::splat(b'\r')))
-            | (v.simd_eq(u8x16::splat(0xC2)) | v.simd_eq(u8x16::splat(0xE2))))).to_bitmask()
-}
-
-#[inline(always)]
-fn stops_flow(v: u8x16) -> u64
-    ensures { result ≡ mask_l (map (spec.is_stop FLOW) v) }
-{
-    let w = v | u8x16::splat(0x20);
-    ((w.simd_eq(u8x16::splat(b'{')) | w.simd_eq(u8x16::splat(b'}')))
-        | ((v.simd_eq(u8x16::splat(b':')) | v.simd_eq(u8x16::splat(b'#')))
-            | (v.simd_eq(u8x16::splat(b','))
-                | ((v.simd_eq(u8x16::splat(b'\n')) | v.simd_eq(u8x16::splat(b'\r')))
-                    | (v.simd_eq(u8x16::splat(0xC2))
-                        | v.simd_eq(u8x16::splat(0xE2))))))).to_bitmask()
-}
-
+/// The lanes at which a run of a class of a line may end.
 #[inline(always)]
 fn stops(class: class_t, v: u8x16) -> u64
     requires { spec.is_line class ≡ true }
     ensures { result ≡ mask_l (map (spec.is_stop class) v) }
 {
-    match class {
-        class_t::IN_LINE => stops_any(v),
-        class_t::DOUBLE => stops_double(v),
-        class_t::SINGLE => stops_single(v),
-        class_t::PLAIN => stops_plain(v),
-        class_t::FLOW => stops_flow(v),
-        _ => unreachable!(),
-    }
+    let none = mask8x16::splat(false);
+    (is_mark!(class, lanes_are, v, none) | is_lead!(lanes_are, v, none)).to_bitmask()
 }
 
 #[inline(always)]
@@ -282,20 +235,14 @@ fn quiet_line(class: class_t, text: &[u8]) -> (usize, usize)
     (end, n + count_chars(part(text, i, end)))
 }
 
-#[inline(always)]
-fn stops_space(v: u8x16) -> u64
-    ensures { result ≡ mask_l (map (spec.is_stop SPACE) v) }
-{
-    v.simd_ne(u8x16::splat(b' ')).to_bitmask()
-}
-
 /// How many spaces the text begins with.
 #[inline(always)]
 pub(crate) fn spaces_len(text: &[u8]) -> usize
     ensures { result ≡ prefix_len (spec.is_quiet SPACE) text.now }
 {
     if text.len() >= 16 {
-        let found = stops_space(u8x16::from_slice(text));
+        let v = u8x16::from_slice(text);
+        let found = v.simd_ne(u8x16::splat(b' ')).to_bitmask();
         if found != 0 {
             return found.trailing_zeros() as usize;
         }
@@ -328,18 +275,12 @@ pub(crate) fn quiet_len(class: class_t, text: &[u8]) -> (usize, usize)
     (n, n)
 }
 
-fn is_blank_byte(b: u8) -> bool
-    ensures { result ≡ spec.class_test BLANK b }
-{
-    b == b' ' || b == b'\t'
-}
-
 /// A piece of a line without the blanks at its end.
 pub(crate) fn trimmed(piece: &[u8]) -> &[u8]
     ensures { result.now ≡ spec.trim piece.now }
 {
     let mut n = piece.len();
-    'blanks: while n > 0 && is_blank_byte(piece[n - 1]) {
+    'blanks: while n > 0 && is_blank(piece[n - 1] as char) {
         n -= 1;
     }
     &piece[..n]

@@ -6,7 +6,7 @@ ghost use Rattle.yaml_lexeme.specs.inside.Gives.{Gives};
 
 use crate::lexeme::{whole_of, yaml_lexeme_t};
 use crate::place::cursor_t;
-use crate::problem::refusal_t;
+use crate::problem::yaml_refusal_t;
 use yaml_text::{unnamed_yaml_token_t_data, yaml_mark_t};
 
 /// The mark of a stream end: that of the text's end, or of the next line's start if the column there is not 0.
@@ -27,7 +27,7 @@ fn stream_end(mark: yaml_mark_t) -> yaml_mark_t
 
 /// Takes the stream end, which is no character.
 #[inline(never)]
-pub(crate) fn take_stream_end(cursor: &mut cursor_t) -> Result<yaml_lexeme_t, refusal_t>
+pub(crate) fn take_stream_end(cursor: &mut cursor_t) -> Result<yaml_lexeme_t, yaml_refusal_t>
     ensures value { Gives lexeme_of result cursor.new (spec.at_end cursor.old) }
     ensures taken { IsOk result }
 {

@@ -8,7 +8,7 @@ ghost use Rattle.yaml_lexeme.specs.inside.Gives.{Gives};
 use crate::classes::ends;
 use crate::name::take_letters;
 use crate::place::{check_at, cursor_t};
-use crate::problem::{problem_t, refusal_t};
+use crate::problem::{offence, yaml_problem_t, yaml_refusal_t};
 use crate::uri::{push_byte, take_some_uri, take_uri};
 use std::alloc::Global;
 use yaml_text::unnamed_yaml_token_t_data;
@@ -21,13 +21,16 @@ fn make_tag(handle: Vec<u8>, suffix: Vec<u8>) -> unnamed_yaml_token_t_data
 
 /// Takes `<`, a uri and `>`, after a tag's `!`.
 #[tactic(auto, unfolding(crate::specs::Tag::angled))]
-fn take_angled(alloc: Global, cursor: &mut cursor_t) -> Result<unnamed_yaml_token_t_data, refusal_t>
+fn take_angled(
+    alloc: Global,
+    cursor: &mut cursor_t,
+) -> Result<unnamed_yaml_token_t_data, yaml_refusal_t>
     ensures { Gives data_of result cursor.new (spec.angled cursor.old) }
 {
     cursor.advance();
     let suffix = take_some_uri(alloc, cursor, true)?;
     if !check_at!(cursor, '>', 0) {
-        return Err(refusal_t::OFFENCE(problem_t::NO_CLOSING_ANGLE));
+        return Err(offence(yaml_problem_t::NO_CLOSING_ANGLE));
     }
     cursor.advance();
     Ok(make_tag(Vec::new(alloc), suffix))
@@ -38,7 +41,7 @@ fn take_angled(alloc: Global, cursor: &mut cursor_t) -> Result<unnamed_yaml_toke
 fn take_handled(
     alloc: Global,
     cursor: &mut cursor_t,
-) -> Result<unnamed_yaml_token_t_data, refusal_t>
+) -> Result<unnamed_yaml_token_t_data, yaml_refusal_t>
     ensures { Gives data_of result cursor.new (spec.handled cursor.old) }
 {
     let letters = take_letters(cursor);
@@ -64,7 +67,7 @@ fn take_handled(
 fn take_tag_parts(
     alloc: Global,
     cursor: &mut cursor_t,
-) -> Result<unnamed_yaml_token_t_data, refusal_t>
+) -> Result<unnamed_yaml_token_t_data, yaml_refusal_t>
     ensures { Gives data_of result cursor.new (spec.tag_parts cursor.old) }
 {
     cursor.advance();
@@ -81,13 +84,13 @@ pub(crate) fn take_tag(
     alloc: Global,
     cursor: &mut cursor_t,
     in_flow: bool,
-) -> Result<unnamed_yaml_token_t_data, refusal_t>
+) -> Result<unnamed_yaml_token_t_data, yaml_refusal_t>
     ensures { Gives data_of result cursor.new (spec.tag in_flow cursor.old) }
 {
     let tag = take_tag_parts(alloc, cursor)?;
     let c = cursor.peek(0);
     if !(ends(c) || in_flow && c == ',') {
-        return Err(refusal_t::OFFENCE(problem_t::NO_BLANK_OR_BREAK));
+        return Err(offence(yaml_problem_t::NO_BLANK_OR_BREAK));
     }
     Ok(tag)
 }

@@ -5,7 +5,7 @@ ghost use Rattle.yaml_lexeme.specs.inside.Gives.{Gives, Takes, Appends, OctetIs}
 
 use crate::classes::is_alpha;
 use crate::place::{check_at, cursor_t};
-use crate::problem::{problem_t, refusal_t};
+use crate::problem::{offence, yaml_problem_t, yaml_refusal_t};
 use std::alloc::{AllocError, Global};
 
 fn is_uri(listed: bool, c: char) -> bool
@@ -41,17 +41,17 @@ pub(crate) fn push_byte(out: &mut Vec<u8>, byte: u8) -> Result<(), AllocError>
 
 /// The octet that `%` and two hex digits spell here.
 #[tactic(auto, unfolding(crate::specs::Uri::octet))]
-fn octet_at(cursor: &cursor_t) -> Result<u8, refusal_t>
+fn octet_at(cursor: &cursor_t) -> Result<u8, yaml_refusal_t>
     ensures { OctetIs result cursor.now }
 {
     if !check_at!(cursor, '%', 0) {
-        return Err(refusal_t::OFFENCE(problem_t::NO_OCTET));
+        return Err(offence(yaml_problem_t::NO_OCTET));
     }
     let Some(high) = cursor.peek(1).to_digit(16) else {
-        return Err(refusal_t::OFFENCE(problem_t::NO_OCTET));
+        return Err(offence(yaml_problem_t::NO_OCTET));
     };
     let Some(low) = cursor.peek(2).to_digit(16) else {
-        return Err(refusal_t::OFFENCE(problem_t::NO_OCTET));
+        return Err(offence(yaml_problem_t::NO_OCTET));
     };
     Ok((high * 16 + low) as u8)
 }
@@ -76,13 +76,17 @@ fn is_bad_next(c: u8) -> bool
 }
 
 /// Takes `n` later octets, and appends them to `out`.
-fn take_next_octets(cursor: &mut cursor_t, n: usize, out: &mut Vec<u8>) -> Result<(), refusal_t>
+fn take_next_octets(
+    cursor: &mut cursor_t,
+    n: usize,
+    out: &mut Vec<u8>,
+) -> Result<(), yaml_refusal_t>
     ensures { Appends (λ cs. cs) result out.old.items out.new.items cursor.new (spec.next_octets n cursor.old) }
 {
     'octets: for _ in 0..n {
         let c = octet_at(cursor)?;
         if is_bad_next(c) {
-            return Err(refusal_t::OFFENCE(problem_t::BAD_NEXT_OCTET));
+            return Err(offence(yaml_problem_t::BAD_NEXT_OCTET));
         }
         push_byte(out, c)?;
         cursor.skip(3);
@@ -91,13 +95,13 @@ fn take_next_octets(cursor: &mut cursor_t, n: usize, out: &mut Vec<u8>) -> Resul
 }
 
 /// Takes the octets that spell a character, and appends them to `out`.
-fn take_uri_escape(cursor: &mut cursor_t, out: &mut Vec<u8>) -> Result<(), refusal_t>
+fn take_uri_escape(cursor: &mut cursor_t, out: &mut Vec<u8>) -> Result<(), yaml_refusal_t>
     ensures { Appends (λ cs. cs) result out.old.items out.new.items cursor.new (spec.uri_escape cursor.old) }
 {
     let lead = octet_at(cursor)?;
     let width = octet_width(lead);
     if width == 0 {
-        return Err(refusal_t::OFFENCE(problem_t::BAD_LEAD_OCTET));
+        return Err(offence(yaml_problem_t::BAD_LEAD_OCTET));
     }
     push_byte(out, lead)?;
     cursor.skip(3);
@@ -106,7 +110,11 @@ fn take_uri_escape(cursor: &mut cursor_t, out: &mut Vec<u8>) -> Result<(), refus
 
 /// Takes a character of a uri, or an escape, and appends it to `out`. The flag is false if the uri is over.
 #[tactic(auto, unfolding(crate::specs::Uri::uri_part))]
-fn take_uri_part(cursor: &mut cursor_t, listed: bool, out: &mut Vec<u8>) -> Result<bool, refusal_t>
+fn take_uri_part(
+    cursor: &mut cursor_t,
+    listed: bool,
+    out: &mut Vec<u8>,
+) -> Result<bool, yaml_refusal_t>
     ensures { Takes (λ cs. cs) result out.old.items out.new.items cursor.old cursor.new
         (spec.uri_part listed cursor.old) }
 {
@@ -128,7 +136,7 @@ pub(crate) fn take_uri(
     cursor: &mut cursor_t,
     listed: bool,
     out: &mut Vec<u8>,
-) -> Result<(), refusal_t>
+) -> Result<(), yaml_refusal_t>
     ensures { Appends (λ cs. cs) result out.old.items out.new.items cursor.new (spec.uri listed cursor.old) }
 {
     'parts: while take_uri_part(cursor, listed, out)? {}
@@ -141,13 +149,13 @@ pub(crate) fn take_some_uri(
     alloc: Global,
     cursor: &mut cursor_t,
     listed: bool,
-) -> Result<Vec<u8>, refusal_t>
+) -> Result<Vec<u8>, yaml_refusal_t>
     ensures { Gives (λ v. v.items) result cursor.new (spec.some_uri listed cursor.old) }
 {
     let mut out = Vec::new(alloc);
     take_uri(cursor, listed, &mut out)?;
     if out.is_empty() {
-        return Err(refusal_t::OFFENCE(problem_t::NO_URI));
+        return Err(offence(yaml_problem_t::NO_URI));
     }
     Ok(out)
 }

@@ -11,13 +11,15 @@ pub mod LevelStack
 pub mod SlotsOneOn
 -- A scanner that was given room holds what it held.
 pub mod RoomMade
--- What a quick look at the text finds is what comes next.
-pub mod QuickLook
 -- What the whole scanner holds after one lexeme more.
 pub mod ScannerOneOn
 -- The tests of a step after its lexeme, and that the lexeme is laid as the definition says.
 pub mod StepLaid
--- A key and the `:` after it are laid at once as they are laid one after the other.
-pub mod PairLaid
+-- A candidate and what decides it are laid at once as they are laid one after the other.
+pub mod DecidedLaid
 -- A lexeme that was read is laid if levels, queue and slots change as its definition says.
 pub mod StepPut
+-- What a step has tested, and what it stops with.
+pub mod StepTests
+-- What changes in a scanner within a step, and what stays.
+pub mod StepMoves

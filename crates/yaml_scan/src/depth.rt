@@ -4,7 +4,7 @@ ghost use Rattle.std.specs.Vec.{vec_capacity};
 ghost use Rattle.yaml_scan.specs.Kind as kinds;
 ghost use Rattle.yaml_scan.specs.inside.Slots.{nested_outer, nested_top};
 
-use crate::keys::slots_t;
+use crate::slots::slots_t;
 use yaml_lexeme::yaml_lexeme_kind_t;
 
 #[inline(always)]
@@ -36,6 +36,7 @@ pub(crate) fn nests(kind: yaml_lexeme_kind_t) -> bool
 }
 
 /// Enters a depth at a flow start, and leaves one at a flow end. There is room for one more.
+#[inline(always)]
 pub(crate) fn nest(slots: &mut slots_t, kind: yaml_lexeme_kind_t)
     requires { vec_len slots.old.outer < vec_capacity slots.old.outer }
     ensures outer { slots.new.outer.items ≡ nested_outer kind slots.old.outer.items slots.old.top }

@@ -30,7 +30,7 @@ pub(crate) fn make_memory_fault() -> yaml_fault_t
 }
 
 /// A problem at a mark, with a context at another.
-fn make_scanner_fault(
+pub(crate) fn make_scanner_fault(
     problem: &'static str,
     problem_mark: yaml_mark_t,
     context: Option<&'static str>,
@@ -59,25 +59,18 @@ pub(crate) enum stop_t {
 impl From<AllocError> for stop_t {
     ghost from_gives = { λ _ stop. stop ≡ MEMORY };
 
+    #[cold]
     fn from(_error: AllocError) -> stop_t {
         stop_t::MEMORY
     }
 }
 
-/// Keeps a problem at a mark, with a context at another.
-#[inline(never)]
-pub(crate) fn keep_fault(
-    kept: &mut yaml_fault_t,
-    problem: &'static str,
-    problem_mark: yaml_mark_t,
-    context: Option<&'static str>,
-    context_mark: yaml_mark_t,
-) -> stop_t
-    ensures { fault_at result kept.new
-        ≡ scanner_fault problem.now problem_mark (option_copied context.entry) context_mark }
+/// The same stop. It is cold, so that the compiler takes no stop for likely.
+#[cold]
+pub(crate) fn stopped(stop: stop_t) -> stop_t
+    ensures { result ≡ stop }
 {
-    *kept = make_scanner_fault(problem, problem_mark, context, context_mark);
-    stop_t::FAULT
+    stop
 }
 
 /// The fault of a stop.

@@ -7,11 +7,11 @@ ghost use Rattle.yaml_scan.specs.Parser.{Parser, course_read};
 ghost use Rattle.yaml_scan.specs.inside.Kept.{IsKept};
 
 use crate::fault::make_memory_fault;
-use crate::keys::slots_t;
 use crate::levels::layout_t;
 use crate::parser::{empty_text, yaml_parser_t};
+use crate::scanner::scanner_t;
 use crate::session::session_t;
-use crate::step::scanner_t;
+use crate::slots::slots_t;
 use std::alloc::Global;
 use yaml_text::{
     yaml_encoding_t, yaml_fault_t, yaml_kept_text_t, yaml_mark_t, yaml_text_t, yaml_token_t,
@@ -55,6 +55,7 @@ fn text_again<'a>(
 
 impl yaml_kept_parser_t {
     /// What is kept of a parser. It takes no memory, and copies no text.
+    #[inline(always)]
     pub fn new(parser: yaml_parser_t) -> yaml_kept_parser_t
         ensures { IsKept parser.entry result }
     {
@@ -63,7 +64,6 @@ impl yaml_kept_parser_t {
             setting,
             scanner,
             session,
-            kept: _,
             empty: _,
             lead,
         } = parser;
@@ -77,6 +77,9 @@ impl yaml_kept_parser_t {
             allowed,
             layout,
             reach,
+            front: _,
+            there: _,
+            kept: _,
             taken,
             made,
         } = scanner;
@@ -98,6 +101,7 @@ impl yaml_kept_parser_t {
     }
 
     /// The parser again, over the same input. It takes no memory.
+    #[inline(always)]
     pub fn parser<'a>(self, alloc: Global, input: &'a [u8]) -> yaml_parser_t<'a>
         requires { (p : Parser) × (p.input ≡ input.now) × IsKept p self }
         ensures { (p : Parser) → p.input ≡ input.now → IsKept p self → result ≡ p }
@@ -130,11 +134,13 @@ impl yaml_kept_parser_t {
                 allowed,
                 layout,
                 reach,
+                front: reach,
+                there: reach,
+                kept: make_memory_fault(),
                 taken,
                 made,
             },
             session,
-            kept: make_memory_fault(),
             empty: yaml_token_t::empty(),
             lead,
         }

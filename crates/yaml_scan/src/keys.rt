@@ -2,6 +2,7 @@
 //! keys).
 ghost use Rattle.std.specs.Prelude.{◌≡◌, ◌+◌, ◌-◌, ◌<◌, ◌&&◌, ◌++◌, ◌∷◌, [], Option, None, map, vec_len};
 ghost use Rattle.std.specs.Prelude.{length, ◌==◌};
+ghost use Rattle.std.specs.Option.{is_some};
 ghost use Rattle.std.specs.Vec.{vec_capacity};
 ghost use Rattle.yaml_scan.specs.inside.Slots.{is_live, still_held, lost_held, needed, slot_after, root_of, step_of};
 ghost use Rattle.yaml_scan.specs.inside.Slots.{completed_held, nested_outer, nested_top, empty_slots, lowest};
@@ -10,32 +11,12 @@ ghost use Rattle.yaml_scan.specs.inside.Slots.{AreNested};
 
 use crate::depth::{is_flow_start, nest, nests};
 use crate::kind::{is_candidate, is_colon};
+use crate::slots::{held_t, slots_t};
 use yaml_lexeme::yaml_lexeme_kind_t;
 use yaml_text::yaml_mark_t;
 
 /// The key limit in bytes, if no other is set.
 pub(crate) const KEY_LIMIT: u32 = 1024;
-
-/// What is kept of a candidate: the number of its step, where it starts, and whether a `:` has to come.
-#[derive(Clone, Copy)]
-pub(crate) struct held_t {
-    pub step: u64,
-    pub start: yaml_mark_t,
-    pub required: bool,
-}
-
-/// The candidates of all depths.
-#[derive(Drop)]
-pub(crate) struct slots_t {
-    /// Those of the depths below the present one.
-    pub outer: Vec<Option<held_t>>,
-    /// How many of the lowest of these are empty: no slot below holds a candidate.
-    pub not_simple_keys: usize,
-    /// The candidate of the present depth.
-    pub top: Option<held_t>,
-    /// The step of the lowest candidate, or 0.
-    pub awaited: u64,
-}
 
 /// Whether a candidate is live at a mark: on its line, and at most `limit` bytes from its start.
 #[inline(always)]
@@ -72,6 +53,17 @@ pub(crate) fn lost_at(slot: Option<held_t>, limit: u64, mark: yaml_mark_t) -> Op
         } else {
             None
         },
+    }
+}
+
+/// Whether a required candidate is stale at a mark.
+#[inline(always)]
+pub(crate) fn is_lost(slot: Option<held_t>, limit: u64, mark: yaml_mark_t) -> bool
+    ensures { result ≡ is_some (lost_held limit mark slot) }
+{
+    match slot {
+        None => false,
+        Some(held) => held.required && !is_still_live(limit, mark, held),
     }
 }
 

@@ -14,8 +14,8 @@ ghost use Rattle.yaml_scan.specs.inside.Queue.{KeepsRest};
 ghost use Rattle.yaml_scan.specs.inside.Slots.{is_margin_level};
 
 use crate::groups::{block_t, group_t, mark_key, queue_t};
-use crate::keys::held_t;
 use crate::kind::{is_last, is_opener, stays_open};
+use crate::slots::held_t;
 use yaml_lexeme::yaml_lexeme_kind_t;
 use yaml_text::{yaml_mark_t, yaml_token_t};
 

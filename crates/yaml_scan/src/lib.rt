@@ -3,27 +3,31 @@
 
 mod all;
 mod allowed;
+mod begin;
 mod calls;
+mod decided;
 mod depth;
 mod fault;
+mod finish;
 mod groups;
 mod kept;
 mod keys;
 mod kind;
 pub mod laws;
+mod lay;
 mod levels;
+mod look;
 mod near;
 mod parser;
-mod quick;
-mod quick_flow;
-mod quick_margin;
-mod quick_pair;
 mod scanned;
+mod scanner;
 mod session;
 mod settled;
 mod sink;
+mod slots;
 mod source;
 mod step;
+mod stop;
 
 pub use all::{yaml_scan_all, yaml_scan_all_limit};
 pub use calls::{yaml_answer_t, yaml_call_t, yaml_run};

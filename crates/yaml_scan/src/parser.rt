@@ -22,12 +22,13 @@ ghost use Rattle.yaml_scan.specs.inside.Stop.{fault_at};
 
 use crate::fault::{fault_at, make_memory_fault, stop_t};
 use crate::groups::{has_lead, lead, put_stream_start, queue_t, take_next};
-use crate::keys::{KEY_LIMIT, slots_t};
+use crate::keys::KEY_LIMIT;
 use crate::levels::layout_t;
-use crate::near::{near_from, near_start};
+use crate::near::{near_of, near_start};
+use crate::scanner::scanner_t;
 use crate::session::{end, pass, session_t};
 use crate::settled::settle_head;
-use crate::step::scanner_t;
+use crate::slots::slots_t;
 use std::alloc::Global;
 use std::collections::VecDeque;
 use std::marker::Model;
@@ -42,8 +43,6 @@ pub struct yaml_parser_t<'a> {
     pub(crate) setting: yaml_encoding_t,
     pub(crate) scanner: scanner_t<'a>,
     pub(crate) session: session_t,
-    /// The fault of a step that stopped.
-    pub(crate) kept: yaml_fault_t,
     pub(crate) empty: yaml_token_t,
     /// The token that is shown if the head of the queue hands out one before its own.
     pub(crate) lead: yaml_token_t,
@@ -100,6 +99,9 @@ fn new_scanner<'a>(alloc: Global, limit: u64) -> scanner_t<'a>
             },
         },
         reach: zero,
+        front: zero,
+        there: zero,
+        kept: make_memory_fault(),
         taken: 0,
         made: 0,
     }
@@ -111,25 +113,24 @@ fn begin<'a>(
     scanner: &mut scanner_t<'a>,
     input: &'a [u8],
     setting: yaml_encoding_t,
-    kept: &mut yaml_fault_t,
 ) -> Result<(), stop_t>
     requires { IsNew scanner.old }
     ensures { MatchResult result (λ _. Begins setting input.now scanner.old scanner.new) (λ s.
-        (IsShort setting input.now scanner.old (fault_at s kept.new)
-        ⊎ IsEnded setting input.now scanner.old scanner.new (fault_at s kept.new))
+        (IsShort setting input.now scanner.old (fault_at s scanner.new.kept)
+        ⊎ IsEnded setting input.now scanner.old scanner.new (fault_at s scanner.new.kept))
         × IsStopped setting input.now scanner.old scanner.new) }
 {
     let (text, refusal) = match yaml_decode_front(scanner.alloc, input, setting) {
         Ok(front) => front,
         Err(fault) => {
-            *kept = fault;
+            scanner.kept = fault;
             return Err(stop_t::FAULT);
         }
     };
-    let near = near_from(text.bytes());
     let encoding = text.encoding();
+    let near = near_of(&text, refusal);
     if let Some(fault) = near_start(refusal, near) {
-        *kept = fault;
+        scanner.kept = fault;
         return Err(stop_t::FAULT);
     }
     put_stream_start(&mut scanner.layout.queue, encoding)?;
@@ -146,18 +147,17 @@ fn start<'a>(
     scanner: &mut scanner_t<'a>,
     input: &'a [u8],
     setting: yaml_encoding_t,
-    kept: &mut yaml_fault_t,
 ) -> Result<(), stop_t>
     requires { IsReady setting input.now scanner.old }
     ensures { MatchResult result (λ _. IsStarted setting input.now scanner.old scanner.new) (λ s.
-        (IsShort setting input.now scanner.old (fault_at s kept.new)
-        ⊎ IsEnded setting input.now scanner.old scanner.new (fault_at s kept.new))
+        (IsShort setting input.now scanner.old (fault_at s scanner.new.kept)
+        ⊎ IsEnded setting input.now scanner.old scanner.new (fault_at s scanner.new.kept))
         × IsStopped setting input.now scanner.old scanner.new) }
 {
     if scanner.made > 0 {
         return Ok(());
     }
-    begin(scanner, input, setting, kept)
+    begin(scanner, input, setting)
 }
 
 /// Makes the steps that the next token needs: none if it was peeked.
@@ -167,20 +167,19 @@ fn settle<'a>(
     input: &'a [u8],
     setting: yaml_encoding_t,
     peeked: bool,
-    kept: &mut yaml_fault_t,
 ) -> Result<(), stop_t>
     requires ready { IsReady setting input.now scanner.old }
     requires shown { peeked ≡ true → IsShown setting input.now scanner.old }
     ensures { MatchResult result (λ _. IsSettled setting input.now scanner.old scanner.new)
-        (λ s. (IsShort setting input.now scanner.old (fault_at s kept.new)
-        ⊎ IsEnded setting input.now scanner.old scanner.new (fault_at s kept.new))
+        (λ s. (IsShort setting input.now scanner.old (fault_at s scanner.new.kept)
+        ⊎ IsEnded setting input.now scanner.old scanner.new (fault_at s scanner.new.kept))
         × IsStopped setting input.now scanner.old scanner.new × (peeked ≡ false)) }
 {
     if peeked {
         return Ok(());
     }
-    start(scanner, input, setting, kept)?;
-    settle_head(scanner, kept)
+    start(scanner, input, setting)?;
+    settle_head(scanner)
 }
 
 /// Takes the head of the queue.
@@ -222,7 +221,6 @@ impl<'a> yaml_parser_t<'a> {
                 over: false,
                 fault: None,
             },
-            kept: make_memory_fault(),
             empty: yaml_token_t::empty(),
             lead: yaml_token_t::empty(),
         }
@@ -254,7 +252,6 @@ pub(crate) fn show(parser: &mut yaml_parser_t) -> bool
         parser.input,
         parser.setting,
         parser.session.peeked,
-        &mut parser.kept,
     ) {
         Ok(_) => {
             parser.lead = lead(&parser.scanner.layout.queue);
@@ -262,7 +259,7 @@ pub(crate) fn show(parser: &mut yaml_parser_t) -> bool
             true
         }
         Err(stop) => {
-            end(&mut parser.session, fault_at(stop, &parser.kept));
+            end(&mut parser.session, fault_at(stop, &parser.scanner.kept));
             false
         }
     }
@@ -315,7 +312,6 @@ pub fn yaml_parser_scan(parser: &mut yaml_parser_t) -> Result<yaml_token_t, yaml
         parser.input,
         parser.setting,
         parser.session.peeked,
-        &mut parser.kept,
     ) {
         Ok(_) => {
             let token = take_head(&mut parser.scanner);
@@ -323,7 +319,7 @@ pub fn yaml_parser_scan(parser: &mut yaml_parser_t) -> Result<yaml_token_t, yaml
             Ok(token)
         }
         Err(stop) => {
-            let fault = fault_at(stop, &parser.kept);
+            let fault = fault_at(stop, &parser.scanner.kept);
             end(&mut parser.session, fault);
             Err(fault)
         }

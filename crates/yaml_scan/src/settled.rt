@@ -6,16 +6,14 @@ ghost use Rattle.yaml_scan.specs.inside.Queue.{begins_with_end, pending};
 ghost use Rattle.yaml_scan.specs.Settled.{before};
 ghost use Rattle.yaml_scan.specs.Order.{ended};
 ghost use Rattle.yaml_scan.specs.inside.Stop.{fault_at};
-ghost use Rattle.yaml_scan.specs.inside.Scanning.{Runs, Advances, Offends, Steps, StepsOn, IsLast, Stays, IsOpen};
+ghost use Rattle.yaml_scan.specs.inside.Scanning.{Runs, StepsOn, IsLast, Stays, IsOpen};
 ghost use Rattle.yaml_scan.specs.inside.Scanning.{Fails, Settles};
 ghost use Rattle.yaml_scan.specs.inside.Scanning.{Stops, history};
 
-use crate::fault::{fault_at, stop_t};
+use crate::fault::stop_t;
 use crate::groups::has_ends;
-use crate::near::{near_problem, near_reading};
-use crate::quick::quick_step;
-use crate::step::{lay, meet, scanner_t};
-use yaml_text::yaml_fault_t;
+use crate::scanner::scanner_t;
+use crate::step::step;
 
 /// Whether the head of the queue is the token of the lowest candidate.
 #[inline(always)]
@@ -37,75 +35,30 @@ fn is_settled(scanner: &scanner_t) -> bool
     !scanner.layout.queue.groups.is_empty() && !is_awaited(scanner)
 }
 
-/// Reads the next lexeme, and lays it.
-fn step(scanner: &mut scanner_t, kept: &mut yaml_fault_t) -> Result<(), stop_t>
-    requires runs { Runs scanner.old }
-    requires running { ended (history scanner.old) ≡ false }
-    ensures { MatchResult result (λ _. Advances (history scanner.old) scanner.old scanner.new) (λ s.
-        ((fault_at s kept.new ≡ memory_fault) ⊎ Offends (history scanner.old) scanner.old (fault_at s kept.new))
-        × Stays scanner.old scanner.new) }
-{
-    let met = meet(scanner, kept)?;
-    lay(scanner, met, kept)
-}
-
-/// Makes a step, unless the reader's fault is near.
-#[inline(never)]
-fn advance_slowly(scanner: &mut scanner_t, kept: &mut yaml_fault_t) -> Result<(), stop_t>
-    requires runs { Runs scanner.old }
-    requires running { ended (history scanner.old) ≡ false }
-    ensures { MatchResult result (λ _. Steps scanner.old scanner.new) (λ s.
-        ((fault_at s kept.new ≡ memory_fault) ⊎ IsLast scanner.old (fault_at s kept.new))
-        × Stays scanner.old scanner.new) }
-{
-    let reach = scanner.reach;
-    match step(scanner, kept) {
-        Ok(_) => match near_reading(&scanner.refusal, scanner.near, scanner.reach.index) {
-            Some(fault) => {
-                scanner.reach = reach;
-                *kept = fault;
-                Err(stop_t::FAULT)
-            }
-            None => {
-                scanner.made += 1;
-                Ok(())
-            }
-        },
-        Err(stop) => {
-            let fault = fault_at(stop, kept);
-            *kept = near_problem(&scanner.refusal, scanner.near, fault);
-            Err(stop_t::FAULT)
-        }
-    }
-}
-
-/// Makes a step, at once if it is a common one, unless the reader's fault is near. Two may be made at once, if the next
-/// token needs both.
+/// Makes a step, or two if the next token needs both, unless the scanner has to stop there.
 #[inline(always)]
-fn advance(scanner: &mut scanner_t, kept: &mut yaml_fault_t) -> Result<(), stop_t>
+fn advance(scanner: &mut scanner_t) -> Result<(), stop_t>
     requires runs { Runs scanner.old }
     requires running { ended (history scanner.old) ≡ false }
     ensures { MatchResult result (λ _. StepsOn scanner.old scanner.new) (λ s.
-        ((fault_at s kept.new ≡ memory_fault) ⊎ IsLast scanner.old (fault_at s kept.new))
+        ((fault_at s scanner.new.kept ≡ memory_fault) ⊎ IsLast scanner.old (fault_at s scanner.new.kept))
         × Stays scanner.old scanner.new) }
 {
-    if quick_step(scanner) {
-        return Ok(());
-    }
-    advance_slowly(scanner, kept)
+    step(scanner)
 }
 
 /// Makes steps until the head of the queue is the next token.
 #[inline(always)]
-pub(crate) fn settle_head(scanner: &mut scanner_t, kept: &mut yaml_fault_t) -> Result<(), stop_t>
+pub(crate) fn settle_head(scanner: &mut scanner_t) -> Result<(), stop_t>
     requires runs { Runs scanner.old }
     requires not_ended { IsOpen scanner.old }
     ensures { MatchResult result (λ _. Settles scanner.old scanner.new) (λ s.
-        ((fault_at s kept.new ≡ memory_fault) ⊎ Fails scanner.old scanner.new (fault_at s kept.new))
+        ((fault_at s scanner.new.kept ≡ memory_fault)
+        ⊎ Fails scanner.old scanner.new (fault_at s scanner.new.kept))
         × Stops scanner.old scanner.new) }
 {
     'steps: while !is_settled(scanner) {
-        advance(scanner, kept)?;
+        advance(scanner)?;
     }
     Ok(())
 }

@@ -1,22 +1,20 @@
 //! The readers of `yaml_lexeme`, with contracts over places instead of marks.
-ghost use Rattle.std.specs.Prelude.{◌≡◌, ℕ, ◌≤◌, ◌⊎◌, Option, Some, Ok, Err, length, nat_lt, IfSome, MatchResult};
-ghost use Rattle.yaml_text.specs.Fault.{memory_fault};
-ghost use Rattle.yaml_scan.specs.inside.Stop.{fault_at};
+ghost use Rattle.std.specs.Prelude.{◌≡◌, ℕ, ◌≤◌, Bool, Option, Some, length, IfSome, true};
+ghost use Rattle.yaml_lexeme.specs.Lex.{block_kind, is_character, quoted_kind};
 ghost use Rattle.yaml_lexeme.specs.Lexeme.{lexeme_of};
-ghost use Rattle.yaml_lexeme.specs.declared.kind.yaml_lexeme_kind_t.TheVariants.{PLAIN};
 ghost use Rattle.yaml_lexeme.specs.Place.{IsMarkOf};
+ghost use Rattle.yaml_lexeme.specs.declared.kind.yaml_lexeme_kind_t.TheVariants.{PLAIN};
 ghost use Rattle.yaml_scan.specs.SourceOf.{source_of};
-ghost use Rattle.yaml_scan.specs.inside.TextReads.{IsColon, IsRead, IsOffence};
+ghost use Rattle.yaml_scan.specs.inside.Scanning.{HasRead};
+ghost use Rattle.yaml_scan.specs.inside.TextReads.{IsDecider, IsRead};
 
-use crate::fault::stop_t;
-use crate::step::met_t;
-use std::alloc::Global;
+use crate::scanner::scanner_t;
 use yaml_lexeme::{
-    yaml_block_at_once, yaml_character_at, yaml_colon_at_once, yaml_context_t, yaml_gap,
-    yaml_lexeme_at, yaml_lexeme_kind, yaml_lexeme_kind_t, yaml_lexeme_t, yaml_plain_at_once,
-    yaml_quoted_at_once,
+    yaml_context_t, yaml_decider_at, yaml_gap, yaml_lexeme_kind, yaml_lexeme_kind_t, yaml_lexeme_t,
+    yaml_read_block, yaml_read_character, yaml_read_lexeme, yaml_read_plain, yaml_read_quoted,
+    yaml_refusal_t,
 };
-use yaml_text::{yaml_fault_t, yaml_mark_t, yaml_text_t};
+use yaml_text::{yaml_mark_t, yaml_text_t};
 
 /// The end of the gap from a mark.
 #[inline(always)]
@@ -47,153 +45,118 @@ pub(crate) fn kind_at(
     yaml_lexeme_kind(text, at, in_flow)
 }
 
-/// The lexeme that was met, or the fault of its offence.
-#[inline(always)]
-pub(crate) fn read_lexeme(
-    alloc: Global,
-    kept: &mut yaml_fault_t,
-    text: &yaml_text_t,
-    met: met_t,
-    context: yaml_context_t,
-) -> Result<yaml_lexeme_t, stop_t>
-    requires place { (p : ℕ) × IsMarkOf text.now.chars met.front p
-        × ((source_of text.now.chars).kind (nat_lt 0 context.depth) p ≡ Some met.kind) }
-    requires level { IfSome context.level (λ l. l ≤ length text.now.chars) }
-    ensures { (p : ℕ) → IsMarkOf text.now.chars met.front p
-        → MatchResult result (λ l. IsRead text.now.chars met.kind context.depth context.level p (lexeme_of l))
-        (λ s. (fault_at s kept.new ≡ memory_fault)
-        ⊎ IsOffence text.now.chars met.kind context.depth context.level p (fault_at s kept.new)) }
-{
-    match yaml_lexeme_at(alloc, text, met.front, met.kind, context) {
-        Ok(lexeme) => Ok(lexeme),
-        Err(fault) => {
-            *kept = fault;
-            Err(stop_t::FAULT)
-        }
-    }
+/// What comes right after a candidate for a key, and decides whether it is one.
+#[derive(Drop)]
+pub(crate) struct decider_t {
+    pub kind: yaml_lexeme_kind_t,
+    pub lexeme: yaml_lexeme_t,
 }
 
-/// The lexeme that was met, if it has no offence and there is memory for it. Scalars that are not plain and lexemes of
-/// one character are tried at once.
+/// What decides at a mark whether the candidate before it is a key, if such a lexeme is right there.
 #[inline(always)]
-pub(crate) fn read_at_once(
-    alloc: Global,
-    text: &yaml_text_t,
-    met: met_t,
-    context: yaml_context_t,
-) -> Option<yaml_lexeme_t>
-    requires place { (p : ℕ) × IsMarkOf text.now.chars met.front p
-        × ((source_of text.now.chars).kind (nat_lt 0 context.depth) p ≡ Some met.kind) }
-    requires level { IfSome context.level (λ l. l ≤ length text.now.chars) }
-    ensures { IfSome result (λ l. (p : ℕ) → IsMarkOf text.now.chars met.front p
-        → IsRead text.now.chars met.kind context.depth context.level p (lexeme_of l)) }
-{
-    match met.kind {
-        yaml_lexeme_kind_t::SINGLE_QUOTED | yaml_lexeme_kind_t::DOUBLE_QUOTED => {
-            read_quoted(alloc, text, met, context)
-        }
-        yaml_lexeme_kind_t::LITERAL | yaml_lexeme_kind_t::FOLDED => {
-            read_block(alloc, text, met, context)
-        }
-        yaml_lexeme_kind_t::FLOW_SEQUENCE_START
-        | yaml_lexeme_kind_t::FLOW_MAPPING_START
-        | yaml_lexeme_kind_t::FLOW_SEQUENCE_END
-        | yaml_lexeme_kind_t::FLOW_MAPPING_END
-        | yaml_lexeme_kind_t::FLOW_ENTRY
-        | yaml_lexeme_kind_t::BLOCK_ENTRY
-        | yaml_lexeme_kind_t::KEY
-        | yaml_lexeme_kind_t::VALUE => read_character(text, met),
-        _ => read_other(alloc, text, met, context),
-    }
-}
-
-/// A lexeme of one character that was met.
-#[inline(always)]
-fn read_character(text: &yaml_text_t, met: met_t) -> Option<yaml_lexeme_t>
-    requires { (p : ℕ) × IsMarkOf text.now.chars met.front p }
-    ensures { IfSome result (λ l. (p depth : ℕ) (level : Option ℕ) → IsMarkOf text.now.chars met.front p
-        → IsRead text.now.chars met.kind depth level p (lexeme_of l)) }
-{
-    yaml_character_at(text, met.front, met.kind)
-}
-
-/// A literal or folded scalar that was met, if it has no offence and there is memory for it.
-#[inline(always)]
-fn read_block(
-    alloc: Global,
-    text: &yaml_text_t,
-    met: met_t,
-    context: yaml_context_t,
-) -> Option<yaml_lexeme_t>
-    requires place { (p : ℕ) × IsMarkOf text.now.chars met.front p }
-    requires level { IfSome context.level (λ l. l ≤ length text.now.chars) }
-    ensures { IfSome result (λ l. (p : ℕ) → IsMarkOf text.now.chars met.front p
-        → IsRead text.now.chars met.kind context.depth context.level p (lexeme_of l)) }
-{
-    yaml_block_at_once(alloc, text, met.front, met.kind, context)
-}
-
-/// The lexeme that was met, if it has no offence and there is memory for it.
-#[inline(never)]
-fn read_other(
-    alloc: Global,
-    text: &yaml_text_t,
-    met: met_t,
-    context: yaml_context_t,
-) -> Option<yaml_lexeme_t>
-    requires place { (p : ℕ) × IsMarkOf text.now.chars met.front p
-        × ((source_of text.now.chars).kind (nat_lt 0 context.depth) p ≡ Some met.kind) }
-    requires level { IfSome context.level (λ l. l ≤ length text.now.chars) }
-    ensures { IfSome result (λ l. (p : ℕ) → IsMarkOf text.now.chars met.front p
-        → IsRead text.now.chars met.kind context.depth context.level p (lexeme_of l)) }
-{
-    match yaml_lexeme_at(alloc, text, met.front, met.kind, context) {
-        Ok(lexeme) => Some(lexeme),
-        Err(_) => None,
-    }
-}
-
-/// A plain scalar at a mark, if it is of one line and there is memory for it.
-#[inline(always)]
-pub(crate) fn read_line(
-    alloc: Global,
-    text: &yaml_text_t,
-    at: yaml_mark_t,
-    context: yaml_context_t,
-) -> Option<yaml_lexeme_t>
-    requires place { (p : ℕ) × IsMarkOf text.now.chars at p }
-    requires level { IfSome context.level (λ l. l ≤ length text.now.chars) }
-    ensures { IfSome result (λ l. (p : ℕ) → IsMarkOf text.now.chars at p
-        → IsRead text.now.chars PLAIN context.depth context.level p (lexeme_of l)) }
-{
-    yaml_plain_at_once(alloc, text, at, context)
-}
-
-/// The mark after the `:` at a mark, if a quick look shows that it is a lexeme there and no gap comes before it.
-#[inline(always)]
-pub(crate) fn colon_at(text: &yaml_text_t, at: yaml_mark_t) -> Option<yaml_mark_t>
+pub(crate) fn decider_at(text: &yaml_text_t, at: yaml_mark_t, in_flow: bool) -> Option<decider_t>
     requires { (p : ℕ) × IsMarkOf text.now.chars at p }
-    ensures { IfSome result (λ end. (p : ℕ) → IsMarkOf text.now.chars at p → IsColon text.now.chars p at end) }
+    ensures { IfSome result (λ d. (p : ℕ) → IsMarkOf text.now.chars at p
+        → IsDecider text.now.chars in_flow p d.kind (lexeme_of d.lexeme)) }
 {
-    yaml_colon_at_once(text, at)
+    match yaml_decider_at(text, at, in_flow) {
+        Some(kind) => Some(decider_t {
+            kind,
+            lexeme: yaml_read_character(text, at, kind),
+        }),
+        None => None,
+    }
 }
 
-/// The quoted scalar that was met, if it has no offence and there is memory for it.
-#[inline(never)]
-fn read_quoted(
-    alloc: Global,
-    text: &yaml_text_t,
-    met: met_t,
+/// The plain scalar after the gap, or why it is refused.
+#[inline(always)]
+pub(crate) fn read_plain(
+    scanner: &mut scanner_t,
     context: yaml_context_t,
-) -> Option<yaml_lexeme_t>
-    requires place { (p : ℕ) × IsMarkOf text.now.chars met.front p
-        × ((source_of text.now.chars).kind (nat_lt 0 context.depth) p ≡ Some met.kind) }
-    requires level { IfSome context.level (λ l. l ≤ length text.now.chars) }
-    ensures { IfSome result (λ l. (p : ℕ) → IsMarkOf text.now.chars met.front p
-        → IsRead text.now.chars met.kind context.depth context.level p (lexeme_of l)) }
+) -> Result<yaml_lexeme_t, yaml_refusal_t>
+    requires place { (p : ℕ) × IsMarkOf scanner.old.text.chars scanner.old.front p }
+    requires level { IfSome context.level (λ l. l ≤ length scanner.old.text.chars) }
+    ensures { HasRead scanner.old scanner.new PLAIN context result }
 {
-    match yaml_quoted_at_once(alloc, text, met.front, met.kind) {
-        Some(lexeme) => Some(lexeme),
-        None => read_other(alloc, text, met, context),
-    }
+    yaml_read_plain(
+        scanner.alloc,
+        &scanner.text,
+        scanner.front,
+        context,
+        &mut scanner.there,
+    )
+}
+
+/// The quoted scalar after the gap, or why it is refused.
+#[inline(always)]
+pub(crate) fn read_quoted(
+    scanner: &mut scanner_t,
+    single: bool,
+    context: yaml_context_t,
+) -> Result<yaml_lexeme_t, yaml_refusal_t>
+    requires { (p : ℕ) × IsMarkOf scanner.old.text.chars scanner.old.front p }
+    ensures { HasRead scanner.old scanner.new (quoted_kind single) context result }
+{
+    yaml_read_quoted(
+        scanner.alloc,
+        &scanner.text,
+        scanner.front,
+        single,
+        &mut scanner.there,
+    )
+}
+
+/// The literal or folded scalar after the gap, or why it is refused.
+#[inline(always)]
+pub(crate) fn read_block(
+    scanner: &mut scanner_t,
+    folded: bool,
+    context: yaml_context_t,
+) -> Result<yaml_lexeme_t, yaml_refusal_t>
+    requires place { (p : ℕ) × IsMarkOf scanner.old.text.chars scanner.old.front p }
+    requires level { IfSome context.level (λ l. l ≤ length scanner.old.text.chars) }
+    ensures { HasRead scanner.old scanner.new (block_kind folded) context result }
+{
+    yaml_read_block(
+        scanner.alloc,
+        &scanner.text,
+        scanner.front,
+        folded,
+        context,
+        &mut scanner.there,
+    )
+}
+
+/// The lexeme of one character after the gap.
+#[inline(always)]
+pub(crate) fn read_character(scanner: &scanner_t, kind: yaml_lexeme_kind_t) -> yaml_lexeme_t
+    requires place { (p : ℕ) × IsMarkOf scanner.now.text.chars scanner.now.front p
+        × ((flow : Bool) × ((source_of scanner.now.text.chars).kind flow p ≡ Some kind)) }
+    requires kind { is_character kind ≡ true }
+    ensures { (p depth : ℕ) (level : Option ℕ) → IsMarkOf scanner.now.text.chars scanner.now.front p
+        → IsRead scanner.now.text.chars kind depth level p (lexeme_of result) }
+{
+    yaml_read_character(&scanner.text, scanner.front, kind)
+}
+
+/// The lexeme of a kind after the gap, or why it is refused.
+#[inline(always)]
+pub(crate) fn read_other(
+    scanner: &mut scanner_t,
+    kind: yaml_lexeme_kind_t,
+    context: yaml_context_t,
+) -> Result<yaml_lexeme_t, yaml_refusal_t>
+    requires place { (p : ℕ) × IsMarkOf scanner.old.text.chars scanner.old.front p
+        × ((flow : Bool) × ((source_of scanner.old.text.chars).kind flow p ≡ Some kind)) }
+    requires level { IfSome context.level (λ l. l ≤ length scanner.old.text.chars) }
+    ensures { HasRead scanner.old scanner.new kind context result }
+{
+    yaml_read_lexeme(
+        scanner.alloc,
+        &scanner.text,
+        scanner.front,
+        kind,
+        context,
+        &mut scanner.there,
+    )
 }

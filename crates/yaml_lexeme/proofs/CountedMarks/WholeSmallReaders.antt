@@ -2,7 +2,7 @@
 use Rattle.std.proofs.Common.{◌≡◌, ℕ, zero, suc, ◌+◌, ◌-◌, Bool, true, false, not, ◌==◌, ◌&&◌, ◌||◌, nat_lt, if◌then◌else◌, List, length, codes, Option, Some, None, Result, Ok, Err, refl, arith}
 use Rattle.std.proofs.lemmas.Bool.Decides.{nat_tests}
 use Rattle.std.specs.Str.{bytes_eq}
-use Rattle.yaml_lexeme.specs.declared.problem.problem_t.{problem_t}
+use Rattle.yaml_lexeme.specs.declared.problem.yaml_problem_t.{yaml_problem_t}
 use Rattle.yaml_lexeme.proofs.CountedMarks.WholePlaces.{Clear, clear_here, clear_trans, clear_behind, clear_one, clear_if, IsSure, clear_run, clear_within, clear_break, other, no_return}
 use Rattle.std.proofs.lemmas.Bool.{and_parts, not-false}
 use Rattle.yaml_lexeme.specs.Block.{after_line}
@@ -27,7 +27,7 @@ pub record Holds {B : Type 0} (Q : B → Type 0) (p : Place) (r : Result B Offen
 pub ok_holds : {B : Type 0} {Q : B → Type 0} {p : Place} {x : B} → Q x → Holds Q p (Ok x)
 ok_holds h = record { held = h }
 
-pub refuse_holds : {B : Type 0} {Q : B → Type 0} {p q : Place} {problem : problem_t} → Clear p q → Holds Q p (refuse problem q)
+pub refuse_holds : {B : Type 0} {Q : B → Type 0} {p q : Place} {problem : yaml_problem_t} → Clear p q → Holds Q p (refuse problem q)
 refuse_holds h = record { held = h }
 
 pub if_holds : {B : Type 0} {Q : B → Type 0} {p : Place} {x y : Result B Offence} → (b : Bool) → (b ≡ true → Holds Q p x) → (b ≡ false → Holds Q p y) → Holds Q p (if b then x else y)

@@ -16,7 +16,7 @@ use Rattle.yaml_lexeme.specs.Place.{Place, first, skip, run_len, break_len}
 use Rattle.yaml_lexeme.specs.Reading.{Offence, Found, Read, found, refuse, ◌>>=◌, part, over, many}
 use Rattle.yaml_lexeme.specs.declared.block.header_t.{header_t}
 use Rattle.yaml_lexeme.specs.Lexeme.{Scalar as scalar_t}
-use Rattle.yaml_lexeme.specs.declared.problem.problem_t.TheVariants.{TAB_IN_INDENTATION}
+use Rattle.yaml_lexeme.specs.declared.problem.yaml_problem_t.TheVariants.{TAB_IN_INDENTATION}
 use Rattle.yaml_text.specs.Chars.{utf8}
 use Rattle.yaml_text.specs.Classes.{is_digit}
 use Rattle.yaml_text.specs.declared.types.yaml_mark_t.{yaml_mark_t}

@@ -8,7 +8,7 @@ use Rattle.yaml_lexeme.proofs.Locality.AgreeingPlaces.{Agree}
 use Rattle.yaml_lexeme.specs.Locality.{move, IsLocal}
 use Rattle.yaml_lexeme.specs.Place.{Place, skip, run, run_len, behind}
 use Rattle.yaml_lexeme.specs.Reading.{Found, Read, found, refuse, ◌>>=◌, Part, part, over, many}
-use Rattle.yaml_lexeme.specs.declared.problem.problem_t.{problem_t}
+use Rattle.yaml_lexeme.specs.declared.problem.yaml_problem_t.{yaml_problem_t}
 
 -- What is read from p on, and the same from q on, if p and q have n characters in common.
 pub record Like {A : Type 0} (n : ℕ) (p q : Place) (r s : Read A) : Type 0 where
@@ -40,14 +40,14 @@ agree_behind n k p q h a =
 pub like_found : {A : Type 0} {n : ℕ} {p q x y : Place} {a b : A} → (k : ℕ) → x ≡ skip k p → (k + 8 ≤ n → y ≡ skip k q) → (k + 8 ≤ n → b ≡ a) → Like n p q (found a x) (found b y)
 like_found {A} {n} {p} {q} {x} {y} {a} {b} k e f g = record { count = k; ends = e; same = λ h. ap (λ (c : A). found c y) (g h) ∙ ap (λ (z : Place). found a z) (f h) }
 
-pub like_refuse : {A : Type 0} {n : ℕ} {p q x y : Place} {problem : problem_t} → (k : ℕ) → x ≡ skip k p → (k + 8 ≤ n → y ≡ skip k q) → Like {A = A} n p q (refuse problem x) (refuse problem y)
+pub like_refuse : {A : Type 0} {n : ℕ} {p q x y : Place} {problem : yaml_problem_t} → (k : ℕ) → x ≡ skip k p → (k + 8 ≤ n → y ≡ skip k q) → Like {A = A} n p q (refuse problem x) (refuse problem y)
 like_refuse {A} {n} {p} {q} {x} {y} {problem} k e f = record { count = k; ends = e; same = λ h. ap (λ (z : Place). refuse problem z) (f h) }
 
 -- at the place itself
 pub found_here : {A : Type 0} {n : ℕ} {p q : Place} {a : A} → Like n p q (found a p) (found a q)
 found_here {A} {n} {p} {q} {a} = like_found 0 (sym (skip_none p)) (λ h. sym (skip_none q)) (λ h. refl)
 
-pub refuse_here : {A : Type 0} {n : ℕ} {p q : Place} {problem : problem_t} → Like {A = A} n p q (refuse problem p) (refuse problem q)
+pub refuse_here : {A : Type 0} {n : ℕ} {p q : Place} {problem : yaml_problem_t} → Like {A = A} n p q (refuse problem p) (refuse problem q)
 refuse_here {A} {n} {p} {q} {problem} = like_refuse 0 (sym (skip_none p)) (λ h. sym (skip_none q))
 
 pub found_on : {A : Type 0} {n : ℕ} {p q : Place} {a : A} → (k : ℕ) → Like n p q (found a (skip k p)) (found a (skip k q))

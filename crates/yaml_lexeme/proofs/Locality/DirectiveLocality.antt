@@ -18,7 +18,7 @@ use Rattle.yaml_lexeme.specs.Place.{Place, first, skip, run, run_len, behind, br
 use Rattle.yaml_lexeme.specs.Reading.{Read, found, refuse, ◌>>=◌}
 use Rattle.yaml_lexeme.specs.Uri.{some_uri}
 use Rattle.yaml_lexeme.specs.Lexeme.{Directive as directive_t}
-use Rattle.yaml_lexeme.specs.declared.problem.problem_t.TheVariants.{NO_NUMBER, LONG_NUMBER, NO_COMMENT_OR_BREAK, OPEN_HANDLE, NO_DIRECTIVE_NAME, DIRECTIVE_NAME_GOES_ON}
+use Rattle.yaml_lexeme.specs.declared.problem.yaml_problem_t.TheVariants.{NO_NUMBER, LONG_NUMBER, NO_COMMENT_OR_BREAK, OPEN_HANDLE, NO_DIRECTIVE_NAME, DIRECTIVE_NAME_GOES_ON}
 use Rattle.yaml_text.specs.Classes.{is_alpha, is_blank, is_break, is_digit, is_z}
 use Rattle.yaml_text.specs.Token.TokenData.{VERSION_DIRECTIVE}
 use Rattle.yaml_text.specs.declared.types.yaml_mark_t.{yaml_mark_t}

@@ -4,7 +4,7 @@ use Rattle.yaml_lexeme.proofs.Locality.ComposedReaders.{IsLike, found_here, refu
 use Rattle.yaml_lexeme.proofs.Parts.PartByPart.{IsShorter, Shortens, many_turn}
 use Rattle.yaml_lexeme.specs.Place.{Place}
 use Rattle.yaml_lexeme.specs.Reading.{Read, found, refuse, ◌>>=◌, Part, with_front, go_on, many}
-use Rattle.yaml_lexeme.specs.declared.problem.problem_t.TheVariants.{END_OF_TEXT}
+use Rattle.yaml_lexeme.specs.declared.problem.yaml_problem_t.TheVariants.{END_OF_TEXT}
 
 pub data Next (A B : Type 0) : Type 0 where
   go : A → Next A B

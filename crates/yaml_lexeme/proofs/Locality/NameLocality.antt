@@ -4,7 +4,7 @@ use Rattle.yaml_lexeme.proofs.Locality.ComposedReaders.{IsLike, found_here, refu
 use Rattle.yaml_lexeme.specs.Name.{is_behind_name, name}
 use Rattle.yaml_lexeme.specs.Place.{Place, first, skip, run, behind}
 use Rattle.yaml_lexeme.specs.Reading.{Read, found, refuse}
-use Rattle.yaml_lexeme.specs.declared.problem.problem_t.TheVariants.{NO_NAME}
+use Rattle.yaml_lexeme.specs.declared.problem.yaml_problem_t.TheVariants.{NO_NAME}
 use Rattle.yaml_text.specs.Classes.{is_alpha}
 
 -- after the letters

@@ -13,7 +13,7 @@ use Rattle.yaml_lexeme.specs.Locality.{move}
 use Rattle.yaml_lexeme.specs.Place.{Place, first, peek, skip, run, run_len, behind}
 use Rattle.yaml_lexeme.specs.Plain.{is_bad_tab, is_bad_colon, is_chunk, chunk_len, chunk, untabbed}
 use Rattle.yaml_lexeme.specs.Reading.{Found, Read, found, refuse, ◌>>=◌}
-use Rattle.yaml_lexeme.specs.declared.problem.problem_t.TheVariants.{COLON_IN_FLOW, TAB_IN_PLAIN}
+use Rattle.yaml_lexeme.specs.declared.problem.yaml_problem_t.TheVariants.{COLON_IN_FLOW, TAB_IN_PLAIN}
 use Rattle.yaml_text.specs.Classes.{is_break}
 
 len_same : (flow : Bool) (cs ds : List ℕ) (n : ℕ) → chunk_len flow cs + 2 ≤ n → n ≤ length cs → n ≤ length ds → ((i : ℕ) → i < n → slice_index cs i ≡ slice_index ds i) → chunk_len flow ds ≡ chunk_len flow cs

@@ -17,7 +17,7 @@ use Rattle.yaml_lexeme.specs.Locality.{move}
 use Rattle.yaml_lexeme.specs.Place.{Place, first, peek, skip, run, run_len, behind, break_len}
 use Rattle.yaml_lexeme.specs.Quoted.{quote, unmarked, body_part, quoted}
 use Rattle.yaml_lexeme.specs.Reading.{Read, found, part, refuse, many, ◌>>=◌}
-use Rattle.yaml_lexeme.specs.declared.problem.problem_t.TheVariants.{DOCUMENT_MARKER, NO_HEX_DIGIT, NO_SCALAR_VALUE, UNKNOWN_ESCAPE}
+use Rattle.yaml_lexeme.specs.declared.problem.yaml_problem_t.TheVariants.{DOCUMENT_MARKER, NO_HEX_DIGIT, NO_SCALAR_VALUE, UNKNOWN_ESCAPE}
 use Rattle.yaml_text.specs.Chars.{utf8}
 use Rattle.yaml_text.specs.Classes.{is_break, is_z, is_hex}
 

@@ -8,7 +8,7 @@ use Rattle.yaml_lexeme.proofs.Locality.AgreeingPlaces.{Agree}
 use Rattle.yaml_lexeme.specs.Place.{Place, first, skip}
 use Rattle.yaml_lexeme.specs.Reading.{refuse, with_front}
 use Rattle.yaml_lexeme.specs.Uri.{is_octet, octet_value, octet, octet_width, is_bad_next, next_octets, is_uri, uri_escape, uri_part, uri, some_uri}
-use Rattle.yaml_lexeme.specs.declared.problem.problem_t.TheVariants.{NO_OCTET, BAD_NEXT_OCTET, BAD_LEAD_OCTET}
+use Rattle.yaml_lexeme.specs.declared.problem.yaml_problem_t.TheVariants.{NO_OCTET, BAD_NEXT_OCTET, BAD_LEAD_OCTET}
 
 next_by : (n : ℕ) (p : Place) → next_octets (suc n) p ≡ (if is_octet p then (if is_bad_next (octet_value p) then refuse BAD_NEXT_OCTET p else with_front (octet_value p ∷ []) (next_octets n (skip 3 p))) else refuse NO_OCTET p)
 unfolding next_octets octet

@@ -4,8 +4,8 @@ use Rattle.std.proofs.lemmas.Bool.{cases_Bool, eqb-true, not-false}
 use Rattle.std.proofs.lemmas.Bool.Decides.{nat_tests}
 use Rattle.std.proofs.lemmas.List.{length-take-le}
 use Rattle.yaml_lexeme.specs.Lexeme.{Scalar as scalar_t}
-use Rattle.yaml_lexeme.specs.declared.problem.problem_t.{problem_t}
-use Rattle.yaml_lexeme.specs.declared.problem.problem_t.TheVariants.{COLON_IN_FLOW}
+use Rattle.yaml_lexeme.specs.declared.problem.yaml_problem_t.{yaml_problem_t}
+use Rattle.yaml_lexeme.specs.declared.problem.yaml_problem_t.TheVariants.{COLON_IN_FLOW}
 use Rattle.yaml_lexeme.specs.Classes.{is_white}
 use Rattle.yaml_lexeme.specs.Fold.{fold}
 use Rattle.yaml_lexeme.specs.Parts.{texts, values, plain_scalar, PlainParts, PlainIsParts, ChunkRefused, LinksRefused, PlainIsRefused, ChunkIsLongest, LinkParts, LinkIsLongest, SeparatorEnds, LinkIsOver}
@@ -71,7 +71,7 @@ chunk_longest flow p f h =
     )
 
 -- a chunk that is refused
-abbrev problem_or : problem_t → Read (List ℕ) → problem_t
+abbrev problem_or : yaml_problem_t → Read (List ℕ) → yaml_problem_t
 problem_or x (Ok f) = x
 problem_or x (Err e) = e.problem
 
@@ -125,7 +125,7 @@ chunk_refused_to flow p e r =
     let zero_on : k + 0 ≡ k = omega arith in
     let here : is_chunk flow (peek p k) (peek p (k + 1)) ≡ false = subst (λ (c : ℕ). is_chunk flow c (peek p (k + 1)) ≡ false) (peek_on k 0 p ∙ ap (peek p) zero_on) (subst (λ (d : ℕ). is_chunk flow (peek (skip k p) 0) d ≡ false) (peek_on k 1 p) none) in
     let len : chunk_len flow p.rest ≡ k = chunk_len_is flow p.rest k (text_within r.text e.at.rest p.rest r.joined) r.all here in
-    rw (len, bad) (ap (λ (x : problem_t). refuse x (skip k p)) (sym r.problem) ∙ ap (λ (x : Place). refuse e.problem x) (sym r.at))
+    rw (len, bad) (ap (λ (x : yaml_problem_t). refuse x (skip k p)) (sym r.problem) ∙ ap (λ (x : Place). refuse e.problem x) (sym r.at))
 
 -- links
 not_over : (b : Bool) (y : Part (List ℕ)) (f : Found (List ℕ)) → (if b then over else y) ≡ part f.value f.end → (b ≡ false) × (y ≡ part f.value f.end)

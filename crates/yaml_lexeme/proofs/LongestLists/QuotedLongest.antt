@@ -4,7 +4,7 @@ use Rattle.std.proofs.lemmas.Bool.{and_parts, eqb-true}
 use Rattle.std.specs.List.{flat_map}
 use Rattle.yaml_text.specs.Chars.{utf8}
 use Rattle.yaml_text.specs.Classes.{is_break, is_z}
-use Rattle.yaml_lexeme.specs.declared.problem.problem_t.TheVariants.{DOCUMENT_MARKER}
+use Rattle.yaml_lexeme.specs.declared.problem.yaml_problem_t.TheVariants.{DOCUMENT_MARKER}
 use Rattle.yaml_lexeme.specs.Classes.{is_white}
 use Rattle.yaml_lexeme.specs.Escape.{backslash, escape}
 use Rattle.yaml_lexeme.specs.Kind.{is_marker}

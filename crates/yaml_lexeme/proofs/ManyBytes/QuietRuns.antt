@@ -1,7 +1,7 @@
 -- A run of bytes that end nothing is a run of whole characters of the class.
 use Rattle.std.proofs.Common.{◌≡◌, ℕ, zero, suc, ◌+◌, ◌/◌, ◌<◌, ◌≤◌, ◌⊎◌, Bool, true, false, cond, List, [], ◌∷◌, ◌++◌, length, get_or, take, drop, refl, sym, ap, ◌∙◌, subst, arith, inl, inr}
 use Rattle.std.specs.List.{prefix_len, count_by}
-use Rattle.std.proofs.lemmas.Bool.{cases_lt, cases_Bool}
+use Rattle.std.proofs.lemmas.Bool.{cases_lt, cases_Bool, true≢false}
 use Rattle.std.proofs.lemmas.Bool.Decides.{nat_tests}
 use Rattle.std.proofs.lemmas.Str.{encode_ascii, length-encode, len_utf8_bounds}
 use Rattle.std.proofs.lemmas.List.{length-append}
@@ -14,28 +14,36 @@ use Rattle.yaml_text.proofs.Characters.Utf8Spelling.{two, three, four}
 use Rattle.yaml_text.proofs.Characters.CharRanges.{char_range}
 use Rattle.yaml_lexeme.specs.Place.{skip_from, mark_behind, width}
 use Rattle.yaml_lexeme.specs.declared.runs.class_t.{class_t}
-use Rattle.yaml_lexeme.specs.declared.runs.class_t.TheVariants.{BLANK, GAP_BLANK, SPACE, BLANK_OR_BREAK, ALPHA, IN_LINE, DOUBLE, SINGLE, PLAIN, FLOW}
+use Rattle.yaml_lexeme.specs.declared.runs.class_t.TheVariants.{BLANK, GAP_BLANK, SPACE, BLANK_OR_BREAK, ALPHA}
 use Rattle.yaml_lexeme.specs.inside.Runs.{is_quiet, class_test, begins, may_break, is_line}
 
--- What bytes that are quiet for a test of characters must be: either all of them are ASCII, or all that continue a
--- character are.
+-- What bytes that are quiet for a test of characters may be: either all of them are ASCII, or all that continue a
+-- character are quiet.
 abbrev Low : (ℕ → Bool) → Type 0
 Low q = (b : ℕ) → q b ≡ true → b < 128
 
 abbrev High : (ℕ → Bool) → Type 0
 High q = (b : ℕ) → 128 ≤ b → b < 192 → q b ≡ true
 
-low_or_high : (class : class_t) → Low (is_quiet class) ⊎ High (is_quiet class)
-low_or_high BLANK = inl (λ b h. grind (arith, nat_tests))
-low_or_high (GAP_BLANK tabs) = inl (λ b h. grind (arith, nat_tests))
-low_or_high SPACE = inl (λ b h. grind (arith, nat_tests))
-low_or_high BLANK_OR_BREAK = inl (λ b h. grind (arith, nat_tests))
-low_or_high ALPHA = inl (λ b h. grind (arith, nat_tests))
-low_or_high IN_LINE = inr (λ b l h. grind (arith, nat_tests))
-low_or_high DOUBLE = inr (λ b l h. grind (arith, nat_tests))
-low_or_high SINGLE = inr (λ b l h. grind (arith, nat_tests))
-low_or_high PLAIN = inr (λ b l h. grind (arith, nat_tests))
-low_or_high FLOW = inr (λ b l h. grind (arith, nat_tests))
+-- A class of a line: it takes each character above ASCII that is no break.
+record Wide (class : class_t) : Type 0 where
+  pub line : is_line class ≡ true
+  pub high : High (is_quiet class)
+  pub lead : (b : ℕ) → is_quiet class b ≡ true → may_break b ≡ false
+  pub takes : (c : ℕ) → 128 ≤ c → is_break c ≡ false → class_test class c ≡ true
+
+low_or_wide : (class : class_t) → Low (is_quiet class) ⊎ Wide class
+low_or_wide BLANK = inl (λ b h. grind (arith, nat_tests))
+low_or_wide (GAP_BLANK tabs) = inl (λ b h. grind (arith, nat_tests))
+low_or_wide SPACE = inl (λ b h. grind (arith, nat_tests))
+low_or_wide BLANK_OR_BREAK = inl (λ b h. grind (arith, nat_tests))
+low_or_wide ALPHA = inl (λ b h. grind (arith, nat_tests))
+low_or_wide class = inr (record {
+  line = refl;
+  high = λ b l h. grind (arith, nat_tests);
+  lead = λ b h. grind (arith, nat_tests);
+  takes = λ c l h. grind (arith, nat_tests);
+})
 
 next_range : (c : ℕ) → (128 ≤ next c) × (next c < 192)
 next_range c = (omega arith, omega arith)
@@ -85,7 +93,7 @@ quiet_low q low c more h =
     ]
 
 quiet_char : (class : class_t) (c : ℕ) (more : List ℕ) → is_quiet class (get_or (encode c) 0 0) ≡ true → OverChar (is_quiet class) c more
-quiet_char class c more h = elim (low_or_high class) [ inl l ↦ quiet_low (is_quiet class) l c more h | inr g ↦ quiet_high (is_quiet class) g c more h ]
+quiet_char class c more h = elim (low_or_wide class) [ inl low ↦ quiet_low (is_quiet class) low c more h | inr wide ↦ quiet_high (is_quiet class) wide.high c more h ]
 
 -- ---- what a quiet lead says of its character
 
@@ -94,40 +102,7 @@ Passes class c = (class_test class c ≡ true) × (is_break c ≡ false)
 
 passes_ascii : (class : class_t) (c : ℕ) → 0 < c → c < 128 → is_quiet class c ≡ true → Passes class c
 passes_ascii BLANK c s a h = (grind (arith, nat_tests), grind (arith, nat_tests))
-passes_ascii (GAP_BLANK tabs) c s a h = (grind (arith, nat_tests), grind (arith, nat_tests))
-passes_ascii SPACE c s a h = (grind (arith, nat_tests), grind (arith, nat_tests))
-passes_ascii BLANK_OR_BREAK c s a h = (grind (arith, nat_tests), grind (arith, nat_tests))
-passes_ascii ALPHA c s a h = (grind (arith, nat_tests), grind (arith, nat_tests))
-passes_ascii IN_LINE c s a h = (grind (arith, nat_tests), grind (arith, nat_tests))
-passes_ascii DOUBLE c s a h = (grind (arith, nat_tests), grind (arith, nat_tests))
-passes_ascii SINGLE c s a h = (grind (arith, nat_tests), grind (arith, nat_tests))
-passes_ascii PLAIN c s a h = (grind (arith, nat_tests), grind (arith, nat_tests))
-passes_ascii FLOW c s a h = (grind (arith, nat_tests), grind (arith, nat_tests))
-
--- a character above ASCII with a quiet lead, that is no break
-passes_high : (class : class_t) (c a : ℕ) → 128 ≤ c → 192 ≤ a → is_quiet class a ≡ true → is_break c ≡ false → Passes class c
-passes_high BLANK c a l m h b = absurd (grind (arith, nat_tests))
-passes_high (GAP_BLANK tabs) c a l m h b = absurd (grind (arith, nat_tests))
-passes_high SPACE c a l m h b = absurd (grind (arith, nat_tests))
-passes_high BLANK_OR_BREAK c a l m h b = absurd (grind (arith, nat_tests))
-passes_high ALPHA c a l m h b = absurd (grind (arith, nat_tests))
-passes_high IN_LINE c a l m h b = (grind (arith, nat_tests), b)
-passes_high DOUBLE c a l m h b = (grind (arith, nat_tests), b)
-passes_high SINGLE c a l m h b = (grind (arith, nat_tests), b)
-passes_high PLAIN c a l m h b = (grind (arith, nat_tests), b)
-passes_high FLOW c a l m h b = (grind (arith, nat_tests), b)
-
-quiet_lead : (class : class_t) (b : ℕ) → 128 ≤ b → is_quiet class b ≡ true → may_break b ≡ false
-quiet_lead BLANK b l h = absurd (grind (arith, nat_tests))
-quiet_lead (GAP_BLANK tabs) b l h = absurd (grind (arith, nat_tests))
-quiet_lead SPACE b l h = absurd (grind (arith, nat_tests))
-quiet_lead BLANK_OR_BREAK b l h = absurd (grind (arith, nat_tests))
-quiet_lead ALPHA b l h = absurd (grind (arith, nat_tests))
-quiet_lead IN_LINE b l h = grind (arith, nat_tests)
-quiet_lead DOUBLE b l h = grind (arith, nat_tests)
-quiet_lead SINGLE b l h = grind (arith, nat_tests)
-quiet_lead PLAIN b l h = grind (arith, nat_tests)
-quiet_lead FLOW b l h = grind (arith, nat_tests)
+passes_ascii class c s a h = (grind (arith, nat_tests), grind (arith, nat_tests))
 
 no_break2 : (c : ℕ) → 128 ≤ c → c < 2048 → may_break (192 + c / 64) ≡ false → is_break c ≡ false
 no_break2 c l h e = grind (arith, nat_tests)
@@ -138,16 +113,20 @@ no_break3 c l h e = grind (arith, nat_tests)
 no_break4 : (c : ℕ) → 65536 ≤ c → is_break c ≡ false
 no_break4 c l = grind (arith, nat_tests)
 
+no_break : (c : ℕ) → 128 ≤ c → may_break (get_or (encode c) 0 0) ≡ false → is_break c ≡ false
+no_break c l e =
+    elim (cases_lt c 2048) [
+      | inl b ↦ no_break2 c l b (rw (two c l b) at e)
+      | inr b ↦ elim (cases_lt c 65536) [ inl d ↦ no_break3 c b d (rw (three c b d) at e) | inr d ↦ no_break4 c d ]
+    ]
+
 pub passes : (class : class_t) (c : ℕ) → 0 < c → is_quiet class (get_or (encode c) 0 0) ≡ true → Passes class c
 passes class c s h =
     elim (cases_lt c 128) [
       | inl a ↦ passes_ascii class c s a (ap (λ (x : List ℕ). is_quiet class (get_or x 0 0)) (sym (encode_ascii c a)) ∙ h)
-      | inr a ↦ elim (cases_lt c 2048) [
-        | inl b ↦ let f : is_quiet class (192 + c / 64) ≡ true = ap (λ (x : List ℕ). is_quiet class (get_or x 0 0)) (sym (two c a b)) ∙ h in passes_high class c (192 + c / 64) a (omega arith) f (no_break2 c a b (quiet_lead class _ (omega arith) f))
-        | inr b ↦ elim (cases_lt c 65536) [
-          | inl d ↦ let f : is_quiet class (224 + c / 4096) ≡ true = ap (λ (x : List ℕ). is_quiet class (get_or x 0 0)) (sym (three c b d)) ∙ h in passes_high class c (224 + c / 4096) a (omega arith) f (no_break3 c b d (quiet_lead class _ (omega arith) f))
-          | inr d ↦ let f : is_quiet class (240 + c / 262144) ≡ true = ap (λ (x : List ℕ). is_quiet class (get_or x 0 0)) (sym (four c d)) ∙ h in passes_high class c (240 + c / 262144) a (omega arith) f (no_break4 c d)
-        ]
+      | inr a ↦ elim (low_or_wide class) [
+        | inl low ↦ absurd (omega (arith, low _ h, lead_high c a))
+        | inr wide ↦ let none = no_break c a (wide.lead _ h) in (wide.takes c a none, none)
       ]
     ]
 
@@ -272,16 +251,8 @@ count_chars (c ∷ cs) = omega (arith, count_one c (utf8 cs), count_chars cs)
 
 -- the quiet bytes of what is no line's class are characters by themselves
 quiet_begins : (class : class_t) (b : ℕ) → is_line class ≡ false → is_quiet class b ≡ true → begins b ≡ true
-quiet_begins BLANK b n h = grind (arith, nat_tests)
-quiet_begins (GAP_BLANK tabs) b n h = grind (arith, nat_tests)
-quiet_begins SPACE b n h = grind (arith, nat_tests)
-quiet_begins BLANK_OR_BREAK b n h = grind (arith, nat_tests)
-quiet_begins ALPHA b n h = grind (arith, nat_tests)
-quiet_begins IN_LINE b n h = absurd cc
-quiet_begins DOUBLE b n h = absurd cc
-quiet_begins SINGLE b n h = absurd cc
-quiet_begins PLAIN b n h = absurd cc
-quiet_begins FLOW b n h = absurd cc
+quiet_begins class b n h =
+    elim (low_or_wide class) [ inl low ↦ count1 b (low b h) | inr wide ↦ absurd (true≢false (sym wide.line ∙ n)) ]
 
 counted_all : (p q : ℕ → Bool) → ((b : ℕ) → q b ≡ true → p b ≡ true) → (xs : List ℕ) → count_by p (take (prefix_len q xs) xs) ≡ prefix_len q xs
 counted_all p q all [] = refl

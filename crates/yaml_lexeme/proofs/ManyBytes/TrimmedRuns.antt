@@ -14,7 +14,7 @@ use Rattle.yaml_text.specs.Classes.{is_blank, is_break}
 use Rattle.yaml_text.proofs.Decodings.DecodeFronts.{chars-utf8, IsText-utf8}
 use Rattle.yaml_text.proofs.Marks.MarkMoves.{AreChars-parts}
 use Rattle.yaml_lexeme.specs.declared.runs.class_t.{class_t}
-use Rattle.yaml_lexeme.specs.declared.runs.class_t.TheVariants.{BLANK, GAP_BLANK, SPACE, BLANK_OR_BREAK, ALPHA, IN_LINE, DOUBLE, SINGLE, PLAIN, FLOW}
+use Rattle.yaml_lexeme.specs.declared.runs.class_t.TheVariants.{BLANK_OR_BREAK}
 use Rattle.yaml_lexeme.specs.Place.{Place, skip_from, skip, mark_behind, width}
 use Rattle.yaml_lexeme.specs.inside.Runs.{class_test, is_line, is_quiet, begins, trim, Stands}
 use Rattle.yaml_lexeme.proofs.ManyBytes.QuietRuns.{along, Over, over, count_chars}
@@ -22,16 +22,8 @@ use Rattle.yaml_lexeme.proofs.ManyBytes.TrimmedLists.{trimmed, trim_bytes}
 
 -- the characters of a class of a line are no breaks
 in_line : (class : class_t) (c : ℕ) → is_line class ≡ true → class_test class c ≡ true → is_break c ≡ false
-in_line BLANK c l h = absurd cc
-in_line (GAP_BLANK tabs) c l h = absurd cc
-in_line SPACE c l h = absurd cc
 in_line BLANK_OR_BREAK c l h = absurd cc
-in_line ALPHA c l h = absurd cc
-in_line IN_LINE c l h = grind (arith, nat_tests)
-in_line DOUBLE c l h = grind (arith, nat_tests)
-in_line SINGLE c l h = grind (arith, nat_tests)
-in_line PLAIN c l h = grind (arith, nat_tests)
-in_line FLOW c l h = grind (arith, nat_tests)
+in_line class c l h = grind (arith, nat_tests)
 
 -- n characters of a line
 line_from : (n : ℕ) (m : yaml_mark_t) (cs : List ℕ) → n ≤ length cs → ((i : ℕ) → i < n → is_break (get_or cs i 0) ≡ false)

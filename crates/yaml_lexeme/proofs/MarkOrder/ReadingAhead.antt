@@ -2,7 +2,7 @@
 use Rattle.std.proofs.Common.{◌≡◌, ℕ, zero, suc, ◌+◌, ◌-◌, ◌<◌, ◌≤◌, Bool, true, false, cond, if◌then◌else◌, inl, inr, ◌∷◌, length, Some, None, Result, Ok, Err, refl, sym, ap, ◌∙◌, arith}
 use Rattle.std.proofs.lemmas.Bool.{cases_lt}
 use Rattle.yaml_text.specs.declared.types.yaml_mark_t.{yaml_mark_t}
-use Rattle.yaml_lexeme.specs.declared.problem.problem_t.{problem_t}
+use Rattle.yaml_lexeme.specs.declared.problem.yaml_problem_t.{yaml_problem_t}
 use Rattle.yaml_lexeme.proofs.Parts.PartByPart.{IsShorter, many_turn}
 use Rattle.yaml_lexeme.proofs.Places.PlaceMoves.{skip_none, stays, length_skip, skip_skip}
 use Rattle.yaml_lexeme.specs.Order.{IsAhead, Spans}
@@ -120,7 +120,7 @@ pub record Goes {A : Type 0} (n : ℕ) (p : Place) (r : Read A) : Type 0 where
 pub found_goes : {A : Type 0} {n : ℕ} {p q : Place} {a : A} → IsAhead n p q → Goes n p (found a q)
 found_goes h = record { goes = h }
 
-pub refuse_goes : {A : Type 0} {n : ℕ} {p q : Place} {problem : problem_t} → Goes {A = A} n p (refuse problem q)
+pub refuse_goes : {A : Type 0} {n : ℕ} {p q : Place} {problem : yaml_problem_t} → Goes {A = A} n p (refuse problem q)
 refuse_goes = record { goes = tt }
 
 pub if_goes : {A : Type 0} {n : ℕ} {p : Place} {x y : Read A} → (b : Bool) → Goes n p x → Goes n p y → Goes n p (if b then x else y)
@@ -141,7 +141,7 @@ part_goes h = record { goes = h }
 pub over_goes : {A : Type 0} {n : ℕ} {p : Place} → PartGoes {A = A} n p over
 over_goes = record { goes = tt }
 
-pub refuse_part : {A : Type 0} {n : ℕ} {p q : Place} {problem : problem_t} → PartGoes {A = A} n p (refuse problem q)
+pub refuse_part : {A : Type 0} {n : ℕ} {p q : Place} {problem : yaml_problem_t} → PartGoes {A = A} n p (refuse problem q)
 refuse_part = record { goes = tt }
 
 pub part_if : {A : Type 0} {n : ℕ} {p : Place} {x y : Part A} → (b : Bool) → (b ≡ true → PartGoes n p x) → (b ≡ false → PartGoes n p y) → PartGoes n p (if b then x else y)
@@ -165,7 +165,7 @@ pub record GoesTo (n : ℕ) (p : Place) (r : Result Place Offence) : Type 0 wher
 pub to_goes : {n : ℕ} {p q : Place} → IsAhead n p q → GoesTo n p (Ok q)
 to_goes h = record { goes = h }
 
-pub refuse_to : {n : ℕ} {p q : Place} {problem : problem_t} → GoesTo n p (refuse problem q)
+pub refuse_to : {n : ℕ} {p q : Place} {problem : yaml_problem_t} → GoesTo n p (refuse problem q)
 refuse_to = record { goes = tt }
 
 pub to_if : {n : ℕ} {p : Place} {x y : Result Place Offence} → (b : Bool) → GoesTo n p x → GoesTo n p y → GoesTo n p (if b then x else y)
@@ -190,7 +190,7 @@ pub record Span {A : Type 0} (mark : A → yaml_mark_t) (n : ℕ) (p : Place) (r
 pub found_span : {A : Type 0} {mark : A → yaml_mark_t} {n : ℕ} {p q : Place} {a : A} → Spans n p (mark a) q → Span mark n p (found a q)
 found_span h = record { span = h }
 
-pub refuse_span : {A : Type 0} {mark : A → yaml_mark_t} {n : ℕ} {p q : Place} {problem : problem_t} → Span mark n p (refuse problem q)
+pub refuse_span : {A : Type 0} {mark : A → yaml_mark_t} {n : ℕ} {p q : Place} {problem : yaml_problem_t} → Span mark n p (refuse problem q)
 refuse_span = record { span = tt }
 
 pub if_span : {A : Type 0} {mark : A → yaml_mark_t} {n : ℕ} {p : Place} {x y : Read A} → (b : Bool) → Span mark n p x → Span mark n p y → Span mark n p (if b then x else y)

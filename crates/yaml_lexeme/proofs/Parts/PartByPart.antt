@@ -2,8 +2,8 @@
 use Rattle.std.proofs.Common.{◌≡◌, ℕ, zero, suc, ◌+◌, ◌<◌, true, false, List, [], ◌∷◌, ◌++◌, length, Some, None, Ok, Err, refl, sym, ap, ◌∙◌, arith, append_assoc}
 use Rattle.std.proofs.lemmas.List.{append-nil}
 use Rattle.std.specs.List.{flat_map}
-use Rattle.yaml_lexeme.specs.declared.problem.refusal_t.{refusal_t}
-use Rattle.yaml_lexeme.specs.declared.problem.refusal_t.TheVariants as errors
+use Rattle.yaml_lexeme.specs.declared.problem.yaml_refusal_t.{yaml_refusal_t}
+use Rattle.yaml_lexeme.specs.declared.problem.yaml_refusal_t.TheVariants as errors
 use Rattle.yaml_lexeme.specs.inside.Gives.{Refuses, TakesPart}
 use Rattle.yaml_lexeme.specs.Place.{Place}
 use Rattle.yaml_lexeme.specs.Reading.{Read, found, ◌>>=◌, Part, over, with_front, go_on, at_most, many}
@@ -87,7 +87,7 @@ pub reads_all : {A : Type 0} → (bytes : A → List ℕ) (one : Place → Part 
 reads_all bytes one short p q out new whole h so_far =
     sym so_far ∙ ap (λ r. with_front out (joined bytes r)) (many_turn one short p) ∙ last bytes (many one) (one p) p q out new h
 
-refused : {A : Type 0} → (bytes : A → List ℕ) (more : Place → Read (List A)) (e : refusal_t) (r : Part A) (p q : Place) (out : List ℕ) → Refuses e q r
+refused : {A : Type 0} → (bytes : A → List ℕ) (more : Place → Read (List A)) (e : yaml_refusal_t) (r : Part A) (p q : Place) (out : List ℕ) → Refuses e q r
     → Refuses e q (with_front out (joined bytes (r >>= λ a. go_on more p a)))
 refused bytes more errors.MEMORY r p q out h = tt
 refused bytes more (errors.OFFENCE problem) r p q out h = rw h refl
@@ -97,7 +97,7 @@ pub over_taken : {A : Type 0} → (bytes : A → List ℕ) (r : Part A) (out : L
 over_taken bytes r out q e = rw e (refl, refl)
 
 -- a part could not be read
-pub reads_none : {A : Type 0} → (bytes : A → List ℕ) (one : Place → Part A) → Shortens one → (e : refusal_t) (p q : Place) (out : List ℕ) (whole : Read (List ℕ))
+pub reads_none : {A : Type 0} → (bytes : A → List ℕ) (one : Place → Part A) → Shortens one → (e : yaml_refusal_t) (p q : Place) (out : List ℕ) (whole : Read (List ℕ))
     → Refuses e q (one p) → Reading bytes one p out whole → Refuses e q whole
 reads_none bytes one short e p q out whole h so_far =
     rw (sym so_far ∙ ap (λ r. with_front out (joined bytes r)) (many_turn one short p)) (refused bytes (many one) e (one p) p q out h)

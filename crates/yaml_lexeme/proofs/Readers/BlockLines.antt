@@ -6,9 +6,9 @@ use Rattle.std.proofs.lemmas.List.{append-nil}
 use Rattle.std.specs.List.{fold as fold_list}
 use Rattle.std.specs.Char.{encode_utf8}
 use Rattle.yaml_text.specs.declared.types.yaml_mark_t.{yaml_mark_t}
-use Rattle.yaml_lexeme.specs.declared.problem.refusal_t.{refusal_t}
-use Rattle.yaml_lexeme.specs.declared.problem.refusal_t.TheVariants as errors
-use Rattle.yaml_lexeme.specs.declared.problem.problem_t.TheVariants.{TAB_IN_INDENTATION}
+use Rattle.yaml_lexeme.specs.declared.problem.yaml_refusal_t.{yaml_refusal_t}
+use Rattle.yaml_lexeme.specs.declared.problem.yaml_refusal_t.TheVariants as errors
+use Rattle.yaml_lexeme.specs.declared.problem.yaml_problem_t.TheVariants.{TAB_IN_INDENTATION}
 use Rattle.yaml_lexeme.proofs.Parts.GatheredParts.{gather, gathers_more, gathers_all, gathers_none}
 use Rattle.yaml_lexeme.proofs.Places.PlaceMoves.{length_skip, break_within}
 use Rattle.yaml_lexeme.proofs.Readers.FoldSeparators.{run_more, run_none, encode_some}
@@ -127,15 +127,15 @@ blanks_taken limit start old q out column end h b =
     let all = gathers_all add_blank (blank_line limit) (blank_shortens limit) b.line (out, column) (gather add_blank (old, 0) (many (blank_line limit) start)) (blank_none limit b.line q b.indent h) b.so_far in
     rw (blanks_is limit start) (taken limit (many (blank_line limit) start) old out column b.line q end all b.indent b.mark)
 
-blanks_offence : (error : refusal_t) (limit : Option ℕ) (start p q : Place) (old : List ℕ) (s : State) → gather add_blank s (many (blank_line limit) p) ≡ gather add_blank (old, 0) (many (blank_line limit) start)
+blanks_offence : (error : yaml_refusal_t) (limit : Option ℕ) (start p q : Place) (old : List ℕ) (s : State) → gather add_blank s (many (blank_line limit) p) ≡ gather add_blank (old, 0) (many (blank_line limit) start)
     → Refuses error q (after_indent limit p) → Refuses error q (blank_lines limit start)
 blanks_offence errors.MEMORY limit start p q old s h e = tt
 blanks_offence (errors.OFFENCE problem) limit start p q old s h e = blanks_refused limit start p old s (record { problem = problem; at = q }) h e
 
-pub first_refused : (error : refusal_t) (limit : Option ℕ) (start q : Place) (old : List ℕ) → Refuses error q (after_indent limit start) → Refuses error q (blank_lines limit start)
+pub first_refused : (error : yaml_refusal_t) (limit : Option ℕ) (start q : Place) (old : List ℕ) → Refuses error q (after_indent limit start) → Refuses error q (blank_lines limit start)
 first_refused error limit start q old e = blanks_offence error limit start start q old (old, 0) refl e
 
-pub next_refused : (error : refusal_t) (limit : Option ℕ) (start : Place) (old : List ℕ) (q x : Place) (out : List ℕ) (column : ℕ) (end : yaml_mark_t) → 0 < break_len q → Blanking limit start old q out column end
+pub next_refused : (error : yaml_refusal_t) (limit : Option ℕ) (start : Place) (old : List ℕ) (q x : Place) (out : List ℕ) (column : ℕ) (end : yaml_mark_t) → 0 < break_len q → Blanking limit start old q out column end
     → Refuses error x (after_indent limit (skip (break_len q) q)) → Refuses error x (blank_lines limit start)
 next_refused error limit start old q x out column end h b e =
     blanks_offence error limit start (skip (break_len q) q) x old (out ++ encode_utf8 (written (first q)), max column q.mark.column) (next_blank limit start old q out column end h b).1 e
@@ -168,7 +168,7 @@ line_is : (indent : ℕ) (p : Place) → line_at indent p ≡ after_text p (blan
 unfolding line_at
 line_is indent p = refl
 
-pub line_refused : (error : refusal_t) (indent : ℕ) (p q : Place) → Refuses error q (blank_lines (Some indent) (line_end p)) → Refuses error q (line_at indent p)
+pub line_refused : (error : yaml_refusal_t) (indent : ℕ) (p q : Place) → Refuses error q (blank_lines (Some indent) (line_end p)) → Refuses error q (line_at indent p)
 line_refused errors.MEMORY indent p q h = tt
 line_refused (errors.OFFENCE problem) indent p q h = line_is indent p ∙ ap (after_text p) h
 
@@ -319,15 +319,15 @@ pub block_is : (folded : Bool) (level : Option ℕ) (p : Place) → block folded
 unfolding block
 block_is folded level p = refl
 
-pub header_refused : (error : refusal_t) (folded : Bool) (level : Option ℕ) (p q : Place) → Refuses error q (header_at (skip 1 p)) → Refuses error q (block folded level p)
+pub header_refused : (error : yaml_refusal_t) (folded : Bool) (level : Option ℕ) (p q : Place) → Refuses error q (header_at (skip 1 p)) → Refuses error q (block folded level p)
 header_refused errors.MEMORY folded level p q h = tt
 header_refused (errors.OFFENCE problem) folded level p q h = block_is folded level p ∙ ap (after_header folded level) h
 
-pub start_refused : (error : refusal_t) (folded : Bool) (level : Option ℕ) (p q : Place) (header : header_t) (a : Place) → header_at (skip 1 p) ≡ found header a → Refuses error q (after_line a) → Refuses error q (block folded level p)
+pub start_refused : (error : yaml_refusal_t) (folded : Bool) (level : Option ℕ) (p q : Place) (header : header_t) (a : Place) → header_at (skip 1 p) ≡ found header a → Refuses error q (after_line a) → Refuses error q (block folded level p)
 start_refused errors.MEMORY folded level p q header a e h = tt
 start_refused (errors.OFFENCE problem) folded level p q header a e h = block_is folded level p ∙ ap (after_header folded level) e ∙ ap (after_start folded level header) h
 
-pub leading_refused : (error : refusal_t) (folded : Bool) (level : Option ℕ) (p q : Place) (header : header_t) (a b : Place) → header_at (skip 1 p) ≡ found header a → after_line a ≡ Ok b
+pub leading_refused : (error : yaml_refusal_t) (folded : Bool) (level : Option ℕ) (p q : Place) (header : header_t) (a b : Place) → header_at (skip 1 p) ≡ found header a → after_line a ≡ Ok b
     → Refuses error q (blank_lines (set_indent level header.digit) b) → Refuses error q (block folded level p)
 leading_refused errors.MEMORY folded level p q header a b e f h = tt
 leading_refused (errors.OFFENCE problem) folded level p q header a b e f h =
@@ -349,7 +349,7 @@ blocks_begin folded level p header a b q column indent tail e f t l i n =
     }
 
 -- a line could not be taken
-pub blocks_refused : (error : refusal_t) (folded : Bool) (level : Option ℕ) (start : Place) (chomp : chomp_t) (indent : ℕ) (p q : Place) (out : List ℕ) (tail : tail_t)
+pub blocks_refused : (error : yaml_refusal_t) (folded : Bool) (level : Option ℕ) (start : Place) (chomp : chomp_t) (indent : ℕ) (p q : Place) (out : List ℕ) (tail : tail_t)
     → is_text indent p ≡ true → Blocking folded level start chomp indent p out tail → Refuses error q (line_at indent p) → Refuses error q (block folded level start)
 blocks_refused errors.MEMORY folded level start chomp indent p q out tail h b e = tt
 blocks_refused (errors.OFFENCE problem) folded level start chomp indent p q out tail h b e =

@@ -8,7 +8,7 @@ use Rattle.std.proofs.lemmas.List.Sums.{prefix_len_is, prefix_len_stops}
 use Rattle.std.proofs.lemmas.Int.Digits.{digits_value_more}
 use Rattle.std.specs.Char.{digit_value}
 use Rattle.std.specs.Str.Parse.{digits_value}
-use Rattle.yaml_lexeme.specs.declared.problem.problem_t.TheVariants.{NO_NUMBER, LONG_NUMBER}
+use Rattle.yaml_lexeme.specs.declared.problem.yaml_problem_t.TheVariants.{NO_NUMBER, LONG_NUMBER}
 use Rattle.yaml_lexeme.proofs.Places.PlaceMoves.{is_there}
 use Rattle.yaml_lexeme.specs.Directive.{number}
 use Rattle.yaml_lexeme.specs.Place.{Place, peek, skip, run_len}

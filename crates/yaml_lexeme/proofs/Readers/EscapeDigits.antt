@@ -10,7 +10,7 @@ use Rattle.std.proofs.lemmas.Int.Digits.{digits_value_more}
 use Rattle.std.specs.Char.{digit_value}
 use Rattle.std.specs.List.{list_all}
 use Rattle.std.specs.Str.Parse.{digits_value}
-use Rattle.yaml_lexeme.specs.declared.problem.problem_t.TheVariants.{NO_HEX_DIGIT, NO_SCALAR_VALUE}
+use Rattle.yaml_lexeme.specs.declared.problem.yaml_problem_t.TheVariants.{NO_HEX_DIGIT, NO_SCALAR_VALUE}
 use Rattle.yaml_lexeme.proofs.Places.PlaceMoves.{is_there}
 use Rattle.yaml_lexeme.specs.Escape.{hex_escape, is_scalar}
 use Rattle.yaml_lexeme.specs.Place.{Place, peek, skip}

@@ -11,9 +11,9 @@ use Rattle.std.proofs.lemmas.Str.{encodes-append}
 use Rattle.yaml_text.specs.declared.types.yaml_mark_t.{yaml_mark_t}
 use Rattle.yaml_text.specs.Chars.{utf8}
 use Rattle.yaml_text.specs.Classes.{is_blank, is_break}
-use Rattle.yaml_lexeme.specs.declared.problem.problem_t.TheVariants.{COLON_IN_FLOW}
-use Rattle.yaml_lexeme.specs.declared.problem.refusal_t.{refusal_t}
-use Rattle.yaml_lexeme.specs.declared.problem.refusal_t.TheVariants as errors
+use Rattle.yaml_lexeme.specs.declared.problem.yaml_problem_t.TheVariants.{COLON_IN_FLOW}
+use Rattle.yaml_lexeme.specs.declared.problem.yaml_refusal_t.{yaml_refusal_t}
+use Rattle.yaml_lexeme.specs.declared.problem.yaml_refusal_t.TheVariants as errors
 use Rattle.yaml_lexeme.proofs.Parts.PartByPart.{joined, many_turn, reads_all, reads_none, no_front}
 use Rattle.yaml_lexeme.proofs.Readers.QuotedRuns.{fold_none, no_breaks, column_behind, no_marker, space_first, stop_le, first_one}
 use Rattle.yaml_lexeme.proofs.Places.PlaceMoves.{skip_none, skip_skip, length_skip, behind_more, behind_none, rest_skip, solid}
@@ -267,7 +267,7 @@ no_words flow least (Err e) o h = let same : e ≡ o = cc in ap (λ x. Err x) sa
 pub plain_words : (flow : Bool) (least : ℕ) (p q : Place) (out : List ℕ) → with_front [] (words flow least p) ≡ found out q → plain flow least p ≡ scalar_at out q
 plain_words flow least p q out h = plain_is flow least p ∙ all_words flow least (chunk flow p) out q (sym (no_front (words flow least p)) ∙ h)
 
-pub plain_none : (error : refusal_t) (flow : Bool) (least : ℕ) (p q : Place) → Refuses error q (with_front [] (words flow least p)) → Refuses error q (plain flow least p)
+pub plain_none : (error : yaml_refusal_t) (flow : Bool) (least : ℕ) (p q : Place) → Refuses error q (with_front [] (words flow least p)) → Refuses error q (plain flow least p)
 plain_none errors.MEMORY flow least p q h = tt
 plain_none (errors.OFFENCE problem) flow least p q h = plain_is flow least p ∙ no_words flow least (chunk flow p) (record { problem = problem; at = q }) (sym (no_front (words flow least p)) ∙ h)
 
@@ -276,7 +276,7 @@ plain_none (errors.OFFENCE problem) flow least p q h = plain_is flow least p ∙
 pub links_over : (flow : Bool) (least : ℕ) (p q : Place) (out : List ℕ) → TakesPart utf8 (link flow least p) false out out p q → with_front out (links flow least p) ≡ found out q
 links_over flow least p q out h = reads_all utf8 (link flow least) (link_shortens flow least) p q out out (with_front out (links flow least p)) h refl
 
-pub links_none : (error : refusal_t) (flow : Bool) (least : ℕ) (p q : Place) (out : List ℕ) → Refuses error q (link flow least p) → Refuses error q (with_front out (links flow least p))
+pub links_none : (error : yaml_refusal_t) (flow : Bool) (least : ℕ) (p q : Place) (out : List ℕ) → Refuses error q (link flow least p) → Refuses error q (with_front out (links flow least p))
 links_none error flow least p q out h = reads_none utf8 (link flow least) (link_shortens flow least) error p q out (with_front out (links flow least p)) h refl
 
 -- after a separator that was appended
@@ -285,7 +285,7 @@ pub links_go : (flow : Bool) (least : ℕ) (p q : Place) (out mid : List ℕ) �
 links_go flow least p q out mid g o h m =
     ap (with_front out) (links_open flow least p q g o h) ∙ two_fronts out (utf8 (fold (run is_white p))) (words flow least q) ∙ ap (λ (xs : List ℕ). with_front xs (words flow least q)) (sym m)
 
-pub links_go_wrong : (error : refusal_t) (before after : Read (List ℕ)) (q : Place) → before ≡ after → Refuses error q after → Refuses error q before
+pub links_go_wrong : (error : yaml_refusal_t) (before after : Read (List ℕ)) (q : Place) → before ≡ after → Refuses error q after → Refuses error q before
 links_go_wrong errors.MEMORY before after q e h = tt
 links_go_wrong (errors.OFFENCE problem) before after q e h = e ∙ h
 

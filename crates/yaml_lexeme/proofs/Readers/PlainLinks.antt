@@ -4,11 +4,11 @@ use Rattle.std.proofs.lemmas.Bool.{cases_Bool}
 use Rattle.std.proofs.lemmas.Bool.Decides.{nat_tests}
 use Rattle.std.specs.List.{flat_map, list_any, find, prefix_len, range_with_len}
 use Rattle.yaml_text.specs.declared.types.yaml_mark_t.{yaml_mark_t}
-use Rattle.yaml_lexeme.specs.declared.problem.refusal_t.{refusal_t}
-use Rattle.yaml_lexeme.specs.declared.problem.refusal_t.TheVariants as errors
-use Rattle.yaml_lexeme.specs.declared.problem.problem_t.{problem_t}
+use Rattle.yaml_lexeme.specs.declared.problem.yaml_refusal_t.{yaml_refusal_t}
+use Rattle.yaml_lexeme.specs.declared.problem.yaml_refusal_t.TheVariants as errors
+use Rattle.yaml_lexeme.specs.declared.problem.yaml_problem_t.{yaml_problem_t}
 use Rattle.yaml_lexeme.specs.Lexeme.{Scalar as scalar_t}
-use Rattle.yaml_lexeme.specs.declared.problem.problem_t.TheVariants.{COLON_IN_FLOW, TAB_IN_PLAIN}
+use Rattle.yaml_lexeme.specs.declared.problem.yaml_problem_t.TheVariants.{COLON_IN_FLOW, TAB_IN_PLAIN}
 use Rattle.yaml_lexeme.proofs.Parts.PartByPart.{IsShorter, Shortens, joined}
 use Rattle.yaml_lexeme.proofs.Places.PlaceMoves.{length_skip, length_one, is_there, behind_more, behind_none, blank_white, first_on, rest_skip, skip_none, skip_skip}
 use Rattle.yaml_lexeme.proofs.Readers.FoldSeparators.{run_more, run_none, behind_blanks, stopped as run_stopped}
@@ -234,7 +234,7 @@ pub gap_is : (least : ℕ) (p q : Place) → TakesRead (λ run. []) (separator l
 unfolding separator
 gap_is least p q h = gap_by (bad_tab least p) (fold (run is_white p)) (behind is_white p) q h
 
-pub link_refused : (error : refusal_t) (flow : Bool) (least : ℕ) (p q : Place) → is_white (first p) ≡ true → Refuses error q (separator least p) → Refuses error q (link flow least p)
+pub link_refused : (error : yaml_refusal_t) (flow : Bool) (least : ℕ) (p q : Place) → is_white (first p) ≡ true → Refuses error q (separator least p) → Refuses error q (link flow least p)
 link_refused errors.MEMORY flow least p q h e = tt
 link_refused (errors.OFFENCE problem) flow least p q h e = link_gap flow least p h ∙ ap (λ (r : Read (List ℕ)). r >>= λ gap. behind_gap flow least gap.value gap.end) e
 
@@ -341,7 +341,7 @@ pub tail_all : (m : Read (List (List ℕ))) (front out : List ℕ) (q : Place) �
 tail_all (Ok links) front out q h = ap (λ (r : Read (List ℕ)). scalar_at (value_or [] r) (end_or q r)) h
 tail_all (Err e) front out q h = absurd cc
 
-pub tail_none : (m : Read (List (List ℕ))) (front : List ℕ) (problem : problem_t) (q : Place) → with_front front (joined utf8 m) ≡ refuse problem q → (m >>= λ links. scalar_at (front ++ flat_map utf8 links.value) links.end) ≡ refuse problem q
+pub tail_none : (m : Read (List (List ℕ))) (front : List ℕ) (problem : yaml_problem_t) (q : Place) → with_front front (joined utf8 m) ≡ refuse problem q → (m >>= λ links. scalar_at (front ++ flat_map utf8 links.value) links.end) ≡ refuse problem q
 tail_none (Ok links) front problem q h = absurd cc
 tail_none (Err e) front problem q h = ap refusal h
 

@@ -3,9 +3,9 @@ use Rattle.std.proofs.Common.{◌≡◌, ℕ, ◌<◌, Bool, true, false, cond, 
 use Rattle.std.proofs.lemmas.Bool.{cases_Bool}
 use Rattle.std.proofs.lemmas.List.{append-nil}
 use Rattle.std.specs.Char.{encode_utf8}
-use Rattle.yaml_lexeme.specs.declared.problem.refusal_t.{refusal_t}
-use Rattle.yaml_lexeme.specs.declared.problem.refusal_t.TheVariants as errors
-use Rattle.yaml_lexeme.specs.declared.problem.problem_t.TheVariants.{DOCUMENT_MARKER, END_OF_TEXT, NO_HEX_DIGIT, NO_SCALAR_VALUE}
+use Rattle.yaml_lexeme.specs.declared.problem.yaml_refusal_t.{yaml_refusal_t}
+use Rattle.yaml_lexeme.specs.declared.problem.yaml_refusal_t.TheVariants as errors
+use Rattle.yaml_lexeme.specs.declared.problem.yaml_problem_t.TheVariants.{DOCUMENT_MARKER, END_OF_TEXT, NO_HEX_DIGIT, NO_SCALAR_VALUE}
 use Rattle.yaml_lexeme.proofs.Parts.PartByPart.{IsShorter, Shortens}
 use Rattle.yaml_lexeme.proofs.Places.PlaceMoves.{length_skip, is_there, behind_more, some_char}
 use Rattle.yaml_lexeme.proofs.Readers.FoldSeparators.{breaks_at}
@@ -42,13 +42,13 @@ pub at_break : (single : Bool) (p : Place) → is_z (first p) ≡ false → is_w
 unfolding body_part
 at_break single p e s q d b = rw (e, s, q, d, b) refl
 
-marked : (b : Bool) (r : Result Bool refusal_t) (value old new : List ℕ) (p q : Place) → r ≡ cond b (Err (errors.OFFENCE DOCUMENT_MARKER)) (Ok true) → new ≡ old ++ utf8 value
+marked : (b : Bool) (r : Result Bool yaml_refusal_t) (value old new : List ℕ) (p q : Place) → r ≡ cond b (Err (errors.OFFENCE DOCUMENT_MARKER)) (Ok true) → new ≡ old ++ utf8 value
     → Takes utf8 r old new p q (cond b (refuse DOCUMENT_MARKER q) (part value q))
 marked true r value old new p q e v = rw e refl
 marked false r value old new p q e v = rw e (v, refl)
 
 -- a part after which no marker may follow
-pub takes_unmarked : (read : Part (List ℕ)) (r : Result Bool refusal_t) (value old new : List ℕ) (p q : Place) → read ≡ unmarked value q
+pub takes_unmarked : (read : Part (List ℕ)) (r : Result Bool yaml_refusal_t) (value old new : List ℕ) (p q : Place) → read ≡ unmarked value q
     → r ≡ cond (is_marker q) (Err (errors.OFFENCE DOCUMENT_MARKER)) (Ok true) → new ≡ old ++ utf8 value → Takes utf8 r old new p q read
 takes_unmarked read r value old new p q e f v = rw e (marked (is_marker q) r value old new p q f v)
 
@@ -153,7 +153,7 @@ pub quoted_all : (single : Bool) (p start q : Place) (out : List ℕ) → start 
 unfolding quoted
 quoted_all single p start q out s e = ap (λ (r : Read (List ℕ)). r >>= λ b. found b.value (skip 1 b.end)) (ap (λ (x : Place). spelled (many (body_part single) x)) (sym s) ∙ e)
 
-pub quoted_none : (error : refusal_t) (single : Bool) (p start q : Place) → start ≡ skip 1 p → Refuses error q (spelled (many (body_part single) start)) → Refuses error q (quoted single p)
+pub quoted_none : (error : yaml_refusal_t) (single : Bool) (p start q : Place) → start ≡ skip 1 p → Refuses error q (spelled (many (body_part single) start)) → Refuses error q (quoted single p)
 unfolding quoted
 quoted_none errors.MEMORY single p start q s h = tt
 quoted_none (errors.OFFENCE problem) single p start q s h = ap (λ (r : Read (List ℕ)). r >>= λ b. found b.value (skip 1 b.end)) (ap (λ (x : Place). spelled (many (body_part single) x)) (sym s) ∙ h)

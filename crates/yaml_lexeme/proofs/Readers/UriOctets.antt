@@ -6,9 +6,9 @@ use Rattle.std.proofs.lemmas.List.{append-nil}
 use Rattle.std.proofs.lemmas.List.Concat.{concat_is}
 use Rattle.std.specs.List.{concat}
 use Rattle.std.specs.Str.Parse.{digits_value}
-use Rattle.yaml_lexeme.specs.declared.problem.refusal_t.{refusal_t}
-use Rattle.yaml_lexeme.specs.declared.problem.refusal_t.TheVariants as errors
-use Rattle.yaml_lexeme.specs.declared.problem.problem_t.TheVariants.{NO_OCTET, BAD_NEXT_OCTET, BAD_LEAD_OCTET}
+use Rattle.yaml_lexeme.specs.declared.problem.yaml_refusal_t.{yaml_refusal_t}
+use Rattle.yaml_lexeme.specs.declared.problem.yaml_refusal_t.TheVariants as errors
+use Rattle.yaml_lexeme.specs.declared.problem.yaml_problem_t.TheVariants.{NO_OCTET, BAD_NEXT_OCTET, BAD_LEAD_OCTET}
 use Rattle.yaml_lexeme.proofs.MarkOrder.ReadingAhead.{Ahead, PartAhead, ahead_here, ahead_skip, ahead_some, if_ahead, bind_ahead, bind_part, then_ahead, part_shorter}
 use Rattle.yaml_lexeme.proofs.Parts.PartByPart.{Shortens, joined}
 use Rattle.yaml_lexeme.proofs.Places.PlaceMoves.{is_there}
@@ -24,7 +24,7 @@ pub appended : (r : Read (List ℕ)) (old new : List ℕ) (q : Place) → with_f
 appended (Ok f) old new q h = (sym (ap (value_or []) h), sym (ap (end_or q) h))
 appended (Err e) old new q h = absurd cc
 
-pub not_appended : (e : refusal_t) (r : Read (List ℕ)) (old : List ℕ) (q : Place) → Refuses e q (with_front old r) → Refuses e q r
+pub not_appended : (e : yaml_refusal_t) (r : Read (List ℕ)) (old : List ℕ) (q : Place) → Refuses e q (with_front old r) → Refuses e q r
 not_appended errors.MEMORY r old q h = tt
 not_appended (errors.OFFENCE problem) (Ok f) old q h = absurd cc
 not_appended (errors.OFFENCE problem) (Err o) old q h = h
@@ -39,7 +39,7 @@ one_next n c p e h = next_is n p ∙ rw (e, h) refl
 pub bad_next : (n c : ℕ) (p : Place) → octet p ≡ found c (skip 3 p) → is_bad_next c ≡ true → next_octets (suc n) p ≡ refuse BAD_NEXT_OCTET p
 bad_next n c p e h = next_is n p ∙ rw (e, h) refl
 
-pub no_next : (e : refusal_t) (n : ℕ) (p : Place) → Refuses e p (octet p) → Refuses e p (next_octets (suc n) p)
+pub no_next : (e : yaml_refusal_t) (n : ℕ) (p : Place) → Refuses e p (octet p) → Refuses e p (next_octets (suc n) p)
 no_next errors.MEMORY n p h = tt
 no_next (errors.OFFENCE problem) n p h = next_is n p ∙ rw h refl
 
@@ -63,7 +63,7 @@ pub octets_bad : (n m c : ℕ) (p : Place) (out : List ℕ) (whole : Read (List 
 octets_bad n m c p out whole k e h so_far =
     sym so_far ∙ ap (λ (i : ℕ). with_front out (next_octets i p)) k ∙ ap (with_front out) (bad_next m c p e h)
 
-pub octets_none : (e : refusal_t) (n m : ℕ) (p : Place) (out : List ℕ) (whole : Read (List ℕ)) → n ≡ suc m → Refuses e p (octet p) → Octets n p out whole → Refuses e p whole
+pub octets_none : (e : yaml_refusal_t) (n m : ℕ) (p : Place) (out : List ℕ) (whole : Read (List ℕ)) → n ≡ suc m → Refuses e p (octet p) → Octets n p out whole → Refuses e p whole
 octets_none errors.MEMORY n m p out whole k h so_far = tt
 octets_none (errors.OFFENCE problem) n m p out whole k h so_far =
     sym so_far ∙ ap (λ (i : ℕ). with_front out (next_octets i p)) k ∙ ap (with_front out) (no_next (errors.OFFENCE problem) m p h)
@@ -79,7 +79,7 @@ escape_is p = refl
 pub bad_lead : (c : ℕ) (p : Place) → octet p ≡ found c (skip 3 p) → octet_width c ≡ 0 → uri_escape p ≡ refuse BAD_LEAD_OCTET p
 bad_lead c p e h = escape_is p ∙ rw (e, h) refl
 
-pub no_lead : (e : refusal_t) (p : Place) → Refuses e p (octet p) → Refuses e p (uri_escape p)
+pub no_lead : (e : yaml_refusal_t) (p : Place) → Refuses e p (octet p) → Refuses e p (uri_escape p)
 no_lead errors.MEMORY p h = tt
 no_lead (errors.OFFENCE problem) p h = escape_is p ∙ rw h refl
 
@@ -94,11 +94,11 @@ escape_taken : (c : ℕ) (p q : Place) (old mid new : List ℕ) → octet p ≡ 
     → TakesRead (λ cs. cs) (next_octets (octet_width c - 1) (skip 3 p)) mid new q → TakesRead (λ cs. cs) (uri_escape p) old new q
 escape_taken c p q old mid new e h m t = rw (lead_then c p e h) (front_takes c (next_octets (octet_width c - 1) (skip 3 p)) old mid new q m t)
 
-escape_refused : (error : refusal_t) (c : ℕ) (p q : Place) → octet p ≡ found c (skip 3 p) → (octet_width c == 0) ≡ false → Refuses error q (next_octets (octet_width c - 1) (skip 3 p)) → Refuses error q (uri_escape p)
+escape_refused : (error : yaml_refusal_t) (c : ℕ) (p q : Place) → octet p ≡ found c (skip 3 p) → (octet_width c == 0) ≡ false → Refuses error q (next_octets (octet_width c - 1) (skip 3 p)) → Refuses error q (uri_escape p)
 escape_refused errors.MEMORY c p q e h r = tt
 escape_refused (errors.OFFENCE problem) c p q e h r = lead_then c p e h ∙ ap (with_front (c ∷ [])) r
 
-pub escape_done : (r : Result (Unit {0}) refusal_t) (c : ℕ) (p q : Place) (old mid new : List ℕ) → octet p ≡ found c (skip 3 p) → (octet_width c == 0) ≡ false → mid ≡ old ++ c ∷ []
+pub escape_done : (r : Result (Unit {0}) yaml_refusal_t) (c : ℕ) (p q : Place) (old mid new : List ℕ) → octet p ≡ found c (skip 3 p) → (octet_width c == 0) ≡ false → mid ≡ old ++ c ∷ []
     → Appends (λ cs. cs) r mid new q (next_octets (octet_width c - 1) (skip 3 p)) → Appends (λ cs. cs) r old new q (uri_escape p)
 escape_done (Ok x) c p q old mid new e h m t = escape_taken c p q old mid new e h m t
 escape_done (Err error) c p q old mid new e h m t = escape_refused error c p q e h t
@@ -172,5 +172,5 @@ uri_behind listed old p = with_front old (joined (λ cs. cs) (many (uri_part lis
 pub uri_taken : (listed : Bool) (p q : Place) (old new : List ℕ) → uri_behind listed old p ≡ found new q → TakesRead (λ cs. cs) (uri listed p) old new q
 uri_taken listed p q old new h = appended (uri listed p) old new q (ap (with_front old) (uri_is listed p) ∙ h)
 
-pub uri_refused : (e : refusal_t) (listed : Bool) (p q : Place) (old : List ℕ) → Refuses e q (uri_behind listed old p) → Refuses e q (uri listed p)
+pub uri_refused : (e : yaml_refusal_t) (listed : Bool) (p q : Place) (old : List ℕ) → Refuses e q (uri_behind listed old p) → Refuses e q (uri listed p)
 uri_refused e listed p q old h = not_appended e (uri listed p) old q (rw (uri_is listed p) h)

@@ -5,14 +5,14 @@ use Rattle.yaml_text.specs.Chars.{utf8}
 use Rattle.yaml_lexeme.specs.declared.block.tail_t.{tail_t}
 use Rattle.yaml_lexeme.specs.declared.block.chomp_t.{chomp_t}
 use Rattle.yaml_lexeme.specs.declared.block.chomp_t.TheVariants.{STRIP, CLIP, KEEP}
-use Rattle.yaml_lexeme.specs.declared.problem.refusal_t.{refusal_t}
+use Rattle.yaml_lexeme.specs.declared.problem.yaml_refusal_t.{yaml_refusal_t}
 use Rattle.yaml_lexeme.specs.Place.{Place}
 use Rattle.yaml_lexeme.specs.Reading.{Read}
 use Rattle.yaml_lexeme.specs.inside.Gives.{Refuses}
 use Rattle.yaml_lexeme.specs.Block.{Blanks, Line, is_more_indented, or_none, or_space, is_line_feed}
 
 -- empty lines were read up to a mark: the greatest column of their spaces, and their breaks appended to `old`
-abbrev pub TakesBlanks : Result ℕ refusal_t → List ℕ → List ℕ → yaml_mark_t → Place → Read Blanks → Type 0
+abbrev pub TakesBlanks : Result ℕ yaml_refusal_t → List ℕ → List ℕ → yaml_mark_t → Place → Read Blanks → Type 0
 TakesBlanks (Ok column) old new end q (Ok f) =
     (column ≡ f.value.column) × (new ≡ old ++ utf8 f.value.breaks) × (end ≡ f.value.end) × (q ≡ f.end)
 TakesBlanks (Ok column) old new end q (Err e) = ⊥
@@ -26,7 +26,7 @@ pub record Keeps (tail : tail_t) (line : Line) : Type 0 where
   pub end : tail.end ≡ line.end
 
 -- a text line was read, and its text appended to `old`
-abbrev pub TakesLine : Result (Unit {0}) refusal_t → List ℕ → List ℕ → tail_t → Place → Read Line → Type 0
+abbrev pub TakesLine : Result (Unit {0}) yaml_refusal_t → List ℕ → List ℕ → tail_t → Place → Read Line → Type 0
 TakesLine (Ok _) old new tail q (Ok f) = Keeps tail f.value × (new ≡ old ++ utf8 f.value.text) × (q ≡ f.end)
 TakesLine (Ok _) old new tail q (Err e) = ⊥
 TakesLine (Err e) old new tail q read = Refuses e q read

@@ -1,7 +1,7 @@
 -- Parts of a quoted body, and words of a plain scalar, that are read at once.
 use Rattle.std.specs.Prelude.{◌≡◌, ℕ, Bool, true, false, List, [], take, Result, Ok, Err}
 use Rattle.yaml_text.specs.Chars.{utf8}
-use Rattle.yaml_lexeme.specs.declared.problem.refusal_t.{refusal_t}
+use Rattle.yaml_lexeme.specs.declared.problem.yaml_refusal_t.{yaml_refusal_t}
 use Rattle.yaml_lexeme.specs.declared.runs.class_t.{class_t}
 use Rattle.yaml_lexeme.specs.declared.runs.class_t.TheVariants.{PLAIN, FLOW}
 use Rattle.yaml_lexeme.specs.Place.{Place, skip}
@@ -16,6 +16,11 @@ GoesOn single p old q new =
     (whole : Read (List ℕ))
     → with_front old (spelled (many (body_part single) p)) ≡ whole
     → with_front new (spelled (many (body_part single) q)) ≡ whole
+
+-- What is read of the body of the quoted scalar at p is `out`, and then what is read from q on.
+abbrev pub LeadsOn : Bool → Place → List ℕ → Place → Type 0
+LeadsOn single p out q =
+    with_front out (spelled (many (body_part single) q)) ≡ spelled (many (body_part single) (skip 1 p))
 
 -- What is read of a plain scalar after a chunk: separators and chunks, in bytes.
 abbrev pub links : Bool → ℕ → Place → Read (List ℕ)
@@ -40,12 +45,12 @@ abbrev pub LeadsTo : Bool → ℕ → Place → List ℕ → Place → Type 0
 LeadsTo flow least p out q = with_front [] (words flow least p) ≡ with_front out (links flow least q)
 
 -- What was still to be read is what still is, or it was refused at q.
-abbrev pub Leaves : Result (Unit {0}) refusal_t → Read (List ℕ) → Read (List ℕ) → Place → Type 0
+abbrev pub Leaves : Result (Unit {0}) yaml_refusal_t → Read (List ℕ) → Read (List ℕ) → Place → Type 0
 Leaves (Ok _) before after q = before ≡ after
 Leaves (Err e) before after q = Refuses e q before
 
 -- The same of a step that may find nothing more.
-abbrev pub LeavesMore : Result Bool refusal_t → Read (List ℕ) → Read (List ℕ) → List ℕ → Place → Type 0
+abbrev pub LeavesMore : Result Bool yaml_refusal_t → Read (List ℕ) → Read (List ℕ) → List ℕ → Place → Type 0
 LeavesMore (Ok true) before after out q = before ≡ after
 LeavesMore (Ok false) before after out q = before ≡ found out q
 LeavesMore (Err e) before after out q = Refuses e q before

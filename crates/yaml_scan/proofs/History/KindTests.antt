@@ -1,8 +1,9 @@
 -- What the tests of kinds have to do with one another: a value is no candidate, and so on.
 use Rattle.std.proofs.Common.{◌≡◌, Bool, true, false, arith}
-use Rattle.yaml_scan.specs.Kind.{Kind, is_key, is_value, is_stream_end, is_block_entry, is_candidate_kind}
-use Rattle.yaml_scan.specs.Kind.{is_flow_start, is_flow_end, closes_all}
+use Rattle.yaml_scan.specs.Kind.{Kind, is_key, is_value, is_plain, is_stream_end, is_block_entry, is_candidate_kind}
+use Rattle.yaml_scan.specs.Kind.{is_flow_start, is_flow_end, closes_all, invites_key}
 use Rattle.yaml_scan.specs.Levels.{opens_level}
+use Rattle.yaml_lexeme.specs.Lex.{decides}
 
 pub value_not_candidate : (k : Kind) → is_value k ≡ true → is_candidate_kind k ≡ false
 value_not_candidate k e = grind arith
@@ -49,3 +50,44 @@ end_no_end k e = grind arith
 
 pub key_not_end : (k : Kind) → is_key k ≡ true → is_stream_end k ≡ false
 key_not_end k e = grind arith
+
+pub candidate_not_value : (k : Kind) → is_candidate_kind k ≡ true → is_value k ≡ false
+candidate_not_value k e = grind arith
+
+pub candidate_not_end : (k : Kind) → is_candidate_kind k ≡ true → is_stream_end k ≡ false
+candidate_not_end k e = grind arith
+
+pub candidate_not_flow_end : (k : Kind) → is_candidate_kind k ≡ true → is_flow_end k ≡ false
+candidate_not_flow_end k e = grind arith
+
+pub candidate_not_key : (k : Kind) → is_candidate_kind k ≡ true → is_key k ≡ false
+candidate_not_key k e = grind arith
+
+pub candidate_invites_none : (k : Kind) → is_candidate_kind k ≡ true → is_flow_start k ≡ false → invites_key k ≡ false
+candidate_invites_none k e f = grind arith
+
+-- what decides whether a candidate is a key is none itself, and so on
+pub decider_not_candidate : (f : Bool) (k : Kind) → decides f k ≡ true → is_candidate_kind k ≡ false
+decider_not_candidate f k e = grind arith
+
+pub decider_no_start : (f : Bool) (k : Kind) → decides f k ≡ true → is_flow_start k ≡ false
+decider_no_start f k e = grind arith
+
+pub decider_not_closer : (f : Bool) (k : Kind) → decides f k ≡ true → closes_all k ≡ false
+decider_not_closer f k e = grind arith
+
+pub decider_not_end : (f : Bool) (k : Kind) → decides f k ≡ true → is_stream_end k ≡ false
+decider_not_end f k e = grind arith
+
+pub decider_not_entry : (f : Bool) (k : Kind) → decides f k ≡ true → is_block_entry k ≡ false
+decider_not_entry f k e = grind arith
+
+pub decider_not_key : (f : Bool) (k : Kind) → decides f k ≡ true → is_key k ≡ false
+decider_not_key f k e = grind arith
+
+pub decider_not_plain : (f : Bool) (k : Kind) → decides f k ≡ true → is_plain k ≡ false
+decider_not_plain f k e = grind arith
+
+-- outside of flow it is a `:`
+pub decider_is_value : (k : Kind) → decides false k ≡ true → is_value k ≡ true
+decider_is_value k e = grind arith

@@ -1,25 +1,26 @@
 -- A step of the running scanner is the next one of its input.
 use Rattle.std.proofs.Common.{◌≡◌, ℕ, ◌+◌, ◌-◌, ◌*◌, ◌^◌, ◌≤◌, ◌<◌, Bool, true, false, List, [], ◌∷◌, length, Option, Some, None, refl, ap, sym, ◌∙◌, subst, arith, inl, inr, leb, le-leb, leb-true}
-use Rattle.std.specs.Prelude.{option_map}
+use Rattle.std.specs.Prelude.{option_map, ◌⊎◌, Result, Ok, Err, MatchResult}
+use Rattle.yaml_scan.specs.declared.fault.stop_t.{stop_t}
+use Rattle.yaml_scan.specs.inside.Stop.{fault_at}
 use Rattle.std.proofs.lemmas.Bool.{cases_Bool, cases_eq, cases_lt, false≢true}
 use Rattle.yaml_text.specs.declared.fault.yaml_fault_t.{yaml_fault_t}
 use Rattle.yaml_text.specs.Fault.{Fault, memory_fault}
 use Rattle.yaml_text.specs.Decode.{refusal_seen}
-use Rattle.yaml_scan.specs.declared.step.scanner_t.{scanner_t}
+use Rattle.yaml_scan.specs.declared.scanner.scanner_t.{scanner_t}
 use Rattle.yaml_scan.specs.Lexeme.{Lexeme}
 use Rattle.yaml_scan.specs.Source.{Offence}
 use Rattle.yaml_scan.specs.SourceOf.{source_of}
 use Rattle.yaml_scan.specs.Laid.{Laid}
 use Rattle.yaml_scan.specs.Levels.{laid}
 use Rattle.yaml_scan.specs.Order.{IsHistory, ended}
-use Rattle.yaml_scan.specs.Step.{Outcome}
+use Rattle.yaml_scan.specs.Step.{Outcome, step}
 use Rattle.yaml_scan.specs.Step.Outcome.{Reads, Faults}
 use Rattle.yaml_scan.specs.Cut.{Cut, cut_from, oldest, IsRun, EndsWith}
 use Rattle.yaml_scan.specs.Answers.{Course, course, course_from, next}
 use Rattle.yaml_scan.specs.Near.{unless_near, is_near, place_of, starts_near}
-use Rattle.yaml_scan.specs.inside.NearFault.{near_fault, or_fault, if_scanner, instead}
 use Rattle.yaml_scan.specs.Settled.{before}
-use Rattle.yaml_scan.specs.inside.Scanning.{Holds, Advances, AdvancesTwice, Offends, Runs, Steps, IsLast, Same, IsNearFrom, counted, history}
+use Rattle.yaml_scan.specs.inside.Scanning.{Holds, Advances, AdvancesTwice, Ends, Makes, Offends, Runs, Steps, StepsOn, IsLast, Same, IsNearFrom, IsNearOf, IsStep, Stays, counted, history}
 use Rattle.yaml_scan.specs.inside.Scanning.{course_of, input_of}
 use Rattle.yaml_scan.proofs.Course.LongestCut.{IsHistory-from_run, run_short}
 use Rattle.yaml_scan.proofs.Course.CourseSteps.{next_orderly, steps_are}
@@ -35,29 +36,44 @@ size_of : (cs : List ℕ) → (source_of cs).size ≡ length cs
 unfolding source_of
 size_of cs = refl
 
-module _ (cs : List ℕ) (near : ℕ) (N : IsNearFrom cs near) (o : Outcome) (w : place_of o ≤ length cs) (index : ℕ) (I : index ≡ ((source_of cs).mark (place_of o)).index) where
-  is_far : index < near → is_near (source_of cs).size (place_of o) ≡ false
-  is_far l = rw (size_of cs) ((N (place_of o) w).1 (omega (arith, I)))
+module _ (cs : List ℕ) (near : ℕ) (o : Outcome) (w : place_of o ≤ length cs) (index : ℕ) (I : index ≡ ((source_of cs).mark (place_of o)).index) where
+  pub not_near : (r : Option Fault) → IsNearOf r cs near → index < near → unless_near (source_of cs).size r o ≡ o
+  not_near None N l = refl
+  not_near (Some f) N l = let e : is_near (source_of cs).size (place_of o) ≡ false = rw (size_of cs) ((N (place_of o) w).1 (omega (arith, I))) in rw e refl
 
-  is_close : near ≤ index → is_near (source_of cs).size (place_of o) ≡ true
-  is_close l = rw (size_of cs) ((N (place_of o) w).0 (omega (arith, I)))
+  pub now_near : (f : Fault) → IsNearFrom cs near → near ≤ index → unless_near (source_of cs).size (Some f) o ≡ Faults (record { fault = f; place = (source_of cs).size })
+  now_near f N l = let e : is_near (source_of cs).size (place_of o) ≡ true = rw (size_of cs) ((N (place_of o) w).0 (omega (arith, I))) in rw e refl
 
-  pub near_none : (r : Option Fault) → near_fault near index r ≡ None → unless_near (source_of cs).size r o ≡ o
-  near_none None e = refl
-  near_none (Some f) e = elim (cases_lt index near) [
-    | inl l ↦ rw (is_far l) refl
-    | inr l ↦ (let g : Some f ≡ None = rw (le-leb near index l) at e in absurd (cc))
-  ]
+-- a problem that is not near, and one that is
+module _ (H : List Laid) (s : scanner_t) (f : Fault) (o : Offends H s f) (N : IsNearOf (refusal_seen s.refusal) s.text.chars s.near) where
+  place_in : o.offence.place ≤ length s.text.chars
+  place_in = let a = o.problem.within in let z = size_of s.text.chars in omega arith
 
-  pub near_some : (r : Option Fault) (g : Fault) → near_fault near index r ≡ Some g → unless_near (source_of cs).size r o ≡ Faults (record { fault = g; place = (source_of cs).size })
-  near_some None g e = absurd (cc)
-  near_some (Some f) g e = elim (cases_Bool (leb near index)) [
-    | inl l ↦ (let q : Some f ≡ Some g = rw l at e in rw (is_close (leb-true _ _ l)) (ap (λ (z : Fault). Faults (record { fault = z; place = (source_of cs).size })) (some_same f g q)))
-    | inr l ↦ (let q : None ≡ Some g = rw l at e in absurd (cc))
-  ]
-    where
-      some_same : (a b : Fault) → Some a ≡ Some b → a ≡ b
-      some_same a b q = cc
+  index_in : f.problem_mark.index ≡ ((source_of s.text.chars).mark o.offence.place).index
+  index_in = subst (λ (g : Fault). g.problem_mark.index ≡ ((source_of s.text.chars).mark o.offence.place).index) o.fault o.problem.index
+
+  next_row : next (input_of s) s.limit H ≡ unless_near (source_of s.text.chars).size (refusal_seen s.refusal) (Faults o.offence)
+  unfolding next
+  next_row = ap (λ (x : Outcome). unless_near (source_of s.text.chars).size (refusal_seen s.refusal) x) o.step
+
+  pub ends_far : f.problem_mark.index < s.near → Ends H s f
+  ends_far l = (o.offence, next_row ∙ not_near s.text.chars s.near (Faults o.offence) place_in f.problem_mark.index index_in (refusal_seen s.refusal) N l, o.fault)
+
+  pub ends_unrefused : refusal_seen s.refusal ≡ None → Ends H s f
+  ends_unrefused e = (o.offence, next_row ∙ (rw e refl), o.fault)
+
+  pub ends_near : (g : Fault) → refusal_seen s.refusal ≡ Some g → s.near ≤ f.problem_mark.index → Ends H s g
+  ends_near g e l =
+      let n : IsNearFrom s.text.chars s.near = rw e at N in
+      (record { fault = g; place = (source_of s.text.chars).size }, next_row ∙ (rw e (now_near s.text.chars s.near (Faults o.offence) place_in f.problem_mark.index index_in g n l)), refl)
+
+-- a lexeme that is near
+pub reads_near : (H : List Laid) (s : scanner_t) (x : Lexeme) → step (source_of s.text.chars) s.limit H ≡ Reads x → x.place ≤ length s.text.chars → (index : ℕ) → index ≡ ((source_of s.text.chars).mark x.place).index
+    → (g : Fault) → refusal_seen s.refusal ≡ Some g → IsNearOf (refusal_seen s.refusal) s.text.chars s.near → s.near ≤ index → Ends H s g
+unfolding next
+reads_near H s x e w index i g r N l =
+    let n : IsNearFrom s.text.chars s.near = rw r at N in
+    (record { fault = g; place = (source_of s.text.chars).size }, ap (λ (o : Outcome). unless_near (source_of s.text.chars).size (refusal_seen s.refusal) o) e ∙ (rw r (now_near s.text.chars s.near (Reads x) w index i g n l)), refl)
 
 -- WHAT STAYS
 pub course_same : (s t : scanner_t) → Same s t → course_of t ≡ course_of s
@@ -145,14 +161,10 @@ module _ (s : scanner_t) (r : Runs s) where
       unfolding next
       next_step = ap (λ (o : Outcome). unless_near (source_of s.text.chars).size (refusal_seen s.refusal) o) a.step
 
-      -- which is near
-      pub near_last : (index : ℕ) (f : Fault) → index ≡ t.reach.index → near_fault s.near index (refusal_seen s.refusal) ≡ Some f → IsLast s f
-      near_last index f i q = last_is _ (next_step ∙ near_some s.text.chars s.near r.near X a.within index (i ∙ a.index) (refusal_seen s.refusal) f q)
-
       module _ (u : scanner_t) (H : u.text ≡ t.text) (J : u.refusal ≡ t.refusal) (K : u.near ≡ t.near) (L : u.limit ≡ t.limit) (O : u.slots ≡ t.slots) (A : u.allowed ≡ t.allowed) (Q : u.layout ≡ t.layout) (R : u.reach ≡ t.reach) (T : u.taken ≡ t.taken) (M : u.made ≡ t.made + 1)
-          (index : ℕ) (I : index ≡ t.reach.index) (F : near_fault s.near index (refusal_seen s.refusal) ≡ None) where
+          (index : ℕ) (I : index ≡ t.reach.index) (F : index < s.near) where
         reads : next (input_of s) s.limit (history s) ≡ X
-        reads = next_step ∙ near_none s.text.chars s.near r.near X a.within index (I ∙ a.index) (refusal_seen s.refusal) F
+        reads = next_step ∙ not_near s.text.chars s.near X a.within index (I ∙ a.index) (refusal_seen s.refusal) r.near F
 
         u_same : Same s u
         u_same = let e = a.same in record { text = H ∙ e.text; refusal = J ∙ e.refusal; near = K ∙ e.near; limit = L ∙ e.limit; taken = T ∙ e.taken; done = rw Q e.done }
@@ -189,7 +201,7 @@ module _ (s : scanner_t) (r : Runs s) where
         stepped = record {
           runs = record {
             small = (let e = u_same in rw (e.text) r.small);
-            near = (let e = u_same in rw (e.text, e.near) r.near);
+            near = (let e = u_same in rw (e.text, e.refusal, e.near) r.near);
             holds = subst (λ (Z : List Laid). Holds Z (u.made + 1) u) (sym u_history) u_holds;
             begun = (let k = u_made in omega arith);
             start = rw (course_same s u u_same) r.start;
@@ -199,50 +211,44 @@ module _ (s : scanner_t) (r : Runs s) where
           same = u_same;
         }
 
-    -- a problem, unless it is near
-    pub problem_last : (f g : Fault) → Offends (history s) s f → g ≡ instead s.near (refusal_seen s.refusal) f → IsLast s g
-    unfolding next
-    problem_last f g o e = go (near_fault s.near o.offence.fault.problem_mark.index (refusal_seen s.refusal)) refl
-      where
-        scanner_kind : if_scanner f.error (near_fault s.near f.problem_mark.index (refusal_seen s.refusal)) ≡ near_fault s.near o.offence.fault.problem_mark.index (refusal_seen s.refusal)
-        scanner_kind = subst (λ (h : Fault). if_scanner h.error (near_fault s.near h.problem_mark.index (refusal_seen s.refusal)) ≡ near_fault s.near o.offence.fault.problem_mark.index (refusal_seen s.refusal)) o.fault (rw o.problem.kind refl)
-
-        place_in : o.offence.place ≤ length s.text.chars
-        place_in = let a = o.problem.within in let z = size_of s.text.chars in omega arith
-
-        step_near : next (input_of s) s.limit (history s) ≡ unless_near (source_of s.text.chars).size (refusal_seen s.refusal) (Faults o.offence)
-        step_near = ap (λ (x : Outcome). unless_near (source_of s.text.chars).size (refusal_seen s.refusal) x) o.step
-
-        go : (x : Option Fault) → near_fault s.near o.offence.fault.problem_mark.index (refusal_seen s.refusal) ≡ x → IsLast s g
-        go None q = rw (e ∙ ap (or_fault f) (scanner_kind ∙ q) ∙ sym o.fault) (last_is o.offence (step_near ∙ near_none s.text.chars s.near r.near (Faults o.offence) place_in o.offence.fault.problem_mark.index o.problem.index (refusal_seen s.refusal) q))
-        go (Some h) q = rw (e ∙ ap (or_fault f) (scanner_kind ∙ q)) (last_is _ (step_near ∙ near_some s.text.chars s.near r.near (Faults o.offence) place_in o.offence.fault.problem_mark.index o.problem.index (refusal_seen s.refusal) h q))
+    -- the fault of a step
+    pub ends_last : (f : Fault) → Ends (history s) s f → IsLast s f
+    ends_last f w = subst (λ (g : Fault). IsLast s g) w.2 (last_is w.0 w.1)
 
 -- two steps at once, neither of which is near
-module _ (s : scanner_t) (r : Runs s) (e : ended (history s) ≡ false) (none : s.refusal ≡ None) (t : scanner_t) (a : AdvancesTwice (history s) s t) where
+module _ (s : scanner_t) (r : Runs s) (e : ended (history s) ≡ false) (t : scanner_t) (a : AdvancesTwice (history s) s t) (far : t.reach.index < s.near) where
   abbrev between : scanner_t
   between = counted a.between
 
   once : Steps s between
-  once = stepped s r e a.between a.first between refl refl refl refl refl refl refl refl refl refl between.reach.index refl (rw none refl)
+  once = stepped s r e a.between a.first between refl refl refl refl refl refl refl refl refl refl between.reach.index refl a.far
 
   history_then : history between ≡ laid s.limit (history s) a.first.lexeme ∷ history s
-  history_then = u_history s r e a.between a.first between refl refl refl refl refl refl refl refl refl refl between.reach.index refl (rw none refl)
+  history_then = u_history s r e a.between a.first between refl refl refl refl refl refl refl refl refl refl between.reach.index refl a.far
 
   then_advances : Advances (history between) between t
   then_advances = subst (λ (H : List Laid). Advances H between t) (sym history_then) a.second
 
-  then_none : between.refusal ≡ None
-  then_none = let q = once.same in q.refusal ∙ none
+  then_far : t.reach.index < between.near
+  then_far = let q = once.same in let n = q.near in omega arith
 
   pub stepped_twice : (u : scanner_t) → u ≡ counted t → Steps s between × (length (before between.limit (history between)) ≤ between.taken) × Steps between u
   stepped_twice u q = let f = once.same in (
     once,
     rw (history_then, f.limit, f.taken) a.needed,
-    rw q (stepped between once.runs (rw history_then a.running) t then_advances (counted t) refl refl refl refl refl refl refl refl refl refl t.reach.index refl (rw then_none refl)),
+    rw q (stepped between once.runs (rw history_then a.running) t then_advances (counted t) refl refl refl refl refl refl refl refl refl refl t.reach.index refl then_far),
   )
 
-pub memory_stays : (near : ℕ) (r : Option Fault) (f : Fault) → f ≡ memory_fault → instead near r f ≡ memory_fault
-memory_stays near r f e = rw e refl
+-- a step of the scanner is the next one of its input
+pub steps_on : (s u : scanner_t) → Runs s → ended (history s) ≡ false → Makes (history s) s u → StepsOn s u
+steps_on s u r e (inl m) = let t : scanner_t = m.0 in inl (rw m.3 (stepped s r e t m.1 (counted t) refl refl refl refl refl refl refl refl refl refl t.reach.index refl m.2))
+steps_on s u r e (inr m) = let t : scanner_t = m.0 in let p = stepped_twice s r e (counted t) m.1 m.2 u m.3 in inr (between s r e (counted t) m.1 m.2, p.0, p.1, p.2)
+
+-- or the last one of its input
+pub step_on : (s t : scanner_t) (o : Result (Unit {0}) stop_t) → Runs s → ended (history s) ≡ false → IsStep (history s) s t o
+    → MatchResult o (λ _. StepsOn s t) (λ stop. ((fault_at stop t.kept ≡ memory_fault) ⊎ IsLast s (fault_at stop t.kept)) × Stays s t)
+step_on s t (Ok x) r e w = steps_on s t r e w
+step_on s t (Err stop) r e w = (elim w.0 [ inl m ↦ inl m | inr f ↦ inr (ends_last s r e (fault_at stop t.kept) f) ], w.1)
 
 -- FEW TOKENS, AND FEW STEPS
 pub few_made : (s : scanner_t) → Runs s → s.made + 2 < 2 ^ 64
@@ -265,9 +271,3 @@ few_taken s r =
     let f = inside s r in
     let g = r.small in
     few_are_few s.taken (length s.text.chars) (omega arith) (omega arith)
-
-pub near_moved : (n m i : ℕ) (r q : Option yaml_fault_t) (x : Option Fault) → m ≡ n → q ≡ r → x ≡ near_fault m i (refusal_seen q) → near_fault n i (refusal_seen r) ≡ x
-near_moved n m i r q x e f g = rw (← e, ← f) (sym g)
-
-pub instead_moved : (n m : ℕ) (r q : Option yaml_fault_t) (f g : Fault) → m ≡ n → q ≡ r → g ≡ instead m (refusal_seen q) f → g ≡ instead n (refusal_seen r) f
-instead_moved n m r q f g e h i = rw (← e, ← h) i

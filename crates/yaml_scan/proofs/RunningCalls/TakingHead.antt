@@ -1,6 +1,6 @@
 -- The head of the queue is the next token of the list, and taking it leaves the rest.
 use Rattle.std.proofs.Common.{◌≡◌, ℕ, zero, suc, ◌+◌, ◌-◌, ◌<◌, ◌^◌, List, [], ◌∷◌, ◌++◌, length, drop, slice_get, Some, refl, ap, sym, ◌∙◌, subst, arith}
-use Rattle.yaml_scan.specs.declared.step.scanner_t.{scanner_t}
+use Rattle.yaml_scan.specs.declared.scanner.scanner_t.{scanner_t}
 use Rattle.yaml_scan.specs.Token.{yaml_token_t}
 use Rattle.yaml_scan.specs.Laid.{Laid}
 use Rattle.yaml_scan.specs.Order.{IsHistory}
@@ -94,7 +94,7 @@ module _ (s : scanner_t) (r : Runs s) (l : s.taken < length (before s.limit (his
         answer = K.told;
         runs = record {
           small = rw H r.small;
-          near = rw (H, N) r.near;
+          near = rw (H, J, N) r.near;
           holds = subst (λ (Z : List Laid). Holds Z (u.made + 1) u) (sym history_same) held;
           begun = rw M r.begun;
           start = rw course_same r.start;

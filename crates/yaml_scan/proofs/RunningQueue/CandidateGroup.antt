@@ -360,19 +360,25 @@ taken_count H t e n m ys Q d D =
 same_test : (a b c d : ℕ) → (a ≡ b → c ≡ d) → (c ≡ d → a ≡ b) → eqb a b ≡ eqb c d
 same_test a b c d f g = elim (cases_eq a b) [ inl e ↦ eq-eqb a b e ∙ sym (eq-eqb c d (f e)) | inr e ↦ ne_eqb a b e ∙ sym (ne_eqb c d (λ h. e (g h))) ]
 
+-- the list goes on after the tokens before a candidate's own
+pub offline_split : (limit : ℕ) (H : List Laid) (k : ℕ) (c : Laid) → IsHistory limit H → candidate H k ≡ Some c → (rest : List Token) × (offline H ≡ up_to H (Some c) ++ (OfLexeme c.lexeme ∷ rest))
+unfolding offline
+offline_split limit H k c h s =
+    let a = candidate_split H k c s in
+    let f = up_to-split limit H a.newer c a.older a.is h in (
+      groups_from H a.newer,
+      ap (λ (X : List Laid). groups H X) a.is ∙ groups_was H a.newer c a.older a.saved.candidate (candidate_not_completed limit H k c h s) ∙ ap (λ (x : List Token). x ++ (OfLexeme c.lexeme ∷ groups_from H a.newer)) (sym f),
+    )
+
 pub head_awaited : (limit : ℕ) (H : List Laid) (k : ℕ) (c : Laid) (t : ℕ) (e : yaml_encoding_t) (n : ℕ) (m : yaml_mark_t) (ys : List group_t) (d : ℕ) → IsHistory limit H → IsQueue e n m ys (drop t (offline H)) → d + length ys ≡ length H + 1 → candidate H k ≡ Some c → t ≤ length (up_to H (Some c))
     → (eqb (c.number + 2) (d + 1) && not (begins_with_end (pending n m ys))) ≡ eqb t (length (up_to H (Some c)))
-unfolding offline
 head_awaited limit H k c t e n m ys d h Q D s l =
-    let a = candidate_split H k c s in
-    let f = up_to-split limit H a.newer c a.older a.is h in
-    let was : groups H H ≡ up_to H (Some c) ++ (OfLexeme c.lexeme ∷ groups_from H a.newer) =
-    ap (λ (X : List Laid). groups H X) a.is ∙ groups_was H a.newer c a.older a.saved.candidate (candidate_not_completed limit H k c h s) ∙ ap (λ (x : List Token). x ++ (OfLexeme c.lexeme ∷ groups_from H a.newer)) (sym f) in
-    let p = stands limit H k c t (up_to H (Some c)) (groups_from H a.newer) h s refl was l in
-    let q : drop t (groups H H) ≡ p.whole ++ (p.ends ++ OfLexeme c.lexeme ∷ groups_from H a.newer) =
-    ap (λ (x : List Token). drop t x) was ∙ drop-append-le t (up_to H (Some c)) (OfLexeme c.lexeme ∷ groups_from H a.newer) l
-    ∙ ap (λ (x : List Token). x ++ OfLexeme c.lexeme ∷ groups_from H a.newer) p.front_is ∙ append_assoc p.whole p.ends (OfLexeme c.lexeme ∷ groups_from H a.newer) in
-    let r = head_is_candidate e n m ys p.whole p.ends c.lexeme (groups_from H a.newer) (subst (λ (x : List Token). IsQueue e n m ys x) q Q) p.is_whole p.are_ends in
+    let o = offline_split limit H k c h s in
+    let p = stands limit H k c t (up_to H (Some c)) o.0 h s refl o.1 l in
+    let q : drop t (offline H) ≡ p.whole ++ (p.ends ++ OfLexeme c.lexeme ∷ o.0) =
+    ap (λ (x : List Token). drop t x) o.1 ∙ drop-append-le t (up_to H (Some c)) (OfLexeme c.lexeme ∷ o.0) l
+    ∙ ap (λ (x : List Token). x ++ OfLexeme c.lexeme ∷ o.0) p.front_is ∙ append_assoc p.whole p.ends (OfLexeme c.lexeme ∷ o.0) in
+    let r = head_is_candidate e n m ys p.whole p.ends c.lexeme o.0 (subst (λ (x : List Token). IsQueue e n m ys x) q Q) p.is_whole p.are_ends in
     let u = taken_count H t e n m ys Q d D in
     let v = p.place in
     let w = p.far in

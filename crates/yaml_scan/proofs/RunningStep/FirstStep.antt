@@ -9,7 +9,7 @@ use Rattle.yaml_text.specs.Text.{Text}
 use Rattle.yaml_text.specs.Chars.{AreChars}
 use Rattle.yaml_text.specs.Decode.{front, refusal, refusal_seen, encoding_of}
 use Rattle.yaml_lexeme.specs.Place.{IsMarkOf, skip}
-use Rattle.yaml_scan.specs.declared.step.scanner_t.{scanner_t}
+use Rattle.yaml_scan.specs.declared.scanner.scanner_t.{scanner_t}
 use Rattle.yaml_scan.specs.SourceOf.{source_of}
 use Rattle.yaml_scan.specs.Laid.{Laid, reach}
 use Rattle.yaml_scan.specs.Keys.{candidate}
@@ -26,7 +26,7 @@ use Rattle.yaml_scan.specs.inside.NearFault.{near_fault}
 use Rattle.yaml_scan.specs.inside.Queue.{IsQueue}
 use Rattle.yaml_scan.specs.Settled.{first_steps, pace}
 use Rattle.yaml_scan.specs.Inputs.{decoded_input}
-use Rattle.yaml_scan.specs.inside.Scanning.{Holds, Runs, IsNearFrom, history, course_of, input_of}
+use Rattle.yaml_scan.specs.inside.Scanning.{Holds, Runs, IsNearOf, history, course_of, input_of}
 use Rattle.yaml_scan.specs.inside.Ready.{IsNew, Begins, IsStopped, IsEnded, course_in}
 
 oldest_none : (H : List Laid) → oldest 0 H ≡ []
@@ -48,39 +48,39 @@ size_is : (cs : List ℕ) → (source_of cs).size ≡ length cs
 unfolding source_of
 size_is cs = refl
 
-not_near : (cs : List ℕ) (near : ℕ) (N : IsNearFrom cs near) (r : Option Fault) → near_fault near 0 r ≡ None → starts_near (source_of cs).size r ≡ false
-not_near cs near N None e = refl
-not_near cs near N (Some f) e = elim (cases_lt 0 near) [
+not_near : (cs : List ℕ) (near : ℕ) (r : Option Fault) → IsNearOf r cs near → near_fault near 0 r ≡ None → starts_near (source_of cs).size r ≡ false
+not_near cs near None N e = refl
+not_near cs near (Some f) N e = elim (cases_lt 0 near) [
   | inl l ↦ (let i = start_index cs in rw (size_is cs) ((N 0 (omega arith)).1 (omega arith)))
   | inr l ↦ (let z : near ≡ 0 = omega arith in let g : Some f ≡ None = rw z at e in absurd (cc))
 ]
 
-is_near_start : (cs : List ℕ) (near : ℕ) (N : IsNearFrom cs near) (r : Option Fault) (f : Fault) → near_fault near 0 r ≡ Some f → (starts_near (source_of cs).size r ≡ true) × (r ≡ Some f)
-is_near_start cs near N None f e = absurd (cc)
-is_near_start cs near N (Some g) f e = elim (cases_lt 0 near) [
+is_near_start : (cs : List ℕ) (near : ℕ) (r : Option Fault) → IsNearOf r cs near → (f : Fault) → near_fault near 0 r ≡ Some f → (starts_near (source_of cs).size r ≡ true) × (r ≡ Some f)
+is_near_start cs near None N f e = absurd (cc)
+is_near_start cs near (Some g) N f e = elim (cases_lt 0 near) [
   | inr l ↦ (let i = start_index cs in let z : near ≡ 0 = omega arith in let h : Some g ≡ Some f = rw z at e in (rw (size_is cs) ((N 0 (omega arith)).0 (omega arith)), h))
   | inl l ↦ (let h : None ≡ Some f = rw (lt-leb near 0 l) at e in absurd (cc))
 ]
 
 -- THE COURSE OF THE INPUT
-module _ (limit : ℕ) (setting : yaml_encoding_t) (input : List ℕ) (text : Text) (T : text ≡ front setting input) (r : Option Fault) (R : r ≡ refusal setting input) (near : ℕ) (N : IsNearFrom text.chars near) where
+module _ (limit : ℕ) (setting : yaml_encoding_t) (input : List ℕ) (text : Text) (T : text ≡ front setting input) (r : Option Fault) (R : r ≡ refusal setting input) (near : ℕ) (N : IsNearOf r text.chars near) where
   starts_is : (b : Bool) → starts_near (source_of text.chars).size r ≡ b → starts_near (source_of (front setting input).chars).size (refusal setting input) ≡ b
   starts_is b e = rw (← T, ← R) e
 
   ended_course : (f : Fault) → near_fault near 0 r ≡ Some f → course_in limit setting input ≡ record { begun = false; read = []; fault = Some f }
   unfolding course decoded_input
-  ended_course f e = let n = is_near_start text.chars near N r f e in rw (starts_is true n.0) (ap (λ (x : Option Fault). record { begun = false; read = []; fault = x }) (sym R ∙ n.1))
+  ended_course f e = let n = is_near_start text.chars near r N f e in rw (starts_is true n.0) (ap (λ (x : Option Fault). record { begun = false; read = []; fault = x }) (sym R ∙ n.1))
 
   begun_course : near_fault near 0 r ≡ None → (course_in limit setting input).begun ≡ true
   unfolding course decoded_input
-  begun_course e = rw (starts_is false (not_near text.chars near N r e)) refl
+  begun_course e = rw (starts_is false (not_near text.chars near r N e)) refl
 
 pub encoding_in : (setting : yaml_encoding_t) (input : List ℕ) → (decoded_input setting input).encoding ≡ encoding_of setting input
 unfolding decoded_input front
 encoding_in setting input = refl
 
 -- the first step is one, if no reader's fault has replaced it
-pub begun_in : (limit : ℕ) (setting : yaml_encoding_t) (input : List ℕ) (text : Text) → text ≡ front setting input → (r : Option Fault) → r ≡ refusal setting input → (near : ℕ) → IsNearFrom text.chars near → near_fault near 0 r ≡ None → (course_in limit setting input).begun ≡ true
+pub begun_in : (limit : ℕ) (setting : yaml_encoding_t) (input : List ℕ) (text : Text) → text ≡ front setting input → (r : Option Fault) → r ≡ refusal setting input → (near : ℕ) → IsNearOf r text.chars near → near_fault near 0 r ≡ None → (course_in limit setting input).begun ≡ true
 begun_in limit setting input text T r R near N e = begun_course limit setting input text T r R near N e
 
 pub new_reach : (s : scanner_t) → IsNew s → (H : List Laid) → s.reach ≡ reach (first_steps s.made H)
@@ -90,7 +90,7 @@ pub new_stopped : (setting : yaml_encoding_t) (input : List ℕ) (s : scanner_t)
 unfolding pace
 new_stopped setting input s n = record { limit = refl; taken = refl; done = refl; least = omega arith; most = omega arith; unsettled = (let m = n.made in rw m refl); reach = new_reach s n (course_in s.limit setting input).read }
 
-pub new_ended : (setting : yaml_encoding_t) (input : List ℕ) (s : scanner_t) → IsNew s → (text : Text) → text ≡ front setting input → (r : Option Fault) → r ≡ refusal setting input → (near : ℕ) → IsNearFrom text.chars near → (f : Fault) → near_fault near 0 r ≡ Some f → IsEnded setting input s s f
+pub new_ended : (setting : yaml_encoding_t) (input : List ℕ) (s : scanner_t) → IsNew s → (text : Text) → text ≡ front setting input → (r : Option Fault) → r ≡ refusal setting input → (near : ℕ) → IsNearOf r text.chars near → (f : Fault) → near_fault near 0 r ≡ Some f → IsEnded setting input s s f
 new_ended setting input s n text T r R near N f e =
     let c = ended_course s.limit setting input text T r R near N f e in
     record { none = rw c (omega arith); fault = rw c refl; made = rw c n.made }
@@ -127,7 +127,7 @@ empty_top : (limit : ℕ) → held limit [] (depth []) ≡ None
 unfolding candidate
 empty_top limit = refl
 
-module _ (setting : yaml_encoding_t) (input : List ℕ) (s t : scanner_t) (n : IsNew s) (T : t.text ≡ front setting input) (C : AreChars t.text.chars) (small : length t.text.chars < 2 ^ 63) (R : refusal_seen t.refusal ≡ refusal setting input) (N : IsNearFrom t.text.chars t.near)
+module _ (setting : yaml_encoding_t) (input : List ℕ) (s t : scanner_t) (n : IsNew s) (T : t.text ≡ front setting input) (C : AreChars t.text.chars) (small : length t.text.chars < 2 ^ 63) (R : refusal_seen t.refusal ≡ refusal setting input) (N : IsNearOf (refusal_seen t.refusal) t.text.chars t.near)
     (L : t.limit ≡ s.limit) (V : t.layout.levels.items ≡ s.layout.levels.items) (O : t.slots ≡ s.slots) (A : t.allowed ≡ s.allowed) (Q : IsQueue t.text.encoding t.layout.queue.early t.layout.queue.front t.layout.queue.groups.items (StreamStart ∷ [])) (G : length t.layout.queue.groups.items ≡ 1) (E : t.layout.queue.early ≡ s.layout.queue.early) (D : t.layout.queue.done ≡ s.layout.queue.done) (J : t.reach ≡ s.reach) (K : t.taken ≡ s.taken) (M : t.made ≡ 1)
     (e : near_fault t.near 0 (refusal_seen t.refusal) ≡ None) where
   input_is : input_of t ≡ decoded_input setting input

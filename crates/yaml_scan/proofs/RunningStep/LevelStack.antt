@@ -41,6 +41,15 @@ module _ (f : Bool) (k : Kind) (m : yaml_mark_t) where
   none_closed [] g e = refl
   none_closed (c ∷ cs) g e = let l = top_stays c cs e in rw l (gone c cs g.0 l)
 
+-- what starts no further left closes none either, unless it closes all
+pub closing_on : (f : Bool) (k j : Kind) (m n : yaml_mark_t) (cs : List ℕ) → closing f k m cs ≡ None → m.column ≤ n.column → closes_all j ≡ false → closing f j n cs ≡ None
+closing_on f k j m n [] e l q = refl
+closing_on true k j m n (c ∷ cs) e l q = refl
+closing_on false k j m n (c ∷ cs) e l q =
+    let p = and_parts (not (closes_all k)) (leb c m.column) (top_stays false k m c cs e) in
+    let t : c ≤ m.column = leb-true _ _ p.1 in
+    rw (q, le-leb c n.column (omega arith)) refl
+
 -- THE ENDS
 -- those of the columns above the end of the gap come first
 module _ (k : Kind) (front start : yaml_mark_t) where

@@ -1,6 +1,6 @@
 -- A scanner that was given room holds what it held.
 use Rattle.std.proofs.Common.{◌≡◌, ℕ, List}
-use Rattle.yaml_scan.specs.declared.step.scanner_t.{scanner_t}
+use Rattle.yaml_scan.specs.declared.scanner.scanner_t.{scanner_t}
 use Rattle.yaml_scan.specs.Laid.{Laid}
 use Rattle.yaml_scan.specs.inside.Scanning.{Holds}
 

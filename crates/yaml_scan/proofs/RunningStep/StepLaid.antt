@@ -8,8 +8,8 @@ use Rattle.yaml_text.specs.declared.types.yaml_mark_t.{yaml_mark_t}
 use Rattle.yaml_text.specs.Fault.{Fault}
 use Rattle.yaml_lexeme.specs.Lexeme.{Lexeme as yaml_lexeme_t}
 use Rattle.yaml_lexeme.specs.Place.{IsMarkOf, place_at}
-use Rattle.yaml_scan.specs.declared.step.scanner_t.{scanner_t}
-use Rattle.yaml_scan.specs.declared.step.met_t.{met_t}
+use Rattle.yaml_scan.specs.declared.scanner.scanner_t.{scanner_t}
+use Rattle.yaml_scan.specs.inside.Scanning.{Met}
 use Rattle.yaml_scan.specs.declared.groups.group_t.{group_t}
 use Rattle.yaml_text.specs.Token.{token_of}
 use Rattle.yaml_scan.specs.Kind.{Kind, is_candidate_kind, is_stream_end}
@@ -165,7 +165,7 @@ opened_less limit H x n margin cs (Some c) e h f l a = go (is_new margin c.lexem
     go false = a
 
 -- THE STEP
-module _ (H : List Laid) (N : ℕ) (s : scanner_t) (r : Holds H N s) (running : ended H ≡ false) (m : met_t) (w : IsMet H s m) (margin : Bool) (M : margin ≡ vec_len s.slots.outer == 0)
+module _ (H : List Laid) (N : ℕ) (s : scanner_t) (r : Holds H N s) (running : ended H ≡ false) (m : Met) (w : IsMet H s m) (margin : Bool) (M : margin ≡ vec_len s.slots.outer == 0)
     (start : yaml_mark_t) (START : start ≡ start_at m.kind m.front) where
   abbrev S : Source
   S = source_of s.text.chars

@@ -6,10 +6,10 @@ use Rattle.yaml_text.specs.declared.types.yaml_mark_t.{yaml_mark_t}
 use Rattle.yaml_text.specs.Token.{token_of}
 use Rattle.yaml_lexeme.specs.Lexeme.{Lexeme as yaml_lexeme_t}
 use Rattle.yaml_scan.specs.declared.groups.group_t.{group_t}
-use Rattle.yaml_scan.specs.declared.keys.slots_t.{slots_t}
+use Rattle.yaml_scan.specs.declared.slots.slots_t.{slots_t}
 use Rattle.yaml_scan.specs.declared.levels.layout_t.{layout_t}
-use Rattle.yaml_scan.specs.declared.step.met_t.{met_t}
-use Rattle.yaml_scan.specs.declared.step.scanner_t.{scanner_t}
+use Rattle.yaml_scan.specs.inside.Scanning.{Met}
+use Rattle.yaml_scan.specs.declared.scanner.scanner_t.{scanner_t}
 use Rattle.yaml_scan.specs.Allowed.{allows}
 use Rattle.yaml_scan.specs.Groups.{end_at}
 use Rattle.yaml_scan.specs.Groups.Token.{BlockEnd}
@@ -36,12 +36,15 @@ put_in s S a L reach = record {
   allowed = a;
   layout = L;
   reach = reach;
+  front = s.front;
+  there = s.there;
+  kept = s.kept;
   taken = s.taken;
   made = s.made;
 }
 
 -- these are the slots, whether a key is allowed, and the layout after the lexeme x, of which `new` is kept
-pub record IsPut (s : scanner_t) (m : met_t) (margin : Bool) (new : Held) (x : yaml_lexeme_t) (S : slots_t) (a : Bool) (L : layout_t) : Type 0 where
+pub record IsPut (s : scanner_t) (m : Met) (margin : Bool) (new : Held) (x : yaml_lexeme_t) (S : slots_t) (a : Bool) (L : layout_t) : Type 0 where
   pub kept : List ℕ
   pub kept_is : reverse kept ≡ filter (stays (not margin) m.kind new.start) (reverse s.layout.levels.items)
   pub early : ℕ
@@ -69,11 +72,11 @@ pub record IsPut (s : scanner_t) (m : met_t) (margin : Bool) (new : Held) (x : y
   pub allows : (d : ℕ) → margin ≡ nat_eq d 0 → a ≡ allows m.kind d none x.passed_break
 
 -- a lexeme of the kind that was met
-pub record IsLaid (H : List Laid) (s : scanner_t) (m : met_t) (t : scanner_t) : Type 0 where
+pub record IsLaid (H : List Laid) (s : scanner_t) (m : Met) (t : scanner_t) : Type 0 where
   pub advances : Advances H s t
   pub kind : advances.lexeme.kind ≡ m.kind
 
-pub put_advances : (H : List Laid) (s : scanner_t) (m : met_t) (margin : Bool) (new : Held) (x : yaml_lexeme_t) → CanPut H s m margin new x
+pub put_advances : (H : List Laid) (s : scanner_t) (m : Met) (margin : Bool) (new : Held) (x : yaml_lexeme_t) → CanPut H s m margin new x
     → (S : slots_t) (a : Bool) (L : layout_t) → IsPut s m margin new x S a L → IsLaid H s m (put_in s S a L x.reach)
 put_advances H s m margin new x p S a L q = record {
   kind = refl;

@@ -140,3 +140,15 @@ near_after cs bytes at a e s f = λ p w.
     let i = left_is cs p a in
     let j = ap (λ (b : List ℕ). starts (drop ((source_of cs).mark p).index b)) e in
     ((λ h. let g = f ((source_of cs).mark p).index (omega arith) in near_yes (length cs) p (omega arith) w), (λ h. let d = starts_drop bytes ((source_of cs).mark p).index at (omega arith) in near_no (length cs) p (omega arith)))
+
+utf8_less : (p : ℕ) (cs : List ℕ) → length (utf8 (take p cs)) ≤ length (utf8 cs)
+utf8_less zero cs = omega arith
+utf8_less (suc p) [] = omega arith
+utf8_less (suc p) (c ∷ cs) =
+    let r = utf8_less p cs in
+    let a = length-append (encode c) (utf8 (take p cs)) in
+    let b = length-append (encode c) (utf8 cs) in omega arith
+
+-- no index is after the bytes
+pub index_within : (cs : List ℕ) (p : ℕ) → ((source_of cs).mark p).index ≤ length (utf8 cs)
+index_within cs p = let i = index_is cs p in let l = utf8_less p cs in omega arith

@@ -10,17 +10,6 @@ abbrev pub near_fault : ℕ → ℕ → Option Fault → Option Fault
 near_fault near index None = None
 near_fault near index (Some f) = if nat_le near index then Some f else None
 
-abbrev pub or_fault : Fault → Option Fault → Fault
-or_fault f None = f
-or_fault f (Some g) = g
-
-abbrev pub if_scanner : yaml_error_type_t → Option Fault → Option Fault
-if_scanner YAML_SCANNER_ERROR o = o
-if_scanner _ o = None
-
-abbrev pub instead : ℕ → Option Fault → Fault → Fault
-instead near refusal f = or_fault f (if_scanner f.error (near_fault near f.problem_mark.index refusal))
-
 -- how many characters begin in bytes of UTF-8
 abbrev pub starts : List ℕ → ℕ
 starts bytes = length (filter (λ b. not (continues b)) bytes)

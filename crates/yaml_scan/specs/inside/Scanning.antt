@@ -1,28 +1,33 @@
 -- What a running scanner holds after the lexemes H.
 use Rattle.std.specs.Prelude.{◌≡◌, ℕ, ◌+◌, ◌-◌, ◌≤◌, ◌<◌, ◌^◌, true, false, List, [], ◌∷◌, ◌++◌, reverse, drop, length}
-use Rattle.std.specs.Prelude.{◌⊎◌, Bool, Option, None, Some, nat_lt, not, filter, vec_len}
+use Rattle.std.specs.Prelude.{◌⊎◌, ◌&&◌, ◌||◌, Bool, Option, None, Some, nat_lt, not, filter, vec_len, MatchResult}
+use Rattle.std.specs.Prelude.{Result, Ok, Err, if◌then◌else◌}
 use Rattle.std.specs.Bool.{◌==◌}
-use Rattle.std.specs.Option.{IfSome}
+use Rattle.std.specs.Option.{IfSome, is_some}
 use Rattle.std.specs.Vec.{vec_capacity}
 use Rattle.std.specs.VecDeque.{deque_capacity}
 use Rattle.yaml_text.specs.declared.types.yaml_mark_t.{yaml_mark_t}
 use Rattle.yaml_lexeme.specs.Lexeme.{Lexeme as yaml_lexeme_t}
-use Rattle.yaml_text.specs.Fault.{Fault}
-use Rattle.yaml_text.specs.Chars.{AreChars}
+use Rattle.yaml_text.specs.Fault.{Fault, memory_fault}
+use Rattle.yaml_text.specs.Chars.{AreChars, utf8}
 use Rattle.yaml_text.specs.Decode.{refusal_seen}
 use Rattle.yaml_lexeme.specs.Place.{IsMarkOf}
-use Rattle.yaml_lexeme.specs.declared.kind.yaml_lexeme_kind_t.TheVariants.{PLAIN, VALUE}
-use Rattle.yaml_scan.specs.declared.step.scanner_t.{scanner_t}
-use Rattle.yaml_scan.specs.declared.step.met_t.{met_t}
-use Rattle.yaml_scan.specs.declared.quick.ready_t.{ready_t}
+use Rattle.yaml_lexeme.specs.Answers.{refused_at}
 use Rattle.yaml_lexeme.specs.Lexeme.{lexeme_of}
+use Rattle.yaml_lexeme.specs.declared.lex.yaml_context_t.{yaml_context_t}
 use Rattle.yaml_lexeme.specs.declared.lexeme.yaml_lexeme_t.{yaml_lexeme_t as code_lexeme_t}
-use Rattle.yaml_scan.specs.declared.keys.slots_t.{slots_t}
-use Rattle.yaml_scan.specs.Kind.{Kind}
+use Rattle.yaml_lexeme.specs.declared.problem.yaml_refusal_t.{yaml_refusal_t}
+use Rattle.yaml_lexeme.specs.declared.problem.yaml_refusal_t.TheVariants.{MEMORY}
+use Rattle.yaml_scan.specs.declared.fault.stop_t.{stop_t}
+use Rattle.yaml_scan.specs.declared.look.step_t.{step_t}
+use Rattle.yaml_scan.specs.declared.scanner.scanner_t.{scanner_t}
+use Rattle.yaml_scan.specs.declared.slots.slots_t.{slots_t}
+use Rattle.yaml_scan.specs.Kind.{Kind, is_candidate_kind, is_flow_start}
 use Rattle.yaml_scan.specs.Lexeme.{Lexeme}
 use Rattle.yaml_scan.specs.Source.{Source, Offence}
 use Rattle.yaml_scan.specs.SourceOf.{source_of}
-use Rattle.yaml_scan.specs.inside.TextReads.{IsColon, IsProblem, IsRead}
+use Rattle.yaml_scan.specs.inside.Stop.{fault_at}
+use Rattle.yaml_scan.specs.inside.TextReads.{IsDecider, IsOffence, IsProblem, IsRead}
 use Rattle.yaml_scan.specs.Laid.{Laid, reach}
 use Rattle.yaml_scan.specs.Depth.{depth}
 use Rattle.yaml_scan.specs.Allowed.{allowed, allowed_after}
@@ -31,12 +36,13 @@ use Rattle.yaml_scan.specs.Order.{IsHistory, ended}
 use Rattle.yaml_scan.specs.Groups.{offline}
 use Rattle.yaml_scan.specs.Settled.{before, pace}
 use Rattle.yaml_scan.specs.inside.Slots.{Held, held, outer_to, empty_slots, lowest, step_of}
-use Rattle.yaml_scan.specs.inside.Slots.{is_live, is_margin_level, lost_held, root_of, slot_after}
+use Rattle.yaml_scan.specs.inside.Slots.{completed_held, is_live, is_margin_level, lost_held, needed}
+use Rattle.yaml_scan.specs.inside.Slots.{root_of, slot_after}
 use Rattle.yaml_scan.specs.inside.Queue.{IsQueue, closing}
-use Rattle.yaml_scan.specs.Step.{step, read_step, stale, place_after, front_of, start_at}
+use Rattle.yaml_scan.specs.Step.{step, read_step, stale, place_after, front_of, start_at, problem_of, replaces}
 use Rattle.yaml_scan.specs.Step.Outcome.{Reads, Faults}
 use Rattle.yaml_scan.specs.Cut.{oldest}
-use Rattle.yaml_scan.specs.Answers.{Input, Course, course}
+use Rattle.yaml_scan.specs.Answers.{Input, Course, course, next}
 use Rattle.yaml_scan.specs.Near.{is_near}
 
 -- what it scans
@@ -51,6 +57,11 @@ abbrev pub IsNearFrom : List ℕ → ℕ → Type 0
 IsNearFrom cs near = (p : ℕ) → p ≤ length cs
     → (near ≤ ((source_of cs).mark p).index → is_near (length cs) p ≡ true)
     × (((source_of cs).mark p).index < near → is_near (length cs) p ≡ false)
+
+-- the same of an input: no index is as great, if it was not refused
+abbrev pub IsNearOf : Option Fault → List ℕ → ℕ → Type 0
+IsNearOf None cs near = length (utf8 cs) < near
+IsNearOf (Some f) cs near = IsNearFrom cs near
 
 -- n is the number of the next step
 pub record Holds (H : List Laid) (n : ℕ) (s : scanner_t) : Type 0 where
@@ -73,15 +84,25 @@ pub record Holds (H : List Laid) (n : ℕ) (s : scanner_t) : Type 0 where
   pub taken : s.taken ≤ length (before s.limit H)
   pub place : ended H ≡ false → IsMarkOf s.text.chars s.reach (place_after H)
 
+-- a kind of lexeme after the gap, where the gap ends, and whether a key is allowed there
+pub record Met : Type 0 where
+  pub kind : Kind
+  pub front : yaml_mark_t
+  pub allowed : Bool
+
+-- what a step has met
+abbrev pub met_in : scanner_t → step_t → Met
+met_in s r = record { kind = r.kind; front = s.front; allowed = r.allowed }
+
 -- the kind of lexeme that was found after the gap
-pub record IsMet (H : List Laid) (s : scanner_t) (m : met_t) : Type 0 where
+pub record IsMet (H : List Laid) (s : scanner_t) (m : Met) : Type 0 where
   pub front : IsMarkOf s.text.chars m.front (front_of (text_of s) H)
   pub allowed : m.allowed ≡ allowed H m.front
   pub kind : (text_of s).kind (nat_lt 0 (depth H)) (front_of (text_of s) H) ≡ Some m.kind
   pub step : step (text_of s) s.limit H ≡ read_step (text_of s) s.limit H m.kind (front_of (text_of s) H)
 
 -- a lexeme that was met can be read and laid
-pub record CanLay (H : List Laid) (s : scanner_t) (m : met_t) : Type 0 where
+pub record CanLay (H : List Laid) (s : scanner_t) (m : Met) : Type 0 where
   pub holds : Holds H (s.made + 1) s
   pub running : ended H ≡ false
   pub small : length s.text.chars < 2 ^ 63
@@ -94,23 +115,41 @@ pub record HasRoom (s : scanner_t) : Type 0 where
   pub levels : vec_len s.layout.levels < vec_capacity s.layout.levels
   pub groups : length s.layout.queue.groups.items < deque_capacity s.layout.queue.groups
 
--- a step can be made, or two, and there is room for one
+-- a step can be made, or two
 pub record CanStep (H : List Laid) (s : scanner_t) : Type 0 where
   pub holds : Holds H (s.made + 1) s
   pub running : ended H ≡ false
   pub small : length s.text.chars < 2 ^ 63
   pub few_steps : s.made + 2 < 2 ^ 64
-  pub room : HasRoom s
+  pub near : IsNearOf (refusal_seen s.refusal) s.text.chars s.near
 
--- a lexeme of kind k comes next, which starts at g after the gap, at depth 0 (margin) or not
-pub record Comes (H : List Laid) (s : scanner_t) (margin : Bool) (k : Kind) (g : yaml_mark_t) : Type 0 where
+-- the gap was passed at depth 0 (margin) or not, and no candidate is lost there
+pub record Passes (H : List Laid) (s : scanner_t) (margin : Bool) : Type 0 where
   pub can : CanStep H s
   pub at_margin : margin ≡ vec_len s.slots.outer == 0
-  pub front : IsMarkOf s.text.chars g (front_of (text_of s) H)
+  pub front : IsMarkOf s.text.chars s.front (front_of (text_of s) H)
+  pub none_lost : lost_held s.limit s.front (root_of s.slots.outer.items s.slots.top) ≡ None
+
+-- a lexeme of kind k comes after the gap
+pub record Comes (H : List Laid) (s : scanner_t) (margin : Bool) (k : Kind) : Type 0 where
+  pub passes : Passes H s margin
   pub is_kind : (text_of s).kind (not margin) (front_of (text_of s) H) ≡ Some k
 
+-- whether a key is allowed there
+abbrev pub allowed_in : scanner_t → Bool → Bool
+allowed_in s margin = s.allowed || (margin && nat_lt s.reach.line s.front.line)
+
+-- what is wrong with a kind after the gap, if it needs an allowed key and none is allowed
+abbrev pub refused_in : scanner_t → Bool → Kind → Bool → Option (List ℕ)
+refused_in s margin k allowed = if margin && not allowed
+    then problem_of k (not (is_some (completed_held k s.limit s.front s.slots.top))) else None
+
+-- the required candidate that a lexeme of a kind after the gap would clear or replace
+abbrev pub cleared_in : scanner_t → Bool → Kind → Bool → Option Held
+cleared_in s margin k allowed = if replaces k allowed && margin then needed s.limit s.front s.slots.top else None
+
 -- `new` is what is kept of the lexeme that was met, at depth 0 (margin) or not, with the greatest level that it keeps
-pub record IsNewHeld (s : scanner_t) (m : met_t) (margin : Bool) (l : Option ℕ) (new : Held) : Type 0 where
+pub record IsNewHeld (s : scanner_t) (m : Met) (margin : Bool) (l : Option ℕ) (new : Held) : Type 0 where
   pub at_margin : margin ≡ vec_len s.slots.outer == 0
   pub is_greatest : l ≡ greatest_level (filter (stays (not margin) m.kind new.start) (reverse s.layout.levels.items))
   pub step : new.step ≡ s.made + 1
@@ -118,12 +157,12 @@ pub record IsNewHeld (s : scanner_t) (m : met_t) (margin : Bool) (l : Option ℕ
   pub required : new.required ≡ is_margin_level margin l new.start.column
 
 -- the required candidate that is stale at a mark after the lexeme that was met
-abbrev pub lost_after : ℕ → slots_t → met_t → Held → yaml_mark_t → Option Held
+abbrev pub lost_after : ℕ → slots_t → Met → Held → yaml_mark_t → Option Held
 lost_after limit slots m new mark =
     lost_held limit mark (root_of slots.outer.items (slot_after m.kind m.allowed new slots.top))
 
 -- a lexeme that was read can be laid
-pub record CanPut (H : List Laid) (s : scanner_t) (m : met_t) (margin : Bool) (new : Held) (x : yaml_lexeme_t)
+pub record CanPut (H : List Laid) (s : scanner_t) (m : Met) (margin : Bool) (new : Held) (x : yaml_lexeme_t)
     : Type 0 where
   pub can : CanLay H s m
   pub room : HasRoom s
@@ -133,18 +172,75 @@ pub record CanPut (H : List Laid) (s : scanner_t) (m : met_t) (margin : Bool) (n
   pub kept : lost_after s.limit s.slots m new x.reach ≡ None
 
 -- a lexeme that was met can be read, and there is room for it
-pub record CanRead (H : List Laid) (s : scanner_t) (margin : Bool) (r : ready_t) : Type 0 where
+pub record CanRead (H : List Laid) (s : scanner_t) (margin : Bool) (r : step_t) : Type 0 where
   pub can : CanStep H s
-  pub met : IsMet H s r.met
-  pub is_new : IsNewHeld s r.met margin r.context.level r.new
+  pub met : IsMet H s (met_in s r)
+  pub is_new : IsNewHeld s (met_in s r) margin r.context.level r.new
   pub depth : r.context.depth ≡ vec_len s.slots.outer
   pub within : IfSome r.context.level (λ l. l ≤ length s.text.chars)
-  pub there : (text_of s).kind (nat_lt 0 r.context.depth) (front_of (text_of s) H) ≡ Some r.met.kind
+  pub there : (text_of s).kind (nat_lt 0 r.context.depth) (front_of (text_of s) H) ≡ Some r.kind
+  pub room : HasRoom s
 
--- what was read of it, if it was
-abbrev pub IsReadAt : scanner_t → ready_t → Kind → Option code_lexeme_t → Type 0
-IsReadAt s r k o = IfSome o (λ x. (p : ℕ) → IsMarkOf s.text.chars r.met.front p
-    → IsRead s.text.chars k r.context.depth r.context.level p (lexeme_of x))
+-- the same but for how much room there is
+pub record Beside (s t : scanner_t) : Type 0 where
+  pub text : t.text ≡ s.text
+  pub refusal : t.refusal ≡ s.refusal
+  pub near : t.near ≡ s.near
+  pub limit : t.limit ≡ s.limit
+  pub outer : t.slots.outer.items ≡ s.slots.outer.items
+  pub depth : vec_len t.slots.outer ≡ vec_len s.slots.outer
+  pub empty : t.slots.not_simple_keys ≡ s.slots.not_simple_keys
+  pub top : t.slots.top ≡ s.slots.top
+  pub awaited : t.slots.awaited ≡ s.slots.awaited
+  pub allowed : t.allowed ≡ s.allowed
+  pub levels : t.layout.levels.items ≡ s.layout.levels.items
+  pub groups : t.layout.queue.groups.items ≡ s.layout.queue.groups.items
+  pub done : t.layout.queue.done ≡ s.layout.queue.done
+  pub early : t.layout.queue.early ≡ s.layout.queue.early
+  pub queue_front : t.layout.queue.front ≡ s.layout.queue.front
+  pub reach : t.reach ≡ s.reach
+  pub front : t.front ≡ s.front
+  pub taken : t.taken ≡ s.taken
+  pub made : t.made ≡ s.made
+
+-- A lexeme of kind k was read after the gap, or why it was refused, for an offence at `there`.
+abbrev pub IsReadIn : scanner_t → Kind → yaml_context_t → yaml_mark_t → Result code_lexeme_t yaml_refusal_t → Type 0
+IsReadIn s k x there (Ok l) = (p : ℕ) → IsMarkOf s.text.chars s.front p
+    → IsRead s.text.chars k x.depth x.level p (lexeme_of l)
+IsReadIn s k x there (Err r) = (p : ℕ) → IsMarkOf s.text.chars s.front p
+    → (r ≡ MEMORY) ⊎ IsOffence s.text.chars k x.depth x.level p (refused_at k s.front there r)
+
+-- A step has to stop after the lexeme x, which was read to `there`.
+pub record IsBehind (H : List Laid) (s : scanner_t) (margin : Bool) (r : step_t) (x : yaml_lexeme_t) : Type 0 where
+  pub can : CanRead H s margin r
+  pub read : IsRead s.text.chars r.kind (vec_len s.slots.outer) r.context.level (front_of (text_of s) H) x
+  pub there : s.there ≡ x.reach
+  pub stops : (s.near ≤ x.reach.index) ⊎ (is_some (lost_after s.limit s.slots (met_in s r) r.new x.reach) ≡ true)
+
+-- the same scanner, with another place of an offence
+abbrev pub at_there : scanner_t → yaml_mark_t → scanner_t
+at_there s m = record {
+  alloc = s.alloc;
+  text = s.text;
+  refusal = s.refusal;
+  near = s.near;
+  limit = s.limit;
+  slots = s.slots;
+  allowed = s.allowed;
+  layout = s.layout;
+  reach = s.reach;
+  front = s.front;
+  there = m;
+  kept = s.kept;
+  taken = s.taken;
+  made = s.made;
+}
+
+-- what a reader does: it reads, and changes only the place of an offence
+pub record HasRead (s t : scanner_t) (k : Kind) (x : yaml_context_t) (o : Result code_lexeme_t yaml_refusal_t)
+    : Type 0 where
+  pub read : IsReadIn s k x t.there o
+  pub same : t ≡ at_there s t.there
 
 -- what a step does not change
 pub record Same (s t : scanner_t) : Type 0 where
@@ -165,24 +261,31 @@ pub record Advances (H : List Laid) (s t : scanner_t) : Type 0 where
   pub same : Same s t
   pub made : t.made ≡ s.made
 
--- If what was met is read to `at`, it is a key: the `:` there completes it, and ends at `end`. No level ends at either.
--- The queue is empty, and has room for both.
-pub record IsKeyBefore (s : scanner_t) (r : ready_t) (at end : yaml_mark_t) : Type 0 where
-  pub allowed : r.met.allowed ≡ true
+-- The next token needs what comes after a lexeme that was met, if that is read to `at`: it is a candidate, and no other
+-- token is queued. It closes no level, and there is room for two groups.
+pub record IsUndecided (s : scanner_t) (margin : Bool) (r : step_t) (at : yaml_mark_t) : Type 0 where
+  pub candidate : is_candidate_kind r.kind ≡ true
+  pub stays : is_flow_start r.kind ≡ false
+  pub allowed : r.allowed ≡ true
   pub alone : s.layout.queue.groups.items ≡ []
   pub room : 1 < deque_capacity s.layout.queue.groups
+  pub kept : closing (not margin) r.kind r.new.start (reverse s.layout.levels.items) ≡ None
   pub live : is_live s.limit at r.new ≡ true
-  pub kept : closing false r.met.kind r.new.start (reverse s.layout.levels.items) ≡ None
-  pub kept_after : closing false VALUE at (reverse s.layout.levels.items) ≡ None
-  pub colon : (p : ℕ) → IsMarkOf s.text.chars at p → IsColon s.text.chars p at end
 
--- a plain key that was read, and the `:` after it, can be laid
-pub record CanPair (H : List Laid) (s : scanner_t) (r : ready_t) (x : yaml_lexeme_t) (end : yaml_mark_t) : Type 0 where
-  pub can : CanRead H s true r
-  pub kind : r.met.kind ≡ PLAIN
-  pub read : (p : ℕ) → IsMarkOf s.text.chars r.met.front p
-      → IsRead s.text.chars r.met.kind r.context.depth r.context.level p x
-  pub key : IsKeyBefore s r x.reach end
+-- the lexeme x, of kind k, which comes right there, decides whether it is a key
+pub record IsDecided (s : scanner_t) (margin : Bool) (r : step_t) (at : yaml_mark_t) (k : Kind) (x : yaml_lexeme_t)
+    : Type 0 where
+  pub undecided : IsUndecided s margin r at
+  pub decider : (p : ℕ) → IsMarkOf s.text.chars at p → IsDecider s.text.chars (not margin) p k x
+  pub far : x.reach.index < s.near
+
+-- a lexeme that was read can be laid, alone or with what decides whether it is a key
+pub record CanLayAll (H : List Laid) (s : scanner_t) (margin : Bool) (r : step_t) (x : yaml_lexeme_t) : Type 0 where
+  pub can : CanRead H s margin r
+  pub read : (p : ℕ) → IsMarkOf s.text.chars s.front p
+      → IsRead s.text.chars r.kind r.context.depth r.context.level p x
+  pub kept : lost_after s.limit s.slots (met_in s r) r.new x.reach ≡ None
+  pub far : x.reach.index < s.near
 
 -- a scanner that has made a step more
 abbrev pub counted : scanner_t → scanner_t
@@ -196,6 +299,9 @@ counted s = record {
   allowed = s.allowed;
   layout = s.layout;
   reach = s.reach;
+  front = s.front;
+  there = s.there;
+  kept = s.kept;
   taken = s.taken;
   made = s.made + 1;
 }
@@ -206,11 +312,18 @@ pub record AdvancesTwice (H : List Laid) (s t : scanner_t) : Type 0 where
   pub first : Advances H s between
   pub running : ended (laid s.limit H first.lexeme ∷ H) ≡ false
   pub needed : length (before s.limit (laid s.limit H first.lexeme ∷ H)) ≤ s.taken
+  pub far : between.reach.index < s.near
   pub second : Advances (laid s.limit H first.lexeme ∷ H) (counted between) t
 
--- what a quick look does: the flag says whether it made a step, or two, and if not, nothing has changed
-abbrev pub IsQuick : List Laid → scanner_t → scanner_t → Bool → Type 0
-IsQuick H s t made = (made ≡ true → Advances H s t ⊎ AdvancesTwice H s t) × (made ≡ false → t ≡ s)
+-- a step was laid, or two, which are not counted yet: how many is told
+abbrev pub IsLaidBy : List Laid → scanner_t → scanner_t → ℕ → Type 0
+IsLaidBy H s t n = ((n ≡ 1) × Advances H s t × (t.reach.index < s.near))
+    ⊎ ((n ≡ 2) × AdvancesTwice H s (counted t) × (t.reach.index < s.near))
+
+-- the next lexeme, not near the reader's fault, or the next two, both of which the next token needs
+abbrev pub Makes : List Laid → scanner_t → scanner_t → Type 0
+Makes H s u = ((t : scanner_t) × Advances H s t × (t.reach.index < s.near) × (u ≡ counted t))
+    ⊎ ((t : scanner_t) × AdvancesTwice H s (counted t) × (t.reach.index < s.near) × (u ≡ counted (counted t)))
 
 -- the offence of a step
 pub record Offends (H : List Laid) (s : scanner_t) (f : Fault) : Type 0 where
@@ -218,6 +331,24 @@ pub record Offends (H : List Laid) (s : scanner_t) (f : Fault) : Type 0 where
   pub step : step (text_of s) s.limit H ≡ Faults offence
   pub fault : offence.fault ≡ f
   pub problem : IsProblem (text_of s) offence
+
+-- f is the fault of the step: that of the scanner, or the reader's that is near it
+abbrev pub Ends : List Laid → scanner_t → Fault → Type 0
+Ends H s f = (o : Offence) × (next (input_of s) s.limit H ≡ Faults o) × (o.fault ≡ f)
+
+-- a scanner that has stopped
+pub record Stays (s t : scanner_t) : Type 0 where
+  pub same : Same s t
+  pub made : t.made ≡ s.made
+  pub reach : t.reach ≡ s.reach
+
+-- what is left of a step that stopped, since memory was refused or there is a fault
+abbrev pub Refuses : List Laid → scanner_t → scanner_t → stop_t → Type 0
+Refuses H s t stop = ((fault_at stop t.kept ≡ memory_fault) ⊎ Ends H s (fault_at stop t.kept)) × Stays s t
+
+-- a step was made, or two, or it stopped
+abbrev pub IsStep : List Laid → scanner_t → scanner_t → Result (Unit {0}) stop_t → Type 0
+IsStep H s t o = MatchResult o (λ _. Makes H s t) (λ stop. Refuses H s t stop)
 
 -- the course of an input
 unfoldable pub course_of : scanner_t → Course
@@ -230,7 +361,7 @@ history s = oldest (s.made - 1) (course_of s).read
 -- STREAM-START was made, and the session is not over
 pub record Runs (s : scanner_t) : Type 0 where
   pub small : length s.text.chars < 2 ^ 63
-  pub near : IsNearFrom s.text.chars s.near
+  pub near : IsNearOf (refusal_seen s.refusal) s.text.chars s.near
   pub holds : Holds (history s) (s.made + 1) s
   pub begun : 0 < s.made
   pub start : (course_of s).begun ≡ true
@@ -250,12 +381,6 @@ StepsOn s t = Steps s t ⊎ ((u : scanner_t) × Steps s u × (length (before u.l
 pub record IsLast (s : scanner_t) (f : Fault) : Type 0 where
   pub made : s.made ≡ length (course_of s).read + 1
   pub fault : (course_of s).fault ≡ Some f
-
--- a scanner that has stopped
-pub record Stays (s t : scanner_t) : Type 0 where
-  pub same : Same s t
-  pub made : t.made ≡ s.made
-  pub reach : t.reach ≡ s.reach
 
 -- STREAM-END was not taken
 abbrev pub IsOpen : scanner_t → Type 0

@@ -10,7 +10,7 @@ digits-init c = (record { within = omega arith; all = λ i l. absurd (omega arit
 pub returns-then-k-eq0-clause-value : goal.returns-then-k-eq0-clause-value
 returns-then-k-eq0-clause-value c =
     let d = c.digits in
-    at_start c.args.cursor.now d.cursor _ d.invariant.1 (no_number d.cursor d.k d.value c.if-k-eq0.true (rw c.peek.ensures at c.in_default.ensures.value) d.invariant.0)
+    rw c.offence.ensures (at_start c.args.cursor.now d.cursor _ d.invariant.1 (no_number d.cursor d.k d.value c.if-k-eq0.true (rw c.peek.ensures at c.in_default.ensures.value) d.invariant.0))
 
 pub returns-in_default-clause-value : goal.returns-in_default-clause-value
 returns-in_default-clause-value c =
@@ -37,7 +37,7 @@ returns-then-long-clause-value c =
     let d = c.digits in
     let all : d.k ≡ 9 = omega (arith, d.auto.k-end) in
     let long : is_digit (peek d.cursor 9) ≡ true = ap is_digit (sym c.peek-2.ensures) ∙ sym c.is_digit-long.ensures ∙ c.if-long.true in
-    rw c.skip-2.ensures (at_start c.args.cursor.now d.cursor _ d.invariant.1 (ten_digits d.cursor d.k d.value all long d.invariant.0))
+    rw (c.offence-then-long.ensures, c.skip-2.ensures) (at_start c.args.cursor.now d.cursor _ d.invariant.1 (ten_digits d.cursor d.k d.value all long d.invariant.0))
 
 pub returns-clause-value : goal.returns-clause-value
 returns-clause-value c =

@@ -12,7 +12,7 @@ pub returns-in_default : goal.returns-in_default
 returns-in_default c =
     let d = c.digits in
     let here : c.peek.result ≡ peek c.args.cursor.now d.k = c.peek.ensures ∙ ap (λ (x : Place). peek x 0) d.invariant.1 ∙ first_on d.k c.args.cursor.now in
-    no_digit c.args.cursor.now d.k c.args.n d.value c.digits-test.true c.requires (rw here at c.in_default.ensures.value) d.invariant.0
+    rw c.offence.ensures (no_digit c.args.cursor.now d.k c.args.n d.value c.digits-test.true c.requires (rw here at c.in_default.ensures.value) d.invariant.0)
 
 pub overflow_mul-value : goal.overflow_mul-value
 overflow_mul-value c =
@@ -39,7 +39,7 @@ pub returns-in_default-from_u32 : goal.returns-in_default-from_u32
 returns-in_default-from_u32 c =
     let d = c.digits in
     let all : d.k ≡ c.args.n = omega (arith, d.auto.k-end) in
-    no_scalar c.args.cursor.now c.args.n d.value (grind (arith, nat_tests)) (subst (λ (k : ℕ). Digits c.args.cursor.now k d.value) all d.invariant.0)
+    rw c.offence-in_default-from_u32.ensures (no_scalar c.args.cursor.now c.args.n d.value (grind (arith, nat_tests)) (subst (λ (k : ℕ). Digits c.args.cursor.now k d.value) all d.invariant.0))
 
 pub returns : goal.returns
 returns c =

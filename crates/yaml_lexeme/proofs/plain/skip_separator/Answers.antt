@@ -18,7 +18,7 @@ returns-then-is_bad_tab c =
     let p = c.run.cursor in
     let space : is_white (first p) ≡ true = cc in
     let tab : is_bad_tab c.args.least c.run.broken p ≡ true = cc in
-    passes_none c.args.least c.run.broken p c.args.cursor.now space tab c.run.invariant
+    rw c.offence.ensures (passes_none c.args.least c.run.broken p c.args.cursor.now space tab c.run.invariant)
 
 pub run-preserved : goal.run-preserved
 run-preserved c =

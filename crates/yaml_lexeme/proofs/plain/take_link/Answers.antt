@@ -1,8 +1,8 @@
 use Rattle.std.proofs.Common.{◌≡◌, ◌++◌, ◌∙◌, true, false, arith}
 use Rattle.std.proofs.lemmas.Result.{err_from_is_err_and}
 use Rattle.yaml_text.specs.Chars.{utf8}
-use Rattle.yaml_lexeme.specs.declared.problem.problem_t.TheVariants.{COLON_IN_FLOW}
-use Rattle.yaml_lexeme.specs.declared.problem.refusal_t.TheVariants.{OFFENCE}
+use Rattle.yaml_lexeme.specs.declared.problem.yaml_problem_t.TheVariants.{COLON_IN_FLOW}
+use Rattle.yaml_lexeme.specs.declared.problem.yaml_refusal_t.TheVariants.{OFFENCE}
 use Rattle.yaml_lexeme.specs.Classes.{is_white}
 use Rattle.yaml_lexeme.specs.Fold.{fold}
 use Rattle.yaml_lexeme.specs.Place.{first, peek, run}
@@ -45,7 +45,7 @@ returns-then-is_bad_colon-clause-value c =
     let o : is_over c.args.in_flow c.args.least q ≡ false = cc in
     let b : is_bad_colon c.args.in_flow (first q) (peek q 1) ≡ true = cc in
     let t = gap_is c.args.least p q c.in_ok-skip_separator.ensures in
-    links_none (OFFENCE COLON_IN_FLOW) c.args.in_flow c.args.least p q c.args.out.now.items (colon_there c.args.in_flow c.args.least p q (record { space = space; read = t.0 }) o b)
+    rw c.offence.ensures (links_none (OFFENCE COLON_IN_FLOW) c.args.in_flow c.args.least p q c.args.out.now.items (colon_there c.args.in_flow c.args.least p q (record { space = space; read = t.0 }) o b))
 
 pub returns-then-not-is_chunk-clause-value : goal.returns-then-not-is_chunk-clause-value
 returns-then-not-is_chunk-clause-value c =

@@ -11,7 +11,7 @@ returns-then-is_bad_colon-clause-value c =
     let q = c.line_words-piece.new.cursor in
     let bad : is_bad_colon c.args.in_flow (first q) (peek q 1) ≡ true = cc in
     let read : words c.args.in_flow c.args.least c.args.cursor.now ≡ with_front c.line_words-piece.result.now (words c.args.in_flow c.args.least q) = c.line_words-piece.ensures.goes in
-    ap (with_front c.args.out.now.items) (read ∙ ap (with_front c.line_words-piece.result.now) (words_colon c.args.in_flow c.args.least q c.line_words-piece.ensures.over bad))
+    rw c.offence.ensures (ap (with_front c.args.out.now.items) (read ∙ ap (with_front c.line_words-piece.result.now) (words_colon c.args.in_flow c.args.least q c.line_words-piece.ensures.over bad)))
 
 pub returns-clause-value : goal.returns-clause-value
 returns-clause-value c =

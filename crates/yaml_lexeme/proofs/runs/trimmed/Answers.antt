@@ -3,7 +3,7 @@ use Rattle.yaml_text.specs.Classes.{is_blank}
 use Rattle.yaml_lexeme.proofs.ManyBytes.TrimmedLists.{trim_step, trim_stop}
 use Rattle.yaml_lexeme.specs.inside.Runs.{trim}
 use Rattle.yaml_lexeme.proofs.runs.trimmed.Goals as goal
-use Rattle.yaml_lexeme.proofs.runs.trimmed.Goals.{then-blanks-test+else-is_blank_byte, else-blanks-test}
+use Rattle.yaml_lexeme.proofs.runs.trimmed.Goals.{then-blanks-test+else-is_blank, else-blanks-test}
 
 pub blanks-preserved : goal.blanks-preserved
 blanks-preserved c =
@@ -21,10 +21,10 @@ pub returns : goal.returns
 returns c =
     let xs = c.args.piece.now in
     elim c.blanks-test.branch [
-      | then-blanks-test+else-is_blank_byte w ↦
+      | then-blanks-test+else-is_blank w ↦
           let n = c.blanks.n - 1 in
           let k : suc n ≡ c.blanks.n = omega arith in
-          let solid : is_blank (get_or xs n 0) ≡ false = sym w.is_blank_byte.ensures ∙ w.if-is_blank_byte.false in
+          let solid : is_blank (get_or xs n 0) ≡ false = sym w.is_blank.ensures ∙ w.if-is_blank.false in
           ap (λ i. take i xs) (sym k) ∙ sym (trim_stop xs n (omega arith) solid) ∙ ap (λ i. trim (take i xs)) k ∙ c.blanks.invariant.0
       | else-blanks-test w ↦ no_more xs c.blanks.n (omega arith) c.blanks.invariant.0
     ]

@@ -1,7 +1,7 @@
 use Rattle.std.proofs.Common.{◌≡◌, ◌+◌, ◌-◌, suc, true, false, arith}
 use Rattle.std.proofs.lemmas.Result.{err_from_is_err_and}
-use Rattle.yaml_lexeme.specs.declared.problem.refusal_t.TheVariants as errors
-use Rattle.yaml_lexeme.specs.declared.problem.problem_t.TheVariants.{BAD_NEXT_OCTET}
+use Rattle.yaml_lexeme.specs.declared.problem.yaml_refusal_t.TheVariants as errors
+use Rattle.yaml_lexeme.specs.declared.problem.yaml_problem_t.TheVariants.{BAD_NEXT_OCTET}
 use Rattle.yaml_lexeme.proofs.Readers.UriOctets.{octets_more, octets_bad, octets_none, octets_all, appended, not_appended}
 use Rattle.yaml_lexeme.specs.Reading.{with_front}
 use Rattle.yaml_lexeme.specs.Uri.{next_octets, is_bad_next}
@@ -26,7 +26,7 @@ returns-then-is_bad_next c =
     let more : n ≡ suc m = omega arith in
     let bad : is_bad_next c.in_ok-c.c ≡ true = cc in
     let read = next_octets c.args.n c.args.cursor.now in
-    not_appended (errors.OFFENCE BAD_NEXT_OCTET) read c.args.out.now.items p (octets_bad n m c.in_ok-c.c p c.octets.out.items (with_front c.args.out.now.items read) more c.in_ok-c.ensures bad c.octets.invariant)
+    rw c.offence.ensures (not_appended (errors.OFFENCE BAD_NEXT_OCTET) read c.args.out.now.items p (octets_bad n m c.in_ok-c.c p c.octets.out.items (with_front c.args.out.now.items read) more c.in_ok-c.ensures bad c.octets.invariant))
 
 pub octets-preserved : goal.octets-preserved
 octets-preserved c =

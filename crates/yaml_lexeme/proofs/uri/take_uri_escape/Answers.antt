@@ -13,7 +13,7 @@ returns-in_err-lead c =
 pub returns-then-width-eq0 : goal.returns-then-width-eq0
 returns-then-width-eq0 c =
     let none : octet_width c.in_ok-lead.lead ≡ 0 = cc in
-    bad_lead c.in_ok-lead.lead c.args.cursor.now c.in_ok-lead.ensures none
+    rw c.offence.ensures (bad_lead c.in_ok-lead.lead c.args.cursor.now c.in_ok-lead.ensures none)
 
 pub returns : goal.returns
 returns c =

@@ -11,18 +11,19 @@ use Rattle.yaml_scan.proofs.RunningStep.FirstStep.{new_stopped, new_ended, begin
 use Rattle.yaml_scan.proofs.parser.begin.Goals as goal
 
 pub returns-in-Some : goal.returns-in-Some
-returns-in-Some c = (inr (new_ended c.args.setting c.args.input.now c.args.scanner.now c.requires c.in-Ok.front.0 c.in-Ok.ensures.front (refusal_seen c.in-Ok.front.1) c.in-Ok.ensures.refusal c.near_from-near.result (c.near_from-near.ensures.near c.in-Ok.front.0.chars c.bytes.ensures.characters c.bytes.ensures.utf8) (fault_of c.in-Some.fault) (sym c.near_start.ensures ∙ ap refusal_seen c.in-Some.is)), new_stopped c.args.setting c.args.input.now c.args.scanner.now c.requires)
+returns-in-Some c = let z = new_stopped c.args.setting c.args.input.now c.args.scanner.now c.requires in let e = new_ended c.args.setting c.args.input.now c.args.scanner.now c.requires c.in-Ok.front.0 c.in-Ok.ensures.front (refusal_seen c.in-Ok.front.1) c.in-Ok.ensures.refusal c.near_of-near.result c.near_of-near.ensures.near (fault_of c.in-Some.fault) (sym c.near_start.ensures ∙ ap refusal_seen c.in-Some.is) in
+    (inr (record { none = e.none; fault = e.fault; made = e.made }), record { limit = z.limit; taken = z.taken; done = z.done; least = z.least; most = z.most; unsettled = z.unsettled; reach = z.reach })
 
 -- the text of UTF-8 takes no memory
 pub returns-in-Err : goal.returns-in-Err
-returns-in-Err c = (inl (record { fault = c.in-Err.ensures.memory; in_utf8 = λ u. absurd (false≢true (c.in-Err.ensures.borrowed (sym (encoding_in c.args.setting c.args.input.now) ∙ u))) }), new_stopped c.args.setting c.args.input.now c.args.scanner.now c.requires)
+returns-in-Err c = let z = new_stopped c.args.setting c.args.input.now c.args.scanner.now c.requires in (inl (record { fault = c.in-Err.ensures.memory; in_utf8 = λ u. absurd (false≢true (c.in-Err.ensures.borrowed (sym (encoding_in c.args.setting c.args.input.now) ∙ u))) }), record { limit = z.limit; taken = z.taken; done = z.done; least = z.least; most = z.most; unsettled = z.unsettled; reach = z.reach })
 
 pub returns-in_err-put_stream_start : goal.returns-in_err-put_stream_start
 returns-in_err-put_stream_start c = let p = err_from_is_err_and c.from_residual.result c.from_residual.ensures.1 in let z = new_stopped c.args.setting c.args.input.now c.args.scanner.now c.requires in rw (p.1, p.2) (
-  inl (record { fault = refl; in_utf8 = λ u. begun_in c.args.scanner.now.limit c.args.setting c.args.input.now c.in-Ok.front.0 c.in-Ok.ensures.front (refusal_seen c.in-Ok.front.1) c.in-Ok.ensures.refusal c.near_from-near.result (c.near_from-near.ensures.near c.in-Ok.front.0.chars c.bytes.ensures.characters c.bytes.ensures.utf8) (sym c.near_start.ensures ∙ ap refusal_seen c.in_default.is) }),
+  inl (record { fault = refl; in_utf8 = λ u. begun_in c.args.scanner.now.limit c.args.setting c.args.input.now c.in-Ok.front.0 c.in-Ok.ensures.front (refusal_seen c.in-Ok.front.1) c.in-Ok.ensures.refusal c.near_of-near.result c.near_of-near.ensures.near (sym c.near_start.ensures ∙ ap refusal_seen c.in_default.is) }),
   record { limit = z.limit; taken = z.taken; done = c.in_err-put_stream_start.ensures.done; least = z.least; most = z.most; unsettled = z.unsettled; reach = z.reach },
 )
 
 pub returns : goal.returns
-returns c = begins c.args.setting c.args.input.now c.args.scanner.now _ c.requires c.in-Ok.ensures.front c.bytes.ensures.characters (let s = short c.in-Ok.front.0.chars in let m = c.near_from-near.ensures.small in let e = ap length c.bytes.ensures.utf8 in omega arith) c.in-Ok.ensures.refusal (c.near_from-near.ensures.near c.in-Ok.front.0.chars c.bytes.ensures.characters c.bytes.ensures.utf8)
+returns c = begins c.args.setting c.args.input.now c.args.scanner.now _ c.requires c.in-Ok.ensures.front c.near_of-near.ensures.text (let s = short c.in-Ok.front.0.chars in let m = c.near_of-near.ensures.small in omega arith) c.in-Ok.ensures.refusal c.near_of-near.ensures.near
     refl refl refl refl (subst (λ (e : yaml_encoding_t). IsQueue e c.put_stream_start.new.queue.early c.put_stream_start.new.queue.front c.put_stream_start.new.queue.groups.items (StreamStart ∷ [])) c.encoding-encoding.ensures.is c.in_ok-put_stream_start.ensures.queue) c.in_ok-put_stream_start.ensures.long c.in_ok-put_stream_start.ensures.early c.in_ok-put_stream_start.ensures.done refl refl refl (sym c.near_start.ensures ∙ ap refusal_seen c.in_default.is)

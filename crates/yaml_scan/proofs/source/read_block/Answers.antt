@@ -1,8 +1,10 @@
-use Rattle.yaml_scan.proofs.Texts.TextPlaces.{found_is, level_bytes}
+use Rattle.std.proofs.Common.{refl}
+use Rattle.yaml_lexeme.specs.Lex.{block_kind}
+use Rattle.yaml_scan.proofs.Texts.TextPlaces.{level_bytes, reads_in}
 use Rattle.yaml_scan.proofs.source.read_block.Goals as goal
 
-pub yaml_block_at_once-requires-clause-level : goal.yaml_block_at_once-requires-clause-level
-yaml_block_at_once-requires-clause-level c = level_bytes c.args.text.now.chars c.args.context.level c.requires.level
+pub yaml_read_block-requires-clause-level : goal.yaml_read_block-requires-clause-level
+yaml_read_block-requires-clause-level c = level_bytes c.args.scanner.now.text.chars c.args.context.level c.requires.level
 
 pub returns : goal.returns
-returns c = found_is c.args.text.now.chars c.args.met.kind c.args.context.depth c.args.context.level c.args.met.front c.yaml_block_at_once.result c.yaml_block_at_once.ensures
+returns c = record { read = reads_in c.args.scanner.now (block_kind c.args.folded) c.args.context c.yaml_read_block.new.there c.yaml_read_block.result c.yaml_read_block.ensures; same = refl }

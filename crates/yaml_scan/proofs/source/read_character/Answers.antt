@@ -1,5 +1,11 @@
-use Rattle.yaml_scan.proofs.Texts.TextPlaces.{found_anywhere}
+use Rattle.yaml_lexeme.specs.Lexeme.{lexeme_of}
+use Rattle.yaml_scan.proofs.Texts.TextPlaces.{read_there}
+use Rattle.yaml_scan.specs.SourceOf.{source_of}
 use Rattle.yaml_scan.proofs.source.read_character.Goals as goal
 
+pub yaml_read_character-requires-clause-place : goal.yaml_read_character-requires-clause-place
+unfolding source_of
+yaml_read_character-requires-clause-place c = c.requires.place
+
 pub returns : goal.returns
-returns c = found_anywhere c.args.text.now.chars c.args.met.kind c.args.met.front c.yaml_character_at.result c.yaml_character_at.ensures
+returns c = λ p depth level i. read_there c.args.scanner.now.text.chars c.args.kind depth level p (lexeme_of c.yaml_read_character.result) (c.yaml_read_character.ensures p (record { depth = depth; level = level }) i)

@@ -1,6 +1,7 @@
-use Rattle.std.proofs.Common.{Ok}
-use Rattle.yaml_scan.proofs.Texts.TextPlaces.{read_is}
+use Rattle.std.proofs.Common.{refl}
+use Rattle.yaml_lexeme.specs.Lex.{quoted_kind}
+use Rattle.yaml_scan.proofs.Texts.TextPlaces.{reads_in}
 use Rattle.yaml_scan.proofs.source.read_quoted.Goals as goal
 
-pub returns-in-Some : goal.returns-in-Some
-returns-in-Some c = λ p i. read_is c.args.text.now.chars c.args.met.kind c.args.context.depth c.args.context.level p (Ok c.in-Some.lexeme) (c.in-Some.ensures p c.args.context i)
+pub returns : goal.returns
+returns c = record { read = reads_in c.args.scanner.now (quoted_kind c.args.single) c.args.context c.yaml_read_quoted.new.there c.yaml_read_quoted.result (λ p i. c.yaml_read_quoted.ensures p c.args.context i); same = refl }

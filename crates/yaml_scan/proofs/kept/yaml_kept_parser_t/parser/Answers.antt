@@ -30,11 +30,13 @@ invariant_of-result c = let k = c.requires.2 in let P = k.parser in
         allowed = z.allowed;
         layout = z.layout;
         reach = z.reach;
+        front = c.args.self.reach;
+        there = c.args.self.reach;
+        kept = c.make_memory_fault.result;
         taken = z.taken;
         made = z.made;
       };
       session = z.session;
-      kept = c.make_memory_fault.result;
       empty = c.empty.result;
       lead = z.lead;
     } in

@@ -1,0 +1,20 @@
+use Rattle.std.proofs.Common.{◌≡◌, Bool, true, false, refl, subst}
+use Rattle.yaml_lexeme.specs.Answers.{ReadsAs}
+use Rattle.yaml_lexeme.specs.Lex.{lex, lexeme_at, quoted_kind, quoted_as, quoted_style}
+use Rattle.yaml_lexeme.specs.Lexeme.{lexeme, lexeme_of, whole}
+use Rattle.yaml_lexeme.specs.Place.{Place}
+use Rattle.yaml_lexeme.specs.Quoted.{quoted}
+use Rattle.yaml_lexeme.specs.declared.lex.yaml_context_t.{yaml_context_t}
+use Rattle.yaml_lexeme.proofs.lex.yaml_read_quoted.Goals as goal
+
+quoted_is : (single : Bool) (context : yaml_context_t) (p : Place) → lex (quoted_kind single) context p ≡ lexeme (whole (quoted_as (quoted_style single))) p (quoted single p)
+unfolding lex
+quoted_is true context p = refl
+quoted_is false context p = refl
+
+pub returns : goal.returns
+returns c = λ n context i.
+    let k = quoted_kind c.args.single in
+    let here = c.at-cursor.result in
+    let read = c.read_to.ensures.value k here (lex k context here) (rw (quoted_is c.args.single context here) c.take_quoted_scalar-taken.ensures) in
+    rw i.mark_is (subst (λ (q : Place). ReadsAs lexeme_of k q.mark c.read_to.new.there c.read_to.result (lexeme_at k context q)) (c.at-cursor.ensures.place n i) read)

@@ -1,0 +1,378 @@
+-- A candidate and what decides it are laid at once as they are laid one after the other.
+use Rattle.std.proofs.Common.{◌≡◌, ℕ, ◌+◌, ◌-◌, ◌≤◌, not, ◌&&◌, ◌||◌, Bool, true, false, List, [], ◌∷◌, ◌++◌, reverse, filter, length, Option, Some, None, refl, ap, sym, ◌∙◌, subst, arith, inl, inr, eqb, vec_len, eq-eqb, ltb-false, slice_set}
+use Rattle.std.specs.Prelude.{if◌then◌else◌, nat_eq, nat_lt}
+use Rattle.std.specs.Option.{is_some}
+use Rattle.std.specs.VecDeque.{deque_capacity, deque_with_item}
+use Rattle.std.proofs.lemmas.Bool.{cases_Bool, and_parts, eqb-true}
+use Rattle.std.proofs.lemmas.List.{reverse-reverse}
+use Rattle.yaml_text.specs.declared.types.yaml_mark_t.{yaml_mark_t}
+use Rattle.yaml_text.specs.declared.token.yaml_token_t.{yaml_token_t}
+use Rattle.yaml_text.specs.Token.{token_of}
+use Rattle.yaml_lexeme.specs.Lex.{decides}
+use Rattle.yaml_lexeme.specs.Lexeme.{Lexeme as yaml_lexeme_t}
+use Rattle.yaml_lexeme.specs.Place.{IsMarkOf}
+use Rattle.yaml_scan.specs.declared.groups.block_t.TheVariants.{MAPPING, NONE}
+use Rattle.yaml_scan.specs.declared.groups.group_t.{group_t}
+use Rattle.yaml_scan.specs.declared.groups.queue_t.{queue_t}
+use Rattle.yaml_scan.specs.declared.slots.slots_t.{slots_t}
+use Rattle.yaml_scan.specs.declared.levels.layout_t.{layout_t}
+use Rattle.yaml_scan.specs.declared.look.step_t.{step_t}
+use Rattle.yaml_scan.specs.declared.scanner.scanner_t.{scanner_t}
+use Rattle.yaml_scan.specs.Allowed.{allowed_after, allows}
+use Rattle.yaml_scan.specs.Depth.{depth}
+use Rattle.yaml_scan.specs.Kind.{Kind, is_candidate_kind, is_plain, is_stream_end, is_value}
+use Rattle.yaml_scan.specs.Laid.{Laid}
+use Rattle.yaml_scan.specs.Levels.{IsFalling, greatest_level, laid, stays}
+use Rattle.yaml_scan.specs.Order.{IsNotBefore, ended}
+use Rattle.yaml_scan.specs.Settled.{before}
+use Rattle.yaml_scan.specs.SourceOf.{source_of}
+use Rattle.yaml_scan.specs.Step.{front_of, place_after, problem_of, replaces}
+use Rattle.yaml_scan.specs.inside.Opened.{is_new, opened}
+use Rattle.yaml_scan.specs.inside.Queue.{begins_with_end, closing, completed_in, opened_by, pending}
+use Rattle.yaml_scan.specs.inside.Scanning.{AdvancesTwice, CanLayAll, CanPut, CanRead, Holds, IsDecided, IsMet, IsUndecided, Met, counted, met_in}
+use Rattle.yaml_scan.specs.inside.Slots.{Held, completed_held, held, is_live, is_margin_level, lost_held, lowest, nested_outer, nested_top, root_of, step_of}
+use Rattle.yaml_scan.specs.inside.StepFaults.{IsRefused}
+use Rattle.yaml_scan.specs.inside.TextReads.{IsDecider, IsRead}
+use Rattle.yaml_scan.proofs.History.HistoryOrder.{to_reach}
+use Rattle.yaml_scan.proofs.History.KindTests.{candidate_invites_none, candidate_not_end, candidate_not_flow_end, candidate_not_key, candidate_not_value, candidate_opens_nothing}
+use Rattle.yaml_scan.proofs.History.KindTests.{decider_is_value, decider_no_start, decider_not_candidate, decider_not_closer, decider_not_end, decider_not_entry, decider_not_key, decider_not_plain}
+use Rattle.yaml_scan.proofs.RunningQueue.CandidateGroup.{head_awaited, none_left}
+use Rattle.yaml_scan.proofs.RunningQueue.EmptySlots.{lowest-next}
+use Rattle.yaml_scan.proofs.RunningQueue.HeadIsNext.{settled_test}
+use Rattle.yaml_scan.proofs.RunningQueue.NoCandidates.{all_empty, nested_none, none_given_up, none_held, none_lost}
+use Rattle.yaml_scan.proofs.RunningQueue.SlotOrder.{outer_more}
+use Rattle.yaml_scan.proofs.RunningStep.LevelStack.{all_kept, closing_on, none_closed}
+use Rattle.yaml_scan.proofs.RunningStep.StepLaid.{history, levels_fall, place_then}
+use Rattle.yaml_scan.proofs.RunningStep.StepPut.{IsLaid, put_advances}
+use Rattle.yaml_scan.proofs.RunningStep.StepTests.{can_put}
+use Rattle.yaml_scan.proofs.RunningStep.TestsBefore.{allowed_is, flow_is, front_mark, kind_is, root_held, row_met}
+
+and_not : (b : Bool) → (b && false) ≡ false
+and_not true = refl
+and_not false = refl
+
+live_kept : (limit : ℕ) (m : yaml_mark_t) (h : Held) → is_live limit m h ≡ true → lost_held limit m (Some h) ≡ None
+live_kept limit m h e = rw (e, and_not h.required) refl
+
+-- the same scanner holds the same, whatever steps are counted
+counted_holds : (H : List Laid) (n : ℕ) (s : scanner_t) → Holds H n s → Holds H n (counted s)
+counted_holds H n s h = record {
+  text = h.text;
+  is_history = h.is_history;
+  number = h.number;
+  fresh = h.fresh;
+  levels = h.levels;
+  columns = h.columns;
+  outer = h.outer;
+  empty = h.empty;
+  top = h.top;
+  awaited = h.awaited;
+  allowed = h.allowed;
+  queue = h.queue;
+  count = h.count;
+  early = h.early;
+  reach = h.reach;
+  taken = h.taken;
+  place = h.place;
+}
+
+-- the token of a candidate that is the only one in the queue is not settled
+module _ (H : List Laid) (n : ℕ) (s : scanner_t) (h : Holds H n s) (y : group_t) (ALONE : s.layout.queue.groups.items ≡ y ∷ []) (LEADS : pending s.layout.queue.early s.layout.queue.front (y ∷ []) ≡ [])
+    (AWAITED : s.slots.awaited ≡ s.layout.queue.done + 1) where
+  unsettled : length (before s.limit H) ≤ s.taken
+  unsettled =
+      let q = s.layout.queue in
+      let long : length q.groups.items ≡ 1 = rw ALONE refl in
+      let some : eqb (length q.groups.items) 0 ≡ false = rw long refl in
+      let test = settled_test s.limit H h.is_history s.taken h.taken q.done (begins_with_end (pending q.early q.front q.groups.items))
+      (λ k x e l. head_awaited s.limit H k x s.taken s.text.encoding q.early q.front q.groups.items q.done h.is_history h.queue h.count e l)
+      false (sym some ∙ none_left H s.taken s.text.encoding q.early q.front q.groups.items h.queue)
+      s.slots.awaited (h.awaited ∙ ap (λ (hs : List (Option Held)). step_of (lowest hs)) (outer_more s.limit H s.slots.outer.items s.slots.top h.outer h.top)) in
+      let ends : begins_with_end (pending q.early q.front q.groups.items) ≡ false = rw (ALONE, LEADS) refl in
+      let here : not (eqb s.slots.awaited (q.done + 1) && not (begins_with_end (pending q.early q.front q.groups.items))) ≡ false = rw (ends, eq-eqb _ _ AWAITED) refl in
+      ltb-false _ _ (sym test ∙ here)
+
+-- WHAT DECIDES
+-- it is accepted after a candidate, whether a key is allowed or not, and clears none that is required
+accepted : (margin : Bool) (k : Kind) (a : Bool) (g : yaml_mark_t) → decides (not margin) k ≡ true → IsRefused (if margin && not a then problem_of k (not (is_value k)) else None) g None
+accepted false k a g e = refl
+accepted true k true g e = refl
+accepted true k false g e = rw (decider_is_value k e, decider_not_entry false k e, decider_not_key false k e) refl
+
+clears_none : (margin : Bool) (k : Kind) (a : Bool) → decides (not margin) k ≡ true → (replaces k a && margin) ≡ false
+clears_none false k a e = and_not (replaces k a)
+clears_none true k a e = rw (decider_is_value k e) refl
+
+allows_same : (f : Bool) (k : Kind) (n : ℕ) (none b : Bool) → decides f k ≡ true → allows k n none false ≡ allows k n none b
+allows_same f k n none b e = rw (decider_not_plain f k e) refl
+
+-- a lexeme that was met and read
+module _ (H : List Laid) (s : scanner_t) (margin : Bool) (r : step_t) (x : yaml_lexeme_t) (c : CanLayAll H s margin r x) (q : is_candidate_kind r.kind ≡ true) where
+  abbrev cs : List ℕ
+  cs = reverse s.layout.levels.items
+
+  abbrev kept : List ℕ
+  kept = filter (stays (not margin) r.kind r.new.start) cs
+
+  level_is : r.context.level ≡ greatest_level (reverse (reverse kept))
+  level_is = c.can.is_new.is_greatest ∙ ap greatest_level (sym (reverse-reverse kept))
+
+  read : IsRead s.text.chars r.kind r.context.depth r.context.level (front_of (source_of s.text.chars) H) x
+  read = c.read (front_of (source_of s.text.chars) H) c.can.met.front
+
+  -- where it ends
+  pub read_place : (p : ℕ) × IsMarkOf s.text.chars x.reach p
+  unfolding laid
+  read_place = (
+    _,
+    place_then H (s.made + 1) s c.can.can.holds c.can.can.running (met_in s r) c.can.met margin c.can.is_new.at_margin r.new.start c.can.is_new.start (reverse kept) (reverse-reverse kept) r.context.level level_is r.context.depth c.can.depth x read
+        (candidate_not_end r.kind q),
+  )
+
+  reach_later : IsNotBefore r.new.start x.reach
+  unfolding laid
+  reach_later =
+      let f = history H (s.made + 1) s c.can.can.holds c.can.can.running (met_in s r) c.can.met margin c.can.is_new.at_margin r.new.start c.can.is_new.start (reverse kept) (reverse-reverse kept) r.context.level level_is r.context.depth c.can.depth x read in
+      to_reach f.1
+
+-- A CANDIDATE, AND WHAT DECIDES IT
+module _ (H : List Laid) (s : scanner_t) (margin : Bool) (r : step_t) (x : yaml_lexeme_t) (c : CanLayAll H s margin r x) (k : Kind) (y : yaml_lexeme_t) (d : IsDecided s margin r x.reach k y) where
+  abbrev h : Holds H (s.made + 1) s
+  h = c.can.can.holds
+
+  abbrev u : IsUndecided s margin r x.reach
+  u = d.undecided
+
+  abbrev new : Held
+  new = r.new
+
+  abbrev ls : List ℕ
+  ls = reverse s.layout.levels.items
+
+  abbrev outer : List (Option Held)
+  outer = s.slots.outer.items
+
+  none : lowest outer ≡ None
+  none = none_held H (s.made + 1) s h u.alone
+
+  pub falls : IsFalling ls
+  falls = levels_fall H (s.made + 1) s h c.can.can.running (met_in s r) c.can.met margin c.can.is_new.at_margin new.start c.can.is_new.start
+
+  start_is : s.front ≡ new.start
+  start_is = sym (c.can.is_new.start ∙ (rw (candidate_not_end r.kind u.candidate) refl))
+
+  canput : CanPut H s (met_in s r) margin new x
+  canput = can_put H s margin r x c
+
+  -- the candidate
+  module _ (L : layout_t) (token : yaml_token_t) (TOKEN : token_of token ≡ record { token_data = x.token_data; start_mark = s.front; end_mark = x.end_mark }) (key : Bool) (KEY : key ≡ is_value k)
+      (LEVELS : reverse L.levels.items ≡ (if key && is_new margin token.start_mark.column ls then token.start_mark.column ∷ [] else []) ++ ls)
+      (GROUPS : L.queue.groups.items ≡ s.layout.queue.groups.items ++ record { ends = 0; opens = if key && is_new margin token.start_mark.column ls then MAPPING else NONE; key = key; token = token } ∷ [])
+      (CAPACITY : deque_capacity L.queue.groups ≡ deque_capacity s.layout.queue.groups) (DONE : L.queue.done ≡ s.layout.queue.done) (EARLY : L.queue.early ≡ s.layout.queue.early) where
+    -- its group, before it is decided
+    abbrev group : group_t
+    group = record { ends = 0; opens = NONE; key = false; token = token }
+
+    abbrev slots : slots_t
+    slots = record { outer = s.slots.outer; not_simple_keys = s.slots.not_simple_keys; top = Some new; awaited = new.step }
+
+    abbrev layout : layout_t
+    layout = record { levels = s.layout.levels; queue = record { groups = deque_with_item L.queue.groups 0 group; done = L.queue.done; early = L.queue.early; front = L.queue.front } }
+
+    abbrev then_allowed : Bool
+    then_allowed = is_plain r.kind && x.passed_break
+
+    abbrev pub between : scanner_t
+    between = record { alloc = s.alloc; text = s.text; refusal = s.refusal; near = s.near; limit = s.limit; slots = slots; allowed = then_allowed; layout = layout; reach = x.reach; front = s.front; there = s.there; kept = s.kept; taken = s.taken; made = s.made }
+
+    alone : slice_set L.queue.groups.items 0 group ≡ group ∷ []
+    alone = rw (GROUPS, u.alone) refl
+
+    early : L.queue.early ≡ 0
+    early = EARLY ∙ h.early c.can.can.running
+
+    column_is : token.start_mark.column ≡ new.start.column
+    column_is = ap (λ (t : Rattle.yaml_text.specs.Token.Token). t.start_mark.column) TOKEN ∙ ap (λ (m : yaml_mark_t). m.column) start_is
+
+    first : IsLaid H s (met_in s r) between
+    first = put_advances H s (met_in s r) margin new x canput slots then_allowed layout record {
+      kept = s.layout.levels.items;
+      kept_is = sym (all_kept (not margin) r.kind new.start ls falls u.kept);
+      early = 0;
+      early_none = λ z. refl;
+      early_is = early;
+      front = λ z. absurd (omega arith);
+      completed = None;
+      completed_is = rw (candidate_not_value r.kind u.candidate) refl;
+      none = true;
+      none_is = refl;
+      group = group;
+      ends_are = rw (none_closed (not margin) r.kind new.start ls falls u.kept) refl;
+      token = TOKEN ∙ (rw start_is refl);
+      key = refl;
+      opens = rw (candidate_opens_nothing r.kind true u.candidate, and_not (is_new margin new.start.column ls)) refl;
+      levels = rw (candidate_opens_nothing r.kind true u.candidate, and_not (is_new margin new.start.column ls)) refl;
+      groups = rw (alone, u.alone) refl;
+      long = rw (alone, u.alone) refl;
+      done = DONE;
+      outer = rw (u.stays, candidate_not_flow_end r.kind u.candidate, none_given_up s.limit x.reach outer none) refl;
+      top = rw (u.stays, candidate_not_flow_end r.kind u.candidate, u.candidate, u.allowed, u.live) refl;
+      empty = h.empty;
+      awaited = rw (lowest-next outer (Some new) none) refl;
+      allows = λ n e. rw (candidate_invites_none r.kind u.candidate u.stays, candidate_not_key r.kind u.candidate, candidate_not_value r.kind u.candidate, and_not (nat_eq n 0)) refl;
+    }
+
+    -- what is laid, and what holds then
+    abbrev H1 : List Laid
+    H1 = laid s.limit H first.advances.lexeme ∷ H
+
+    then_running : ended H1 ≡ false
+    unfolding laid
+    then_running = rw first.kind (candidate_not_end r.kind u.candidate)
+
+    then_holds : Holds H1 (s.made + 1 + 1) (counted between)
+    then_holds = counted_holds H1 (s.made + 1 + 1) between first.advances.holds
+
+    step_is : new.step ≡ L.queue.done + 1
+    step_is = let a = c.can.is_new.step in let n = h.number in let z = h.count in let e = ap (λ (ys : List group_t). length ys) u.alone in let w = DONE in omega arith
+
+    then_needed : length (before s.limit H1) ≤ s.taken
+    then_needed = unsettled H1 (s.made + 1 + 1) between first.advances.holds group alone (rw early refl) step_is
+
+    -- what decides it
+    abbrev front : yaml_mark_t
+    front = x.reach
+
+    abbrev met : Met
+    met = record { kind = k; front = front; allowed = then_allowed || (margin && nat_lt x.reach.line front.line) }
+
+    at_front : IsMarkOf s.text.chars front (place_after H1)
+    at_front = then_holds.place then_running
+
+    decider : IsDecider s.text.chars (not margin) (place_after H1) k y
+    decider = d.decider (place_after H1) at_front
+
+    then_front : IsMarkOf s.text.chars front (front_of (source_of s.text.chars) H1)
+    then_front = front_mark H1 (s.made + 1 + 1) (counted between) then_holds then_running margin c.can.is_new.at_margin front (rw (decider.gap then_allowed) at_front)
+
+    front_is : front_of (source_of s.text.chars) H1 ≡ place_after H1
+    front_is =
+        let flow : not margin ≡ nat_lt 0 (depth H1) = flow_is H1 (s.made + 1 + 1) (counted between) then_holds then_running margin c.can.is_new.at_margin in
+        subst (λ (f : Bool). (source_of s.text.chars).gap f (allowed_after H1) (place_after H1) ≡ place_after H1) flow (decider.gap (allowed_after H1))
+
+    kind_then : Some k ≡ (source_of s.text.chars).kind (not margin) (front_of (source_of s.text.chars) H1)
+    kind_then = rw front_is (sym decider.kind)
+
+    abbrev root : Option Held
+    root = root_of outer (Some new)
+
+    root_then : root ≡ held s.limit H1 0
+    root_then = root_held H1 (s.made + 1 + 1) (counted between) then_holds then_running margin c.can.is_new.at_margin root outer refl refl
+
+    not_lost : lost_held s.limit front root ≡ None
+    not_lost = none_lost s.limit front outer (Some new) none (live_kept s.limit front new u.live)
+
+    abbrev completed : Option Held
+    completed = completed_held k s.limit front (Some new)
+
+    completes : is_some completed ≡ not (not (is_value k))
+    completes = elim (cases_Bool (is_value k)) [ inl v ↦ rw (v, u.live) refl | inr v ↦ rw v refl ]
+
+    start_then : front ≡ Rattle.yaml_scan.specs.Step.start_at k front
+    start_then = rw (decider_not_end (not margin) k decider.decides) refl
+
+    then_met : IsMet H1 (counted between) met
+    then_met = record {
+      front = then_front;
+      allowed = allowed_is H1 (s.made + 1 + 1) (counted between) then_holds then_running margin c.can.is_new.at_margin front then_front root (lost_held s.limit front root) root_then refl not_lost (Some k) kind_then k refl met.allowed refl;
+      kind = sym (kind_is H1 (s.made + 1 + 1) (counted between) then_holds then_running margin c.can.is_new.at_margin front then_front root (lost_held s.limit front root) root_then refl not_lost (Some k) kind_then);
+      step = row_met H1 (s.made + 1 + 1) (counted between) then_holds then_running margin c.can.is_new.at_margin front then_front root (lost_held s.limit front root) root_then refl not_lost (Some k) kind_then k refl met.allowed refl
+          completed refl (not (is_value k)) completes (accepted margin k met.allowed front decider.decides) front start_then None (rw (clears_none margin k met.allowed decider.decides) refl) refl;
+    }
+
+    abbrev level : Option ℕ
+    level = greatest_level (filter (stays (not margin) k front) ls)
+
+    abbrev then_new : Held
+    then_new = record { step = s.made + 1 + 1; start = front; required = is_margin_level margin level front.column }
+
+    then_canput : CanPut H1 (counted between) met margin then_new y
+    then_canput = record {
+      can = record { holds = then_holds; running = then_running; small = c.can.can.small; few_steps = (let f = c.can.can.few_steps in omega arith); met = then_met };
+      room = record { depths = c.can.room.depths; levels = c.can.room.levels; groups = (let l : length (slice_set L.queue.groups.items 0 group) ≡ 1 = rw alone refl in let w = CAPACITY in let t = u.room in omega arith) };
+      level = level;
+      is_new = record { at_margin = c.can.is_new.at_margin; is_greatest = refl; step = refl; start = start_then; required = refl };
+      read = rw front_is (decider.read (vec_len s.slots.outer) level);
+      kept = rw (decider_not_candidate (not margin) k decider.decides) (none_lost s.limit y.reach outer None none refl);
+    }
+
+    then_kept : closing (not margin) k front ls ≡ None
+    then_kept =
+        let l = and_parts _ _ u.live in
+        let e : front.line ≡ new.start.line = eqb-true _ _ l.0 in
+        closing_on (not margin) r.kind k new.start front ls u.kept ((reach_later H s margin r x c u.candidate).column (sym e)) (decider_not_closer (not margin) k decider.decides)
+
+    at_head : new.step - 1 - L.queue.done ≡ 0
+    at_head = let e = step_is in omega arith
+
+    module _ (Q : queue_t) (value : yaml_token_t) (SAYS : token_of value ≡ record { token_data = y.token_data; start_mark = front; end_mark = y.end_mark })
+        (QUEUE : Q.groups.items ≡ L.queue.groups.items ++ record { ends = 0; opens = NONE; key = false; token = value } ∷ []) (MADE : Q.done ≡ L.queue.done) (NONE_EARLY : Q.early ≡ 0)
+        (S : slots_t) (OUTER : S.outer.items ≡ nested_outer k outer None) (TOP : S.top ≡ nested_top k outer None) (EMPTY : S.not_simple_keys ≡ vec_len S.outer) (AWAITED : S.awaited ≡ 0)
+        (a : Bool) (ALLOWED : (n : ℕ) → margin ≡ nat_eq n 0 → a ≡ allows k n (not key) false) where
+      abbrev pub after : scanner_t
+      after = record { alloc = s.alloc; text = s.text; refusal = s.refusal; near = s.near; limit = s.limit; slots = S; allowed = a; layout = record { levels = L.levels; queue = Q }; reach = y.reach; front = s.front; there = s.there; kept = s.kept; taken = s.taken; made = s.made + 1 }
+
+      abbrev last : group_t
+      last = record { ends = 0; opens = NONE; key = false; token = value }
+
+      levels_then : reverse L.levels.items ≡ opened margin completed k front ls
+      levels_then = LEVELS ∙ (rw (KEY, column_is) (elim (cases_Bool (is_value k)) [
+        | inl v ↦ rw (v, u.live) refl
+        | inr v ↦ rw (v, decider_not_entry (not margin) k decider.decides, decider_not_key (not margin) k decider.decides, v, and_not (is_new margin front.column ls)) refl
+      ]))
+
+      opens_then : NONE ≡ opened_by margin completed k front.column ls
+      opens_then = elim (cases_Bool (is_value k)) [
+        | inl v ↦ rw (v, u.live) refl
+        | inr v ↦ rw (v, decider_not_entry (not margin) k decider.decides, decider_not_key (not margin) k decider.decides, v, and_not (is_new margin front.column ls)) refl
+      ]
+
+      groups_then : Q.groups.items ≡ completed_in margin completed ls L.queue.done (slice_set L.queue.groups.items 0 group) ++ last ∷ []
+      groups_then = rw (alone, QUEUE, GROUPS, u.alone, KEY, column_is) (elim (cases_Bool (is_value k)) [
+        | inl v ↦ rw (v, u.live, at_head) refl
+        | inr v ↦ rw v refl
+      ])
+
+      nested : (lowest (nested_outer k outer None) ≡ None) × (nested_top k outer None ≡ None)
+      nested = nested_none k outer (decider_no_start (not margin) k decider.decides) none
+
+      second : IsLaid H1 (counted between) met after
+      second = put_advances H1 (counted between) met margin then_new y then_canput S a after.layout record {
+        kept = s.layout.levels.items;
+        kept_is = sym (all_kept (not margin) k front ls falls then_kept);
+        early = 0;
+        early_none = λ z. refl;
+        early_is = NONE_EARLY;
+        front = λ z. absurd (omega arith);
+        completed = completed;
+        completed_is = refl;
+        none = not (is_value k);
+        none_is = completes;
+        group = last;
+        ends_are = rw (none_closed (not margin) k front ls falls then_kept) refl;
+        token = SAYS;
+        key = refl;
+        opens = opens_then;
+        levels = levels_then;
+        groups = groups_then;
+        long = rw (alone, QUEUE, GROUPS, u.alone) refl;
+        done = MADE;
+        outer = OUTER ∙ (rw (decider_not_candidate (not margin) k decider.decides, none_given_up s.limit y.reach outer none) refl);
+        top = TOP ∙ (rw (decider_not_candidate (not margin) k decider.decides, none_given_up s.limit y.reach outer none) refl);
+        empty = (let e = all_empty (nested_outer k outer None) nested.0 in let f = ap (λ (hs : List (Option Held)). length hs) OUTER in let g = EMPTY in rw OUTER (omega arith));
+        awaited = AWAITED ∙ (rw (OUTER, TOP, nested.1, lowest-next (nested_outer k outer None) None nested.0) refl);
+        allows = λ n e. ALLOWED n e ∙ (rw KEY (allows_same (not margin) k n (not (is_value k)) y.passed_break decider.decides));
+      }
+
+      pub twice : AdvancesTwice H s after
+      twice = record { between = between; first = first.advances; running = then_running; needed = then_needed; far = c.far; second = second.advances }

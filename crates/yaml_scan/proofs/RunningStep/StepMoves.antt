@@ -1,0 +1,169 @@
+-- What changes in a scanner within a step, and what stays.
+use Rattle.std.proofs.Common.{◌≡◌, ℕ, ◌+◌, ◌≤◌, ◌<◌, not, Bool, false, List, ◌∷◌, length, reverse, filter, Option, Some, None, Ok, Err, refl, ap, sym, ◌∙◌, subst, arith, inl, inr, vec_len}
+use Rattle.std.specs.Prelude.{Result, MatchResult}
+use Rattle.yaml_text.specs.Fault.{Fault, memory_fault}
+use Rattle.yaml_text.specs.declared.types.yaml_mark_t.{yaml_mark_t}
+use Rattle.yaml_lexeme.specs.Lexeme.{Lexeme as yaml_lexeme_t}
+use Rattle.yaml_lexeme.specs.Place.{IsMarkOf}
+use Rattle.yaml_lexeme.specs.declared.lex.yaml_context_t.{yaml_context_t}
+use Rattle.yaml_lexeme.specs.declared.lexeme.yaml_lexeme_t.{yaml_lexeme_t as code_lexeme_t}
+use Rattle.yaml_lexeme.specs.declared.problem.yaml_refusal_t.{yaml_refusal_t}
+use Rattle.yaml_scan.specs.declared.fault.stop_t.{stop_t}
+use Rattle.yaml_scan.specs.declared.look.step_t.{step_t}
+use Rattle.yaml_scan.specs.declared.scanner.scanner_t.{scanner_t}
+use Rattle.yaml_scan.specs.Kind.{Kind}
+use Rattle.yaml_scan.specs.Laid.{Laid}
+use Rattle.yaml_scan.specs.Levels.{greatest_level, laid, stays}
+use Rattle.yaml_scan.specs.Order.{ended}
+use Rattle.yaml_scan.specs.Settled.{before}
+use Rattle.yaml_scan.specs.inside.Stop.{fault_at}
+use Rattle.yaml_scan.specs.inside.TextReads.{IsRead}
+use Rattle.yaml_scan.specs.inside.Scanning.{Advances, AdvancesTwice, Beside, CanRead, CanStep, Comes, Ends, HasRead, HasRoom, Holds, IsLaidBy, IsMet, IsNewHeld, IsReadIn, IsStep, Makes, Refuses, Same, Stays}
+use Rattle.yaml_scan.specs.inside.Scanning.{allowed_in, at_there, counted, met_in}
+use Rattle.std.proofs.lemmas.List.{reverse-reverse}
+use Rattle.yaml_scan.proofs.RunningStep.RoomMade.{with_room}
+use Rattle.yaml_scan.proofs.RunningStep.StepLaid.{kind_there, level_within}
+
+pub stays_same : (s t : scanner_t) → Beside s t → Stays s t
+stays_same s t b = record { same = record { text = b.text; refusal = b.refusal; near = b.near; limit = b.limit; taken = b.taken; done = b.done }; made = b.made; reach = b.reach }
+
+pub stays_on : (s t u : scanner_t) → Stays s t → Stays t u → Stays s u
+stays_on s t u a b = let p = a.same in let q = b.same in record {
+  same = record { text = q.text ∙ p.text; refusal = q.refusal ∙ p.refusal; near = q.near ∙ p.near; limit = q.limit ∙ p.limit; taken = q.taken ∙ p.taken; done = q.done ∙ p.done };
+  made = b.made ∙ a.made;
+  reach = b.reach ∙ a.reach;
+}
+
+-- READING
+pub read_in : (H : List Laid) (s : scanner_t) (margin : Bool) (r : step_t) (m : yaml_mark_t) → CanRead H s margin r → CanRead H (at_there s m) margin r
+read_in H s margin r m c = let h = c.can.holds in let e = c.met in let w = c.is_new in record {
+  can = record { holds = with_room H (s.made + 1) s (at_there s m) h refl refl refl refl refl refl refl refl refl refl refl refl refl refl; running = c.can.running; small = c.can.small; few_steps = c.can.few_steps; near = c.can.near };
+  met = record { front = e.front; allowed = e.allowed; kind = e.kind; step = e.step };
+  is_new = record { at_margin = w.at_margin; is_greatest = w.is_greatest; step = w.step; start = w.start; required = w.required };
+  depth = c.depth;
+  within = c.within;
+  there = c.there;
+  room = (let v = c.room in record { depths = v.depths; levels = v.levels; groups = v.groups });
+}
+
+-- a lexeme of one character that was read
+pub read_as_met : (s : scanner_t) (k m : Kind) (x : yaml_context_t) (l : yaml_lexeme_t) → m ≡ k → ((p depth : ℕ) (level : Option ℕ) → IsMarkOf s.text.chars s.front p → IsRead s.text.chars k depth level p l)
+    → (p : ℕ) → IsMarkOf s.text.chars s.front p → IsRead s.text.chars m x.depth x.level p l
+read_as_met s k m x l e f = λ p i. subst (λ (z : Kind). IsRead s.text.chars z x.depth x.level p l) (sym e) (f p x.depth x.level i)
+
+read_as : (s : scanner_t) (k : Kind) (x : yaml_context_t) (m : yaml_mark_t) (o : Result code_lexeme_t yaml_refusal_t) → IsReadIn s k x m o → IsReadIn (at_there s m) k x m o
+read_as s k x m (Ok l) f = f
+read_as s k x m (Err r) f = f
+
+pub read_then : (H : List Laid) (s t : scanner_t) (margin : Bool) (r : step_t) (k : Kind) (o : Result code_lexeme_t yaml_refusal_t) → CanRead H s margin r → r.kind ≡ k → HasRead s t k r.context o
+    → CanRead H t margin r × IsReadIn t r.kind r.context t.there o
+read_then H s t margin r k o c e h = (
+  subst (λ (u : scanner_t). CanRead H u margin r) (sym h.same) (read_in H s margin r t.there c),
+  subst (λ (z : Kind). IsReadIn t z r.context t.there o) (sym e) (subst (λ (u : scanner_t). IsReadIn u k r.context t.there o) (sym h.same) (read_as s k r.context t.there o h.read)),
+)
+
+pub stays_read : (s t : scanner_t) (k : Kind) (x : yaml_context_t) (o : Result code_lexeme_t yaml_refusal_t) → HasRead s t k x o → Stays s t
+stays_read s t k x o h = subst (λ (u : scanner_t). Stays s u) (sym h.same) (record { same = record { text = refl; refusal = refl; near = refl; limit = refl; taken = refl; done = refl }; made = refl; reach = refl })
+
+-- A STEP AFTER WHAT STAYS
+ends_from : (H : List Laid) (s t : scanner_t) → Stays s t → (f : Fault) → Ends H t f → Ends H s f
+ends_from H s t e f w = let q = e.same in (w.0, rw (← q.text, ← q.refusal, ← q.limit) w.1, w.2)
+
+refuses_from : (H : List Laid) (s t u : scanner_t) (stop : stop_t) → Stays s t → Refuses H t u stop → Refuses H s u stop
+refuses_from H s t u stop e w = (elim w.0 [ inl m ↦ inl m | inr v ↦ inr (ends_from H s t e _ v) ], stays_on s t u e w.1)
+
+same_from : (s t u : scanner_t) → Stays s t → Same t u → Same s u
+same_from s t u e q = let p = e.same in record { text = q.text ∙ p.text; refusal = q.refusal ∙ p.refusal; near = q.near ∙ p.near; limit = q.limit ∙ p.limit; taken = q.taken ∙ p.taken; done = q.done ∙ p.done }
+
+advances_from : (H : List Laid) (s t u : scanner_t) → Stays s t → Advances H t u → Advances H s u
+advances_from H s t u e a = let q = e.same in record {
+  lexeme = a.lexeme;
+  step = rw (← q.text, ← q.limit) a.step;
+  holds = rw (← q.limit, ← e.made) a.holds;
+  index = rw (← q.text) a.index;
+  within = rw (← q.text) a.within;
+  same = same_from s t u e a.same;
+  made = a.made ∙ e.made;
+}
+
+twice_from : (H : List Laid) (s t u : scanner_t) → Stays s t → AdvancesTwice H t u → AdvancesTwice H s u
+unfolding advances_from
+twice_from H s t u e a = let q = e.same in record {
+  between = a.between;
+  first = advances_from H s t a.between e a.first;
+  running = subst (λ (z : ℕ). ended (laid z H a.first.lexeme ∷ H) ≡ false) q.limit a.running;
+  needed = subst (λ (n : ℕ). length (before s.limit (laid s.limit H a.first.lexeme ∷ H)) ≤ n) q.taken (subst (λ (z : ℕ). length (before z (laid z H a.first.lexeme ∷ H)) ≤ t.taken) q.limit a.needed);
+  far = (let f = a.far in let n = q.near in omega arith);
+  second = subst (λ (z : ℕ). Advances (laid z H a.first.lexeme ∷ H) (counted a.between) u) q.limit a.second;
+}
+
+makes_from : (H : List Laid) (s t u : scanner_t) → Stays s t → Makes H t u → Makes H s u
+makes_from H s t u e (inl m) = let q = e.same in inl (m.0, advances_from H s t m.0 e m.1, rw (← q.near) m.2, m.3)
+makes_from H s t u e (inr m) = let q = e.same in inr (m.0, twice_from H s t (counted m.0) e m.1, rw (← q.near) m.2, m.3)
+
+pub step_from : (H : List Laid) (s t u : scanner_t) (o : Result (Unit {0}) stop_t) → Stays s t → IsStep H t u o → IsStep H s u o
+step_from H s t u (Ok x) e w = makes_from H s t u e w
+step_from H s t u (Err stop) e w = refuses_from H s t u stop e w
+
+pub stop_from : (H : List Laid) (s t u : scanner_t) (stop : stop_t) → Stays s t → Refuses H t u stop → Refuses H s u stop
+stop_from H s t u stop e w = refuses_from H s t u stop e w
+
+-- ROOM
+pub ready : (H : List Laid) (s t : scanner_t) (margin : Bool) (k : Kind) → Comes H s margin k → IsMet H s (record { kind = k; front = s.front; allowed = allowed_in s margin }) → Beside s t → HasRoom t
+    → (r : step_t) → r.kind ≡ k → r.allowed ≡ allowed_in s margin → IsNewHeld t (met_in t r) margin r.context.level r.new → r.context.depth ≡ vec_len t.slots.outer → CanRead H t margin r
+ready H s t margin k w m b room r K A new d =
+    let c = w.passes.can in
+    let can : CanStep H t = record {
+      holds = subst (λ (z : ℕ). Holds H (z + 1) t) (sym b.made) (with_room H (s.made + 1) s t c.holds b.text b.limit b.outer b.empty b.top b.awaited b.allowed b.levels b.groups b.done b.early b.queue_front b.reach b.taken);
+      running = c.running;
+      small = rw b.text c.small;
+      few_steps = rw b.made c.few_steps;
+      near = rw (b.refusal, b.text, b.near) c.near;
+    } in
+    let met : IsMet H t (met_in t r) = record {
+      front = rw (b.text, b.front) m.front;
+      allowed = A ∙ (rw b.front m.allowed);
+      kind = rw (b.text, K) m.kind;
+      step = rw (b.text, b.limit, K) m.step;
+    } in
+    let cs : List ℕ = filter (stays (not margin) r.kind r.new.start) (reverse t.layout.levels.items) in
+    let level : r.context.level ≡ greatest_level (reverse (reverse cs)) = new.is_greatest ∙ ap greatest_level (sym (reverse-reverse cs)) in
+    record {
+      can = can;
+      met = met;
+      is_new = new;
+      depth = d;
+      within = level_within H (t.made + 1) t can.holds can.running (met_in t r) met margin new.at_margin r.new.start new.start (reverse cs) (reverse-reverse cs) r.context.level level r.context.depth d;
+      there = kind_there H (t.made + 1) t can.holds can.running (met_in t r) met margin new.at_margin r.new.start new.start (reverse cs) (reverse-reverse cs) r.context.level level r.context.depth d;
+      room = room;
+    }
+
+-- THE END
+abbrev pub made_to : scanner_t → ℕ → scanner_t
+made_to s m = record {
+  alloc = s.alloc;
+  text = s.text;
+  refusal = s.refusal;
+  near = s.near;
+  limit = s.limit;
+  slots = s.slots;
+  allowed = s.allowed;
+  layout = s.layout;
+  reach = s.reach;
+  front = s.front;
+  there = s.there;
+  kept = s.kept;
+  taken = s.taken;
+  made = m;
+}
+
+abbrev pub counted_by : scanner_t → ℕ → scanner_t
+counted_by s n = made_to s (s.made + n)
+
+-- a step that was laid, or two, and counted
+pub made_all : (H : List Laid) (s t u : scanner_t) (n : ℕ) → IsLaidBy H s t n → u ≡ counted_by t n → Makes H s u
+made_all H s t u n (inl w) e = inl (t, w.1, w.2, e ∙ ap (counted_by t) w.0)
+made_all H s t u n (inr w) e = inr (t, w.1, w.2, e ∙ ap (counted_by t) w.0 ∙ twice t)
+  where
+    twice : (t : scanner_t) → counted_by t 2 ≡ counted (counted t)
+    twice t = let e : t.made + 2 ≡ t.made + 1 + 1 = omega arith in ap (λ (m : ℕ). made_to t m) e

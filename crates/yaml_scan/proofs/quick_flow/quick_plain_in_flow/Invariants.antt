@@ -1,7 +1,0 @@
-use Rattle.yaml_scan.proofs.quick_flow.quick_plain_in_flow.Given as goal
-
-abbrev pub ghost-quick_look : goal.ghost-quick_look
-ghost-quick_look g a = g.before
-
-abbrev pub ghost-quick_put : goal.ghost-quick_put
-ghost-quick_put g a = g.before

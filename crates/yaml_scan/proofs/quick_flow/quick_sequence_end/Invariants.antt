@@ -1,4 +1,0 @@
-use Rattle.yaml_scan.proofs.quick_flow.quick_sequence_end.Given as goal
-
-abbrev pub ghost-quick_lexeme : goal.ghost-quick_lexeme
-ghost-quick_lexeme g a = g.before

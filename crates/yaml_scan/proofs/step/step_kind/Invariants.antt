@@ -1,0 +1,19 @@
+use Rattle.yaml_scan.proofs.step.step_kind.Given as goal
+
+abbrev pub ghost-step_plain : goal.ghost-step_plain
+ghost-step_plain g a = g.before
+
+abbrev pub ghost-step_quoted : goal.ghost-step_quoted
+ghost-step_quoted g a = g.before
+
+abbrev pub ghost-step_literal : goal.ghost-step_literal
+ghost-step_literal g a = g.before
+
+abbrev pub ghost-step_character : goal.ghost-step_character
+ghost-step_character g a = g.before
+
+abbrev pub ghost-step_other : goal.ghost-step_other
+ghost-step_other g a = g.before
+
+abbrev pub ghost-step_quoted-2 : goal.ghost-step_quoted-2
+ghost-step_quoted-2 g a = g.before

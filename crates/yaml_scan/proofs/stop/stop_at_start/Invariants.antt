@@ -1,0 +1,4 @@
+use Rattle.yaml_scan.proofs.stop.stop_at_start.Given as goal
+
+abbrev pub ghost-stop_without : goal.ghost-stop_without
+ghost-stop_without g a = g.before

@@ -1,0 +1,4 @@
+use Rattle.yaml_scan.proofs.stop.stop_without.Given as goal
+
+abbrev pub ghost-keep_nearest : goal.ghost-keep_nearest
+ghost-keep_nearest g a = g.before

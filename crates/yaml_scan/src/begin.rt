@@ -1,0 +1,96 @@
+//! What comes before a lexeme is read: the kind has to be allowed there, and what is kept of it needs room.
+ghost use Rattle.std.specs.Prelude.{Bool, List, ◌≡◌, ◌⊎◌, true, MatchResult};
+ghost use Rattle.yaml_text.specs.Fault.{memory_fault};
+ghost use Rattle.yaml_scan.specs.Laid.{Laid};
+ghost use Rattle.yaml_scan.specs.inside.Scanning.{Beside, CanRead, Comes, HasRoom, IsMet, Refuses, Stays, allowed_in};
+ghost use Rattle.yaml_scan.specs.inside.Stop.{fault_at};
+
+use crate::allowed::is_key_allowed;
+use crate::fault::{stop_t, stopped};
+use crate::look::{cleared_by, refused_by, step_of, step_t};
+use crate::scanner::scanner_t;
+use crate::stop::{stop_at_kind, stop_at_start};
+use yaml_lexeme::yaml_lexeme_kind_t;
+
+/// Whether there is room for one more depth, level and group.
+#[inline(always)]
+fn has_room(scanner: &scanner_t) -> bool
+    ensures { result ≡ true → HasRoom scanner.now }
+{
+    scanner.slots.outer.len() < scanner.slots.outer.capacity()
+        && scanner.layout.levels.len() < scanner.layout.levels.capacity()
+        && scanner.layout.queue.groups.len() < scanner.layout.queue.groups.capacity()
+}
+
+/// Makes room for one more depth, level and group.
+#[cold]
+fn make_room(scanner: &mut scanner_t) -> Result<(), stop_t>
+    ensures { MatchResult result (λ _. HasRoom scanner.new × Beside scanner.old scanner.new)
+        (λ stop. (fault_at stop scanner.new.kept ≡ memory_fault) × Stays scanner.old scanner.new) }
+{
+    scanner.slots.outer.reserve(1)?;
+    scanner.layout.levels.reserve(1)?;
+    scanner.layout.queue.groups.reserve(1)?;
+    Ok(())
+}
+
+/// Sees that there is room for one more depth, level and group.
+#[inline(always)]
+fn ensure_room(scanner: &mut scanner_t) -> Result<(), stop_t>
+    ensures { MatchResult result (λ _. HasRoom scanner.new × Beside scanner.old scanner.new)
+        (λ stop. (fault_at stop scanner.new.kept ≡ memory_fault) × Stays scanner.old scanner.new) }
+{
+    if has_room(scanner) {
+        Ok(())
+    } else {
+        make_room(scanner)
+    }
+}
+
+/// Stops if a lexeme of the kind is not allowed after the gap, or would clear or replace a required candidate.
+#[inline(always)]
+fn refuse_kind(
+    scanner: &mut scanner_t,
+    margin: bool,
+    kind: yaml_lexeme_kind_t,
+    allowed: bool,
+) -> Result<(), stop_t>
+    ghost before: { List Laid }
+    requires comes { Comes before scanner.old margin kind }
+    requires allowed { allowed ≡ allowed_in scanner.old margin }
+    ensures { MatchResult result
+        (λ _. IsMet before scanner.old record { kind = kind; front = scanner.old.front; allowed = allowed }
+        × (scanner.new ≡ scanner.old)) (λ stop. Refuses before scanner.old scanner.new stop) }
+{
+    if refused_by(scanner, margin, kind, allowed).is_some() {
+        return Err(stop_at_kind(scanner, margin, kind));
+    }
+    if cleared_by(scanner, margin, kind, allowed).is_some() {
+        return Err(stop_at_start(scanner, margin, kind));
+    }
+    Ok(())
+}
+
+/// Begins the step of a lexeme of a kind, which comes after the gap. `margin`: the scanner is at depth 0.
+#[inline(always)]
+pub(crate) fn begin_step(
+    scanner: &mut scanner_t,
+    margin: bool,
+    kind: yaml_lexeme_kind_t,
+) -> Result<step_t, stop_t>
+    ghost before: { List Laid }
+    requires { Comes before scanner.old margin kind }
+    ensures { MatchResult result
+        (λ step. CanRead before scanner.new margin step × (step.kind ≡ kind) × Stays scanner.old scanner.new)
+        (λ stop. Refuses before scanner.old scanner.new stop) }
+{
+    let allowed = is_key_allowed(scanner.allowed, margin, scanner.reach, scanner.front);
+    match refuse_kind(scanner, margin, kind, allowed) {
+        Ok(_) => {}
+        Err(stop) => return Err(stopped(stop)),
+    }
+    match ensure_room(scanner) {
+        Ok(_) => Ok(step_of(scanner, margin, kind, allowed)),
+        Err(stop) => Err(stopped(stop)),
+    }
+}

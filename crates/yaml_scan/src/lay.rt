@@ -1,0 +1,79 @@
+//! What the layout makes of a lexeme.
+ghost use Rattle.std.specs.Prelude.{◌≡◌, ◌<◌, ◌==◌, ◌++◌, ◌∷◌, List, [], map, vec_len};
+ghost use Rattle.std.specs.Vec.{vec_capacity};
+ghost use Rattle.yaml_text.specs.Token.{data_of, token_of};
+ghost use Rattle.yaml_lexeme.specs.Lexeme.{lexeme_of};
+ghost use Rattle.yaml_scan.specs.Laid.{Laid};
+ghost use Rattle.yaml_scan.specs.inside.Scanning.{Advances, CanPut, met_in};
+ghost use Rattle.yaml_scan.specs.inside.Slots.{AreNested, empty_slots, lowest, nested_outer, nested_top, slot_after};
+ghost use Rattle.yaml_scan.specs.inside.Slots.{step_of, still_held};
+
+use crate::allowed::is_allowed_after;
+use crate::keys::{completed_by, move_slots, settle};
+use crate::levels::{close_levels, put_group, put_key};
+use crate::look::step_t;
+use crate::scanner::scanner_t;
+use crate::slots::slots_t;
+use yaml_lexeme::yaml_lexeme_t;
+use yaml_text::{yaml_mark_t, yaml_token_t};
+
+/// The token of a lexeme that starts at a mark.
+#[inline(always)]
+pub(crate) fn token_of(start: yaml_mark_t, lexeme: yaml_lexeme_t) -> yaml_token_t
+    ensures { token_of result ≡ record {
+      token_data = data_of lexeme.token_data;
+      start_mark = start;
+      end_mark = lexeme.end_mark;
+    } }
+{
+    yaml_token_t {
+        token_data: lexeme.token_data,
+        start_mark: start,
+        end_mark: lexeme.end_mark,
+    }
+}
+
+/// Changes the candidates after a lexeme that was read to a mark. There is room for one more depth. `margin`: the
+/// lexeme is at depth 0.
+#[inline(always)]
+fn keep_candidates(slots: &mut slots_t, margin: bool, step: step_t, limit: u64, mark: yaml_mark_t)
+    requires margin { margin ≡ vec_len slots.old.outer == 0 }
+    requires empty { slots.old.not_simple_keys ≡ empty_slots slots.old.outer.items }
+    requires nested { AreNested slots.old.outer.items }
+    requires room { vec_len slots.old.outer < vec_capacity slots.old.outer }
+    ensures outer { slots.new.outer.items
+        ≡ nested_outer step.kind (map (still_held limit mark) slots.old.outer.items)
+        (still_held limit mark (slot_after step.kind step.allowed step.new slots.old.top)) }
+    ensures top { slots.new.top
+        ≡ nested_top step.kind (map (still_held limit mark) slots.old.outer.items)
+        (still_held limit mark (slot_after step.kind step.allowed step.new slots.old.top)) }
+    ensures empty { slots.new.not_simple_keys ≡ empty_slots slots.new.outer.items }
+    ensures awaited { slots.new.awaited ≡ step_of (lowest (slots.new.outer.items ++ slots.new.top ∷ [])) }
+{
+    settle(&mut slots.top, step.kind, step.allowed, step.new);
+    move_slots(slots, margin, step.kind, limit, mark);
+}
+
+/// Lays the lexeme of a step, which was read: changes levels, queue and candidates. There is room, and no candidate is
+/// lost. `margin`: it is at depth 0.
+#[inline(always)]
+pub(crate) fn put_lexeme(scanner: &mut scanner_t, margin: bool, step: step_t, lexeme: yaml_lexeme_t)
+    ghost before: { List Laid }
+    requires { CanPut before scanner.old (met_in scanner.old step) margin step.new (lexeme_of lexeme) }
+    ensures laid { Advances before scanner.old scanner.new }
+    ensures reach { scanner.new.reach ≡ (lexeme_of lexeme).reach }
+{
+    let kind = step.kind;
+    let front = scanner.front;
+    let start = step.new.start;
+    let reach = lexeme.reach;
+    let passed_break = lexeme.passed_break;
+    let closed = close_levels(&mut scanner.layout.levels, !margin, kind, front, start);
+    let completed = completed_by(kind, scanner.slots.top, scanner.limit, start);
+    keep_candidates(&mut scanner.slots, margin, step, scanner.limit, reach);
+    let opens = put_key(&mut scanner.layout, margin, completed, kind, start);
+    let token = token_of(start, lexeme);
+    put_group(&mut scanner.layout.queue, closed, front, opens, token);
+    scanner.allowed = is_allowed_after(kind, margin, completed.is_none(), passed_break);
+    scanner.reach = reach;
+}

@@ -1,0 +1,144 @@
+//! What a step tests before and after it reads its lexeme.
+ghost use Rattle.std.specs.Prelude.{◌≡◌, ◌+◌, ◌<◌, ◌^◌, ◌&&◌, ◌==◌, not, if◌then◌else◌, None, reverse, vec_len};
+ghost use Rattle.std.specs.Option.{is_some, option_copied};
+ghost use Rattle.yaml_scan.specs.Levels.{IsFalling};
+ghost use Rattle.yaml_scan.specs.Step.{problem_of};
+ghost use Rattle.yaml_scan.specs.inside.Scanning.{IsNewHeld, cleared_in, met_in, refused_in};
+ghost use Rattle.yaml_scan.specs.inside.Slots.{is_margin_level, root_of, slot_after};
+
+use crate::keys::{completed_by, needed_at, root_at, settle};
+use crate::kind::{is_candidate, is_colon, start_after};
+use crate::levels::{is_level, level_at};
+use crate::scanner::scanner_t;
+use crate::slots::{held_t, slots_t};
+use yaml_lexeme::{yaml_context_t, yaml_lexeme_kind_t};
+use yaml_text::yaml_mark_t;
+
+/// What a lexeme is read and laid with.
+#[derive(Clone, Copy)]
+pub(crate) struct step_t {
+    pub kind: yaml_lexeme_kind_t,
+    /// Whether a key is allowed there.
+    pub allowed: bool,
+    /// What is kept of the lexeme, if it is a candidate.
+    pub new: held_t,
+    pub context: yaml_context_t,
+}
+
+/// What is wrong with a kind if no key is allowed at depth 0. `none`: it completes nothing.
+#[inline(always)]
+pub(crate) fn problem(kind: yaml_lexeme_kind_t, none: bool) -> Option<&'static str>
+    ensures { option_copied result ≡ problem_of kind none }
+{
+    match kind {
+        yaml_lexeme_kind_t::BLOCK_ENTRY => {
+            Some("block sequence entries are not allowed in this context")
+        }
+        yaml_lexeme_kind_t::KEY => Some("mapping keys are not allowed in this context"),
+        yaml_lexeme_kind_t::VALUE if none => {
+            Some("mapping values are not allowed in this context")
+        }
+        _ => None,
+    }
+}
+
+/// What is wrong with a kind after the gap, if it needs an allowed key and none is allowed.
+#[inline(always)]
+pub(crate) fn refused_by(
+    scanner: &scanner_t,
+    margin: bool,
+    kind: yaml_lexeme_kind_t,
+    allowed: bool,
+) -> Option<&'static str>
+    ensures { option_copied result ≡ refused_in scanner.now margin kind allowed }
+{
+    if !margin || allowed {
+        return None;
+    }
+    let completed = completed_by(kind, scanner.slots.top, scanner.limit, scanner.front);
+    problem(kind, completed.is_none())
+}
+
+/// The required candidate that a lexeme of a kind after the gap would clear or replace.
+#[inline(always)]
+pub(crate) fn cleared_by(
+    scanner: &scanner_t,
+    margin: bool,
+    kind: yaml_lexeme_kind_t,
+    allowed: bool,
+) -> Option<held_t>
+    ensures { result ≡ cleared_in scanner.now margin kind allowed }
+{
+    if !is_colon(kind) && (!is_candidate(kind) || allowed) && margin {
+        needed_at(scanner.slots.top, scanner.limit, scanner.front)
+    } else {
+        None
+    }
+}
+
+/// The flow depth. `margin`: it is 0. Written so, the compiler knows whether it is 0 if it knows `margin`.
+#[inline(always)]
+fn depth_at(slots: &slots_t, margin: bool) -> u64
+    requires { margin ≡ vec_len slots.now.outer == 0 }
+    ensures { result ≡ vec_len slots.now.outer }
+{
+    if margin {
+        0
+    } else {
+        slots.outer.len().max(1) as u64
+    }
+}
+
+/// What is kept of a lexeme of this step that starts at a mark, if it is a candidate.
+#[inline(always)]
+fn new_candidate(step: u64, start: yaml_mark_t, margin: bool, level: Option<u64>) -> held_t
+    ensures { result ≡ record { step = step; start = start; required = is_margin_level margin level start.column } }
+{
+    held_t {
+        step,
+        start,
+        required: is_level(margin, level, start.column),
+    }
+}
+
+/// What a lexeme of a kind after the gap is read and laid with.
+#[inline(always)]
+pub(crate) fn step_of(
+    scanner: &scanner_t,
+    margin: bool,
+    kind: yaml_lexeme_kind_t,
+    allowed: bool,
+) -> step_t
+    requires margin { margin ≡ vec_len scanner.now.slots.outer == 0 }
+    requires falls { IsFalling (reverse scanner.now.layout.levels.items) }
+    requires line { scanner.now.front.line + 1 < 2 ^ 64 }
+    requires made { scanner.now.made + 1 < 2 ^ 64 }
+    ensures kind { result.kind ≡ kind }
+    ensures allowed { result.allowed ≡ allowed }
+    ensures new { IsNewHeld scanner.now (met_in scanner.now result) margin result.context.level result.new }
+    ensures depth { result.context.depth ≡ vec_len scanner.now.slots.outer }
+{
+    let start = start_after(kind, scanner.front);
+    let level = level_at(&scanner.layout.levels, !margin, kind, start);
+    step_t {
+        kind,
+        allowed,
+        new: new_candidate(scanner.made + 1, start, margin, level),
+        context: yaml_context_t {
+            depth: depth_at(&scanner.slots, margin),
+            level,
+        },
+    }
+}
+
+/// The candidate of depth 0 after the lexeme of a step. `margin`: the lexeme is at depth 0.
+#[inline(always)]
+pub(crate) fn root_after(scanner: &scanner_t, margin: bool, step: step_t) -> Option<held_t>
+    requires { margin ≡ vec_len scanner.now.slots.outer == 0 }
+    ensures { result ≡ root_of scanner.now.slots.outer.items
+        (slot_after step.kind step.allowed step.new scanner.now.slots.top) }
+{
+    let mut top = scanner.slots.top;
+    settle(&mut top, step.kind, step.allowed, step.new);
+    root_at(&scanner.slots.outer, top, margin)
+}

@@ -1,0 +1,212 @@
+//! Why a step stops. These functions are cold, and find again what the step has tested.
+ghost use Rattle.std.specs.Prelude.{Bool, List, ◌≡◌, not, true, Some, None, Err};
+ghost use Rattle.std.specs.Option.{is_some};
+ghost use Rattle.yaml_text.specs.Decode.{refusal_seen};
+ghost use Rattle.yaml_text.specs.Fault.{Fault, fault_of, scanner_fault};
+ghost use Rattle.yaml_lexeme.specs.Lexeme.{Lexeme as yaml_lexeme_t};
+ghost use Rattle.yaml_lexeme.specs.Place.{IsMarkOf};
+ghost use Rattle.yaml_scan.specs.declared.look.step_t.{step_t};
+ghost use Rattle.yaml_scan.specs.Fault.{no_colon, in_simple_key};
+ghost use Rattle.yaml_scan.specs.Laid.{Laid};
+ghost use Rattle.yaml_scan.specs.SourceOf.{source_of};
+ghost use Rattle.yaml_scan.specs.Step.{front_of};
+ghost use Rattle.yaml_scan.specs.inside.Slots.{lost_held, root_of};
+ghost use Rattle.yaml_scan.specs.inside.Scanning.{CanRead, CanStep, Comes, Ends, IsBehind, IsReadIn, Offends};
+ghost use Rattle.yaml_scan.specs.inside.Scanning.{Passes, Refuses};
+ghost use Rattle.yaml_scan.specs.inside.Scanning.{allowed_in, cleared_in, refused_in};
+
+use crate::allowed::is_key_allowed;
+use crate::fault::{make_scanner_fault, stop_t};
+use crate::keys::{lost_at, root};
+use crate::kind::start_after;
+use crate::look::{cleared_by, refused_by, root_after, step_of};
+use crate::scanner::scanner_t;
+use crate::slots::held_t;
+use yaml_lexeme::{yaml_lexeme_fault, yaml_lexeme_kind_t, yaml_refusal_t};
+use yaml_text::{yaml_fault_t, yaml_mark_t};
+
+/// A fault of the scanner, or the reader's if that is near it.
+fn nearest(scanner: &scanner_t, fault: yaml_fault_t) -> yaml_fault_t
+    ghost before: { List Laid }
+    requires can { CanStep before scanner.now }
+    requires offends { Offends before scanner.now (fault_of fault) }
+    ensures { Ends before scanner.now (fault_of result) }
+{
+    match scanner.refusal {
+        Some(refused) => if scanner.near <= fault.problem_mark.index {
+            refused
+        } else {
+            fault
+        },
+        None => fault,
+    }
+}
+
+/// Keeps a fault of the scanner, or the reader's if that is near it.
+fn keep_nearest(scanner: &mut scanner_t, fault: yaml_fault_t) -> stop_t
+    ghost before: { List Laid }
+    requires can { CanStep before scanner.old }
+    requires offends { Offends before scanner.old (fault_of fault) }
+    ensures { Refuses before scanner.old scanner.new result }
+{
+    scanner.kept = nearest(scanner, fault);
+    stop_t::FAULT
+}
+
+/// Stops near the reader's fault.
+fn stop_near(scanner: &mut scanner_t) -> stop_t
+    ghost before: { List Laid }
+    requires { (f : Fault) × (refusal_seen scanner.old.refusal ≡ Some f) × Ends before scanner.old f }
+    ensures { Refuses before scanner.old scanner.new result }
+{
+    match scanner.refusal {
+        Some(refused) => {
+            scanner.kept = refused;
+            stop_t::FAULT
+        }
+        None => unreachable!(),
+    }
+}
+
+/// Stops at a mark, since a candidate is lost.
+fn stop_without(scanner: &mut scanner_t, held: held_t, mark: yaml_mark_t) -> stop_t
+    ghost before: { List Laid }
+    requires can { CanStep before scanner.old }
+    requires offends { Offends before scanner.old (scanner_fault no_colon mark (Some in_simple_key) held.start) }
+    ensures { Refuses before scanner.old scanner.new result }
+{
+    let fault = make_scanner_fault(
+        "could not find expected ':'",
+        mark,
+        Some("while scanning a simple key"),
+        held.start,
+    );
+    keep_nearest(scanner, fault)
+}
+
+/// Stops at the end of the gap, since the candidate of depth 0 is lost there.
+#[cold]
+pub(crate) fn stop_in_gap(scanner: &mut scanner_t) -> stop_t
+    ghost before: { List Laid }
+    requires can { CanStep before scanner.old }
+    requires front { IsMarkOf scanner.old.text.chars scanner.old.front
+        (front_of (source_of scanner.old.text.chars) before) }
+    requires lost { is_some (lost_held scanner.old.limit scanner.old.front
+        (root_of scanner.old.slots.outer.items scanner.old.slots.top)) ≡ true }
+    ensures { Refuses before scanner.old scanner.new result }
+{
+    let front = scanner.front;
+    let root = root(&scanner.slots.outer, scanner.slots.top);
+    match lost_at(root, scanner.limit, front) {
+        Some(held) => stop_without(scanner, held, front),
+        None => unreachable!(),
+    }
+}
+
+/// Stops after the gap, since no lexeme starts there.
+#[cold]
+pub(crate) fn stop_without_kind(scanner: &mut scanner_t) -> stop_t
+    ghost before: { List Laid }
+    requires { (margin : Bool) × Passes before scanner.old margin
+        × ((source_of scanner.old.text.chars).kind (not margin)
+        (front_of (source_of scanner.old.text.chars) before) ≡ None) }
+    ensures { Refuses before scanner.old scanner.new result }
+{
+    let front = scanner.front;
+    let fault = make_scanner_fault(
+        "found character that cannot start any token",
+        front,
+        Some("while scanning for the next token"),
+        front,
+    );
+    keep_nearest(scanner, fault)
+}
+
+/// Stops after the gap, since the kind of the lexeme there needs an allowed key and none is allowed.
+#[cold]
+pub(crate) fn stop_at_kind(
+    scanner: &mut scanner_t,
+    margin: bool,
+    kind: yaml_lexeme_kind_t,
+) -> stop_t
+    ghost before: { List Laid }
+    requires comes { Comes before scanner.old margin kind }
+    requires refused { is_some (refused_in scanner.old margin kind (allowed_in scanner.old margin)) ≡ true }
+    ensures { Refuses before scanner.old scanner.new result }
+{
+    let front = scanner.front;
+    let allowed = is_key_allowed(scanner.allowed, margin, scanner.reach, front);
+    match refused_by(scanner, margin, kind, allowed) {
+        Some(problem) => {
+            let fault = make_scanner_fault(problem, front, None, front);
+            keep_nearest(scanner, fault)
+        }
+        None => unreachable!(),
+    }
+}
+
+/// Stops at the start of a lexeme, since it would clear or replace a required candidate.
+#[cold]
+pub(crate) fn stop_at_start(
+    scanner: &mut scanner_t,
+    margin: bool,
+    kind: yaml_lexeme_kind_t,
+) -> stop_t
+    ghost before: { List Laid }
+    requires comes { Comes before scanner.old margin kind }
+    requires accepted { refused_in scanner.old margin kind (allowed_in scanner.old margin) ≡ None }
+    requires cleared { is_some (cleared_in scanner.old margin kind (allowed_in scanner.old margin)) ≡ true }
+    ensures { Refuses before scanner.old scanner.new result }
+{
+    let front = scanner.front;
+    let allowed = is_key_allowed(scanner.allowed, margin, scanner.reach, front);
+    match cleared_by(scanner, margin, kind, allowed) {
+        Some(held) => stop_without(scanner, held, start_after(kind, front)),
+        None => unreachable!(),
+    }
+}
+
+/// Stops in a lexeme that was refused.
+#[cold]
+pub(crate) fn stop_in_lexeme(
+    scanner: &mut scanner_t,
+    kind: yaml_lexeme_kind_t,
+    refusal: yaml_refusal_t,
+) -> stop_t
+    ghost before: { List Laid }
+    requires { (margin : Bool) × (step : step_t) × CanRead before scanner.old margin step × (step.kind ≡ kind)
+        × IsReadIn scanner.old kind step.context scanner.old.there (Err refusal) }
+    ensures { Refuses before scanner.old scanner.new result }
+{
+    match refusal {
+        yaml_refusal_t::MEMORY => stop_t::MEMORY,
+        yaml_refusal_t::OFFENCE(_) => {
+            let fault = yaml_lexeme_fault(refusal, kind, scanner.front, scanner.there);
+            keep_nearest(scanner, fault)
+        }
+    }
+}
+
+/// Stops after a lexeme that was read: near the reader's fault, or since a candidate is lost there.
+#[cold]
+pub(crate) fn stop_behind(
+    scanner: &mut scanner_t,
+    margin: bool,
+    kind: yaml_lexeme_kind_t,
+    allowed: bool,
+) -> stop_t
+    ghost before: { List Laid }
+    requires { (step : step_t) × (lexeme : yaml_lexeme_t) × IsBehind before scanner.old margin step lexeme
+        × (step.kind ≡ kind) × (step.allowed ≡ allowed) }
+    ensures { Refuses before scanner.old scanner.new result }
+{
+    let there = scanner.there;
+    if scanner.near <= there.index {
+        return stop_near(scanner);
+    }
+    let step = step_of(scanner, margin, kind, allowed);
+    match lost_at(root_after(scanner, margin, step), scanner.limit, there) {
+        Some(held) => stop_without(scanner, held, there),
+        None => unreachable!(),
+    }
+}
