@@ -1,8 +1,9 @@
 -- Digits that are written before a place, the last ones first, are those of the number.
 use Rattle.std.proofs.Common.{◌≡◌, ℕ, ◌+◌, ◌-◌, ◌/◌, ◌%◌, ◌^◌, ◌<◌, ◌≤◌, List, [], ◌∷◌, ◌++◌, length, drop, set}
-use Rattle.std.proofs.Common.{sym, ap, ◌∙◌, append_assoc, arith, length-append, length-drop, length-set}
+use Rattle.std.proofs.Common.{sym, ap, ◌∙◌, append_assoc, append-nil, arith, length-append, length-drop, length-set}
 use Rattle.std.specs.Fmt.{decimal}
 use Rattle.std.proofs.lemmas.List.{drop-set, drop-drop}
+use Rattle.yamltok.specs.Put.{pair_text}
 use Rattle.std.proofs.lemmas.Fmt.{decimal_step, decimal_digit, length-decimal-le}
 
 -- there is room for the digits that are left
@@ -91,3 +92,7 @@ length_more n some fits =
     pair_more n [] some fits in
     let lengths : length (decimal (n / 100)) + 2 ≡ length (decimal n) + 0 = simp length-append at (ap length whole) in
     omega (arith, lengths)
+
+-- the two last digits of a number of more than two are those of its remainder
+pub pair_last : (n : ℕ) → 100 ≤ n → n < 2 ^ 64 → decimal (n / 100) ++ pair_text (n % 100) ≡ decimal n
+pair_last n some fits = pair_more n [] some fits ∙ append-nil (decimal n)

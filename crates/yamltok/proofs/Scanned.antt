@@ -1,5 +1,5 @@
 -- What was written of a scan is its listing.
-use Rattle.std.proofs.Common.{◌≡◌, ◌++◌, [], ℕ, List, Option, ap, ◌∙◌, refl}
+use Rattle.std.proofs.Common.{◌≡◌, ◌++◌, ℕ, List, Option, ap, ◌∙◌, refl}
 use Rattle.std.specs.Prelude.{IfSome, is_some}
 use Rattle.yaml_text.specs.declared.types.yaml_encoding_t.{yaml_encoding_t}
 use Rattle.yaml_text.specs.Fault.{Fault}
@@ -10,27 +10,24 @@ use Rattle.yaml_scan.proofs.SessionCalls.ListWords.{reads_have_lines}
 use Rattle.yamltok.specs.Listing.{token_lines, fault_lines}
 use Rattle.yamltok.specs.Run.{ListsScan}
 
--- the lines of what a sink was given follow those before
-abbrev pub Tells : ℕ → yaml_encoding_t → (input before told : List ℕ) → Option Fault → Type 0
-Tells limit setting input before told fault =
-    IsGivenAll (λ tokens. told ≡ before ++ token_lines tokens) limit setting input fault
+-- the lines of what a sink was given
+abbrev pub Tells : ℕ → yaml_encoding_t → (input told : List ℕ) → Option Fault → Type 0
+Tells limit setting input told fault = IsGivenAll (λ tokens. told ≡ token_lines tokens) limit setting input fault
 
-module _ (limit : ℕ) (setting : yaml_encoding_t) (input before told : List ℕ) (fault : Option Fault) where
+module _ (limit : ℕ) (setting : yaml_encoding_t) (input told : List ℕ) (fault : Option Fault) where
   -- the fault has a line
-  pub fault_has_line : Tells limit setting input before told fault → IfSome fault HasLine
+  pub fault_has_line : Tells limit setting input told fault → IfSome fault HasLine
   fault_has_line given = (reads_have_lines limit setting input given.tokens fault given.reads).1
 
   -- the lines are those of the tokens, and of the fault
-  pub lists_scan : Tells limit setting input before told fault → (lines : List ℕ) → before ≡ []
-      → lines ≡ told ++ fault_lines fault → ListsScan limit setting input lines (is_some fault)
-  lists_scan given lines none more =
-      let alone : told ≡ token_lines given.tokens =
-      given.given ∙ ap (λ (z : List ℕ). z ++ token_lines given.tokens) none in
+  pub lists_scan : Tells limit setting input told fault → (lines : List ℕ) → lines ≡ told ++ fault_lines fault
+      → ListsScan limit setting input lines (is_some fault)
+  lists_scan given lines more =
       record {
         tokens = given.tokens;
         fault = fault;
         answers = given.reads;
         early = λ e. reads_early limit setting input given.tokens fault given.reads e;
-        lines_are = more ∙ ap (λ (z : List ℕ). z ++ fault_lines fault) alone;
+        lines_are = more ∙ ap (λ (z : List ℕ). z ++ fault_lines fault) given.given;
         fault_is = refl;
       }

@@ -1,18 +1,16 @@
 //! The listing of a command's answer to an input.
-ghost use Rattle.std.specs.Prelude.{◌≡◌, true, map, IfOk};
+ghost use Rattle.std.specs.Prelude.{◌≡◌, ◌≤◌, true, map, vec_len, IfOk};
 ghost use Rattle.std.specs.List.{list_any};
 ghost use Rattle.yaml_scan.specs.Seen.{call_of, seen_of};
 ghost use Rattle.yaml_scan.specs.CallWords.{SeenHaveLines};
 ghost use Rattle.yamltok.specs.Args.{is_limit, is_right};
-ghost use Rattle.std.specs.Prelude.{◌++◌, OnErr, OnOk};
-ghost use Rattle.yaml_text.specs.Token.{data_of, token_of};
-ghost use Rattle.yaml_scan.specs.Words.{HasWords};
-ghost use Rattle.yamltok.specs.Listing.{is_fault, token_line};
+ghost use Rattle.yamltok.specs.Listing.{is_fault};
 ghost use Rattle.yamltok.specs.Run.{Lists, ListsDecode, ListsScan, AnswersCalls, ListsCalls, call_for, calls_in};
 
 use crate::args::yaml_command_t;
-use crate::line::{LINE, put_end, set_line};
-use crate::listing::{list_answers, list_by_parts, list_fault, list_text};
+use crate::line::put_line;
+use crate::listing::{list_answers, list_fault, list_text};
+use crate::mark::kept_mark_t;
 use std::alloc::{AllocError, Global};
 use yaml_scan::{
     yaml_answer_t, yaml_call_t, yaml_parser_t, yaml_run, yaml_scan_to, yaml_token_sink_t,
@@ -43,44 +41,51 @@ fn list_decoded(
     }
 }
 
-/// Appends the line of a token to `out`, part by part, and drops the token. If memory is refused, `out` is as before.
-///
-/// The token is moved here, so that a token whose line is made whole can stay in registers.
-#[inline(never)]
-fn list_moved(token: yaml_token_t, out: &mut Vec<u8>) -> Result<(), AllocError>
-    requires { HasWords (data_of token.token_data) }
-    ensures ok { OnOk result (out.new.items ≡ out.old.items ++ token_line (token_of token)) }
-    ensures err { OnErr result (out.new.items ≡ out.old.items) }
-{
-    list_by_parts(&token, out)
-}
-
-/// The lines of the tokens that were given, and the stage where a line is made.
+/// The lines of the tokens that were given, at the beginning of bytes, and the last mark.
 #[derive(Drop)]
 struct token_lines_t {
-    lines: Vec<u8>,
-    stage: [u8; LINE],
+    bytes: Vec<u8>,
+    len: usize,
+    kept: kept_mark_t,
+    ghost within: { len ≤ vec_len bytes },
+}
+
+impl token_lines_t {
+    ghost use Rattle.std.specs.Prelude.{◌≡◌, take};
+
+    /// The lines alone.
+    fn into_lines(self) -> Vec<u8>
+        ensures { result.items ≡ take self.len self.bytes.items }
+    {
+        let token_lines_t {
+            mut bytes,
+            len,
+            kept: _,
+        } = self;
+        bytes.truncate(len);
+        bytes
+    }
 }
 
 impl yaml_token_sink_t for token_lines_t {
-    ghost use Rattle.std.specs.Prelude.{◌≡◌, ◌++◌};
+    ghost use Rattle.std.specs.Prelude.{◌≡◌, ◌++◌, take};
     ghost use Rattle.yamltok.specs.Listing.{token_lines};
     ghost use Rattle.yamltok.specs.Lines.{lines_none, lines_more};
 
-    ghost took = { λ a tokens b. b.lines.items ≡ a.lines.items ++ token_lines tokens };
+    ghost took = { λ a tokens b. take b.len b.bytes.items ≡ take a.len a.bytes.items ++ token_lines tokens };
 
     ghost may_refuse = { Unit {0} };
 
+    #[inline(always)]
     fn put(&mut self, token: yaml_token_t) -> Result<(), AllocError> {
-        match set_line(&mut self.stage, &token) {
-            Some(at) => put_end(&mut self.lines, &self.stage, at),
-            None => list_moved(token, &mut self.lines),
-        }
+        self.len = put_line(&mut self.bytes, self.len, &mut self.kept, &token)?;
+        Ok(())
     }
 
-    ghost took_none = { λ s. lines_none s.lines.items };
+    ghost took_none = { λ s. lines_none (take s.len s.bytes.items) };
 
-    ghost took_more = { λ a b c xs ys e f. lines_more a.lines.items b.lines.items c.lines.items xs ys e f };
+    ghost took_more = { λ a b c xs ys e f.
+        lines_more (take a.len a.bytes.items) (take b.len b.bytes.items) (take c.len c.bytes.items) xs ys e f };
 }
 
 /// The lines of the tokens of the input and of its fault, and whether it has one. The key limit is in bytes.
@@ -94,15 +99,18 @@ fn list_scanned(
     ensures { IfOk result (λ answer. ListsScan limit setting input.now answer.0.items answer.1) }
 {
     let mut sink = token_lines_t {
-        lines: Vec::new(alloc),
-        stage: [0; LINE],
+        bytes: Vec::new(alloc),
+        len: 0,
+        kept: kept_mark_t::new(),
     };
-    match yaml_scan_to(alloc, input, setting, limit, &mut sink)? {
+    let fault = yaml_scan_to(alloc, input, setting, limit, &mut sink)?;
+    let mut lines = sink.into_lines();
+    match fault {
         Some(fault) => {
-            list_fault(&fault, &mut sink.lines)?;
-            Ok((sink.lines, true))
+            list_fault(&fault, &mut lines)?;
+            Ok((lines, true))
         }
-        None => Ok((sink.lines, false)),
+        None => Ok((lines, false)),
     }
 }
 

@@ -1,10 +1,7 @@
 //! The lines that the program writes: numbers are decimal, one space separates parts, and a line
-//! ends with a line feed. A line is appended to the bytes, part by part or whole. They grow by their own
-//! allocator, and nothing else is allocated.
-ghost use Rattle.std.specs.Prelude.{◌≡◌, ◌≢◌, ◌++◌, ◌∷◌, [], codes, map, OnOk, OnErr};
-ghost use Rattle.std.specs.Fmt.{signed_decimal};
-ghost use Rattle.yaml_text.specs.declared.types.yaml_encoding_t.TheVariants.{YAML_ANY_ENCODING};
-ghost use Rattle.yaml_text.specs.declared.types.yaml_scalar_style_t.TheVariants.{YAML_ANY_SCALAR_STYLE};
+//! ends with a line feed. A line is appended to the bytes, which grow by their own allocator, and nothing else is
+//! allocated.
+ghost use Rattle.std.specs.Prelude.{◌≡◌, ◌++◌, ◌∷◌, [], codes, map, OnOk, OnErr};
 ghost use Rattle.yaml_text.specs.Fault.{fault_of};
 ghost use Rattle.yaml_text.specs.Mark.{mark_of};
 ghost use Rattle.yaml_text.specs.Token.{data_of, token_of};
@@ -12,31 +9,18 @@ ghost use Rattle.yaml_scan.specs.Words.{HasLine, HasWords};
 ghost use Rattle.yaml_scan.specs.Seen.{seen_of};
 ghost use Rattle.yaml_scan.specs.CallWords.{SeenHasLine, SeenHaveLines};
 ghost use Rattle.yamltok.specs.Put.{Puts, spaced};
-ghost use Rattle.yamltok.specs.Listing.{parted, encoding_word, bytes_text, style_word};
-ghost use Rattle.yamltok.specs.Listing.{head_parts, data_parts, reader_line, scanner_line, fault_line, text_line};
+ghost use Rattle.yamltok.specs.Listing.{reader_line, scanner_line, fault_line, text_line};
 ghost use Rattle.yamltok.specs.Listing.{token_line, peek_line, answer_line, answer_lines};
 
-use crate::line::{LINE, name_row, put_end, put_row, set_line, style_row};
-use crate::put::{cut_back, put_bytes, put_decimal, put_mark, put_part, put_signed, put_text};
+use crate::line::{HEAD, encoding_word, put_line, set_head};
+use crate::mark::{kept_mark_t, put_mark};
+use crate::put::{cut_back, put_decimal, put_part, put_signed, put_text};
 use std::alloc::AllocError;
 use yaml_scan::yaml_answer_t;
 use yaml_text::{
-    unnamed_yaml_token_t_data, yaml_encoding_t, yaml_error_type_t, yaml_fault_t, yaml_mark_at,
-    yaml_mark_t, yaml_scalar_style_t, yaml_text_t, yaml_token_t, yaml_token_type_t,
+    yaml_error_type_t, yaml_fault_t, yaml_mark_at, yaml_mark_t, yaml_text_t, yaml_token_t,
+    yaml_token_type_t,
 };
-
-/// The word of an encoding that a text has.
-fn encoding_word(encoding: yaml_encoding_t) -> &'static str
-    requires { encoding ≢ YAML_ANY_ENCODING }
-    ensures { result.now ≡ encoding_word encoding }
-{
-    match encoding {
-        yaml_encoding_t::YAML_ANY_ENCODING => unreachable!(),
-        yaml_encoding_t::YAML_UTF8_ENCODING => "UTF8",
-        yaml_encoding_t::YAML_UTF16LE_ENCODING => "UTF16LE",
-        yaml_encoding_t::YAML_UTF16BE_ENCODING => "UTF16BE",
-    }
-}
 
 /// Appends the line of a reader's fault to `out`.
 fn put_reader_fault(
@@ -148,114 +132,23 @@ pub fn list_text(text: &yaml_text_t, out: &mut Vec<u8>) -> Result<(), AllocError
     cut_back(out, len, outcome)
 }
 
-/// Appends the type and the marks of a token to `out`; the empty token has no marks.
-fn put_head(
-    out: &mut Vec<u8>,
-    kind: yaml_token_type_t,
-    start_mark: yaml_mark_t,
-    end_mark: yaml_mark_t,
-) -> Result<(), AllocError>
-    ensures { Puts result out.old.items (parted (head_parts kind start_mark end_mark)) out.new.items }
-{
-    let (row, len) = name_row(kind);
-    put_row(out, row, len)?;
-    match kind {
-        yaml_token_type_t::YAML_NO_TOKEN => Ok(()),
-        _ => {
-            put_mark(out, start_mark)?;
-            put_mark(out, end_mark)
-        }
-    }
-}
-
-/// Appends two numbers to `out`, with a space before each.
-fn put_version(out: &mut Vec<u8>, major: i32, minor: i32) -> Result<(), AllocError>
-    ensures { Puts result out.old.items (spaced (signed_decimal major ∷ signed_decimal minor ∷ [])) out.new.items }
-{
-    put_signed(out, major)?;
-    put_signed(out, minor)
-}
-
-/// Appends two texts to `out` as their bytes, with a space before each.
-fn put_pair(out: &mut Vec<u8>, first: &[u8], second: &[u8]) -> Result<(), AllocError>
-    ensures { Puts result out.old.items (spaced (bytes_text first.now ∷ bytes_text second.now ∷ [])) out.new.items }
-{
-    put_bytes(out, first)?;
-    put_bytes(out, second)
-}
-
-/// Appends a style and a text to `out`, with a space before each.
-fn put_scalar(out: &mut Vec<u8>, value: &[u8], style: yaml_scalar_style_t) -> Result<(), AllocError>
-    requires { style ≢ YAML_ANY_SCALAR_STYLE }
-    ensures { Puts result out.old.items (spaced (style_word style ∷ bytes_text value.now ∷ [])) out.new.items }
-{
-    let (row, len) = style_row(style);
-    put_row(out, row, len)?;
-    put_bytes(out, value)
-}
-
-/// Appends what a token says, without its type, to `out`, with a space before each part.
-fn put_data(out: &mut Vec<u8>, said: &unnamed_yaml_token_t_data) -> Result<(), AllocError>
-    requires { HasWords (data_of said.now) }
-    ensures { Puts result out.old.items (spaced (data_parts (data_of said.now))) out.new.items }
-{
-    match said {
-        unnamed_yaml_token_t_data::STREAM_START { encoding } => {
-            put_part(out, encoding_word(*encoding))
-        }
-        unnamed_yaml_token_t_data::VERSION_DIRECTIVE { major, minor } => {
-            put_version(out, *major, *minor)
-        }
-        unnamed_yaml_token_t_data::TAG_DIRECTIVE { handle, prefix } => {
-            put_pair(out, handle.as_slice(), prefix.as_slice())
-        }
-        unnamed_yaml_token_t_data::ALIAS { value } | unnamed_yaml_token_t_data::ANCHOR { value } =>
-            put_bytes(out, value.as_slice()),
-        unnamed_yaml_token_t_data::TAG { handle, suffix } => {
-            put_pair(out, handle.as_slice(), suffix.as_slice())
-        }
-        unnamed_yaml_token_t_data::SCALAR { value, style } => {
-            put_scalar(out, value.as_slice(), *style)
-        }
-        _ => Ok(()),
-    }
-}
-
-/// Appends the line of a token to `out`. If memory is refused, a part of it may stay.
-fn put_token(out: &mut Vec<u8>, token: &yaml_token_t) -> Result<(), AllocError>
-    requires { HasWords (data_of token.now.token_data) }
-    ensures { Puts result out.old.items (token_line (token_of token.now)) out.new.items }
-{
-    put_head(out, token.type_(), token.start_mark, token.end_mark)?;
-    put_data(out, &token.token_data)?;
-    put_text(out, "\n")
-}
-
-/// Appends the line of a token to `out`, part by part. If memory is refused, `out` is as before.
-pub fn list_by_parts(token: &yaml_token_t, out: &mut Vec<u8>) -> Result<(), AllocError>
-    requires { HasWords (data_of token.now.token_data) }
-    ensures ok { OnOk result (out.new.items ≡ out.old.items ++ token_line (token_of token.now)) }
-    ensures err { OnErr result (out.new.items ≡ out.old.items) }
-{
-    let len = out.len();
-    let outcome = put_token(out, token);
-    cut_back(out, len, outcome)
-}
-
 /// Appends the line of a token to `out`. If memory is refused, `out` is as before.
-///
-/// It is the name of its type, the marks of its start and end, and what it says: the encoding of a stream; the two
-/// numbers of a `%YAML` directive; the texts of other tokens, two hexadecimal digits a byte or `-` for none, with the
-/// style before a scalar's. The empty token is `NO-TOKEN`.
 pub fn list_token(token: &yaml_token_t, out: &mut Vec<u8>) -> Result<(), AllocError>
     requires { HasWords (data_of token.now.token_data) }
     ensures ok { OnOk result (out.new.items ≡ out.old.items ++ token_line (token_of token.now)) }
     ensures err { OnErr result (out.new.items ≡ out.old.items) }
 {
-    let mut stage = [0u8; LINE];
-    match set_line(&mut stage, token) {
-        Some(at) => put_end(out, &stage, at),
-        None => list_by_parts(token, out),
+    let mut kept = kept_mark_t::new();
+    let len = out.len();
+    match put_line(out, len, &mut kept, token) {
+        Ok(end) => {
+            out.truncate(end);
+            Ok(())
+        }
+        Err(error) => {
+            out.truncate(len);
+            Err(error)
+        }
     }
 }
 
@@ -268,8 +161,17 @@ fn put_peek(
 ) -> Result<(), AllocError>
     ensures { Puts result out.old.items (peek_line kind start_mark end_mark) out.new.items }
 {
+    let mut head = [0u8; HEAD];
+    let end = set_head(
+        &mut head,
+        0,
+        &mut kept_mark_t::new(),
+        kind,
+        start_mark,
+        end_mark,
+    );
     put_text(out, "PEEK ")?;
-    put_head(out, kind, start_mark, end_mark)?;
+    out.extend_from_slice(&head[..end])?;
     put_text(out, "\n")
 }
 

@@ -23,6 +23,7 @@ mod line;
 #[cfg(test)]
 mod line_tests;
 mod listing;
+mod mark;
 mod outcome;
 mod put;
 #[cfg(test)]

@@ -4,20 +4,13 @@ ghost use Rattle.std.specs.Prelude.{codes, drop, take, flat_map, length};
 ghost use Rattle.std.specs.Fmt.{decimal, signed_decimal};
 ghost use Rattle.std.specs.List.{range_with_len};
 ghost use Rattle.std.specs.Char.{digit_char};
-ghost use Rattle.yamltok.specs.Listing.{mark_text, byte_text, bytes_text};
+ghost use Rattle.yamltok.specs.Listing.{byte_text};
 ghost use Rattle.yamltok.specs.Put.{Puts, pair_text};
 
 use std::alloc::AllocError;
-use yaml_text::yaml_mark_t;
 
 /// A number of 64 bits has at most 20 digits.
 const DIGITS: usize = 20;
-
-/// Three numbers, and a byte before each.
-const MARK: usize = 63;
-
-/// So many bytes are put at a time.
-const RUN: usize = 32;
 
 /// Appends a text to `out`.
 pub fn put_text(out: &mut Vec<u8>, text: &str) -> Result<(), AllocError>
@@ -58,7 +51,8 @@ fn set_pair(buffer: &mut [u8], end: usize, number: u64)
     requires small { number < 100 }
     requires room { 2 ≤ end }
     requires within { end ≤ length buffer.old }
-    ensures { drop (end - 2) buffer.new ≡ (48 + number / 10) ∷ (48 + number % 10) ∷ drop end buffer.old }
+    ensures digits { drop (end - 2) buffer.new ≡ (48 + number / 10) ∷ (48 + number % 10) ∷ drop end buffer.old }
+    ensures front { take (end - 2) buffer.new ≡ take (end - 2) buffer.old }
 {
     let (tens, ones) = pair_digits(number);
     buffer[end - 1] = ones;
@@ -117,82 +111,100 @@ fn set_digits(buffer: &mut [u8], end: usize, number: u64) -> usize
     set_front(buffer, at, left)
 }
 
-/// Writes a byte and the digits of a number before a place, and returns where the byte is.
-fn set_number(buffer: &mut [u8], end: usize, lead: u8, number: u64) -> usize
-    requires room { 21 ≤ end }
-    requires within { end ≤ length buffer.old }
-    ensures number { drop result buffer.new ≡ (lead ∷ decimal number) ++ drop end buffer.old }
-    ensures low { end ≤ result + 21 }
-    ensures high { result ≤ end }
+/// Writes the two digits of a number below 100 at a place, and returns where they end.
+#[inline(always)]
+pub fn set_two(buffer: &mut [u8], at: usize, number: u64) -> usize
+    requires small { number < 100 }
+    requires room { at + 2 ≤ length buffer.old }
+    ensures text { take result buffer.new ≡ take at buffer.old ++ pair_text number }
+    ensures place { result ≡ at + 2 }
 {
-    let at = set_digits(buffer, end, number) - 1;
-    buffer[at] = lead;
-    at
+    set_pair(buffer, at + 2, number);
+    at + 2
 }
 
-/// Appends a byte and the digits of a number to `out`.
-fn put_number(out: &mut Vec<u8>, lead: u8, number: u64) -> Result<(), AllocError>
-    ensures { Puts result out.old.items (lead ∷ decimal number) out.new.items }
+/// Writes the digits of a number below 100 at a place, and returns where they end.
+#[inline(always)]
+pub fn set_small(buffer: &mut [u8], at: usize, number: u64) -> usize
+    requires small { number < 100 }
+    requires room { at + 2 ≤ length buffer.old }
+    ensures text { take result buffer.new ≡ take at buffer.old ++ decimal number }
+    ensures low { at ≤ result }
+    ensures high { result ≤ at + 2 }
 {
-    let mut buffer = [0u8; DIGITS + 1];
-    let at = set_number(&mut buffer, DIGITS + 1, lead, number);
-    out.extend_from_slice(&buffer[at..])
+    if number >= 10 {
+        return set_two(buffer, at, number);
+    }
+    buffer[at] = b'0' + number as u8;
+    at + 1
+}
+
+/// Writes the digits of a number at a place, and returns where they end: from the last ones on, in a row.
+#[inline(never)]
+fn set_long(buffer: &mut [u8], at: usize, number: u64) -> usize
+    requires { at + 20 ≤ length buffer.old }
+    ensures text { take result buffer.new ≡ take at buffer.old ++ decimal number }
+    ensures low { at ≤ result }
+    ensures high { result ≤ at + 20 }
+{
+    let mut row = [0u8; DIGITS + 1];
+    let start = set_digits(&mut row, DIGITS + 1, number);
+    let end = at + (DIGITS + 1 - start);
+    buffer[at..end].copy_from_slice(&row[start..]);
+    end
+}
+
+/// Writes the digits of a number at a place, and returns where they end.
+#[inline(always)]
+pub fn set_decimal(buffer: &mut [u8], at: usize, number: u64) -> usize
+    requires { at + 20 ≤ length buffer.old }
+    ensures text { take result buffer.new ≡ take at buffer.old ++ decimal number }
+    ensures low { at ≤ result }
+    ensures high { result ≤ at + 20 }
+{
+    if number < 100 {
+        return set_small(buffer, at, number);
+    }
+    if number < 10000 {
+        let end = set_small(buffer, at, number / 100);
+        return set_two(buffer, end, number % 100);
+    }
+    set_long(buffer, at, number)
+}
+
+/// Writes a space and a signed number at a place, and returns where it ends.
+pub fn set_signed(buffer: &mut [u8], at: usize, number: i32) -> usize
+    requires { at + 22 ≤ length buffer.old }
+    ensures text { take result buffer.new ≡ take at buffer.old ++ (codes " " ++ signed_decimal number) }
+    ensures low { at ≤ result }
+    ensures high { result ≤ at + 22 }
+{
+    let magnitude = u64::from(number.unsigned_abs());
+    buffer[at] = b' ';
+    if number < 0 {
+        buffer[at + 1] = b'-';
+        set_decimal(buffer, at + 2, magnitude)
+    } else {
+        set_decimal(buffer, at + 1, magnitude)
+    }
 }
 
 /// Appends a space and a number to `out`.
 pub fn put_decimal(out: &mut Vec<u8>, number: u64) -> Result<(), AllocError>
     ensures { Puts result out.old.items (codes " " ++ decimal number) out.new.items }
 {
-    put_number(out, b' ', number)
+    let mut buffer = [b' '; DIGITS + 1];
+    let end = set_decimal(&mut buffer, 1, number);
+    out.extend_from_slice(&buffer[..end])
 }
 
 /// Appends a space and a signed number to `out`.
 pub fn put_signed(out: &mut Vec<u8>, number: i32) -> Result<(), AllocError>
     ensures { Puts result out.old.items (codes " " ++ signed_decimal number) out.new.items }
 {
-    let magnitude = u64::from(number.unsigned_abs());
-    if number < 0 {
-        put_text(out, " ")?;
-        put_number(out, b'-', magnitude)
-    } else {
-        put_number(out, b' ', magnitude)
-    }
-}
-
-/// Writes a space and the three numbers of a mark before a place, and returns where the space is.
-#[inline(never)]
-fn set_counts(buffer: &mut [u8], end: usize, index: u64, line: u64, column: u64) -> usize
-    requires room { 63 ≤ end }
-    requires within { end ≤ length buffer.old }
-    ensures text { drop result buffer.new
-        ≡ (codes " " ++ mark_text (record { index = index; line = line; column = column })) ++ drop end buffer.old }
-    ensures low { end ≤ result + 63 }
-    ensures high { result ≤ end }
-{
-    let at = set_number(buffer, end, b':', column);
-    let at = set_number(buffer, at, b':', line);
-    set_number(buffer, at, b' ', index)
-}
-
-/// Writes a space and a mark before a place, and returns where the space is.
-#[inline(always)]
-pub fn set_mark(buffer: &mut [u8], end: usize, mark: yaml_mark_t) -> usize
-    requires room { 63 ≤ end }
-    requires within { end ≤ length buffer.old }
-    ensures text { drop result buffer.new ≡ (codes " " ++ mark_text mark) ++ drop end buffer.old }
-    ensures low { end ≤ result + 63 }
-    ensures high { result ≤ end }
-{
-    set_counts(buffer, end, mark.index, mark.line, mark.column)
-}
-
-/// Appends a space and a mark to `out`.
-pub fn put_mark(out: &mut Vec<u8>, mark: yaml_mark_t) -> Result<(), AllocError>
-    ensures { Puts result out.old.items (codes " " ++ mark_text mark) out.new.items }
-{
-    let mut buffer = [0u8; MARK];
-    let at = set_mark(&mut buffer, MARK, mark);
-    out.extend_from_slice(&buffer[at..])
+    let mut buffer = [0u8; DIGITS + 2];
+    let end = set_signed(&mut buffer, 0, number);
+    out.extend_from_slice(&buffer[..end])
 }
 
 /// The two hexadecimal digits of each byte, one byte after another.
@@ -229,33 +241,6 @@ pub fn set_bytes(place: &mut [u8], bytes: &[u8])
         place[2 * i] = high;
         place[2 * i + 1] = low;
     }
-}
-
-fn put_run(out: &mut Vec<u8>, bytes: &[u8]) -> Result<(), AllocError>
-    requires { length bytes.now ≤ 32 }
-    ensures { Puts result out.old.items (flat_map byte_text bytes.now) out.new.items }
-{
-    let mut buffer = [0u8; 2 * RUN];
-    let place = &mut buffer[..2 * bytes.len()];
-    set_bytes(place, bytes);
-    out.extend_from_slice(place)
-}
-
-/// Appends a space and two hexadecimal digits a byte to `out`, or `-` if there is no byte.
-pub fn put_bytes(out: &mut Vec<u8>, bytes: &[u8]) -> Result<(), AllocError>
-    ensures { Puts result out.old.items (codes " " ++ bytes_text bytes.now) out.new.items }
-{
-    if bytes.is_empty() {
-        return put_text(out, " -");
-    }
-    put_text(out, " ")?;
-    let mut at = 0;
-    while at < bytes.len() {
-        let end = at + (bytes.len() - at).min(RUN);
-        put_run(out, &bytes[at..end])?;
-        at = end;
-    }
-    Ok(())
 }
 
 /// Cuts `out` back to its first bytes if memory was refused.

@@ -46,9 +46,9 @@ digits-preserved c =
     let four = left % 10000 in
     let written : decimal (left / 10000) ++ drop (at - 4) after ≡ decimal c.args.number ++ drop c.args.end before =
     sym (ap (λ (n : ℕ). decimal (left / 10000) ++ drop n after) place)
-    ∙ ap (λ (z : List ℕ). decimal (left / 10000) ++ z) c.set_pair-in-digits.ensures
+    ∙ ap (λ (z : List ℕ). decimal (left / 10000) ++ z) c.set_pair-in-digits.ensures.digits
     ∙ ap (λ (z : List ℕ). decimal (left / 10000) ++ ((48 + four / 100 / 10) ∷ (48 + four / 100 % 10) ∷ z))
-    c.set_pair.ensures
+    c.set_pair.ensures.digits
     ∙ four_more left (drop at c.digits.buffer) c.digits-test.true i.fits ∙ i.written in
     record {
       within = within;

@@ -8,7 +8,7 @@ use Rattle.yamltok.proofs.put.set_first_digits.Goals as goal
 pub returns-then-number-ge10-clause-digits : goal.returns-then-number-ge10-clause-digits
 returns-then-number-ge10-clause-digits c =
     let rest = drop c.args.end c.args.buffer.now in
-    c.set_pair.ensures
+    c.set_pair.ensures.digits
     ∙ ap (λ (z : List ℕ). z ++ rest) (sym (pair_whole c.args.number c.if-number-ge10.true c.requires.small))
 
 pub returns-then-number-ge10-clause-place : goal.returns-then-number-ge10-clause-place
@@ -20,7 +20,7 @@ returns-then-number-ge10-clause-place c =
 pub returns-else-number-ge10-clause-digits : goal.returns-else-number-ge10-clause-digits
 returns-else-number-ge10-clause-digits c =
     digit_whole c.args.number c.args.end c.set_pair.new.buffer (drop c.args.end c.args.buffer.now)
-    c.if-number-ge10.false c.requires.room c.set_pair.ensures
+    c.if-number-ge10.false c.requires.room c.set_pair.ensures.digits
 
 pub returns-else-number-ge10-clause-place : goal.returns-else-number-ge10-clause-place
 returns-else-number-ge10-clause-place c =

@@ -28,7 +28,7 @@ pub returns-then-number-ge100-clause-digits : goal.returns-then-number-ge100-cla
 returns-then-number-ge100-clause-digits c =
     let n = c.args.number in
     c.set_first_digits.ensures.digits
-    ∙ ap (λ (z : List ℕ). decimal (n / 100) ++ z) c.set_pair.ensures
+    ∙ ap (λ (z : List ℕ). decimal (n / 100) ++ z) c.set_pair.ensures.digits
     ∙ pair_more n (drop c.args.end c.args.buffer.now) c.if-number-ge100.true c.ranges.number.fits
 
 pub returns-then-number-ge100-clause-place : goal.returns-then-number-ge100-clause-place
