@@ -15,13 +15,6 @@ row_placed at len row b rest short within =
     ∙ take-append-add front (row ++ rest) len
     ∙ ap (λ (z : List ℕ). front ++ z) (take-append-le len row rest short)
 
--- a whole text
-pub text_placed : (at n : ℕ) (text b rest : List ℕ) → length text ≡ n → at ≤ length b
-    → take (at + n) (take at b ++ (text ++ rest)) ≡ take at b ++ text
-text_placed at n text b rest whole within =
-    row_placed at n text b rest (omega (arith, whole)) within
-    ∙ ap (λ (z : List ℕ). take at b ++ z) (take_all n text (omega (arith, whole)))
-
 -- one text after another
 pub then_placed : (at n m : ℕ) (a b c x y : List ℕ) → take n b ≡ take at a ++ x → take m c ≡ take n b ++ y
     → take m c ≡ take at a ++ (x ++ y)

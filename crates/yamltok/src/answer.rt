@@ -104,13 +104,13 @@ fn list_scanned(
         kept: kept_mark_t::new(),
     };
     let fault = yaml_scan_to(alloc, input, setting, limit, &mut sink)?;
-    let mut lines = sink.into_lines();
+    let mut listing = sink.into_lines();
     match fault {
         Some(fault) => {
-            list_fault(&fault, &mut lines)?;
-            Ok((lines, true))
+            list_fault(&fault, &mut listing)?;
+            Ok((listing, true))
         }
-        None => Ok((lines, false)),
+        None => Ok((listing, false)),
     }
 }
 

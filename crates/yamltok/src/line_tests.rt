@@ -1,4 +1,4 @@
-//! Lines of tokens with short and long numbers, and of scalars at the edge of what the stage has room for.
+//! Lines of tokens with short and long numbers, and of scalars at the edge of the room that a line has at first.
 use crate::listing::list_token;
 use std::alloc::{AllocError, Global};
 use std::process::Abort;
@@ -43,10 +43,13 @@ fn expect_scalar(rt: &(impl Abort + AllocGlobal), count: usize) -> Result<(), Fa
 #[test]
 fn longest_lines(rt: HostRuntime) -> Result<(), Fail> {
     expect_scalar(&rt, 1)?;
-    expect_scalar(&rt, 399)?;
     expect_scalar(&rt, 400)?;
-    expect_scalar(&rt, 401)?;
-    expect_scalar(&rt, 433)
+    expect_scalar(&rt, 701)?;
+    expect_scalar(&rt, 702)?;
+    expect_scalar(&rt, 703)?;
+    expect_scalar(&rt, 829)?;
+    expect_scalar(&rt, 830)?;
+    expect_scalar(&rt, 831)
 }
 
 /// Lists a key from a mark of three numbers to one of three others.

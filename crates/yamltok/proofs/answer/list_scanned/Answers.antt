@@ -20,5 +20,5 @@ returns-in_ok-list_fault-in-Some c =
     let told = take sink.len sink.bytes.items in
     let fault = fault_of c.in-Some.fault in
     let more = c.in_ok-list_fault-in-Some.ensures.ok
-    ∙ ap (λ (z : List ℕ). z ++ fault_line fault) c.into_lines-lines.ensures in
+    ∙ ap (λ (z : List ℕ). z ++ fault_line fault) c.into_lines-listing.ensures in
     lists_scan c.args.limit c.args.setting c.args.input.now told (Some fault) given c.list_fault.new.out.items more
