@@ -17,7 +17,7 @@ One line of output for each check; what is wrong is printed before it. The check
   names each of them, and no others. If its last column, "Refused by", begins with a name, the code has a function of that
   name. What an edit replaces stands once in its file.
 - lines: no line of the code or of a definition is longer than 120 characters.
-- kits: README.md names the kit that `rt version` names, in one place.
+- kits: README.md names the kit that `rt version` names, among those that the proofs were made with, in one place.
 """
 
 import glob
@@ -323,7 +323,7 @@ def check_lines():
 def check_kits():
     said = subprocess.run(["rt", "version"], capture_output=True, check=True, text=True).stdout.strip()
     named = re.findall(r"`(rattle-kit-[^`]*)`", read("README.md"))
-    return len(named), [] if named == [said] else [f"README.md: it names {named}, and rt version says {said}"]
+    return len(named), [] if said in named else [f"README.md: it names {named}, and rt version says {said}"]
 
 
 CHECKS = {"paths": check_paths, "rules": check_rules, "topics": check_topics,
