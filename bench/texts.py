@@ -1,5 +1,6 @@
 """The texts that are measured, made from fixed seeds."""
 
+import json
 import random
 
 from dense import dense
@@ -60,6 +61,25 @@ def scalars():
 def short_entries(count=TIMES):
     r = random.Random(7)
     return "".join(f"- {word(r)}{word(r)}\n" for _ in range(count))
+
+
+def json_value(r, depth):
+    kind = r.random()
+    if depth < 3 and kind < 0.35:
+        return {word(r): json_value(r, depth + 1) for _ in range(r.randrange(1, 6))}
+    if depth < 3 and kind < 0.55:
+        return [json_value(r, depth + 1) for _ in range(r.randrange(1, 6))]
+    return r.choice([r.randrange(100_000), r.randrange(100_000) / 1000, True, False, None, words(r, r.randrange(1, 20))])
+
+
+def json_text(size):
+    """A JSON text of about so many bytes, indented by two."""
+    r = random.Random(7)
+    made, count = [], 0
+    while count < size:
+        made.append({word(r): json_value(r, 0) for _ in range(3)})
+        count += len(json.dumps(made[-1], indent=2))
+    return json.dumps(made, indent=2) + "\n"
 
 
 def scanned():

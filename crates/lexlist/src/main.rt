@@ -14,8 +14,9 @@
 //!
 //! With the word `measure` something is done nine times with the input as a text: the lexeme at its front is read,
 //! with `measure walk` all its lexemes one after the other, with `measure scan` or `measure scan LIMIT` its tokens
-//! are scanned, and with `measure decode` it is decoded. The answer is how many bytes were read, tokens scanned or
-//! bytes decoded, and the best and the median time in nanoseconds.
+//! are scanned call by call, with `measure sink` they are given to a sink, and with `measure decode` it is decoded. The
+//! answer is how many bytes were read, tokens scanned or bytes decoded, and the best and the median time in
+//! nanoseconds.
 //!
 //! Four commands show what a session does if memory is refused: after the input is read, only the named calls
 //! take memory (`session.rt`).

@@ -11,9 +11,9 @@ use std::time::Instant;
 use yaml_lexeme::{
     yaml_context_t, yaml_gap, yaml_lexeme_at, yaml_lexeme_kind, yaml_lexeme_kind_t, yaml_lexeme_t,
 };
-use yaml_scan::{yaml_parser_scan, yaml_parser_t};
+use yaml_scan::{yaml_parser_scan, yaml_parser_t, yaml_scan_to, yaml_token_sink_t};
 use yaml_text::{
-    unnamed_yaml_token_t_data, yaml_decode, yaml_encoding_t, yaml_mark_t, yaml_text_t,
+    unnamed_yaml_token_t_data, yaml_decode, yaml_encoding_t, yaml_mark_t, yaml_text_t, yaml_token_t,
 };
 
 /// What is done with a text.
@@ -23,17 +23,20 @@ pub enum task_t {
     FRONT,
     /// Its lexemes are read one after the other, with a level open at column 0.
     WALK,
-    /// Its tokens are scanned.
+    /// Its tokens are scanned, call by call.
     SCAN,
+    /// Its tokens are given to a sink.
+    SINK,
     /// It is decoded.
     DECODE,
 }
 
-/// The task of a word: `walk`, `scan`, `decode`, or the front for any other and for none.
+/// The task of a word: `walk`, `scan`, `sink`, `decode`, or the front for any other and for none.
 pub fn task_of(word: &str) -> task_t {
     match word {
         "walk" => task_t::WALK,
         "scan" => task_t::SCAN,
+        "sink" => task_t::SINK,
         "decode" => task_t::DECODE,
         _ => task_t::FRONT,
     }
@@ -132,6 +135,39 @@ fn scan(alloc: Global, input: &[u8], limit: u32) -> u64
     tokens
 }
 
+/// Counts the tokens that it takes.
+#[derive(Drop)]
+struct counter_t {
+    tokens: u64,
+}
+
+impl yaml_token_sink_t for counter_t {
+    ghost took = { λ _ _ _. Unit {0} };
+
+    ghost may_refuse = { ⊥ };
+
+    #[inline(always)]
+    fn put(&mut self, _token: yaml_token_t) -> Result<(), AllocError> {
+        self.tokens = self.tokens.wrapping_add(1);
+        Ok(())
+    }
+
+    ghost took_none = { λ _. tt };
+
+    ghost took_more = { λ _ _ _ _ _ _ _. tt };
+}
+
+/// How many tokens of an input a sink is given with a key limit, up to its end or a fault.
+fn give(alloc: Global, input: &[u8], limit: u32) -> u64
+    requires least { 1 ≤ limit }
+    requires most { limit ≤ MOST_KEY_LIMIT }
+{
+    let any = yaml_encoding_t::YAML_ANY_ENCODING;
+    let mut counter = counter_t { tokens: 0 };
+    let _ = yaml_scan_to(alloc, input, any, limit, &mut counter);
+    counter.tokens
+}
+
 /// How many bytes an input has in UTF-8, or 0 if it is no text.
 fn decode(alloc: Global, input: &[u8]) -> u64 {
     match yaml_decode(alloc, input, yaml_encoding_t::YAML_ANY_ENCODING) {
@@ -149,6 +185,7 @@ fn done(alloc: Global, task: task_t, limit: u32, input: &[u8], text: &yaml_text_
         task_t::FRONT => read_front(alloc, text),
         task_t::WALK => walk(alloc, text),
         task_t::SCAN => scan(alloc, input, limit),
+        task_t::SINK => give(alloc, input, limit),
         task_t::DECODE => decode(alloc, input),
     }
 }
