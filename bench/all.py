@@ -18,9 +18,10 @@ from decode import DECODING
 from growth import GROWTH
 from instructions import INSTRUCTIONS
 from listing import LISTING
+from refused import REFUSED
 from scan import SCANNING
 
-TABLES = [SCANNING, GROWTH, DECODING, LISTING]
+TABLES = [SCANNING, GROWTH, REFUSED, DECODING, LISTING]
 
 
 def first_value(path, name):

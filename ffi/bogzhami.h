@@ -25,6 +25,12 @@
 extern "C" {
 #endif
 
+/* The version of this header. bogzhami_version returns that of the library. */
+#define BOGZHAMI_VERSION "0.1.0"
+#define BOGZHAMI_VERSION_MAJOR 0
+#define BOGZHAMI_VERSION_MINOR 1
+#define BOGZHAMI_VERSION_PATCH 0
+
 /* A place in the text. Whatever the encoding of the input, the index counts bytes of the text in UTF-8. */
 struct bogzhami_mark {
     uint64_t index;  /* how many bytes come before it */
@@ -196,6 +202,9 @@ uint32_t bogzhami_close(struct bogzhami_handle *handle);
 uint32_t bogzhami_scan_all(const uint8_t *input, size_t input_len, uint32_t encoding, uint32_t key_limit,
                            struct bogzhami_token *tokens, size_t tokens_len, uint8_t *texts, size_t texts_len,
                            struct bogzhami_answer *answer);
+
+/* The version of the library, as BOGZHAMI_VERSION has it. The text ends with a 0, stays where it is, and is not freed. */
+const char *bogzhami_version(void);
 
 #ifdef __cplusplus
 }

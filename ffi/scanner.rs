@@ -78,7 +78,7 @@ const FAULT: u32 = 1;
 const WRONG: u32 = 2;
 const NO_ROOM: u32 = 5;
 
-unsafe extern "C" {
+extern "C" {
     fn bogzhami_open(handle: *mut Handle, input: *const u8, input_len: usize, encoding: u32, key_limit: u32) -> u32;
     fn bogzhami_next(
         handle: *mut Handle,
@@ -436,11 +436,13 @@ impl<'a> Iterator for Scanner<'a> {
 
     fn next(&mut self) -> Option<Result<Token<'a>, Fault>> {
         self.fill();
-        let Some(record) = self.records[self.given..self.count].first() else {
-            return self.fault.take().map(Err);
-        };
-        self.given += 1;
-        Some(Ok(token_of(record, &self.texts).into_owned()))
+        match self.records[self.given..self.count].first() {
+            Some(record) => {
+                self.given += 1;
+                Some(Ok(token_of(record, &self.texts).into_owned()))
+            }
+            None => self.fault.take().map(Err),
+        }
     }
 }
 

@@ -4,7 +4,9 @@
 One line of output for each check; what is wrong is printed before it. The checks:
 
 - paths: what a document has in backticks or as a link, and looks like a path of the repository, is there. A `*` stands for
-  any name. Paths are from the repository's root, or from the document's folder.
+  any name. Paths are from the repository's root, or from the document's folder. What scripts write may be missing:
+  bench/results.md, docs/speed.svg and what is in a folder `out`. The documents are README.md, CHANGELOG.md, CONTRIBUTING.md,
+  docs/, and the README files of tests/, bench/, uses/, rust/ and python/.
 - rules: in RULES.md every heading has a line with a definition and a code file, and a link to it. What that line names is
   in the file that it names: a definition in parentheses, and a test.
 - topics: the topic of a rule is the name of its first definition file. The line names a code file of that name, a folder or
@@ -18,6 +20,10 @@ One line of output for each check; what is wrong is printed before it. The check
   name. What an edit replaces stands once in its file.
 - lines: no line of the code or of a definition is longer than 120 characters.
 - kits: README.md names the kit that `rt version` names, among those that the proofs were made with, in one place.
+- versions: the header, the Rust crate, the Python module and the newest entry of CHANGELOG.md have the version of VERSION.
+- folders: a folder with more than eight files has a README.md, but for proofs. That of a folder of code or of definitions is
+  the one that `./dev folders` writes, from the first sentence of each file.
+- scripts: the table of tests/README.md has a line for each script of tests/, and no others.
 """
 
 import glob
@@ -27,8 +33,9 @@ import subprocess
 import sys
 
 ROOT = os.path.dirname(os.path.dirname(os.path.abspath(__file__)))
-DOCUMENTS = ["README.md", "docs/*.md", "tests/README.md", "bench/README.md", "uses/*/README.md"]
-FOLDERS = ("bench", "crates", "docs", "ffi", "tests", "uses")
+DOCUMENTS = ["README.md", "CHANGELOG.md", "CONTRIBUTING.md", "docs/*.md", "tests/README.md", "bench/README.md", "uses/*/README.md",
+             "ffi/README.md", "rust/README.md", "python/README.md"]
+FOLDERS = ("bench", "crates", "docs", "ffi", "packaging", "python", "rust", "tests", "uses")
 ENDINGS = ("antt", "c", "css", "edit", "gz", "h", "html", "md", "py", "rs", "rt", "txt")
 STAND_FOR_NAMES = {"FILE", "FUNCTION", "NAME"}
 WRITTEN_BY_SCRIPTS = {"bench/results.md", "docs/speed.svg"}
@@ -56,7 +63,7 @@ def every_name():
     """The names of all files and folders, without what is built."""
     names = set()
     for _, folders, files in os.walk(ROOT):
-        folders[:] = [name for name in folders if name not in ("bin", "out", ".git", "__pycache__")]
+        folders[:] = [name for name in folders if name not in ("bin", "dist", "out", "target", ".git", "__pycache__")]
         names.update(folders + files)
     return names
 
@@ -326,9 +333,52 @@ def check_kits():
     return len(named), [] if said in named else [f"README.md: it names {named}, and rt version says {said}"]
 
 
+# VERSIONS
+
+def check_versions():
+    version = read("VERSION").strip()
+    places = {
+        "CHANGELOG.md": r"^## (\S+)$",
+        "ffi/bogzhami.h": r'^#define BOGZHAMI_VERSION "(.*)"$',
+        "rust/Cargo.toml": r'^version = "(.*)"$',
+        "python/bogzhami/__init__.py": r'^__version__ = "(.*)"$',
+    }
+    said = {path: re.search(pattern, read(path), re.M) for path, pattern in places.items() if found(path)}
+    wrong = [f"{path}: the version is not {version}" for path, word in said.items() if not word or word[1] != version]
+    return len(said), wrong
+
+
+# FOLDERS
+
+def check_folders():
+    sys.path.insert(0, os.path.join(ROOT, "tests", "lib"))
+    sys.dont_write_bytecode = True
+    from folders import MOST_FILES, long_folders, sentence, sources, stale
+
+    wrong = [f"{folder}/README.md: it is not what ./dev folders writes" for folder in stale()]
+    files = [(folder, name) for folder in long_folders() for name in sources(folder)]
+    wrong += [f"{folder}/{name}: it does not begin with a sentence" for folder, name in files if not sentence(folder, name)]
+    folders = [path for path in found("**/") if not re.search(r"(^|/)(bin|dist|out|proofs|target|__pycache__)(/|$)", path)]
+    for folder in folders:
+        count = sum(os.path.isfile(os.path.join(ROOT, path)) for path in found(f"{folder}/*"))
+        if count > MOST_FILES and not found(f"{folder}/README.md"):
+            wrong.append(f"{folder}: {count} files, and no README.md")
+    return len(long_folders()), wrong
+
+
+# SCRIPTS
+
+def check_scripts():
+    said = set(re.findall(r"^\| `(\w+)` \|", read("tests/README.md").partition("## ")[0], re.M))
+    there = names_of("tests/*.py")
+    wrong = [f"tests/README.md: {name} has no line" for name in sorted(there - said)]
+    return len(there), wrong + [f"tests/README.md: {name} is gone" for name in sorted(said - there)]
+
+
 CHECKS = {"paths": check_paths, "rules": check_rules, "topics": check_topics,
           "laws, functions and lemma files": check_proofs, "lemma files": check_lemmas, "edits": check_edits,
-          "lines": check_lines, "kits": check_kits}
+          "lines": check_lines, "kits": check_kits, "versions": check_versions, "folders": check_folders,
+          "scripts": check_scripts}
 
 
 def main():

@@ -4,8 +4,9 @@
 All inputs of vectors/scan.txt.gz are scanned at once through the shared library: with no room, with exactly the room that is
 needed and with about half of it; the tokens and the fault are the expected ones, and nothing else in a room has changed. Wrong
 settings and limits touch nothing but the answer. The records have the same sizes and places in C, in Rust and in the crate, and
-the header's numbers are the crate's. The examples list.c and list.rs list what is expected, and list.c frees all that it took.
-Each request for memory of list.c is refused in turn.
+the header's numbers are the crate's. The examples list.c, list.cc and list.rs list what is expected, and list.c frees all that it
+took. The examples in ffi/README.md are compiled as they stand there, and give the expected tokens. The library exports the names
+of the header, with the version that VERSION has. Each request for memory of list.c is refused in turn.
 
 A scanner that is held gives what the scan at once gives, whatever the batches, rooms, peeks, turns, threads and refused
 requests are (held.c), and takes less than a megabyte besides a long input. How far it has read is that of paces.txt.gz.
@@ -28,7 +29,8 @@ CRATE = os.path.join(os.path.dirname(HERE), "crates", "yaml_c", "src")
 sys.path.insert(0, os.path.join(HERE, "lib"))
 sys.dont_write_bytecode = True
 from held import FFI, SETTINGS, VALGRIND, Handle, build_held, build_rust, try_long, try_reach, try_rust, try_tests, try_valgrind
-from library import build_library
+from library import VERSION, build_library
+from pages import try_pages
 from worked import MEMORY, build_refuser, run
 
 PLAIN = {"u32": c.c_uint32, "i32": c.c_int32, "u64": c.c_uint64}
@@ -115,7 +117,7 @@ def rust_layout(room):
 
 
 def has_rust():
-    """Whether there is a Rust compiler of at least 1.82, which knows `unsafe extern`."""
+    """Whether there is a Rust compiler of at least 1.82. scanner.rs and list.rs need only 1.63, other parts of the tests more."""
     if shutil.which("rustc") is None:
         return False
     told = subprocess.run(["rustc", "--version"], capture_output=True, text=True).stdout
@@ -127,6 +129,13 @@ def build_c(room):
     path = os.path.join(room, "list")
     words = ["-std=c99", "-Wall", "-Wextra", "-Wpedantic", "-Werror", "-O2", "-I", FFI]
     subprocess.run(["cc", *words, os.path.join(FFI, "list.c"), os.path.join(FFI, "out", "libbogzhami.a"), "-o", path], check=True)
+    return path
+
+
+def build_cplusplus(room):
+    path = os.path.join(room, "list_cc")
+    words = ["-std=c++17", "-Wall", "-Wextra", "-Wpedantic", "-Werror", "-O2", "-I", FFI]
+    subprocess.run(["c++", *words, os.path.join(FFI, "list.cc"), os.path.join(FFI, "out", "libbogzhami.a"), "-o", path], check=True)
     return path
 
 
@@ -315,14 +324,39 @@ def try_library(every):
 
 
 def try_names():
-    """Whether the shared library exports the functions of the header and nothing else."""
+    """Whether the shared library exports the functions of the header, under the version of the interface, and nothing else."""
     with open(os.path.join(FFI, "bogzhami.h"), encoding="ascii") as text:
-        wanted = set(re.findall(r"^uint32_t (bogzhami_\w+)\(", text.read(), re.M))
+        names = set(re.findall(r"^(?:uint32_t |const char \*)(bogzhami_\w+)\(", text.read(), re.M))
+    interface = "BOGZHAMI_" + VERSION.split(".")[0]
+    wanted = {interface} | {f"{name}@@{interface}" for name in names}
     words = ["nm", "-D", "--defined-only", os.path.join(FFI, "out", "libbogzhami.so")]
     told = subprocess.run(words, check=True, capture_output=True, text=True).stdout
     found = {line.split(" ")[-1] for line in told.splitlines()}
-    print(f"ffi: {len(found)} names exported, {len(found ^ wanted)} not those of the header {sorted(found ^ wanted) or ''}")
-    return found == wanted and len(found) == 7
+    print(f"ffi: {len(found) - 1} names exported, {len(found ^ wanted)} not those of the header {sorted(found ^ wanted) or ''}")
+    return found == wanted and len(names) == 8
+
+
+def try_version():
+    """Whether the header and the library have the version that VERSION has, and the library's name its first number."""
+    with open(os.path.join(FFI, "bogzhami.h"), encoding="ascii") as text:
+        header = text.read()
+    numbers = dict(re.findall(r"#define BOGZHAMI_VERSION_(\w+) (\d+)", header))
+    path = os.path.join(FFI, "out", "libbogzhami.so")
+    call = c.CDLL(path).bogzhami_version
+    call.restype = c.c_char_p
+    told = subprocess.run(["objdump", "-p", path], check=True, capture_output=True, text=True).stdout
+    loaded = re.search(r"SONAME +(\S+)", told)
+    found = {
+        "macro": re.search(r'#define BOGZHAMI_VERSION "(.*)"', header)[1],
+        "numbers": ".".join(numbers.get(name, "?") for name in ("MAJOR", "MINOR", "PATCH")),
+        "call": call().decode("ascii"),
+        "name": os.path.basename(os.path.realpath(path)).removeprefix("libbogzhami.so."),
+    }
+    wrong = {what: said for what, said in found.items() if said != VERSION}
+    if loaded[1] != "libbogzhami.so." + VERSION.split(".")[0]:
+        wrong["loaded"] = loaded[1]
+    print(f"ffi: version {VERSION}, {len(wrong)} of {len(found) + 1} places say another {wrong or ''}")
+    return not wrong
 
 
 def try_records(room, rust):
@@ -383,14 +417,18 @@ def main():
         print("ffi: Rust skipped: no rustc of 1.82 or later")
     with tempfile.TemporaryDirectory() as room:
         programs = [build_c(room)]
+        if shutil.which("c++"):
+            programs.append(build_cplusplus(room))
         if rust:
             programs.append(os.path.join(room, "list_rs"))
-            build_rust(os.path.join(FFI, "list.rs"), programs[1])
+            build_rust(os.path.join(FFI, "list.rs"), programs[-1])
         good = [
             try_library(every),
             try_names(),
+            try_version(),
             try_records(room, rust),
             try_examples(programs, every[::40]),
+            try_pages(room, rust),
             try_memory(programs[0], every[::2000]),
             try_held(room, every, rust),
         ]

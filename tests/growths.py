@@ -1,38 +1,57 @@
 #!/usr/bin/env python3
 """Refuses each request for memory in turn while the program runs: growths.py PROGRAM.
 
-For each worked row of vectors/rows.txt: its own command, scans past the end, and peeks with skips past the end. Each
-time the program is out of memory and has written nothing, or its lines are those of the row, or a beginning of them,
+For each worked row of vectors/rows.txt its own command, and for each of the inputs below a scan; for both, lists of scans
+past the end, and of peeks with skips past the end. Each request that is made after the input and the calls were read is
+answered: the program is out of memory and has written nothing, or its lines are a beginning of those with ample memory,
 then the one fault of kind memory, and then, for a list of calls, one line for each call that is left. The fault comes
-only at a scan or a peek of a token that was not peeked, never after the stream end, and never if no memory is
-taken: if UTF-8 is decoded, or refused so early that the first step is near. Needs a C compiler.
+only at a scan or a peek of a token that was not peeked, never after the stream end, and never if no memory is taken: if
+UTF-8 is decoded, or refused so early that the first step is near. If a request that comes before is refused, the lines
+may also be those with ample memory. All blocks are given back.
 
-Then the program lexlist, which is beside the given one, scans call by call 100 entries, and one step of each kind that
-takes memory. Each request that is refused in a step is answered by the fault, so nothing asks twice for the same memory.
+Then the program lexlist, which is beside the given one, makes calls one by one on 100 entries, and on small inputs with
+one step of each kind that takes memory, in UTF-8 and UTF-16. Each request that is refused in a call is answered by that
+call's fault, so nothing asks twice for the same memory. The answers before it are those with ample memory; after it come
+empty tokens. Needs a C compiler.
 """
 
 import os
+import subprocess
 import sys
 import tempfile
 from concurrent.futures import ThreadPoolExecutor
 
 sys.path.insert(0, os.path.join(os.path.dirname(os.path.abspath(__file__)), "lib"))
 sys.dont_write_bytecode = True
-from worked import MEMORY, build_refuser, is_ended, rows, run, session_of, takes_no_memory
+from worked import MEMORY, build_refuser, is_ended, rows, run_counted, session_of, takes_no_memory
 
 HUNDRED = b"- x\n" * 100
-WANTED = b"FAULT memory"
+ZERO = "0:0:0"
+WANTED = f"FAULT memory 0 0 {ZERO} {ZERO} -; -"
+# the answers of lexlist to calls after a fault
+IDLE = {"s": f"TOKEN YAML_NO_TOKEN {ZERO} {ZERO}", "p": f"PEEKED TOKEN YAML_NO_TOKEN {ZERO} {ZERO}", "k": "NOTHING"}
 
-# One step of each kind of lexeme that takes memory, and of those that grow what the scanner keeps.
+# Steps of each kind of lexeme that takes memory, outside of flow and in flow, and of those that grow what the scanner keeps.
 STEPS = [
-    b'["abc"]', b"- 'it''s'\n", b'"a\\tb"\n', b"- |\n  a\n  b\n", b"- >\n  a\n  b\n", b"%TAG ! tag:e,2000:\n--- a\n",
-    b"key: value\n", b'"key": value\n', b"{key: value, k: [v]}", b"[[[[a]]]]", b"- &a !t x\n- *a\n", b"a\n b\n  c\n",
+    b'["abc"]', b'"abc"', b"- 'it''s'\n", b"{'it''s': 'a\n\n b'}", b'"a\\tb"\n', b'["a\\\n  b", "\\x41"]', b"a b\n c\n", b"[a\n b]",
+    b"|\n  a\n  b\n", b"- |\n  a\n  b\n", b"- >\n  a\n  b\n", b"- >+2\n    a\n\n  b\n\n", b"%TAG ! tag:e,2000:\n--- a\n",
+    b"%YAML 1.1\n--- a\n", b"key: value\n", b'"key": value\n', b"{key: value, k: [v]}", b'{"key": "value"}', b"? key\n: value\n",
+    b"[? key : value]", b"- &a !t x\n- *a\n", b"*a : &b c\n", b"[!<tag:e> a, !e!%41 b]", b"[[[[a]]]]", b"a\n b\n  c\n", b"a:\n b:\n  c:\n   - d\n",
+    b'- "' + b"long " * 40 + b'\\n"\n', b"- " + b"long\n  " * 40,
 ]
 
 
-def commands():
+def scanned(program, data):
+    """The words for a scan of an input in any encoding, the input, and the lines of the scan."""
+    words = ["scan", "any"]
+    done = subprocess.run([program, *words], input=data, capture_output=True, timeout=60)
+    return words, data, done.stdout.decode("ascii").splitlines()
+
+
+def commands(program):
     """What is run: the words, the input, and the lines of a scan of it, or of its decoding."""
-    for words, data, lines in rows():
+    small = [scanned(program, data) for data in [HUNDRED, *STEPS]]
+    for words, data, lines in [*rows(), *small]:
         if words[0] == "calls":
             continue
         yield words, data, lines
@@ -61,39 +80,66 @@ def kind_of(words, done, data, lines):
 
 
 def refuse_each(program, refuser, words, data, lines):
-    """Refuses the first request, the second, and so on, until three runs in a row are whole; returns what was seen."""
-    seen, in_a_row, number = {}, 0, 0
-    while in_a_row < 3:
-        number += 1
-        done = run(program, words, data, refuser, str(number))
-        kind = kind_of(words, done, data, lines)
+    """Refuses none, then each request that is made then, in turn; returns what was seen.
+
+    A request that comes before the input's end is read may be made again, and so may the first one after that if calls
+    are listed: collecting the words, and the calls, asks for the room of all at once and then for less.
+    """
+    after_read = sum(run_counted(program, words, data, refuser, 0, behind_read=True)[1])
+    seen, number, requests = {}, 0, after_read
+    while number <= requests:
+        done, counts, held = run_counted(program, words, data, refuser, number)
+        kind = None if held else kind_of(words, done, data, lines)
+        if number == 0:
+            requests = sum(counts)
+        may_be_whole = number <= requests - after_read + (words[0] == "calls")
+        if kind == "whole" and not may_be_whole or number == 0 and kind != "whole":
+            kind = None
         if kind is None:
-            print(f"{words}, {data[:80]!r}, {number}: {done.returncode}, {done.stdout[-300:]!r}, {done.stderr!r}")
+            print(f"{words}, {data[:80]!r}, {number}: {done.returncode}, {done.stdout[-300:]!r}, {done.stderr!r}, {held} blocks")
         seen[kind] = seen.get(kind, 0) + 1
-        in_a_row = in_a_row + 1 if kind == "whole" else 0
-        if number > 5000:
-            return {None: 1}
+        number += 1
     return seen
 
 
-def faults_of(lexlist, refuser, data, scans):
-    """Refuses each request of calls of scan in turn. Returns how many tokens come before the fault, for each.
+def is_refused_at(word, at, whole, found):
+    """Whether the lines are those with ample memory up to a call, then its fault of kind memory and idle answers."""
+    wanted = [WANTED, *(IDLE[letter] for letter in word[at + 1 :])]
+    states = found[2 * at + 1 :: 2]
+    is_over = all(state.startswith("STATE false ") and state.endswith(f" {WANTED}") for state in states)
+    return len(found) == len(whole) and found[: 2 * at] == whole[: 2 * at] and found[2 * at :: 2] == wanted and is_over
 
-    None if a request was refused and is not answered: then a later one is, since the one after the last changes nothing.
+
+def faults_of(lexlist, refuser, setting, data, word):
+    """Refuses each request of a list of calls in turn. Returns how many tokens come before the fault, for each.
+
+    None if one is not answered by the fault of the call in which it is made.
     """
-    words = ["each", "any", "1024", "s" * scans]
-    before, number = [], 0
-    while True:
-        number += 1
-        done = run(lexlist, words, data, refuser, str(number), behind_read=True)
-        if WANTED not in done.stdout:
-            later = [run(lexlist, words, data, refuser, str(number + n), behind_read=True).stdout for n in range(1, 9)]
-            return before if all(text == done.stdout for text in later) else None
-        before.append(done.stdout[: done.stdout.index(WANTED)].count(b"TOKEN YAML"))
+    words = ["each", setting, "1024", word]
+    done, counts, held = run_counted(lexlist, words, data, refuser, 0, behind_read=True)
+    whole, before, is_right = done.stdout.decode("ascii").splitlines(), [], not held and not done.stderr
+    calls = [at for at, count in enumerate(counts[:-1:2]) for _ in range(count)]
+    for number, at in enumerate(calls, 1):
+        done, _, held = run_counted(lexlist, words, data, refuser, number, behind_read=True)
+        found = done.stdout.decode("ascii").splitlines()
+        if held or done.stderr or not is_refused_at(word, at, whole, found):
+            print(f"{words}, {data[:80]!r}, {number}, call {at}: {done.stdout[-300:]!r}, {done.stderr!r}, {held} blocks")
+            is_right = False
+        before.append(sum(line.startswith("TOKEN YAML") for line in found[: 2 * at : 2]))
+    return before if is_right and len(calls) == sum(counts) else None
+
+
+def steps():
+    """The setting, the input and the calls for each small input: scans past its end, and peeks with skips."""
+    for data in STEPS:
+        for setting, codec in ("utf8", "utf-8"), ("utf16le", "utf-16-le"):
+            for word in "s" * 40, "pkppks" * 10:
+                yield setting, data.decode("ascii").encode(codec), word
 
 
 def main(program):
-    every = list(commands())
+    every, small = list(commands(program)), list(steps())
+    lexlist = os.path.join(os.path.dirname(program), "..", "..", "lexlist", "out", "lexlist")
     with tempfile.TemporaryDirectory() as room:
         refuser = build_refuser(room)
         total = {"whole": 0, "beginning": 0, "nothing": 0, None: 0}
@@ -101,20 +147,20 @@ def main(program):
             for seen in pool.map(lambda one: refuse_each(program, refuser, *one), every):
                 for kind, count in seen.items():
                     total[kind] += count
-        lexlist = os.path.join(os.path.dirname(program), "..", "..", "lexlist", "out", "lexlist")
-        hundred = faults_of(lexlist, refuser, HUNDRED, 310)
-        steps = [faults_of(lexlist, refuser, data, 40) for data in STEPS]
+            hundred = faults_of(lexlist, refuser, "any", HUNDRED, "s" * 310)
+            found = list(pool.map(lambda one: faults_of(lexlist, refuser, *one), small))
     wrong = total.pop(None)
     counts = ", ".join(f"{count} {kind}" for kind, count in total.items())
     print(f"growths: {len(every)} commands, {counts}, {wrong} wrong")
-    unanswered = sum(one is None for one in [hundred, *steps])
-    faults = len(hundred or [])
-    early = sum(tokens < 10 for tokens in hundred or [])
+    unanswered = sum(one is None for one in [hundred, *found])
+    faults, early = len(hundred or []), sum(tokens < 10 for tokens in hundred or [])
     print(f"growths: 100 entries, {faults} faults of kind memory, {early} of them before the tenth token")
-    print(f"growths: {len(steps)} steps, {[len(one or []) for one in steps]} faults, {unanswered} not answered")
+    print(f"growths: {len(STEPS)} small inputs, {sum(len(one or []) for one in found)} faults, {unanswered} lists of calls not answered")
     is_wrong = wrong or unanswered or not all(total.values()) or faults <= 100 or early >= 100
-    return 1 if is_wrong or any(len(one or []) < 2 for one in steps) else 0
+    return 1 if is_wrong or any(len(one or []) < 2 for one in found) else 0
 
 
 if __name__ == "__main__":
-    sys.exit(main(sys.argv[1]))
+    from lib.usage import given_program
+
+    sys.exit(main(given_program()))

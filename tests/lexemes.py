@@ -25,4 +25,6 @@ def main(program):
 
 
 if __name__ == "__main__":
-    sys.exit(main(sys.argv[1]))
+    from lib.usage import given_program
+
+    sys.exit(main(given_program()))

@@ -4,6 +4,8 @@ import os
 import subprocess
 
 TOP = os.path.dirname(os.path.dirname(os.path.dirname(os.path.abspath(__file__))))
+with open(os.path.join(TOP, "VERSION"), encoding="ascii") as text:
+    VERSION = text.read().strip()
 
 
 def build_library():

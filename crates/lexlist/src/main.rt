@@ -12,19 +12,21 @@
 //! FLOW and ALLOWED are 0 or 1, INDEX counts bytes, LEVEL is a column or `-`, TEXT is hexadecimal or `-`, ENC is as
 //! below. The answer to a line that is no such question is `?`.
 //!
-//! With the word `measure` something is done nine times with the input as a text: the lexeme at its front is read,
-//! with `measure walk` all its lexemes one after the other, with `measure scan` or `measure scan LIMIT` its tokens
-//! are scanned call by call, with `measure sink` they are given to a sink, and with `measure decode` it is decoded. The
-//! answer is how many bytes were read, tokens scanned or bytes decoded, and the best and the median time in
-//! nanoseconds.
+//! With the word `measure` something is done nine times with the input, or its longest front that is text: the
+//! lexeme at its front is read, with `measure walk` all its lexemes one after the other, with `measure scan` or
+//! `measure scan LIMIT` the tokens of the input are scanned call by call, with `measure sink` they are given to a
+//! sink, and with `measure decode` it is decoded. The answer is how many bytes were read, tokens scanned or bytes
+//! decoded, and the best and the median time in nanoseconds.
 //!
-//! Four commands show what a session does if memory is refused: after the input is read, only the named calls
-//! take memory (`session.rt`).
+//! Five commands are for requests for memory, which may be refused or counted: after the input is read, only the named
+//! calls take memory (`session.rt`).
 //!
 //! - `each ENC LIMIT WORD` makes the calls of WORD one by one: `s` for a scan, `p` for a peek, `k` for a skip;
 //! - `calls ENC LIMIT WORD..` makes the calls of each WORD by one `yaml_run`, all on one parser;
 //! - `all ENC LIMIT` lists all tokens by one call;
-//! - `decode ENC` decodes the input.
+//! - `decode ENC` decodes the input;
+//! - `bare ENC` makes the calls that take no memory: a new parser and its state, decoding of UTF-8, and at each place
+//!   of the text its mark, gaps, kinds, lexemes of one character and character classes.
 //!
 //! ENC is `any`, `utf8`, `utf16le` or `utf16be`, LIMIT a key limit of 1 to 65536 bytes.
 #![tactic(auto)]
@@ -32,6 +34,7 @@
 #[cfg(test)]
 mod all_tests;
 mod ask;
+mod bare;
 #[cfg(test)]
 mod lexeme_tests;
 mod measure;

@@ -13,7 +13,8 @@ use yaml_lexeme::{
 };
 use yaml_scan::{yaml_parser_scan, yaml_parser_t, yaml_scan_to, yaml_token_sink_t};
 use yaml_text::{
-    unnamed_yaml_token_t_data, yaml_decode, yaml_encoding_t, yaml_mark_t, yaml_text_t, yaml_token_t,
+    unnamed_yaml_token_t_data, yaml_decode, yaml_decode_front, yaml_encoding_t, yaml_mark_t,
+    yaml_text_t, yaml_token_t,
 };
 
 /// What is done with a text.
@@ -193,7 +194,8 @@ fn done(alloc: Global, task: task_t, limit: u32, input: &[u8], text: &yaml_text_
 /// Does the task on the input nine times. The key limit is that of scanning.
 ///
 /// Returns a line: how many bytes were read, tokens scanned or bytes decoded, and the best and the median time in
-/// nanoseconds. If the input is no text, the line says so.
+/// nanoseconds. The text is the longest front of the input that is one. If there is no memory for it, the line says
+/// so.
 pub fn measure(
     rt: &HostRuntime,
     input: &[u8],
@@ -204,8 +206,9 @@ pub fn measure(
     requires most { limit ≤ MOST_KEY_LIMIT }
 {
     let alloc = rt.alloc();
-    let Ok(text) = yaml_decode(alloc, input, yaml_encoding_t::YAML_ANY_ENCODING) else {
-        return Ok(String::from_str(alloc, "no text\n"));
+    let any = yaml_encoding_t::YAML_ANY_ENCODING;
+    let Ok((text, _)) = yaml_decode_front(alloc, input, any) else {
+        return Ok(String::from_str(alloc, "no memory\n"));
     };
     let mut times = Vec::new(alloc);
     let mut count = 0;

@@ -4,6 +4,7 @@
 //! and lines are written piece by piece. So each request for memory comes from the call that is tested.
 ghost use Rattle.std.specs.Prelude.{◌≤◌, IfOk, IfSome, length};
 
+use crate::bare::put_places;
 use crate::words::{setting_of, word_at};
 use std::alloc::{AllocError, Global};
 use std::io;
@@ -24,7 +25,7 @@ const KEY_LIMIT: u32 = 1024;
 /// The greatest key limit, in bytes.
 pub const MOST_KEY_LIMIT: u32 = 65536;
 
-fn put_mark(out: &mut impl Write, mark: yaml_mark_t) -> io::Result<()> {
+pub fn put_mark(out: &mut impl Write, mark: yaml_mark_t) -> io::Result<()> {
     let (index, line, column) = (mark.index, mark.line, mark.column);
     write!(out, " {index}:{line}:{column}")
 }
@@ -282,6 +283,19 @@ fn decode(rt: &HostRuntime, setting: yaml_encoding_t) -> io::Result<()> {
     }
 }
 
+/// Makes the calls that take no memory: a new parser, its state, decoding of UTF-8, and what [`put_places`] makes.
+fn call_bare(rt: &HostRuntime, setting: yaml_encoding_t) -> io::Result<()> {
+    let mut room = [0u8; MOST];
+    let count = read_input(&mut rt.stdin(), &mut room)?;
+    let mut out = rt.stdout();
+    let parser = yaml_parser_t::new(rt.alloc(), &room[..count], setting);
+    put_state(&mut out, &parser)?;
+    match yaml_decode(rt.alloc(), &room[..count], setting) {
+        Ok(text) => put_places(&mut out, rt.alloc(), &text),
+        Err(fault) => put_fault(&mut out, &fault),
+    }
+}
+
 /// The key limit of a word, if it is one.
 fn limit_of(word: &str) -> Option<u32>
     ensures { IfSome result (λ limit. (1 ≤ limit) × (limit ≤ MOST_KEY_LIMIT)) }
@@ -307,7 +321,8 @@ pub fn wrong_words() -> io::Error {
     io::Error::from(io::ErrorKind::InvalidInput)
 }
 
-/// Runs the command of the words: `each ENC LIMIT WORD`, `calls ENC LIMIT WORD..`, `all ENC LIMIT` or `decode ENC`.
+/// Runs the command of the words: `each ENC LIMIT WORD`, `calls ENC LIMIT WORD..`, `all ENC LIMIT`, `decode ENC` or
+/// `bare ENC`.
 ///
 /// # Errors
 ///
@@ -319,7 +334,10 @@ pub fn list_session(rt: &HostRuntime, words: &[String]) -> io::Result<()> {
     };
     let setting = setting_of(setting.as_str()).ok_or(wrong_words())?;
     let [limit, words @ ..] = rest else {
-        return decode(rt, setting);
+        return match command.as_str() {
+            "bare" => call_bare(rt, setting),
+            _ => decode(rt, setting),
+        };
     };
     let limit = limit_of(limit.as_str()).ok_or(wrong_words())?;
     match command.as_str() {

@@ -11,7 +11,8 @@ use Rattle.yaml_scan.specs.declared.kept.yaml_kept_parser_t.{yaml_kept_parser_t}
 use Rattle.yaml_c.specs.Ahead.{Ahead, ahead_of, need}
 use Rattle.yaml_c.specs.Ahead.Ahead.{NONE, TOKEN, FAULT, OVER}
 use Rattle.yaml_c.specs.Answer.{answer_of, answer_with, fault_texts}
-use Rattle.yaml_c.specs.Held.{Scan, Stands, Stops, IsAt, ReadsOn, rooms_of, GivesFault, TellsCounts, Ends, Why, Tells, IsNext}
+use Rattle.yaml_c.specs.Held.{Scan, Stands, IsAt, Why, Tells, IsNext}
+use Rattle.yaml_c.specs.inside.Batch.{Stops, ReadsOn, rooms_of, GivesFault, TellsCounts, Ends}
 use Rattle.yaml_c.specs.Numbers.{encoding_number}
 use Rattle.yaml_c.specs.Record.{held, records_of, all_texts}
 use Rattle.yaml_c.specs.Room.{covered, covered_from}

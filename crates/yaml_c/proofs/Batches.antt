@@ -9,9 +9,11 @@ use Rattle.yaml_scan.specs.Scanned.{Scanned}
 use Rattle.yaml_scan.proofs.RunningCalls.ScansToTheEnd.{scans_end}
 use Rattle.yaml_c.specs.Ahead.{Ahead, ahead_of, is_end}
 use Rattle.yaml_c.specs.Ahead.Ahead.{NONE, TOKEN, OVER}
-use Rattle.yaml_c.specs.Held.{Stands, Stops, GivesNext}
+use Rattle.yaml_c.specs.Held.{Stands}
+use Rattle.yaml_c.specs.inside.Batch.{Stops, GivesNext}
 use Rattle.yaml_c.specs.Record.{record_of, texts_of, all_texts}
-use Rattle.yaml_c.specs.Sink.{IsPut, ArePut, more_put}
+use Rattle.yaml_c.specs.inside.Sink.{IsPut, ArePut}
+use Rattle.yaml_c.specs.inside.MorePut.{more_put}
 use Rattle.yaml_c.specs.declared.held.ahead_t.{ahead_t}
 use Rattle.yaml_c.specs.declared.held.ahead_t.TheVariants as code
 use Rattle.yaml_c.specs.declared.sink.token_rooms_t.{token_rooms_t}

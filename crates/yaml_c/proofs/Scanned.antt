@@ -10,7 +10,7 @@ use Rattle.yaml_c.specs.declared.sink.token_rooms_t.{token_rooms_t}
 use Rattle.yaml_c.specs.Answer.{IsScanned, answer_with, fault_texts, status_of}
 use Rattle.yaml_c.specs.Record.{held, records_of, all_texts}
 use Rattle.yaml_c.specs.Room.{covered_from}
-use Rattle.yaml_c.specs.Sink.{ArePut}
+use Rattle.yaml_c.specs.inside.Sink.{ArePut}
 use Rattle.yaml_c.proofs.TokensPut.{Fits, have_put}
 use Rattle.yaml_c.proofs.Rooms.{covered_held, length-covered_from, more_covered_from}
 

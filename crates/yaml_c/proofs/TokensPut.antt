@@ -6,7 +6,7 @@ use Rattle.yaml_c.specs.declared.record.bogzhami_token.{bogzhami_token}
 use Rattle.yaml_c.specs.declared.sink.token_rooms_t.{token_rooms_t}
 use Rattle.yaml_c.specs.Room.{covered_from}
 use Rattle.yaml_c.specs.Record.{held, record_of, records_of, texts_of, all_texts}
-use Rattle.yaml_c.specs.Sink.{IsPut, ArePut}
+use Rattle.yaml_c.specs.inside.Sink.{IsPut, ArePut}
 use Rattle.yaml_c.proofs.Rooms.{covered_from_by_none, covered_held, length-covered_from, more_covered_from}
 
 held_held : (n k : ℕ) → held (held n + k) ≡ held (n + k)

@@ -3,9 +3,9 @@ pub mod Laws
 pub mod Numbers
 pub mod Record
 pub mod Room
-pub mod Sink
 pub mod Status
 pub mod Ahead
 pub mod Held
 pub mod Handle
 pub mod HeldLaws
+pub mod inside

@@ -5,13 +5,15 @@ ghost use Rattle.yaml_text.specs.declared.types.yaml_encoding_t.{yaml_encoding_t
 ghost use Rattle.yaml_c.specs.Record.{held, texts_of};
 ghost use Rattle.yaml_c.specs.Ahead.{ahead_of, after_token, need};
 ghost use Rattle.yaml_c.specs.Ahead.Ahead.{NONE, TOKEN, OVER as ALL_GIVEN};
-ghost use Rattle.yaml_c.specs.Held.{Scan, Stands, IsAt, GivesNext, Ends, ReadsOn, IsNext, Shows};
-ghost use Rattle.yaml_c.specs.Held.{opened, looked, rooms_of};
+ghost use Rattle.yaml_c.specs.Held.{Scan, Stands, IsAt, IsNext, Shows};
+ghost use Rattle.yaml_c.specs.inside.Batch.{GivesNext, Ends, ReadsOn};
+ghost use Rattle.yaml_c.specs.Held.{opened, looked};
+ghost use Rattle.yaml_c.specs.inside.Batch.{rooms_of};
 ghost use Rattle.yaml_text.specs.Decode.{encoding_of};
 ghost use Rattle.yaml_scan.specs.Parser.{Parser};
 ghost use Rattle.yaml_c.specs.Answer.{most_key_limit};
 ghost use Rattle.yaml_scan.specs.inside.Kept.{IsKept};
-ghost use Rattle.yaml_c.specs.Sink.{IsPut};
+ghost use Rattle.yaml_c.specs.inside.Sink.{IsPut};
 
 use crate::answer::{bogzhami_answer, counts, counts_and_fault, fault_len, put_fault_texts};
 use crate::numbers::encoding_number;

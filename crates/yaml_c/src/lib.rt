@@ -5,7 +5,7 @@ ghost use Rattle.std.specs.Prelude.{◌≤◌, option_map};
 ghost use Rattle.yaml_text.specs.Fault.{fault_of};
 ghost use Rattle.yaml_scan.specs.Sink.{IsGivenAll};
 ghost use Rattle.yaml_c.specs.Answer.{RefusesWrong, ScansRight, most_key_limit, rooms};
-ghost use Rattle.yaml_c.specs.Sink.{ArePut};
+ghost use Rattle.yaml_c.specs.inside.Sink.{ArePut};
 
 mod answer;
 mod calls;

@@ -24,7 +24,7 @@ impl<'a> token_rooms_t<'a> {
     ghost use Rattle.yaml_c.specs.Answer.{fault_texts};
     ghost use Rattle.yaml_c.specs.Room.{covered_from};
     ghost use Rattle.yaml_text.specs.Token.{token_of};
-    ghost use Rattle.yaml_c.specs.Sink.{IsPut};
+    ghost use Rattle.yaml_c.specs.inside.Sink.{IsPut};
 
     /// Whether so many bytes find room after the texts that were put.
     #[inline(always)]
@@ -68,7 +68,8 @@ impl<'a> token_rooms_t<'a> {
 
 impl yaml_token_sink_t for token_rooms_t<'_> {
     ghost use Rattle.std.specs.Prelude.{refl};
-    ghost use Rattle.yaml_c.specs.Sink.{ArePut, more_put};
+    ghost use Rattle.yaml_c.specs.inside.Sink.{ArePut};
+    ghost use Rattle.yaml_c.specs.inside.MorePut.{more_put};
 
     ghost took = { ArePut };
 

@@ -117,36 +117,74 @@ fn rooms_that_are_too_small(rt: HostRuntime) -> Result<(), Fail> {
     Ok(())
 }
 
-/// A setting or a limit that is wrong touches nothing but the answer.
+/// Whether a record is as it was before the call.
+fn is_untouched(token: &bogzhami_token) -> bool {
+    let marks = [token.start_mark, token.end_mark];
+    (token.token_type, token.detail) == (77, 77)
+        && (token.major, token.minor) == (77, 77)
+        && (token.text_at, token.first_len, token.second_len) == (77, 77, 77)
+        && marks.iter().all(|mark| (mark.index, mark.line, mark.column) == (77, 77, 77))
+}
+
+/// A setting or a limit that is wrong touches nothing but the answer, which is all zeros.
 #[test]
 fn wrong_settings_and_limits(rt: HostRuntime) -> Result<(), Fail> {
-    for (setting, limit, wanted) in [
-        (4, KEY_LIMIT, 2),
-        (u32::MAX, KEY_LIMIT, 2),
-        (0, 0, 2),
-        (0, 65_537, 2),
-        (3, 65_536, 0),
-        (0, 1, 0),
-    ] {
+    for (setting, limit) in [(4, KEY_LIMIT), (u32::MAX, KEY_LIMIT), (0, 0), (0, 65_537)] {
         let mut tokens = [NO_TOKEN; 1];
         let mut texts = [77u8; 1];
         let mut out = NO_ANSWER;
         let status = bogzhami_scan_all(
             rt.alloc(),
-            b"",
+            b"a",
             setting,
             limit,
             &mut tokens,
             &mut texts,
             &mut out,
         );
-        assert_eq!(rt; status, wanted, "{setting} {limit}");
+        assert_eq!(rt; status, 2, "{setting} {limit}");
+        assert_eq!(rt;
+            (out.token_count, out.text_len, out.error),
+            (0, 0, 0),
+            "{setting} {limit}"
+        );
+        assert_eq!(rt;
+            (out.problem_value, out.problem_offset),
+            (0, 0),
+            "{setting} {limit}"
+        );
+        assert_eq!(rt;
+            (out.problem_len, out.context_len),
+            (0, 0),
+            "{setting} {limit}"
+        );
         let [token] = tokens;
-        let count = if wanted == 2 { 0 } else { 2 };
-        assert_eq!(rt; out.token_count, count, "{setting} {limit}");
-        assert_eq!(rt; out.error, 0, "{setting} {limit}");
-        let first = if wanted == 2 { 77 } else { 1 };
-        assert_eq!(rt; token.token_type, first, "{setting} {limit}");
+        assert!(rt; is_untouched(&token), "{setting} {limit}");
+        assert_eq!(rt; texts, [77], "{setting} {limit}");
+    }
+    Ok(())
+}
+
+/// The greatest and the least limit are right.
+#[test]
+fn ends_of_the_limits(rt: HostRuntime) -> Result<(), Fail> {
+    for limit in [1, 65_536] {
+        let mut tokens = [NO_TOKEN; 1];
+        let mut texts = [77u8; 1];
+        let mut out = NO_ANSWER;
+        let status = bogzhami_scan_all(
+            rt.alloc(),
+            b"a",
+            0,
+            limit,
+            &mut tokens,
+            &mut texts,
+            &mut out,
+        );
+        assert_eq!(rt; (status, out.token_count), (0, 3), "{limit}");
+        let [token] = tokens;
+        assert_eq!(rt; token.token_type, 1, "{limit}");
+        assert_eq!(rt; texts, *b"a", "{limit}");
     }
     Ok(())
 }

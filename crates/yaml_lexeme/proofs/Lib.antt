@@ -16,3 +16,5 @@ pub mod CountedMarks
 pub mod LongestLists
 -- Worked examples, which are computed.
 mod Examples
+-- What the comparisons that types derive answer.
+pub mod Comparisons

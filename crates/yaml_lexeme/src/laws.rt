@@ -1,4 +1,6 @@
-//! Laws about the definitions.
+//! Laws about the definitions, and about the equality that the types derive.
+ghost use Rattle.std.specs.Prelude.{◌≡◌, ◌↔◌, IsTrue};
+ghost use Rattle.yaml_lexeme.specs.Lexeme.{lexeme_of};
 ghost use Rattle.yaml_lexeme.specs.Counted.{PlacesAreCounted, MarksAreCounted};
 ghost use Rattle.yaml_lexeme.specs.Whole.{GapIsWhole, ReachIsWhole, EndIsWhole, GapIsCounted, LexemeIsCounted};
 ghost use Rattle.yaml_lexeme.specs.Whole.{ProblemIsCounted};
@@ -9,6 +11,11 @@ ghost use Rattle.yaml_lexeme.specs.Parts.{ChunkIsLongest, LinkIsLongest, LinkIsO
 ghost use Rattle.yaml_lexeme.specs.Parts.{BlanksAreLines, BlockIsLines};
 ghost use Rattle.yaml_lexeme.specs.Order.{GapOrder, LexemeSpans, LexemeOrder, StreamEndOrder, OffenceIsAhead};
 ghost use Rattle.yaml_lexeme.specs.Order.{LexemeFollows};
+
+use crate::kind::yaml_lexeme_kind_t;
+use crate::lex::yaml_context_t;
+use crate::lexeme::yaml_lexeme_t;
+use crate::problem::yaml_problem_t;
 
 /// A gap ends where it starts or further on.
 pub fn gap_order()
@@ -121,3 +128,31 @@ pub fn block_is_its_lines()
     ensures empty { BlanksAreLines }
     ensures text { BlockIsLines }
 {}
+
+/// Lexemes are equal exactly if what they say, their marks and whether a break was passed are.
+pub fn same_lexemes(a: &yaml_lexeme_t, b: &yaml_lexeme_t) -> bool
+    ensures { IsTrue result ↔ (lexeme_of a.now ≡ lexeme_of b.now) }
+{
+    *a == *b
+}
+
+/// Contexts are equal exactly if their depth and their level are.
+pub fn same_contexts(a: yaml_context_t, b: yaml_context_t) -> bool
+    ensures { IsTrue result ↔ (a ≡ b) }
+{
+    a == b
+}
+
+/// Kinds of lexemes are equal exactly if they are one kind.
+pub fn same_kinds(a: yaml_lexeme_kind_t, b: yaml_lexeme_kind_t) -> bool
+    ensures { IsTrue result ↔ (a ≡ b) }
+{
+    a == b
+}
+
+/// Problems are equal exactly if they are one problem.
+pub fn same_problems(a: yaml_problem_t, b: yaml_problem_t) -> bool
+    ensures { IsTrue result ↔ (a ≡ b) }
+{
+    a == b
+}

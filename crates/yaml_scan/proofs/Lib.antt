@@ -16,5 +16,7 @@ pub mod RunningStep
 pub mod RunningQueue
 -- The calls of the running scanner are those of the session.
 pub mod RunningCalls
+-- What the comparisons that types derive answer.
+pub mod Comparisons
 -- Worked inputs, which are computed.
 mod Examples

@@ -7,6 +7,8 @@ pub mod StepsMade
 pub mod ToNextToken
 -- The head of the queue is the next token of the list, and taking it leaves the rest.
 pub mod TakingHead
+-- What a running scanner has given to a sink is what was taken of its input, step after step.
+pub mod GivenTokens
 -- The answers to a peek, a scan and a skip are those of the session.
 pub mod CallAnswers
 -- What a call keeps: how many steps wait, and that they are few.
@@ -15,5 +17,7 @@ pub mod ParserInvariant
 pub mod MemoryRefused
 -- Scan after scan to the end of an input gives the whole list.
 pub mod ScansToTheEnd
+-- A sink is given all tokens of an input, or those before its fault, or those that some of the steps settle.
+pub mod GivenToEnd
 -- A parser that was kept without its input goes on as if it had kept it.
 pub mod KeptParser

@@ -11,9 +11,13 @@ pub mod SlotOrder
 pub mod EmptySlots
 -- The head of the queue is the next token exactly if no candidate that is held is the head.
 pub mod HeadIsNext
+-- If no candidate is awaited, all tokens that were made are settled, and the groups of the queue hand them out.
+pub mod WholeQueue
 -- Where no token is queued, there is no candidate.
 pub mod NoCandidates
 -- How many steps are queued can be counted in the queue, since each has one token of its own lexeme.
 pub mod StepsInQueue
 -- How many steps wait, as more steps are made and tokens are taken.
 pub mod StepsWaiting
+-- What a group hands out, and that a sink was given it token by token.
+pub mod GroupTokens

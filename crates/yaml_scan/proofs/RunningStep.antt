@@ -23,3 +23,5 @@ pub mod StepPut
 pub mod StepTests
 -- What changes in a scanner within a step, and what stays.
 pub mod StepMoves
+-- What was laid is handed on: into the queue, or straight to a sink.
+pub mod StepHanded

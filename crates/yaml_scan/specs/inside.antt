@@ -7,6 +7,8 @@ pub mod Queue
 pub mod StepFaults
 pub mod NearFault
 pub mod Scanning
+pub mod Handed
+pub mod Given
 pub mod Ready
 pub mod Shown
 pub mod Kept

@@ -1,5 +1,7 @@
 //! A candidate for a key, and what comes right after it and decides whether it is one: two steps that are made at once.
-ghost use Rattle.std.specs.Prelude.{ℕ, ◌≡◌, ◌<◌, ◌++◌, ◌∷◌, ◌&&◌, [], List, None, true, not, length, reverse};
+ghost use Rattle.std.specs.Prelude.{ℕ, Bool, ◌≡◌, ◌<◌, ◌++◌, ◌∷◌, ◌&&◌, [], List, None, true, false, not, length};
+ghost use Rattle.std.specs.Prelude.{reverse};
+ghost use Rattle.std.specs.Prelude.{filter, map};
 ghost use Rattle.std.specs.Prelude.{if◌then◌else◌, IfSome, vec_len};
 ghost use Rattle.std.specs.Vec.{vec_capacity};
 ghost use Rattle.std.specs.VecDeque.{deque_capacity};
@@ -11,7 +13,12 @@ ghost use Rattle.yaml_scan.specs.Levels.{IsFalling};
 ghost use Rattle.yaml_scan.specs.declared.groups.block_t.TheVariants.{MAPPING, NONE};
 ghost use Rattle.yaml_scan.specs.inside.Opened.{is_new};
 ghost use Rattle.yaml_scan.specs.inside.Queue.{closing};
-ghost use Rattle.yaml_scan.specs.inside.Scanning.{AdvancesTwice, CanLayAll, IsDecided, IsUndecided, counted};
+ghost use Rattle.yaml_text.specs.Token.{token_of};
+ghost use Rattle.yaml_scan.specs.Groups.Token.{BlockEnd};
+ghost use Rattle.yaml_scan.specs.Kind.{is_stream_end};
+ghost use Rattle.yaml_scan.specs.Levels.{stays};
+ghost use Rattle.yaml_scan.specs.inside.Queue.{ends_at};
+ghost use Rattle.yaml_scan.specs.inside.Scanning.{CanLayAll, IsDecided, IsUndecided, LaysTwo, groups_in};
 ghost use Rattle.yaml_scan.specs.inside.Slots.{nested_outer, nested_top};
 
 use crate::allowed::is_allowed_after;
@@ -20,7 +27,7 @@ use crate::groups::{block_t, group_t, queue_t};
 use crate::keys::is_still_live;
 use crate::kind::{is_candidate, is_colon};
 use crate::lay::token_of;
-use crate::levels::{closed_t, closing, is_new_level, layout_t, open_level, put_group};
+use crate::levels::{close_levels, closing, is_new_level, open_level};
 use crate::look::step_t;
 use crate::scanner::scanner_t;
 use crate::slots::slots_t;
@@ -46,16 +53,23 @@ fn keeps_levels(levels: &[u64], in_flow: bool, kind: yaml_lexeme_kind_t, start: 
 }
 
 /// Whether the next token needs what comes after the lexeme of a step, which was read up to a mark: it is a candidate
-/// and no other token is before it. Its step closes no level, and there is room for both.
+/// and no other token is before it. If `sparing`, its step closes no level, so that its token comes next. There is room
+/// for both.
 #[inline(always)]
-fn is_undecided(scanner: &scanner_t, margin: bool, step: step_t, reach: yaml_mark_t) -> bool
-    ensures { result ≡ true → IsUndecided scanner.now margin step reach }
+fn is_undecided(
+    scanner: &scanner_t,
+    margin: bool,
+    sparing: bool,
+    step: step_t,
+    reach: yaml_mark_t,
+) -> bool
+    ensures { result ≡ true → IsUndecided scanner.now margin sparing step reach }
 {
     is_candidate(step.kind)
         && !is_flow_start(step.kind)
         && step.allowed
         && has_room_for_two(&scanner.layout.queue)
-        && keeps_levels(&scanner.layout.levels, !margin, step.kind, step.new.start)
+        && (!sparing || keeps_levels(&scanner.layout.levels, !margin, step.kind, step.new.start))
         && is_still_live(scanner.limit, reach, step.new)
 }
 
@@ -65,13 +79,14 @@ fn is_undecided(scanner: &scanner_t, margin: bool, step: step_t, reach: yaml_mar
 pub(crate) fn decided_by(
     scanner: &scanner_t,
     margin: bool,
+    sparing: bool,
     step: step_t,
     reach: yaml_mark_t,
 ) -> Option<decider_t>
     requires { is_candidate_kind step.kind ≡ true → (p : ℕ) × IsMarkOf scanner.now.text.chars reach p }
-    ensures { IfSome result (λ d. IsDecided scanner.now margin step reach d.kind (lexeme_of d.lexeme)) }
+    ensures { IfSome result (λ d. IsDecided scanner.now margin sparing step reach d.kind (lexeme_of d.lexeme)) }
 {
-    if !is_undecided(scanner, margin, step, reach) {
+    if !is_undecided(scanner, margin, sparing, step, reach) {
         return None;
     }
     let decider = decider_at(&scanner.text, reach, !margin)?;
@@ -82,39 +97,38 @@ pub(crate) fn decided_by(
     }
 }
 
-/// Appends the group of a candidate that closes no level. If it is a key in a column above the levels, opens that.
-/// There is room for both.
+/// The start of a block mapping, or none.
 #[inline(always)]
-fn put_candidate(layout: &mut layout_t, margin: bool, key: bool, token: yaml_token_t)
-    requires falls { IsFalling (reverse layout.old.levels.items) }
-    requires level { vec_len layout.old.levels < vec_capacity layout.old.levels }
-    requires room { length layout.old.queue.groups.items < deque_capacity layout.old.queue.groups }
-    ensures levels { reverse layout.new.levels.items
-        ≡ (if key && is_new margin token.start_mark.column (reverse layout.old.levels.items)
-        then token.start_mark.column ∷ [] else []) ++ reverse layout.old.levels.items }
-    ensures groups { layout.new.queue.groups.items ≡ layout.old.queue.groups.items ++ record {
-      ends = 0;
-      opens = if key && is_new margin token.start_mark.column (reverse layout.old.levels.items) then MAPPING else NONE;
-      key = key;
-      token = token;
-    } ∷ [] }
-    ensures capacity { deque_capacity layout.new.queue.groups ≡ deque_capacity layout.old.queue.groups }
-    ensures done { layout.new.queue.done ≡ layout.old.queue.done }
-    ensures early { layout.new.queue.early ≡ layout.old.queue.early }
+fn mapping_start(opens: bool) -> block_t
+    ensures { result ≡ (if opens then MAPPING else NONE) }
 {
-    let column = token.start_mark.column;
-    let opens = key && is_new_level(&layout.levels, margin, column);
-    open_level(&mut layout.levels, opens, column);
-    layout.queue.groups.push_back_reserved(group_t {
-        ends: 0,
-        opens: if opens {
-            block_t::MAPPING
-        } else {
-            block_t::NONE
-        },
-        key,
-        token,
-    });
+    if opens {
+        block_t::MAPPING
+    } else {
+        block_t::NONE
+    }
+}
+
+/// Closes the levels that the candidate of a step does not keep. If it is a key in a column above the others, opens
+/// that; there is room for it. Returns how many levels end at the candidate, and what it opens.
+#[inline(always)]
+fn lay_candidate(levels: &mut Vec<u64>, margin: bool, step: step_t, key: bool) -> (usize, block_t)
+    requires falls { IsFalling (reverse levels.old.items) }
+    requires room { vec_len levels.old < vec_capacity levels.old }
+    requires last { is_stream_end step.kind ≡ false }
+    ensures levels { (kept : List ℕ) × (reverse kept
+        ≡ filter (stays (not margin) step.kind step.new.start) (reverse levels.old.items))
+        × (reverse levels.new.items ≡ (if key && is_new margin step.new.start.column (reverse kept)
+        then step.new.start.column ∷ [] else []) ++ reverse kept)
+        × (result.1 ≡ (if key && is_new margin step.new.start.column (reverse kept) then MAPPING else NONE)) }
+    ensures ends { ends_at result.0 step.new.start ≡ map (λ c. BlockEnd step.new.start) (filter (λ c.
+        not (stays (not margin) step.kind step.new.start c)) (reverse levels.old.items)) }
+{
+    let start = step.new.start;
+    let closed = close_levels(levels, !margin, step.kind, start, start);
+    let opens = key && is_new_level(levels, margin, start.column);
+    open_level(levels, opens, start.column);
+    (closed.ends, mapping_start(opens))
 }
 
 /// Drops the candidate, the only one, at what decides it, which may be a flow end. There is room for one more depth.
@@ -133,29 +147,46 @@ fn drop_candidate(slots: &mut slots_t, kind: yaml_lexeme_kind_t)
 }
 
 /// Lays the lexeme of a step, which was read, and what decides whether it is a key. Both start at the end of a gap.
+/// Returns their groups.
 #[inline(always)]
-pub(crate) fn put_decided(
+pub(crate) fn lay_decided(
     scanner: &mut scanner_t,
     margin: bool,
+    step: step_t,
     lexeme: yaml_lexeme_t,
     decider: decider_t,
-)
+) -> (group_t, group_t)
     ghost before: { List Laid }
-    requires { (step : step_t) × CanLayAll before scanner.old margin step (lexeme_of lexeme)
-        × IsDecided scanner.old margin step lexeme.reach decider.kind (lexeme_of decider.lexeme) }
-    ensures laid { AdvancesTwice before scanner.old (counted scanner.new) }
-    ensures reach { scanner.new.reach ≡ (lexeme_of decider.lexeme).reach }
+    requires { CanLayAll before scanner.old margin step (lexeme_of lexeme)
+        × ((sparing : Bool) × IsDecided scanner.old margin sparing step lexeme.reach decider.kind
+        (lexeme_of decider.lexeme)) }
+    ensures laid { (sparing : Bool) → IsDecided scanner.old margin sparing step lexeme.reach decider.kind
+        (lexeme_of decider.lexeme)
+        → LaysTwo sparing before scanner.old scanner.new (groups_in scanner.new ++ result.0 ∷ (result.1 ∷ [])) }
+    ensures queue { scanner.new.layout.queue ≡ scanner.old.layout.queue }
+    ensures awaited { scanner.new.slots.awaited ≡ 0 }
+    ensures first { (token_of result.0.token).token_data ≡ (lexeme_of lexeme).token_data }
+    ensures second { (token_of result.1.token).token_data ≡ (lexeme_of decider.lexeme).token_data }
 {
     let kind = decider.kind;
     let key = is_colon(kind);
     let at = lexeme.reach;
     let reach = decider.lexeme.reach;
-    let none = closed_t { early: 0, ends: 0 };
-    let token = token_of(scanner.front, lexeme);
-    let next = token_of(at, decider.lexeme);
-    put_candidate(&mut scanner.layout, margin, key, token);
-    put_group(&mut scanner.layout.queue, none, at, block_t::NONE, next);
+    let (ends, opens) = lay_candidate(&mut scanner.layout.levels, margin, step, key);
     drop_candidate(&mut scanner.slots, kind);
     scanner.allowed = is_allowed_after(kind, margin, !key, false);
     scanner.reach = reach;
+    let first = group_t {
+        ends,
+        opens,
+        key,
+        token: token_of(step.new.start, lexeme),
+    };
+    let second = group_t {
+        ends: 0,
+        opens: block_t::NONE,
+        key: false,
+        token: token_of(at, decider.lexeme),
+    };
+    (first, second)
 }

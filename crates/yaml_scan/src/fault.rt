@@ -2,7 +2,7 @@
 ghost use Rattle.std.specs.Prelude.{◌≡◌};
 ghost use Rattle.std.specs.Option.{option_copied};
 ghost use Rattle.yaml_text.specs.Fault.{fault_of, memory_fault, scanner_fault};
-ghost use Rattle.yaml_scan.specs.declared.fault.stop_t.TheVariants.{MEMORY};
+ghost use Rattle.yaml_scan.specs.declared.fault.stop_t.TheVariants.{MEMORY, SINK};
 ghost use Rattle.yaml_scan.specs.inside.Stop.{fault_at};
 
 use std::alloc::AllocError;
@@ -14,12 +14,12 @@ const ZERO: yaml_mark_t = yaml_mark_t {
     column: 0,
 };
 
-/// The fault of a refused request for memory.
-pub(crate) fn make_memory_fault() -> yaml_fault_t
-    ensures { fault_of result ≡ memory_fault }
+/// A fault of which only the kind is set.
+fn make_bare_fault(error: yaml_error_type_t) -> yaml_fault_t
+    ensures { fault_of result ≡ record memory_fault { error = error } }
 {
     yaml_fault_t {
-        error: yaml_error_type_t::YAML_MEMORY_ERROR,
+        error,
         problem: None,
         problem_offset: 0,
         problem_value: 0,
@@ -27,6 +27,13 @@ pub(crate) fn make_memory_fault() -> yaml_fault_t
         context: None,
         context_mark: ZERO,
     }
+}
+
+/// The fault of a refused request for memory.
+pub(crate) fn make_memory_fault() -> yaml_fault_t
+    ensures { fault_of result ≡ memory_fault }
+{
+    make_bare_fault(yaml_error_type_t::YAML_MEMORY_ERROR)
 }
 
 /// A problem at a mark, with a context at another.
@@ -49,11 +56,12 @@ pub(crate) fn make_scanner_fault(
     }
 }
 
-/// Why a step stopped: memory was refused, or there is a fault, which was kept.
+/// Why a step stopped: memory was refused, or there is a fault, which was kept, or the sink refused a token.
 #[derive(Clone, Copy)]
 pub(crate) enum stop_t {
     MEMORY,
     FAULT,
+    SINK,
 }
 
 impl From<AllocError> for stop_t {
@@ -65,6 +73,14 @@ impl From<AllocError> for stop_t {
     }
 }
 
+/// The stop of a sink that refused a token.
+#[cold]
+pub(crate) fn stop_by_sink() -> stop_t
+    ensures { result ≡ SINK }
+{
+    stop_t::SINK
+}
+
 /// The same stop. It is cold, so that the compiler takes no stop for likely.
 #[cold]
 pub(crate) fn stopped(stop: stop_t) -> stop_t
@@ -73,12 +89,13 @@ pub(crate) fn stopped(stop: stop_t) -> stop_t
     stop
 }
 
-/// The fault of a stop.
+/// The fault of a stop, if that is not by the sink.
 pub(crate) fn fault_at(stop: stop_t, kept: &yaml_fault_t) -> yaml_fault_t
     ensures { fault_of result ≡ fault_at stop kept.now }
 {
     match stop {
         stop_t::MEMORY => make_memory_fault(),
         stop_t::FAULT => *kept,
+        stop_t::SINK => make_bare_fault(yaml_error_type_t::YAML_NO_ERROR),
     }
 }

@@ -1,53 +1,122 @@
 //! What comes after a lexeme was read: the step may have to stop, or the lexeme is laid.
-ghost use Rattle.std.specs.Prelude.{ℕ, List};
+ghost use Rattle.std.specs.Prelude.{ℕ, ◌≡◌, false, not, List, []};
 ghost use Rattle.yaml_lexeme.specs.Lexeme.{lexeme_of};
 ghost use Rattle.yaml_lexeme.specs.Place.{IsMarkOf};
 ghost use Rattle.yaml_scan.specs.Laid.{Laid};
-ghost use Rattle.yaml_scan.specs.inside.Scanning.{CanLayAll, CanRead, IsLaidBy, IsReadIn, IsStep};
+ghost use Rattle.yaml_scan.specs.Kind.{is_stream_end};
+ghost use Rattle.yaml_scan.specs.inside.Handed.{LaysTo, StepsTo, made_by};
+ghost use Rattle.yaml_scan.specs.inside.Scanning.{CanLayAll, CanRead, IsDecided, IsReadIn, IsStep};
 ghost use Rattle.yaml_scan.specs.inside.TextReads.{IsRead};
 
-use crate::decided::{decided_by, put_decided};
-use crate::fault::stop_t;
+use crate::decided::{decided_by, lay_decided};
+use crate::fault::{stop_t, stopped};
 use crate::keys::is_lost;
-use crate::lay::put_lexeme;
+use crate::kind::is_last;
+use crate::lay::lay_lexeme;
 use crate::look::{root_after, step_t};
 use crate::scanner::scanner_t;
+use crate::sink::yaml_token_sink_t;
+use crate::source::decider_t;
 use crate::stop::{stop_behind, stop_in_lexeme};
-use yaml_lexeme::{yaml_lexeme_t, yaml_refusal_t};
+use crate::target::{hand_on, no_sink_t};
+use yaml_lexeme::{yaml_lexeme_kind_t, yaml_lexeme_t, yaml_refusal_t};
 
-/// Lays the lexeme of a step, and with it what decides whether it is a key, if the next token needs both. Returns how
-/// many steps that makes.
+/// Whether the group of a lexeme of a kind that was laid has to wait: the stream end always does, and any other if
+/// groups before it do, or if a candidate may yet become a key.
 #[inline(always)]
-fn lay_all(scanner: &mut scanner_t, margin: bool, step: step_t, lexeme: yaml_lexeme_t) -> u64
-    ghost before: { List Laid }
-    requires { CanLayAll before scanner.old margin step (lexeme_of lexeme) }
-    ensures { IsLaidBy before scanner.old scanner.new result }
+fn has_to_wait(scanner: &scanner_t, kind: yaml_lexeme_kind_t) -> bool
+    ensures last { result ≡ false → is_stream_end kind ≡ false }
+    ensures awaited { result ≡ false → scanner.now.slots.awaited ≡ 0 }
+    ensures lone { result ≡ false → scanner.now.layout.queue.groups.items ≡ [] }
 {
-    match decided_by(scanner, margin, step, lexeme.reach) {
-        Some(decider) => {
-            put_decided(scanner, margin, lexeme, decider);
-            2
-        }
-        None => {
-            put_lexeme(scanner, margin, step, lexeme);
-            1
-        }
-    }
+    is_last(kind) || scanner.slots.awaited > 0 || !scanner.layout.queue.groups.is_empty()
 }
 
-/// Ends a step with the lexeme that was read. Stops if it is near the reader's fault, or a candidate is lost.
+/// Lays the lexeme of a step, and hands on its group.
 #[inline(always)]
-pub(crate) fn end_step(
+fn put_lexeme<const DIRECT: bool, S: yaml_token_sink_t>(
     scanner: &mut scanner_t,
+    sink: &mut S,
     margin: bool,
     step: step_t,
     lexeme: yaml_lexeme_t,
 ) -> Result<(), stop_t>
     ghost before: { List Laid }
-    requires can { CanRead before scanner.old margin step }
-    requires read { (p : ℕ) → IsMarkOf scanner.old.text.chars scanner.old.front p
-        → IsRead scanner.old.text.chars step.kind step.context.depth step.context.level p (lexeme_of lexeme) }
-    ensures { IsStep before scanner.old scanner.new result }
+    requires { CanLayAll before scanner.old margin step (lexeme_of lexeme) }
+    ensures { LaysTo before scanner.old scanner.new DIRECT (λ tokens. S.took sink.old tokens sink.new) S.may_refuse
+        (made_by 1 result) }
+{
+    let group = lay_lexeme(scanner, margin, step, lexeme);
+    let waits = has_to_wait(scanner, step.kind);
+    hand_on::<DIRECT, S>(scanner, sink, waits, group)
+}
+
+/// Lays the lexeme of a step and what decides whether it is a key, and hands on their groups.
+#[inline(always)]
+fn put_decided<const DIRECT: bool, S: yaml_token_sink_t>(
+    scanner: &mut scanner_t,
+    sink: &mut S,
+    margin: bool,
+    step: step_t,
+    lexeme: yaml_lexeme_t,
+    decider: decider_t,
+) -> Result<(), stop_t>
+    ghost before: { List Laid }
+    requires { CanLayAll before scanner.old margin step (lexeme_of lexeme) × IsDecided scanner.old margin (not DIRECT)
+        step lexeme.reach decider.kind (lexeme_of decider.lexeme) }
+    ensures { LaysTo before scanner.old scanner.new DIRECT (λ tokens. S.took sink.old tokens sink.new) S.may_refuse
+        (made_by 2 result) }
+{
+    let (first, second) = lay_decided(scanner, margin, step, lexeme, decider);
+    match hand_on::<DIRECT, S>(scanner, sink, false, first) {
+        Ok(_) => hand_on::<DIRECT, S>(scanner, sink, false, second),
+        Err(stop) => Err(stopped(stop)),
+    }
+}
+
+/// Lays the lexeme of a step, and with it what decides whether it is a key, if the next token needs both. Returns how
+/// many steps that makes.
+#[inline(always)]
+fn lay_all<const DIRECT: bool, S: yaml_token_sink_t>(
+    scanner: &mut scanner_t,
+    sink: &mut S,
+    margin: bool,
+    step: step_t,
+    lexeme: yaml_lexeme_t,
+) -> Result<u64, stop_t>
+    ghost before: { List Laid }
+    requires { CanLayAll before scanner.old margin step (lexeme_of lexeme) }
+    ensures { LaysTo before scanner.old scanner.new DIRECT (λ tokens. S.took sink.old tokens sink.new) S.may_refuse
+        result }
+{
+    match decided_by(scanner, margin, !DIRECT, step, lexeme.reach) {
+        Some(decider) => {
+            match put_decided::<DIRECT, S>(scanner, sink, margin, step, lexeme, decider) {
+                Ok(_) => Ok(2),
+                Err(stop) => Err(stopped(stop)),
+            }
+        }
+        None => match put_lexeme::<DIRECT, S>(scanner, sink, margin, step, lexeme) {
+            Ok(_) => Ok(1),
+            Err(stop) => Err(stopped(stop)),
+        },
+    }
+}
+
+/// Ends a step with the lexeme that was read. Stops if it is near the reader's fault, or a candidate is lost.
+#[inline(always)]
+pub(crate) fn end_step<const DIRECT: bool, S: yaml_token_sink_t>(
+    scanner: &mut scanner_t,
+    sink: &mut S,
+    margin: bool,
+    step: step_t,
+    lexeme: yaml_lexeme_t,
+) -> Result<(), stop_t>
+    ghost before: { List Laid }
+    requires { CanRead before scanner.old margin step × ((p : ℕ) → IsMarkOf scanner.old.text.chars scanner.old.front p
+        → IsRead scanner.old.text.chars step.kind step.context.depth step.context.level p (lexeme_of lexeme)) }
+    ensures { StepsTo before scanner.old scanner.new DIRECT (λ tokens. S.took sink.old tokens sink.new) S.may_refuse
+        result }
 {
     let lost = is_lost(
         root_after(scanner, margin, step),
@@ -58,26 +127,48 @@ pub(crate) fn end_step(
         scanner.there = lexeme.reach;
         return Err(stop_behind(scanner, margin, step.kind, step.allowed));
     }
-    let made = lay_all(scanner, margin, step, lexeme);
-    scanner.made += made;
-    Ok(())
+    match lay_all::<DIRECT, S>(scanner, sink, margin, step, lexeme) {
+        Ok(made) => {
+            scanner.made += made;
+            Ok(())
+        }
+        Err(stop) => Err(stopped(stop)),
+    }
 }
 
 /// Ends a step with what was read. Stops if it was refused.
 #[inline(always)]
-pub(crate) fn end_read(
+pub(crate) fn end_read<const DIRECT: bool, S: yaml_token_sink_t>(
+    scanner: &mut scanner_t,
+    sink: &mut S,
+    margin: bool,
+    step: step_t,
+    read: Result<yaml_lexeme_t, yaml_refusal_t>,
+) -> Result<(), stop_t>
+    ghost before: { List Laid }
+    requires { CanRead before scanner.old margin step
+        × IsReadIn scanner.old step.kind step.context scanner.old.there read }
+    ensures { StepsTo before scanner.old scanner.new DIRECT (λ tokens. S.took sink.old tokens sink.new) S.may_refuse
+        result }
+{
+    match read {
+        Ok(lexeme) => end_step::<DIRECT, S>(scanner, sink, margin, step, lexeme),
+        Err(refusal) => Err(stop_in_lexeme(scanner, step.kind, refusal)),
+    }
+}
+
+/// Ends a step with what was read, whose group goes into the queue. Stops if it was refused.
+#[inline(always)]
+pub(crate) fn end_queued(
     scanner: &mut scanner_t,
     margin: bool,
     step: step_t,
     read: Result<yaml_lexeme_t, yaml_refusal_t>,
 ) -> Result<(), stop_t>
     ghost before: { List Laid }
-    requires can { CanRead before scanner.old margin step }
-    requires read { IsReadIn scanner.old step.kind step.context scanner.old.there read }
+    requires { CanRead before scanner.old margin step
+        × IsReadIn scanner.old step.kind step.context scanner.old.there read }
     ensures { IsStep before scanner.old scanner.new result }
 {
-    match read {
-        Ok(lexeme) => end_step(scanner, margin, step, lexeme),
-        Err(refusal) => Err(stop_in_lexeme(scanner, step.kind, refusal)),
-    }
+    end_read::<false, no_sink_t>(scanner, &mut no_sink_t {}, margin, step, read)
 }

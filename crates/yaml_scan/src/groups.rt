@@ -48,7 +48,7 @@ pub(crate) struct queue_t {
 
 /// A token with one mark.
 #[inline(always)]
-fn token_at(says: unnamed_yaml_token_t_data, mark: yaml_mark_t) -> yaml_token_t
+pub(crate) fn token_at(says: unnamed_yaml_token_t_data, mark: yaml_mark_t) -> yaml_token_t
     ensures { token_of result ≡ at_mark (data_of says) mark }
 {
     yaml_token_t {

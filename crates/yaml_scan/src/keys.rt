@@ -85,6 +85,7 @@ pub(crate) fn needed_at(slot: Option<held_t>, limit: u64, mark: yaml_mark_t) -> 
 /// Gives up the candidates that are stale at a mark, and counts the lowest slots that are then empty.
 ///
 /// An inner candidate starts no earlier, so after the first live one all are live.
+#[inline(always)]
 fn give_up_stale(
     slots: &mut Vec<Option<held_t>>,
     empty: usize,

@@ -1,4 +1,6 @@
-//! What holds of the layout: each law is the contract of a function that does nothing.
+//! What holds of the layout, and of the equality that the types derive.
+ghost use Rattle.std.specs.Prelude.{◌≡◌, ◌↔◌, IsTrue};
+ghost use Rattle.yaml_scan.specs.Seen.{seen_of};
 ghost use Rattle.yaml_scan.specs.Laws.{DepthGoesOn, CandidatesGoOn, CandidatesAreNested, AllowedGoesOn, ColumnsGoOn};
 ghost use Rattle.yaml_scan.specs.Laws.{ColumnsFall, LevelIsFirst, LevelStays, OfflineGoesOn, CandidateStandsThere};
 ghost use Rattle.yaml_scan.specs.Laws.{NeverRevised, FewWait, FewWaitOneStepOn, AllIsHandedOut, LexemesComeInOrder};
@@ -17,6 +19,8 @@ ghost use Rattle.yaml_scan.specs.Inputs.{LateFaults};
 ghost use Rattle.yaml_scan.specs.Words.{AllHaveLines, SessionsHaveLines};
 ghost use Rattle.yaml_scan.specs.CountedMarks.{AnswersAreCounted, SessionsAreCounted, ReachIsCounted};
 ghost use Rattle.yaml_scan.specs.ReadingOn.{AllIsTold, RestIsTold, ScansReadOn, FaultIsToldOnce, RunsFaultOnce};
+
+use crate::calls::{yaml_answer_t, yaml_call_t};
 
 /// What one lexeme more makes of the depth, the candidates, the open columns and the level: a machine that keeps a slot
 /// for each depth and a stack of columns keeps them.
@@ -186,3 +190,18 @@ pub fn fault_is_told_once()
     ensures sessions { FaultIsToldOnce }
     ensures runs { RunsFaultOnce }
 {}
+
+/// Calls are equal exactly if they are one call.
+pub fn same_calls(a: yaml_call_t, b: yaml_call_t) -> bool
+    ensures { IsTrue result ↔ (a ≡ b) }
+{
+    a == b
+}
+
+/// Answers are equal exactly if what can be seen of them is: the variant, with its token, its type and marks, or its
+/// fault.
+pub fn same_answers(a: &yaml_answer_t, b: &yaml_answer_t) -> bool
+    ensures { IsTrue result ↔ (seen_of a.now ≡ seen_of b.now) }
+{
+    *a == *b
+}

@@ -1,16 +1,19 @@
 //! What the layout makes of a lexeme.
-ghost use Rattle.std.specs.Prelude.{◌≡◌, ◌<◌, ◌==◌, ◌++◌, ◌∷◌, List, [], map, vec_len};
+ghost use Rattle.std.specs.Prelude.{◌≡◌, ◌<◌, ◌==◌, ◌++◌, ◌∷◌, List, [], length, map, vec_len};
 ghost use Rattle.std.specs.Vec.{vec_capacity};
+ghost use Rattle.std.specs.VecDeque.{deque_capacity};
 ghost use Rattle.yaml_text.specs.Token.{data_of, token_of};
 ghost use Rattle.yaml_lexeme.specs.Lexeme.{lexeme_of};
 ghost use Rattle.yaml_scan.specs.Laid.{Laid};
-ghost use Rattle.yaml_scan.specs.inside.Scanning.{Advances, CanPut, met_in};
+ghost use Rattle.yaml_scan.specs.inside.Handed.{IsLaidAs};
+ghost use Rattle.yaml_scan.specs.inside.Scanning.{CanPut, HasRoom, groups_in, met_in};
 ghost use Rattle.yaml_scan.specs.inside.Slots.{AreNested, empty_slots, lowest, nested_outer, nested_top, slot_after};
 ghost use Rattle.yaml_scan.specs.inside.Slots.{step_of, still_held};
 
 use crate::allowed::is_allowed_after;
+use crate::groups::group_t;
 use crate::keys::{completed_by, move_slots, settle};
-use crate::levels::{close_levels, put_group, put_key};
+use crate::levels::{close_levels, keep_early, put_key};
 use crate::look::step_t;
 use crate::scanner::scanner_t;
 use crate::slots::slots_t;
@@ -54,14 +57,24 @@ fn keep_candidates(slots: &mut slots_t, margin: bool, step: step_t, limit: u64, 
     move_slots(slots, margin, step.kind, limit, mark);
 }
 
-/// Lays the lexeme of a step, which was read: changes levels, queue and candidates. There is room, and no candidate is
-/// lost. `margin`: it is at depth 0.
+/// Lays the lexeme of a step, which was read: changes levels and candidates, and marks the group that it completes.
+/// Returns its own group, which then goes into the queue or is handed out. There is room, and no candidate is lost.
+/// `margin`: it is at depth 0.
 #[inline(always)]
-pub(crate) fn put_lexeme(scanner: &mut scanner_t, margin: bool, step: step_t, lexeme: yaml_lexeme_t)
+pub(crate) fn lay_lexeme(
+    scanner: &mut scanner_t,
+    margin: bool,
+    step: step_t,
+    lexeme: yaml_lexeme_t,
+) -> group_t
     ghost before: { List Laid }
-    requires { CanPut before scanner.old (met_in scanner.old step) margin step.new (lexeme_of lexeme) }
-    ensures laid { Advances before scanner.old scanner.new }
+    requires can { CanPut before scanner.old (groups_in scanner.old) (met_in scanner.old step) margin step.new
+        (lexeme_of lexeme) }
+    requires room { HasRoom scanner.old }
+    ensures laid { IsLaidAs before scanner.old step.kind scanner.new (groups_in scanner.new ++ result ∷ []) }
     ensures reach { scanner.new.reach ≡ (lexeme_of lexeme).reach }
+    ensures says { (token_of result.token).token_data ≡ (lexeme_of lexeme).token_data }
+    ensures room { length scanner.new.layout.queue.groups.items < deque_capacity scanner.new.layout.queue.groups }
 {
     let kind = step.kind;
     let front = scanner.front;
@@ -72,8 +85,13 @@ pub(crate) fn put_lexeme(scanner: &mut scanner_t, margin: bool, step: step_t, le
     let completed = completed_by(kind, scanner.slots.top, scanner.limit, start);
     keep_candidates(&mut scanner.slots, margin, step, scanner.limit, reach);
     let opens = put_key(&mut scanner.layout, margin, completed, kind, start);
-    let token = token_of(start, lexeme);
-    put_group(&mut scanner.layout.queue, closed, front, opens, token);
+    keep_early(&mut scanner.layout.queue, closed, front);
     scanner.allowed = is_allowed_after(kind, margin, completed.is_none(), passed_break);
     scanner.reach = reach;
+    group_t {
+        ends: closed.ends,
+        opens,
+        key: false,
+        token: token_of(start, lexeme),
+    }
 }

@@ -13,11 +13,11 @@ ghost use Rattle.yaml_scan.specs.inside.Queue.{ends_at, closing, completed_in, o
 ghost use Rattle.yaml_scan.specs.inside.Queue.{KeepsRest};
 ghost use Rattle.yaml_scan.specs.inside.Slots.{is_margin_level};
 
-use crate::groups::{block_t, group_t, mark_key, queue_t};
+use crate::groups::{block_t, mark_key, queue_t};
 use crate::kind::{is_last, is_opener, stays_open};
 use crate::slots::held_t;
 use yaml_lexeme::yaml_lexeme_kind_t;
-use yaml_text::{yaml_mark_t, yaml_token_t};
+use yaml_text::yaml_mark_t;
 
 /// Whether a block collection ends at the end of the gap: at the end of the stream, if its column is above that.
 #[inline(always)]
@@ -249,19 +249,11 @@ pub(crate) fn put_key(
     }
 }
 
-/// Appends the group of a lexeme to the queue. There is room for it, and no group before it has early block ends.
+/// Keeps how many levels end at the end of the gap, and where that is. No group before it has early block ends.
 #[inline(always)]
-pub(crate) fn put_group(
-    queue: &mut queue_t,
-    closed: closed_t,
-    front: yaml_mark_t,
-    opens: block_t,
-    token: yaml_token_t,
-)
-    requires room { length queue.old.groups.items < deque_capacity queue.old.groups }
+pub(crate) fn keep_early(queue: &mut queue_t, closed: closed_t, front: yaml_mark_t)
     requires none { queue.old.early ≡ 0 }
-    ensures groups { queue.new.groups.items
-        ≡ queue.old.groups.items ++ record { ends = closed.ends; opens = opens; key = false; token = token } ∷ [] }
+    ensures groups { queue.new.groups ≡ queue.old.groups }
     ensures done { queue.new.done ≡ queue.old.done }
     ensures early { queue.new.early ≡ closed.early }
     ensures front { 0 < closed.early → queue.new.front ≡ front }
@@ -270,10 +262,4 @@ pub(crate) fn put_group(
         queue.early = closed.early;
         queue.front = front;
     }
-    queue.groups.push_back_reserved(group_t {
-        ends: closed.ends,
-        opens,
-        key: false,
-        token,
-    });
 }

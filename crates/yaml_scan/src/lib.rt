@@ -28,6 +28,7 @@ mod slots;
 mod source;
 mod step;
 mod stop;
+mod target;
 
 pub use all::{yaml_scan_all, yaml_scan_all_limit};
 pub use calls::{yaml_answer_t, yaml_call_t, yaml_run};

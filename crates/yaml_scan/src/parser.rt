@@ -67,7 +67,7 @@ pub(crate) fn empty_text<'a>(alloc: Global) -> yaml_text_t<'a> {
     }
 }
 
-fn new_scanner<'a>(alloc: Global, limit: u64) -> scanner_t<'a>
+pub(crate) fn new_scanner<'a>(alloc: Global, limit: u64) -> scanner_t<'a>
     ensures new { IsNew result }
     ensures limit { result.limit ≡ limit }
 {
@@ -109,7 +109,7 @@ fn new_scanner<'a>(alloc: Global, limit: u64) -> scanner_t<'a>
 
 /// Decodes the input, and makes the first step.
 #[inline(never)]
-fn begin<'a>(
+pub(crate) fn begin<'a>(
     scanner: &mut scanner_t<'a>,
     input: &'a [u8],
     setting: yaml_encoding_t,
@@ -184,7 +184,7 @@ fn settle<'a>(
 
 /// Takes the head of the queue.
 #[inline(always)]
-fn take_head(scanner: &mut scanner_t) -> yaml_token_t
+pub(crate) fn take_head(scanner: &mut scanner_t) -> yaml_token_t
     requires runs { Runs scanner.old }
     requires settled { scanner.old.taken < length (before scanner.old.limit (history scanner.old)) }
     ensures { Pops scanner.old scanner.new (token_of result) }

@@ -28,7 +28,7 @@ fn is_awaited(scanner: &scanner_t) -> bool
 
 /// Whether the head of the queue is the next token.
 #[inline(always)]
-fn is_settled(scanner: &scanner_t) -> bool
+pub(crate) fn is_settled(scanner: &scanner_t) -> bool
     requires { Runs scanner.now }
     ensures { result ≡ nat_lt scanner.now.taken (length (before scanner.now.limit (history scanner.now))) }
 {

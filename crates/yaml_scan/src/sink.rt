@@ -1,14 +1,21 @@
 //! Sinks: what takes the tokens of an input, one after the other.
-ghost use Rattle.std.specs.Prelude.{◌≡◌, ◌++◌, ◌∷◌, ◌≤◌, [], List, IfOk, OnErr, OnOk, option_map};
+ghost use Rattle.std.specs.Prelude.{◌≡◌, ◌++◌, ◌∷◌, ◌≤◌, [], List, IfOk, MatchResult, OnErr, OnOk, option_map};
 ghost use Rattle.yaml_text.specs.Fault.{fault_of};
 ghost use Rattle.yaml_text.specs.Token.{Token, token_of};
 ghost use Rattle.yaml_scan.specs.Keys.{most_key_limit};
-ghost use Rattle.yaml_scan.specs.Session.{new_session};
 ghost use Rattle.yaml_scan.specs.Sink.{IsGivenAll, IsGivenFront};
-ghost use Rattle.yaml_scan.specs.Words.{HasWords};
+ghost use Rattle.yaml_scan.specs.Words.{HasWords, HaveWords};
+ghost use Rattle.yaml_scan.specs.inside.Given.{GaveRest, GivesAll, IsSettledTo, StopsGiving, told_all};
+ghost use Rattle.yaml_scan.specs.inside.Ready.{IsNew};
+ghost use Rattle.yaml_scan.specs.inside.Scanning.{IsOpen, Runs};
 
-use crate::parser::{yaml_parser_scan, yaml_parser_t};
+use crate::fault::{fault_at, stop_t};
+use crate::parser::{begin, new_scanner, take_head};
+use crate::scanner::scanner_t;
 use crate::session::is_stream_end;
+use crate::settled::is_settled;
+use crate::step::step_to;
+use crate::target::give;
 use std::alloc::{AllocError, Global};
 use yaml_text::{yaml_encoding_t, yaml_fault_t, yaml_token_t};
 
@@ -32,31 +39,53 @@ pub trait yaml_token_sink_t {
     ghost took_more: { (a b c : Self) (xs ys : List Token) → took a xs b → took b ys c → took a (xs ++ ys) c };
 }
 
-/// Gives the tokens of a new parser to a sink, and returns the fault after them. It ends at a token that is refused.
-fn scan_rest<S: yaml_token_sink_t>(
-    parser: &mut yaml_parser_t,
-    sink: &mut S,
-) -> Result<Option<yaml_fault_t>, AllocError>
-    requires { parser.old.session ≡ new_session }
-    ensures given { IfOk result (λ fault.
-        IsGivenAll (λ tokens.
-        S.took sink.old tokens sink.new) parser.old.limit parser.old.setting parser.old.input
-        (option_map fault_of fault)) }
-    ensures cut { OnErr result (IsGivenFront (λ tokens.
-        S.took sink.old tokens sink.new) parser.old.limit parser.old.setting parser.old.input) }
-    ensures refused { OnErr result S.may_refuse }
+/// Makes steps until the head of the queue is the next token. The groups of steps that need not wait go to the sink.
+fn settle_to<S: yaml_token_sink_t>(scanner: &mut scanner_t, sink: &mut S) -> Result<(), stop_t>
+    requires runs { Runs scanner.old }
+    requires still_open { IsOpen scanner.old }
+    ensures { MatchResult result
+        (λ _. IsSettledTo scanner.old scanner.new (λ tokens. S.took sink.old tokens sink.new))
+        (λ stop. StopsGiving scanner.old scanner.new.kept stop (λ tokens. S.took sink.old tokens sink.new)
+        S.may_refuse) }
+{
+    'steps: while !is_settled(scanner) {
+        step_to::<true, S>(scanner, sink)?;
+    }
+    Ok(())
+}
+
+/// Gives the tokens of a scanner that has made the first step to a sink, up to the stream end.
+fn give_rest<S: yaml_token_sink_t>(scanner: &mut scanner_t, sink: &mut S) -> Result<(), stop_t>
+    requires runs { Runs scanner.old }
+    requires still_open { IsOpen scanner.old }
+    requires words { HaveWords (told_all scanner.old) }
+    ensures { MatchResult result (λ _. GaveRest scanner.old (λ tokens. S.took sink.old tokens sink.new))
+        (λ stop. StopsGiving scanner.old scanner.new.kept stop (λ tokens. S.took sink.old tokens sink.new)
+        S.may_refuse) }
 {
     let mut last = false;
     'tokens: while !last {
-        match yaml_parser_scan(parser) {
-            Ok(token) => {
-                last = is_stream_end(&token);
-                sink.put(token)?;
-            }
-            Err(fault) => return Ok(Some(fault)),
-        }
+        settle_to(scanner, sink)?;
+        let token = take_head(scanner);
+        last = is_stream_end(&token);
+        give(sink, token)?;
     }
-    Ok(None)
+    Ok(())
+}
+
+/// Gives the tokens of a new scanner to a sink, up to the stream end.
+fn give_all<'a, S: yaml_token_sink_t>(
+    scanner: &mut scanner_t<'a>,
+    input: &'a [u8],
+    setting: yaml_encoding_t,
+    sink: &mut S,
+) -> Result<(), stop_t>
+    requires { IsNew scanner.old }
+    ensures { GivesAll (λ tokens. S.took sink.old tokens sink.new) S.may_refuse scanner.old.limit setting input.now
+        scanner.new.kept result }
+{
+    begin(scanner, input, setting)?;
+    give_rest(scanner, sink)
 }
 
 /// Gives all tokens of an input to a sink, in order: to STREAM-END, or those before its fault, and returns the fault.
@@ -82,6 +111,12 @@ pub fn yaml_scan_to<S: yaml_token_sink_t>(
         IsGivenFront (λ tokens. S.took sink.old tokens sink.new) limit setting input.now) }
     ensures refused { OnErr result S.may_refuse }
 {
-    let mut parser = yaml_parser_t::with_key_limit(alloc, input, setting, limit);
-    scan_rest(&mut parser, sink)
+    let mut scanner = new_scanner(alloc, limit as u64);
+    match give_all(&mut scanner, input, setting, sink) {
+        Ok(_) => Ok(None),
+        Err(stop) => match stop {
+            stop_t::SINK => Err(AllocError),
+            _ => Ok(Some(fault_at(stop, &scanner.kept))),
+        },
+    }
 }

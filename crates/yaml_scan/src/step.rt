@@ -3,17 +3,20 @@ ghost use Rattle.std.specs.Prelude.{List, ◌≡◌, ◌==◌, ◌<◌, true, fa
 ghost use Rattle.yaml_lexeme.specs.Lex.{block_kind, is_character, quoted_kind};
 ghost use Rattle.yaml_lexeme.specs.declared.kind.yaml_lexeme_kind_t.TheVariants.{PLAIN};
 ghost use Rattle.yaml_scan.specs.Laid.{Laid};
+ghost use Rattle.yaml_scan.specs.inside.Handed.{StepsTo};
 ghost use Rattle.yaml_scan.specs.inside.Scanning.{CanStep, Comes, IsStep};
 
 use crate::begin::begin_step;
 use crate::fault::{stop_t, stopped};
-use crate::finish::{end_read, end_step};
+use crate::finish::{end_queued, end_read, end_step};
 use crate::keys::{is_lost, root_at};
 use crate::scanner::scanner_t;
+use crate::sink::yaml_token_sink_t;
 use crate::source::{
     gap_end, kind_at, read_block, read_character, read_other, read_plain, read_quoted,
 };
 use crate::stop::{stop_in_gap, stop_without_kind};
+use crate::target::no_sink_t;
 use yaml_lexeme::yaml_lexeme_kind_t;
 
 /// The kind of a quoted scalar.
@@ -30,15 +33,19 @@ fn quoted_kind(single: bool) -> yaml_lexeme_kind_t
 
 /// Makes the step of a plain scalar.
 #[inline(never)]
-fn step_plain<const MARGIN: bool>(scanner: &mut scanner_t) -> Result<(), stop_t>
+fn step_plain<const MARGIN: bool, const DIRECT: bool, S: yaml_token_sink_t>(
+    scanner: &mut scanner_t,
+    sink: &mut S,
+) -> Result<(), stop_t>
     ghost before: { List Laid }
     requires { Comes before scanner.old MARGIN PLAIN }
-    ensures { IsStep before scanner.old scanner.new result }
+    ensures { StepsTo before scanner.old scanner.new DIRECT (λ tokens. S.took sink.old tokens sink.new) S.may_refuse
+        result }
 {
     match begin_step(scanner, MARGIN, yaml_lexeme_kind_t::PLAIN) {
         Ok(step) => {
             let read = read_plain(scanner, step.context);
-            end_read(scanner, MARGIN, step, read)
+            end_read::<DIRECT, S>(scanner, sink, MARGIN, step, read)
         }
         Err(stop) => Err(stopped(stop)),
     }
@@ -46,17 +53,19 @@ fn step_plain<const MARGIN: bool>(scanner: &mut scanner_t) -> Result<(), stop_t>
 
 /// Makes the step of a scalar in single or double quotes.
 #[inline(never)]
-fn step_quoted<const MARGIN: bool, const SINGLE: bool>(
+fn step_quoted<const MARGIN: bool, const SINGLE: bool, const DIRECT: bool, S: yaml_token_sink_t>(
     scanner: &mut scanner_t,
+    sink: &mut S,
 ) -> Result<(), stop_t>
     ghost before: { List Laid }
     requires { Comes before scanner.old MARGIN (quoted_kind SINGLE) }
-    ensures { IsStep before scanner.old scanner.new result }
+    ensures { StepsTo before scanner.old scanner.new DIRECT (λ tokens. S.took sink.old tokens sink.new) S.may_refuse
+        result }
 {
     match begin_step(scanner, MARGIN, quoted_kind(SINGLE)) {
         Ok(step) => {
             let read = read_quoted(scanner, SINGLE, step.context);
-            end_read(scanner, MARGIN, step, read)
+            end_read::<DIRECT, S>(scanner, sink, MARGIN, step, read)
         }
         Err(stop) => Err(stopped(stop)),
     }
@@ -64,15 +73,19 @@ fn step_quoted<const MARGIN: bool, const SINGLE: bool>(
 
 /// Makes the step of a literal scalar.
 #[inline(never)]
-fn step_literal<const MARGIN: bool>(scanner: &mut scanner_t) -> Result<(), stop_t>
+fn step_literal<const MARGIN: bool, const DIRECT: bool, S: yaml_token_sink_t>(
+    scanner: &mut scanner_t,
+    sink: &mut S,
+) -> Result<(), stop_t>
     ghost before: { List Laid }
     requires { Comes before scanner.old MARGIN (block_kind false) }
-    ensures { IsStep before scanner.old scanner.new result }
+    ensures { StepsTo before scanner.old scanner.new DIRECT (λ tokens. S.took sink.old tokens sink.new) S.may_refuse
+        result }
 {
     match begin_step(scanner, MARGIN, yaml_lexeme_kind_t::LITERAL) {
         Ok(step) => {
             let read = read_block(scanner, false, step.context);
-            end_read(scanner, MARGIN, step, read)
+            end_read::<DIRECT, S>(scanner, sink, MARGIN, step, read)
         }
         Err(stop) => Err(stopped(stop)),
     }
@@ -80,26 +93,29 @@ fn step_literal<const MARGIN: bool>(scanner: &mut scanner_t) -> Result<(), stop_
 
 /// Makes the step of a lexeme of one character.
 #[inline(always)]
-fn step_character(
+fn step_character<const DIRECT: bool, S: yaml_token_sink_t>(
     scanner: &mut scanner_t,
+    sink: &mut S,
     margin: bool,
     kind: yaml_lexeme_kind_t,
 ) -> Result<(), stop_t>
     ghost before: { List Laid }
     requires comes { Comes before scanner.old margin kind }
     requires kind { is_character kind ≡ true }
-    ensures { IsStep before scanner.old scanner.new result }
+    ensures { StepsTo before scanner.old scanner.new DIRECT (λ tokens. S.took sink.old tokens sink.new) S.may_refuse
+        result }
 {
     match begin_step(scanner, margin, kind) {
         Ok(step) => {
             let lexeme = read_character(scanner, kind);
-            end_step(scanner, margin, step, lexeme)
+            end_step::<DIRECT, S>(scanner, sink, margin, step, lexeme)
         }
         Err(stop) => Err(stopped(stop)),
     }
 }
 
-/// Makes the step of a lexeme of any kind.
+/// Makes the step of a lexeme of any kind. Those that come here are rare, so their groups always go into the queue, and
+/// one function serves every sink.
 #[inline(never)]
 fn step_other<const MARGIN: bool>(
     scanner: &mut scanner_t,
@@ -112,7 +128,7 @@ fn step_other<const MARGIN: bool>(
     match begin_step(scanner, MARGIN, kind) {
         Ok(step) => {
             let read = read_other(scanner, kind, step.context);
-            end_read(scanner, MARGIN, step, read)
+            end_queued(scanner, MARGIN, step, read)
         }
         Err(stop) => Err(stopped(stop)),
     }
@@ -121,38 +137,65 @@ fn step_other<const MARGIN: bool>(
 /// Makes the step of a lexeme of a kind, after the gap. Scalars and rare kinds have functions of their own, so that no
 /// kind pays for the room that another needs. Common kinds are constants there.
 #[inline(always)]
-fn step_kind<const MARGIN: bool>(
+fn step_kind<const MARGIN: bool, const DIRECT: bool, S: yaml_token_sink_t>(
     scanner: &mut scanner_t,
+    sink: &mut S,
     kind: yaml_lexeme_kind_t,
 ) -> Result<(), stop_t>
     ghost before: { List Laid }
     requires { Comes before scanner.old MARGIN kind }
-    ensures { IsStep before scanner.old scanner.new result }
+    ensures { StepsTo before scanner.old scanner.new DIRECT (λ tokens. S.took sink.old tokens sink.new) S.may_refuse
+        result }
 {
     match kind {
-        yaml_lexeme_kind_t::PLAIN => step_plain::<MARGIN>(scanner),
-        yaml_lexeme_kind_t::SINGLE_QUOTED => step_quoted::<MARGIN, true>(scanner),
-        yaml_lexeme_kind_t::DOUBLE_QUOTED => step_quoted::<MARGIN, false>(scanner),
-        yaml_lexeme_kind_t::LITERAL => step_literal::<MARGIN>(scanner),
-        yaml_lexeme_kind_t::VALUE => step_character(scanner, MARGIN, yaml_lexeme_kind_t::VALUE),
-        yaml_lexeme_kind_t::KEY => step_character(scanner, MARGIN, yaml_lexeme_kind_t::KEY),
+        yaml_lexeme_kind_t::PLAIN => step_plain::<MARGIN, DIRECT, S>(scanner, sink),
+        yaml_lexeme_kind_t::SINGLE_QUOTED => step_quoted::<MARGIN, true, DIRECT, S>(scanner, sink),
+        yaml_lexeme_kind_t::DOUBLE_QUOTED => step_quoted::<MARGIN, false, DIRECT, S>(scanner, sink),
+        yaml_lexeme_kind_t::LITERAL => step_literal::<MARGIN, DIRECT, S>(scanner, sink),
+        yaml_lexeme_kind_t::VALUE => step_character::<DIRECT, S>(
+            scanner,
+            sink,
+            MARGIN,
+            yaml_lexeme_kind_t::VALUE,
+        ),
+        yaml_lexeme_kind_t::KEY => step_character::<DIRECT, S>(
+            scanner,
+            sink,
+            MARGIN,
+            yaml_lexeme_kind_t::KEY,
+        ),
         yaml_lexeme_kind_t::BLOCK_ENTRY => {
-            step_character(scanner, MARGIN, yaml_lexeme_kind_t::BLOCK_ENTRY)
+            step_character::<DIRECT, S>(scanner, sink, MARGIN, yaml_lexeme_kind_t::BLOCK_ENTRY)
         }
         yaml_lexeme_kind_t::FLOW_ENTRY => {
-            step_character(scanner, MARGIN, yaml_lexeme_kind_t::FLOW_ENTRY)
+            step_character::<DIRECT, S>(scanner, sink, MARGIN, yaml_lexeme_kind_t::FLOW_ENTRY)
         }
         yaml_lexeme_kind_t::FLOW_SEQUENCE_START => {
-            step_character(scanner, MARGIN, yaml_lexeme_kind_t::FLOW_SEQUENCE_START)
+            step_character::<DIRECT, S>(
+                scanner,
+                sink,
+                MARGIN,
+                yaml_lexeme_kind_t::FLOW_SEQUENCE_START,
+            )
         }
         yaml_lexeme_kind_t::FLOW_MAPPING_START => {
-            step_character(scanner, MARGIN, yaml_lexeme_kind_t::FLOW_MAPPING_START)
+            step_character::<DIRECT, S>(
+                scanner,
+                sink,
+                MARGIN,
+                yaml_lexeme_kind_t::FLOW_MAPPING_START,
+            )
         }
         yaml_lexeme_kind_t::FLOW_SEQUENCE_END => {
-            step_character(scanner, MARGIN, yaml_lexeme_kind_t::FLOW_SEQUENCE_END)
+            step_character::<DIRECT, S>(
+                scanner,
+                sink,
+                MARGIN,
+                yaml_lexeme_kind_t::FLOW_SEQUENCE_END,
+            )
         }
         yaml_lexeme_kind_t::FLOW_MAPPING_END => {
-            step_character(scanner, MARGIN, yaml_lexeme_kind_t::FLOW_MAPPING_END)
+            step_character::<DIRECT, S>(scanner, sink, MARGIN, yaml_lexeme_kind_t::FLOW_MAPPING_END)
         }
         _ => step_other::<MARGIN>(scanner, kind),
     }
@@ -160,25 +203,36 @@ fn step_kind<const MARGIN: bool>(
 
 /// Makes the step of a lexeme of a kind, after the gap. `margin`: the scanner is at depth 0.
 #[inline(always)]
-fn step_any(scanner: &mut scanner_t, margin: bool, kind: yaml_lexeme_kind_t) -> Result<(), stop_t>
+fn step_any<const DIRECT: bool, S: yaml_token_sink_t>(
+    scanner: &mut scanner_t,
+    sink: &mut S,
+    margin: bool,
+    kind: yaml_lexeme_kind_t,
+) -> Result<(), stop_t>
     ghost before: { List Laid }
     requires { Comes before scanner.old margin kind }
-    ensures { IsStep before scanner.old scanner.new result }
+    ensures { StepsTo before scanner.old scanner.new DIRECT (λ tokens. S.took sink.old tokens sink.new) S.may_refuse
+        result }
 {
     if margin {
-        step_kind::<true>(scanner, kind)
+        step_kind::<true, DIRECT, S>(scanner, sink, kind)
     } else {
-        step_kind::<false>(scanner, kind)
+        step_kind::<false, DIRECT, S>(scanner, sink, kind)
     }
 }
 
 /// Makes a step. `margin`: the scanner is at depth 0.
 #[inline(always)]
-fn step_at(scanner: &mut scanner_t, margin: bool) -> Result<(), stop_t>
+fn step_at<const DIRECT: bool, S: yaml_token_sink_t>(
+    scanner: &mut scanner_t,
+    sink: &mut S,
+    margin: bool,
+) -> Result<(), stop_t>
     ghost before: { List Laid }
     requires can { CanStep before scanner.old }
     requires margin { margin ≡ vec_len scanner.old.slots.outer == 0 }
-    ensures { IsStep before scanner.old scanner.new result }
+    ensures { StepsTo before scanner.old scanner.new DIRECT (λ tokens. S.took sink.old tokens sink.new) S.may_refuse
+        result }
 {
     let front = gap_end(&scanner.text, scanner.reach, !margin, scanner.allowed);
     scanner.front = front;
@@ -187,43 +241,66 @@ fn step_at(scanner: &mut scanner_t, margin: bool) -> Result<(), stop_t>
         return Err(stop_in_gap(scanner));
     }
     match kind_at(&scanner.text, front, !margin) {
-        Some(kind) => step_any(scanner, margin, kind),
+        Some(kind) => step_any::<DIRECT, S>(scanner, sink, margin, kind),
         None => Err(stop_without_kind(scanner)),
     }
 }
 
 /// Makes a step at depth 0.
 #[inline(never)]
-fn step_at_margin(scanner: &mut scanner_t) -> Result<(), stop_t>
+fn step_at_margin<const DIRECT: bool, S: yaml_token_sink_t>(
+    scanner: &mut scanner_t,
+    sink: &mut S,
+) -> Result<(), stop_t>
     ghost before: { List Laid }
     requires can { CanStep before scanner.old }
     requires margin { vec_len scanner.old.slots.outer ≡ 0 }
-    ensures { IsStep before scanner.old scanner.new result }
+    ensures { StepsTo before scanner.old scanner.new DIRECT (λ tokens. S.took sink.old tokens sink.new) S.may_refuse
+        result }
 {
-    step_at(scanner, true)
+    step_at::<DIRECT, S>(scanner, sink, true)
 }
 
 /// Makes a step in flow.
 #[inline(never)]
-fn step_in_flow(scanner: &mut scanner_t) -> Result<(), stop_t>
+fn step_in_flow<const DIRECT: bool, S: yaml_token_sink_t>(
+    scanner: &mut scanner_t,
+    sink: &mut S,
+) -> Result<(), stop_t>
     ghost before: { List Laid }
     requires can { CanStep before scanner.old }
     requires flow { 0 < vec_len scanner.old.slots.outer }
-    ensures { IsStep before scanner.old scanner.new result }
+    ensures { StepsTo before scanner.old scanner.new DIRECT (λ tokens. S.took sink.old tokens sink.new) S.may_refuse
+        result }
 {
-    step_at(scanner, false)
+    step_at::<DIRECT, S>(scanner, sink, false)
 }
 
-/// Makes a step, or two if the next token needs both.
+/// Makes a step, or two if the next token needs both, and hands on their groups: straight to the sink if `DIRECT` and
+/// they need not wait, and else into the queue.
+#[inline(always)]
+pub(crate) fn step_to<const DIRECT: bool, S: yaml_token_sink_t>(
+    scanner: &mut scanner_t,
+    sink: &mut S,
+) -> Result<(), stop_t>
+    ghost before: { List Laid }
+    requires { CanStep before scanner.old }
+    ensures { StepsTo before scanner.old scanner.new DIRECT (λ tokens. S.took sink.old tokens sink.new) S.may_refuse
+        result }
+{
+    if scanner.slots.outer.is_empty() {
+        step_at_margin::<DIRECT, S>(scanner, sink)
+    } else {
+        step_in_flow::<DIRECT, S>(scanner, sink)
+    }
+}
+
+/// Makes a step, or two if the next token needs both. Their groups go into the queue.
 #[inline(always)]
 pub(crate) fn step(scanner: &mut scanner_t) -> Result<(), stop_t>
     ghost before: { List Laid }
     requires { CanStep before scanner.old }
     ensures { IsStep before scanner.old scanner.new result }
 {
-    if scanner.slots.outer.is_empty() {
-        step_at_margin(scanner)
-    } else {
-        step_in_flow(scanner)
-    }
+    step_to::<false, no_sink_t>(scanner, &mut no_sink_t {})
 }

@@ -6,3 +6,5 @@ pub mod Decodings
 pub mod Marks
 -- Many bytes at a time.
 pub mod ManyBytes
+-- What the comparisons that types derive answer.
+pub mod Comparisons

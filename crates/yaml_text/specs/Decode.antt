@@ -14,11 +14,6 @@ use Rattle.yaml_text.specs.Utf16.{spelling16, utf16, value16, offence16}
 use Rattle.yaml_text.specs.Fault.{Fault, fault_of, memory_fault, reader_fault}
 use Rattle.yaml_text.specs.Text.{Text}
 
--- UTF-16 with the high byte of a unit first or last.
-abbrev pub order : Bool → yaml_encoding_t
-order false = YAML_UTF16LE_ENCODING
-order true = YAML_UTF16BE_ENCODING
-
 -- How a character is spelled.
 abbrev pub spelling : yaml_encoding_t → ℕ → List ℕ
 spelling YAML_ANY_ENCODING c = encode_utf8 c
@@ -134,15 +129,6 @@ unless_refused (Some fault) text = Err fault
 -- What an input decodes to.
 abbrev pub decoded : yaml_encoding_t → List ℕ → Result Text Fault
 decoded setting input = unless_refused (refusal setting input) (front setting input)
-
--- A text and a fault: the front of these bytes, and what is wrong with the rest, if so many bytes of the input were
--- dropped before them.
-pub record Fronts
-    (e : yaml_encoding_t) (before : ℕ) (bytes : List ℕ) (text : Text) (fault : Option Fault) : Type 0 where
-  pub rest : List ℕ
-  pub encoding : text.encoding ≡ e
-  pub front : IsFront e bytes text.chars rest
-  pub refusal : fault ≡ refusal_of e (before + length (spelled e text.chars)) rest
 
 -- The text is the front of the input: the longest list of characters whose spellings, joined, begin what follows its
 -- byte order mark.

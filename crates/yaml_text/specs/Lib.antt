@@ -1,7 +1,6 @@
 pub mod Chars
 pub mod Offence
 pub mod Utf8
-pub mod Windows
 pub mod Utf16
 pub mod Text
 pub mod Fault
@@ -10,3 +9,5 @@ pub mod Kept
 pub mod Classes
 pub mod Mark
 pub mod Token
+pub mod Types
+pub mod inside

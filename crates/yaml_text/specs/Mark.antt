@@ -1,12 +1,10 @@
 -- Marks: how far into a text a place is, and in which line and column (YAML 1.1, section 5.4).
 use Rattle.std.specs.Char.{len_utf8}
-use Rattle.std.specs.Prelude.{ℕ, zero, suc, ◌≡◌, ◌+◌, ◌-◌, ◌≤◌, Bool, false, ◌&&◌, not, nat_le, nat_lt, List, []}
-use Rattle.std.specs.Prelude.{◌∷◌, ◌++◌, length, take, drop, reverse, slice_index, if◌then◌else◌}
+use Rattle.std.specs.Prelude.{ℕ, zero, suc, ◌≡◌, ◌+◌, ◌-◌, ◌≤◌, Bool, false, ◌&&◌, not, List, [], ◌∷◌, length}
+use Rattle.std.specs.Prelude.{take, drop, reverse, slice_index, if◌then◌else◌}
 use Rattle.std.specs.List.{prefix_len}
-use Rattle.yaml_text.specs.Chars.{utf8, IsText}
-use Rattle.yaml_text.specs.Classes.{is_break, is_crlf, is_crlf_at}
-use Rattle.yaml_text.specs.Utf8.{continues}
-use Rattle.std.specs.Str.{chars}
+use Rattle.yaml_text.specs.Chars.{utf8}
+use Rattle.yaml_text.specs.Classes.{is_break, is_crlf}
 use Rattle.yaml_text.specs.declared.types.yaml_mark_t.{yaml_mark_t}
 
 -- A break ends at c, before the characters after: c is a break, and not the first half of CR LF.
@@ -45,35 +43,6 @@ mark_on (suc n) m (c ∷ cs) = mark_on n (mark_behind m c cs) cs
 abbrev pub cuts_break : List ℕ → List ℕ → Bool
 cuts_break before left = is_crlf (slice_index before (length before - 1)) (slice_index left 0)
 
--- A place in a text: what is before it, and what is left.
-pub record At : Type 0 where
-  pub before : List ℕ
-  pub left : List ℕ
-
--- n characters further
-abbrev pub past : ℕ → At → At
-past n at = record { before = at.before ++ take n at.left; left = drop n at.left }
-
--- how many characters the break at the beginning has
-abbrev pub break_len : List ℕ → ℕ
-break_len left = if is_crlf (slice_index left 0) (slice_index left 1) then 2 else 1
-
--- The mark is in the bytes of a text.
-pub record IsAt (bytes : List ℕ) (mark : yaml_mark_t) : Type 0 where
-  pub within : mark.index ≤ length bytes
-  pub front : IsText (take mark.index bytes)
-  pub rest : IsText (drop mark.index bytes)
-  pub line : mark.line ≡ breaks (chars (take mark.index bytes))
-  pub column : mark.column ≡ column (chars (take mark.index bytes))
-  pub whole : cuts_break (chars (take mark.index bytes)) (chars (drop mark.index bytes)) ≡ false
-
-abbrev pub at_of : List ℕ → yaml_mark_t → At
-at_of bytes mark = record { before = chars (take mark.index bytes); left = chars (drop mark.index bytes) }
-
--- how many characters are between a place and the next one
-abbrev pub step_len : List ℕ → ℕ
-step_len left = if is_break (slice_index left 0) then break_len left else 1
-
 -- The place p of a text is at this index of its UTF-8, and not between CR and LF.
 pub record IsPlaceAt (text : List ℕ) (index p : ℕ) : Type 0 where
   pub within : p ≤ length text
@@ -86,15 +55,6 @@ IsPlace text index = (p : ℕ) × IsPlaceAt text index p
 -- the mark of the place p
 abbrev pub mark_at : List ℕ → ℕ → yaml_mark_t
 mark_at text p = mark_of (take p text)
-
--- the same by the bytes: the index is not within a character or a CR LF
-abbrev pub is_place_by : List ℕ → ℕ → Bool
-is_place_by bytes index =
-    (nat_le index (length bytes) && not (continues (slice_index bytes index)))
-    && not (nat_lt 0 index && is_crlf_at bytes (index - 1))
-
-abbrev pub place_at : List ℕ → ℕ → At
-place_at text p = record { before = take p text; left = drop p text }
 
 -- the mark is that of the place p of the text
 pub record IsMarkAt (text : List ℕ) (mark : yaml_mark_t) (p : ℕ) : Type 0 where

@@ -1,9 +1,8 @@
 -- UTF-16: units of two bytes, and pairs of units (surrogates).
-use Rattle.std.specs.Prelude.{ℕ, ◌≡◌, ◌+◌, ◌-◌, ◌*◌, ◌/◌, ◌%◌, ◌≤◌, pos, negsuc, Bool, ◌&&◌, nat_lt, not}
-use Rattle.std.specs.Prelude.{if◌then◌else◌, List, [], ◌∷◌, ◌++◌, length, take, slice_index}
+use Rattle.std.specs.Prelude.{ℕ, ◌+◌, ◌-◌, ◌*◌, ◌/◌, ◌%◌, pos, negsuc, Bool, ◌&&◌, nat_lt, not}
+use Rattle.std.specs.Prelude.{if◌then◌else◌, List, [], ◌∷◌, ◌++◌, length, slice_index}
 use Rattle.std.specs.List.{flat_map}
-use Rattle.std.specs.Str.{chars}
-use Rattle.yaml_text.specs.Chars.{is_within, IsChar, IsText}
+use Rattle.yaml_text.specs.Chars.{is_within}
 use Rattle.yaml_text.specs.Offence.{offence_at}
 use Rattle.yaml_text.specs.declared.offence.problem_t.TheVariants.{HALF_UNIT, LOW_UNIT, HALF_PAIR, NO_LOW_UNIT, CONTROL}
 use Rattle.yaml_text.specs.declared.offence.offence_t.{offence_t}
@@ -58,17 +57,3 @@ offence16 big bytes =
     else if is_high u && not (is_low v) then offence_at NO_LOW_UNIT 2 (pos v)
     else if is_high u then offence_at CONTROL 0 (pos (pair_of u v))
     else offence_at CONTROL 0 (pos u)
-
--- The bytes begin with the spelling of c.
-abbrev pub Begins16 : Bool → ℕ → List ℕ → Type 0
-Begins16 big c bytes = (more : List ℕ) × (bytes ≡ spelling16 big c ++ more)
-
--- They begin with the spelling of no character.
-abbrev pub BeginsWithNone16 : Bool → List ℕ → Type 0
-BeginsWithNone16 big bytes = (c : ℕ) → IsChar c → Begins16 big c bytes → ⊥
-
--- The first bytes, up to a place, spell in UTF-16 what these bytes do in UTF-8.
-pub record Reads16 (big : Bool) (bytes text : List ℕ) (at : ℕ) : Type 0 where
-  pub within : at ≤ length bytes
-  pub is_text : IsText text
-  pub spelled : take at bytes ≡ utf16 big (chars text)

@@ -65,10 +65,3 @@ offence8 bytes =
     else if nat_lt value (least_of width) then offence_at LENGTH 0 (negsuc 0)
     else if not (is_scalar value) then offence_at VALUE 0 (pos value)
     else offence_at CONTROL 0 (pos value)
-
--- A byte that is a character by itself.
-abbrev pub is_single : ℕ → Bool
-is_single b = is_within 0x20 0x7E b || (b == 9 || (b == 10 || b == 13))
-
-abbrev pub is_other : ℕ → Bool
-is_other b = not (is_single b)

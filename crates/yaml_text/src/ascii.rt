@@ -2,7 +2,7 @@
 ghost use Rattle.std.specs.Prelude.{◌≡◌, ◌+◌, ◌≤◌, true, length, drop, map};
 ghost use Rattle.std.specs.List.{prefix_len};
 ghost use Rattle.std.specs.Simd.Lanes.{mask_l};
-ghost use Rattle.yaml_text.specs.Utf8.{is_single, is_other};
+ghost use Rattle.yaml_text.specs.inside.Singles.{is_single, is_other};
 
 use std::simd::prelude::*;
 

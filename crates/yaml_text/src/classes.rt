@@ -2,8 +2,7 @@
 //! end a byte reads as 0.
 //!
 //! Each class has two clauses: which bytes it holds for, on any bytes and at any index; and which characters
-//! it holds for, at the start of a character of valid UTF-8 or at the end, where the end counts as character
-//! 0.
+//! it holds for, at the start of a character of a text or at the end, where the end counts as character 0.
 ghost use Rattle.std.specs.Prelude.{ℕ, ◌≡◌, ◌+◌, ◌-◌, ◌<◌, ◌≤◌, ◌||◌, true, pos, List, slice_index};
 ghost use Rattle.std.specs.Char.{len_utf8};
 ghost use Rattle.yaml_text.specs.Utf8.{width_of};

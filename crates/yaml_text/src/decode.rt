@@ -3,9 +3,10 @@ ghost use Rattle.std.specs.Prelude.{◌≡◌, ◌+◌, ◌<◌, ◌≤◌, ◌^
 ghost use Rattle.std.specs.Prelude.{IfOk, IfErr, IsOk, IsNone, IfSome};
 ghost use Rattle.yaml_text.specs.Chars.{IsText, utf8};
 ghost use Rattle.yaml_text.specs.Utf8.{offence8};
-ghost use Rattle.yaml_text.specs.Decode.{BeginsWithNone, Fronts, IsFrontOf, encoding_of, dropped, behind_mark};
+ghost use Rattle.yaml_text.specs.Decode.{BeginsWithNone, IsFrontOf, encoding_of, dropped, behind_mark};
+ghost use Rattle.yaml_text.specs.inside.Fronts.{Fronts};
 ghost use Rattle.yaml_text.specs.Decode.{front, refusal, refusal_seen, decoded, Decodes, outcome, Spells, IsRefused};
-ghost use Rattle.yaml_text.specs.Decode.{order};
+ghost use Rattle.yaml_text.specs.inside.Fronts.{order};
 ghost use Rattle.yaml_text.specs.Fault.{fault_of, memory_fault, reader_fault};
 ghost use Rattle.yaml_text.specs.declared.types.yaml_encoding_t.TheVariants.{YAML_UTF8_ENCODING};
 ghost use Rattle.yaml_text.specs.declared.types.yaml_encoding_t.TheVariants.{YAML_UTF16LE_ENCODING};

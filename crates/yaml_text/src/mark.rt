@@ -3,7 +3,8 @@ ghost use Rattle.std.specs.Prelude.{ℕ, ◌≡◌, ◌+◌, ◌-◌, ◌<◌, �
 ghost use Rattle.std.specs.Prelude.{length, slice_index, if◌then◌else◌, IsTrue};
 ghost use Rattle.yaml_text.specs.Classes.{is_break, is_crlf_at};
 ghost use Rattle.yaml_text.specs.Utf8.{width_of, continues};
-ghost use Rattle.yaml_text.specs.Mark.{mark_of, past, cuts_break, break_len, step_len, is_place_by, IsPlace};
+ghost use Rattle.yaml_text.specs.Mark.{mark_of, cuts_break, IsPlace};
+ghost use Rattle.yaml_text.specs.inside.Cursor.{past, break_len, step_len, is_place_by};
 ghost use Rattle.yaml_text.specs.Mark.{IsPlaceAt, mark_at};
 
 use crate::classes::{IS_BREAK, IS_CRLF, WIDTH};
@@ -20,7 +21,7 @@ struct cursor_t<'a> {
 }
 
 impl<'a> Model for cursor_t<'a> {
-    ghost use Rattle.yaml_text.specs.Mark.{At, IsAt, at_of};
+    ghost use Rattle.yaml_text.specs.inside.Cursor.{At, IsAt, at_of};
 
     ghost Value = { At };
 

@@ -111,6 +111,28 @@ fn decode_front(rt: HostRuntime) -> Result<(), Fail> {
     Ok(())
 }
 
+/// Fronts of UTF-16: after a byte order mark half of a pair is left, and in a set order a low surrogate.
+#[test]
+fn decode_front_of_utf16(rt: HostRuntime) -> Result<(), Fail> {
+    let input = b"\xFF\xFEa\x00\xAC\x20\x00\xD8";
+    let Ok((text, refusal)) = yaml_decode_front(rt.alloc(), input, ANY) else {
+        return Err("no memory".into());
+    };
+    assert_eq!(rt; text.encoding(), yaml_encoding_t::YAML_UTF16LE_ENCODING);
+    assert_eq!(rt; text.bytes(), b"a\xE2\x82\xAC".as_slice());
+    let fault = refusal.ok_or("a fault")?;
+    assert_eq!(rt; (fault.problem_offset, fault.problem_value), (6, -1));
+    let input = b"\x00b\xDC\x00\x00c";
+    let Ok((text, refusal)) = yaml_decode_front(rt.alloc(), input, UTF16BE) else {
+        return Err("no memory".into());
+    };
+    assert_eq!(rt; text.encoding(), UTF16BE);
+    assert_eq!(rt; text.bytes(), b"b".as_slice());
+    let fault = refusal.ok_or("a fault")?;
+    assert_eq!(rt; (fault.problem_offset, fault.problem_value), (2, 0xDC00));
+    Ok(())
+}
+
 #[test]
 fn mark_places(rt: HostRuntime) -> Result<(), Fail> {
     let Ok(text) = yaml_decode(rt.alloc(), b"a\r\n\xC3\xA9", ANY) else {
@@ -155,6 +177,40 @@ fn tokens(rt: HostRuntime) -> Result<(), Fail> {
     };
     assert_eq!(rt; token.type_(), yaml_token_type_t::YAML_SCALAR_TOKEN);
     assert!(rt; token != empty);
+    Ok(())
+}
+
+/// Marks, directives, faults and tokens that differ in one part.
+#[test]
+fn unequal_parts(rt: HostRuntime) -> Result<(), Fail> {
+    let zero = yaml_token_t::empty().start_mark;
+    let next = yaml_mark_t {
+        index: 0,
+        line: 0,
+        column: 1,
+    };
+    assert!(rt; zero == zero && zero != next);
+    let ended = yaml_token_t {
+        token_data: unnamed_yaml_token_t_data::NO_TOKEN,
+        start_mark: zero,
+        end_mark: next,
+    };
+    assert!(rt; ended != yaml_token_t::empty());
+    let fault = make_memory_fault();
+    let other = yaml_fault_t {
+        context: Some("while scanning a tag"),
+        ..fault
+    };
+    assert!(rt; fault == fault && fault != other);
+    let one = yaml_tag_directive_t {
+        handle: Vec::from_slice(rt.alloc(), b"!")?,
+        prefix: Vec::from_slice(rt.alloc(), b"a")?,
+    };
+    let two = yaml_tag_directive_t {
+        handle: Vec::from_slice(rt.alloc(), b"!")?,
+        prefix: Vec::from_slice(rt.alloc(), b"b")?,
+    };
+    assert!(rt; one != two);
     Ok(())
 }
 

@@ -153,7 +153,7 @@ impl unnamed_yaml_token_t_data {
 }
 
 /// A token: what it says, the mark of its start, and the mark after its last character.
-#[derive(Drop, PartialEq, Eq)]
+#[derive(PartialEq, Eq, Drop)]
 pub struct yaml_token_t {
     /// What it says.
     pub token_data: unnamed_yaml_token_t_data,

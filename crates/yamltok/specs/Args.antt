@@ -54,6 +54,6 @@ is_right (ScanLimit setting limit) = is_limit limit
 is_right (Calls setting word) = are_letters word.now
 
 -- these words spell that command
-pub record Spells (words : List (List ℕ)) (command : yaml_command_t) : Type 0 where
+pub record AreWordsOf (words : List (List ℕ)) (command : yaml_command_t) : Type 0 where
   pub words_are : words ≡ words_of command
   pub right : is_right command ≡ true

@@ -52,8 +52,7 @@ use Rattle.yaml_text.specs.declared.types.yaml_token_type_t.TheVariants.{
   YAML_TAG_TOKEN,
   YAML_SCALAR_TOKEN,
 }
-use Rattle.yaml_text.specs.Token.{Token as yaml_token_t}
-use Rattle.yaml_text.specs.Token.{TokenData as unnamed_yaml_token_t_data}
+use Rattle.yaml_text.specs.Token.{Token, TokenData}
 use Rattle.yaml_text.specs.Token.TokenData.{STREAM_START, VERSION_DIRECTIVE, TAG_DIRECTIVE, ALIAS, ANCHOR, TAG, SCALAR}
 use Rattle.yaml_text.specs.Token.{type_of}
 use Rattle.yaml_text.specs.Chars.{utf8}
@@ -180,7 +179,7 @@ abbrev pub head_parts : yaml_token_type_t → yaml_mark_t → yaml_mark_t → Li
 head_parts kind start end = type_name kind ∷ mark_parts kind start end
 
 -- what a token says, without its type
-abbrev pub data_parts : unnamed_yaml_token_t_data → List (List ℕ)
+abbrev pub data_parts : TokenData → List (List ℕ)
 data_parts (STREAM_START encoding) = encoding_word encoding ∷ []
 data_parts (VERSION_DIRECTIVE major minor) = signed_decimal major ∷ signed_decimal minor ∷ []
 data_parts (TAG_DIRECTIVE handle prefix) = bytes_text handle ∷ bytes_text prefix ∷ []
@@ -191,7 +190,7 @@ data_parts (SCALAR value style) = style_word style ∷ bytes_text value ∷ []
 data_parts _ = []
 
 -- the line of a token
-abbrev pub token_line : yaml_token_t → List ℕ
+abbrev pub token_line : Token → List ℕ
 token_line t = line (head_parts (type_of t.token_data) t.start_mark t.end_mark ++ data_parts t.token_data)
 
 -- the line of a token that is shown and stays
@@ -200,7 +199,7 @@ peek_line kind start end = line (codes "PEEK" ∷ head_parts kind start end)
 
 -- ANSWERS
 -- the lines of tokens
-abbrev pub token_lines : List yaml_token_t → List ℕ
+abbrev pub token_lines : List Token → List ℕ
 token_lines tokens = flat_map token_line tokens
 
 -- the line of a fault, if there is one

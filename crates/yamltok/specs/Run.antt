@@ -12,7 +12,7 @@ use Rattle.yamltok.specs.declared.args.yaml_command_t.{yaml_command_t}
 use Rattle.yamltok.specs.declared.args.yaml_command_t.TheVariants.{Decode, Scan, ScanLimit, Calls}
 use Rattle.yaml_scan.specs.declared.calls.yaml_call_t.{yaml_call_t}
 use Rattle.yaml_scan.specs.declared.calls.yaml_call_t.TheVariants.{SCAN, PEEK, SKIP}
-use Rattle.yaml_scan.specs.Token.{yaml_token_t}
+use Rattle.yaml_text.specs.Token.{Token}
 use Rattle.yaml_scan.specs.Session.{Call, new_session}
 use Rattle.yaml_scan.specs.Inputs.{decoded_input, answers_to}
 use Rattle.yaml_scan.specs.Parser.{Parser, IsRefusedEarly}
@@ -40,7 +40,7 @@ pub record ListsDecode (setting : yaml_encoding_t) (input lines : List ℕ) (has
 
 -- The lines are the listing of all tokens of the input and of its fault, and has_fault says whether it has one.
 pub record ListsScan (limit : ℕ) (setting : yaml_encoding_t) (input lines : List ℕ) (has_fault : Bool) : Type 0 where
-  pub tokens : List yaml_token_t
+  pub tokens : List Token
   pub fault : Option Fault
   pub answers : ReadsAll limit setting input tokens fault
   -- if the input is refused early, tokens and fault are those of its answers, whatever memory there is

@@ -35,7 +35,7 @@ fn list_decoded(
             Ok((lines, false))
         }
         Err(fault) => {
-            list_fault(&fault, &mut lines)?;
+            list_fault(alloc, &fault, &mut lines)?;
             Ok((lines, true))
         }
     }
@@ -70,7 +70,7 @@ impl token_lines_t {
 impl yaml_token_sink_t for token_lines_t {
     ghost use Rattle.std.specs.Prelude.{◌≡◌, ◌++◌, take};
     ghost use Rattle.yamltok.specs.Listing.{token_lines};
-    ghost use Rattle.yamltok.specs.Lines.{lines_none, lines_more};
+    ghost use Rattle.yamltok.specs.inside.TokenLines.{lines_none, lines_more};
 
     ghost took = { λ a tokens b. take b.len b.bytes.items ≡ take a.len a.bytes.items ++ token_lines tokens };
 
@@ -107,7 +107,7 @@ fn list_scanned(
     let mut listing = sink.into_lines();
     match fault {
         Some(fault) => {
-            list_fault(&fault, &mut listing)?;
+            list_fault(alloc, &fault, &mut listing)?;
             Ok((listing, true))
         }
         None => Ok((listing, false)),
@@ -175,7 +175,7 @@ fn list_called(
     let calls = calls_in(alloc, word)?;
     let answers = called(alloc, input, setting, &calls)?;
     let mut lines = Vec::new(alloc);
-    list_answers(&answers, &mut lines)?;
+    list_answers(alloc, &answers, &mut lines)?;
     let has_fault = has_fault(&answers);
     Ok((lines, has_fault))
 }

@@ -3,7 +3,7 @@ ghost use Rattle.std.specs.Prelude.{◌≡◌, ◌≢◌, ◌↔◌, ℕ, [], �
 ghost use Rattle.std.specs.Prelude.{IsTrue, slice_index, IfSome, IfNone, string_bytes};
 ghost use Rattle.std.specs.Fmt.{decimal};
 ghost use Rattle.std.specs.Int.{IsInRange};
-ghost use Rattle.yamltok.specs.Args.{setting_word, is_limit, are_letters, is_letter, is_right, Spells};
+ghost use Rattle.yamltok.specs.Args.{setting_word, is_limit, are_letters, is_letter, is_right, AreWordsOf};
 ghost use Rattle.yamltok.specs.declared.args.yaml_command_t.{yaml_command_t};
 ghost use Rattle.yaml_text.specs.declared.types.yaml_encoding_t.{yaml_encoding_t};
 
@@ -94,8 +94,8 @@ fn parse_limit(word: &str) -> Option<u32>
 
 /// The command that two words spell, if they spell one.
 fn parse_two(command: &str, setting: &str) -> Option<yaml_command_t<'static>>
-    ensures some { IfSome result (λ c. Spells (command.now ∷ setting.now ∷ []) c) }
-    ensures none { IfNone result ((c : yaml_command_t) → Spells (command.now ∷ setting.now ∷ []) c → ⊥) }
+    ensures some { IfSome result (λ c. AreWordsOf (command.now ∷ setting.now ∷ []) c) }
+    ensures none { IfNone result ((c : yaml_command_t) → AreWordsOf (command.now ∷ setting.now ∷ []) c → ⊥) }
 {
     let setting = parse_setting(setting)?;
     match command {
@@ -107,8 +107,8 @@ fn parse_two(command: &str, setting: &str) -> Option<yaml_command_t<'static>>
 
 /// The command that three words spell, if they spell one.
 fn parse_three<'a>(command: &str, setting: &str, word: &'a str) -> Option<yaml_command_t<'a>>
-    ensures some { IfSome result (λ c. Spells (command.now ∷ setting.now ∷ word.now ∷ []) c) }
-    ensures none { IfNone result ((c : yaml_command_t) → Spells (command.now ∷ setting.now ∷ word.now ∷ []) c → ⊥) }
+    ensures some { IfSome result (λ c. AreWordsOf (command.now ∷ setting.now ∷ word.now ∷ []) c) }
+    ensures none { IfNone result ((c : yaml_command_t) → AreWordsOf (command.now ∷ setting.now ∷ word.now ∷ []) c → ⊥) }
 {
     let setting = parse_setting(setting)?;
     match command {
@@ -130,8 +130,8 @@ fn parse_three<'a>(command: &str, setting: &str, word: &'a str) -> Option<yaml_c
 ///
 /// ENC is `any`, `utf8`, `utf16le` or `utf16be`.
 pub fn parse_args(words: &[String]) -> Option<yaml_command_t>
-    ensures some { IfSome result (λ command. Spells (map string_bytes words.now) command) }
-    ensures none { IfNone result ((command : yaml_command_t) → Spells (map string_bytes words.now) command → ⊥) }
+    ensures some { IfSome result (λ command. AreWordsOf (map string_bytes words.now) command) }
+    ensures none { IfNone result ((command : yaml_command_t) → AreWordsOf (map string_bytes words.now) command → ⊥) }
 {
     match words {
         [command, setting] => parse_two(command.as_str(), setting.as_str()),

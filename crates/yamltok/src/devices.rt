@@ -1,5 +1,5 @@
 //! What the program reads from and writes to.
-ghost use Rattle.std.specs.Prelude.{◌≡◌, ℕ, ◌<◌, Bool, false, List, Option, None, length, is_err};
+ghost use Rattle.std.specs.Prelude.{◌≡◌, ℕ, ◌<◌, Bool, false, List, Option, length, is_err};
 ghost use Rattle.std.specs.Io.{ReadsAtMost, WritesAtMost};
 ghost use Rattle.std.specs.Io.KnownBytes.{ReadConsumes, WriteAppends};
 ghost use Rattle.yamltok.specs.Devices.{source_failed, sink_failed, IsProgress};
@@ -13,18 +13,18 @@ pub struct yaml_broken_t;
 /// Something to read from, until it fails.
 pub trait yaml_source_t {
     // The bytes that are left, if they are known.
-    ghost remaining: { Self → Option (List ℕ) } = { λ _. None };
+    ghost remaining: { Self → Option (List ℕ) };
 
     // Whether a call has failed.
     ghost failed: { Self → Bool };
 
     /// Reads into the front of the slice, and returns how many bytes; 0 is the end. An `Err` comes if the
     /// device fails in this call; then nothing was read.
-    fn pull(&mut self, buffer: &mut [u8]) -> Result<usize, yaml_broken_t>
+    fn pull(&mut self, buf: &mut [u8]) -> Result<usize, yaml_broken_t>
         requires working { failed self.old ≡ false }
-        requires room { 0 < length buffer.old }
-        ensures bound { ReadsAtMost result buffer.new }
-        ensures bytes { ReadConsumes (remaining self.old) (remaining self.new) result buffer.new }
+        requires room { 0 < length buf.old }
+        ensures bound { ReadsAtMost result buf.new }
+        ensures bytes { ReadConsumes (remaining self.old) (remaining self.new) result buf.new }
         ensures failed { failed self.new ≡ is_err result };
 
     /// Whether a call has failed.
@@ -35,7 +35,7 @@ pub trait yaml_source_t {
 /// Something to write to, until it fails.
 pub trait yaml_sink_t {
     // The bytes that were written, if they are known.
-    ghost contents: { Self → Option (List ℕ) } = { λ _. None };
+    ghost contents: { Self → Option (List ℕ) };
 
     // Whether a call has failed.
     ghost failed: { Self → Bool };
@@ -74,6 +74,13 @@ impl<R: Read + Drop> yaml_source_of_t<R> {
             failed: false,
         }
     }
+
+    /// Whether a read failed.
+    fn read_failed(&self) -> bool
+        ensures { result ≡ source_failed self.now }
+    {
+        self.failed
+    }
 }
 
 impl<R: Read + Drop> yaml_source_t for yaml_source_of_t<R> {
@@ -81,8 +88,8 @@ impl<R: Read + Drop> yaml_source_t for yaml_source_of_t<R> {
 
     ghost failed = { λ s. source_failed s };
 
-    fn pull(&mut self, buffer: &mut [u8]) -> Result<usize, yaml_broken_t> {
-        match self.inner.read(buffer) {
+    fn pull(&mut self, buf: &mut [u8]) -> Result<usize, yaml_broken_t> {
+        match self.inner.read(buf) {
             Ok(count) => Ok(count),
             Err(_) => {
                 self.failed = true;
@@ -92,7 +99,7 @@ impl<R: Read + Drop> yaml_source_t for yaml_source_of_t<R> {
     }
 
     fn failed(&self) -> bool {
-        self.failed
+        self.read_failed()
     }
 }
 
@@ -115,6 +122,13 @@ impl<W: Write + Drop> yaml_sink_of_t<W> {
             failed: false,
         }
     }
+
+    /// Whether a write failed or took no byte.
+    fn write_failed(&self) -> bool
+        ensures { result ≡ sink_failed self.now }
+    {
+        self.failed
+    }
 }
 
 impl<W: Write + Drop> yaml_sink_t for yaml_sink_of_t<W> {
@@ -133,6 +147,6 @@ impl<W: Write + Drop> yaml_sink_t for yaml_sink_of_t<W> {
     }
 
     fn failed(&self) -> bool {
-        self.failed
+        self.write_failed()
     }
 }

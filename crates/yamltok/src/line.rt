@@ -6,7 +6,7 @@ ghost use Rattle.yaml_text.specs.declared.types.yaml_encoding_t.TheVariants.{YAM
 ghost use Rattle.yaml_text.specs.declared.types.yaml_scalar_style_t.TheVariants.{YAML_ANY_SCALAR_STYLE};
 ghost use Rattle.yaml_text.specs.Token.{data_of, token_of};
 ghost use Rattle.yaml_scan.specs.Words.{HasWords};
-ghost use Rattle.yamltok.specs.Put.{spaced};
+ghost use Rattle.yamltok.specs.inside.Put.{spaced};
 ghost use Rattle.yamltok.specs.Listing.{bytes_text, encoding_word, type_name, style_word};
 ghost use Rattle.yamltok.specs.Listing.{parted, head_parts, data_parts, token_line};
 

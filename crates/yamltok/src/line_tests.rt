@@ -35,7 +35,7 @@ fn expect_scalar(rt: &(impl Abort + AllocGlobal), count: usize) -> Result<(), Fa
         end_mark: MOST,
     };
     let mut out = Vec::new(alloc);
-    list_token(&token, &mut out)?;
+    list_token(alloc, &token, &mut out)?;
     assert_eq!(rt; out.as_slice(), line.as_slice());
     Ok(())
 }
@@ -54,6 +54,7 @@ fn longest_lines(rt: HostRuntime) -> Result<(), Fail> {
 
 /// Lists a key from a mark of three numbers to one of three others.
 fn put_key(
+    alloc: Global,
     start: (u64, u64, u64),
     end: (u64, u64, u64),
     out: &mut Vec<u8>,
@@ -74,22 +75,29 @@ fn put_key(
         start_mark,
         end_mark,
     };
-    list_token(&token, out)
+    list_token(alloc, &token, out)
 }
 
 /// Lists keys whose marks have numbers of few and of many digits.
 fn put_keys(alloc: Global) -> Result<Vec<u8>, AllocError> {
     let mut out = Vec::new(alloc);
-    put_key((0, 1, 9), (10, 11, 19), &mut out)?;
-    put_key((90, 99, 100), (101, 109, 110), &mut out)?;
-    put_key((909, 990, 999), (1000, 1001, 1010), &mut out)?;
-    put_key((9999, 10000, 10001), (12345, 99999, 100000), &mut out)?;
+    put_key(alloc, (0, 1, 9), (10, 11, 19), &mut out)?;
+    put_key(alloc, (90, 99, 100), (101, 109, 110), &mut out)?;
+    put_key(alloc, (909, 990, 999), (1000, 1001, 1010), &mut out)?;
     put_key(
+        alloc,
+        (9999, 10000, 10001),
+        (12345, 99999, 100000),
+        &mut out,
+    )?;
+    put_key(
+        alloc,
         (1234567, 9999999, 10000000),
         (100000000, 4294967295, 4294967296),
         &mut out,
     )?;
     put_key(
+        alloc,
         (
             9999999999999999999,
             10000000000000000000,

@@ -8,14 +8,14 @@ ghost use Rattle.yaml_text.specs.Token.{data_of, token_of};
 ghost use Rattle.yaml_scan.specs.Words.{HasLine, HasWords};
 ghost use Rattle.yaml_scan.specs.Seen.{seen_of};
 ghost use Rattle.yaml_scan.specs.CallWords.{SeenHasLine, SeenHaveLines};
-ghost use Rattle.yamltok.specs.Put.{Puts, spaced};
+ghost use Rattle.yamltok.specs.inside.Put.{Puts, spaced};
 ghost use Rattle.yamltok.specs.Listing.{reader_line, scanner_line, fault_line, text_line};
 ghost use Rattle.yamltok.specs.Listing.{token_line, peek_line, answer_line, answer_lines};
 
 use crate::line::{HEAD, encoding_word, put_line, set_head};
 use crate::mark::{kept_mark_t, put_mark};
 use crate::put::{cut_back, put_decimal, put_part, put_signed, put_text};
-use std::alloc::AllocError;
+use std::alloc::{AllocError, Global};
 use yaml_scan::yaml_answer_t;
 use yaml_text::{
     yaml_error_type_t, yaml_fault_t, yaml_mark_at, yaml_mark_t, yaml_text_t, yaml_token_t,
@@ -92,7 +92,7 @@ fn put_fault(out: &mut Vec<u8>, fault: &yaml_fault_t) -> Result<(), AllocError>
 ///
 /// It is `FAULT reader`, offset, value and problem text; or `FAULT scanner`, the marks of context and problem, the
 /// context text or `-`, then `;`, and the problem text; or `FAULT memory`.
-pub fn list_fault(fault: &yaml_fault_t, out: &mut Vec<u8>) -> Result<(), AllocError>
+pub fn list_fault(alloc: Global, fault: &yaml_fault_t, out: &mut Vec<u8>) -> Result<(), AllocError>
     requires { HasLine (fault_of fault.now) }
     ensures ok { OnOk result (out.new.items ≡ out.old.items ++ fault_line (fault_of fault.now)) }
     ensures err { OnErr result (out.new.items ≡ out.old.items) }
@@ -133,7 +133,7 @@ pub fn list_text(text: &yaml_text_t, out: &mut Vec<u8>) -> Result<(), AllocError
 }
 
 /// Appends the line of a token to `out`. If memory is refused, `out` is as before.
-pub fn list_token(token: &yaml_token_t, out: &mut Vec<u8>) -> Result<(), AllocError>
+pub fn list_token(alloc: Global, token: &yaml_token_t, out: &mut Vec<u8>) -> Result<(), AllocError>
     requires { HasWords (data_of token.now.token_data) }
     ensures ok { OnOk result (out.new.items ≡ out.old.items ++ token_line (token_of token.now)) }
     ensures err { OnErr result (out.new.items ≡ out.old.items) }
@@ -179,6 +179,7 @@ fn put_peek(
 ///
 /// It is `PEEK`, the name of its type and its marks, or `PEEK NO-TOKEN` for the empty token.
 pub fn list_peek(
+    alloc: Global,
     kind: yaml_token_type_t,
     start_mark: yaml_mark_t,
     end_mark: yaml_mark_t,
@@ -195,27 +196,35 @@ pub fn list_peek(
 /// Appends the line of an answer to a call to `out`. If memory is refused, `out` is as before.
 ///
 /// It is that of a token, of a peek, or of a fault, or `SKIP`, or `SKIP NOTHING` if nothing was skipped.
-pub fn list_answer(answer: &yaml_answer_t, out: &mut Vec<u8>) -> Result<(), AllocError>
+pub fn list_answer(
+    alloc: Global,
+    answer: &yaml_answer_t,
+    out: &mut Vec<u8>,
+) -> Result<(), AllocError>
     requires { SeenHasLine (seen_of answer.now) }
     ensures ok { OnOk result (out.new.items ≡ out.old.items ++ answer_line (seen_of answer.now)) }
     ensures err { OnErr result (out.new.items ≡ out.old.items) }
 {
     match answer {
-        yaml_answer_t::TOKEN(token) => list_token(token, out),
-        yaml_answer_t::PEEKED(kind, start, end) => list_peek(*kind, *start, *end, out),
+        yaml_answer_t::TOKEN(token) => list_token(alloc, token, out),
+        yaml_answer_t::PEEKED(kind, start, end) => list_peek(alloc, *kind, *start, *end, out),
         yaml_answer_t::SKIPPED => out.extend_from_slice(b"SKIP\n"),
         yaml_answer_t::NOTHING => out.extend_from_slice(b"SKIP NOTHING\n"),
-        yaml_answer_t::FAULT(fault) => list_fault(fault, out),
+        yaml_answer_t::FAULT(fault) => list_fault(alloc, fault, out),
     }
 }
 
 /// Appends the lines of these answers to `out`. If memory is refused, the old bytes are still its beginning.
-pub fn list_answers(answers: &[yaml_answer_t], out: &mut Vec<u8>) -> Result<(), AllocError>
+pub fn list_answers(
+    alloc: Global,
+    answers: &[yaml_answer_t],
+    out: &mut Vec<u8>,
+) -> Result<(), AllocError>
     requires { SeenHaveLines (map seen_of answers.now) }
     ensures { Puts result out.old.items (answer_lines (map seen_of answers.now)) out.new.items }
 {
     for answer in answers {
-        list_answer(answer, out)?;
+        list_answer(alloc, answer, out)?;
     }
     Ok(())
 }

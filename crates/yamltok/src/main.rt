@@ -11,7 +11,7 @@
 //! ENC is `any`, `utf8`, `utf16le` or `utf16be`.
 //!
 //! The exit status is 0 if no line is that of a fault, 1 if one is, 2 for wrong arguments, and 3 if a read or a write
-//! failed or memory was refused.
+//! failed or there was no memory for the input or the listing.
 #![tactic(auto)]
 
 mod answer;

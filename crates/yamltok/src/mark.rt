@@ -3,7 +3,7 @@ ghost use Rattle.std.specs.Prelude.{◌≡◌, ◌++◌, ◌∷◌, ◌+◌, ◌
 ghost use Rattle.std.specs.Prelude.{codes, take, length};
 ghost use Rattle.std.specs.Fmt.{decimal};
 ghost use Rattle.yamltok.specs.Listing.{mark_text};
-ghost use Rattle.yamltok.specs.Put.{Puts};
+ghost use Rattle.yamltok.specs.inside.Put.{Puts};
 
 use crate::put::{set_decimal, set_small, set_two};
 use std::alloc::AllocError;

@@ -32,7 +32,7 @@ impl From<AllocError> for tool_fault_t {
 }
 
 /// The exit status: 0 if no fault line was written, 1 if one was, 2 for wrong arguments, and 3 if
-/// a read or a write failed or memory was refused.
+/// a read or a write failed or there was no memory for the input or the listing.
 pub fn yaml_status(outcome: &Result<bool, tool_fault_t>) -> u8
     ensures { result ≡ status_of outcome.now }
 {

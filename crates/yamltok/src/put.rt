@@ -5,7 +5,7 @@ ghost use Rattle.std.specs.Fmt.{decimal, signed_decimal};
 ghost use Rattle.std.specs.List.{range_with_len};
 ghost use Rattle.std.specs.Char.{digit_char};
 ghost use Rattle.yamltok.specs.Listing.{byte_text};
-ghost use Rattle.yamltok.specs.Put.{Puts, pair_text};
+ghost use Rattle.yamltok.specs.inside.Put.{Puts, pair_text};
 
 use std::alloc::AllocError;
 

@@ -6,7 +6,7 @@ ghost use Rattle.yaml_text.specs.Token.{data_of};
 ghost use Rattle.yaml_scan.specs.Words.{HasWords};
 
 use crate::args::parse_args;
-use crate::devices::{yaml_sink_of_t, yaml_source_of_t};
+use crate::devices::{yaml_broken_t, yaml_sink_of_t, yaml_sink_t, yaml_source_of_t, yaml_source_t};
 use crate::listing::{list_fault, list_peek, list_token};
 use crate::outcome::{tool_fault_t, yaml_status};
 use crate::run::run;
@@ -255,6 +255,30 @@ fn writes_fail(rt: HostRuntime) -> Result<(), Fail> {
     Ok(())
 }
 
+/// A source and a sink say that they failed after a call that failed, and not before it.
+#[test]
+fn devices_say_that_they_failed(rt: HostRuntime) -> Result<(), Fail> {
+    let reader = slow_reader_t {
+        bytes: b"a",
+        at: 0,
+        calls: 0,
+    };
+    let mut source = yaml_source_of_t::new(reader);
+    assert!(rt; !source.failed());
+    assert_eq!(rt; source.pull(&mut [0u8; 4]), Err(yaml_broken_t));
+    assert!(rt; source.failed());
+    let writer = slow_writer_t {
+        taken: Vec::new(rt.alloc()),
+        calls: 0,
+        fails: false,
+    };
+    let mut sink = yaml_sink_of_t::new(writer);
+    assert!(rt; !sink.failed());
+    assert_eq!(rt; sink.put(b"a"), Err(yaml_broken_t));
+    assert!(rt; sink.failed());
+    Ok(())
+}
+
 const FROM: yaml_mark_t = yaml_mark_t {
     index: 0,
     line: 0,
@@ -279,7 +303,7 @@ const CONTEXT_AT: yaml_mark_t = yaml_mark_t {
     column: 0,
 };
 
-fn put_memory_fault(out: &mut Vec<u8>) -> Result<(), AllocError> {
+fn put_memory_fault(alloc: Global, out: &mut Vec<u8>) -> Result<(), AllocError> {
     let fault = yaml_fault_t {
         error: yaml_error_type_t::YAML_MEMORY_ERROR,
         problem: None,
@@ -289,10 +313,11 @@ fn put_memory_fault(out: &mut Vec<u8>) -> Result<(), AllocError> {
         context: None,
         context_mark: FROM,
     };
-    list_fault(&fault, out)
+    list_fault(alloc, &fault, out)
 }
 
 fn put_scanner_fault(
+    alloc: Global,
     context: Option<&'static str>,
     context_mark: yaml_mark_t,
     out: &mut Vec<u8>,
@@ -306,16 +331,17 @@ fn put_scanner_fault(
         context,
         context_mark,
     };
-    list_fault(&fault, out)
+    list_fault(alloc, &fault, out)
 }
 
 #[test]
 fn listing_of_faults(rt: HostRuntime) -> Result<(), Fail> {
-    let mut out = Vec::new(rt.alloc());
+    let alloc = rt.alloc();
+    let mut out = Vec::new(alloc);
     out.push(b'>')?;
-    put_memory_fault(&mut out)?;
-    put_scanner_fault(Some("while reading"), CONTEXT_AT, &mut out)?;
-    put_scanner_fault(None, PROBLEM_AT, &mut out)?;
+    put_memory_fault(alloc, &mut out)?;
+    put_scanner_fault(alloc, Some("while reading"), CONTEXT_AT, &mut out)?;
+    put_scanner_fault(alloc, None, PROBLEM_AT, &mut out)?;
     let lines = "\
 >FAULT memory
 FAULT scanner 7:1:0 9:1:2 while reading; found no end
@@ -346,7 +372,11 @@ fn words_of_faults(rt: HostRuntime) -> Result<(), Fail> {
 }
 
 /// Lists a token of these data.
-fn put(token_data: unnamed_yaml_token_t_data, out: &mut Vec<u8>) -> Result<(), AllocError>
+fn put(
+    alloc: Global,
+    token_data: unnamed_yaml_token_t_data,
+    out: &mut Vec<u8>,
+) -> Result<(), AllocError>
     requires { HasWords (data_of token_data) }
 {
     let token = yaml_token_t {
@@ -354,7 +384,7 @@ fn put(token_data: unnamed_yaml_token_t_data, out: &mut Vec<u8>) -> Result<(), A
         start_mark: FROM,
         end_mark: TO,
     };
-    list_token(&token, out)
+    list_token(alloc, &token, out)
 }
 
 fn put_tag(
@@ -365,30 +395,44 @@ fn put_tag(
 ) -> Result<(), AllocError> {
     let handle = Vec::from_slice(alloc, handle)?;
     let suffix = Vec::from_slice(alloc, suffix)?;
-    put(unnamed_yaml_token_t_data::TAG { handle, suffix }, out)
+    put(
+        alloc,
+        unnamed_yaml_token_t_data::TAG { handle, suffix },
+        out,
+    )
 }
 
-fn put_stream_start(encoding: yaml_encoding_t, out: &mut Vec<u8>) -> Result<(), AllocError>
+fn put_stream_start(
+    alloc: Global,
+    encoding: yaml_encoding_t,
+    out: &mut Vec<u8>,
+) -> Result<(), AllocError>
     requires { encoding ≢ YAML_ANY_ENCODING }
 {
-    put(unnamed_yaml_token_t_data::STREAM_START { encoding }, out)
+    put(
+        alloc,
+        unnamed_yaml_token_t_data::STREAM_START { encoding },
+        out,
+    )
 }
 
-fn put_stream_starts(out: &mut Vec<u8>) -> Result<(), AllocError> {
-    put_stream_start(yaml_encoding_t::YAML_UTF8_ENCODING, out)?;
-    put_stream_start(yaml_encoding_t::YAML_UTF16LE_ENCODING, out)?;
-    put_stream_start(yaml_encoding_t::YAML_UTF16BE_ENCODING, out)
+fn put_stream_starts(alloc: Global, out: &mut Vec<u8>) -> Result<(), AllocError> {
+    put_stream_start(alloc, yaml_encoding_t::YAML_UTF8_ENCODING, out)?;
+    put_stream_start(alloc, yaml_encoding_t::YAML_UTF16LE_ENCODING, out)?;
+    put_stream_start(alloc, yaml_encoding_t::YAML_UTF16BE_ENCODING, out)
 }
 
 fn put_directives(alloc: Global, out: &mut Vec<u8>) -> Result<(), AllocError> {
     let (major, minor) = (1, -20);
     put(
+        alloc,
         unnamed_yaml_token_t_data::VERSION_DIRECTIVE { major, minor },
         out,
     )?;
     let handle = Vec::from_slice(alloc, b"!e!")?;
     let prefix = Vec::from_slice(alloc, b"tag:")?;
     put(
+        alloc,
         unnamed_yaml_token_t_data::TAG_DIRECTIVE { handle, prefix },
         out,
     )
@@ -396,9 +440,9 @@ fn put_directives(alloc: Global, out: &mut Vec<u8>) -> Result<(), AllocError> {
 
 fn put_names(alloc: Global, out: &mut Vec<u8>) -> Result<(), AllocError> {
     let value = Vec::from_slice(alloc, b"a")?;
-    put(unnamed_yaml_token_t_data::ALIAS { value }, out)?;
+    put(alloc, unnamed_yaml_token_t_data::ALIAS { value }, out)?;
     let value = Vec::from_slice(alloc, b"b")?;
-    put(unnamed_yaml_token_t_data::ANCHOR { value }, out)
+    put(alloc, unnamed_yaml_token_t_data::ANCHOR { value }, out)
 }
 
 fn put_scalar(
@@ -410,7 +454,11 @@ fn put_scalar(
     requires { style ≢ YAML_ANY_SCALAR_STYLE }
 {
     let value = Vec::from_slice(alloc, text)?;
-    put(unnamed_yaml_token_t_data::SCALAR { value, style }, out)
+    put(
+        alloc,
+        unnamed_yaml_token_t_data::SCALAR { value, style },
+        out,
+    )
 }
 
 /// Lists a scalar of each style, and one of no bytes.
@@ -435,14 +483,14 @@ fn put_scalars(alloc: Global, out: &mut Vec<u8>) -> Result<(), AllocError> {
 
 /// Lists the empty token, and tokens of all forms of data.
 fn put_tokens(alloc: Global, out: &mut Vec<u8>) -> Result<(), AllocError> {
-    list_token(&yaml_token_t::empty(), out)?;
+    list_token(alloc, &yaml_token_t::empty(), out)?;
     put_tag(alloc, b"!", b"\0", out)?;
     put_tag(alloc, b"", b"!", out)?;
-    put_stream_starts(out)?;
+    put_stream_starts(alloc, out)?;
     put_directives(alloc, out)?;
     put_names(alloc, out)?;
     put_scalars(alloc, out)?;
-    put(unnamed_yaml_token_t_data::BLOCK_MAPPING_START, out)
+    put(alloc, unnamed_yaml_token_t_data::BLOCK_MAPPING_START, out)
 }
 
 #[test]
@@ -474,22 +522,22 @@ BLOCK-MAPPING-START 0:0:0 4:0:4
     Ok(())
 }
 
-fn put_peek(kind: yaml_token_type_t, out: &mut Vec<u8>) -> Result<(), AllocError> {
-    list_peek(kind, FROM, TO, out)
+fn put_peek(alloc: Global, kind: yaml_token_type_t, out: &mut Vec<u8>) -> Result<(), AllocError> {
+    list_peek(alloc, kind, FROM, TO, out)
 }
 
 /// Lists peeks at tokens of several types.
-fn put_peeks(out: &mut Vec<u8>) -> Result<(), AllocError> {
-    put_peek(yaml_token_type_t::YAML_NO_TOKEN, out)?;
-    put_peek(yaml_token_type_t::YAML_STREAM_START_TOKEN, out)?;
-    put_peek(yaml_token_type_t::YAML_SCALAR_TOKEN, out)?;
-    put_peek(yaml_token_type_t::YAML_FLOW_MAPPING_END_TOKEN, out)
+fn put_peeks(alloc: Global, out: &mut Vec<u8>) -> Result<(), AllocError> {
+    put_peek(alloc, yaml_token_type_t::YAML_NO_TOKEN, out)?;
+    put_peek(alloc, yaml_token_type_t::YAML_STREAM_START_TOKEN, out)?;
+    put_peek(alloc, yaml_token_type_t::YAML_SCALAR_TOKEN, out)?;
+    put_peek(alloc, yaml_token_type_t::YAML_FLOW_MAPPING_END_TOKEN, out)
 }
 
 #[test]
 fn listing_of_peeks(rt: HostRuntime) -> Result<(), Fail> {
     let mut out = Vec::new(rt.alloc());
-    put_peeks(&mut out)?;
+    put_peeks(rt.alloc(), &mut out)?;
     let lines = "\
 PEEK NO-TOKEN
 PEEK STREAM-START 0:0:0 4:0:4

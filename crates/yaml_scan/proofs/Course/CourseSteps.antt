@@ -267,7 +267,7 @@ front_is_cut limit input k = go (starts_near input.source.size input.refusal)
         subst (λ (X : List Laid). Begins (before limit (steps_of limit input k).read) (before limit X)) (sym y.1) (before-before limit y.0 (steps_of limit input k).read (subst (λ (X : List Laid). IsHistory limit X) y.1 h))
 
 -- NO CALL IS STUCK
-last_token : (i : Laid) (H : List Laid) → offline (i ∷ H) ≡ (groups (i ∷ H) H ++ (block_ends i ++ inserted (i ∷ H) i)) ++ OfLexeme i.lexeme ∷ []
+pub last_token : (i : Laid) (H : List Laid) → offline (i ∷ H) ≡ (groups (i ∷ H) H ++ (block_ends i ++ inserted (i ∷ H) i)) ++ OfLexeme i.lexeme ∷ []
 unfolding offline groups group
 last_token i H = ap (λ (l : List Token). groups (i ∷ H) H ++ l) (sym (append_assoc (block_ends i) (inserted (i ∷ H) i) (OfLexeme i.lexeme ∷ []))) ∙ sym (append_assoc (groups (i ∷ H) H) (block_ends i ++ inserted (i ∷ H) i) (OfLexeme i.lexeme ∷ []))
 

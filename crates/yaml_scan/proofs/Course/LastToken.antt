@@ -19,10 +19,10 @@ use Rattle.yaml_scan.proofs.TokenList.OneLexemeMore.{all_is_handed_out}
 use Rattle.yaml_scan.proofs.Course.CourseSteps.{course_is_history, steps_of, steps_are}
 
 -- none is that of the stream end
-abbrev IsOn : Token → Type 0
+abbrev pub IsOn : Token → Type 0
 IsOn x = is_last x ≡ false
 
-abbrev AllOn : List Token → Type 0
+abbrev pub AllOn : List Token → Type 0
 AllOn xs = Every IsOn xs
 
 put_in_on : HoldsPutIn IsOn
@@ -54,16 +54,18 @@ at_end [] y (suc n) x a e l = absurd (cc)
 at_end (z ∷ xs) y zero x a e l = let q : z ≡ x = cc in absurd (false≢true (sym a.0 ∙ ap is_last q ∙ l))
 at_end (z ∷ xs) y (suc n) x a e l = let r = at_end xs y n x a.1 e l in omega arith
 
+-- while the stream has not ended
+pub settled_on : (limit : ℕ) (H : List Laid) → IsHistory limit H → ended H ≡ false → AllOn (before limit H)
+unfolding offline
+settled_on limit H h w = let b = before-offline limit H h in every_front IsOn (before limit H) b.rest (subst (λ (z : List Token). AllOn z) b.is (on_groups limit H H h w))
+
 end_of_history : (limit : ℕ) (H : List Laid) → IsHistory limit H → (n : ℕ) (x : Token) → slice_get (before limit H) n ≡ Some x → is_last x ≡ true → (ended H ≡ true) × (n + 1 ≡ length (before limit H))
 unfolding offline groups
 end_of_history limit H h n x e l = elim (cases_Bool (ended H)) [
   | inl w ↦ (w, whole H h w e)
-  | inr w ↦ absurd (false≢true (sym (on_at (before limit H) n x (front w) e) ∙ l))
+  | inr w ↦ absurd (false≢true (sym (on_at (before limit H) n x (settled_on limit H h w) e) ∙ l))
 ]
   where
-    front : ended H ≡ false → AllOn (before limit H)
-    front w = let b = before-offline limit H h in every_front IsOn (before limit H) b.rest (subst (λ (z : List Token). AllOn z) b.is (on_groups limit H H h w))
-
     last_of_all : (i : Laid) (B : List Laid) → offline (i ∷ B) ≡ (groups (i ∷ B) B ++ lead (i ∷ B) i) ++ OfLexeme i.lexeme ∷ []
     last_of_all i B = ap (λ (z : List Token). groups (i ∷ B) B ++ z) (group_is (i ∷ B) i) ∙ sym (append_assoc (groups (i ∷ B) B) (lead (i ∷ B) i) (OfLexeme i.lexeme ∷ []))
 

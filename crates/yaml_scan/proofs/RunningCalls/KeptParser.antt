@@ -12,7 +12,7 @@ use Rattle.yaml_scan.specs.Settled.{first_steps}
 use Rattle.yaml_scan.specs.Session.{session_queued}
 use Rattle.yaml_scan.specs.inside.Queue.{IsLead}
 use Rattle.yaml_text.specs.declared.types.yaml_encoding_t.{yaml_encoding_t}
-use Rattle.yaml_scan.specs.inside.Ready.{IsIn, IsNew, IsReady, IsShown, Sound, parser_of, course_in}
+use Rattle.yaml_scan.specs.inside.Ready.{IsIn, IsReady, IsShown, Sound, parser_of, course_in}
 use Rattle.yaml_scan.specs.inside.Scanning.{IsOpen, Runs, course_of, history}
 
 some_or_none : (n : ℕ) → (n ≡ 0) ⊎ (0 < n)

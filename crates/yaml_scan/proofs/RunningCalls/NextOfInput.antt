@@ -1,12 +1,12 @@
 -- A step of the running scanner is the next one of its input.
-use Rattle.std.proofs.Common.{◌≡◌, ℕ, ◌+◌, ◌-◌, ◌*◌, ◌^◌, ◌≤◌, ◌<◌, Bool, true, false, List, [], ◌∷◌, length, Option, Some, None, refl, ap, sym, ◌∙◌, subst, arith, inl, inr, leb, le-leb, leb-true}
+use Rattle.std.proofs.Common.{◌≡◌, ℕ, ◌+◌, ◌-◌, ◌*◌, ◌^◌, ◌≤◌, ◌<◌, Bool, true, false, List, [], ◌∷◌, length, Option, Some, None, refl, ap, sym, ◌∙◌, subst, arith, inl, inr}
 use Rattle.std.specs.Prelude.{option_map, ◌⊎◌, Result, Ok, Err, MatchResult}
 use Rattle.yaml_scan.specs.declared.fault.stop_t.{stop_t}
 use Rattle.yaml_scan.specs.inside.Stop.{fault_at}
-use Rattle.std.proofs.lemmas.Bool.{cases_Bool, cases_eq, cases_lt, false≢true}
-use Rattle.yaml_text.specs.declared.fault.yaml_fault_t.{yaml_fault_t}
+use Rattle.std.proofs.lemmas.Bool.{cases_eq, false≢true}
 use Rattle.yaml_text.specs.Fault.{Fault, memory_fault}
 use Rattle.yaml_text.specs.Decode.{refusal_seen}
+use Rattle.yaml_scan.specs.declared.groups.group_t.{group_t}
 use Rattle.yaml_scan.specs.declared.scanner.scanner_t.{scanner_t}
 use Rattle.yaml_scan.specs.Lexeme.{Lexeme}
 use Rattle.yaml_scan.specs.Source.{Offence}
@@ -20,7 +20,7 @@ use Rattle.yaml_scan.specs.Cut.{Cut, cut_from, oldest, IsRun, EndsWith}
 use Rattle.yaml_scan.specs.Answers.{Course, course, course_from, next}
 use Rattle.yaml_scan.specs.Near.{unless_near, is_near, place_of, starts_near}
 use Rattle.yaml_scan.specs.Settled.{before}
-use Rattle.yaml_scan.specs.inside.Scanning.{Holds, Advances, AdvancesTwice, Ends, Makes, Offends, Runs, Steps, StepsOn, IsLast, Same, IsNearFrom, IsNearOf, IsStep, Stays, counted, history}
+use Rattle.yaml_scan.specs.inside.Scanning.{HoldsWith, AdvancesWith, AdvancesTwice, Ends, Makes, Needs, Offends, Runs, Steps, StepsOn, IsLast, groups_in, Same, IsNearFrom, IsNearOf, IsStep, Stays, counted, history}
 use Rattle.yaml_scan.specs.inside.Scanning.{course_of, input_of}
 use Rattle.yaml_scan.proofs.Course.LongestCut.{IsHistory-from_run, run_short}
 use Rattle.yaml_scan.proofs.Course.CourseSteps.{next_orderly, steps_are}
@@ -87,8 +87,33 @@ history_same s t e m = rw (course_same s t e, m) refl
 pub same_trans : (s t u : scanner_t) → Same s t → Same t u → Same s u
 same_trans s t u a b = record { text = b.text ∙ a.text; refusal = b.refusal ∙ a.refusal; near = b.near ∙ a.near; limit = b.limit ∙ a.limit; taken = b.taken ∙ a.taken; done = b.done ∙ a.done }
 
+-- WITH OTHER GROUPS IN THE QUEUE
+-- a scanner that runs if it has these groups in its queue
+pub record RunsWith (s : scanner_t) (ys : List group_t) : Type 0 where
+  pub small : length s.text.chars < 2 ^ 63
+  pub near : IsNearOf (refusal_seen s.refusal) s.text.chars s.near
+  pub holds : HoldsWith (history s) (s.made + 1) s ys
+  pub begun : 0 < s.made
+  pub start : (course_of s).begun ≡ true
+  pub within : s.made ≤ length (course_of s).read + 1
+
+pub runs_with : (s : scanner_t) → Runs s → RunsWith s (groups_in s)
+runs_with s r = record { small = r.small; near = r.near; holds = r.holds; begun = r.begun; start = r.start; within = r.within }
+
+pub runs_on : (s : scanner_t) (ys : List group_t) → ys ≡ groups_in s → RunsWith s ys → Runs s
+runs_on s ys e r = record { small = r.small; near = r.near; holds = subst (λ (z : List group_t). HoldsWith (history s) (s.made + 1) s z) e r.holds; begun = r.begun; start = r.start; within = r.within }
+
+-- one step more
+pub record StepsWith (s t : scanner_t) (zs : List group_t) : Type 0 where
+  pub runs : RunsWith t zs
+  pub made : t.made ≡ s.made + 1
+  pub same : Same s t
+
+steps_of : (s t : scanner_t) → StepsWith s t (groups_in t) → Steps s t
+steps_of s t k = record { runs = runs_on t (groups_in t) refl k.runs; made = k.made; same = k.same }
+
 -- THE COURSE
-module _ (s : scanner_t) (r : Runs s) where
+module _ (s : scanner_t) (ys : List group_t) (r : RunsWith s ys) where
   abbrev cut_of : Cut
   cut_of = cut_from (next (input_of s) s.limit) ((source_of s.text.chars).size + 1) s.limit []
 
@@ -107,26 +132,26 @@ module _ (s : scanner_t) (r : Runs s) where
   fault_is : (course_of s).fault ≡ option_map (λ o. o.fault) cut_of.fault
   fault_is = ap (λ (c : Course). c.fault) course_is
 
-  pub is_run : IsRun (next (input_of s) s.limit) s.limit (course_of s).read
-  is_run = rw read_is (steps_are s.limit (input_of s) (text_order s.text.chars r.holds.text)).0
+  pub is_run_with : IsRun (next (input_of s) s.limit) s.limit (course_of s).read
+  is_run_with = rw read_is (steps_are s.limit (input_of s) (text_order s.text.chars r.holds.text)).0
 
   ends_with : EndsWith (next (input_of s) s.limit) (course_of s).read cut_of.fault
   ends_with = rw read_is (steps_are s.limit (input_of s) (text_order s.text.chars r.holds.text)).1
 
-  pub read_history : IsHistory s.limit (course_of s).read
-  read_history = IsHistory-from_run (next (input_of s) s.limit) s.limit (source_of s.text.chars).size (next_orderly s.limit (input_of s) (text_order s.text.chars r.holds.text)) (course_of s).read is_run
+  pub read_history_with : IsHistory s.limit (course_of s).read
+  read_history_with = IsHistory-from_run (next (input_of s) s.limit) s.limit (source_of s.text.chars).size (next_orderly s.limit (input_of s) (text_order s.text.chars r.holds.text)) (course_of s).read is_run_with
 
-  pub read_short : length (course_of s).read ≤ length s.text.chars + 1
-  read_short = let a = run_short (next (input_of s) s.limit) s.limit (source_of s.text.chars).size (next_orderly s.limit (input_of s) (text_order s.text.chars r.holds.text)) (course_of s).read is_run in let z = size_of s.text.chars in omega arith
+  pub read_short_with : length (course_of s).read ≤ length s.text.chars + 1
+  read_short_with = let a = run_short (next (input_of s) s.limit) s.limit (source_of s.text.chars).size (next_orderly s.limit (input_of s) (text_order s.text.chars r.holds.text)) (course_of s).read is_run_with in let z = size_of s.text.chars in omega arith
 
-  pub inside : s.made - 1 ≤ length (course_of s).read
-  inside = let a = r.within in let b = r.begun in omega arith
+  pub inside_with : s.made - 1 ≤ length (course_of s).read
+  inside_with = let a = r.within in let b = r.begun in omega arith
 
   module _ (e : ended (history s) ≡ false) where
     not_all : (x : Lexeme) → next (input_of s) s.limit (history s) ≡ Reads x → s.made - 1 < length (course_of s).read
     unfolding history
     not_all x q = elim (cases_eq (s.made - 1) (length (course_of s).read)) [
-      | inr z ↦ (let l = inside in omega arith)
+      | inr z ↦ (let l = inside_with in omega arith)
       | inl z ↦ (let a : oldest (s.made - 1) (course_of s).read ≡ (course_of s).read = oldest_all _ _ z in
           absurd (go cut_of.fault ends_with (subst (λ (X : List Laid). ended X ≡ false) a e) (subst (λ (X : List Laid). next (input_of s) s.limit X ≡ Reads x) a q)))
     ]
@@ -142,18 +167,18 @@ module _ (s : scanner_t) (r : Runs s) where
     unfolding history
     next_is x q = let l = not_all x q in let b = r.begun in
         let n : s.made ≡ (s.made - 1) + 1 = omega arith in
-        ap (λ (k : ℕ). oldest k (course_of s).read) n ∙ oldest-next (next (input_of s) s.limit) s.limit (course_of s).read (s.made - 1) x is_run l q
+        ap (λ (k : ℕ). oldest k (course_of s).read) n ∙ oldest-next (next (input_of s) s.limit) s.limit (course_of s).read (s.made - 1) x is_run_with l q
 
     -- the fault after the course
     last_is : (o : Offence) → next (input_of s) s.limit (history s) ≡ Faults o → IsLast s o.fault
     unfolding history
     last_is o q =
-        let a = oldest-fault (next (input_of s) s.limit) s.limit (course_of s).read (s.made - 1) o cut_of.fault is_run ends_with inside e q in
+        let a = oldest-fault (next (input_of s) s.limit) s.limit (course_of s).read (s.made - 1) o cut_of.fault is_run_with ends_with inside_with e q in
         let b = r.begun in let z = a.0 in
         record { made = omega arith; fault = fault_is ∙ ap (λ (p : Option Offence). option_map (λ o. o.fault) p) a.1 }
 
     -- the next lexeme
-    module _ (t : scanner_t) (a : Advances (history s) s t) where
+    module _ (t : scanner_t) (zs : List group_t) (a : AdvancesWith (history s) s t zs) where
       abbrev X : Outcome
       X = Reads a.lexeme
 
@@ -176,7 +201,7 @@ module _ (s : scanner_t) (r : Runs s) where
         unfolding history
         u_history = let m : u.made - 1 ≡ s.made = (let k = u_made in omega arith) in rw (course_same s u u_same, m) (next_is a.lexeme reads)
 
-        u_holds : Holds (laid s.limit (history s) a.lexeme ∷ history s) (u.made + 1) u
+        u_holds : HoldsWith (laid s.limit (history s) a.lexeme ∷ history s) (u.made + 1) u zs
         u_holds = let h = a.holds in record {
           text = rw H h.text;
           is_history = subst (λ (k : ℕ). IsHistory k (laid s.limit (history s) a.lexeme ∷ history s)) (sym L) h.is_history;
@@ -197,52 +222,101 @@ module _ (s : scanner_t) (r : Runs s) where
           place = rw (H, R) h.place;
         }
 
-        pub stepped : Steps s u
-        stepped = record {
-          runs = record {
-            small = (let e = u_same in rw (e.text) r.small);
-            near = (let e = u_same in rw (e.text, e.refusal, e.near) r.near);
-            holds = subst (λ (Z : List Laid). Holds Z (u.made + 1) u) (sym u_history) u_holds;
-            begun = (let k = u_made in omega arith);
-            start = rw (course_same s u u_same) r.start;
-            within = (let k = u_made in let l = not_all a.lexeme reads in rw (course_same s u u_same) (omega arith));
-          };
-          made = u_made;
-          same = u_same;
+        u_runs : RunsWith u zs
+        u_runs = record {
+          small = (let e = u_same in rw (e.text) r.small);
+          near = (let e = u_same in rw (e.text, e.refusal, e.near) r.near);
+          holds = subst (λ (Z : List Laid). HoldsWith Z (u.made + 1) u zs) (sym u_history) u_holds;
+          begun = (let k = u_made in omega arith);
+          start = rw (course_same s u u_same) r.start;
+          within = (let k = u_made in let l = not_all a.lexeme reads in rw (course_same s u u_same) (omega arith));
         }
 
+        pub stepped_with : StepsWith s u zs
+        stepped_with = record { runs = u_runs; made = u_made; same = u_same }
+
     -- the fault of a step
-    pub ends_last : (f : Fault) → Ends (history s) s f → IsLast s f
-    ends_last f w = subst (λ (g : Fault). IsLast s g) w.2 (last_is w.0 w.1)
+    pub ends_last_with : (f : Fault) → Ends (history s) s f → IsLast s f
+    ends_last_with f w = subst (λ (g : Fault). IsLast s g) w.2 (last_is w.0 w.1)
+
+-- of a scanner that runs
+module _ (s : scanner_t) (r : Runs s) where
+  pub is_run : IsRun (next (input_of s) s.limit) s.limit (course_of s).read
+  is_run = is_run_with s (groups_in s) (runs_with s r)
+
+  pub read_history : IsHistory s.limit (course_of s).read
+  read_history = read_history_with s (groups_in s) (runs_with s r)
+
+  pub read_short : length (course_of s).read ≤ length s.text.chars + 1
+  read_short = read_short_with s (groups_in s) (runs_with s r)
+
+  pub inside : s.made - 1 ≤ length (course_of s).read
+  inside = inside_with s (groups_in s) (runs_with s r)
+
+  pub ends_last : ended (history s) ≡ false → (f : Fault) → Ends (history s) s f → IsLast s f
+  ends_last e = ends_last_with s (groups_in s) (runs_with s r) e
 
 -- two steps at once, neither of which is near
-module _ (s : scanner_t) (r : Runs s) (e : ended (history s) ≡ false) (t : scanner_t) (a : AdvancesTwice (history s) s t) (far : t.reach.index < s.near) where
+module _ (s : scanner_t) (ys : List group_t) (r : RunsWith s ys) (e : ended (history s) ≡ false) (t : scanner_t) (zs : List group_t) (a : AdvancesTwice (history s) s t zs) (far : t.reach.index < s.near) where
   abbrev between : scanner_t
   between = counted a.between
 
-  once : Steps s between
-  once = stepped s r e a.between a.first between refl refl refl refl refl refl refl refl refl refl between.reach.index refl a.far
+  once : StepsWith s between a.then_queued
+  once = stepped_with s ys r e a.between a.then_queued a.first between refl refl refl refl refl refl refl refl refl refl between.reach.index refl a.far
 
   history_then : history between ≡ laid s.limit (history s) a.first.lexeme ∷ history s
-  history_then = u_history s r e a.between a.first between refl refl refl refl refl refl refl refl refl refl between.reach.index refl a.far
+  history_then = u_history s ys r e a.between a.then_queued a.first between refl refl refl refl refl refl refl refl refl refl between.reach.index refl a.far
 
-  then_advances : Advances (history between) between t
-  then_advances = subst (λ (H : List Laid). Advances H between t) (sym history_then) a.second
+  then_advances : AdvancesWith (history between) between t zs
+  then_advances = subst (λ (H : List Laid). AdvancesWith H between t zs) (sym history_then) a.second
 
   then_far : t.reach.index < between.near
   then_far = let q = once.same in let n = q.near in omega arith
 
-  pub stepped_twice : (u : scanner_t) → u ≡ counted t → Steps s between × (length (before between.limit (history between)) ≤ between.taken) × Steps between u
-  stepped_twice u q = let f = once.same in (
-    once,
-    rw (history_then, f.limit, f.taken) a.needed,
-    rw q (stepped between once.runs (rw history_then a.running) t then_advances (counted t) refl refl refl refl refl refl refl refl refl refl t.reach.index refl then_far),
-  )
+  twice : (u : scanner_t) → u ≡ counted t → StepsWith between u zs
+  twice u q = rw q (stepped_with between a.then_queued once.runs (rw history_then a.running) t zs then_advances (counted t) refl refl refl refl refl refl refl refl refl refl t.reach.index refl then_far)
+
+  middle_is : oldest s.made (course_of s).read ≡ laid s.limit (history s) a.first.lexeme ∷ history s
+  unfolding history
+  middle_is =
+      let f = once.same in
+      let n : s.made ≡ between.made - 1 = (let k = once.made in omega arith) in
+      ap (λ (k : ℕ). oldest k (course_of s).read) n ∙ ap (λ (c : Course). oldest (between.made - 1) c.read) (sym (course_same s between f)) ∙ history_then
+
+  both_needed : Needs true (history s) s t zs a → length (before s.limit (oldest s.made (course_of s).read)) ≤ s.taken
+  both_needed n = rw middle_is (n refl)
+
+one_step : (s u : scanner_t) (ys : List group_t) → RunsWith s ys → ended (history s) ≡ false → (t : scanner_t) (zs : List group_t) → AdvancesWith (history s) s t zs → t.reach.index < s.near → u ≡ counted t → StepsWith s u zs
+one_step s u ys r e t zs a far q = rw q (stepped_with s ys r e t zs a (counted t) refl refl refl refl refl refl refl refl refl refl t.reach.index refl far)
+
+-- one step was made, or two, whether the next token needs both or not
+pub some_steps : (sparing : Bool) (s u : scanner_t) (zs : List group_t) → Runs s → ended (history s) ≡ false → Makes sparing (history s) s u zs → RunsWith u zs × (s.made < u.made) × Same s u
+some_steps sparing s u zs r e (inl m) = let k = one_step s u (groups_in s) (runs_with s r) e m.0 zs m.1 m.2 m.3 in let n = k.made in (k.runs, omega arith, k.same)
+some_steps sparing s u zs r e (inr m) =
+    let t : scanner_t = m.0 in
+    let a = m.1.0.0 in
+    let j = once s (groups_in s) (runs_with s r) e (counted t) zs a m.1.1 in
+    let k = twice s (groups_in s) (runs_with s r) e (counted t) zs a m.1.1 u m.2 in
+    let l = j.made in
+    let n = k.made in
+    (k.runs, omega arith, same_trans s (counted a.between) u j.same k.same)
 
 -- a step of the scanner is the next one of its input
-pub steps_on : (s u : scanner_t) → Runs s → ended (history s) ≡ false → Makes (history s) s u → StepsOn s u
-steps_on s u r e (inl m) = let t : scanner_t = m.0 in inl (rw m.3 (stepped s r e t m.1 (counted t) refl refl refl refl refl refl refl refl refl refl t.reach.index refl m.2))
-steps_on s u r e (inr m) = let t : scanner_t = m.0 in let p = stepped_twice s r e (counted t) m.1 m.2 u m.3 in inr (between s r e (counted t) m.1 m.2, p.0, p.1, p.2)
+pub steps_on : (s u : scanner_t) → Runs s → ended (history s) ≡ false → Makes true (history s) s u (groups_in u) → StepsOn s u
+steps_on s u r e (inl m) = inl (steps_of s u (one_step s u (groups_in s) (runs_with s r) e m.0 (groups_in u) m.1 m.2 m.3))
+steps_on s u r e (inr m) =
+    let t : scanner_t = m.0 in
+    let a = m.1.0.0 in
+    let j = once s (groups_in s) (runs_with s r) e (counted t) (groups_in u) a m.1.1 in
+    let k = twice s (groups_in s) (runs_with s r) e (counted t) (groups_in u) a m.1.1 u m.2 in
+    let l = j.made in
+    let n = k.made in
+    inr (record {
+      runs = runs_on u (groups_in u) refl k.runs;
+      made = omega arith;
+      same = same_trans s (counted a.between) u j.same k.same;
+      needed = both_needed s (groups_in s) (runs_with s r) e (counted t) (groups_in u) a m.1.1 m.1.0.1;
+    })
 
 -- or the last one of its input
 pub step_on : (s t : scanner_t) (o : Result (Unit {0}) stop_t) → Runs s → ended (history s) ≡ false → IsStep (history s) s t o

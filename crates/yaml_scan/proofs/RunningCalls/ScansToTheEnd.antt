@@ -1,5 +1,5 @@
 -- Scan after scan to the end of an input gives the whole list.
-use Rattle.std.proofs.Common.{◌≡◌, ℕ, zero, suc, ◌+◌, ◌-◌, ◌<◌, ◌≤◌, ◌||◌, Bool, true, false, List, [], ◌∷◌, ◌++◌, map, take, length, slice_get, Option, Some, None, refl, ap, sym, ◌∙◌, subst, arith, inl, inr}
+use Rattle.std.proofs.Common.{◌≡◌, ℕ, zero, suc, ◌+◌, ◌≤◌, ◌||◌, Bool, true, false, List, [], ◌∷◌, ◌++◌, map, take, length, slice_get, Option, Some, None, refl, ap, sym, ◌∙◌, subst, arith, inl, inr}
 use Rattle.std.specs.Prelude.{if◌then◌else◌, Err}
 use Rattle.std.specs.List.{list_any}
 use Rattle.std.proofs.lemmas.Bool.{false≢true}
@@ -8,8 +8,6 @@ use Rattle.yaml_text.specs.declared.types.yaml_encoding_t.{yaml_encoding_t}
 use Rattle.yaml_text.specs.declared.fault.yaml_fault_t.{yaml_fault_t}
 use Rattle.yaml_scan.specs.Fault.{Fault, memory_fault}
 use Rattle.yaml_text.specs.Fault.{fault_of}
-use Rattle.yaml_text.specs.declared.token.yaml_token_t.{yaml_token_t as code_token_t}
-use Rattle.yaml_text.specs.Token.{token_of}
 use Rattle.yaml_scan.specs.Token.{yaml_token_t, is_last_type, type_of}
 use Rattle.yaml_scan.specs.Begins.{Begins}
 use Rattle.yaml_scan.specs.Groups.{Token, handed_out}
@@ -37,12 +35,12 @@ unfolding after_all
 after_more limit c [] call s = refl
 after_more limit c (k ∷ calls) call s = after_more limit c calls call (after limit c k s)
 
-take_one : (xs : List Token) (n : ℕ) (x : Token) → slice_get xs n ≡ Some x → take (n + 1) xs ≡ take n xs ++ x ∷ []
+pub take_one : (xs : List Token) (n : ℕ) (x : Token) → slice_get xs n ≡ Some x → take (n + 1) xs ≡ take n xs ++ x ∷ []
 take_one [] n x e = absurd (cc)
 take_one (y ∷ xs) zero x e = let q : y ≡ x = cc in rw q refl
 take_one (y ∷ xs) (suc n) x e = let m : suc n + 1 ≡ suc (n + 1) = omega arith in rw m (ap (λ (l : List Token). y ∷ l) (take_one xs n x e))
 
-get_within : (xs : List Token) (n : ℕ) (x : Token) → slice_get xs n ≡ Some x → n + 1 ≤ length xs
+pub get_within : (xs : List Token) (n : ℕ) (x : Token) → slice_get xs n ≡ Some x → n + 1 ≤ length xs
 get_within [] n x e = absurd (cc)
 get_within (y ∷ xs) zero x e = omega arith
 get_within (y ∷ xs) (suc n) x e = let r = get_within xs n x e in omega arith
@@ -58,17 +56,11 @@ take_whole [] (suc n) l = refl
 take_whole (x ∷ xs) zero l = absurd (omega arith)
 take_whole (x ∷ xs) (suc n) l = ap (λ (z : List Token). x ∷ z) (take_whole xs n (omega arith))
 
-map_more : (f : Token → yaml_token_t) (xs : List Token) (x : Token) → map f (xs ++ x ∷ []) ≡ map f xs ++ f x ∷ []
+pub map_more : (f : Token → yaml_token_t) (xs : List Token) (x : Token) → map f (xs ++ x ∷ []) ≡ map f xs ++ f x ∷ []
 map_more f [] x = refl
 map_more f (y ∷ xs) x = ap (λ (z : List yaml_token_t). f y ∷ z) (map_more f xs x)
 
--- one token of the code more, as the definitions see it
-pub one_told : (xs : List code_token_t) (x : code_token_t)
-    → map token_of (xs ++ x ∷ []) ≡ map token_of xs ++ token_of x ∷ []
-one_told [] x = refl
-one_told (y ∷ xs) x = ap (λ (z : List yaml_token_t). token_of y ∷ z) (one_told xs x)
-
-begins_take : (f : Token → yaml_token_t) (xs : List Token) (n : ℕ) → Begins (map f (take n xs)) (map f xs)
+pub begins_take : (f : Token → yaml_token_t) (xs : List Token) (n : ℕ) → Begins (map f (take n xs)) (map f xs)
 begins_take f [] zero = record { rest = []; is = refl }
 begins_take f [] (suc n) = record { rest = []; is = refl }
 begins_take f (x ∷ xs) zero = record { rest = f x ∷ map f xs; is = refl }
@@ -248,13 +240,3 @@ module _ (limit : ℕ) (setting : yaml_encoding_t) (input : List ℕ) where
   unfolding answers_to answers
   scans_end q tokens h = let w = h.whole refl in
       inl (h.tokens_are ∙ ap (λ (z : List Token). map (handed_out I.encoding) z) (take_whole L q.session.taken (let a = w.0 in omega arith)), sym w.1)
-
--- fewer are left
-pub fewer_left : (p q : Parser) (tokens : List yaml_token_t) (h : HasScanned p.limit p.setting p.input q tokens false) (x : yaml_token_t) (r : Parser) (last : Bool) → last ≡ is_last_type (type_of x.token_data) → Calls SCAN q (TOKEN x) r
-    → length (tokens_of p.limit (course_read p)) - r.session.taken < length (tokens_of p.limit (course_read p)) - q.session.taken
-unfolding course_read
-fewer_left p q tokens h x r last l w =
-    let s = scans_on p.limit p.setting p.input q tokens h x r last l w in
-    let a : r.session.taken ≤ length (tokens_of p.limit (course_read p)) = s.0.within in
-    let b = s.1 in
-    omega arith

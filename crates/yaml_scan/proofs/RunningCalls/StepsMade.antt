@@ -11,7 +11,7 @@ use Rattle.yaml_scan.specs.Step.{Outcome}
 use Rattle.yaml_scan.specs.Cut.{oldest, IsRun}
 use Rattle.yaml_scan.specs.Answers.{Course, next}
 use Rattle.yaml_scan.specs.Settled.{steps_for, pace}
-use Rattle.yaml_scan.specs.inside.Scanning.{Runs, Steps, StepsOn, IsLast, Stays, Same, IsOpen, Fails, Stops, history, course_of}
+use Rattle.yaml_scan.specs.inside.Scanning.{Runs, Steps, StepsOn, StepsTwice, IsLast, Stays, Same, IsOpen, Fails, Stops, history, course_of}
 use Rattle.yaml_scan.specs.inside.Scanning.{input_of}
 use Rattle.yaml_scan.proofs.TokenList.OneLexemeMore.{all_is_handed_out}
 use Rattle.yaml_scan.proofs.Course.NextStep.{oldest_all, oldest_tail}
@@ -19,7 +19,7 @@ use Rattle.yaml_scan.proofs.Course.StepsNeeded.{enough, needs_more}
 use Rattle.yaml_scan.proofs.RunningCalls.NextOfInput.{is_run, read_history, inside, course_same, history_same, same_trans}
 
 -- only the whole list has ended
-ended_all : (p : List Laid → Outcome) (limit : ℕ) (H : List Laid) (k : ℕ) → IsRun p limit H → k ≤ length H → ended (oldest k H) ≡ true → k ≡ length H
+pub ended_all : (p : List Laid → Outcome) (limit : ℕ) (H : List Laid) (k : ℕ) → IsRun p limit H → k ≤ length H → ended (oldest k H) ≡ true → k ≡ length H
 ended_all p limit [] k r l e = omega arith
 ended_all p limit (i ∷ H) k r l e = elim (cases_eq k (length (i ∷ H))) [
   | inl q ↦ q
@@ -86,6 +86,16 @@ module _ (s t : scanner_t) (r : Runs t) (S : Same s t) where
   unfolding pace
   one_more u k l = let e = more_needed t r u k l in let c = steps_is in let m = k.made in omega arith
 
+  pub two_more : (u : scanner_t) → StepsTwice t u → u.made ≤ pace s.limit (course_of s).read s.taken s.made
+  unfolding pace
+  two_more u k =
+      let w = k.runs.within in
+      let c = ap (λ (x : Course). length x.read) (course_same t u k.same) in
+      let m = k.made in
+      let e = needs_more t.limit (course_of t).read t.taken t.made (omega arith) k.needed in
+      let d = steps_is in
+      omega arith
+
   pub stops : (u : scanner_t) → Stays t u → s.made ≤ t.made → t.made ≤ pace s.limit (course_of s).read s.taken s.made → length (before t.limit (history t)) ≤ t.taken → Stops s u
   stops u k a b l = let h = history_same t u k.same k.made in record {
     same = same_trans s t u S k.same;
@@ -114,25 +124,13 @@ goes_on s t u r S l n (inl k) = record {
   least = (let b = k.made in omega arith);
   most = one_more s t r S u k n;
 }
-goes_on s t u r S l n (inr k) =
-    let v : scanner_t = k.0 in
-    let a = k.1 in
-    let b = k.3 in
-    record {
-      runs = b.runs;
-      same = same_trans s v u (same_trans s t v S a.same) b.same;
-      least = (let c = a.made in let d = b.made in omega arith);
-      most = one_more s v a.runs (same_trans s t v S a.same) u b k.2;
-    }
+goes_on s t u r S l n (inr k) = record {
+  runs = k.runs;
+  same = same_trans s t u S k.same;
+  least = (let b = k.made in omega arith);
+  most = two_more s t r S u k;
+}
 
 pub fewer_left : (t u : scanner_t) → Runs t → StepsOn t u → length (course_of u).read + 2 - u.made < length (course_of t).read + 2 - t.made
 fewer_left t u r (inl k) = let m = k.made in let e = ap (λ (x : Course). length x.read) (course_same t u k.same) in let w = r.within in omega arith
-fewer_left t u r (inr k) =
-    let v : scanner_t = k.0 in
-    let a = k.1 in
-    let b = k.3 in
-    let m = a.made in
-    let n = b.made in
-    let e = ap (λ (x : Course). length x.read) (course_same t v a.same) in
-    let f = ap (λ (x : Course). length x.read) (course_same v u b.same) in
-    let w = r.within in omega arith
+fewer_left t u r (inr k) = let m = k.made in let e = ap (λ (x : Course). length x.read) (course_same t u k.same) in let w = r.within in omega arith

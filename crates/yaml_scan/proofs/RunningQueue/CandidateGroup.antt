@@ -72,7 +72,7 @@ ends_at_made : (n : ℕ) (m : yaml_mark_t) → AreMade (ends_at n m)
 ends_at_made zero m = tt
 ends_at_made (suc n) m = (refl, ends_at_made n m)
 
-leads_made : (y : group_t) → AreMade (leads y)
+pub leads_made : (y : group_t) → AreMade (leads y)
 leads_made y = made-append (ends_at y.ends y.token.start_mark) _ (ends_at_made y.ends y.token.start_mark) (go y.opens y.key)
   where
     go : (o : block_t) (k : Bool) → AreMade (start_at o y.token.start_mark ++ (if k then InsertedKey y.token.start_mark ∷ [] else []))

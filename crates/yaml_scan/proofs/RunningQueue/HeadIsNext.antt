@@ -27,7 +27,7 @@ module _ (limit : ℕ) (H : List Laid) (h : IsHistory limit H) (t : ℕ) (l : t 
   not_held : (k : ℕ) (c : Laid) → candidate H k ≡ Some c → live limit c (reach H) ≡ true → held limit H k ≡ None → ⊥
   not_held k c s v e = let q : Some (held_of c) ≡ None = rw (s, v) at e in absurd (cc)
 
-  none_open : IsNone limit H (depth H + 1) → t < length (offline H) → t < length (before limit H)
+  pub none_open : IsNone limit H (depth H + 1) → t < length (offline H) → t < length (before limit H)
   none_open r m = open_head m (λ k c s v o e. not_held k c s v (r.below k (omega arith)))
 
   module _ (r : IsLowest limit H (depth H + 1)) where

@@ -1,10 +1,12 @@
--- A candidate and what decides it are laid at once as they are laid one after the other.
-use Rattle.std.proofs.Common.{◌≡◌, ℕ, ◌+◌, ◌-◌, ◌≤◌, not, ◌&&◌, ◌||◌, Bool, true, false, List, [], ◌∷◌, ◌++◌, reverse, filter, length, Option, Some, None, refl, ap, sym, ◌∙◌, subst, arith, inl, inr, eqb, vec_len, eq-eqb, ltb-false, slice_set}
+-- A candidate and what decides it are laid together as they are laid one after the other.
+use Rattle.std.proofs.Common.{◌≡◌, ℕ, zero, suc, ◌+◌, ◌-◌, ◌≤◌, ◌<◌, not, ◌&&◌, ◌||◌, Bool, true, false, List, [], ◌∷◌, ◌++◌, reverse, filter, map, length, Option, Some, None, refl, ap, sym, ◌∙◌, subst, arith, inl, inr, eqb, vec_len, eq-eqb, ltb-false}
 use Rattle.std.specs.Prelude.{if◌then◌else◌, nat_eq, nat_lt}
 use Rattle.std.specs.Option.{is_some}
-use Rattle.std.specs.VecDeque.{deque_capacity, deque_with_item}
+use Rattle.std.specs.Vec.{vec_capacity}
+use Rattle.std.specs.declared.alloc.Global.{Global}
+use Rattle.std.specs.declared.vec.Vec.{Vec}
 use Rattle.std.proofs.lemmas.Bool.{cases_Bool, and_parts, eqb-true}
-use Rattle.std.proofs.lemmas.List.{reverse-reverse}
+use Rattle.std.proofs.lemmas.List.{length-reverse, reverse-reverse}
 use Rattle.yaml_text.specs.declared.types.yaml_mark_t.{yaml_mark_t}
 use Rattle.yaml_text.specs.declared.token.yaml_token_t.{yaml_token_t}
 use Rattle.yaml_text.specs.Token.{token_of}
@@ -13,7 +15,6 @@ use Rattle.yaml_lexeme.specs.Lexeme.{Lexeme as yaml_lexeme_t}
 use Rattle.yaml_lexeme.specs.Place.{IsMarkOf}
 use Rattle.yaml_scan.specs.declared.groups.block_t.TheVariants.{MAPPING, NONE}
 use Rattle.yaml_scan.specs.declared.groups.group_t.{group_t}
-use Rattle.yaml_scan.specs.declared.groups.queue_t.{queue_t}
 use Rattle.yaml_scan.specs.declared.slots.slots_t.{slots_t}
 use Rattle.yaml_scan.specs.declared.levels.layout_t.{layout_t}
 use Rattle.yaml_scan.specs.declared.look.step_t.{step_t}
@@ -28,8 +29,10 @@ use Rattle.yaml_scan.specs.Settled.{before}
 use Rattle.yaml_scan.specs.SourceOf.{source_of}
 use Rattle.yaml_scan.specs.Step.{front_of, place_after, problem_of, replaces}
 use Rattle.yaml_scan.specs.inside.Opened.{is_new, opened}
-use Rattle.yaml_scan.specs.inside.Queue.{begins_with_end, closing, completed_in, opened_by, pending}
-use Rattle.yaml_scan.specs.inside.Scanning.{AdvancesTwice, CanLayAll, CanPut, CanRead, Holds, IsDecided, IsMet, IsUndecided, Met, counted, met_in}
+use Rattle.yaml_scan.specs.Groups.Token.{BlockEnd}
+use Rattle.yaml_scan.specs.inside.Handed.{IsLaidAs}
+use Rattle.yaml_scan.specs.inside.Queue.{begins_with_end, closing, completed_in, ends_at, opened_by, pending}
+use Rattle.yaml_scan.specs.inside.Scanning.{AdvancesTwice, CanLayAll, CanPut, Holds, HoldsWith, IsDecided, IsMet, IsUndecided, LaysTwo, Met, Needs, counted, groups_in, met_in}
 use Rattle.yaml_scan.specs.inside.Slots.{Held, completed_held, held, is_live, is_margin_level, lost_held, lowest, nested_outer, nested_top, root_of, step_of}
 use Rattle.yaml_scan.specs.inside.StepFaults.{IsRefused}
 use Rattle.yaml_scan.specs.inside.TextReads.{IsDecider, IsRead}
@@ -41,9 +44,9 @@ use Rattle.yaml_scan.proofs.RunningQueue.EmptySlots.{lowest-next}
 use Rattle.yaml_scan.proofs.RunningQueue.HeadIsNext.{settled_test}
 use Rattle.yaml_scan.proofs.RunningQueue.NoCandidates.{all_empty, nested_none, none_given_up, none_held, none_lost}
 use Rattle.yaml_scan.proofs.RunningQueue.SlotOrder.{outer_more}
-use Rattle.yaml_scan.proofs.RunningStep.LevelStack.{all_kept, closing_on, none_closed}
+use Rattle.yaml_scan.proofs.RunningStep.LevelStack.{all_kept, closing_on, filter_falls, none_closed}
 use Rattle.yaml_scan.proofs.RunningStep.StepLaid.{history, levels_fall, place_then}
-use Rattle.yaml_scan.proofs.RunningStep.StepPut.{IsLaid, put_advances}
+use Rattle.yaml_scan.proofs.RunningStep.StepPut.{put_advances}
 use Rattle.yaml_scan.proofs.RunningStep.StepTests.{can_put}
 use Rattle.yaml_scan.proofs.RunningStep.TestsBefore.{allowed_is, flow_is, front_mark, kind_is, root_held, row_met}
 
@@ -55,8 +58,8 @@ live_kept : (limit : ℕ) (m : yaml_mark_t) (h : Held) → is_live limit m h ≡
 live_kept limit m h e = rw (e, and_not h.required) refl
 
 -- the same scanner holds the same, whatever steps are counted
-counted_holds : (H : List Laid) (n : ℕ) (s : scanner_t) → Holds H n s → Holds H n (counted s)
-counted_holds H n s h = record {
+counted_holds : (H : List Laid) (n : ℕ) (s : scanner_t) (ys : List group_t) → HoldsWith H n s ys → HoldsWith H n (counted s) ys
+counted_holds H n s ys h = record {
   text = h.text;
   is_history = h.is_history;
   number = h.number;
@@ -77,20 +80,41 @@ counted_holds H n s h = record {
 }
 
 -- the token of a candidate that is the only one in the queue is not settled
-module _ (H : List Laid) (n : ℕ) (s : scanner_t) (h : Holds H n s) (y : group_t) (ALONE : s.layout.queue.groups.items ≡ y ∷ []) (LEADS : pending s.layout.queue.early s.layout.queue.front (y ∷ []) ≡ [])
-    (AWAITED : s.slots.awaited ≡ s.layout.queue.done + 1) where
+module _ (H : List Laid) (n : ℕ) (s : scanner_t) (y : group_t) (h : HoldsWith H n s (y ∷ [])) (LEADS : pending s.layout.queue.early s.layout.queue.front (y ∷ []) ≡ []) (AWAITED : s.slots.awaited ≡ s.layout.queue.done + 1) where
   unsettled : length (before s.limit H) ≤ s.taken
   unsettled =
       let q = s.layout.queue in
-      let long : length q.groups.items ≡ 1 = rw ALONE refl in
-      let some : eqb (length q.groups.items) 0 ≡ false = rw long refl in
-      let test = settled_test s.limit H h.is_history s.taken h.taken q.done (begins_with_end (pending q.early q.front q.groups.items))
-      (λ k x e l. head_awaited s.limit H k x s.taken s.text.encoding q.early q.front q.groups.items q.done h.is_history h.queue h.count e l)
-      false (sym some ∙ none_left H s.taken s.text.encoding q.early q.front q.groups.items h.queue)
+      let test = settled_test s.limit H h.is_history s.taken h.taken q.done (begins_with_end (pending q.early q.front (y ∷ [])))
+      (λ k x e l. head_awaited s.limit H k x s.taken s.text.encoding q.early q.front (y ∷ []) q.done h.is_history h.queue h.count e l)
+      false (none_left H s.taken s.text.encoding q.early q.front (y ∷ []) h.queue)
       s.slots.awaited (h.awaited ∙ ap (λ (hs : List (Option Held)). step_of (lowest hs)) (outer_more s.limit H s.slots.outer.items s.slots.top h.outer h.top)) in
-      let ends : begins_with_end (pending q.early q.front q.groups.items) ≡ false = rw (ALONE, LEADS) refl in
-      let here : not (eqb s.slots.awaited (q.done + 1) && not (begins_with_end (pending q.early q.front q.groups.items))) ≡ false = rw (ends, eq-eqb _ _ AWAITED) refl in
+      let ends : begins_with_end (pending q.early q.front (y ∷ [])) ≡ false = rw LEADS refl in
+      let here : not (eqb s.slots.awaited (q.done + 1) && not (begins_with_end (pending q.early q.front (y ∷ [])))) ≡ false = rw (ends, eq-eqb _ _ AWAITED) refl in
       ltb-false _ _ (sym test ∙ here)
+
+-- LEVELS
+-- what was kept is not closed
+closing_kept : (f : Bool) (k : Kind) (m : yaml_mark_t) (cs : List ℕ) → closing f k m (filter (stays f k m) cs) ≡ None
+closing_kept f k m [] = refl
+closing_kept f k m (c ∷ cs) = elim (cases_Bool (stays f k m c)) [
+  | inl q ↦ rw (q, q) refl
+  | inr q ↦ rw q (closing_kept f k m cs)
+]
+
+filter_shorter : (t : ℕ → Bool) (cs : List ℕ) → length (filter t cs) ≤ length cs
+filter_shorter t [] = omega arith
+filter_shorter t (c ∷ cs) = let l = filter_shorter t cs in elim (cases_Bool (t c)) [ inl q ↦ rw q (omega arith) | inr q ↦ rw q (omega arith) ]
+
+no_ends : (n : ℕ) (m : yaml_mark_t) → ends_at n m ≡ [] → n ≡ 0
+no_ends zero m e = refl
+no_ends (suc n) m e = absurd (cc)
+
+-- a stack of levels with other elements, for which it has room
+abbrev levels_of : (v : Vec ℕ Global) (cs : List ℕ) → length cs ≤ vec_capacity v → Vec ℕ Global
+levels_of v cs l = record { ptr = v.ptr; len = length cs; cap = v.cap; alloc = v.alloc; items = cs; ok = (refl, l); small = v.small }
+
+within_room : (v : Vec ℕ Global) → length v.items ≤ vec_capacity v
+within_room v = let a = v.ok.0 in let b = v.ok.1 in omega arith
 
 -- WHAT DECIDES
 -- it is accepted after a candidate, whether a key is allowed or not, and clears none that is required
@@ -136,11 +160,11 @@ module _ (H : List Laid) (s : scanner_t) (margin : Bool) (r : step_t) (x : yaml_
       to_reach f.1
 
 -- A CANDIDATE, AND WHAT DECIDES IT
-module _ (H : List Laid) (s : scanner_t) (margin : Bool) (r : step_t) (x : yaml_lexeme_t) (c : CanLayAll H s margin r x) (k : Kind) (y : yaml_lexeme_t) (d : IsDecided s margin r x.reach k y) where
+module _ (H : List Laid) (s : scanner_t) (margin : Bool) (r : step_t) (x : yaml_lexeme_t) (c : CanLayAll H s margin r x) (sparing : Bool) (k : Kind) (y : yaml_lexeme_t) (d : IsDecided s margin sparing r x.reach k y) where
   abbrev h : Holds H (s.made + 1) s
   h = c.can.can.holds
 
-  abbrev u : IsUndecided s margin r x.reach
+  abbrev u : IsUndecided s margin sparing r x.reach
   u = d.undecided
 
   abbrev new : Held
@@ -158,26 +182,38 @@ module _ (H : List Laid) (s : scanner_t) (margin : Bool) (r : step_t) (x : yaml_
   pub falls : IsFalling ls
   falls = levels_fall H (s.made + 1) s h c.can.can.running (met_in s r) c.can.met margin c.can.is_new.at_margin new.start c.can.is_new.start
 
-  start_is : s.front ≡ new.start
-  start_is = sym (c.can.is_new.start ∙ (rw (candidate_not_end r.kind u.candidate) refl))
+  pub not_last : is_stream_end r.kind ≡ false
+  not_last = candidate_not_end r.kind u.candidate
 
-  canput : CanPut H s (met_in s r) margin new x
+  canput : CanPut H s (groups_in s) (met_in s r) margin new x
   canput = can_put H s margin r x c
 
-  -- the candidate
-  module _ (L : layout_t) (token : yaml_token_t) (TOKEN : token_of token ≡ record { token_data = x.token_data; start_mark = s.front; end_mark = x.end_mark }) (key : Bool) (KEY : key ≡ is_value k)
-      (LEVELS : reverse L.levels.items ≡ (if key && is_new margin token.start_mark.column ls then token.start_mark.column ∷ [] else []) ++ ls)
-      (GROUPS : L.queue.groups.items ≡ s.layout.queue.groups.items ++ record { ends = 0; opens = if key && is_new margin token.start_mark.column ls then MAPPING else NONE; key = key; token = token } ∷ [])
-      (CAPACITY : deque_capacity L.queue.groups ≡ deque_capacity s.layout.queue.groups) (DONE : L.queue.done ≡ s.layout.queue.done) (EARLY : L.queue.early ≡ s.layout.queue.early) where
+  -- the levels that the candidate keeps, and its group
+  module _ (lv : List ℕ) (KEPT : reverse lv ≡ filter (stays (not margin) r.kind new.start) ls) (n : ℕ) (ENDS : ends_at n new.start ≡ map (λ z. BlockEnd new.start) (filter (λ z. not (stays (not margin) r.kind new.start z)) ls))
+      (token : yaml_token_t) (TOKEN : token_of token ≡ record { token_data = x.token_data; start_mark = new.start; end_mark = x.end_mark }) where
+    abbrev ks : List ℕ
+    ks = reverse lv
+
+    pub short : length lv ≤ vec_capacity s.layout.levels
+    short =
+        let a = length-reverse lv in
+        let b = ap (λ (cs : List ℕ). length cs) KEPT in
+        let d = filter_shorter (stays (not margin) r.kind new.start) ls in
+        let e = length-reverse s.layout.levels.items in
+        let f = within_room s.layout.levels in omega arith
+
+    kept_falls : IsFalling ks
+    kept_falls = rw KEPT (filter_falls (stays (not margin) r.kind new.start) ls falls)
+
     -- its group, before it is decided
     abbrev group : group_t
-    group = record { ends = 0; opens = NONE; key = false; token = token }
+    group = record { ends = n; opens = NONE; key = false; token = token }
 
     abbrev slots : slots_t
     slots = record { outer = s.slots.outer; not_simple_keys = s.slots.not_simple_keys; top = Some new; awaited = new.step }
 
     abbrev layout : layout_t
-    layout = record { levels = s.layout.levels; queue = record { groups = deque_with_item L.queue.groups 0 group; done = L.queue.done; early = L.queue.early; front = L.queue.front } }
+    layout = record { levels = levels_of s.layout.levels lv short; queue = s.layout.queue }
 
     abbrev then_allowed : Bool
     then_allowed = is_plain r.kind && x.passed_break
@@ -185,19 +221,13 @@ module _ (H : List Laid) (s : scanner_t) (margin : Bool) (r : step_t) (x : yaml_
     abbrev pub between : scanner_t
     between = record { alloc = s.alloc; text = s.text; refusal = s.refusal; near = s.near; limit = s.limit; slots = slots; allowed = then_allowed; layout = layout; reach = x.reach; front = s.front; there = s.there; kept = s.kept; taken = s.taken; made = s.made }
 
-    alone : slice_set L.queue.groups.items 0 group ≡ group ∷ []
-    alone = rw (GROUPS, u.alone) refl
+    early : s.layout.queue.early ≡ 0
+    early = h.early c.can.can.running
 
-    early : L.queue.early ≡ 0
-    early = EARLY ∙ h.early c.can.can.running
-
-    column_is : token.start_mark.column ≡ new.start.column
-    column_is = ap (λ (t : Rattle.yaml_text.specs.Token.Token). t.start_mark.column) TOKEN ∙ ap (λ (m : yaml_mark_t). m.column) start_is
-
-    first : IsLaid H s (met_in s r) between
-    first = put_advances H s (met_in s r) margin new x canput slots then_allowed layout record {
-      kept = s.layout.levels.items;
-      kept_is = sym (all_kept (not margin) r.kind new.start ls falls u.kept);
+    first : IsLaidAs H s r.kind between (group ∷ [])
+    first = put_advances H s (groups_in s) (met_in s r) margin new x canput slots then_allowed layout (group ∷ []) record {
+      kept = lv;
+      kept_is = KEPT;
       early = 0;
       early_none = λ z. refl;
       early_is = early;
@@ -207,14 +237,14 @@ module _ (H : List Laid) (s : scanner_t) (margin : Bool) (r : step_t) (x : yaml_
       none = true;
       none_is = refl;
       group = group;
-      ends_are = rw (none_closed (not margin) r.kind new.start ls falls u.kept) refl;
-      token = TOKEN ∙ (rw start_is refl);
+      ends_are = rw not_last ENDS;
+      token = TOKEN;
       key = refl;
-      opens = rw (candidate_opens_nothing r.kind true u.candidate, and_not (is_new margin new.start.column ls)) refl;
-      levels = rw (candidate_opens_nothing r.kind true u.candidate, and_not (is_new margin new.start.column ls)) refl;
-      groups = rw (alone, u.alone) refl;
-      long = rw (alone, u.alone) refl;
-      done = DONE;
+      opens = rw (candidate_opens_nothing r.kind true u.candidate, and_not (is_new margin new.start.column ks)) refl;
+      levels = rw (candidate_opens_nothing r.kind true u.candidate, and_not (is_new margin new.start.column ks)) refl;
+      groups = rw u.alone refl;
+      long = rw u.alone refl;
+      done = refl;
       outer = rw (u.stays, candidate_not_flow_end r.kind u.candidate, none_given_up s.limit x.reach outer none) refl;
       top = rw (u.stays, candidate_not_flow_end r.kind u.candidate, u.candidate, u.allowed, u.live) refl;
       empty = h.empty;
@@ -228,16 +258,19 @@ module _ (H : List Laid) (s : scanner_t) (margin : Bool) (r : step_t) (x : yaml_
 
     then_running : ended H1 ≡ false
     unfolding laid
-    then_running = rw first.kind (candidate_not_end r.kind u.candidate)
+    then_running = rw first.kind not_last
 
-    then_holds : Holds H1 (s.made + 1 + 1) (counted between)
-    then_holds = counted_holds H1 (s.made + 1 + 1) between first.advances.holds
+    then_holds : HoldsWith H1 (s.made + 1 + 1) (counted between) (group ∷ [])
+    then_holds = counted_holds H1 (s.made + 1 + 1) between (group ∷ []) first.advances.holds
 
-    step_is : new.step ≡ L.queue.done + 1
-    step_is = let a = c.can.is_new.step in let n = h.number in let z = h.count in let e = ap (λ (ys : List group_t). length ys) u.alone in let w = DONE in omega arith
+    step_is : new.step ≡ s.layout.queue.done + 1
+    step_is = let a = c.can.is_new.step in let n = h.number in let z = h.count in let e = ap (λ (ys : List group_t). length ys) u.alone in omega arith
 
-    then_needed : length (before s.limit H1) ≤ s.taken
-    then_needed = unsettled H1 (s.made + 1 + 1) between first.advances.holds group alone (rw early refl) step_is
+    none_ended : sparing ≡ true → n ≡ 0
+    none_ended q = no_ends n new.start (ENDS ∙ (rw (none_closed (not margin) r.kind new.start ls falls (u.kept q)) refl))
+
+    then_needed : sparing ≡ true → length (before s.limit H1) ≤ s.taken
+    then_needed q = let e = none_ended q in unsettled H1 (s.made + 1 + 1) between group first.advances.holds (rw (early, e) refl) step_is
 
     -- what decides it
     abbrev front : yaml_mark_t
@@ -291,54 +324,58 @@ module _ (H : List Laid) (s : scanner_t) (margin : Bool) (r : step_t) (x : yaml_
     }
 
     abbrev level : Option ℕ
-    level = greatest_level (filter (stays (not margin) k front) ls)
+    level = greatest_level (filter (stays (not margin) k front) ks)
 
     abbrev then_new : Held
     then_new = record { step = s.made + 1 + 1; start = front; required = is_margin_level margin level front.column }
 
-    then_canput : CanPut H1 (counted between) met margin then_new y
+    then_canput : CanPut H1 (counted between) (group ∷ []) met margin then_new y
     then_canput = record {
       can = record { holds = then_holds; running = then_running; small = c.can.can.small; few_steps = (let f = c.can.can.few_steps in omega arith); met = then_met };
-      room = record { depths = c.can.room.depths; levels = c.can.room.levels; groups = (let l : length (slice_set L.queue.groups.items 0 group) ≡ 1 = rw alone refl in let w = CAPACITY in let t = u.room in omega arith) };
       level = level;
       is_new = record { at_margin = c.can.is_new.at_margin; is_greatest = refl; step = refl; start = start_then; required = refl };
       read = rw front_is (decider.read (vec_len s.slots.outer) level);
       kept = rw (decider_not_candidate (not margin) k decider.decides) (none_lost s.limit y.reach outer None none refl);
     }
 
-    then_kept : closing (not margin) k front ls ≡ None
+    then_kept : closing (not margin) k front ks ≡ None
     then_kept =
         let l = and_parts _ _ u.live in
         let e : front.line ≡ new.start.line = eqb-true _ _ l.0 in
-        closing_on (not margin) r.kind k new.start front ls u.kept ((reach_later H s margin r x c u.candidate).column (sym e)) (decider_not_closer (not margin) k decider.decides)
+        let w : closing (not margin) r.kind new.start ks ≡ None = rw KEPT (closing_kept (not margin) r.kind new.start ls) in
+        closing_on (not margin) r.kind k new.start front ks w ((reach_later H s margin r x c u.candidate).column (sym e)) (decider_not_closer (not margin) k decider.decides)
 
-    at_head : new.step - 1 - L.queue.done ≡ 0
+    at_head : new.step - 1 - s.layout.queue.done ≡ 0
     at_head = let e = step_is in omega arith
 
-    module _ (Q : queue_t) (value : yaml_token_t) (SAYS : token_of value ≡ record { token_data = y.token_data; start_mark = front; end_mark = y.end_mark })
-        (QUEUE : Q.groups.items ≡ L.queue.groups.items ++ record { ends = 0; opens = NONE; key = false; token = value } ∷ []) (MADE : Q.done ≡ L.queue.done) (NONE_EARLY : Q.early ≡ 0)
+    module _ (key : Bool) (KEY : key ≡ is_value k) (V : Vec ℕ Global) (LEVELS : reverse V.items ≡ (if key && is_new margin new.start.column ks then new.start.column ∷ [] else []) ++ ks)
+        (value : yaml_token_t) (SAYS : token_of value ≡ record { token_data = y.token_data; start_mark = front; end_mark = y.end_mark })
         (S : slots_t) (OUTER : S.outer.items ≡ nested_outer k outer None) (TOP : S.top ≡ nested_top k outer None) (EMPTY : S.not_simple_keys ≡ vec_len S.outer) (AWAITED : S.awaited ≡ 0)
         (a : Bool) (ALLOWED : (n : ℕ) → margin ≡ nat_eq n 0 → a ≡ allows k n (not key) false) where
       abbrev pub after : scanner_t
-      after = record { alloc = s.alloc; text = s.text; refusal = s.refusal; near = s.near; limit = s.limit; slots = S; allowed = a; layout = record { levels = L.levels; queue = Q }; reach = y.reach; front = s.front; there = s.there; kept = s.kept; taken = s.taken; made = s.made + 1 }
+      after = record { alloc = s.alloc; text = s.text; refusal = s.refusal; near = s.near; limit = s.limit; slots = S; allowed = a; layout = record { levels = V; queue = s.layout.queue }; reach = y.reach; front = s.front; there = s.there; kept = s.kept; taken = s.taken; made = s.made + 1 }
 
-      abbrev last : group_t
+      -- its group, once it is decided
+      abbrev pub keyed_group : group_t
+      keyed_group = record { ends = n; opens = if key && is_new margin new.start.column ks then MAPPING else NONE; key = key; token = token }
+
+      abbrev pub last : group_t
       last = record { ends = 0; opens = NONE; key = false; token = value }
 
-      levels_then : reverse L.levels.items ≡ opened margin completed k front ls
-      levels_then = LEVELS ∙ (rw (KEY, column_is) (elim (cases_Bool (is_value k)) [
+      levels_then : reverse V.items ≡ opened margin completed k front ks
+      levels_then = LEVELS ∙ (rw KEY (elim (cases_Bool (is_value k)) [
         | inl v ↦ rw (v, u.live) refl
-        | inr v ↦ rw (v, decider_not_entry (not margin) k decider.decides, decider_not_key (not margin) k decider.decides, v, and_not (is_new margin front.column ls)) refl
+        | inr v ↦ rw (v, decider_not_entry (not margin) k decider.decides, decider_not_key (not margin) k decider.decides, v, and_not (is_new margin front.column ks)) refl
       ]))
 
-      opens_then : NONE ≡ opened_by margin completed k front.column ls
+      opens_then : NONE ≡ opened_by margin completed k front.column ks
       opens_then = elim (cases_Bool (is_value k)) [
         | inl v ↦ rw (v, u.live) refl
-        | inr v ↦ rw (v, decider_not_entry (not margin) k decider.decides, decider_not_key (not margin) k decider.decides, v, and_not (is_new margin front.column ls)) refl
+        | inr v ↦ rw (v, decider_not_entry (not margin) k decider.decides, decider_not_key (not margin) k decider.decides, v, and_not (is_new margin front.column ks)) refl
       ]
 
-      groups_then : Q.groups.items ≡ completed_in margin completed ls L.queue.done (slice_set L.queue.groups.items 0 group) ++ last ∷ []
-      groups_then = rw (alone, QUEUE, GROUPS, u.alone, KEY, column_is) (elim (cases_Bool (is_value k)) [
+      groups_then : keyed_group ∷ (last ∷ []) ≡ completed_in margin completed ks s.layout.queue.done (group ∷ []) ++ last ∷ []
+      groups_then = rw KEY (elim (cases_Bool (is_value k)) [
         | inl v ↦ rw (v, u.live, at_head) refl
         | inr v ↦ rw v refl
       ])
@@ -346,27 +383,27 @@ module _ (H : List Laid) (s : scanner_t) (margin : Bool) (r : step_t) (x : yaml_
       nested : (lowest (nested_outer k outer None) ≡ None) × (nested_top k outer None ≡ None)
       nested = nested_none k outer (decider_no_start (not margin) k decider.decides) none
 
-      second : IsLaid H1 (counted between) met after
-      second = put_advances H1 (counted between) met margin then_new y then_canput S a after.layout record {
-        kept = s.layout.levels.items;
-        kept_is = sym (all_kept (not margin) k front ls falls then_kept);
+      second : IsLaidAs H1 (counted between) k after (keyed_group ∷ (last ∷ []))
+      second = put_advances H1 (counted between) (group ∷ []) met margin then_new y then_canput S a after.layout (keyed_group ∷ (last ∷ [])) record {
+        kept = lv;
+        kept_is = sym (all_kept (not margin) k front ks kept_falls then_kept);
         early = 0;
         early_none = λ z. refl;
-        early_is = NONE_EARLY;
+        early_is = early;
         front = λ z. absurd (omega arith);
         completed = completed;
         completed_is = refl;
         none = not (is_value k);
         none_is = completes;
         group = last;
-        ends_are = rw (none_closed (not margin) k front ls falls then_kept) refl;
+        ends_are = rw (none_closed (not margin) k front ks kept_falls then_kept) refl;
         token = SAYS;
         key = refl;
         opens = opens_then;
         levels = levels_then;
         groups = groups_then;
-        long = rw (alone, QUEUE, GROUPS, u.alone) refl;
-        done = MADE;
+        long = refl;
+        done = refl;
         outer = OUTER ∙ (rw (decider_not_candidate (not margin) k decider.decides, none_given_up s.limit y.reach outer none) refl);
         top = TOP ∙ (rw (decider_not_candidate (not margin) k decider.decides, none_given_up s.limit y.reach outer none) refl);
         empty = (let e = all_empty (nested_outer k outer None) nested.0 in let f = ap (λ (hs : List (Option Held)). length hs) OUTER in let g = EMPTY in rw OUTER (omega arith));
@@ -374,5 +411,11 @@ module _ (H : List Laid) (s : scanner_t) (margin : Bool) (r : step_t) (x : yaml_
         allows = λ n e. ALLOWED n e ∙ (rw KEY (allows_same (not margin) k n (not (is_value k)) y.passed_break decider.decides));
       }
 
-      pub twice : AdvancesTwice H s after
-      twice = record { between = between; first = first.advances; running = then_running; needed = then_needed; far = c.far; second = second.advances }
+      pub twice : (zs : List group_t) → zs ≡ keyed_group ∷ (last ∷ []) → (t : scanner_t) → counted t ≡ after → LaysTwo sparing H s t zs
+      twice zs Z t T =
+          let a : AdvancesTwice H s after (keyed_group ∷ (last ∷ [])) = record { between = between; then_queued = group ∷ []; first = first.advances; running = then_running; far = c.far; second = second.advances } in
+          let b : (b : AdvancesTwice H s after (keyed_group ∷ (last ∷ []))) × Needs sparing H s after (keyed_group ∷ (last ∷ [])) b = (a, then_needed) in (
+            subst (λ (z : List group_t). (b : AdvancesTwice H s (counted t) z) × Needs sparing H s (counted t) z b) (sym Z)
+                (subst (λ (w : scanner_t). (b : AdvancesTwice H s w (keyed_group ∷ (last ∷ []))) × Needs sparing H s w (keyed_group ∷ (last ∷ [])) b) (sym T) b),
+            subst (λ (m : yaml_mark_t). m.index < s.near) (sym (ap (λ (w : scanner_t). w.reach) T)) d.far,
+          )

@@ -36,7 +36,7 @@ use Rattle.yaml_scan.specs.Step.Outcome.{Reads}
 use Rattle.yaml_scan.specs.Cut.{IsReadInOrder}
 use Rattle.yaml_scan.specs.inside.StepFaults.{IsLost}
 use Rattle.yaml_scan.specs.inside.Queue.{IsQueue, Fitting, ends_at, completed_in, opened_by}
-use Rattle.yaml_scan.specs.inside.Scanning.{Holds, IsMet, Offends}
+use Rattle.yaml_scan.specs.inside.Scanning.{HoldsWith, IsMet, Offends}
 use Rattle.yaml_scan.proofs.History.HistoryOrder.{IsNotBefore-trans, to_start, to_reach, completion_is}
 use Rattle.yaml_scan.proofs.TokenList.NeverRevised.{start_in}
 use Rattle.yaml_scan.proofs.History.KeyCandidates.{candidate-other, candidate-saved, candidate-kept, candidate-cleared, candidate_split}
@@ -165,7 +165,7 @@ opened_less limit H x n margin cs (Some c) e h f l a = go (is_new margin c.lexem
     go false = a
 
 -- THE STEP
-module _ (H : List Laid) (N : ℕ) (s : scanner_t) (r : Holds H N s) (running : ended H ≡ false) (m : Met) (w : IsMet H s m) (margin : Bool) (M : margin ≡ vec_len s.slots.outer == 0)
+module _ (H : List Laid) (N : ℕ) (s : scanner_t) {ys : List group_t} (r : HoldsWith H N s ys) (running : ended H ≡ false) (m : Met) (w : IsMet H s m) (margin : Bool) (M : margin ≡ vec_len s.slots.outer == 0)
     (start : yaml_mark_t) (START : start ≡ start_at m.kind m.front) where
   abbrev S : Source
   S = source_of s.text.chars
@@ -278,11 +278,11 @@ module _ (H : List Laid) (N : ℕ) (s : scanner_t) (r : Holds H N s) (running : 
           c_is : c ≡ option_map held_of (completed_by s.limit H X.kind X.start)
           c_is = C ∙ (rw r.top (completed_later s.limit H r.is_history X.start (to_start follows) X.kind))
 
-          none_early : IsQueue s.text.encoding 0 s.layout.queue.front s.layout.queue.groups.items (drop s.taken (offline H))
-          none_early = subst (λ (k : ℕ). IsQueue s.text.encoding k s.layout.queue.front s.layout.queue.groups.items (drop s.taken (offline H))) (r.early running) r.queue
+          none_early : IsQueue s.text.encoding 0 s.layout.queue.front ys (drop s.taken (offline H))
+          none_early = subst (λ (k : ℕ). IsQueue s.text.encoding k s.layout.queue.front ys (drop s.taken (offline H))) (r.early running) r.queue
 
-          pub fitting : Fitting c s.layout.queue.done s.layout.queue.groups.items
-          fitting = rw c_is (fits s.limit H X history s.taken r.taken s.text.encoding s.layout.queue.front s.layout.queue.groups.items none_early s.layout.queue.done r.count)
+          pub fitting : Fitting c s.layout.queue.done ys
+          fitting = rw c_is (fits s.limit H X history s.taken r.taken s.text.encoding s.layout.queue.front ys none_early s.layout.queue.done r.count)
 
           -- the levels and the queue
           pub levels_then : (l2 : List ℕ) → reverse l2 ≡ opened margin c X.kind X.start (reverse l) → reverse l2 ≡ open_columns (laid s.limit H X ∷ H)
@@ -295,8 +295,8 @@ module _ (H : List Laid) (N : ℕ) (s : scanner_t) (r : Holds H N s) (running : 
 
           pub queue_then : (y : group_t) (n : ℕ) (f : yaml_mark_t) → ends_at n f ++ ends_at y.ends start ≡ map (λ z. BlockEnd (end_at m.kind m.front start z)) (filter (λ z. not (stays (not margin) m.kind start z)) (reverse s.layout.levels.items))
               → token_of y.token ≡ record { token_data = b.token_data; start_mark = start; end_mark = b.end_mark } → y.key ≡ false → y.opens ≡ opened_by margin c m.kind start.column (reverse l)
-              → (ys : List group_t) → ys ≡ completed_in margin c (reverse l) s.layout.queue.done s.layout.queue.groups.items ++ y ∷ [] → IsQueue s.text.encoding n f ys (drop s.taken (offline (laid s.limit H X ∷ H)))
-          queue_then y n f E Y K O ys V = rw V (rw (margin_is H N s r running margin M, c_is, l_is) (queue_more s.limit H X history s.taken r.taken s.text.encoding s.layout.queue.front s.layout.queue.groups.items none_early s.layout.queue.done r.count y n f
+              → (zs : List group_t) → zs ≡ completed_in margin c (reverse l) s.layout.queue.done ys ++ y ∷ [] → IsQueue s.text.encoding n f zs (drop s.taken (offline (laid s.limit H X ∷ H)))
+          queue_then y n f E Y K O zs V = rw V (rw (margin_is H N s r running margin M, c_is, l_is) (queue_more s.limit H X history s.taken r.taken s.text.encoding s.layout.queue.front ys none_early s.layout.queue.done r.count y n f
               (E ∙ ap (λ (f : Bool). map (λ z. BlockEnd (end_at m.kind m.front start z)) (filter (λ z. not (stays f m.kind start z)) (reverse s.layout.levels.items))) (flow_is H N s r running margin M)
               ∙ ap (λ (z : List ℕ). map (λ z. BlockEnd (end_at m.kind m.front start z)) (filter (λ z. not (stays (nat_lt 0 (depth H)) m.kind start z)) z)) r.levels ∙ ends_are s.limit H X history)
               Y K (O ∙ (rw (margin_is H N s r running margin M, c_is, l_is) refl))))

@@ -1,7 +1,7 @@
 -- What changes in a scanner within a step, and what stays.
-use Rattle.std.proofs.Common.{◌≡◌, ℕ, ◌+◌, ◌≤◌, ◌<◌, not, Bool, false, List, ◌∷◌, length, reverse, filter, Option, Some, None, Ok, Err, refl, ap, sym, ◌∙◌, subst, arith, inl, inr, vec_len}
-use Rattle.std.specs.Prelude.{Result, MatchResult}
-use Rattle.yaml_text.specs.Fault.{Fault, memory_fault}
+use Rattle.std.proofs.Common.{◌≡◌, ℕ, ◌+◌, ◌≤◌, not, Bool, true, false, List, [], ◌∷◌, length, reverse, filter, Option, Ok, Err, refl, ap, sym, ◌∙◌, subst, arith, inl, inr, vec_len}
+use Rattle.std.specs.Prelude.{Result}
+use Rattle.yaml_text.specs.Fault.{Fault}
 use Rattle.yaml_text.specs.declared.types.yaml_mark_t.{yaml_mark_t}
 use Rattle.yaml_lexeme.specs.Lexeme.{Lexeme as yaml_lexeme_t}
 use Rattle.yaml_lexeme.specs.Place.{IsMarkOf}
@@ -9,6 +9,7 @@ use Rattle.yaml_lexeme.specs.declared.lex.yaml_context_t.{yaml_context_t}
 use Rattle.yaml_lexeme.specs.declared.lexeme.yaml_lexeme_t.{yaml_lexeme_t as code_lexeme_t}
 use Rattle.yaml_lexeme.specs.declared.problem.yaml_refusal_t.{yaml_refusal_t}
 use Rattle.yaml_scan.specs.declared.fault.stop_t.{stop_t}
+use Rattle.yaml_scan.specs.declared.groups.group_t.{group_t}
 use Rattle.yaml_scan.specs.declared.look.step_t.{step_t}
 use Rattle.yaml_scan.specs.declared.scanner.scanner_t.{scanner_t}
 use Rattle.yaml_scan.specs.Kind.{Kind}
@@ -16,10 +17,12 @@ use Rattle.yaml_scan.specs.Laid.{Laid}
 use Rattle.yaml_scan.specs.Levels.{greatest_level, laid, stays}
 use Rattle.yaml_scan.specs.Order.{ended}
 use Rattle.yaml_scan.specs.Settled.{before}
-use Rattle.yaml_scan.specs.inside.Stop.{fault_at}
 use Rattle.yaml_scan.specs.inside.TextReads.{IsRead}
-use Rattle.yaml_scan.specs.inside.Scanning.{Advances, AdvancesTwice, Beside, CanRead, CanStep, Comes, Ends, HasRead, HasRoom, Holds, IsLaidBy, IsMet, IsNewHeld, IsReadIn, IsStep, Makes, Refuses, Same, Stays}
-use Rattle.yaml_scan.specs.inside.Scanning.{allowed_in, at_there, counted, met_in}
+use Rattle.yaml_scan.specs.inside.Scanning.{AdvancesTwice, AdvancesWith, Beside, CanRead, CanStep, Comes, Ends, HasRead, HasRoom, Holds, IsLaidBy, IsMet, IsNewHeld, IsReadIn, IsStep, Makes, Needs, Refuses, Same, Stays}
+use Rattle.yaml_scan.specs.inside.Scanning.{allowed_in, at_there, counted, groups_in, met_in}
+use Rattle.yaml_scan.specs.Token.{yaml_token_t}
+use Rattle.yaml_scan.specs.inside.Handed.{HandsOut, LaysTo, StepsTo}
+use Rattle.std.proofs.lemmas.Bool.{false≢true}
 use Rattle.std.proofs.lemmas.List.{reverse-reverse}
 use Rattle.yaml_scan.proofs.RunningStep.RoomMade.{with_room}
 use Rattle.yaml_scan.proofs.RunningStep.StepLaid.{kind_there, level_within}
@@ -75,8 +78,8 @@ refuses_from H s t u stop e w = (elim w.0 [ inl m ↦ inl m | inr v ↦ inr (end
 same_from : (s t u : scanner_t) → Stays s t → Same t u → Same s u
 same_from s t u e q = let p = e.same in record { text = q.text ∙ p.text; refusal = q.refusal ∙ p.refusal; near = q.near ∙ p.near; limit = q.limit ∙ p.limit; taken = q.taken ∙ p.taken; done = q.done ∙ p.done }
 
-advances_from : (H : List Laid) (s t u : scanner_t) → Stays s t → Advances H t u → Advances H s u
-advances_from H s t u e a = let q = e.same in record {
+advances_from : (H : List Laid) (s t u : scanner_t) (zs : List group_t) → Stays s t → AdvancesWith H t u zs → AdvancesWith H s u zs
+advances_from H s t u zs e a = let q = e.same in record {
   lexeme = a.lexeme;
   step = rw (← q.text, ← q.limit) a.step;
   holds = rw (← q.limit, ← e.made) a.holds;
@@ -86,24 +89,54 @@ advances_from H s t u e a = let q = e.same in record {
   made = a.made ∙ e.made;
 }
 
-twice_from : (H : List Laid) (s t u : scanner_t) → Stays s t → AdvancesTwice H t u → AdvancesTwice H s u
+twice_from : (H : List Laid) (s t u : scanner_t) (zs : List group_t) → Stays s t → AdvancesTwice H t u zs → AdvancesTwice H s u zs
 unfolding advances_from
-twice_from H s t u e a = let q = e.same in record {
+twice_from H s t u zs e a = let q = e.same in record {
   between = a.between;
-  first = advances_from H s t a.between e a.first;
+  then_queued = a.then_queued;
+  first = advances_from H s t a.between a.then_queued e a.first;
   running = subst (λ (z : ℕ). ended (laid z H a.first.lexeme ∷ H) ≡ false) q.limit a.running;
-  needed = subst (λ (n : ℕ). length (before s.limit (laid s.limit H a.first.lexeme ∷ H)) ≤ n) q.taken (subst (λ (z : ℕ). length (before z (laid z H a.first.lexeme ∷ H)) ≤ t.taken) q.limit a.needed);
   far = (let f = a.far in let n = q.near in omega arith);
-  second = subst (λ (z : ℕ). Advances (laid z H a.first.lexeme ∷ H) (counted a.between) u) q.limit a.second;
+  second = subst (λ (z : ℕ). AdvancesWith (laid z H a.first.lexeme ∷ H) (counted a.between) u zs) q.limit a.second;
 }
 
-makes_from : (H : List Laid) (s t u : scanner_t) → Stays s t → Makes H t u → Makes H s u
-makes_from H s t u e (inl m) = let q = e.same in inl (m.0, advances_from H s t m.0 e m.1, rw (← q.near) m.2, m.3)
-makes_from H s t u e (inr m) = let q = e.same in inr (m.0, twice_from H s t (counted m.0) e m.1, rw (← q.near) m.2, m.3)
+needs_from : (sparing : Bool) (H : List Laid) (s t u : scanner_t) (zs : List group_t) (e : Stays s t) (a : AdvancesTwice H t u zs) → Needs sparing H t u zs a → Needs sparing H s u zs (twice_from H s t u zs e a)
+unfolding advances_from twice_from
+needs_from sparing H s t u zs e a n = λ z. let q = e.same in
+    subst (λ (n : ℕ). length (before s.limit (laid s.limit H a.first.lexeme ∷ H)) ≤ n) q.taken (subst (λ (z : ℕ). length (before z (laid z H a.first.lexeme ∷ H)) ≤ t.taken) q.limit (n z))
+
+makes_from : (sparing : Bool) (H : List Laid) (s t u : scanner_t) (zs : List group_t) → Stays s t → Makes sparing H t u zs → Makes sparing H s u zs
+makes_from sparing H s t u zs e (inl m) = let q = e.same in inl (m.0, advances_from H s t m.0 zs e m.1, rw (← q.near) m.2, m.3)
+makes_from sparing H s t u zs e (inr m) = let q = e.same in let w = m.1 in
+    inr (m.0, ((twice_from H s t (counted m.0) zs e w.0.0, needs_from sparing H s t (counted m.0) zs e w.0.0 w.0.1), rw (← q.near) w.1), m.2)
 
 pub step_from : (H : List Laid) (s t u : scanner_t) (o : Result (Unit {0}) stop_t) → Stays s t → IsStep H t u o → IsStep H s u o
-step_from H s t u (Ok x) e w = makes_from H s t u e w
+step_from H s t u (Ok x) e w = makes_from true H s t u (groups_in u) e w
 step_from H s t u (Err stop) e w = refuses_from H s t u stop e w
+
+pub step_to_from : (H : List Laid) (s t u : scanner_t) (direct : Bool) (took : List yaml_token_t → Type 0) (refuses : Type 0) (o : Result (Unit {0}) stop_t) → Stays s t → StepsTo H t u direct took refuses o → StepsTo H s u direct took refuses o
+step_to_from H s t u direct took refuses (Ok x) e w = (w.0, w.1, w.2, makes_from (not direct) H s t w.1 w.2 e w.3, w.4, w.5)
+step_to_from H s t u direct took refuses (Err stop) e (inl w) = inl (refuses_from H s t u stop e w.0, w.1)
+step_to_from H s t u direct took refuses (Err stop) e (inr w) = let c = w.1 in inr (w.0, (c.0, c.1, c.2, makes_from (not direct) H s t c.1 c.2 e c.3, c.4, c.5, c.6), w.2)
+
+-- a step whose groups went into the queue, to a sink that was given nothing
+pub queued_step : (H : List Laid) (s t : scanner_t) (direct : Bool) (took : List yaml_token_t → Type 0) (refuses : Type 0) (o : Result (Unit {0}) stop_t) → took [] → IsStep H s t o → StepsTo H s t direct took refuses o
+queued_step H s t direct took refuses (Ok x) n w = ([], t, groups_in t, loosen direct w, inl (refl, refl, refl), n)
+  where
+    loosen : (direct : Bool) → Makes true H s t (groups_in t) → Makes (not direct) H s t (groups_in t)
+    loosen false m = m
+    loosen true (inl m) = inl m
+    loosen true (inr m) = let w = m.1 in inr (m.0, ((w.0.0, λ z. absurd (false≢true z)), w.1), m.2)
+queued_step H s t direct took refuses (Err stop) n w = inl (w, n)
+
+-- a step all of whose groups have to go into the queue
+pub only_queued : (H : List Laid) (s t : scanner_t) (took : List yaml_token_t → Type 0) (refuses : Type 0) (o : Result (Unit {0}) stop_t) → StepsTo H s t false took refuses o → IsStep H s t o
+only_queued H s t took refuses (Ok x) w = elim w.4 [
+  | inl e ↦ subst (λ (z : scanner_t). Makes true H s z (groups_in z)) (sym e.1) (subst (λ (zs : List group_t). Makes true H s w.1 zs) e.2 w.3)
+  | inr e ↦ absurd (false≢true e.0)
+]
+only_queued H s t took refuses (Err stop) (inl w) = w.0
+only_queued H s t took refuses (Err stop) (inr w) = let c = w.1 in absurd (false≢true c.4)
 
 pub stop_from : (H : List Laid) (s t u : scanner_t) (stop : stop_t) → Stays s t → Refuses H t u stop → Refuses H s u stop
 stop_from H s t u stop e w = refuses_from H s t u stop e w
@@ -161,9 +194,40 @@ abbrev pub counted_by : scanner_t → ℕ → scanner_t
 counted_by s n = made_to s (s.made + n)
 
 -- a step that was laid, or two, and counted
-pub made_all : (H : List Laid) (s t u : scanner_t) (n : ℕ) → IsLaidBy H s t n → u ≡ counted_by t n → Makes H s u
-made_all H s t u n (inl w) e = inl (t, w.1, w.2, e ∙ ap (counted_by t) w.0)
-made_all H s t u n (inr w) e = inr (t, w.1, w.2, e ∙ ap (counted_by t) w.0 ∙ twice t)
+pub made_all : (sparing : Bool) (H : List Laid) (s t : scanner_t) (zs : List group_t) (n : ℕ) → IsLaidBy sparing H s t zs n → Makes sparing H s (counted_by t n) zs
+made_all sparing H s t zs n (inl w) = inl (t, w.1, w.2, ap (counted_by t) w.0)
+made_all sparing H s t zs n (inr w) = inr (t, w.1, ap (counted_by t) w.0 ∙ twice t)
   where
     twice : (t : scanner_t) → counted_by t 2 ≡ counted (counted t)
     twice t = let e : t.made + 2 ≡ t.made + 1 + 1 = omega arith in ap (λ (m : ℕ). made_to t m) e
+
+-- what was handed out of it
+hands_all : (direct : Bool) (m : scanner_t) (zs : List group_t) (t : scanner_t) (tokens : List yaml_token_t) (n : ℕ) → HandsOut direct m zs t tokens → HandsOut direct (counted_by m n) zs (counted_by t n) tokens
+hands_all direct m zs t tokens n (inl w) = inl (w.0, ap (λ (z : scanner_t). counted_by z n) w.1, w.2)
+hands_all direct m zs t tokens n (inr w) = let e = w.1 in inr (
+  w.0,
+  record {
+    all = (let a = e.all in record { awaited = a.awaited; early = a.early; tokens_are = a.tokens_are; no_end = a.no_end });
+    text = e.text;
+    refusal = e.refusal;
+    near = e.near;
+    limit = e.limit;
+    slots = e.slots;
+    allowed = e.allowed;
+    levels = e.levels;
+    reach = e.reach;
+    made = ap (λ (z : ℕ). z + n) e.made;
+    early = e.early;
+    groups = e.groups;
+    done = e.done;
+    taken = e.taken;
+  },
+)
+
+pub steps_all : (H : List Laid) (s t : scanner_t) (direct : Bool) (took : List yaml_token_t → Type 0) (n : ℕ) → (tokens : List yaml_token_t) × (m : scanner_t) × (zs : List group_t) × IsLaidBy (not direct) H s m zs n × HandsOut direct m zs t tokens × took tokens
+    → (tokens : List yaml_token_t) × (m : scanner_t) × (zs : List group_t) × Makes (not direct) H s m zs × HandsOut direct m zs (counted_by t n) tokens × took tokens
+steps_all H s t direct took n w = (w.0, counted_by w.1 n, w.2, made_all (not direct) H s w.1 w.2 n w.3, hands_all direct w.1 w.2 t w.0 n w.4, w.5)
+
+-- or a token of it was refused
+pub cut_all : (H : List Laid) (s t : scanner_t) (direct : Bool) (took : List yaml_token_t → Type 0) (refuses : Type 0) (stop : stop_t) → LaysTo H s t direct took refuses (Err stop) → StepsTo H s t direct took refuses (Err stop)
+cut_all H s t direct took refuses stop w = let c = w.1 in inr (w.0, (c.1, counted_by c.2 c.0, c.3, made_all (not direct) H s c.2 c.3 c.0 c.4, c.5, (let a = c.6 in record { awaited = a.awaited; early = a.early; tokens_are = a.tokens_are; no_end = a.no_end }), c.7), w.2)

@@ -18,7 +18,8 @@ use Rattle.yaml_scan.specs.Laid.{Laid}
 use Rattle.yaml_scan.specs.Levels.{greatest_level, stays}
 use Rattle.yaml_scan.specs.inside.Opened.{opened}
 use Rattle.yaml_scan.specs.inside.Queue.{ends_at, completed_in, opened_by}
-use Rattle.yaml_scan.specs.inside.Scanning.{Advances, CanPut}
+use Rattle.yaml_scan.specs.inside.Handed.{IsLaidAs}
+use Rattle.yaml_scan.specs.inside.Scanning.{CanPut}
 use Rattle.yaml_scan.specs.inside.Slots.{Held, completed_held, still_held, slot_after, nested_outer, nested_top}
 use Rattle.yaml_scan.specs.inside.Slots.{empty_slots, lowest, step_of}
 use Rattle.yaml_scan.proofs.RunningQueue.QueueGroups.{front_free}
@@ -43,8 +44,9 @@ put_in s S a L reach = record {
   made = s.made;
 }
 
--- these are the slots, whether a key is allowed, and the layout after the lexeme x, of which `new` is kept
-pub record IsPut (s : scanner_t) (m : Met) (margin : Bool) (new : Held) (x : yaml_lexeme_t) (S : slots_t) (a : Bool) (L : layout_t) : Type 0 where
+-- These are the slots, whether a key is allowed, the layout and the groups after the lexeme x, of which `new` is kept. The groups
+-- before it are ys.
+pub record IsPut (s : scanner_t) (ys : List group_t) (m : Met) (margin : Bool) (new : Held) (x : yaml_lexeme_t) (S : slots_t) (a : Bool) (L : layout_t) (zs : List group_t) : Type 0 where
   pub kept : List ℕ
   pub kept_is : reverse kept ≡ filter (stays (not margin) m.kind new.start) (reverse s.layout.levels.items)
   pub early : ℕ
@@ -62,8 +64,8 @@ pub record IsPut (s : scanner_t) (m : Met) (margin : Bool) (new : Held) (x : yam
   pub key : group.key ≡ false
   pub opens : group.opens ≡ opened_by margin completed m.kind new.start.column (reverse kept)
   pub levels : reverse L.levels.items ≡ opened margin completed m.kind new.start (reverse kept)
-  pub groups : L.queue.groups.items ≡ completed_in margin completed (reverse kept) s.layout.queue.done s.layout.queue.groups.items ++ group ∷ []
-  pub long : length L.queue.groups.items ≡ length s.layout.queue.groups.items + 1
+  pub groups : zs ≡ completed_in margin completed (reverse kept) s.layout.queue.done ys ++ group ∷ []
+  pub long : length zs ≡ length ys + 1
   pub done : L.queue.done ≡ s.layout.queue.done
   pub outer : S.outer.items ≡ nested_outer m.kind (map (still_held s.limit x.reach) s.slots.outer.items) (still_held s.limit x.reach (slot_after m.kind m.allowed new s.slots.top))
   pub top : S.top ≡ nested_top m.kind (map (still_held s.limit x.reach) s.slots.outer.items) (still_held s.limit x.reach (slot_after m.kind m.allowed new s.slots.top))
@@ -71,14 +73,9 @@ pub record IsPut (s : scanner_t) (m : Met) (margin : Bool) (new : Held) (x : yam
   pub awaited : S.awaited ≡ step_of (lowest (S.outer.items ++ S.top ∷ []))
   pub allows : (d : ℕ) → margin ≡ nat_eq d 0 → a ≡ allows m.kind d none x.passed_break
 
--- a lexeme of the kind that was met
-pub record IsLaid (H : List Laid) (s : scanner_t) (m : Met) (t : scanner_t) : Type 0 where
-  pub advances : Advances H s t
-  pub kind : advances.lexeme.kind ≡ m.kind
-
-pub put_advances : (H : List Laid) (s : scanner_t) (m : Met) (margin : Bool) (new : Held) (x : yaml_lexeme_t) → CanPut H s m margin new x
-    → (S : slots_t) (a : Bool) (L : layout_t) → IsPut s m margin new x S a L → IsLaid H s m (put_in s S a L x.reach)
-put_advances H s m margin new x p S a L q = record {
+pub put_advances : (H : List Laid) (s : scanner_t) (ys : List group_t) (m : Met) (margin : Bool) (new : Held) (x : yaml_lexeme_t) → CanPut H s ys m margin new x
+    → (S : slots_t) (a : Bool) (L : layout_t) (zs : List group_t) → IsPut s ys m margin new x S a L zs → IsLaidAs H s m.kind (put_in s S a L x.reach) zs
+put_advances H s ys m margin new x p S a L zs q = record {
   kind = refl;
   advances = record {
     lexeme = _;
@@ -95,7 +92,7 @@ put_advances H s m margin new x p S a L q = record {
       top = top_then H (s.made + 1) s p.can.holds p.can.running m p.can.met margin p.is_new.at_margin new.start p.is_new.start q.kept q.kept_is p.level (p.is_new.is_greatest ∙ ap greatest_level (sym q.kept_is)) (vec_len s.slots.outer) refl x p.read q.completed q.completed_is new p.is_new.step refl p.is_new.required m.allowed p.can.met.allowed _ refl _ s.slots.outer.items refl q.top;
       awaited = q.awaited;
       allowed = allowed_then H (s.made + 1) s p.can.holds p.can.running m p.can.met margin p.is_new.at_margin new.start p.is_new.start q.kept q.kept_is p.level (p.is_new.is_greatest ∙ ap greatest_level (sym q.kept_is)) (vec_len s.slots.outer) refl x p.read q.completed q.completed_is q.none q.none_is a q.allows;
-      queue = rw q.early_is (front_free s.text.encoding q.early m.front L.queue.front L.queue.groups.items _ q.front (queue_then H (s.made + 1) s p.can.holds p.can.running m p.can.met margin p.is_new.at_margin new.start p.is_new.start q.kept q.kept_is p.level (p.is_new.is_greatest ∙ ap greatest_level (sym q.kept_is)) (vec_len s.slots.outer) refl x p.read q.completed q.completed_is _ q.early m.front q.ends_are q.token q.key q.opens L.queue.groups.items q.groups));
+      queue = rw q.early_is (front_free s.text.encoding q.early m.front L.queue.front zs _ q.front (queue_then H (s.made + 1) s p.can.holds p.can.running m p.can.met margin p.is_new.at_margin new.start p.is_new.start q.kept q.kept_is p.level (p.is_new.is_greatest ∙ ap greatest_level (sym q.kept_is)) (vec_len s.slots.outer) refl x p.read q.completed q.completed_is _ q.early m.front q.ends_are q.token q.key q.opens zs q.groups));
       count = (let d = q.done in let l = q.long in let z = p.can.holds.count in omega arith);
       early = early_then H (s.made + 1) s p.can.holds p.can.running m p.can.met margin p.is_new.at_margin new.start p.is_new.start q.kept q.kept_is p.level (p.is_new.is_greatest ∙ ap greatest_level (sym q.kept_is)) (vec_len s.slots.outer) refl x p.read _ (λ z. q.early_is ∙ q.early_none z);
       reach = reach_then H (s.made + 1) s p.can.holds p.can.running m p.can.met margin p.is_new.at_margin new.start p.is_new.start q.kept q.kept_is p.level (p.is_new.is_greatest ∙ ap greatest_level (sym q.kept_is)) (vec_len s.slots.outer) refl x p.read;

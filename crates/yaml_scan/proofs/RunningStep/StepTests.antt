@@ -1,8 +1,7 @@
 -- What a step has tested, and what it stops with.
-use Rattle.std.proofs.Common.{◌≡◌, ℕ, ◌+◌, ◌≤◌, ◌<◌, ◌^◌, not, ◌&&◌, ◌||◌, Bool, true, false, List, reverse, filter, length, Option, Some, None, refl, ap, sym, ◌∙◌, subst, arith, inl, inr, vec_len}
+use Rattle.std.proofs.Common.{◌≡◌, ℕ, ◌+◌, ◌≤◌, ◌<◌, ◌^◌, not, Bool, true, false, List, reverse, filter, length, Option, Some, None, refl, ap, sym, ◌∙◌, subst, arith, vec_len}
 use Rattle.std.specs.Bool.{◌==◌}
-use Rattle.std.specs.Option.{is_some, IfSome}
-use Rattle.std.specs.Prelude.{if◌then◌else◌, nat_lt}
+use Rattle.std.specs.Option.{is_some}
 use Rattle.std.proofs.lemmas.List.{reverse-reverse}
 use Rattle.yaml_text.specs.declared.types.yaml_mark_t.{yaml_mark_t}
 use Rattle.yaml_text.specs.Fault.{Fault, scanner_fault}
@@ -16,7 +15,6 @@ use Rattle.yaml_scan.specs.Kind.{Kind}
 use Rattle.yaml_scan.specs.Laid.{Laid}
 use Rattle.yaml_scan.specs.Levels.{IsFalling, greatest_level, stays}
 use Rattle.yaml_scan.specs.Lexeme.{Lexeme}
-use Rattle.yaml_scan.specs.Source.{Source}
 use Rattle.yaml_scan.specs.SourceOf.{source_of}
 use Rattle.yaml_scan.specs.Step.{step, front_of, start_at, place_after}
 use Rattle.yaml_scan.specs.Step.Outcome.{Reads}
@@ -24,12 +22,12 @@ use Rattle.yaml_scan.specs.inside.StepFaults.{IsLost, IsRefused}
 use Rattle.yaml_scan.specs.inside.Slots.{Held, held, completed_held, lost_held, root_of, slot_after, is_margin_level}
 use Rattle.yaml_scan.specs.inside.TextReads.{IsRead, IsOffence}
 use Rattle.yaml_scan.specs.inside.Scanning.{CanLayAll, CanPut, CanRead, CanStep, Ends, Holds, IsMet, IsNearOf, IsNewHeld, Offends, Passes, Stays}
-use Rattle.yaml_scan.specs.inside.Scanning.{allowed_in, cleared_in, lost_after, met_in, refused_in}
+use Rattle.yaml_scan.specs.inside.Scanning.{allowed_in, groups_in, cleared_in, lost_after, met_in, refused_in}
 use Rattle.yaml_scan.proofs.History.LevelsFall.{open_columns-falls}
 use Rattle.yaml_scan.proofs.RunningCalls.NextOfInput.{ends_near, reads_near}
 use Rattle.yaml_scan.proofs.RunningStep.RoomMade.{with_room}
-use Rattle.yaml_scan.proofs.RunningStep.StepLaid.{index_is, kind_there, level_within, place_within, row_offence, row_stale, step_reads}
-use Rattle.yaml_scan.proofs.RunningStep.TestsBefore.{allowed_is, front_mark, kind_is, mark_is, root_held, row_clears, row_lost, row_met, row_no_kind, row_refused}
+use Rattle.yaml_scan.proofs.RunningStep.StepLaid.{index_is, place_within, row_offence, row_stale, step_reads}
+use Rattle.yaml_scan.proofs.RunningStep.TestsBefore.{allowed_is, front_mark, kind_is, root_held, row_clears, row_lost, row_met, row_no_kind, row_refused}
 use Rattle.yaml_scan.proofs.Texts.NearByBytes.{index_within}
 use Rattle.yaml_scan.proofs.Texts.TextOrder.{text_sums}
 
@@ -230,10 +228,9 @@ module _ (H : List Laid) (s : scanner_t) (margin : Bool) (q : step_t) (c : CanRe
             ends (Some h) v = ends_near H s (scanner_fault no_colon x.reach (Some in_simple_key) h.start) (stale_there h v) c.can.near f e l
 
 -- a lexeme that was read can be laid
-pub can_put : (H : List Laid) (s : scanner_t) (margin : Bool) (q : step_t) (x : yaml_lexeme_t) → CanLayAll H s margin q x → CanPut H s (met_in s q) margin q.new x
+pub can_put : (H : List Laid) (s : scanner_t) (margin : Bool) (q : step_t) (x : yaml_lexeme_t) → CanLayAll H s margin q x → CanPut H s (groups_in s) (met_in s q) margin q.new x
 can_put H s margin q x w = let c = w.can in record {
   can = record { holds = c.can.holds; running = c.can.running; small = c.can.small; few_steps = (let f = c.can.few_steps in omega arith); met = c.met };
-  room = c.room;
   level = q.context.level;
   is_new = c.is_new;
   read = subst (λ (d : ℕ). IsRead s.text.chars q.kind d q.context.level (front_of (source_of s.text.chars) H) x) c.depth (w.read (front_of (source_of s.text.chars) H) c.met.front);

@@ -7,6 +7,7 @@ use Rattle.std.proofs.lemmas.Bool.{cases_eq}
 use Rattle.yaml_text.specs.declared.types.yaml_mark_t.{yaml_mark_t}
 use Rattle.yaml_text.specs.Fault.{Fault, scanner_fault}
 use Rattle.yaml_lexeme.specs.Place.{IsMarkOf}
+use Rattle.yaml_scan.specs.declared.groups.group_t.{group_t}
 use Rattle.yaml_scan.specs.declared.scanner.scanner_t.{scanner_t}
 use Rattle.yaml_scan.specs.Kind.{Kind}
 use Rattle.yaml_scan.specs.Fault.{no_token, in_next_token}
@@ -22,7 +23,7 @@ use Rattle.yaml_scan.specs.Step.{Outcome, step, kind_step, read_step, unless, re
 use Rattle.yaml_scan.specs.Step.{lost, no_kind, not_allowed, problem_of, replaces, start_at, front_of, place_after}
 use Rattle.yaml_scan.specs.Step.Outcome.{Faults}
 use Rattle.yaml_scan.specs.inside.StepFaults.{IsLost, IsRefused}
-use Rattle.yaml_scan.specs.inside.Scanning.{Holds, Offends}
+use Rattle.yaml_scan.specs.inside.Scanning.{HoldsWith, Offends}
 use Rattle.yaml_scan.proofs.RunningStep.SlotTests.{completed_later, needed_later, lost_later, root_is, outer_length, kept_row, lost_row}
 use Rattle.yaml_scan.proofs.Texts.TextOrder.{text_order}
 
@@ -64,7 +65,7 @@ start_index k g = go (Rattle.yaml_scan.specs.Kind.is_stream_end k) (nat_eq g.col
     go true false = refl
     go false b = refl
 
-module _ (H : List Laid) (n : ℕ) (s : scanner_t) (r : Holds H n s) (running : ended H ≡ false) (margin : Bool) (M : margin ≡ vec_len s.slots.outer == 0) where
+module _ (H : List Laid) (n : ℕ) (s : scanner_t) {ys : List group_t} (r : HoldsWith H n s ys) (running : ended H ≡ false) (margin : Bool) (M : margin ≡ vec_len s.slots.outer == 0) where
   pub margin_is : margin ≡ nat_eq (depth H) 0
   margin_is = let e = ap (λ (l : List (Option Held)). length l) r.outer in let o = outer_length s.limit H (depth H) in let n : vec_len s.slots.outer ≡ depth H = omega arith in M ∙ (rw n refl)
 

@@ -1,6 +1,7 @@
 -- Every token and every fault that is returned can be put in words.
 use Rattle.std.proofs.Common.{◌≡◌, ◌≢◌, ℕ, zero, suc, ◌+◌, Bool, true, false, ◌||◌, if◌then◌else◌, List, [], ◌∷◌, map}
-use Rattle.std.proofs.Common.{filter, drop, length, Option, Some, None, Ok, Err, slice_get, refl}
+use Rattle.std.proofs.Common.{filter, drop, length, Option, Some, None, Ok, Err, slice_get, refl, subst}
+use Rattle.yaml_scan.specs.inside.TextReads.{IsRead}
 use Rattle.std.specs.Prelude.{Result, IfSome, nat_lt, option_map}
 use Rattle.std.proofs.lemmas.Bool.{or_left, or_right}
 use Rattle.yaml_text.specs.declared.types.yaml_mark_t.{yaml_mark_t}
@@ -145,6 +146,10 @@ reading_told n k p (Err e) t = refl
 source_told : (cs : List ℕ) → SourceTold (source_of cs)
 unfolding source_of
 source_told cs k d l p = reading_told (length cs) k (place_at cs p) (lex k (record { depth = d; level = l }) (place_at cs p)) (lex_told k (record { depth = d; level = l }) (place_at cs p))
+
+-- a lexeme that was read has words
+pub read_has_words : (cs : List ℕ) (k : Kind) (d : ℕ) (l : Option ℕ) (p : ℕ) (x : yaml_lexeme_t) → IsRead cs k d l p x → HasWords x.token_data
+read_has_words cs k d l p x r = subst (λ (o : Result Reading Offence). ReadingTold o) r.1 (source_told cs k d l p)
 
 -- STEPS
 abbrev OutcomeTold : Outcome → Type 0

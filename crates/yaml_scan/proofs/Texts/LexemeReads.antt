@@ -1,5 +1,5 @@
 -- Where reading a lexeme ends or is refused, and what the lexeme says.
-use Rattle.std.proofs.Common.{◌≡◌, ℕ, ◌==◌, ◌++◌, Bool, true, false, if◌then◌else◌, not, ◌&&◌, ◌||◌, List, [], ◌∷◌, length, Ok, Err, refl, ap, sym, ◌∙◌, subst, arith}
+use Rattle.std.proofs.Common.{◌≡◌, ℕ, ◌==◌, ◌++◌, Bool, true, false, if◌then◌else◌, not, ◌&&◌, ◌||◌, List, [], ◌∷◌, length, Option, Ok, Err, refl, ap, sym, ◌∙◌, subst, arith}
 use Rattle.std.specs.Prelude.{Result, codes}
 use Rattle.std.specs.Str.{bytes_eq}
 use Rattle.yaml_text.specs.Classes.{is_alpha, is_blank}
@@ -12,7 +12,7 @@ use Rattle.yaml_lexeme.specs.declared.kind.yaml_lexeme_kind_t.TheVariants as kin
 use Rattle.yaml_lexeme.specs.declared.lex.yaml_context_t.{yaml_context_t}
 use Rattle.yaml_lexeme.specs.Lexeme.{Lexeme as yaml_lexeme_t}
 use Rattle.yaml_lexeme.specs.Classes.{ends}
-use Rattle.yaml_lexeme.specs.Place.{Place, first, skip, run, behind}
+use Rattle.yaml_lexeme.specs.Place.{Place, first, place_at, skip, run, behind}
 use Rattle.yaml_lexeme.specs.Reading.{Found, Read, Offence, found, refuse, ◌>>=◌}
 use Rattle.yaml_lexeme.specs.Block.{block, after_line}
 use Rattle.yaml_lexeme.specs.Plain.{plain}
@@ -37,6 +37,9 @@ use Rattle.yaml_lexeme.proofs.Locality.PlainLocality.{plain_like}
 use Rattle.yaml_scan.specs.Kind.{Kind}
 use Rattle.yaml_scan.specs.Token.{type_of, is_end_type, is_start_type, is_key_type, is_value_type, is_last_type}
 use Rattle.yaml_scan.specs.Cut.{SaysKind}
+use Rattle.yaml_scan.specs.Source.{Reading, Offence as told_offence}
+use Rattle.yaml_scan.specs.SourceOf.{count_to, reading, reading_of, source_of}
+use Rattle.yaml_scan.specs.inside.TextReads.{IsRead}
 
 -- WHERE IT ENDS
 abbrev pub GoesOn : {A : Type 0} → Place → Read A → Type 0
@@ -211,3 +214,21 @@ says_kind kind.FOLDED c p f e = made_says kind.FOLDED (block true c.level p) (λ
 says_kind kind.SINGLE_QUOTED c p f e = made_says kind.SINGLE_QUOTED (quoted true p) (λ x. whole_of (quoted_as YAML_SINGLE_QUOTED_SCALAR_STYLE x.value) p.mark x.end.mark) f (λ x q. record { key = refl; value = refl; last = refl; no_start = refl; no_end = refl }) e
 says_kind kind.DOUBLE_QUOTED c p f e = made_says kind.DOUBLE_QUOTED (quoted false p) (λ x. whole_of (quoted_as YAML_DOUBLE_QUOTED_SCALAR_STYLE x.value) p.mark x.end.mark) f (λ x q. record { key = refl; value = refl; last = refl; no_start = refl; no_end = refl }) e
 says_kind kind.PLAIN c p f e = made_says kind.PLAIN (plain (in_flow c) (least c) p) (λ x. scalar_to YAML_PLAIN_SCALAR_STYLE p.mark x.value x.end.mark) f (λ x q. record { key = refl; value = refl; last = refl; no_start = refl; no_end = refl }) e
+
+abbrev ok_reading : Reading → Result Reading told_offence
+ok_reading a = Ok a
+
+one_reading : (a b : Reading) → ok_reading a ≡ ok_reading b → a ≡ b
+one_reading a b e = cc
+
+-- a lexeme that was read says its kind
+pub read_says : (cs : List ℕ) (k : Kind) (d : ℕ) (l : Option ℕ) (p : ℕ) (x : yaml_lexeme_t) → IsRead cs k d l p x → SaysKind k x.token_data
+unfolding source_of
+read_says cs k d l p x r = go (lex k (record { depth = d; level = l }) (place_at cs p)) refl r.1
+  where
+    go : (o : Read yaml_lexeme_t) → lex k (record { depth = d; level = l }) (place_at cs p) ≡ o → reading_of (length cs) k (place_at cs p) o ≡ Ok (reading x r.0) → SaysKind k x.token_data
+    go (Ok f) e q = let w : f.value.token_data ≡ x.token_data = same q in subst (λ (z : unnamed_yaml_token_t_data). SaysKind k z) w (says_kind k (record { depth = d; level = l }) (place_at cs p) f e)
+      where
+        same : reading_of (length cs) k (place_at cs p) (Ok f) ≡ Ok (reading x r.0) → f.value.token_data ≡ x.token_data
+        same q = ap (λ (z : Reading). z.token_data) (one_reading (reading f.value (count_to (length cs) f.end)) (reading x r.0) q)
+    go (Err e) w q = absurd (cc)

@@ -1,7 +1,5 @@
 -- The reader's fault instead of a scanner's, by the index from which on a step is near.
 use Rattle.std.specs.Prelude.{ℕ, nat_le, not, List, length, filter, Option, None, Some, if◌then◌else◌}
-use Rattle.yaml_text.specs.declared.types.yaml_error_type_t.{yaml_error_type_t}
-use Rattle.yaml_text.specs.declared.types.yaml_error_type_t.TheVariants.{YAML_SCANNER_ERROR}
 use Rattle.yaml_text.specs.Fault.{Fault}
 use Rattle.yaml_text.specs.Utf8.{continues}
 

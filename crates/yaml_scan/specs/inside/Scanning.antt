@@ -19,6 +19,7 @@ use Rattle.yaml_lexeme.specs.declared.lexeme.yaml_lexeme_t.{yaml_lexeme_t as cod
 use Rattle.yaml_lexeme.specs.declared.problem.yaml_refusal_t.{yaml_refusal_t}
 use Rattle.yaml_lexeme.specs.declared.problem.yaml_refusal_t.TheVariants.{MEMORY}
 use Rattle.yaml_scan.specs.declared.fault.stop_t.{stop_t}
+use Rattle.yaml_scan.specs.declared.groups.group_t.{group_t}
 use Rattle.yaml_scan.specs.declared.look.step_t.{step_t}
 use Rattle.yaml_scan.specs.declared.scanner.scanner_t.{scanner_t}
 use Rattle.yaml_scan.specs.declared.slots.slots_t.{slots_t}
@@ -63,8 +64,8 @@ abbrev pub IsNearOf : Option Fault → List ℕ → ℕ → Type 0
 IsNearOf None cs near = length (utf8 cs) < near
 IsNearOf (Some f) cs near = IsNearFrom cs near
 
--- n is the number of the next step
-pub record Holds (H : List Laid) (n : ℕ) (s : scanner_t) : Type 0 where
+-- What a scanner holds if it has these groups in its queue. n is the number of the next step.
+pub record HoldsWith (H : List Laid) (n : ℕ) (s : scanner_t) (ys : List group_t) : Type 0 where
   pub text : AreChars s.text.chars
   pub is_history : IsHistory s.limit H
   pub number : n ≡ length H + 2
@@ -76,13 +77,19 @@ pub record Holds (H : List Laid) (n : ℕ) (s : scanner_t) : Type 0 where
   pub top : s.slots.top ≡ held s.limit H (depth H)
   pub awaited : s.slots.awaited ≡ step_of (lowest (s.slots.outer.items ++ s.slots.top ∷ []))
   pub allowed : s.allowed ≡ allowed_after H
-  pub queue : IsQueue s.text.encoding s.layout.queue.early s.layout.queue.front s.layout.queue.groups.items
-      (drop s.taken (offline H))
-  pub count : s.layout.queue.done + length s.layout.queue.groups.items ≡ length H + 1
+  pub queue : IsQueue s.text.encoding s.layout.queue.early s.layout.queue.front ys (drop s.taken (offline H))
+  pub count : s.layout.queue.done + length ys ≡ length H + 1
   pub early : ended H ≡ false → s.layout.queue.early ≡ 0
   pub reach : s.reach ≡ reach H
   pub taken : s.taken ≤ length (before s.limit H)
   pub place : ended H ≡ false → IsMarkOf s.text.chars s.reach (place_after H)
+
+abbrev pub groups_in : scanner_t → List group_t
+groups_in s = s.layout.queue.groups.items
+
+-- n is the number of the next step
+abbrev pub Holds : List Laid → ℕ → scanner_t → Type 0
+Holds H n s = HoldsWith H n s (groups_in s)
 
 -- a kind of lexeme after the gap, where the gap ends, and whether a key is allowed there
 pub record Met : Type 0 where
@@ -101,9 +108,9 @@ pub record IsMet (H : List Laid) (s : scanner_t) (m : Met) : Type 0 where
   pub kind : (text_of s).kind (nat_lt 0 (depth H)) (front_of (text_of s) H) ≡ Some m.kind
   pub step : step (text_of s) s.limit H ≡ read_step (text_of s) s.limit H m.kind (front_of (text_of s) H)
 
--- a lexeme that was met can be read and laid
-pub record CanLay (H : List Laid) (s : scanner_t) (m : Met) : Type 0 where
-  pub holds : Holds H (s.made + 1) s
+-- a lexeme that was met can be read and laid, after the groups ys
+pub record CanLay (H : List Laid) (s : scanner_t) (ys : List group_t) (m : Met) : Type 0 where
+  pub holds : HoldsWith H (s.made + 1) s ys
   pub running : ended H ≡ false
   pub small : length s.text.chars < 2 ^ 63
   pub few_steps : s.made + 1 < 2 ^ 64
@@ -161,11 +168,11 @@ abbrev pub lost_after : ℕ → slots_t → Met → Held → yaml_mark_t → Opt
 lost_after limit slots m new mark =
     lost_held limit mark (root_of slots.outer.items (slot_after m.kind m.allowed new slots.top))
 
--- a lexeme that was read can be laid
-pub record CanPut (H : List Laid) (s : scanner_t) (m : Met) (margin : Bool) (new : Held) (x : yaml_lexeme_t)
+-- a lexeme that was read can be laid, after the groups ys
+pub record CanPut
+    (H : List Laid) (s : scanner_t) (ys : List group_t) (m : Met) (margin : Bool) (new : Held) (x : yaml_lexeme_t)
     : Type 0 where
-  pub can : CanLay H s m
-  pub room : HasRoom s
+  pub can : CanLay H s ys m
   pub level : Option ℕ
   pub is_new : IsNewHeld s m margin level new
   pub read : IsRead s.text.chars m.kind (vec_len s.slots.outer) level (front_of (text_of s) H) x
@@ -251,31 +258,32 @@ pub record Same (s t : scanner_t) : Type 0 where
   pub taken : t.taken ≡ s.taken
   pub done : t.layout.queue.done ≡ s.layout.queue.done
 
--- the next lexeme
-pub record Advances (H : List Laid) (s t : scanner_t) : Type 0 where
+-- the next lexeme was laid, if the groups zs are queued then
+pub record AdvancesWith (H : List Laid) (s t : scanner_t) (zs : List group_t) : Type 0 where
   pub lexeme : Lexeme
   pub step : step (text_of s) s.limit H ≡ Reads lexeme
-  pub holds : Holds (laid s.limit H lexeme ∷ H) (s.made + 1 + 1) t
+  pub holds : HoldsWith (laid s.limit H lexeme ∷ H) (s.made + 1 + 1) t zs
   pub index : t.reach.index ≡ ((text_of s).mark lexeme.place).index
   pub within : lexeme.place ≤ length s.text.chars
   pub same : Same s t
   pub made : t.made ≡ s.made
 
--- The next token needs what comes after a lexeme that was met, if that is read to `at`: it is a candidate, and no other
--- token is queued. It closes no level, and there is room for two groups.
-pub record IsUndecided (s : scanner_t) (margin : Bool) (r : step_t) (at : yaml_mark_t) : Type 0 where
+-- The token of a lexeme that was met needs what comes after it, if it is read to `at`: it is a candidate, and no other
+-- token is queued. If sparing, it closes no level, so its token is the next one. There is room for two groups.
+pub record IsUndecided (s : scanner_t) (margin sparing : Bool) (r : step_t) (at : yaml_mark_t) : Type 0 where
   pub candidate : is_candidate_kind r.kind ≡ true
   pub stays : is_flow_start r.kind ≡ false
   pub allowed : r.allowed ≡ true
   pub alone : s.layout.queue.groups.items ≡ []
   pub room : 1 < deque_capacity s.layout.queue.groups
-  pub kept : closing (not margin) r.kind r.new.start (reverse s.layout.levels.items) ≡ None
+  pub kept : sparing ≡ true → closing (not margin) r.kind r.new.start (reverse s.layout.levels.items) ≡ None
   pub live : is_live s.limit at r.new ≡ true
 
 -- the lexeme x, of kind k, which comes right there, decides whether it is a key
-pub record IsDecided (s : scanner_t) (margin : Bool) (r : step_t) (at : yaml_mark_t) (k : Kind) (x : yaml_lexeme_t)
+pub record IsDecided
+    (s : scanner_t) (margin sparing : Bool) (r : step_t) (at : yaml_mark_t) (k : Kind) (x : yaml_lexeme_t)
     : Type 0 where
-  pub undecided : IsUndecided s margin r at
+  pub undecided : IsUndecided s margin sparing r at
   pub decider : (p : ℕ) → IsMarkOf s.text.chars at p → IsDecider s.text.chars (not margin) p k x
   pub far : x.reach.index < s.near
 
@@ -306,24 +314,34 @@ counted s = record {
   made = s.made + 1;
 }
 
--- the next two lexemes, both of which the next token needs
-pub record AdvancesTwice (H : List Laid) (s t : scanner_t) : Type 0 where
+-- the next two lexemes were laid, if the groups zs are queued then
+pub record AdvancesTwice (H : List Laid) (s t : scanner_t) (zs : List group_t) : Type 0 where
   pub between : scanner_t
-  pub first : Advances H s between
+  pub then_queued : List group_t
+  pub first : AdvancesWith H s between then_queued
   pub running : ended (laid s.limit H first.lexeme ∷ H) ≡ false
-  pub needed : length (before s.limit (laid s.limit H first.lexeme ∷ H)) ≤ s.taken
   pub far : between.reach.index < s.near
-  pub second : Advances (laid s.limit H first.lexeme ∷ H) (counted between) t
+  pub second : AdvancesWith (laid s.limit H first.lexeme ∷ H) (counted between) t zs
+
+-- the next token needs both of the next two lexemes, if sparing
+abbrev pub Needs : Bool → (H : List Laid) → (s t : scanner_t) → (zs : List group_t) → AdvancesTwice H s t zs → Type 0
+Needs sparing H s t zs a = sparing ≡ true → length (before s.limit (laid s.limit H a.first.lexeme ∷ H)) ≤ s.taken
+
+-- two steps were laid, neither of which is near the reader's fault
+abbrev pub LaysTwo : Bool → List Laid → scanner_t → scanner_t → List group_t → Type 0
+LaysTwo sparing H s t zs = ((a : AdvancesTwice H s (counted t) zs) × Needs sparing H s (counted t) zs a)
+    × (t.reach.index < s.near)
 
 -- a step was laid, or two, which are not counted yet: how many is told
-abbrev pub IsLaidBy : List Laid → scanner_t → scanner_t → ℕ → Type 0
-IsLaidBy H s t n = ((n ≡ 1) × Advances H s t × (t.reach.index < s.near))
-    ⊎ ((n ≡ 2) × AdvancesTwice H s (counted t) × (t.reach.index < s.near))
+abbrev pub IsLaidBy : Bool → List Laid → scanner_t → scanner_t → List group_t → ℕ → Type 0
+IsLaidBy sparing H s t zs n = ((n ≡ 1) × AdvancesWith H s t zs × (t.reach.index < s.near))
+    ⊎ ((n ≡ 2) × LaysTwo sparing H s t zs)
 
--- the next lexeme, not near the reader's fault, or the next two, both of which the next token needs
-abbrev pub Makes : List Laid → scanner_t → scanner_t → Type 0
-Makes H s u = ((t : scanner_t) × Advances H s t × (t.reach.index < s.near) × (u ≡ counted t))
-    ⊎ ((t : scanner_t) × AdvancesTwice H s (counted t) × (t.reach.index < s.near) × (u ≡ counted (counted t)))
+-- The next lexeme was laid, not near the reader's fault, or the next two, if the groups zs are queued then. If sparing,
+-- the next token needs both.
+abbrev pub Makes : Bool → List Laid → scanner_t → scanner_t → List group_t → Type 0
+Makes sparing H s u zs = ((t : scanner_t) × AdvancesWith H s t zs × (t.reach.index < s.near) × (u ≡ counted t))
+    ⊎ ((t : scanner_t) × LaysTwo sparing H s t zs × (u ≡ counted (counted t)))
 
 -- the offence of a step
 pub record Offends (H : List Laid) (s : scanner_t) (f : Fault) : Type 0 where
@@ -348,7 +366,7 @@ Refuses H s t stop = ((fault_at stop t.kept ≡ memory_fault) ⊎ Ends H s (faul
 
 -- a step was made, or two, or it stopped
 abbrev pub IsStep : List Laid → scanner_t → scanner_t → Result (Unit {0}) stop_t → Type 0
-IsStep H s t o = MatchResult o (λ _. Makes H s t) (λ stop. Refuses H s t stop)
+IsStep H s t o = MatchResult o (λ _. Makes true H s t (groups_in t)) (λ stop. Refuses H s t stop)
 
 -- the course of an input
 unfoldable pub course_of : scanner_t → Course
@@ -373,9 +391,16 @@ pub record Steps (s t : scanner_t) : Type 0 where
   pub made : t.made ≡ s.made + 1
   pub same : Same s t
 
+-- two steps more, and the next token needs both
+pub record StepsTwice (s t : scanner_t) : Type 0 where
+  pub runs : Runs t
+  pub made : t.made ≡ s.made + 1 + 1
+  pub same : Same s t
+  pub needed : length (before s.limit (oldest s.made (course_of s).read)) ≤ s.taken
+
 -- one step more, or two if the next token needs both
 abbrev pub StepsOn : scanner_t → scanner_t → Type 0
-StepsOn s t = Steps s t ⊎ ((u : scanner_t) × Steps s u × (length (before u.limit (history u)) ≤ u.taken) × Steps u t)
+StepsOn s t = Steps s t ⊎ StepsTwice s t
 
 -- the step after the last one is faulty
 pub record IsLast (s : scanner_t) (f : Fault) : Type 0 where

@@ -1,10 +1,16 @@
 -- The fault of a step that stopped.
 use Rattle.yaml_text.specs.declared.fault.yaml_fault_t.{yaml_fault_t}
+use Rattle.yaml_text.specs.declared.types.yaml_error_type_t.TheVariants.{YAML_NO_ERROR}
 use Rattle.yaml_text.specs.Fault.{Fault, fault_of, memory_fault}
 use Rattle.yaml_scan.specs.declared.fault.stop_t.{stop_t}
-use Rattle.yaml_scan.specs.declared.fault.stop_t.TheVariants.{MEMORY, FAULT}
+use Rattle.yaml_scan.specs.declared.fault.stop_t.TheVariants.{MEMORY, FAULT, SINK}
 
--- the fault of kind memory if memory was refused, and else the one that was kept
+-- no fault of a step
+abbrev pub no_fault : Fault
+no_fault = record memory_fault { error = YAML_NO_ERROR }
+
+-- the fault of kind memory if memory was refused, and else the one that was kept, if the sink did not refuse a token
 abbrev pub fault_at : stop_t → yaml_fault_t → Fault
 fault_at MEMORY kept = memory_fault
 fault_at FAULT kept = fault_of kept
+fault_at SINK kept = no_fault

@@ -11,10 +11,12 @@ use Rattle.yaml_text.specs.declared.fault.yaml_fault_t.{yaml_fault_t}
 use Rattle.yaml_text.specs.declared.offence.offence_t.{offence_t}
 use Rattle.yaml_text.specs.Chars.{is_char, IsChar, AreChars, IsText, utf8}
 use Rattle.yaml_text.specs.Utf8.{offence8}
-use Rattle.yaml_text.specs.Utf16.{Reads16, BeginsWithNone16, offence16}
+use Rattle.yaml_text.specs.Utf16.{offence16}
+use Rattle.yaml_text.specs.inside.Units.{Reads16, BeginsWithNone16}
 use Rattle.yaml_text.specs.Fault.{Fault, fault_of, reader_fault}
 use Rattle.yaml_text.specs.Text.{Text}
-use Rattle.yaml_text.specs.Decode.{order, spelling, spelled, Begins, BeginsWithNone, IsFront, value_in_front, first, and_then_list, front_of, encoding_of, dropped, behind_mark, offence, front, front_len, refusal, refusal_of, refusal_seen, unless_refused, decoded, Fronts, IsFrontOf, Spells, IsRefused}
+use Rattle.yaml_text.specs.Decode.{spelling, spelled, Begins, BeginsWithNone, IsFront, value_in_front, first, and_then_list, front_of, encoding_of, dropped, behind_mark, offence, front, front_len, refusal, refusal_of, refusal_seen, unless_refused, decoded, IsFrontOf, Spells, IsRefused}
+use Rattle.yaml_text.specs.inside.Fronts.{order, Fronts}
 use Rattle.yaml_text.proofs.Decodings.DecodeReadings.{longest, value_is, some_spelling, spelled-cons, spelled-nil, none_at_end, one_front}
 
 -- the first character, if there is one

@@ -8,7 +8,7 @@ use Rattle.std.proofs.lemmas.List.{take-append-drop, take_at, length-append, len
 use Rattle.std.proofs.lemmas.List.Sums.{prefix_len-le-length}
 use Rattle.std.proofs.lemmas.Str.{encodes-append, encode_ascii}
 use Rattle.yaml_text.specs.Chars.{AreChars, IsText, is_char, utf8}
-use Rattle.yaml_text.specs.Utf8.{is_single}
+use Rattle.yaml_text.specs.inside.Singles.{is_single}
 use Rattle.yaml_text.proofs.Decodings.DecodeFronts.{IsText-nil, IsText-utf8, AreChars-append}
 
 pub single_char : (b : ℕ) → is_single b ≡ true → is_char b ≡ true

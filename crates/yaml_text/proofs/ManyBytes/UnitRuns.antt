@@ -12,8 +12,9 @@ use lib.Count.{count_trailing_zeros}
 use lib.Lanes.{zip2, sel_l, mask_l, top}
 use lib.Utf8.{encode}
 use Rattle.yaml_text.specs.Chars.{is_char}
-use Rattle.yaml_text.specs.Utf8.{is_single, is_other}
-use Rattle.yaml_text.specs.Utf16.{unit_at, Reads16}
+use Rattle.yaml_text.specs.inside.Singles.{is_single, is_other}
+use Rattle.yaml_text.specs.Utf16.{unit_at}
+use Rattle.yaml_text.specs.inside.Units.{Reads16}
 use Rattle.yaml_text.proofs.Characters.Utf16Spelling.{AreBytes, found_one, reads_more}
 use Rattle.yaml_text.proofs.ManyBytes.AsciiFronts.{single_char, single_low}
 use Rattle.yaml_text.proofs.ManyBytes.VectorLanes.{upto_sound}

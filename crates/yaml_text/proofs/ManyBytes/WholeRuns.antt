@@ -8,7 +8,7 @@ use Rattle.yaml_text.specs.declared.types.yaml_encoding_t.TheVariants.{YAML_UTF8
 use Rattle.yaml_text.specs.Chars.{is_char, IsText}
 use Rattle.yaml_text.specs.Decode.{Begins}
 use Rattle.yaml_text.specs.Utf8.{continues, stray_at}
-use Rattle.yaml_text.specs.Windows.{is_control, is_rare_lead, is_awaited, is_misplaced, differ, is_suspect, AreClean, Starts}
+use Rattle.yaml_text.specs.inside.Windows.{is_control, is_rare_lead, is_awaited, is_misplaced, differ, is_suspect, AreClean, Starts}
 use Rattle.yaml_text.proofs.Characters.Utf8Spelling.{reads1, reads2, reads3, reads4}
 use Rattle.yaml_text.proofs.Decodings.DecodeFronts.{front_grows, IsText-nil}
 

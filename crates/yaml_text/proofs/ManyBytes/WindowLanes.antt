@@ -7,7 +7,7 @@ use Rattle.std.proofs.lemmas.Simd.{zip2_splat, map-map, mask_l-mod, leading_from
 use Rattle.std.proofs.Math.Seq.{drop-cons}
 use lib.Bits.{bit_or, bit_and, bit_xor}
 use lib.Lanes.{zip2, sel_l, mask_l, top}
-use Rattle.yaml_text.specs.Windows.{column, lanes, differ}
+use Rattle.yaml_text.specs.inside.Windows.{column, lanes, differ}
 use Rattle.yaml_text.proofs.ManyBytes.VectorLanes.{from_splat}
 
 -- ---- comparisons with a splat

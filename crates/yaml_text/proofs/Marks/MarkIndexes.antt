@@ -6,7 +6,8 @@ use Rattle.std.proofs.lemmas.Str.{encodes-append, length-le-encodes}
 use Rattle.std.proofs.Math.Seq.{take-add}
 use Rattle.yaml_text.specs.Chars.{utf8}
 use Rattle.yaml_text.specs.Classes.{is_break, is_crlf}
-use Rattle.yaml_text.specs.Mark.{At, past, cuts_break, step_len, IsPlaceAt, mark_of, mark_at}
+use Rattle.yaml_text.specs.Mark.{cuts_break, IsPlaceAt, mark_of, mark_at}
+use Rattle.yaml_text.specs.inside.Cursor.{At, past, step_len}
 
 -- the bytes between two places are at least their characters
 pub index_gap : (text : List ℕ) (p k : ℕ) → p ≤ k → k ≤ length text → length (utf8 (take p text)) + (k - p) ≤ length (utf8 (take k text))

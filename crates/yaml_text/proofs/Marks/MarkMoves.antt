@@ -14,7 +14,8 @@ use Rattle.yaml_text.specs.declared.types.yaml_mark_t.{yaml_mark_t}
 use Rattle.yaml_text.specs.Chars.{AreChars, IsText, utf8}
 use Rattle.yaml_text.specs.Utf8.{width_of}
 use Rattle.yaml_text.specs.Classes.{Stands, is_break, is_crlf, is_crlf_at, is_z}
-use Rattle.yaml_text.specs.Mark.{At, IsAt, at_of, past, breaks, one_more_if, column, cuts_break, ends_break, mark_of, break_len}
+use Rattle.yaml_text.specs.Mark.{breaks, one_more_if, column, cuts_break, ends_break, mark_of}
+use Rattle.yaml_text.specs.inside.Cursor.{At, IsAt, at_of, past, break_len}
 use Rattle.yaml_text.proofs.Characters.CharRanges.{char_range}
 use Rattle.yaml_text.proofs.Characters.Utf8Spelling.{stands}
 use Rattle.yaml_text.proofs.Characters.ClassTables.{crlf_law}

@@ -10,12 +10,12 @@ use lib.Utf8.{encode, encodes}
 use Rattle.yaml_text.specs.Chars.{AreChars, IsText, utf8}
 use Rattle.yaml_text.specs.Utf8.{continues}
 use Rattle.yaml_text.specs.Classes.{is_crlf_at}
-use Rattle.yaml_text.specs.Mark.{cuts_break, breaks, column, IsMarkAt, place_at, IsPlaceAt, IsPlace, is_place_by}
+use Rattle.yaml_text.specs.Mark.{cuts_break, IsPlaceAt, IsPlace}
+use Rattle.yaml_text.specs.inside.Cursor.{is_place_by}
 use Rattle.yaml_text.proofs.Characters.Utf8Spelling.{two, three, four}
 use Rattle.yaml_text.proofs.Characters.CharRanges.{char_range}
 use Rattle.yaml_text.proofs.Decodings.DecodeFronts.{chars-utf8, IsText-utf8, IsText-nil, scalars-AreChars}
-use Rattle.yaml_text.proofs.Marks.MarkMoves.{Goes, goes, AreChars-parts, Lands, same_at}
-use Rattle.yaml_text.specs.declared.types.yaml_mark_t.{yaml_mark_t}
+use Rattle.yaml_text.proofs.Marks.MarkMoves.{Goes, goes, AreChars-parts}
 use Rattle.yaml_text.proofs.Characters.ClassTables.{Leads, leads, code_table}
 
 -- The bytes on both sides are texts.
@@ -160,25 +160,3 @@ place_test bytes cs index b e each b-is =
     let t : IsText bytes = subst IsText (sym e) (IsText-utf8 cs each) in
     let c : chars bytes ≡ cs = ap chars e ∙ chars-utf8 cs each in
     subst (λ (x : List ℕ). IsTrue b ↔ IsPlace x index) c ((λ h. place_if bytes index t (sym b-is ∙ h)), (λ h. b-is ∙ place_then bytes index t h))
-
--- ---- a mark in a text
-
-pub at_mark : (bytes cs : List ℕ) (mark : yaml_mark_t) (p : ℕ) → bytes ≡ utf8 cs → AreChars cs → IsMarkAt cs mark p → Lands bytes mark (place_at cs p)
-at_mark bytes cs mark p e each m =
-    let t : IsText bytes = subst IsText (sym e) (IsText-utf8 cs each) in
-    let c : chars bytes ≡ take p cs ++ drop p cs = ap chars e ∙ chars-utf8 cs each ∙ sym (take-append-drop p cs) in
-    let g = goes bytes 0 mark.index (take p cs) (drop p cs) (omega arith) IsText-nil t c m.place.index_is in
-    let z : 0 + mark.index ≡ mark.index = omega arith in
-    let g' : Goes bytes 0 mark.index (take p cs) (drop p cs) = subst (λ n. Goes bytes 0 n (take p cs) (drop p cs)) z g in
-    let before : chars (take mark.index bytes) ≡ take p cs = g'.before ∙ nothing_before (take p cs) in
-    record {
-      is_at = record {
-        within = g'.within;
-        front = g'.front;
-        rest = g'.rest_is;
-        line = ap (λ (x : yaml_mark_t). x.line) m.mark_is ∙ ap breaks (sym before);
-        column = ap (λ (x : yaml_mark_t). x.column) m.mark_is ∙ ap column (sym before);
-        whole = rw (before, g'.left) m.place.whole;
-      };
-      place = same_at _ _ _ _ before g'.left;
-    }

@@ -4,9 +4,10 @@ use Rattle.std.proofs.lemmas.Bool.{cases_lt}
 use Rattle.yaml_text.specs.Token.{Token, token_of}
 use Rattle.yaml_c.specs.Ahead.{Ahead, ahead_of, is_end}
 use Rattle.yaml_c.specs.Ahead.Ahead.{NONE, TOKEN, OVER}
-use Rattle.yaml_c.specs.Held.{Stands, Stops, GivesNext}
+use Rattle.yaml_c.specs.Held.{Stands}
+use Rattle.yaml_c.specs.inside.Batch.{Stops, GivesNext}
 use Rattle.yaml_c.specs.Record.{texts_of}
-use Rattle.yaml_c.specs.Sink.{IsPut}
+use Rattle.yaml_c.specs.inside.Sink.{IsPut}
 use Rattle.yaml_c.specs.declared.held.ahead_t.{ahead_t}
 use Rattle.yaml_c.specs.declared.sink.token_rooms_t.{token_rooms_t}
 use Rattle.yaml_c.proofs.Batches.{goes_on, ends_there, keeps_more, fewer_records, goes_more, goes_end, batch_ends, stops_rest, none_is_open}

@@ -1,5 +1,5 @@
-use Rattle.std.proofs.Common.{◌≡◌, ◌∙◌, Bool, List, Option, None, Some, false, refl, ap, sym, subst}
-use Rattle.std.specs.Option.{is_some, option_copied}
+use Rattle.std.proofs.Common.{◌≡◌, ◌∙◌, Bool, None, refl, ap, sym, subst}
+use Rattle.std.specs.Option.{option_copied}
 use Rattle.yaml_scan.specs.inside.Scanning.{IsMet, cleared_in, refused_in}
 use Rattle.yaml_scan.proofs.RunningStep.StepTests.{met_there, none_or}
 use Rattle.yaml_scan.proofs.begin.refuse_kind.Goals as goal

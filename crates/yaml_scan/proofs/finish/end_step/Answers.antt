@@ -1,4 +1,4 @@
-use Rattle.std.proofs.Common.{◌⊎◌, ◌≤◌, ◌≡◌, ◌∙◌, ℕ, refl, ap, sym, subst, inl, inr, true, Option, arith}
+use Rattle.std.proofs.Common.{◌⊎◌, ◌≤◌, ◌≡◌, ◌∙◌, ℕ, refl, ap, sym, subst, inl, inr, true, Option}
 use Rattle.std.specs.Option.{is_some}
 use Rattle.yaml_lexeme.specs.Lexeme.{lexeme_of}
 use Rattle.yaml_scan.specs.SourceOf.{source_of}
@@ -6,7 +6,7 @@ use Rattle.yaml_scan.specs.Step.{front_of}
 use Rattle.yaml_scan.specs.inside.Scanning.{lost_after, met_in}
 use Rattle.yaml_scan.specs.inside.Slots.{Held, lost_held}
 use Rattle.yaml_scan.specs.inside.TextReads.{IsRead}
-use Rattle.yaml_scan.proofs.RunningStep.StepMoves.{made_all, read_in}
+use Rattle.yaml_scan.proofs.RunningStep.StepMoves.{cut_all, read_in, steps_all}
 use Rattle.yaml_scan.proofs.finish.end_step.Goals as goal
 use Rattle.yaml_scan.proofs.finish.end_step.Goals.{then-scanner-lexeme-via-then-scanner-lexeme, then-scanner-lexeme-via-else-scanner-lexeme+then-lost}
 
@@ -15,7 +15,7 @@ stop_behind-requires g c =
     let s = c.args.scanner.now in
     let q = c.args.step in
     let x = lexeme_of c.args.lexeme in
-    let can = c.requires.0 in
+    let can = c.requires.1.1.0 in
     let stops : (s.near ≤ x.reach.index) ⊎ (is_some (lost_after s.limit s.slots (met_in s q) q.new x.reach) ≡ true) = elim c.then-scanner-lexeme.branch [
       | then-scanner-lexeme-via-then-scanner-lexeme w ↦ inl (w.if-scanner-lexeme.true)
       | then-scanner-lexeme-via-else-scanner-lexeme+then-lost w ↦ inr (ap (λ (o : Option Held). is_some (lost_held s.limit x.reach o)) (sym c.root_after.ensures) ∙ sym c.is_lost-lost.ensures ∙ w.if-lost.true)
@@ -24,7 +24,7 @@ stop_behind-requires g c =
       x,
       record {
         can = read_in g.before s c.args.margin q x.reach can;
-        read = subst (λ (d : ℕ). IsRead s.text.chars q.kind d q.context.level (front_of (source_of s.text.chars) g.before) x) can.depth (c.requires.1 (front_of (source_of s.text.chars) g.before) can.met.front);
+        read = subst (λ (d : ℕ). IsRead s.text.chars q.kind d q.context.level (front_of (source_of s.text.chars) g.before) x) can.depth (c.requires.1.1.1 (front_of (source_of s.text.chars) g.before) can.met.front);
         there = refl;
         stops = stops;
       },
@@ -32,5 +32,8 @@ stop_behind-requires g c =
       refl,
     )
 
-pub returns : goal.returns
-returns g c = made_all g.before c.args.scanner.now c.lay_all-made.new.scanner _ c.lay_all-made.result c.lay_all-made.ensures refl
+pub returns-in-Ok : goal.returns-in-Ok
+returns-in-Ok g c = steps_all g.before c.args.scanner.now c.lay_all.new.scanner _ _ c.in-Ok.made c.in-Ok.ensures
+
+pub returns-in-Err : goal.returns-in-Err
+returns-in-Err g c = cut_all g.before c.args.scanner.now c.lay_all.new.scanner _ _ _ c.stopped.result (rw c.stopped.ensures c.in-Err.ensures)

@@ -1,7 +1,4 @@
 use Rattle.yaml_scan.proofs.step.step.Given as goal
 
-abbrev pub ghost-step_at_margin : goal.ghost-step_at_margin
-ghost-step_at_margin g a = g.before
-
-abbrev pub ghost-step_in_flow : goal.ghost-step_in_flow
-ghost-step_in_flow g a = g.before
+abbrev pub ghost-step_to : goal.ghost-step_to
+ghost-step_to g a = g.before

@@ -1,5 +1,5 @@
 use Rattle.std.proofs.Common.{arith, eqb-true}
-use Rattle.yaml_text.specs.Utf8.{is_single, is_other}
+use Rattle.yaml_text.specs.inside.Singles.{is_single, is_other}
 use Rattle.yaml_text.proofs.ManyBytes.VectorRuns.{run_through, twice}
 use Rattle.yaml_text.proofs.ascii.are_single.Goals as goal
 

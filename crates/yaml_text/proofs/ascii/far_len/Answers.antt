@@ -1,7 +1,7 @@
 use Rattle.std.proofs.Common.{◌≡◌, ◌+◌, ap, arith, drop}
 use Rattle.std.proofs.lemmas.List.{drop-drop}
 use Rattle.std.specs.List.{prefix_len}
-use Rattle.yaml_text.specs.Utf8.{is_single}
+use Rattle.yaml_text.specs.inside.Singles.{is_single}
 use Rattle.yaml_text.proofs.ascii.far_len.Goals as goal
 
 pub wide-preserved : goal.wide-preserved

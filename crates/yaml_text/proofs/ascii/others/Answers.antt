@@ -1,6 +1,6 @@
 use Rattle.std.proofs.Common.{arith}
 use Rattle.std.proofs.lemmas.Simd.{zip2_splat}
-use Rattle.yaml_text.specs.Utf8.{is_other}
+use Rattle.yaml_text.specs.inside.Singles.{is_other}
 use Rattle.yaml_text.proofs.ManyBytes.VectorLanes.{below, at_most, miss, from_splat, both_hit, either, masked}
 use Rattle.yaml_text.proofs.ascii.others.Goals as goal
 

@@ -3,7 +3,7 @@ use Rattle.std.specs.Prelude.{◌==◌}
 use Rattle.std.proofs.lemmas.Bool.{true≢false}
 use Rattle.std.proofs.lemmas.Simd.{zip2_splat}
 use Rattle.yaml_text.specs.Chars.{is_within}
-use Rattle.yaml_text.specs.Utf8.{is_other}
+use Rattle.yaml_text.specs.inside.Singles.{is_other}
 use Rattle.yaml_text.proofs.ManyBytes.VectorLanes.{below, at_most, miss, from_splat, both_hit, either, masked}
 use Rattle.yaml_text.proofs.ManyBytes.VectorRuns.{fewer}
 use Rattle.yaml_text.proofs.ascii.rare.Goals as goal

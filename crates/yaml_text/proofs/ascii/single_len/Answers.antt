@@ -1,7 +1,7 @@
 use Rattle.std.proofs.Common.{sym, ap, ◌∙◌, arith}
 use lib.Count.{count_trailing_zeros}
 use Rattle.std.proofs.lemmas.List.Sums.{prefix_len-le-length}
-use Rattle.yaml_text.specs.Utf8.{is_single, is_other}
+use Rattle.yaml_text.specs.inside.Singles.{is_single, is_other}
 use Rattle.yaml_text.proofs.ManyBytes.VectorRuns.{run_through, run_stops, twice}
 use Rattle.yaml_text.proofs.ascii.single_len.Goals as goal
 

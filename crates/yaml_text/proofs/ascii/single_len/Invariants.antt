@@ -1,6 +1,6 @@
 use Rattle.std.proofs.Common.{◌≡◌, ◌+◌, ◌-◌, ◌≤◌, length, drop}
 use Rattle.std.specs.List.{prefix_len}
-use Rattle.yaml_text.specs.Utf8.{is_single}
+use Rattle.yaml_text.specs.inside.Singles.{is_single}
 use Rattle.yaml_text.proofs.ascii.single_len.Given as goal
 
 abbrev pub invariant-wide : goal.invariant-wide

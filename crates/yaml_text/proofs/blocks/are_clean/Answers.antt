@@ -1,5 +1,5 @@
 use Rattle.std.proofs.Common.{◌∙◌, sym, ap, arith, eqb-true, slice_index, ℕ}
-use Rattle.yaml_text.specs.Windows.{is_control, is_rare_lead, is_misplaced, is_suspect}
+use Rattle.yaml_text.specs.inside.Windows.{is_control, is_rare_lead, is_misplaced, is_suspect}
 use Rattle.yaml_text.proofs.ManyBytes.WindowLanes.{Tests, either, none_pass, windows, length-all_windows, window_at, loaded}
 use Rattle.yaml_text.proofs.blocks.are_clean.Goals as goal
 

@@ -1,6 +1,6 @@
 use Rattle.std.proofs.Common.{◌&&◌, drop, arith, length-drop, ap, length}
 use Rattle.std.proofs.lemmas.Bool.{and_parts}
-use Rattle.yaml_text.specs.Windows.{AreClean}
+use Rattle.yaml_text.specs.inside.Windows.{AreClean}
 use Rattle.yaml_text.proofs.ManyBytes.WholeRuns.{clean_more}
 use Rattle.yaml_text.proofs.blocks.are_clean_far.Goals as goal
 

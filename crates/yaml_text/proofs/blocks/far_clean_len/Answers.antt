@@ -1,5 +1,5 @@
 use Rattle.std.proofs.Common.{arith, drop}
-use Rattle.yaml_text.specs.Windows.{AreClean}
+use Rattle.yaml_text.specs.inside.Windows.{AreClean}
 use Rattle.yaml_text.proofs.ManyBytes.WholeRuns.{clean_more}
 use Rattle.yaml_text.proofs.blocks.far_clean_len.Goals as goal
 

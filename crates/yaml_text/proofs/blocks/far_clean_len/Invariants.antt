@@ -1,5 +1,5 @@
 use Rattle.std.proofs.Common.{◌-◌, ◌≤◌, length}
-use Rattle.yaml_text.specs.Windows.{AreClean}
+use Rattle.yaml_text.specs.inside.Windows.{AreClean}
 use Rattle.yaml_text.proofs.blocks.far_clean_len.Given as goal
 
 abbrev pub invariant-clean : goal.invariant-clean

@@ -1,5 +1,5 @@
 use Rattle.std.proofs.Common.{◌-◌, ◌≤◌, length}
-use Rattle.yaml_text.specs.Utf16.{Reads16}
+use Rattle.yaml_text.specs.inside.Units.{Reads16}
 use Rattle.yaml_text.proofs.utf16.push_run.Given as goal
 
 abbrev pub invariant-units : goal.invariant-units

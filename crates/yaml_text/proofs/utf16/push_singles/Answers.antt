@@ -3,7 +3,7 @@ use lib.Count.{count_trailing_zeros}
 use Rattle.std.proofs.lemmas.List.{take_all}
 use Rattle.std.proofs.lemmas.List.Sums.{prefix_len-le-length}
 use Rattle.std.proofs.Math.Seq.{take-append-add}
-use Rattle.yaml_text.specs.Utf8.{is_single}
+use Rattle.yaml_text.specs.inside.Singles.{is_single}
 use Rattle.yaml_text.proofs.ManyBytes.UnitRuns.{AreUnits, all_single, some_single, singles_read}
 use Rattle.yaml_text.proofs.utf16.push_singles.Goals as goal
 

@@ -1,5 +1,5 @@
 use Rattle.std.proofs.Common.{◌∙◌, ◌++◌, ap, sym, arith, subst, take, ◌+◌, List, ℕ, append_assoc, append-nil}
-use Rattle.yaml_text.specs.Utf16.{Reads16}
+use Rattle.yaml_text.specs.inside.Units.{Reads16}
 use Rattle.yaml_text.proofs.ManyBytes.UnitRuns.{unit_read}
 use lib.Utf8.{encode}
 use Rattle.yaml_text.proofs.utf16.put_plains.Goals as goal

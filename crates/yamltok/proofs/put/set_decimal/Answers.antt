@@ -1,7 +1,7 @@
 -- Two digits after one or two.
-use Rattle.std.proofs.Common.{◌++◌, ◌/◌, ◌%◌, ◌≡◌, ℕ, List, take, ap, ◌∙◌, arith}
+use Rattle.std.proofs.Common.{◌++◌, ◌/◌, ◌%◌, ℕ, List, take, ap, ◌∙◌}
 use Rattle.std.specs.Fmt.{decimal}
-use Rattle.yamltok.specs.Put.{pair_text}
+use Rattle.yamltok.specs.inside.Put.{pair_text}
 use Rattle.yamltok.proofs.Digits.{pair_last}
 use Rattle.yamltok.proofs.Placed.{then_placed}
 use Rattle.yamltok.proofs.put.set_decimal.Goals as goal

@@ -1,6 +1,6 @@
 use Rattle.std.proofs.Common.{ap, get_or, ◌∙◌}
 use Rattle.yaml_text.specs.Classes.{is_break}
-use Rattle.yaml_text.specs.Mark.{At}
+use Rattle.yaml_text.specs.inside.Cursor.{At}
 use Rattle.yaml_text.proofs.Marks.MarkMoves.{stands_there}
 use Rattle.yaml_text.proofs.mark.cursor_t.is_break.Goals as goal
 

@@ -1,7 +1,7 @@
 -- The two last digits follow the others, and these follow a space.
 use Rattle.std.proofs.Common.{◌≡◌, ◌++◌, ◌∷◌, ◌/◌, ◌%◌, ℕ, List, take, ap, ◌∙◌}
 use Rattle.std.specs.Fmt.{decimal}
-use Rattle.yamltok.specs.Put.{pair_text}
+use Rattle.yamltok.specs.inside.Put.{pair_text}
 use Rattle.yamltok.proofs.Digits.{pair_last}
 use Rattle.yamltok.proofs.Placed.{then_placed}
 use Rattle.yamltok.proofs.mark.kept_mark_t.set_index.Goals as goal

@@ -1,0 +1,21 @@
+-- Tokens that are put into a caller's two rooms.
+use Rattle.std.specs.Prelude.{◌≡◌, ◌+◌, [], ◌∷◌, List, length}
+use Rattle.yaml_text.specs.Token.{Token}
+use Rattle.yaml_c.specs.Room.{covered_from}
+use Rattle.yaml_c.specs.Record.{held, record_of, texts_of}
+use Rattle.yaml_c.specs.declared.sink.token_rooms_t.{token_rooms_t}
+
+-- A token is put after what was put before: its record into the one room, its texts into the other, and both are
+-- counted.
+pub record IsPut (a : token_rooms_t) (token : Token) (b : token_rooms_t) : Type 0 where
+  pub same_tokens : b.tokens.ghost_name ≡ a.tokens.ghost_name
+  pub same_texts : b.texts.ghost_name ≡ a.texts.ghost_name
+  pub token_count : b.token_count ≡ held (a.token_count + 1)
+  pub text_len : b.text_len ≡ held (a.text_len + length (texts_of token))
+  pub records : b.tokens.now ≡ covered_from a.token_count (record_of a.text_len token ∷ []) a.tokens.now
+  pub texts : b.texts.now ≡ covered_from a.text_len (texts_of token) a.texts.now
+
+-- tokens are put, one after the other
+abbrev pub ArePut : token_rooms_t → List Token → token_rooms_t → Type 0
+ArePut a [] b = b ≡ a
+ArePut a (token ∷ more) b = (between : token_rooms_t) × IsPut a token between × ArePut between more b

@@ -1,0 +1,369 @@
+-- What a running scanner has given to a sink is what was taken of its input, step after step.
+use Rattle.std.proofs.Common.{◌≡◌, ℕ, ◌+◌, ◌-◌, ◌≤◌, ◌<◌, ◌||◌, Bool, true, false, List, [], ◌∷◌, ◌++◌, map, take, drop, take-append-drop, length, length-append, length-drop, append-nil, append_assoc, refl, ap, sym, ◌∙◌, subst, arith, inl, inr}
+use Rattle.std.specs.Prelude.{Result, Ok, Err, MatchResult}
+use Rattle.std.specs.List.{list_any}
+use Rattle.std.proofs.lemmas.Bool.{cases_Bool, cases_lt, false≢true}
+use Rattle.std.proofs.lemmas.List.{map-append, length-map, take_all, take-append-le, drop-append-le, drop_all}
+use Rattle.std.proofs.lemmas.List.Folds.{list_any-append}
+use Rattle.yaml_text.specs.declared.fault.yaml_fault_t.{yaml_fault_t}
+use Rattle.yaml_text.specs.declared.types.yaml_encoding_t.{yaml_encoding_t}
+use Rattle.yaml_text.specs.Text.{Text}
+use Rattle.yaml_scan.specs.declared.fault.stop_t.{stop_t}
+use Rattle.yaml_scan.specs.declared.groups.group_t.{group_t}
+use Rattle.yaml_scan.specs.declared.scanner.scanner_t.{scanner_t}
+use Rattle.yaml_scan.specs.Answers.{Course, next}
+use Rattle.yaml_scan.specs.Begins.{Begins}
+use Rattle.yaml_scan.specs.Groups.{Token, block_ends, groups, handed_out, inserted, offline}
+use Rattle.yaml_scan.specs.Groups.Token.{OfLexeme}
+use Rattle.yaml_scan.specs.Laid.{Laid}
+use Rattle.yaml_scan.specs.Order.{IsHistory, ended}
+use Rattle.yaml_scan.specs.Settled.{before}
+use Rattle.yaml_scan.specs.Token.{yaml_token_t}
+use Rattle.yaml_scan.specs.inside.Given.{HasGiven, IsCutOff, StopsGiving, all_in, told_all, told_taken}
+use Rattle.yaml_scan.specs.inside.Handed.{AllSettled, Empties, HandsOut, IsCut, StepsTo, is_end}
+use Rattle.yaml_scan.specs.inside.Queue.{IsQueue}
+use Rattle.yaml_scan.specs.inside.Scanning.{CanStep, Holds, groups_in, IsOpen, Makes, Runs, Same, course_of, history, input_of}
+use Rattle.yaml_scan.proofs.Course.AnswerOrder.{AllFit, course_fits}
+use Rattle.yaml_scan.proofs.Course.CourseSteps.{last_token}
+use Rattle.yaml_scan.proofs.Course.NextStep.{oldest_all}
+use Rattle.yaml_scan.proofs.Course.StepsNeeded.{oldest_length, split}
+use Rattle.yaml_scan.proofs.TokenList.OneLexemeMore.{all_is_handed_out}
+use Rattle.yaml_scan.proofs.TokenList.SettledStays.{before-before}
+use Rattle.yaml_scan.proofs.Texts.TextOrder.{text_order}
+use Rattle.yaml_scan.proofs.RunningQueue.CandidateGroup.{count, count_groups}
+use Rattle.yaml_scan.proofs.RunningQueue.WholeQueue.{all_are_settled, queue_told, whole_front}
+use Rattle.yaml_scan.proofs.RunningCalls.NextOfInput.{RunsWith, ends_last, few_made, inside_with, is_run_with, read_history_with, runs_on, runs_with, some_steps}
+use Rattle.yaml_scan.proofs.RunningCalls.StepsMade.{ended_all, still_running}
+
+-- ONE AFTER THE OTHER
+-- what was taken of the same text
+module _ (s t : scanner_t) (H : t.text ≡ s.text) (J : t.refusal ≡ s.refusal) (L : t.limit ≡ s.limit) where
+  pub course_as : course_of t ≡ course_of s
+  unfolding course_of
+  course_as = rw (H, J, L) refl
+
+  pub all_as : all_in t ≡ all_in s
+  all_as = rw (course_as, L) refl
+
+  pub told_as : told_all t ≡ told_all s
+  told_as = ap (λ (x : Text). map (handed_out x.encoding) (all_in t)) H ∙ ap (λ (z : List Token). map (handed_out s.text.encoding) z) all_as
+
+  pub taken_is : (n : ℕ) → t.taken ≡ n → told_taken t ≡ map (handed_out s.text.encoding) (take n (all_in s))
+  taken_is n e = ap (λ (x : Text). map (handed_out x.encoding) (take t.taken (all_in t))) H
+      ∙ ap (λ (z : List Token). map (handed_out s.text.encoding) (take t.taken z)) all_as
+      ∙ ap (λ (k : ℕ). map (handed_out s.text.encoding) (take k (all_in s))) e
+
+pub none_given : (s : scanner_t) → Runs s → IsOpen s → HasGiven s s []
+none_given s r o = record { runs = r; still_open = o; text = refl; refusal = refl; limit = refl; grows = omega arith; given = sym (append-nil (told_taken s)) }
+
+pub more_given : (s t u : scanner_t) (xs ys : List yaml_token_t) → HasGiven s t xs → HasGiven t u ys → HasGiven s u (xs ++ ys)
+more_given s t u xs ys a b = record {
+  runs = b.runs;
+  still_open = b.still_open;
+  text = b.text ∙ a.text;
+  refusal = b.refusal ∙ a.refusal;
+  limit = b.limit ∙ a.limit;
+  grows = (let m = a.grows in let n = b.grows in omega arith);
+  given = b.given ∙ ap (λ (z : List yaml_token_t). z ++ ys) a.given ∙ append_assoc (told_taken s) xs ys;
+}
+
+-- the first of the next tokens, and the one that was refused
+pub cut_of : (s : scanner_t) (took : List yaml_token_t → Type 0) (tokens : List yaml_token_t) → Begins (told_taken s ++ tokens) (told_all s) → IsCut took tokens → IsCutOff s took
+cut_of s took tokens b c =
+    let f : List yaml_token_t = c.front ++ c.next ∷ [] in
+    let r : List yaml_token_t = c.begins.rest in
+    record {
+      front = c.front;
+      next = c.next;
+      begins = record {
+        rest = r ++ b.rest;
+        is = b.is ∙ ap (λ (z : List yaml_token_t). (told_taken s ++ z) ++ b.rest) c.begins.is
+            ∙ ap (λ (z : List yaml_token_t). z ++ b.rest) (sym (append_assoc (told_taken s) f r))
+            ∙ append_assoc (told_taken s ++ f) r b.rest;
+      };
+      given = c.given;
+    }
+
+module _ (s t : scanner_t) (xs : List yaml_token_t) (g : HasGiven s t xs) (took took' : List yaml_token_t → Type 0) (m : (ys : List yaml_token_t) → took' ys → took (xs ++ ys)) where
+  pub cut_on : IsCutOff t took' → IsCutOff s took
+  cut_on c =
+      let f : List yaml_token_t = c.front ++ c.next ∷ [] in
+      record {
+        front = xs ++ c.front;
+        next = c.next;
+        begins = record {
+          rest = c.begins.rest;
+          is = sym (told_as s t g.text g.refusal g.limit) ∙ c.begins.is
+              ∙ ap (λ (z : List yaml_token_t). (z ++ f) ++ c.begins.rest) g.given
+              ∙ ap (λ (z : List yaml_token_t). z ++ c.begins.rest) (append_assoc (told_taken s) xs f ∙ ap (λ (z : List yaml_token_t). told_taken s ++ z) (sym (append_assoc xs c.front (c.next ∷ []))));
+        };
+        given = m c.front c.given;
+      }
+
+  pub stops_on : (kept : yaml_fault_t) (stop : stop_t) (refuses : Type 0) → StopsGiving t kept stop took' refuses → StopsGiving s kept stop took refuses
+  stops_on kept stop refuses (inl w) = inl (xs ++ w.0, w.1, more_given s t w.1 xs w.0 g w.2, w.3, m w.0 w.4)
+  stops_on kept stop refuses (inr w) = inr (w.0, cut_on w.1, w.2)
+
+-- there are only so many steps
+pub steps_within : (s t : scanner_t) (xs : List yaml_token_t) → HasGiven s t xs → t.made ≤ length (course_of s).read + 1
+steps_within s t xs g = let w = g.runs.within in let c = ap (λ (x : Course). length x.read) (course_as s t g.text g.refusal g.limit) in omega arith
+
+-- WHAT IS SETTLED IS GIVEN
+module _ (s : scanner_t) (ys : List group_t) (r : RunsWith s ys) where
+  settled_begins_with : Begins (before s.limit (history s)) (all_in s)
+  unfolding history
+  settled_begins_with =
+      let z = split (course_of s).read (s.made - 1) (inside_with s ys r) in
+      let b = before-before s.limit z.0 (history s) (subst (λ (X : List Laid). IsHistory s.limit X) z.1 (read_history_with s ys r)) in
+      subst (λ (X : List Laid). Begins (before s.limit (history s)) (before s.limit X)) (sym z.1) b
+
+  all_fit_with : AllFit (course_of s).read
+  unfolding course_of
+  all_fit_with = course_fits s.limit (input_of s) (text_order s.text.chars r.holds.text)
+
+  -- the stream has ended only once all lexemes were read
+  all_read : ended (history s) ≡ true → (course_of s).read ≡ history s
+  unfolding history
+  all_read e = sym (oldest_all (course_of s).read (s.made - 1) (ended_all (next (input_of s) s.limit) s.limit (course_of s).read (s.made - 1) (is_run_with s ys r) (inside_with s ys r) e))
+
+pub settled_begins : (s : scanner_t) → Runs s → Begins (before s.limit (history s)) (all_in s)
+settled_begins s r = settled_begins_with s (groups_in s) (runs_with s r)
+
+pub all_fit : (s : scanner_t) → Runs s → AllFit (course_of s).read
+all_fit s r = all_fit_with s (groups_in s) (runs_with s r)
+
+-- the token of the stream end is the last one
+end_is_told : (e : yaml_encoding_t) (H : List Laid) (n : ℕ) → ended H ≡ true → AllFit H → n < length (offline H) → list_any is_end (map (handed_out e) (drop n (offline H))) ≡ true
+end_is_told e [] n q f l = absurd (false≢true q)
+end_is_told e (i ∷ H) n q f l =
+    let front : List Token = groups (i ∷ H) H ++ (block_ends i ++ inserted (i ∷ H) i) in
+    let x : Token = OfLexeme i.lexeme in
+    let a = ap (λ (z : List Token). length z) (last_token i H) in
+    let b = length-append front (x ∷ []) in
+    let d : drop n (offline (i ∷ H)) ≡ drop n front ++ x ∷ [] = ap (λ (z : List Token). drop n z) (last_token i H) ∙ drop-append-le n front (x ∷ []) (omega arith) in
+    let c : list_any is_end (map (handed_out e) (drop n (offline (i ∷ H)))) ≡ (list_any is_end (map (handed_out e) (drop n front)) || (is_end (handed_out e x) || false)) = ap (λ (z : List Token). list_any is_end (map (handed_out e) z)) d ∙ ap (λ (z : List yaml_token_t). list_any is_end z) (map-append (handed_out e) (drop n front) (x ∷ [])) ∙ list_any-append is_end (map (handed_out e) (drop n front)) (handed_out e x ∷ []) in
+    c ∙ last_true (list_any is_end (map (handed_out e) (drop n front))) (is_end (handed_out e x)) (let h = f.0 in h.says.last ∙ q)
+  where
+    last_true : (a b : Bool) → b ≡ true → (a || (b || false)) ≡ true
+    last_true true b p = refl
+    last_true false b p = rw p refl
+
+length_with : (s : scanner_t) (ys : List group_t) → RunsWith s ys → length (history s) ≡ s.made - 1
+unfolding history
+length_with s ys r = oldest_length (course_of s).read (s.made - 1) (inside_with s ys r)
+
+open_same : (s t : scanner_t) → Same s t → IsOpen s → IsOpen t
+open_same s t q o e =
+    let k = course_as s t q.text q.refusal q.limit in
+    let a = o (sym (ap (λ (c : Course). ended c.read) k) ∙ e) in
+    let b = ap (λ (c : Course). length (offline c.read)) k in
+    let d = q.taken in
+    omega arith
+
+-- a scanner for which no candidate is awaited, and the tokens that the groups of its queue hand out
+module _ (m : scanner_t) (zs : List group_t) (r : RunsWith m zs) (o : IsOpen m) (tokens : List yaml_token_t) (a : AllSettled m zs tokens) where
+  abbrev made_all : List Token
+  made_all = offline (history m)
+
+  whole : before m.limit (history m) ≡ made_all
+  whole = all_are_settled (history m) (m.made + 1) m zs r.holds a.awaited
+
+  begins_all : Begins made_all (all_in m)
+  begins_all = subst (λ (z : List Token). Begins z (all_in m)) whole (settled_begins_with m zs r)
+
+  few : m.taken ≤ length made_all
+  few = let t = r.holds.taken in let l = ap (λ (z : List Token). length z) whole in omega arith
+
+  tokens_are : tokens ≡ map (handed_out m.text.encoding) (drop m.taken made_all)
+  tokens_are =
+      let q : IsQueue m.text.encoding 0 m.layout.queue.front zs (drop m.taken made_all) = subst (λ (n : ℕ). IsQueue m.text.encoding n m.layout.queue.front zs (drop m.taken made_all)) a.early r.holds.queue in
+      a.tokens_are ∙ sym (queue_told m.text.encoding m.layout.queue.front zs (drop m.taken made_all) q)
+
+  taken_are : take m.taken (all_in m) ≡ take m.taken made_all
+  taken_are = ap (λ (z : List Token). take m.taken z) begins_all.is ∙ take-append-le m.taken made_all begins_all.rest few
+
+  -- after them all tokens that were made were given
+  given_are : told_taken m ++ tokens ≡ map (handed_out m.text.encoding) made_all
+  given_are =
+      ap (λ (z : List yaml_token_t). told_taken m ++ z) tokens_are
+      ∙ ap (λ (z : List Token). map (handed_out m.text.encoding) z ++ map (handed_out m.text.encoding) (drop m.taken made_all)) taken_are
+      ∙ sym (map-append (handed_out m.text.encoding) (take m.taken made_all) (drop m.taken made_all))
+      ∙ ap (λ (z : List Token). map (handed_out m.text.encoding) z) (take-append-drop m.taken made_all)
+
+  given_begin : Begins (told_taken m ++ tokens) (told_all m)
+  given_begin = record {
+    rest = map (handed_out m.text.encoding) begins_all.rest;
+    is = ap (λ (z : List Token). map (handed_out m.text.encoding) z) begins_all.is
+        ∙ map-append (handed_out m.text.encoding) made_all begins_all.rest
+        ∙ ap (λ (z : List yaml_token_t). z ++ map (handed_out m.text.encoding) begins_all.rest) (sym given_are);
+  }
+
+  tokens_long : m.taken + length tokens ≡ length made_all
+  tokens_long =
+      let l = ap (λ (z : List yaml_token_t). length z) tokens_are in
+      let k = length-map (drop m.taken made_all) (handed_out m.text.encoding) in
+      let d = length-drop m.taken made_all in
+      let f = few in
+      omega arith
+
+  -- the stream end is not among them
+  not_ended : ended (history m) ≡ false
+  not_ended = elim (cases_Bool (ended (history m))) [
+    | inr e ↦ e
+    | inl e ↦ (let w = all_read m zs r e in
+        let l : m.taken < length made_all = subst (λ (X : List Laid). m.taken < length (offline X)) w (o (ap ended w ∙ e)) in
+        let q = end_is_told m.text.encoding (history m) m.taken e (subst (λ (X : List Laid). AllFit X) w (all_fit_with m zs r)) l in
+        absurd (false≢true (sym a.no_end ∙ ap (λ (z : List yaml_token_t). list_any is_end z) tokens_are ∙ q)))
+  ]
+
+  -- there is a lexeme after those
+  lexemes_differ : (course_of m).read ≡ history m → ended (course_of m).read ≡ true → ⊥
+  lexemes_differ w e = false≢true (sym not_ended ∙ ap ended (sym w) ∙ e)
+
+  more_follow : ended (course_of m).read ≡ true → length made_all < length (offline (course_of m).read)
+  unfolding offline history
+  more_follow e =
+      let v = (all_is_handed_out m.limit (course_of m).read (read_history_with m zs r) e).1 in
+      let b : Begins made_all (offline (course_of m).read) = subst (λ (z : List Token). Begins made_all z) v begins_all in
+      elim (cases_lt (length made_all) (length (offline (course_of m).read))) [
+        | inl l ↦ l
+        | inr l ↦ (let q : offline (course_of m).read ≡ made_all = whole_front made_all (offline (course_of m).read) b l in
+            let n : length (course_of m).read + 1 ≡ length (history m) + 1 = sym (count_groups (course_of m).read (course_of m).read) ∙ ap count q ∙ count_groups (history m) (history m) in
+            let h = length_with m zs r in
+            absurd (lexemes_differ (sym (oldest_all (course_of m).read (m.made - 1) (omega arith))) e))
+      ]
+
+  pub cut_settled : (took : List yaml_token_t → Type 0) → IsCut took tokens → IsCutOff m took
+  cut_settled took c = cut_of m took tokens given_begin c
+
+  module _ (t : scanner_t) (e : Empties m zs t tokens) where
+    course_then : course_of t ≡ course_of m
+    course_then = course_as m t e.text e.refusal e.limit
+
+    history_then : history t ≡ history m
+    unfolding history
+    history_then = rw (course_then, e.made) refl
+
+    taken_then : t.taken ≡ length made_all
+    taken_then = e.taken ∙ tokens_long
+
+    held : Holds (history m) (t.made + 1) t
+    held = let g = r.holds in record {
+      text = rw e.text g.text;
+      is_history = subst (λ (k : ℕ). IsHistory k (history m)) (sym e.limit) g.is_history;
+      number = (let n = g.number in let k = e.made in omega arith);
+      fresh = rw e.limit g.fresh;
+      levels = rw e.levels g.levels;
+      columns = rw e.text g.columns;
+      outer = rw (e.slots, e.limit) g.outer;
+      empty = rw e.slots g.empty;
+      top = rw (e.slots, e.limit) g.top;
+      awaited = rw e.slots g.awaited;
+      allowed = rw e.allowed g.allowed;
+      queue = rw e.groups (drop_all t.taken made_all (let n = taken_then in omega arith));
+      count = (let n = g.count in let k = e.done in let l = ap (λ (z : List group_t). length z) e.groups in omega arith);
+      early = λ z. e.early;
+      reach = rw e.reach g.reach;
+      taken = rw e.limit (let n = taken_then in let l = ap (λ (z : List Token). length z) whole in omega arith);
+      place = rw (e.text, e.reach) g.place;
+    }
+
+    runs_then : Runs t
+    runs_then = record {
+      small = rw e.text r.small;
+      near = rw (e.text, e.refusal, e.near) r.near;
+      holds = subst (λ (Z : List Laid). Holds Z (t.made + 1) t) (sym history_then) held;
+      begun = (let n = r.begun in let k = e.made in omega arith);
+      start = rw course_then r.start;
+      within = (let n = r.within in let k = e.made in let c = ap (λ (x : Course). length x.read) course_then in omega arith);
+    }
+
+    open_after : IsOpen t
+    open_after q =
+        let u : ended (course_of m).read ≡ true = sym (ap (λ (c : Course). ended c.read) course_then) ∙ q in
+        let l = more_follow u in
+        let n = taken_then in
+        let c = ap (λ (x : Course). length (offline x.read)) course_then in
+        omega arith
+
+    given_then : told_taken t ≡ told_taken m ++ tokens
+    given_then =
+        taken_is m t e.text e.refusal e.limit (length made_all) taken_then
+        ∙ ap (λ (z : List Token). map (handed_out m.text.encoding) (take (length made_all) z)) begins_all.is
+        ∙ ap (λ (z : List Token). map (handed_out m.text.encoding) z) (take-append-le (length made_all) made_all begins_all.rest (omega arith) ∙ take_all (length made_all) made_all (omega arith))
+        ∙ sym given_are
+
+    -- after another one of the same input, of which as many tokens were taken
+    pub emptied : (s : scanner_t) → Same s m → HasGiven s t tokens
+    emptied s q = record {
+      runs = runs_then;
+      still_open = open_after;
+      text = e.text ∙ q.text;
+      refusal = e.refusal ∙ q.refusal;
+      limit = e.limit ∙ q.limit;
+      grows = (let k = e.taken in let n = q.taken in omega arith);
+      given = given_then ∙ ap (λ (z : List yaml_token_t). z ++ tokens) (taken_is s m q.text q.refusal q.limit s.taken q.taken);
+    }
+
+-- A STEP
+module _ (s : scanner_t) (r : Runs s) (o : IsOpen s) (l : length (before s.limit (history s)) ≤ s.taken) where
+  running : ended (history s) ≡ false
+  running = still_running s r o l
+
+  pub can_step : CanStep (history s) s
+  can_step = record { holds = r.holds; running = running; small = r.small; few_steps = few_made s r; near = r.near }
+
+  -- one was made, or two
+  module _ (m : scanner_t) (zs : List group_t) (k : Makes false (history s) s m zs) where
+    laid_then : RunsWith m zs × (s.made < m.made) × Same s m
+    laid_then = some_steps false s m zs r running k
+
+    open_then : IsOpen m
+    open_then = let p = laid_then in open_same s m p.2 o
+
+    queued_then : zs ≡ groups_in m → HasGiven s m []
+    queued_then e = let p = laid_then in let q = p.2 in record {
+      runs = runs_on m zs e p.0;
+      still_open = open_then;
+      text = q.text;
+      refusal = q.refusal;
+      limit = q.limit;
+      grows = (let n = q.taken in omega arith);
+      given = taken_is s m q.text q.refusal q.limit s.taken q.taken ∙ sym (append-nil (told_taken s));
+    }
+
+    handed : (t : scanner_t) (tokens : List yaml_token_t) → HandsOut true m zs t tokens → HasGiven s t tokens × (s.made < t.made)
+    handed t tokens (inl w) = let p = laid_then in (
+      subst (λ (u : scanner_t). HasGiven s u tokens) (sym w.1) (subst (λ (z : List yaml_token_t). HasGiven s m z) (sym w.0) (queued_then w.2)),
+      rw w.1 p.1,
+    )
+    handed t tokens (inr w) = let p = laid_then in let e = w.1 in let z = e.made in let n = p.1 in (
+      emptied m zs p.0 open_then tokens e.all t e s p.2,
+      omega arith,
+    )
+
+    cut_then : (tokens : List yaml_token_t) (took : List yaml_token_t → Type 0) → AllSettled m zs tokens → IsCut took tokens → IsCutOff s took
+    cut_then tokens took a c = let p = laid_then in let q = p.2 in
+        let b = cut_settled m zs p.0 open_then tokens a took c in record {
+          front = b.front;
+          next = b.next;
+          begins = subst (λ (z : List yaml_token_t). Begins (z ++ (b.front ++ b.next ∷ [])) (told_all s)) (taken_is s m q.text q.refusal q.limit s.taken q.taken)
+              (subst (λ (z : List yaml_token_t). Begins (told_taken m ++ (b.front ++ b.next ∷ [])) z) (told_as s m q.text q.refusal q.limit) b.begins);
+          given = b.given;
+        }
+
+  -- so it goes on, or stops
+  pub steps_to : (t : scanner_t) (took : List yaml_token_t → Type 0) (refuses : Type 0) (out : Result (Unit {0}) stop_t) → StepsTo (history s) s t true took refuses out
+      → MatchResult out (λ _. (tokens : List yaml_token_t) × HasGiven s t tokens × (s.made < t.made) × took tokens) (λ stop. StopsGiving s t.kept stop took refuses)
+  steps_to t took refuses (Ok x) w = let p = handed w.1 w.2 w.3 t w.0 w.4 in (w.0, p.0, p.1, w.5)
+  steps_to t took refuses (Err stop) (inl w) = inl (
+    [],
+    s,
+    none_given s r o,
+    record {
+      unsettled = l;
+      fault = elim w.0.0 [ inl m ↦ inl m | inr f ↦ inr (ends_last s r running _ f) ];
+    },
+    w.1,
+  )
+  steps_to t took refuses (Err stop) (inr w) = inr (w.0, cut_then w.1.1 w.1.2 w.1.3 w.1.0 took w.1.5 w.1.6, w.2)

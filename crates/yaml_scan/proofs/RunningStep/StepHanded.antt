@@ -1,0 +1,356 @@
+-- What was laid is handed on: into the queue, or straight to a sink.
+use Rattle.std.proofs.Common.{◌≡◌, ℕ, ◌+◌, ◌^◌, ◌≤◌, ◌<◌, not, Bool, true, false, List, [], ◌∷◌, ◌++◌, drop, length, length-append, length-drop, append-nil, append_assoc, None, Ok, Err, refl, ap, sym, ◌∙◌, subst, arith, inl, inr}
+use Rattle.std.specs.Prelude.{Result}
+use Rattle.std.specs.List.{list_any}
+use Rattle.std.specs.VecDeque.{deque_capacity}
+use Rattle.std.proofs.lemmas.Bool.{false≢true}
+use Rattle.std.proofs.lemmas.List.Folds.{list_any-append}
+use Rattle.yaml_text.specs.declared.types.yaml_encoding_t.{yaml_encoding_t}
+use Rattle.yaml_text.specs.declared.types.yaml_mark_t.{yaml_mark_t}
+use Rattle.yaml_text.specs.Token.{token_of}
+use Rattle.yaml_scan.specs.declared.fault.stop_t.{stop_t}
+use Rattle.yaml_scan.specs.declared.fault.stop_t.TheVariants.{SINK}
+use Rattle.yaml_scan.specs.declared.groups.group_t.{group_t}
+use Rattle.yaml_scan.specs.declared.groups.queue_t.{queue_t}
+use Rattle.yaml_scan.specs.declared.scanner.scanner_t.{scanner_t}
+use Rattle.yaml_text.specs.declared.types.yaml_encoding_t.TheVariants.{YAML_UTF8_ENCODING}
+use Rattle.yaml_scan.specs.Groups.{Token, handed_out, offline}
+use Rattle.yaml_scan.specs.Groups.Token.{StreamStart, BlockEnd, BlockSequenceStart, BlockMappingStart, InsertedKey, OfLexeme}
+use Rattle.yaml_scan.specs.Laws.{is_of_lexeme}
+use Rattle.yaml_scan.specs.Lexeme.{Lexeme}
+use Rattle.yaml_scan.specs.Kind.{Kind, is_stream_end}
+use Rattle.yaml_scan.specs.Laid.{Laid}
+use Rattle.yaml_scan.specs.Levels.{laid}
+use Rattle.yaml_scan.specs.Order.{ended}
+use Rattle.yaml_scan.specs.Token.{unnamed_yaml_token_t_data, yaml_token_t, is_last_type, type_of}
+use Rattle.yaml_scan.specs.Words.{HasWords}
+use Rattle.yaml_scan.specs.SourceOf.{source_of}
+use Rattle.yaml_scan.specs.Step.{front_of}
+use Rattle.yaml_scan.specs.inside.TextReads.{IsDecider, IsRead}
+use Rattle.yaml_scan.proofs.RunningStep.DecidedLaid.{read_place}
+use Rattle.yaml_lexeme.specs.Lexeme.{Lexeme as yaml_lexeme_t}
+use Rattle.yaml_scan.specs.declared.look.step_t.{step_t}
+use Rattle.yaml_scan.proofs.SessionCalls.AnswerWords.{read_has_words}
+use Rattle.yaml_scan.proofs.Texts.LexemeReads.{read_says}
+use Rattle.yaml_scan.specs.inside.Handed.{AllSettled, Empties, IsCut, IsHanded, IsHandedOn, IsLaidAs, IsPushed, LaysTo, group_tokens, groups_tokens, is_end, made_by, one_done, set_queue, told_leads, with_queue}
+use Rattle.yaml_scan.specs.inside.Queue.{IsQueue, early_before, leads, pending}
+use Rattle.yaml_scan.specs.inside.Scanning.{AdvancesTwice, AdvancesWith, CanLayAll, HoldsWith, IsDecided, IsLaidBy, LaysTwo, counted, groups_in}
+use Rattle.yaml_scan.proofs.History.KindTests.{candidate_not_end, decider_not_end}
+use Rattle.yaml_scan.proofs.RunningQueue.CandidateGroup.{AreMade, leads_made}
+use Rattle.yaml_scan.proofs.RunningQueue.GroupTokens.{cut_after, cut_longer, told_count}
+use Rattle.yaml_scan.proofs.TokenList.GroupSizes.{four_tokens_a_step}
+
+-- TOKENS OF GROUPS
+pub groups_append : (ys zs : List group_t) → groups_tokens (ys ++ zs) ≡ groups_tokens ys ++ groups_tokens zs
+groups_append [] zs = refl
+groups_append (y ∷ ys) zs = ap (λ (l : List yaml_token_t). group_tokens y ++ l) (groups_append ys zs) ∙ sym (append_assoc (group_tokens y) (groups_tokens ys) (groups_tokens zs))
+
+-- the queue has at least the tokens of its groups
+tokens_within : (e : yaml_encoding_t) (n : ℕ) (m : yaml_mark_t) (ys : List group_t) (xs : List Token) → IsQueue e n m ys xs → length (groups_tokens ys) ≤ length xs
+tokens_within e n m [] xs q = omega arith
+tokens_within e n m (y ∷ ys) xs q =
+    let r = tokens_within e n m ys q.1 q.5 in
+    let a = ap (λ (l : List Token). length l) q.2 in
+    let b = length-append (pending n m (y ∷ ys)) (q.0 ∷ q.1) in
+    let c = length-append (early_before n m ys) (leads y) in
+    let d = length-append (group_tokens y) (groups_tokens ys) in
+    let f = length-append (told_leads (leads y)) (token_of y.token ∷ []) in
+    let g = told_count (leads y) in
+    omega arith
+
+-- there are few of them
+pub few_tokens : (H : List Laid) (n : ℕ) (s : scanner_t) (ys : List group_t) → HoldsWith H n s ys → n < 2 ^ 65 → 0 < length (groups_tokens ys) → s.taken + length (groups_tokens ys) < 2 ^ 128
+few_tokens H n s ys h l z =
+    let a = tokens_within s.text.encoding s.layout.queue.early s.layout.queue.front ys (drop s.taken (offline H)) h.queue in
+    let b = length-drop s.taken (offline H) in
+    let c = four_tokens_a_step s.limit H h.is_history in
+    let d = h.number in
+    omega arith
+
+group_some : (y : group_t) → 0 < length (group_tokens y)
+group_some y = let a = length-append (told_leads (leads y)) (token_of y.token ∷ []) in omega arith
+
+-- no stream end is among what comes before a token
+made_no_end : (x : Token) → is_of_lexeme x ≡ false → is_end (handed_out YAML_UTF8_ENCODING x) ≡ false
+made_no_end StreamStart e = refl
+made_no_end (BlockEnd m) e = refl
+made_no_end (BlockSequenceStart m) e = refl
+made_no_end (BlockMappingStart m) e = refl
+made_no_end (InsertedKey m) e = refl
+made_no_end (OfLexeme x) e = absurd (false≢true (sym e))
+
+no_end_leads : (xs : List Token) → AreMade xs → list_any is_end (told_leads xs) ≡ false
+no_end_leads [] a = refl
+no_end_leads (x ∷ xs) a = rw (made_no_end x a.0, no_end_leads xs a.1) refl
+
+group_no_end : (y : group_t) → is_end (token_of y.token) ≡ false → list_any is_end (group_tokens y) ≡ false
+group_no_end y e = list_any-append is_end (told_leads (leads y)) (token_of y.token ∷ []) ∙ (rw (no_end_leads (leads y) (leads_made y), e) refl)
+
+-- THE SAME SCANNER WITH ANOTHER QUEUE
+queue_holds : (H : List Laid) (n : ℕ) (s : scanner_t) (zs : List group_t) (q : queue_t) → q.done ≡ s.layout.queue.done → q.early ≡ s.layout.queue.early → q.front ≡ s.layout.queue.front → HoldsWith H n s zs → HoldsWith H n (with_queue s q) zs
+queue_holds H n s zs q D E F h = record {
+  text = h.text;
+  is_history = h.is_history;
+  number = h.number;
+  fresh = h.fresh;
+  levels = h.levels;
+  columns = h.columns;
+  outer = h.outer;
+  empty = h.empty;
+  top = h.top;
+  awaited = h.awaited;
+  allowed = h.allowed;
+  queue = rw (E, F) h.queue;
+  count = rw D h.count;
+  early = λ e. E ∙ h.early e;
+  reach = h.reach;
+  taken = h.taken;
+  place = h.place;
+}
+
+queue_advances : (H : List Laid) (s t : scanner_t) (zs : List group_t) (q : queue_t) → q.done ≡ t.layout.queue.done → q.early ≡ t.layout.queue.early → q.front ≡ t.layout.queue.front → AdvancesWith H s t zs → AdvancesWith H s (with_queue t q) zs
+queue_advances H s t zs q D E F a = record {
+  lexeme = a.lexeme;
+  step = a.step;
+  holds = queue_holds (laid s.limit H a.lexeme ∷ H) (s.made + 1 + 1) t zs q D E F a.holds;
+  index = a.index;
+  within = a.within;
+  same = (let e = a.same in record { text = e.text; refusal = e.refusal; near = e.near; limit = e.limit; taken = e.taken; done = D ∙ e.done });
+  made = a.made;
+}
+
+queue_two : (sparing : Bool) (H : List Laid) (s t : scanner_t) (zs : List group_t) (q : queue_t) → q.done ≡ t.layout.queue.done → q.early ≡ t.layout.queue.early → q.front ≡ t.layout.queue.front → LaysTwo sparing H s t zs → LaysTwo sparing H s (with_queue t q) zs
+queue_two sparing H s t zs q D E F w = let a = w.0.0 in (
+  (
+    record { between = a.between; then_queued = a.then_queued; first = a.first; running = a.running; far = a.far; second = queue_advances (laid s.limit H a.first.lexeme ∷ H) (counted a.between) (counted t) zs q D E F a.second },
+    w.0.1,
+  ),
+  w.1,
+)
+
+-- ONE LEXEME
+ended_is : (limit : ℕ) (H : List Laid) (x : Lexeme) → ended (laid limit H x ∷ H) ≡ is_stream_end x.kind
+unfolding laid
+ended_is limit H x = refl
+
+module _ (H : List Laid) (s u : scanner_t) (k : Kind) (y : group_t) (A : IsLaidAs H s k u (groups_in u ++ y ∷ [])) (FAR : u.reach.index < s.near) (SAYS : is_end (token_of y.token) ≡ is_stream_end k) where
+  long : 0 < length (groups_tokens (groups_in u ++ y ∷ []))
+  long = let a = ap (λ (l : List yaml_token_t). length l) (groups_append (groups_in u) (y ∷ [])) in let b = length-append (groups_tokens (groups_in u)) (groups_tokens (y ∷ [])) in let c = length-append (group_tokens y) [] in let d = group_some y in omega arith
+
+  -- there is room for what is counted
+  pub few_there : s.made + 2 < 2 ^ 64 → u.taken + length (group_tokens y) < 2 ^ 128
+  few_there l =
+      let h = A.advances.holds in
+      let f = few_tokens (laid s.limit H A.advances.lexeme ∷ H) (s.made + 1 + 1) u (groups_in u ++ y ∷ []) h (omega arith) long in
+      let a = ap (λ (l : List yaml_token_t). length l) (groups_append (groups_in u) (y ∷ [])) in
+      let b = length-append (groups_tokens (groups_in u)) (groups_tokens (y ∷ [])) in
+      let c = length-append (group_tokens y) [] in omega arith
+
+  pub done_there : s.made + 2 < 2 ^ 64 → u.layout.queue.done + 1 < 2 ^ 64
+  done_there l = let h = A.advances.holds in let a = h.count in let b = h.number in let c = length-append (groups_in u) (y ∷ []) in omega arith
+
+  module _ (direct waits : Bool) (LAST : waits ≡ false → is_stream_end k ≡ false) (NONE : waits ≡ false → u.slots.awaited ≡ 0) (ALONE : waits ≡ false → groups_in u ≡ []) (t : scanner_t) (took : List yaml_token_t → Type 0) (refuses : Type 0) where
+    settled_all : waits ≡ false → AllSettled u (groups_in u ++ y ∷ []) (group_tokens y)
+    settled_all w = record {
+      awaited = NONE w;
+      early = A.advances.holds.early (ended_is s.limit H A.advances.lexeme ∙ ap is_stream_end A.kind ∙ LAST w);
+      tokens_are = rw (ALONE w) (sym (append-nil (group_tokens y)));
+      no_end = group_no_end y (SAYS ∙ LAST w);
+    }
+
+    queued : IsPushed u.layout.queue y t.layout.queue → t ≡ with_queue u t.layout.queue → IsLaidBy (not direct) H s t (groups_in t) 1
+    queued p e =
+        let a : AdvancesWith H s (with_queue u t.layout.queue) (groups_in t) = subst (λ (zs : List group_t). AdvancesWith H s (with_queue u t.layout.queue) zs) (sym p.groups) (queue_advances H s u (groups_in u ++ y ∷ []) t.layout.queue p.done p.early p.front A.advances) in
+        subst (λ (z : scanner_t). IsLaidBy (not direct) H s z (groups_in t) 1) (sym e) (inl (refl, a, FAR))
+
+    emptied : waits ≡ false → (tokens : List yaml_token_t) → tokens ≡ group_tokens y → t ≡ set_queue u (one_done u.layout.queue) (u.taken + length tokens) → Empties u (groups_in u ++ y ∷ []) t tokens
+    emptied w tokens T e =
+        let S = settled_all w in
+        let f : Empties u (groups_in u ++ y ∷ []) (set_queue u (one_done u.layout.queue) (u.taken + length tokens)) tokens = record {
+          all = subst (λ (ts : List yaml_token_t). AllSettled u (groups_in u ++ y ∷ []) ts) (sym T) S;
+          text = refl;
+          refusal = refl;
+          near = refl;
+          limit = refl;
+          slots = refl;
+          allowed = refl;
+          levels = refl;
+          reach = refl;
+          made = refl;
+          early = S.early;
+          groups = ALONE w;
+          done = rw (ALONE w) refl;
+          taken = refl;
+        } in subst (λ (z : scanner_t). Empties u (groups_in u ++ y ∷ []) z tokens) (sym e) f
+
+    pub one_handed : (o : Result (Unit {0}) stop_t) → IsHandedOn direct waits u t y took refuses o → LaysTo H s t direct took refuses (made_by 1 o)
+    one_handed (Ok x) g = elim g.1 [
+      | inl p ↦ (g.0, t, groups_in t, queued p.2 p.3, inl (p.1, refl, refl), g.2)
+      | inr p ↦ (g.0, u, groups_in u ++ y ∷ [], inl (refl, A.advances, FAR), inr (p.0, emptied p.1 g.0 p.2 p.3), g.2)
+    ]
+    one_handed (Err stop) g = (g.2, (1, group_tokens y, u, groups_in u ++ y ∷ [], inl (refl, A.advances, FAR), g.0, settled_all g.1, g.3), g.4)
+
+-- THE LEXEME OF A STEP
+module _ (H : List Laid) (s : scanner_t) (margin : Bool) (r : step_t) (x : yaml_lexeme_t) (c : CanLayAll H s margin r x) where
+  read_there : IsRead s.text.chars r.kind r.context.depth r.context.level (front_of (source_of s.text.chars) H) x
+  read_there = c.read (front_of (source_of s.text.chars) H) c.can.met.front
+
+  pub words_there : (d : unnamed_yaml_token_t_data) → d ≡ x.token_data → HasWords d
+  words_there d e = subst (λ (z : unnamed_yaml_token_t_data). HasWords z) (sym e) (read_has_words s.text.chars r.kind r.context.depth r.context.level (front_of (source_of s.text.chars) H) x read_there)
+
+  pub says_there : (d : unnamed_yaml_token_t_data) → d ≡ x.token_data → is_last_type (type_of d) ≡ is_stream_end r.kind
+  says_there d e = ap (λ (z : unnamed_yaml_token_t_data). is_last_type (type_of z)) e ∙ (let w = read_says s.text.chars r.kind r.context.depth r.context.level (front_of (source_of s.text.chars) H) x read_there in w.last)
+
+  pub far_there : (m : yaml_mark_t) → m ≡ x.reach → m.index < s.near
+  far_there m e = subst (λ (z : yaml_mark_t). z.index < s.near) (sym e) c.far
+
+-- A LEXEME AND WHAT DECIDES IT
+module _ (direct : Bool) (H : List Laid) (s u : scanner_t) (y z : group_t) (L : LaysTwo (not direct) H s u (groups_in u ++ y ∷ (z ∷ []))) (FEW : s.made + 2 < 2 ^ 64) (ALONE : groups_in u ≡ []) where
+  abbrev both : List group_t
+  both = groups_in u ++ y ∷ (z ∷ [])
+
+  abbrev a : AdvancesTwice H s (counted u) both
+  a = L.0.0
+
+  abbrev H1 : List Laid
+  H1 = laid s.limit H a.first.lexeme ∷ H
+
+  both_long : length (groups_tokens both) ≡ length (group_tokens y) + length (group_tokens z)
+  both_long =
+      let e = ap (λ (ys : List group_t). length (groups_tokens (ys ++ y ∷ (z ∷ [])))) ALONE in
+      let b = length-append (group_tokens y) (groups_tokens (z ∷ [])) in
+      let c = length-append (group_tokens z) [] in omega arith
+
+  pub few_both : u.taken + (length (group_tokens y) + length (group_tokens z)) < 2 ^ 128
+  few_both =
+      let b = both_long in
+      let d = group_some y in
+      let m = a.first.made in
+      let f = few_tokens (laid a.between.limit H1 a.second.lexeme ∷ H1) ((counted a.between).made + 1 + 1) (counted u) both a.second.holds (omega arith) (omega arith) in omega arith
+
+  pub done_both : u.layout.queue.done + 2 < 2 ^ 64
+  done_both =
+      let m = a.first.made in
+      let h = a.second.holds in
+      let e = h.count in
+      let n = h.number in
+      let b = length-append (groups_in u) (y ∷ (z ∷ [])) in omega arith
+
+  module _ (EARLY : u.layout.queue.early ≡ 0) (AWAITED : u.slots.awaited ≡ 0) (FIRST : is_end (token_of y.token) ≡ false) (SECOND : is_end (token_of z.token) ≡ false) where
+    both_settled : AllSettled u both (group_tokens y ++ group_tokens z)
+    both_settled = record {
+      awaited = AWAITED;
+      early = EARLY;
+      tokens_are = rw ALONE (ap (λ (l : List yaml_token_t). group_tokens y ++ l) (sym (append-nil (group_tokens z))));
+      no_end = list_any-append is_end (group_tokens y) (group_tokens z) ∙ (rw (group_no_end y FIRST, group_no_end z SECOND) refl);
+    }
+
+    both_laid : IsLaidBy (not direct) H s u both 2
+    both_laid = inr (refl, L)
+
+    module _ (t v : scanner_t) (took : List yaml_token_t → Type 0) (refuses : Type 0) where
+      both_queued : IsPushed u.layout.queue y t.layout.queue → t ≡ with_queue u t.layout.queue → IsPushed t.layout.queue z v.layout.queue → v ≡ with_queue t v.layout.queue → IsLaidBy (not direct) H s v (groups_in v) 2
+      both_queued p e q f =
+          let G : groups_in v ≡ both = q.groups ∙ ap (λ (ys : List group_t). ys ++ z ∷ []) p.groups ∙ append_assoc (groups_in u) (y ∷ []) (z ∷ []) in
+          let w : LaysTwo (not direct) H s (with_queue u v.layout.queue) (groups_in v) = subst (λ (zs : List group_t). LaysTwo (not direct) H s (with_queue u v.layout.queue) zs) (sym G) (queue_two (not direct) H s u both v.layout.queue (q.done ∙ p.done) (q.early ∙ p.early) (q.front ∙ p.front) L) in
+          let F : v ≡ with_queue u v.layout.queue = f ∙ ap (λ (x : scanner_t). with_queue x v.layout.queue) e in
+          inr (refl, subst (λ (x : scanner_t). LaysTwo (not direct) H s x (groups_in v)) (sym F) w)
+
+      both_emptied : (k l : List yaml_token_t) → k ≡ group_tokens y → l ≡ group_tokens z → t ≡ set_queue u (one_done u.layout.queue) (u.taken + length k) → v ≡ set_queue t (one_done t.layout.queue) (t.taken + length l) → Empties u both v (k ++ l)
+      both_emptied k l K M e f =
+          let S : AllSettled u both (k ++ l) = subst (λ (ts : List yaml_token_t). AllSettled u both ts) (sym (ap (λ (ts : List yaml_token_t). ts ++ l) K ∙ ap (λ (ts : List yaml_token_t). group_tokens y ++ ts) M)) both_settled in
+          let F : v ≡ set_queue (set_queue u (one_done u.layout.queue) (u.taken + length k)) (one_done (one_done u.layout.queue)) (u.taken + length k + length l) = f ∙ ap (λ (x : scanner_t). set_queue x (one_done x.layout.queue) (x.taken + length l)) e in
+          let n = length-append k l in
+          let w : Empties u both (set_queue (set_queue u (one_done u.layout.queue) (u.taken + length k)) (one_done (one_done u.layout.queue)) (u.taken + length k + length l)) (k ++ l) = record {
+            all = S;
+            text = refl;
+            refusal = refl;
+            near = refl;
+            limit = refl;
+            slots = refl;
+            allowed = refl;
+            levels = refl;
+            reach = refl;
+            made = refl;
+            early = EARLY;
+            groups = ALONE;
+            done = rw ALONE (omega arith);
+            taken = omega arith;
+          } in subst (λ (x : scanner_t). Empties u both x (k ++ l)) (sym F) w
+
+      pub both_handed : (k l : List yaml_token_t) → IsHanded direct false u t y k → IsHanded direct false t v z l → took (k ++ l) → LaysTo H s v direct took refuses (Ok 2)
+      both_handed k l (inl p) (inl q) g = ([], v, groups_in v, both_queued p.2 p.3 q.2 q.3, inl (refl, refl, refl), subst took (ap (λ (ts : List yaml_token_t). ts ++ l) p.1 ∙ q.1) g)
+      both_handed k l (inl p) (inr q) g = absurd (false≢true (p.0 q.0))
+      both_handed k l (inr p) (inl q) g = absurd (false≢true (q.0 p.0))
+      both_handed k l (inr p) (inr q) g = (k ++ l, u, both, both_laid, inr (p.0, both_emptied k l p.2 q.2 p.3 q.3), g)
+
+      pub first_cut : (stop : stop_t) → direct ≡ true → stop ≡ SINK → IsCut took (group_tokens y) → refuses → LaysTo H s v direct took refuses (Err stop)
+      first_cut stop d e c r = (e, (2, group_tokens y ++ group_tokens z, u, both, both_laid, d, both_settled, cut_longer took (group_tokens y) (group_tokens z) c), r)
+
+      pub second_cut : (stop : stop_t) → direct ≡ true → stop ≡ SINK → IsCut took (group_tokens y ++ group_tokens z) → refuses → LaysTo H s v direct took refuses (Err stop)
+      second_cut stop d e c r = (e, (2, group_tokens y ++ group_tokens z, u, both, both_laid, d, both_settled, c), r)
+
+-- what was given of the first
+first_given : (direct : Bool) (u t : scanner_t) (y : group_t) (k : List yaml_token_t) → direct ≡ true → IsHanded direct false u t y k → k ≡ group_tokens y
+first_given direct u t y k d (inl p) = absurd (false≢true (p.0 d))
+first_given direct u t y k d (inr p) = p.2
+
+module _ (direct : Bool) (H : List Laid) (s u : scanner_t) (y z : group_t) (L : LaysTwo (not direct) H s u (groups_in u ++ y ∷ (z ∷ []))) (FEW : s.made + 2 < 2 ^ 64) (ALONE : groups_in u ≡ [])
+    (EARLY : u.layout.queue.early ≡ 0) (AWAITED : u.slots.awaited ≡ 0) (FIRST : is_end (token_of y.token) ≡ false) (SECOND : is_end (token_of z.token) ≡ false)
+    (t v : scanner_t) {S : Type 0} (took : S → List yaml_token_t → S → Type 0) (more : (a b c : S) (xs ys : List yaml_token_t) → took a xs b → took b ys c → took a (xs ++ ys) c) (a b c : S) (refuses : Type 0) where
+  -- the second was handed on, or a token of it was refused
+  pub both_done : (k : List yaml_token_t) → IsHanded direct false u t y k → took a k b → (o : Result (Unit {0}) stop_t) → IsHandedOn direct false t v z (λ ts. took b ts c) refuses o → LaysTo H s v direct (λ ts. took a ts c) refuses (made_by 2 o)
+  both_done k p g (Ok x) e = both_handed direct H s u y z L FEW ALONE EARLY AWAITED FIRST SECOND t v (λ ts. took a ts c) refuses k e.0 p e.1 (more a b c k e.0 g e.2)
+  both_done k p g (Err stop) e =
+      let q : IsCut (λ ts. took a ts c) (k ++ group_tokens z) = cut_after took more a b c k (group_tokens z) g e.3 in
+      second_cut direct H s u y z L FEW ALONE EARLY AWAITED FIRST SECOND t v (λ ts. took a ts c) refuses stop e.0 e.2 (subst (λ (l : List yaml_token_t). IsCut (λ ts. took a ts c) (l ++ group_tokens z)) (first_given direct u t y k e.0 p) q) e.4
+
+-- the scanner after the first
+pub first_done : (direct : Bool) (u t : scanner_t) (y z : group_t) (k : List yaml_token_t) → IsHanded direct false u t y k → groups_in u ≡ [] → 1 < deque_capacity u.layout.queue.groups → u.layout.queue.done + 2 < 2 ^ 64 → u.taken + (length (group_tokens y) + length (group_tokens z)) < 2 ^ 128
+    → (length (groups_in t) < deque_capacity t.layout.queue.groups) × (t.layout.queue.done + 1 < 2 ^ 64) × (t.taken + length (group_tokens z) < 2 ^ 128)
+first_done direct u t y z k (inl p) A R D T =
+    let q = p.2 in
+    let g : groups_in t ≡ y ∷ [] = q.groups ∙ ap (λ (ys : List group_t). ys ++ y ∷ []) A in
+    let n = ap (λ (ys : List group_t). length ys) g in
+    let c = q.capacity in
+    let d = q.done in
+    let e = ap (λ (x : scanner_t). x.taken) p.3 in
+    (omega arith, omega arith, omega arith)
+first_done direct u t y z k (inr p) A R D T =
+    let n = ap (λ (x : scanner_t). length (groups_in x)) p.3 in
+    let m = ap (λ (ys : List group_t). length ys) A in
+    let c = ap (λ (x : scanner_t). deque_capacity x.layout.queue.groups) p.3 in
+    let d = ap (λ (x : scanner_t). x.layout.queue.done) p.3 in
+    let e = ap (λ (x : scanner_t). x.taken) p.3 in
+    let l = ap (λ (ts : List yaml_token_t). length ts) p.2 in
+    (omega arith, omega arith, omega arith)
+
+-- WHAT DECIDES
+module _ (direct : Bool) (H : List Laid) (s : scanner_t) (margin : Bool) (r : step_t) (x : yaml_lexeme_t) (c : CanLayAll H s margin r x) (k : Kind) (w : yaml_lexeme_t) (d : IsDecided s margin (not direct) r x.reach k w) where
+  decider_there : IsDecider s.text.chars (not margin) (read_place H s margin r x c (let u = d.undecided in u.candidate)).0 k w
+  decider_there = let p = read_place H s margin r x c (let u = d.undecided in u.candidate) in d.decider p.0 p.1
+
+  pub decider_words : (t : unnamed_yaml_token_t_data) → t ≡ w.token_data → HasWords t
+  decider_words t e =
+      let p = read_place H s margin r x c (let u = d.undecided in u.candidate) in
+      subst (λ (z : unnamed_yaml_token_t_data). HasWords z) (sym e) (read_has_words s.text.chars k 0 None p.0 w (let q = decider_there in q.read 0 None))
+
+  pub decider_says : (t : unnamed_yaml_token_t_data) → t ≡ w.token_data → is_last_type (type_of t) ≡ false
+  decider_says t e =
+      let p = read_place H s margin r x c (let u = d.undecided in u.candidate) in
+      let q = decider_there in
+      ap (λ (z : unnamed_yaml_token_t_data). is_last_type (type_of z)) e
+      ∙ (let v = read_says s.text.chars k 0 None p.0 w (q.read 0 None) in v.last)
+      ∙ decider_not_end (not margin) k q.decides
+
+  pub candidate_says : (t : unnamed_yaml_token_t_data) → t ≡ x.token_data → is_last_type (type_of t) ≡ false
+  candidate_says t e = says_there H s margin r x c t e ∙ candidate_not_end r.kind (let u = d.undecided in u.candidate)
+
+  pub alone_there : (q : queue_t) → q ≡ s.layout.queue → q.groups.items ≡ []
+  alone_there q e = ap (λ (z : queue_t). z.groups.items) e ∙ (let u = d.undecided in u.alone)
+
+  pub early_there : (q : queue_t) → q ≡ s.layout.queue → q.early ≡ 0
+  early_there q e = ap (λ (z : queue_t). z.early) e ∙ c.can.can.holds.early c.can.can.running
+
+  pub room_there : (q : queue_t) → q ≡ s.layout.queue → 1 < deque_capacity q.groups
+  room_there q e = let u = d.undecided in let l = u.room in let m = ap (λ (z : queue_t). deque_capacity z.groups) e in omega arith

@@ -1,0 +1,168 @@
+-- Where the groups of a step go: into the queue, or straight to a sink.
+use Rattle.std.specs.Prelude.{◌≡◌, ◌⊎◌, ℕ, ◌+◌, Bool, true, false, not, List, [], ◌∷◌, ◌++◌, map, length}
+use Rattle.std.specs.Prelude.{Result, Ok, Err, MatchResult}
+use Rattle.std.specs.List.{list_any}
+use Rattle.std.specs.VecDeque.{deque_capacity}
+use Rattle.yaml_text.specs.declared.types.yaml_encoding_t.TheVariants.{YAML_UTF8_ENCODING}
+use Rattle.yaml_text.specs.Token.{token_of}
+use Rattle.yaml_scan.specs.declared.fault.stop_t.{stop_t}
+use Rattle.yaml_scan.specs.declared.fault.stop_t.TheVariants.{SINK}
+use Rattle.yaml_scan.specs.declared.groups.block_t.{block_t}
+use Rattle.yaml_scan.specs.declared.groups.block_t.TheVariants.{NONE, SEQUENCE, MAPPING}
+use Rattle.yaml_scan.specs.declared.groups.group_t.{group_t}
+use Rattle.yaml_scan.specs.declared.groups.queue_t.{queue_t}
+use Rattle.yaml_scan.specs.declared.scanner.scanner_t.{scanner_t}
+use Rattle.yaml_scan.specs.Begins.{Begins}
+use Rattle.yaml_scan.specs.Groups.{Token, handed_out}
+use Rattle.yaml_scan.specs.Kind.{Kind}
+use Rattle.yaml_scan.specs.Laid.{Laid}
+use Rattle.yaml_scan.specs.Token.{yaml_token_t, is_last_type, type_of}
+use Rattle.yaml_scan.specs.inside.Queue.{leads}
+use Rattle.yaml_scan.specs.inside.Scanning.{AdvancesWith, IsLaidBy, Makes, Refuses, groups_in}
+
+-- some tokens of a group before that of its lexeme, as they are handed out
+abbrev pub told_leads : List Token → List yaml_token_t
+told_leads xs = map (handed_out YAML_UTF8_ENCODING) xs
+
+-- 1 if the start of a block collection is handed out, and else 0
+abbrev pub starts_of : block_t → ℕ
+starts_of NONE = 0
+starts_of SEQUENCE = 1
+starts_of MAPPING = 1
+
+-- 1 if a key is handed out, and else 0
+abbrev pub keys_of : Bool → ℕ
+keys_of true = 1
+keys_of false = 0
+
+-- all that a group hands out
+abbrev pub group_tokens : group_t → List yaml_token_t
+group_tokens y = told_leads (leads y) ++ token_of y.token ∷ []
+
+-- all that some groups hand out
+abbrev pub groups_tokens : List group_t → List yaml_token_t
+groups_tokens [] = []
+groups_tokens (y ∷ ys) = group_tokens y ++ groups_tokens ys
+
+abbrev pub is_end : yaml_token_t → Bool
+is_end t = is_last_type (type_of t.token_data)
+
+-- a sink was given the first of these tokens, in order, and refused the next one
+pub record IsCut (took : List yaml_token_t → Type 0) (tokens : List yaml_token_t) : Type 0 where
+  pub front : List yaml_token_t
+  pub next : yaml_token_t
+  pub begins : Begins (front ++ next ∷ []) tokens
+  pub given : took front
+
+-- a sink was given these tokens, or it refused one of them
+abbrev pub Gives : (List yaml_token_t → Type 0) → Type 0 → List yaml_token_t → Result (Unit {0}) stop_t → Type 0
+Gives took refuses tokens o = MatchResult o (λ _. took tokens) (λ stop. (stop ≡ SINK) × IsCut took tokens × refuses)
+
+-- a queue with one group more
+pub record IsPushed (q : queue_t) (y : group_t) (r : queue_t) : Type 0 where
+  pub groups : r.groups.items ≡ q.groups.items ++ y ∷ []
+  pub capacity : deque_capacity r.groups ≡ deque_capacity q.groups
+  pub done : r.done ≡ q.done
+  pub early : r.early ≡ q.early
+  pub front : r.front ≡ q.front
+
+-- the same scanner with another queue, of which n tokens were taken
+abbrev pub set_queue : scanner_t → queue_t → ℕ → scanner_t
+set_queue s q n = record {
+  alloc = s.alloc;
+  text = s.text;
+  refusal = s.refusal;
+  near = s.near;
+  limit = s.limit;
+  slots = s.slots;
+  allowed = s.allowed;
+  layout = record { levels = s.layout.levels; queue = q };
+  reach = s.reach;
+  front = s.front;
+  there = s.there;
+  kept = s.kept;
+  taken = n;
+  made = s.made;
+}
+
+abbrev pub with_queue : scanner_t → queue_t → scanner_t
+with_queue s q = set_queue s q s.taken
+
+-- the same queue, of which one group more was taken
+abbrev pub one_done : queue_t → queue_t
+one_done q = record { groups = q.groups; done = q.done + 1; early = q.early; front = q.front }
+
+-- A group was queued, or, unless it had to wait, these tokens of it were given, which are all.
+abbrev pub IsHanded : Bool → Bool → scanner_t → scanner_t → group_t → List yaml_token_t → Type 0
+IsHanded direct waits s t y tokens = ((direct ≡ true → waits ≡ true) × (tokens ≡ [])
+    × IsPushed s.layout.queue y t.layout.queue × (t ≡ with_queue s t.layout.queue))
+    ⊎ ((direct ≡ true) × (waits ≡ false) × (tokens ≡ group_tokens y)
+    × (t ≡ set_queue s (one_done s.layout.queue) (s.taken + length tokens)))
+
+-- the same, or the sink refused a token of the group
+abbrev pub IsHandedOn
+    : Bool → Bool → scanner_t → scanner_t → group_t → (List yaml_token_t → Type 0) → Type 0 → Result (Unit {0}) stop_t
+    → Type 0
+IsHandedOn direct waits s t y took refuses o = MatchResult o
+    (λ _. (tokens : List yaml_token_t) × IsHanded direct waits s t y tokens × took tokens)
+    (λ stop. (direct ≡ true) × (waits ≡ false) × (stop ≡ SINK) × IsCut took (group_tokens y) × refuses)
+
+-- These are all tokens of the groups zs, for none of which a candidate is awaited, and the stream end is not among
+-- them.
+pub record AllSettled (s : scanner_t) (zs : List group_t) (tokens : List yaml_token_t) : Type 0 where
+  pub awaited : s.slots.awaited ≡ 0
+  pub early : s.layout.queue.early ≡ 0
+  pub tokens_are : tokens ≡ groups_tokens zs
+  pub no_end : list_any is_end tokens ≡ false
+
+-- t is s after all tokens of the groups zs, which it would have queued, were handed out
+pub record Empties (s : scanner_t) (zs : List group_t) (t : scanner_t) (tokens : List yaml_token_t) : Type 0 where
+  pub all : AllSettled s zs tokens
+  pub text : t.text ≡ s.text
+  pub refusal : t.refusal ≡ s.refusal
+  pub near : t.near ≡ s.near
+  pub limit : t.limit ≡ s.limit
+  pub slots : t.slots ≡ s.slots
+  pub allowed : t.allowed ≡ s.allowed
+  pub levels : t.layout.levels ≡ s.layout.levels
+  pub reach : t.reach ≡ s.reach
+  pub made : t.made ≡ s.made
+  pub early : t.layout.queue.early ≡ 0
+  pub groups : t.layout.queue.groups.items ≡ []
+  pub done : t.layout.queue.done ≡ s.layout.queue.done + length zs
+  pub taken : t.taken ≡ s.taken + length tokens
+
+-- a scanner that has queued the groups zs, or has handed out all of them
+abbrev pub HandsOut : Bool → scanner_t → List group_t → scanner_t → List yaml_token_t → Type 0
+HandsOut direct s zs t tokens = ((tokens ≡ []) × (t ≡ s) × (zs ≡ groups_in s))
+    ⊎ ((direct ≡ true) × Empties s zs t tokens)
+
+-- a lexeme of kind k was laid, if the groups zs are queued then
+pub record IsLaidAs (H : List Laid) (s : scanner_t) (k : Kind) (t : scanner_t) (zs : List group_t) : Type 0 where
+  pub advances : AdvancesWith H s t zs
+  pub kind : advances.lexeme.kind ≡ k
+
+-- n steps were made, if it succeeded
+abbrev pub made_by : ℕ → Result (Unit {0}) stop_t → Result ℕ stop_t
+made_by n (Ok x) = Ok n
+made_by n (Err stop) = Err stop
+
+-- A step was laid, or two, which are not counted yet, and handed on; or the sink refused a token of them.
+abbrev pub LaysTo
+    : List Laid → scanner_t → scanner_t → Bool → (List yaml_token_t → Type 0) → Type 0 → Result ℕ stop_t → Type 0
+LaysTo H s t direct took refuses o = MatchResult o
+    (λ n. (tokens : List yaml_token_t) × (m : scanner_t) × (zs : List group_t) × IsLaidBy (not direct) H s m zs n
+    × HandsOut direct m zs t tokens × took tokens)
+    (λ stop. (stop ≡ SINK) × ((n : ℕ) × (tokens : List yaml_token_t) × (m : scanner_t) × (zs : List group_t)
+    × IsLaidBy (not direct) H s m zs n × (direct ≡ true) × AllSettled m zs tokens × IsCut took tokens) × refuses)
+
+-- A step was made, or two, and handed on; or it stopped; or the sink refused a token of it.
+abbrev pub StepsTo
+    : List Laid → scanner_t → scanner_t → Bool → (List yaml_token_t → Type 0) → Type 0 → Result (Unit {0}) stop_t
+    → Type 0
+StepsTo H s t direct took refuses o = MatchResult o
+    (λ _. (tokens : List yaml_token_t) × (m : scanner_t) × (zs : List group_t) × Makes (not direct) H s m zs
+    × HandsOut direct m zs t tokens × took tokens)
+    (λ stop. (Refuses H s t stop × took []) ⊎ ((stop ≡ SINK) × ((tokens : List yaml_token_t) × (m : scanner_t)
+    × (zs : List group_t) × Makes (not direct) H s m zs × (direct ≡ true) × AllSettled m zs tokens
+    × IsCut took tokens) × refuses))

@@ -1,0 +1,217 @@
+//! Where the group of a step goes: into the queue, or straight to a sink if nothing of it has to wait.
+ghost use Rattle.std.specs.Prelude.{◌≡◌, ◌+◌, ◌<◌, ◌^◌, [], ◌∷◌, ◌++◌, ◌⊎◌, true, false, length, MatchResult};
+ghost use Rattle.std.specs.Prelude.{if◌then◌else◌};
+ghost use Rattle.std.specs.VecDeque.{deque_capacity};
+ghost use Rattle.yaml_text.specs.Token.{token_of};
+ghost use Rattle.yaml_scan.specs.Words.{HasWords};
+ghost use Rattle.yaml_scan.specs.declared.fault.stop_t.TheVariants.{SINK};
+ghost use Rattle.yaml_scan.specs.inside.Queue.{ends_at, leads, start_at};
+ghost use Rattle.yaml_scan.specs.Groups.Token.{InsertedKey};
+ghost use Rattle.yaml_scan.specs.inside.Handed.{Gives, IsHandedOn, group_tokens, keys_of, starts_of, told_leads};
+
+use crate::fault::{stop_by_sink, stop_t, stopped};
+use crate::groups::{block_t, group_t, token_at};
+use crate::scanner::scanner_t;
+use crate::sink::yaml_token_sink_t;
+use std::alloc::AllocError;
+use yaml_text::{unnamed_yaml_token_t_data, yaml_mark_t, yaml_token_t};
+
+/// The sink of a scanner whose tokens all go through the queue. It is given none.
+#[derive(Drop)]
+pub(crate) struct no_sink_t {}
+
+impl yaml_token_sink_t for no_sink_t {
+    ghost took = { λ a tokens b. Unit {0} };
+
+    ghost may_refuse = { Unit {0} };
+
+    fn put(&mut self, _token: yaml_token_t) -> Result<(), AllocError> {
+        Ok(())
+    }
+
+    ghost took_none = { λ s. tt };
+
+    ghost took_more = { λ a b c xs ys e f. tt };
+}
+
+/// Gives a token to a sink.
+#[inline(always)]
+pub(crate) fn give<S: yaml_token_sink_t>(sink: &mut S, token: yaml_token_t) -> Result<(), stop_t>
+    requires { HasWords (token_of token).token_data }
+    ensures { Gives (λ tokens. S.took sink.old tokens sink.new) S.may_refuse (token_of token ∷ []) result }
+{
+    match sink.put(token) {
+        Ok(_) => Ok(()),
+        Err(_) => Err(stop_by_sink()),
+    }
+}
+
+/// Gives block ends of one mark to a sink.
+fn give_ends<S: yaml_token_sink_t>(
+    sink: &mut S,
+    ends: usize,
+    mark: yaml_mark_t,
+) -> Result<(), stop_t>
+    ensures { Gives (λ tokens. S.took sink.old tokens sink.new) S.may_refuse (told_leads (ends_at ends mark)) result }
+{
+    'ends: for _ in 0..ends {
+        give(sink, token_at(unnamed_yaml_token_t_data::BLOCK_END, mark))?;
+    }
+    Ok(())
+}
+
+/// Gives the start of a block collection, or none, to a sink.
+fn give_start<S: yaml_token_sink_t>(
+    sink: &mut S,
+    opens: block_t,
+    mark: yaml_mark_t,
+) -> Result<(), stop_t>
+    ensures { Gives (λ tokens. S.took sink.old tokens sink.new) S.may_refuse (told_leads (start_at opens mark)) result }
+{
+    match opens {
+        block_t::NONE => Ok(()),
+        block_t::SEQUENCE => {
+            give(
+                sink,
+                token_at(unnamed_yaml_token_t_data::BLOCK_SEQUENCE_START, mark),
+            )
+        }
+        block_t::MAPPING => {
+            give(
+                sink,
+                token_at(unnamed_yaml_token_t_data::BLOCK_MAPPING_START, mark),
+            )
+        }
+    }
+}
+
+/// Gives block ends, and then the start of a block collection or none, to a sink.
+#[inline(never)]
+fn give_blocks<S: yaml_token_sink_t>(
+    sink: &mut S,
+    ends: usize,
+    opens: block_t,
+    mark: yaml_mark_t,
+) -> Result<(), stop_t>
+    ensures { Gives (λ tokens. S.took sink.old tokens sink.new) S.may_refuse
+        (told_leads (ends_at ends mark ++ start_at opens mark)) result }
+{
+    give_ends(sink, ends, mark)?;
+    give_start(sink, opens, mark)
+}
+
+/// Whether a group hands out a block end or the start of a block collection.
+#[inline(always)]
+fn has_blocks(group: &group_t) -> bool
+    ensures { result ≡ false → ends_at group.now.ends group.now.token.start_mark
+        ++ start_at group.now.opens group.now.token.start_mark ≡ [] }
+{
+    group.ends > 0 || !matches!(group.opens, block_t::NONE)
+}
+
+/// Gives the block ends of a group and the start of a block collection to a sink, if it hands out any.
+#[inline(always)]
+fn give_front<S: yaml_token_sink_t>(sink: &mut S, group: &group_t) -> Result<(), stop_t>
+    ensures { let mark = group.now.token.start_mark in
+        Gives (λ tokens. S.took sink.old tokens sink.new) S.may_refuse
+        (told_leads (ends_at group.now.ends mark ++ start_at group.now.opens mark)) result }
+{
+    if has_blocks(group) {
+        give_blocks(sink, group.ends, group.opens, group.token.start_mark)
+    } else {
+        Ok(())
+    }
+}
+
+/// Gives a key, or none, to a sink.
+#[inline(always)]
+fn give_key<S: yaml_token_sink_t>(sink: &mut S, key: bool, mark: yaml_mark_t) -> Result<(), stop_t>
+    ensures { Gives (λ tokens. S.took sink.old tokens sink.new) S.may_refuse
+        (told_leads (if key then InsertedKey mark ∷ [] else [])) result }
+{
+    if key {
+        give(sink, token_at(unnamed_yaml_token_t_data::KEY, mark))
+    } else {
+        Ok(())
+    }
+}
+
+/// Gives what a group hands out before its token to a sink.
+#[inline(always)]
+fn give_leads<S: yaml_token_sink_t>(sink: &mut S, group: &group_t) -> Result<(), stop_t>
+    ensures { Gives (λ tokens. S.took sink.old tokens sink.new) S.may_refuse (told_leads (leads group.now)) result }
+{
+    match give_front(sink, group) {
+        Ok(_) => give_key(sink, group.key, group.token.start_mark),
+        Err(stop) => Err(stopped(stop)),
+    }
+}
+
+/// Gives all that a group hands out to a sink.
+#[inline(always)]
+fn give_group<S: yaml_token_sink_t>(sink: &mut S, group: group_t) -> Result<(), stop_t>
+    requires { HasWords (token_of group.token).token_data }
+    ensures { Gives (λ tokens. S.took sink.old tokens sink.new) S.may_refuse (group_tokens group) result }
+{
+    match give_leads(sink, &group) {
+        Ok(_) => give(sink, group.token),
+        Err(stop) => Err(stopped(stop)),
+    }
+}
+
+/// 1 if the start of a block collection is handed out, and else 0.
+#[inline(always)]
+fn starts_of(opens: block_t) -> u128
+    ensures { result ≡ starts_of opens }
+{
+    match opens {
+        block_t::NONE => 0,
+        _ => 1,
+    }
+}
+
+/// 1 if a key is handed out, and else 0.
+#[inline(always)]
+fn keys_of(key: bool) -> u128
+    ensures { result ≡ keys_of key }
+{
+    if key { 1 } else { 0 }
+}
+
+/// How many tokens a group hands out.
+#[inline(always)]
+fn count_of(group: &group_t) -> u128
+    ensures { result ≡ length (group_tokens group.now) }
+{
+    group.ends as u128 + starts_of(group.opens) + keys_of(group.key) + 1
+}
+
+/// Hands on the group of a step: straight to the sink if it need not wait, and else into the queue, which has room.
+#[inline(always)]
+pub(crate) fn hand_on<const DIRECT: bool, S: yaml_token_sink_t>(
+    scanner: &mut scanner_t,
+    sink: &mut S,
+    waits: bool,
+    group: group_t,
+) -> Result<(), stop_t>
+    requires room { length scanner.old.layout.queue.groups.items < deque_capacity scanner.old.layout.queue.groups }
+    requires words { HasWords (token_of group.token).token_data }
+    requires done { scanner.old.layout.queue.done + 1 < 2 ^ 64 }
+    requires taken { scanner.old.taken + length (group_tokens group) < 2 ^ 128 }
+    ensures { IsHandedOn DIRECT waits scanner.old scanner.new group (λ tokens. S.took sink.old tokens sink.new)
+        S.may_refuse result }
+{
+    if !DIRECT || waits {
+        scanner.layout.queue.groups.push_back_reserved(group);
+        return Ok(());
+    }
+    let count = count_of(&group);
+    match give_group(sink, group) {
+        Ok(_) => {
+            scanner.layout.queue.done += 1;
+            scanner.taken += count;
+            Ok(())
+        }
+        Err(stop) => Err(stopped(stop)),
+    }
+}

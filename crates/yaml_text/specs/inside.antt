@@ -1,0 +1,7 @@
+-- The running code: what its cursor and its readers keep, and what they look for first. No contract of a public call
+-- needs these.
+pub mod Cursor
+pub mod Fronts
+pub mod Singles
+pub mod Units
+pub mod Windows

@@ -1,0 +1,102 @@
+"""The shared library `libbogzhami`: where it is found, its calls and its records.
+
+`BOGZHAMI_LIBRARY` in the environment names the file, if it is set. Otherwise the library is looked for beside this file, and
+then by its name where the system keeps its libraries.
+"""
+
+import ctypes
+import os
+from typing import Iterator
+
+NAMES = ("libbogzhami.so.0", "libbogzhami.so")
+
+# What a call returns.
+DONE, FAULT, WRONG, NO_MEMORY, OVER, NO_ROOM, NOT_LIVE = range(7)
+
+# The kinds of faults.
+MEMORY_ERROR, READER_ERROR, SCANNER_ERROR = 1, 2, 3
+
+
+class Handle(ctypes.Structure):
+    """A scanner that is held between calls. It holds none when it is made."""
+
+    _fields_ = [("live", ctypes.c_bool), ("held", ctypes.c_void_p)]
+
+
+class Place(ctypes.Structure):
+    """A mark."""
+
+    _fields_ = [(name, ctypes.c_uint64) for name in ("index", "line", "column")]
+
+
+class Record(ctypes.Structure):
+    """A token."""
+
+    _fields_ = [
+        ("token_type", ctypes.c_uint32),
+        ("detail", ctypes.c_uint32),
+        ("major", ctypes.c_int32),
+        ("minor", ctypes.c_int32),
+        ("text_at", ctypes.c_uint64),
+        ("first_len", ctypes.c_uint64),
+        ("second_len", ctypes.c_uint64),
+        ("start_mark", Place),
+        ("end_mark", Place),
+    ]
+
+
+class Answer(ctypes.Structure):
+    """What a call returns besides records and texts."""
+
+    _fields_ = [
+        ("token_count", ctypes.c_uint64),
+        ("text_len", ctypes.c_uint64),
+        ("error", ctypes.c_uint32),
+        ("problem_value", ctypes.c_int32),
+        ("problem_offset", ctypes.c_uint64),
+        ("problem_mark", Place),
+        ("context_mark", Place),
+        ("problem_len", ctypes.c_uint64),
+        ("context_len", ctypes.c_uint64),
+    ]
+
+
+def paths() -> Iterator[str]:
+    """The files that may be the library, the first one first. A name without a folder is left to the system."""
+    named = os.environ.get("BOGZHAMI_LIBRARY")
+    if named:
+        yield named
+        return
+    here = os.path.dirname(os.path.abspath(__file__))
+    yield from (os.path.join(here, name) for name in NAMES if os.path.exists(os.path.join(here, name)))
+    yield from NAMES
+
+
+def load() -> ctypes.CDLL:
+    """The first library that can be loaded. ImportError says why each could not."""
+    reasons = []
+    for path in paths():
+        try:
+            return declared(ctypes.CDLL(path))
+        except (OSError, AttributeError) as reason:
+            reasons.append(f"{path}: {reason}")
+    raise ImportError("no libbogzhami; BOGZHAMI_LIBRARY may name its file\n" + "\n".join(reasons))
+
+
+def declared(library: ctypes.CDLL) -> ctypes.CDLL:
+    """The library, with the types of what its calls take and return."""
+    handle, size, number = ctypes.POINTER(Handle), ctypes.c_size_t, ctypes.c_uint32
+    bytes_of = [ctypes.c_char_p, size]
+    rooms = [ctypes.c_void_p, size, ctypes.c_void_p, size]
+    for name, taken in {
+        "open": [handle, *bytes_of, number, number],
+        "next": [handle, *bytes_of, *rooms, ctypes.POINTER(Answer)],
+        "encoding": [handle],
+        "close": [handle],
+    }.items():
+        call = getattr(library, "bogzhami_" + name)
+        call.argtypes, call.restype = taken, number
+    return library
+
+
+LIBRARY = load()

@@ -1,0 +1,11 @@
+"""Loaders for PyYAML whose scanner is that of libbogzhami.
+
+    yaml.load(text, Loader=bogzhami.pyyaml.SafeLoader)
+
+Parser, composer, constructors and resolvers are PyYAML's own, and so are the classes of tokens and exceptions. `shortcuts` has
+what is quicker than that. As with PyYAML's C loaders, constructors and resolvers of one's own are added to these classes.
+"""
+
+from .loaders import BaseLoader, FullLoader, SafeLoader, Scanning
+
+__all__ = ["BaseLoader", "FullLoader", "SafeLoader", "Scanning"]

@@ -1,0 +1,148 @@
+"""The loaders, and the scanner that PyYAML's parser asks for tokens."""
+
+from typing import Any, List, Optional, Type, Union
+
+from yaml.constructor import BaseConstructor, FullConstructor, SafeConstructor
+from yaml.error import YAMLError
+from yaml.reader import ReaderError
+from yaml.resolver import BaseResolver, Resolver
+from yaml.scanner import ScannerError
+from yaml.tokens import ScalarToken, Token
+
+from ..held import Batch, Held, Refusal, bytes_of
+from ..text import CODECS
+from .marks import Source
+from .shortcuts import QuickComposer, QuickParser
+from .tokens import Maker
+
+ANY = 0
+PIECE = 1 << 16
+
+
+def read_all(stream: Any) -> Union[str, bytes]:
+    """All that is read from a file, or from what has a `read` as a file has."""
+    piece = stream.read(PIECE)
+    pieces = [piece]
+    while piece:
+        piece = stream.read(PIECE)
+        pieces.append(piece)
+    return pieces[-1].join(pieces)
+
+
+class Scanning:
+    """What PyYAML's `Reader` and `Scanner` are for its parser: the tokens of a stream, one after the other.
+
+    A stream is `str`, bytes, or a file, which is read to its end at once. It is scanned as tokens are asked for, 256 at a time.
+    An error is raised in place of the token that can not be read, each time that it is asked for.
+    """
+
+    # how many bytes a simple key may have, 1 to 65536
+    key_limit = 1024
+
+    def __init__(self, stream: Any) -> None:
+        self.name, is_shown = "<file>", True
+        if hasattr(stream, "read"):
+            self.name, is_shown, data = getattr(stream, "name", "<file>"), False, read_all(stream)
+        else:
+            self.name, data = "<unicode string>" if isinstance(stream, str) else "<byte string>", stream
+        self._is_text = isinstance(data, str)
+        given = bytes_of(data)
+        self._source = Source(self.name, given, is_shown)
+        self._maker = Maker(self._source, self._is_text)
+        self._held: Optional[Held] = Held(given, ANY, self.key_limit)
+        self._waiting: List[Token] = []  # the tokens of a batch that were not taken, the next one last
+        self._error: Optional[YAMLError] = None
+
+    def check_token(self, *choices: Type[Token]) -> bool:
+        """Whether there is a next token, and of one of these types if any is given."""
+        waiting = self._waiting
+        if not waiting and not self._fill():
+            return False
+        return not choices or isinstance(waiting[-1], choices)
+
+    def peek_token(self) -> Optional[Token]:
+        """The next token, which stays, or None after the last one."""
+        return self._waiting[-1] if self._waiting or self._fill() else None
+
+    def get_token(self) -> Optional[Token]:
+        """The next token, or None after the last one."""
+        return self._waiting.pop() if self._waiting or self._fill() else None
+
+    def take_scalar_after(self, kind: Type[Token]) -> Optional[ScalarToken]:
+        """Takes a token of that type and the scalar right after it, and returns the scalar; or takes nothing if it is not known
+        that these two come next."""
+        waiting = self._waiting
+        if len(waiting) < 2 or not isinstance(waiting[-1], kind) or not isinstance(waiting[-2], ScalarToken):
+            return None
+        waiting.pop()
+        return waiting.pop()
+
+    def dispose(self) -> None:
+        """Frees the scanner; there are no more tokens."""
+        super().dispose()
+        self._waiting.clear()
+        self._error = None
+        if self._held is not None:
+            self._held.close()
+            self._held = None
+
+    def _fill(self) -> bool:
+        """Takes the next batch if all tokens were taken. Returns whether there are any, or raises the error that comes next."""
+        given = None if self._held is None or self._error is not None else self._held.next()
+        if isinstance(given, Batch):
+            try:
+                self._maker.tokens_of(given, self._waiting)
+            except ScannerError as error:
+                self._error = error
+            self._waiting.reverse()
+        elif isinstance(given, Refusal):
+            self._error = self._error_of(given)
+        if self._error is not None and not self._waiting:
+            raise self._error.with_traceback(None)
+        return bool(self._waiting)
+
+    def _error_of(self, refusal: Refusal) -> YAMLError:
+        """The fault as PyYAML's exception."""
+        source = self._source
+        if not refusal.is_reader:
+            context_mark = source.mark(*refusal.context_mark) if refusal.context else None
+            return ScannerError(refusal.context, context_mark, refusal.problem, source.mark(*refusal.mark))
+        position, character, encoding = refusal.offset, refusal.value, CODECS[source.encoding]
+        if character < 0:  # the input ends too early, or no character begins so
+            character = source.data[position]
+        if self._is_text:
+            position, encoding = len(source.data[:position].decode("utf-8", "surrogatepass")), "unicode"
+        return ReaderError(self.name, position, character, encoding, refusal.problem)
+
+
+class BaseLoader(Scanning, QuickParser, QuickComposer, BaseConstructor, BaseResolver):
+    """As `yaml.BaseLoader`: every scalar is a `str`."""
+
+    def __init__(self, stream: Any) -> None:
+        Scanning.__init__(self, stream)
+        QuickParser.__init__(self)
+        QuickComposer.__init__(self)
+        BaseConstructor.__init__(self)
+        BaseResolver.__init__(self)
+
+
+class SafeLoader(Scanning, QuickParser, QuickComposer, SafeConstructor, Resolver):
+    """As `yaml.SafeLoader`: the types of YAML, and no others."""
+
+    def __init__(self, stream: Any) -> None:
+        Scanning.__init__(self, stream)
+        QuickParser.__init__(self)
+        QuickComposer.__init__(self)
+        SafeConstructor.__init__(self)
+        Resolver.__init__(self)
+
+
+class FullLoader(Scanning, QuickParser, QuickComposer, FullConstructor, Resolver):
+    """As `yaml.FullLoader`: the types of YAML, and those of Python that PyYAML takes for harmless."""
+
+    def __init__(self, stream: Any) -> None:
+        Scanning.__init__(self, stream)
+        QuickParser.__init__(self)
+        QuickComposer.__init__(self)
+        FullConstructor.__init__(self)
+        Resolver.__init__(self)

@@ -1,0 +1,81 @@
+//! A YAML 1.1 scanner that is proved: the tokens of an input, each with its exact marks, and at most one fault, with its
+//! place. It is the lower half of libyaml: a parser, a linter or a highlighter can be built on it.
+//!
+//! ```
+//! use bogzhami::{Data, Fault, Scanner};
+//!
+//! fn main() -> Result<(), Fault> {
+//!     let mut values = Vec::new();
+//!     for token in Scanner::new(b"name: Anna\nage: 38\n") {
+//!         if let Data::Scalar { value, .. } = token?.data {
+//!             values.push(value.as_str().unwrap_or("no text").to_string());
+//!         }
+//!     }
+//!     assert_eq!(values, ["name", "Anna", "age", "38"]);
+//!     Ok(())
+//! }
+//! ```
+//!
+//! [`Scanner`] borrows its input and is an iterator of `Result<Token<'_>, Fault>`. The fault is the last item:
+//!
+//! ```
+//! use bogzhami::{Fault, Scanner};
+//!
+//! let fault = Scanner::new(b"a: b: c").find_map(Result::err);
+//! match fault {
+//!     Some(Fault::Scanner { problem, mark, .. }) => {
+//!         assert_eq!(problem, "mapping values are not allowed in this context");
+//!         assert_eq!((mark.line, mark.column), (0, 4)); // both count from 0
+//!     }
+//!     other => panic!("{other:?}"),
+//! }
+//! ```
+//!
+//! These tokens own their texts. [`Scanner::next_batch`] lends up to 256 tokens at once, with no copy of their texts:
+//!
+//! ```
+//! use bogzhami::Scanner;
+//!
+//! # fn main() -> Result<(), bogzhami::Fault> {
+//! let mut scanner = Scanner::new(b"[a, b]");
+//! let mut count = 0;
+//! while let Some(batch) = scanner.next_batch() {
+//!     count += batch?.filter(|token| token.start.index < token.end.index).count();
+//! }
+//! assert_eq!(count, 5); // the brackets, the comma and the scalars
+//! # Ok(())
+//! # }
+//! ```
+//!
+//! [`Settings`] has the encoding, the key limit and the number of tokens of a batch. A scanner is not [`Send`]; tokens and
+//! faults are.
+//!
+//! The library is found by pkg-config, or in the folder that the environment variable `BOGZHAMI_LIB_DIR` names when the
+//! crate is built. No other crate is needed.
+
+#[path = "../../ffi/scanner.rs"]
+mod scanner;
+
+pub use scanner::*;
+
+use std::ffi::CStr;
+use std::os::raw::c_char;
+
+extern "C" {
+    fn bogzhami_version() -> *const c_char;
+}
+
+/// The version of the library that is linked.
+///
+/// ```
+/// assert_eq!(bogzhami::library_version().split('.').count(), 3);
+/// ```
+pub fn library_version() -> &'static str {
+    // SAFETY: the text is a constant of the library, and ends with a 0.
+    unsafe { CStr::from_ptr(bogzhami_version()) }.to_str().unwrap_or_default()
+}
+
+/// The examples of README.md, which run with the others.
+#[cfg(doctest)]
+#[doc = include_str!("../README.md")]
+struct Readme;

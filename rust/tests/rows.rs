@@ -1,0 +1,70 @@
+//! Lists the inputs of rows.txt, and compares the lines with those that stand there. A line of the file has the words of a
+//! command, an input in hexadecimal and the expected lines, with tabs between them; only the rows of `scan` are listed.
+#[path = "../../ffi/listing.rs"]
+mod listing;
+
+use bogzhami as scanner; // by this name listing.rs calls the crate
+use scanner::{Fault, Scanner, Token};
+use std::error::Error;
+
+const ROWS: &str = include_str!("../../tests/vectors/rows.txt");
+
+fn bytes_of(hex: &str) -> Vec<u8> {
+    let digits: Vec<u32> = hex.chars().filter_map(|digit| digit.to_digit(16)).collect();
+    digits.chunks(2).map(|pair| (pair[0] * 16 + pair[1]) as u8).collect()
+}
+
+/// The words of a scan's settings, its input and its lines; `None` for another command.
+fn row_of(line: &str) -> Option<(Vec<String>, Vec<u8>, Vec<&str>)> {
+    let parts: Vec<&str> = line.split('\t').collect();
+    let words: Vec<String> = parts[0].split(' ').map(String::from).collect();
+    (words[0] == "scan").then(|| (words[1..].to_vec(), bytes_of(parts[1]), parts[2].split(" / ").collect()))
+}
+
+fn listed(words: &[String], input: &[u8]) -> String {
+    let settings = listing::settings(words).expect("the words are right");
+    let mut out = Vec::new();
+    let mut scanner = Scanner::with_settings(input, settings).expect("the key limit is right");
+    listing::list(&mut out, &mut scanner).expect("a list of bytes takes all");
+    String::from_utf8(out).expect("lines are text")
+}
+
+#[test]
+fn rows_are_listed() {
+    let rows: Vec<_> = ROWS.lines().filter_map(row_of).collect();
+    for (words, input, lines) in &rows {
+        assert_eq!(listed(words, input).lines().collect::<Vec<_>>(), *lines, "{words:?} {input:02x?}");
+    }
+    println!("{} rows are listed", rows.len());
+    assert!(rows.len() > 80);
+}
+
+/// The items of a scanner one by one are the tokens of its batches, and then its fault, once.
+#[test]
+fn items_are_those_of_batches() {
+    for (_, input, _) in ROWS.lines().filter_map(row_of) {
+        let (mut scanner, mut wanted) = (Scanner::new(&input), Vec::new());
+        while let Some(batch) = scanner.next_batch() {
+            match batch {
+                Ok(tokens) => wanted.extend(tokens.map(|token| Ok(token.into_owned()))),
+                Err(fault) => wanted.push(Err(fault)),
+            }
+        }
+        assert_eq!(Scanner::new(&input).collect::<Vec<Result<Token, Fault>>>(), wanted);
+    }
+}
+
+#[test]
+fn faults_are_errors_that_may_be_sent() {
+    fn boxed<E: Error + Send + Sync + 'static>(error: E) -> Box<dyn Error + Send + Sync> {
+        error.into()
+    }
+    let fault = Scanner::new(b"'a").find_map(Result::err).expect("the quote is open");
+    let told = std::thread::spawn(move || boxed(fault).to_string()).join().expect("the thread ends");
+    assert_eq!(told, "while scanning a quoted scalar: found unexpected end of stream at line 1 column 3");
+}
+
+#[test]
+fn library_has_the_version_of_the_crate() {
+    assert_eq!(bogzhami::library_version(), env!("CARGO_PKG_VERSION"));
+}

@@ -1,0 +1,161 @@
+#!/usr/bin/env python3
+"""Runs the commands of CONTRIBUTING.md as they stand there, where they are cheap: commands.py [PROGRAM].
+
+A command is a line of a code block, without its comment. Each is run, and its status and what it prints are compared, or it is
+left out for a reason that is printed; its names are then compared to those that ./dev lists. Names that are missing or wrong are
+tried for each command of ./dev. Each script of tests/ that needs a program says so if it is called without one.
+What needs the built programs is left out if they are not there or older than the sources. Takes some ten seconds.
+"""
+
+import importlib.machinery
+import importlib.util
+import os
+import re
+import subprocess
+import sys
+from concurrent.futures import ThreadPoolExecutor
+
+TOP = os.path.dirname(os.path.dirname(os.path.abspath(__file__)))
+sys.dont_write_bytecode = True
+DOCUMENT = "CONTRIBUTING.md"
+
+# Commands that are run: whether they need the program, and what they print with status 0.
+RUN = {
+    "./dev docs": (False, r"documents: \d+ paths, 0 wrong\n(documents: \d+ [\w, ]+, 0 wrong\n)+"),
+    "./dev vector 613a2031": (True, r"(?s).*\nscan any < 613a2031: as expected\n  STREAM-START 0:0:0 0:0:0 UTF8\n.*"),
+    "./dev test statuses": (True, r"statuses: \d+ ends, 0 wrong\n"),
+}
+
+# Commands that are not run, and why.
+LEFT_OUT = {
+    "./dev quick": "it builds for a minute or two, and the vectors are compared with what the gate built",
+    "./dev check yaml_text IS_ALPHA": "the gate has proved it",
+    "./dev check yaml_text": "the gate has proved it",
+    "./dev test breaks": "the gate has run it",
+    "./dev edit bom_of_two_bytes": "the gate has tried it, and it takes minutes",
+    "./dev folders": "it would write files; ./dev docs says whether they are right",
+    "./test": "it calls this script",
+}
+
+# Words of ./dev with no name, a wrong one, or too many: the status, and what is said on standard error or output.
+WRONG_NAMES = {
+    "": (2, r"\./dev COMMAND \[NAME\]"),
+    "help": (0, r"\./dev COMMAND \[NAME\]"),
+    "chek": (2, r"no command chek\. Near it:\n  check\n$"),
+    "check": (2, r"Which crate\?\n(  \w+\n)*  yaml_text\n"),
+    "check yaml_txt": (2, r"no crate yaml_txt\. Near it:\n(  \w+\n)*  yaml_text\n"),
+    "check yaml_text IS_ALPH": (2, r"Near it:\n  classes::IS_ALPHA\n"),
+    "check yaml_text zzzz": (2, r"There are:\n(  [\w:]+\n)*  classes::IS_ALPHA\n"),
+    "test": (2, r"Which test\?\n(  [\w:]+\n)*  documents\n"),
+    "test vector": (2, r"no test vector\. Near it:\n  vectors\n$"),
+    "edit": (2, r"Which edit\?\n(  [\w/]+\n)*  yaml_text/bom_of_two_bytes\n"),
+    "edit bom_of_three_bytes": (2, r"Near it:\n(  [\w/]+\n)*  yaml_text/bom_of_two_bytes\n"),
+    "vector": (2, r"Which input\? Its bytes in hexadecimal"),
+    "vector 6": (2, r"Which input\? Its bytes in hexadecimal"),
+    "docs more": (2, r"takes 0 names at most"),
+    "check yaml_text IS_ALPHA more": (2, r"takes 2 names at most"),
+}
+
+
+def load_dev():
+    """The functions of ./dev."""
+    loader = importlib.machinery.SourceFileLoader("dev", os.path.join(TOP, "dev"))
+    module = importlib.util.module_from_spec(importlib.util.spec_from_loader("dev", loader))
+    loader.exec_module(module)
+    return module
+
+
+def commands():
+    """The lines of the document's code blocks, without their comments."""
+    with open(os.path.join(TOP, DOCUMENT), encoding="utf-8") as text:
+        for line in text:
+            if line.startswith("    "):
+                yield re.sub(r"\s+#(?!\[).*", "", line.strip())
+
+
+def call(command):
+    """Its exit status, and all that it prints."""
+    done = subprocess.run(["bash", "-c", command], cwd=TOP, stdin=subprocess.DEVNULL, capture_output=True, text=True, timeout=50)
+    return done.returncode, done.stdout + done.stderr
+
+
+def call_all(lines):
+    with ThreadPoolExecutor(max_workers=os.cpu_count()) as pool:
+        return list(pool.map(call, lines))
+
+
+def has_names(dev, command):
+    """Whether ./dev takes the names of a command that is not run."""
+    _, name, *names = [*command.split(), ""]
+    known = {"check": lambda: dev.crates(), "test": lambda: dev.scripts() + list(dev.tests()), "edit": lambda: list(dev.edits())}
+    names = [word for word in names if word]
+    if name in known and not dev.chosen(name, names[0], known[name]()):
+        return False
+    return len(names) < 2 or bool(dev.chosen("function", names[1], dev.functions(names[0])))
+
+
+def try_command(dev, command):
+    """Whether a command is right; says what it printed if not, and why it is left out if it is."""
+    if command in RUN:
+        needs_program, wanted = RUN[command]
+        if needs_program and not dev.is_built():
+            print(f"commands: {command}: left out, since no program is built of these sources")
+            return True
+        status, said = call(command)
+        is_right = status == 0 and re.fullmatch(wanted, said) is not None
+        print(f"commands: {command}: {'run' if is_right else f'WRONG, status {status}: {said[-1000:]}'}")
+        return is_right
+    if command not in LEFT_OUT:
+        print(f"commands: {command}: WRONG, it is neither run nor left out")
+        return False
+    print(f"commands: {command}: left out, since {LEFT_OUT[command]}")
+    return has_names(dev, command)
+
+
+def try_commands(dev):
+    found = list(commands())
+    wrong = [command for command in found if not try_command(dev, command)]
+    wrong += [f"{command} is not in {DOCUMENT}" for command in {**RUN, **LEFT_OUT} if command not in found]
+    print(f"commands: {len(found)} of {DOCUMENT}, {len(wrong)} wrong {wrong or ''}")
+    return not wrong and len(found) > 5
+
+
+def try_wrong_names():
+    wrong = []
+    answers = call_all(f"./dev {words}" for words in WRONG_NAMES)
+    for (words, (wanted, pattern)), (status, said) in zip(WRONG_NAMES.items(), answers):
+        if status != wanted or not re.search(pattern, said):
+            wrong.append((words, status, said[-300:]))
+    print(f"commands: {len(WRONG_NAMES)} missing or wrong names, {len(wrong)} wrong {wrong or ''}")
+    return not wrong
+
+
+def try_table(dev):
+    """Each line of the table of tests/README.md is a script that ./dev lists, and each script has a line."""
+    with open(os.path.join(TOP, "tests", "README.md"), encoding="utf-8") as text:
+        named = re.findall(r"^\| `(\w+)` \|", text.read().partition("\n## ")[0], re.M)
+    wrong = sorted(set(named) ^ set(dev.scripts()))
+    print(f"commands: {len(named)} lines of tests/README.md, {len(wrong)} wrong {wrong or ''}")
+    return not wrong and len(named) > 10
+
+
+def try_usages(dev):
+    """A script that is given no program and needs one says how it is called."""
+    needing = [name for name in dev.scripts() if "given_program()" in dev.read(f"tests/{name}.py")]
+    needing.remove("commands")
+    asked = [(name, f"tests/{name}.py {words}") for name in needing for words in ("", "/dev/null/none")]
+    wrong = []
+    for (name, words), (status, said) in zip(asked, call_all(f"{sys.executable} {words}" for _, words in asked)):
+        if status != 2 or f"tests/{name}.py" not in said or "Traceback" in said:
+            wrong.append((words, status, said[-200:]))
+    print(f"commands: {len(needing)} scripts called without a program, {len(wrong)} wrong {wrong or ''}")
+    return not wrong and len(needing) > 10
+
+
+def main():
+    dev = load_dev()
+    return 0 if all([try_commands(dev), try_wrong_names(), try_table(dev), try_usages(dev)]) else 1
+
+
+if __name__ == "__main__":
+    sys.exit(main())

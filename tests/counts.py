@@ -1,0 +1,133 @@
+#!/usr/bin/env python3
+"""Counts the requests for memory that each call makes: counts.py PROGRAM, which runs its neighbour lexlist too.
+
+No request is made by a call that takes no memory. These are, on every worked row of vectors/rows.txt, a new parser and
+the readers of its state; skip; scan and peek of a peeked token, after a fault, which may be a refused request, and after
+the end; all calls on an input that is no text from its first lexeme on; and on UTF-8 decoding, marks, gaps, kinds,
+deciders, lexemes of one character, document markers, stream ends and character classes at every place.
+
+Every block is given back by the end, whichever request is refused. Valgrind counts no block and no wrong access at the
+end of each worked row. Needs a C compiler; valgrind is skipped if there is none.
+"""
+
+import os
+import re
+import shutil
+import subprocess
+import sys
+import tempfile
+from concurrent.futures import ThreadPoolExecutor
+
+sys.path.insert(0, os.path.join(os.path.dirname(os.path.abspath(__file__)), "lib"))
+sys.dont_write_bytecode = True
+from worked import Session, build_refuser, is_utf8, rows, run_counted, takes_no_memory
+
+WANTED = "FAULT memory"
+VALGRIND = ["valgrind", "--leak-check=full", "--error-exitcode=99"]
+NOTHING_HELD = re.compile(rb"in use at exit: 0 bytes in 0 blocks\n")
+BARE = {"STREAM_END", "DOCUMENT_START", "DOCUMENT_END", "FLOW_SEQUENCE_START", "FLOW_MAPPING_START", "FLOW_SEQUENCE_END",
+        "FLOW_MAPPING_END", "FLOW_ENTRY", "BLOCK_ENTRY", "KEY", "VALUE"}
+
+
+def sessions():
+    """The words of calls that are made one by one, the input, and the lines of a scan of it."""
+    for words, data, lines in rows():
+        if words[0] == "scan":
+            limit = words[2] if len(words) > 2 else "1024"
+            for word in ("k" + "s" * (len(lines) + 2) + "psk", "k" + "ppks" * len(lines) + "pps", "kpps" * len(lines) + "ksp"):
+                yield ["each", words[1], limit, word], data, lines
+
+
+def calls_without_memory(words, data, lines, done, counts):
+    """How many calls were made that take no memory, and the requests that they made; then those of all others.
+
+    A new parser counts with the first call, which is a skip. What reads the state counts as a call.
+    """
+    text = done.stdout.decode("ascii").splitlines()
+    answers = [line.startswith(WANTED) for line in text[::2]]
+    session = Session(lines, answers.index(True) if True in answers else None)
+    bare, wrong, others = len(counts) - len(words[3]), sum(counts[1::2]) + counts[-1], 0
+    for letter, count in zip(words[3], counts[:-1:2], strict=True):
+        if session.may_want_memory(letter) and not takes_no_memory(words, data, lines):
+            others += count
+        else:
+            bare += 1
+            wrong += count
+        session.call(letter)
+    return bare, wrong, others
+
+
+def count_each(lexlist, refuser, words, data, lines):
+    """Refuses no request, then each in turn. Sums what was counted, and runs, and those that are wrong."""
+    number, more, total = 0, 1, [0, 0, 0, 0, 0]
+    while number <= more:
+        done, counts, held = run_counted(lexlist, words, data, refuser, number, behind_read=True)
+        found = calls_without_memory(words, data, lines, done, counts)
+        more = sum(counts) if number == 0 else more
+        is_wrong = bool(found[1] or held or done.returncode or done.stderr)
+        if is_wrong:
+            print(f"{words}, {data[:80]!r}, {number}: {counts}, {held} blocks, {done.stdout[-300:]!r}, {done.stderr!r}")
+        total = [a + b for a, b in zip(total, (*found, 1, is_wrong))]
+        number += 1
+    return total
+
+
+def count_bare(lexlist, refuser):
+    """Counts the requests of decoding of UTF-8 and of the calls at each place of a text: lines, wrong ones, kinds seen."""
+    lines, wrong, kinds = 0, 0, set()
+    for setting, data in sorted({(words[1], data) for words, data, _ in rows() if is_utf8(words[1], data)}):
+        for command in "bare", "decode":
+            done, counts, held = run_counted(lexlist, [command, setting], data, refuser, 0, behind_read=True)
+            places = [line.split(" ") for line in done.stdout.decode("ascii", "replace").splitlines() if line.startswith("PLACE")]
+            kinds |= {words[at] for words in places for at in (5, 10)}
+            lines += len(places) if command == "bare" else 1
+            if any(counts) or held or done.returncode or done.stderr or not done.stdout:
+                wrong += 1
+                print(f"{command} {setting}, {data[:80]!r}: {counts}, {held} blocks, {done.stderr!r}")
+    return lines, wrong, kinds
+
+
+def is_freed(command):
+    """Whether valgrind counts no block at a program's end, and no wrong access."""
+    words, data = command
+    done = subprocess.run([*VALGRIND, *words], input=data, capture_output=True, timeout=300)
+    return done.returncode < 2 and NOTHING_HELD.search(done.stderr) is not None
+
+
+def count_blocks(program, lexlist):
+    """Runs each worked row, and its session, under valgrind: how many were run, and how many are wrong."""
+    commands = [([program, *words], data) for words, data, _ in rows()]
+    commands += [([lexlist, *words], data) for words, data, _ in list(sessions())[::3]]
+    with ThreadPoolExecutor(max_workers=os.cpu_count()) as pool:
+        wrong = [command for command, freed in zip(commands, pool.map(is_freed, commands)) if not freed]
+    for words, data in wrong[:10]:
+        print(f"{words[1:]}, {data[:80]!r}: blocks are left, or a wrong access")
+    return len(commands), len(wrong)
+
+
+def main(program):
+    lexlist = os.path.join(os.path.dirname(program), "..", "..", "lexlist", "out", "lexlist")
+    every, total = list(sessions()), [0, 0, 0, 0, 0]
+    with tempfile.TemporaryDirectory() as room:
+        refuser = build_refuser(room)
+        with ThreadPoolExecutor(max_workers=os.cpu_count()) as pool:
+            for found in pool.map(lambda one: count_each(lexlist, refuser, *one), every):
+                total = [a + b for a, b in zip(total, found)]
+        places, places_wrong, kinds = count_bare(lexlist, refuser)
+    bare, requests, others, runs, wrong = total
+    print(f"counts: {len(every)} lists of calls, {runs} runs, {bare} calls that take no memory made {requests} requests, "
+          f"the others {others}, {wrong} runs wrong")
+    print(f"counts: {places} places and decodings of UTF-8, {len(BARE & kinds)} kinds that take no memory, {places_wrong} wrong")
+    is_wrong = wrong or requests or places_wrong or not bare or not others or not BARE <= kinds
+    if shutil.which("valgrind") is None:
+        print("counts: blocks are not counted: no valgrind")
+        return 1 if is_wrong else 0
+    commands, held = count_blocks(program, lexlist)
+    print(f"counts: {commands} runs under valgrind, {held} with blocks that are not freed or a wrong access")
+    return 1 if is_wrong or held else 0
+
+
+if __name__ == "__main__":
+    from lib.usage import given_program
+
+    sys.exit(main(given_program()))

@@ -1,0 +1,385 @@
+#!/usr/bin/env python3
+"""Builds the library of ffi/, and scans many files with uses/many over it: many.py [PROGRAM].
+
+The lines of the inputs of vectors/ are the expected ones, as files and as members of archives. Those of generated texts, in
+UTF-8 and UTF-16, with and without a fault, are those of a plain loop. What can not be read gets a line that says why, and all
+else is scanned: missing files, folders, pipes, damaged archives. A worker is killed when it is in the middle of a part: the
+lines are all there, the files of that part that it had opened were opened twice, and every other file once. At a file that
+ends each worker, only that file is lost. If the scheduler is killed, that is said, and the lines before are whole. What needs a C compiler or dask.distributed is skipped if there is none.
+"""
+
+import collections
+import io
+import itertools
+import json
+import os
+import pty
+import random
+import re
+import shutil
+import signal
+import subprocess
+import sys
+import tarfile
+import tempfile
+import time
+
+HERE = os.path.dirname(os.path.abspath(__file__))
+TOP = os.path.dirname(HERE)
+MANY = os.path.join(TOP, "uses", "many")
+CHECK = os.path.join(MANY, "check.py")
+sys.path[:0] = [HERE, os.path.join(HERE, "lib"), MANY, os.path.join(TOP, "bench")]
+sys.dont_write_bytecode = True
+from count import Counter
+from ffi import FFI, vectors
+from library import build_library
+from realistic import realistic
+from uses import LINTS, fault_message
+from worked import rows
+
+LIBRARY = os.path.join(FFI, "out", "libbogzhami.so")
+PATIENCE = 60  # seconds that anything may take
+EQUAL = b"a: 1\n- b: [c, d]\n" * 10
+GENERATED = 120  # texts
+DEATHS = 2  # how many workers may end at a part before the scheduler gives it up
+WHY_LOST = "not read: each worker that read it was ended"
+
+
+def python_with_dask():
+    for python in (sys.executable, "/usr/bin/python3"):
+        if shutil.which(python) and subprocess.run([python, "-c", "import distributed"], capture_output=True).returncode == 0:
+            return python
+    return None
+
+
+def wait_for(is_there):
+    """What a function returns as soon as that is true."""
+    for _ in range(PATIENCE * 50):
+        found = is_there()
+        if found:
+            return found
+        time.sleep(0.02)
+    raise TimeoutError(is_there.__name__)
+
+
+class Machines:
+    """A scheduler with two workers, each with a nanny that begins it again when it ends."""
+
+    def __init__(self, python, room):
+        self.python, self.room, self.programs = python, room, []
+        self.files, self.log = os.path.join(room, "opened"), os.path.join(room, "opens.log")
+        self.go, self.scheduler_file = os.path.join(room, "go"), os.path.join(room, "scheduler.json")
+        os.mkdir(self.files)
+
+    def start(self, what, *words):
+        names = {"OPENS_FOLDER": self.files, "OPENS_LOG": self.log, "OPENS_GO": self.go}
+        environment = {**os.environ, **names, "DASK_DISTRIBUTED__SCHEDULER__ALLOWED_FAILURES": str(DEATHS - 1)}
+        command = [self.python, "-m", f"distributed.cli.dask_{what}", "--no-dashboard", *words]
+        with open(os.path.join(self.room, what + ".log"), "wb") as log:
+            self.programs.append(subprocess.Popen(command, cwd=self.room, env=environment, stdout=log, stderr=log))
+
+    def __enter__(self):
+        preload = os.path.join(HERE, "lib", "opens.py")
+        self.start("scheduler", "--host", "127.0.0.1", "--port", "0", "--scheduler-file", self.scheduler_file)
+        wait_for(lambda: os.path.exists(self.scheduler_file) and os.path.getsize(self.scheduler_file))
+        with open(self.scheduler_file, encoding="ascii") as file:
+            self.address = json.load(file)["address"]
+        self.start("worker", self.address, "--nworkers", "2", "--nthreads", "1", "--preload", preload, "--local-directory", self.room)
+        return self
+
+    def __exit__(self, *_):
+        for program in reversed(self.programs):
+            program.terminate()
+        for program in reversed(self.programs):
+            try:
+                program.wait(20)
+            except subprocess.TimeoutExpired:
+                program.kill()
+                program.wait()
+
+    def opens(self):
+        """The process and the name of each file that was opened."""
+        if not os.path.exists(self.log):
+            return []
+        with open(self.log, encoding="utf-8") as lines:
+            return [tuple(line.split()) for line in lines]
+
+    def scan(self, names, *words):
+        """Begins a scan of these files."""
+        listing = write(self.room, "list", b"".join(os.fsencode(name) + b"\n" for name in names))
+        command = [self.python, CHECK, "--scheduler", self.address, *words, listing]
+        return subprocess.Popen(command, cwd=self.room, stdout=subprocess.PIPE, stderr=subprocess.PIPE)
+
+    def lines(self, names, *words):
+        """The lines of a scan of these files, the words on standard error, and the status."""
+        program = self.scan(names, *words)
+        out, errors = program.communicate(timeout=PATIENCE)
+        return out.decode("utf-8", "surrogateescape").split("\n")[:-1], errors.decode(), program.returncode
+
+
+def write(room, name, data):
+    path = os.path.join(room, name)
+    with open(path, "wb") as file:
+        file.write(data)
+    return path
+
+
+def differences(what, found, wanted):
+    """How many lines differ, after the first of them are printed."""
+    wrong = [(one, other) for one, other in zip(found, wanted) if one != other]
+    for one, other in wrong[:5]:
+        print(f"many: {what}: {one[:300]!r}, and not {other[:300]!r}")
+    if len(found) != len(wanted):
+        print(f"many: {what}: {len(found)} lines, and not {len(wanted)}")
+    return len(wrong) + abs(len(found) - len(wanted))
+
+
+# What is scanned
+
+
+def vector_line(name, data, lines):
+    """The line that a vector wants. Of a fault of the reader the place is left out, since the vectors have none."""
+    is_fault = lines[-1].startswith("FAULT")
+    return f"{name}\t{len(lines) - is_fault}\t{len(data)}\t{fault_message(lines[-1]) if is_fault else '-'}"
+
+
+def without_place(line, wanted):
+    """The line without the place of its fault, if the wanted one has none."""
+    cells, fault = line.split("\t"), wanted.split("\t")[-1]
+    if fault.startswith(": ") and cells[-1].endswith(fault):
+        cells[-1] = fault
+    return "\t".join(cells)
+
+
+def vector_inputs():
+    scans = [(data, lines) for words, data, lines in rows() if words == ["scan", "any"]]
+    return scans + [(data, lines) for words, data, lines in vectors() if words == ["any"]]
+
+
+def generated():
+    """Texts of several lengths and encodings, of which a third has a fault somewhere."""
+    r = random.Random(31)
+    for number in range(GENERATED):
+        text = realistic(r.choice([0, 300, 5000, 60_000]), number) + r.choice(["", "a: '" + "é" * r.randrange(200_000) + "'\n"])
+        data = text.encode(r.choice(["utf-8", "utf-8", "utf-16"]))
+        at = r.randrange(len(data) + 1)
+        yield data if r.random() < 0.6 else data[:at] + r.choice([b"\xff", b"\n]: {", b"\0\0"]) + data[at:]
+
+
+def plain_line(counter, name, data):
+    tokens, fault = counter.count(data)
+    return f"{name}\t{tokens}\t{len(data)}\t{fault or '-'}"
+
+
+def try_faults(counter):
+    """The places of faults that are written down by hand for lint."""
+    wrong, count = 0, 0
+    for name in ("scanner", "context", "reader", "blank before", "marked", "big"):
+        data, wanted = LINTS[name][:2]
+        count += 1
+        wrong += differences(name, [counter.count(data)[1]], wanted[-1:])
+    print(f"many: {count} faults, {wrong} wrong")
+    return not wrong
+
+
+def archive(path, mode, inputs, **settings):
+    """Writes an archive that has more than files: a folder, a link, a name of 300 bytes."""
+    with tarfile.open(path, mode, **settings) as made:
+        folder = tarfile.TarInfo("folder")
+        folder.type = tarfile.DIRTYPE
+        made.addfile(folder)
+        for name, data in inputs:
+            member = tarfile.TarInfo(name)
+            member.size = len(data)
+            made.addfile(member, io.BytesIO(data))
+        link = tarfile.TarInfo("link")
+        link.type, link.linkname = tarfile.SYMTYPE, inputs[0][0]
+        made.addfile(link)
+
+
+def try_files(machines, room, counter):
+    """Vectors and generated texts, as files."""
+    inputs = vector_inputs()
+    names = [f"{number}.yaml" for number in range(len(inputs))]
+    wanted = [vector_line(name, data, lines) for name, (data, lines) in zip(names, inputs)]
+    texts = list(generated())
+    for name, (data, _) in zip(names, inputs):
+        write(room, name, data)
+    for number, data in enumerate(texts):
+        names.append(os.path.join(room, f"text{number}"))
+        wanted.append(plain_line(counter, write(room, names[-1], data), data))
+    found, errors, status = machines.lines(names, "--part", "2")
+    found = [without_place(line, other) for line, other in zip(found, wanted)] + found[len(wanted) :]
+    wrong = differences("files", found, wanted) + (status != 1 or f"check: {len(names)} files, " not in errors)
+    print(f"many: {len(names)} files, {wrong} wrong")
+    return not wrong and len(inputs) > 5000 and sum(line.endswith("\t-") for line in wanted[len(inputs) :]) in range(GENERATED // 4, GENERATED * 3 // 4)
+
+
+def try_archives(machines, room, counter):
+    """The same kinds of inputs as members of archives, plain and compressed, and of some that are cut."""
+    inputs = [(f"{number}/{'n' * (300 if number % 9 == 0 else 3)}", data) for number, (data, _) in enumerate(vector_inputs()[::20])]
+    inputs += [(f"text{number}", data) for number, data in enumerate(itertools.islice(generated(), 30))]
+    lines, kinds = [], (("a.tar", "w", {}), ("b.tar.gz", "w:gz", {}), ("c.TAR.xz", "w:xz", {"preset": 0}), ("d.tar.bz2", "w:bz2", {}))
+    for name, mode, settings in kinds:
+        archive(os.path.join(room, name), mode, inputs, **settings)
+        lines += [plain_line(counter, f"{name}:{member}", data) for member, data in inputs]
+    found, _, status = machines.lines([name for name, _, _ in kinds], "--part", "1")
+    wrong = differences("archives", found, lines) + (status != 1)
+    for name, _, _ in kinds:
+        path = os.path.join(room, name)
+        os.truncate(path, os.path.getsize(path) // 2)
+    found, _, status = machines.lines([*(name for name, _, _ in kinds), "0.yaml"])
+    unread = [line for line in found if "\t-\t-\tnot read: " in line]
+    wrong += status != 2 or len(unread) != len(kinds) or not found[-1].startswith("0.yaml\t") or len(found) < len(inputs)
+    wrong += len(set(found) - set(unread) - set(lines)) != 1
+    print(f"many: {len(lines)} members of {len(kinds)} archives, and {len(kinds)} cut archives, {wrong} wrong")
+    return not wrong
+
+
+def try_unread(machines, room):
+    """Files that can not be read, among others."""
+    os.mkdir(os.path.join(room, "folder"))
+    os.mkfifo(os.path.join(room, "pipe"))
+    write(room, "no.tar", b"a: 1")
+    write(room, "tab\there", b"a: 1")
+    write(room, "\udce9", b"a: b: c")
+    rows_wanted = [
+        ("none", "none\t-\t-\tnot read: No such file or directory"),
+        ("tab\there", "tab\\there\t8\t4\t-"),
+        ("folder", "folder\t-\t-\tnot read: Is a directory"),
+        ("pipe", "pipe\t-\t-\tnot read: it is no regular file"),
+        ("none.tar.gz", "none.tar.gz\t-\t-\tnot read: No such file or directory"),
+        ("no.tar", "no.tar\t-\t-\tnot read: .."),
+        ("n" * 300, "n" * 300 + "\t-\t-\tnot read: File name too long"),
+        ("nul\0", "nul\0\t-\t-\tnot read: .."),
+        ("\udce9", "\udce9\t6\t7\t1:5: mapping values are not allowed in this context"),
+    ]
+    found, errors, status = machines.lines([name for name, _ in rows_wanted])
+    found = [re.sub(r"^((no\.tar|nul\0)\t-\t-\tnot read: )\w.*", r"\1..", line) for line in found]
+    wrong = differences("unread", found, [line for _, line in rows_wanted])
+    wrong += status != 2 or "1 with a fault, 7 not read; " not in errors
+    print(f"many: {len(rows_wanted)} files, most of them not to be read, {wrong} wrong")
+    return not wrong
+
+
+# Workers that end
+
+
+def equal_files(machines, count, special):
+    """Writes files of one length, and returns their names and the size of a part that has so many of them."""
+    names = [f"{number}.yaml" for number in range(count)]
+    for at, name in special.items():
+        names[at] = name
+    return [write(machines.files, name, EQUAL) for name in names]
+
+
+def part_of(count):
+    """The size of a part of so many equal files, as check.py weighs them, in megabytes."""
+    return str(count * (10_000 + len(EQUAL)) / 1e6)
+
+
+def try_kill(machines, counter):
+    """Kills a worker while it opens the third file of a part of five, when all that others can do is done."""
+    paths = equal_files(machines, 100, {52: "wait.yaml"})
+    program = machines.scan(paths, "--part", part_of(5))
+    name_of = [os.path.basename(path) for path in paths]
+
+    def all_but_one_part():
+        names = [name for _, name in machines.opens()]
+        return "wait.yaml" in names and len(set(names)) >= 93
+
+    wait_for(all_but_one_part)
+    time.sleep(0.5)
+    killed = next(process for process, name in machines.opens() if name == "wait.yaml")
+    os.kill(int(killed), signal.SIGKILL)
+    wait_for(lambda: sum(name == "wait.yaml" for _, name in machines.opens()) == 2)
+    write(machines.room, "go", b"")
+    out, _ = program.communicate(timeout=PATIENCE)
+    wrong = differences("kill", out.decode().split("\n")[:-1], [plain_line(counter, path, EQUAL) for path in paths])
+    times = collections.Counter(name for _, name in machines.opens())
+    wanted = {**dict.fromkeys(name_of, 1), **dict.fromkeys(name_of[50:53], 2)}
+    if times != wanted:
+        print(f"many: kill: files were opened {times}")
+    processes = [process for process, name in machines.opens() if name == "wait.yaml"]
+    wrong += times != wanted or program.returncode != 0 or processes[0] == processes[1]
+    print(f"many: a worker killed in the middle of {len(paths)} files, {wrong} wrong")
+    return not wrong
+
+
+def try_deadly(machines, counter):
+    """A file at which each worker ends, in a part of two, is lost alone."""
+    paths = equal_files(machines, 40, {25: "deadly.yaml"})
+    found, errors, status = machines.lines(paths, "--part", part_of(2))
+    wanted = [plain_line(counter, path, EQUAL) for path in paths]
+    wanted[25] = f"{paths[25]}\t-\t-\t{WHY_LOST}"
+    deaths = sum(name == "deadly.yaml" for _, name in machines.opens())
+    wrong = differences("deadly", found, wanted) + (status != 2 or "1 not read; " not in errors) + (deaths != 2 * DEATHS)
+    print(f"many: a file at which {deaths} workers ended, {wrong} wrong")
+    return not wrong
+
+
+def try_gone(machines, counter):
+    """The scheduler is killed while a worker waits: the lines are whole and the first ones, and the call says what it is."""
+    paths = equal_files(machines, 60, {40: "wait.yaml"})
+    os.remove(machines.go)
+    before = len(machines.opens())
+    program = machines.scan(paths, "--part", part_of(2))
+    wait_for(lambda: len(machines.opens()) >= before + len(paths) - 3)
+    time.sleep(0.5)
+    machines.programs[0].kill()
+    out, errors = program.communicate(timeout=PATIENCE)
+    write(machines.room, "go", b"")
+    wanted = b"".join(plain_line(counter, path, EQUAL).encode() + b"\n" for path in paths)
+    good = wanted.startswith(out) and (not out or out.endswith(b"\n")) and len(out) < len(wanted)
+    wrong = (not good) + ((program.returncode, errors) != (2, b"check: the scheduler is gone\n"))
+    if wrong:
+        print(f"many: gone: status {program.returncode}, {errors[:300]}")
+    print(f"many: the scheduler killed after {out.count(10)} of {len(paths)} lines, {wrong} wrong")
+    return not wrong
+
+
+# On one machine
+
+
+def try_alone(python, room):
+    """A cluster that check.py begins itself, with a list on standard input and a terminal for the bar; and wrong calls."""
+    write(room, "good", b"a: 1")
+    main, terminal = pty.openpty()
+    words = [python, CHECK, "--workers", "2"]
+    done = subprocess.run([*words, "-"], cwd=room, input=b"good\n\ngood\n", stdout=subprocess.PIPE, stderr=terminal, timeout=PATIENCE)
+    os.close(terminal)
+    shown = os.read(main, 65536).decode()
+    os.close(main)
+    wrong = differences("alone", done.stdout.decode().split("\n"), ["good\t8\t4\t-", "good\t8\t4\t-", ""])
+    wrong += done.returncode != 0 or "#] 100%  2 files, 0 with a fault" not in shown
+    for more in (["none"], ["--library", "none", "good"], ["--workers", "0", "good"]):
+        done = subprocess.run([*words, *more], cwd=room, capture_output=True, timeout=PATIENCE)
+        wrong += done.returncode != 2 or done.stdout != b"" or not done.stderr or b"Traceback" in done.stderr
+    print(f"many: a cluster of its own and wrong calls, {wrong} wrong")
+    return not wrong
+
+
+def main():
+    python = python_with_dask()
+    if shutil.which("cc") is None or python is None:
+        print("many: skipped: no C compiler" if python else "many: skipped: no dask.distributed (Debian: python3-distributed)")
+        return 0
+    build_library()
+    counter = Counter(LIBRARY)
+    good = [try_faults(counter)]
+    with tempfile.TemporaryDirectory() as room:
+        with Machines(python, room) as machines:
+            good += [
+                try_kill(machines, counter),
+                try_deadly(machines, counter),
+                try_files(machines, room, counter),
+                try_archives(machines, room, counter),
+                try_unread(machines, room),
+                try_gone(machines, counter),
+            ]
+        good.append(try_alone(python, room))
+    return 0 if all(good) else 1
+
+
+if __name__ == "__main__":
+    sys.exit(main())

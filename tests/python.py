@@ -1,0 +1,655 @@
+#!/usr/bin/env python3
+"""Calls the module of python/ over the library of ffi/: python.py [PROGRAM].
+
+Alone: the inputs of vectors/rows.txt and vectors/scan.txt.gz are listed as they are expected, for several sizes of batch, and the
+worked rows by `python3 -m bogzhami` as by PROGRAM. Faults, settings, kinds of input, early ends and threads are tried by hand.
+
+With PyYAML: tokens and marks are those of its C loader, but for the differences that python/README.md lists, which lib/loading.py
+recognises exactly; each of them occurs. Where its own scanner gives the same tokens, so are all parts of marks and the lines
+that errors show. Events, nodes and values are those of its own parser, composer and constructors.
+
+With yamllint: its messages are the same for each text of which both scanners give the same tokens.
+
+What needs PyYAML's C loader or yamllint is skipped if there is none.
+"""
+
+import collections
+import gc
+import io
+import itertools
+import json
+import os
+import pickle
+import re
+import shutil
+import subprocess
+import sys
+import tempfile
+import threading
+import tracemalloc
+from concurrent.futures import ThreadPoolExecutor
+
+HERE = os.path.dirname(os.path.abspath(__file__))
+TOP = os.path.dirname(HERE)
+FOLDER = os.path.join(TOP, "python")
+LIBRARY = os.path.join(TOP, "ffi", "out", "libbogzhami.so")
+sys.path[:0] = [HERE, os.path.join(HERE, "lib"), FOLDER]
+sys.dont_write_bytecode = True
+from ffi import vectors
+from library import build_library
+from libyaml import CODECS, batch_ends, long_texts, yaml_files
+from libyaml import vectors as settings_and_inputs
+from realistic import realistic
+from worked import rows
+
+ENVIRONMENT = {**os.environ, "BOGZHAMI_LIBRARY": LIBRARY, "PYTHONPATH": FOLDER, "PYTHONDONTWRITEBYTECODE": "1"}
+DEBIAN = "/usr/bin/python3"
+C_LOADER = "import yaml; yaml.CSafeLoader"
+YAMLLINT = "import yaml, yamllint.linter"
+
+# Inputs with their fault: its message, its kind, and how many tokens come before it.
+FAULTS = [
+    (b"a: b: c", "1:5: mapping values are not allowed in this context", "scanner", 6),
+    ("- é 'b'\n- 'ü", "2:5: found unexpected end of stream, while scanning a quoted scalar that starts at 2:3", "scanner", 5),
+    (b"%FOO x\n--- a", "1:5: found unknown directive name, while scanning a directive that starts at 1:1", "scanner", 1),
+    (b"a: 1\nb: \xc3\xa9\xff\nc: d", "2:5: invalid leading UTF-8 octet (byte 11 of the input)", "reader", 1),
+    ("- abcdefghijkl\n- \ud800", "2:3: invalid Unicode character (byte 18 of the input)", "reader", 3),
+    (b"\xff\xfe-\0 \0\xe9\0\x00\xd8a\0", "1:4: expected low surrogate area (byte 11 of the input)", "reader", 0),
+    (b"- \xe2\x82", "1:3: incomplete UTF-8 octet sequence (byte 3 of the input)", "reader", 0),
+]
+
+# Inputs with what PyYAML's exceptions say.
+ERRORS = [
+    (
+        "a:\n  ü b: c: d\n",
+        'mapping values are not allowed in this context\n  in "<unicode string>", line 2, column 9:\n'
+        "      ü b: c: d\n            ^",
+    ),
+    (
+        "- é\n- 'ü".encode("utf-16"),
+        'while scanning a quoted scalar\n  in "<byte string>", line 2, column 3:\n    - \'ü\n      ^\n'
+        'found unexpected end of stream\n  in "<byte string>", line 2, column 5:\n    - \'ü\n        ^',
+    ),
+    (
+        "a: 1\nbü",
+        'while scanning a simple key\n  in "<unicode string>", line 2, column 1:\n    bü\n    ^\n'
+        "could not find expected ':'\n  in \"<unicode string>\", line 2, column 3:\n    bü\n      ^",
+    ),
+    ("é\x01", 'unacceptable character #x0001: control characters are not allowed\n  in "<unicode string>", position 1'),
+    (b"\xc3\xa9\x01", 'unacceptable character #x0001: control characters are not allowed\n  in "<byte string>", position 2'),
+    ("é \ud800", 'unacceptable character #xd800: invalid Unicode character\n  in "<unicode string>", position 2'),
+    (b"\xc3", 'unacceptable character #x00c3: incomplete UTF-8 octet sequence\n  in "<byte string>", position 0'),
+    (
+        "- a\n- !x%c0%80 b",
+        "while scanning a tag\n'utf-8' codec can't decode byte 0xc0 in position 1: invalid start byte\n"
+        '  in "<unicode string>", line 2, column 3:\n    - !x%c0%80 b\n      ^',
+    ),
+    (
+        "%FOO x\n--- a",
+        'while scanning a directive\n  in "<unicode string>", line 1, column 1:\n    %FOO x\n    ^\n'
+        'found unknown directive name\n  in "<unicode string>", line 1, column 5:\n    %FOO x\n        ^',
+    ),
+]
+
+# Documents of what a loader knows, with values and without a fault.
+DOCUMENTS = [
+    "a: &x 1\nb: *x\nc: &y [*x, &z 'd', *z]\ne: *y\n",
+    "base: &base {a: 1, b: 2}\nmore:\n  <<: *base\n  b: 3\nlist:\n- <<: [*base, {c: 4}]\n  d: 5\n",
+    "- !!str 1\n- !!int '2'\n- ! 3\n- !!binary aGk=\n- !!set {a, b}\n- !!omap [a: 1]\n- !!pairs [a: 1, a: 2]\n- !!float 1\n",
+    "- 2020-01-02\n- 2020-01-02T03:04:05Z\n- 1_000\n- 0x1f\n- 017\n- 1:30\n- .inf\n- 1e+3\n- ~\n- yes\n- No\n-\n- null\n",
+    "? a\n: - b\n  - ? c\n    : d\n? [e, f]\n: {g: h, ? i : j, k}\n'l' : \"m\\tn\\u00e9\"\n",
+    "a: |\n  b\n   c\n\nd: >-\n  e\n  f\n\n  g\nh: |2+\n   i\n\nj: ''\n",
+    "%YAML 1.1\n%TAG ! tag:yaml.org,2002:\n---\n!str 1\n...\n--- # b\n- [a, [b, {c: d}], ]\n--- 'é'\n",
+    "é: ü\n\"\\U0001F600\": &ö ö\n? *ö\n: ß\r\n𝄞: [𝄞, \u2028a]\n",
+    "a: b",
+    "a:\n- b\n- c\nd:\n  - e: f\n    g:\n    - h\n",
+]
+
+
+def can(python, code):
+    """Whether a Python runs a line of code."""
+    return bool(shutil.which(python)) and subprocess.run([python, "-c", code], capture_output=True).returncode == 0
+
+
+def python_that_can(code):
+    """A Python that runs a line of code, or None."""
+    return next((python for python in (sys.executable, DEBIAN) if can(python, code)), None)
+
+
+def lines_of(data, words):
+    """The listing of an input, by the words of a row."""
+    settings = main_module.settings_of(words)
+    return [line for line, _ in main_module.listing(data, *settings)]
+
+
+def module(words, data=b"", **more):
+    """Runs a module of the package, and returns what it wrote and its status."""
+    words = [sys.executable, "-m", *words]
+    done = subprocess.run(words, input=data, capture_output=True, timeout=60, **{"env": ENVIRONMENT, **more})
+    return done.stdout.decode(), done.returncode
+
+
+def try_listings(program):
+    """The listings of all vectors, also in other batches, and those of the worked rows by the command."""
+    every = list(vectors())
+    wrong = [(words, data) for words, data, wanted in every if lines_of(data, words) != wanted]
+    for size in (1, 2, 7, 100_000):
+        held.BATCH, usual = size, held.BATCH
+        wrong += [(words, data) for words, data, wanted in every[::10] if lines_of(data, words) != wanted]
+        held.BATCH = usual
+    worked = [(words[1:], data, lines) for words, data, lines in rows() if words[0] == "scan"]
+    with ThreadPoolExecutor(max_workers=os.cpu_count()) as pool:
+        told = list(pool.map(lambda row: module(["bogzhami", *row[0]], row[1]), worked))
+    for (words, data, wanted), (text, status) in zip(worked, told):
+        listed = text.split("\n")[:-1]
+        if listed != wanted or status != wanted[-1].startswith("FAULT") or lines_of(data, words) != wanted:
+            wrong.append((words, data))
+    if program and os.path.isfile(program):
+        wrong += [row[:2] for row, (text, status) in zip(worked, told) if by_program(program, row) != (text, status)]
+    statuses = [module(["bogzhami", *words])[1] for words in (["utf9"], ["any", "0"], ["any", "65537"], ["any", "1", "1"])]
+    print(f"python: {len(every)} inputs and {len(worked)} worked rows listed, {len(wrong)} wrong {wrong[:3] or ''}")
+    return not wrong and statuses == [2] * 4 and len(every) > 20000 and len(worked) > 60
+
+
+def by_program(program, row):
+    done = subprocess.run([program, "scan", *row[0]], input=row[1], capture_output=True, timeout=60)
+    return done.stdout.decode(), done.returncode
+
+
+def try_faults():
+    """Faults, after the tokens before them."""
+    wrong = []
+    for data, message, kind, count in FAULTS:
+        tokens = bogzhami.scan(data)
+        found = list(itertools.islice(tokens, count))
+        try:
+            next(tokens)
+            wrong.append((data, "no fault"))
+        except bogzhami.Fault as fault:
+            is_reader = kind == "reader"
+            line, column = (int(number) - 1 for number in re.match(r"(\d+):(\d+)", message).groups())
+            told = str(fault), fault.kind, len(found), (fault.line, fault.column), fault.mark is None, fault.offset is not None
+            copied = str(pickle.loads(pickle.dumps(fault)))
+            if (*told, copied) != (message, kind, count, (line, column), is_reader, is_reader, message):
+                wrong.append((data, told))
+    print(f"python: {len(FAULTS)} faults, {len(wrong)} wrong {wrong or ''}")
+    return not wrong
+
+
+def refuses(kind, call, *arguments, **settings):
+    try:
+        call(*arguments, **settings)
+    except kind:
+        return True
+    return False
+
+
+def try_settings():
+    """Kinds of input, settings, and texts that are not UTF-8."""
+    utf16, given = bogzhami.Encoding.UTF16LE, bytearray(b"a: 1")
+    tokens = bogzhami.scan(given)
+    next(tokens)
+    given[:] = b"@@@@"
+    values = {
+        "nothing": [token.type.name for data in (b"", "", memoryview(b"")) for token in bogzhami.scan(data)],
+        "copied": [token.value for token in tokens if token.value],
+        "utf-16": [token.value for token in bogzhami.scan("- é".encode("utf-16-le"), encoding=utf16) if token.value],
+        "text": [token.value for token in bogzhami.scan("\ufeff- é", encoding=utf16) if token.value],
+        "tag": [token.value for token in bogzhami.scan("!a%c0%80 b") if token.value],
+        "prefix": [token.value for token in bogzhami.scan("%TAG ! a%c0%80\n--- b") if token.value],
+        "zero": [token.value for token in bogzhami.scan("!a%00b b") if token.value],
+        "style": [token.style for token in bogzhami.scan("- a\n- |\n b\n") if token.style],
+        "limit": len(list(bogzhami.scan("'ab': 1", key_limit=4))),
+    }
+    wanted = {
+        "nothing": ["STREAM_START", "STREAM_END"] * 3,
+        "copied": ["a", "1"],
+        "utf-16": ["é"],
+        "text": ["é"],
+        "tag": [b"a\xc0\x80", "b"],
+        "prefix": [b"a\xc0\x80", "b"],
+        "zero": ["a\0b", "b"],
+        "style": [bogzhami.ScalarStyle.PLAIN, bogzhami.ScalarStyle.LITERAL],
+        "limit": 8,
+    }
+    refused = [
+        refuses(ValueError, bogzhami.scan, b"", key_limit=0),
+        refuses(ValueError, bogzhami.scan, b"", key_limit=65537),
+        refuses(ValueError, bogzhami.scan, b"", encoding=4),
+        refuses(TypeError, bogzhami.scan, None),
+        refuses(bogzhami.Fault, list, bogzhami.scan("'abc': 1", key_limit=4)),
+    ]
+    wrong = {name: value for name, value in values.items() if value != wanted[name]}
+    count = len(wrong) + refused.count(False)
+    print(f"python: {len(values)} kinds of input and {len(refused)} refusals, {count} wrong {wrong or ''}")
+    return not count
+
+
+class Counting:
+    """The library, with a count of its calls by name and status."""
+
+    def __init__(self, library):
+        self.library, self.calls = library, collections.Counter()
+
+    def __getattr__(self, name):
+        def call(*words):
+            status = getattr(self.library, name)(*words)
+            self.calls[name.replace("bogzhami_", ""), status] += 1
+            return status
+
+        return call
+
+
+def try_ends():
+    """A scanner that is given up has not scanned the rest and is closed, and the rooms are used again."""
+    held.LIBRARY, usual = Counting(held.LIBRARY), held.LIBRARY
+    calls, text = held.LIBRARY.calls, "- a\n" * 100_000
+    tokens = bogzhami.scan(text)
+    counts = [len(list(itertools.islice(tokens, 10))), calls["next", 0], calls["close", 0]]
+    tokens.close()
+    counts += [len(list(tokens)), calls["close", 0]]
+    bogzhami.scan(text)
+    gc.collect()
+    counts += [calls["close", 0], len(list(bogzhami.scan("a"))), calls["close", 0], calls["open", 0]]
+    held.LIBRARY = usual
+    tracemalloc.start()
+    counts.append(sum(1 for _ in bogzhami.scan(text.encode())))
+    peak = tracemalloc.get_traced_memory()[1] - len(text)
+    tracemalloc.stop()
+    good = counts == [10, 1, 0, 0, 1, 2, 3, 3, 3, 200_004] and peak < 200_000
+    print(f"python: scanners that were given up: {'freed' if good else counts}; {peak} bytes besides an input of {len(text)}")
+    return good
+
+
+class Refusing:
+    """The library, that is refused memory when it opens a scanner, or in the second batch of tokens."""
+
+    def __init__(self, library, in_open):
+        self.library, self.in_open, self.count = library, in_open, 0
+
+    def __getattr__(self, name):
+        return getattr(self.library, name)
+
+    def bogzhami_open(self, *words):
+        return 3 if self.in_open else self.library.bogzhami_open(*words)
+
+    def bogzhami_next(self, *words):
+        self.count += 1
+        if self.count != 2:
+            return self.library.bogzhami_next(*words)
+        answer = words[-1]._obj
+        answer.token_count = answer.text_len = answer.problem_len = answer.context_len = 0
+        answer.error = 1
+        return 1
+
+
+def try_memory():
+    """Memory that is refused, as the library tells it."""
+    usual, found = held.LIBRARY, []
+    for in_open in (True, False):
+        held.LIBRARY = Refusing(usual, in_open)
+        try:
+            for token in bogzhami.scan("- a\n" * 1000):
+                found.append(token)
+        except MemoryError:
+            found.append("refused")
+    held.LIBRARY = usual
+    good = found[0] == found[-1] == "refused" and len(found) == held.BATCH + 2
+    print(f"python: memory refused at once and after {len(found) - 2} tokens: {'as it is' if good else 'wrong'}")
+    return good
+
+
+def try_threads():
+    """Threads that scan at once, and threads that use one scanner."""
+    texts = [realistic(30_000, seed).encode() for seed in range(8)]
+    with ThreadPoolExecutor(max_workers=8) as pool:
+        same = list(pool.map(lambda text: list(bogzhami.scan(text)), texts)) == [list(bogzhami.scan(text)) for text in texts]
+    shared, taken = held.Held(texts[0], 0, 1024), []
+
+    def take():
+        while isinstance(batch := shared.next(), held.Batch):
+            taken.append(batch)
+
+    threads = [threading.Thread(target=take) for _ in range(8)]
+    for thread in threads:
+        thread.start()
+    for thread in threads:
+        thread.join()
+    tokens = sorted(token for batch in taken for token in bogzhami._tokens_of(batch))
+    good = same and tokens == sorted(bogzhami.scan(texts[0]))
+    print(f"python: {len(texts)} threads at once, and on one scanner: {'the same tokens' if good else 'wrong'}")
+    return good
+
+
+def try_places(room):
+    """The library beside the module, by its name, and where there is none."""
+    copy, libraries = os.path.join(room, "bogzhami"), os.path.join(room, "libraries")
+    shutil.copytree(os.path.join(FOLDER, "bogzhami"), copy, ignore=shutil.ignore_patterns("__pycache__"))
+    os.mkdir(libraries)
+    environment = {**ENVIRONMENT, "PYTHONPATH": room}
+    del environment["BOGZHAMI_LIBRARY"]
+    wanted = "".join(line + "\n" for line in lines_of(b"a: 1", ["any"])), 0
+    none = module(["bogzhami"], b"a: 1", env=environment)[1]
+    named = module(["bogzhami"], b"a: 1", env={**environment, "BOGZHAMI_LIBRARY": os.path.join(room, "none")})[1]
+    shutil.copy(LIBRARY, os.path.join(libraries, "libbogzhami.so.0"))
+    by_name = module(["bogzhami"], b"a: 1", env={**environment, "LD_LIBRARY_PATH": libraries})
+    shutil.copy(LIBRARY, os.path.join(copy, "libbogzhami.so"))
+    beside = module(["bogzhami"], b"a: 1", env=environment)
+    good = beside == by_name == wanted and named == 1
+    found = "found" if good else "wrong"
+    print(f"python: the library named, beside the module and by its name: {found}; without one: status {none}")
+    return good
+
+
+def try_example():
+    """The programs of README.md, with what it says that they print."""
+    with open(os.path.join(FOLDER, "README.md"), encoding="utf-8") as text:
+        blocks = re.findall(r"```python\n(.*?)```\s+prints\s+```\n(.*?)```", text.read(), re.S)
+    python = python_that_can(C_LOADER) or sys.executable
+    wrong = []
+    for code, wanted in blocks:
+        if "yaml" in code.split() and not can(python, C_LOADER):
+            continue
+        done = subprocess.run([python, "-c", code], env=ENVIRONMENT, capture_output=True, text=True, timeout=60)
+        if done.stdout != wanted:
+            wrong.append((code, done.stdout, done.stderr))
+    print(f"python: {len(blocks)} programs of README.md, {len(wrong)} wrong {wrong or ''}")
+    return not wrong and len(blocks) >= 2
+
+
+def every_input():
+    """Each input of the repository's texts and vectors that PyYAML can be given: bytes, and text."""
+    seen = set()
+    written = [(0, text.encode()) for text in DOCUMENTS]
+    for setting, data in [*written, *yaml_files(), *long_texts(), *batch_ends(), *settings_and_inputs(), *more_vectors()]:
+        kinds = [data] if setting == 0 else []
+        try:
+            kinds.append(data.decode(CODECS[setting] or "utf-8"))
+        except UnicodeDecodeError:
+            pass
+        for given in kinds:
+            if given not in seen:
+                seen.add(given)
+                yield given
+
+
+def more_vectors():
+    """Setting and input of each row of decode.txt, and the texts of lexemes.txt."""
+    settings = ["any", "utf8", "utf16le", "utf16be"]
+    with open(os.path.join(HERE, "vectors", "decode.txt"), encoding="ascii") as lines:
+        for words, data, _ in (line.split("\t") for line in lines):
+            yield settings.index(words.split(" ")[1]), bytes.fromhex(data.strip("-"))
+    with open(os.path.join(HERE, "lexemes.txt"), encoding="ascii") as lines:
+        for line in lines:
+            yield 0, bytes.fromhex(line.split("\t")[0].split(" ")[-1].strip("-"))
+
+
+def try_tokens(every):
+    """Tokens and marks beside those of PyYAML's C loader."""
+    seen, wrong = collections.Counter(), []
+    for given in every:
+        names = loading.difference(given, pyyaml.BaseLoader)
+        seen.update(names or ["same"])
+        if names == ["wrong"]:
+            wrong.append(given[:200])
+    found = ", ".join(f"{seen[name]} {name}" for name in ["same", *loading.DIFFERENCES])
+    print(f"python: tokens of {len(every)} inputs beside PyYAML's C loader: {found}; {len(wrong)} wrong {wrong[:3] or ''}")
+    return not wrong and all(seen[name] for name in loading.DIFFERENCES) and seen["same"] > len(every) // 2
+
+
+def shown(given, loader):
+    """Index, pointer and what stands there of each mark, and what the error shows of its line."""
+    found = []
+    try:
+        for token in yaml.scan(given, Loader=loader):
+            marks = token.start_mark, token.end_mark
+            found += [(mark.name, mark.index, mark.pointer, mark.buffer[mark.pointer :][:9]) for mark in marks]
+    except yaml.MarkedYAMLError as error:
+        found.append(error.problem_mark.get_snippet())
+    return found
+
+
+def try_own_scanner(every):
+    """Marks beside those of PyYAML's own scanner: all parts of them where tokens are the same, and ends of open last lines."""
+    seen, wrong = collections.Counter(), []
+    for given in every:
+        text = loading.text_of(given)
+        if "\ufeff" in text or len(text) != len(given):  # which it counts as a character, and not as a column
+            continue
+        ours, own = loading.tokens(given, pyyaml.BaseLoader), loading.tokens(given, yaml.BaseLoader)
+        kinds = [one[0] for one in ours]
+        if ours == own:
+            seen["same"] += 1
+            if shown(given, pyyaml.BaseLoader) != shown(given, yaml.BaseLoader):
+                wrong.append(given)
+        elif kinds == [one[0] for one in own]:
+            seen["others"] += 1
+        if kinds == [one[0] for one in own] and kinds[-1] == "StreamEndToken" and loading.last_place(text)[2]:
+            seen["open ends"] += 1
+            if [one for one in zip(ours, own) if one[0][0] in ("BlockEndToken", "StreamEndToken") and one[0] != one[1]]:
+                wrong.append(given)
+    found = ", ".join(f"{count} {name}" for name, count in seen.items())
+    print(f"python: tokens beside PyYAML's own scanner: {found}; {len(wrong)} wrong {wrong[:3] or ''}")
+    return not wrong and seen["same"] > 1000 and seen["open ends"] > 200
+
+
+def node_parts(node):
+    """A node as a tuple: tag, marks, style, and value."""
+    marks = loading.place(node.start_mark), loading.place(node.end_mark)
+    if isinstance(node, yaml.ScalarNode):
+        return node.tag, marks, node.style, node.value
+    pairs = node.value if isinstance(node, yaml.MappingNode) else [(one,) for one in node.value]
+    return node.tag, marks, node.flow_style, [list(map(node_parts, pair)) for pair in pairs]
+
+
+def composed(given, loader):
+    try:
+        return [repr(node_parts(node)) for node in yaml.compose_all(given, Loader=loader)]
+    except (yaml.YAMLError, RecursionError) as error:
+        return [loading.error_parts(error)]
+
+
+def long_way():
+    """The loader without short cuts, under PyYAML's own parser and composer."""
+    from yaml.composer import Composer
+    from yaml.constructor import SafeConstructor
+    from yaml.parser import Parser
+    from yaml.resolver import Resolver
+
+    class LongWay(pyyaml.Scanning, Parser, Composer, SafeConstructor, Resolver):
+        def __init__(self, stream):
+            for part in (Parser, Composer, SafeConstructor, Resolver):
+                part.__init__(self)
+            pyyaml.Scanning.__init__(self, stream)
+
+    return LongWay
+
+
+def try_events(every):
+    """Events and nodes beside those of PyYAML's own parser and composer over the same scanner, with no short cut."""
+    plain, wrong, count = long_way(), [], collections.Counter()
+    for given in every:
+        events = loading.listed(yaml.parse, given, plain)
+        count["events"] += len(events)
+        if loading.listed(yaml.parse, given, pyyaml.SafeLoader) != events:
+            wrong.append(given)
+        nodes = composed(given, plain)
+        count["documents"] += len(nodes)
+        if composed(given, pyyaml.SafeLoader) != nodes:
+            wrong.append(given)
+    print(f"python: {count['events']} events and {count['documents']} documents the long way, {len(wrong)} wrong {wrong[:3] or ''}")
+    return not wrong and count["events"] > 5000
+
+
+def loaded(given, loader):
+    """The documents in words, and the class of the error that ends them if there is one."""
+    found = []
+    try:
+        found.extend(map(repr, yaml.load_all(given, Loader=loader)))
+    except (yaml.YAMLError, ValueError, TypeError) as error:
+        return type(error).__name__
+    return found
+
+
+def try_values(every):
+    """What is loaded, where the C loader has the same tokens: the same as by it, or by PyYAML's own loader."""
+    pairs = [(pyyaml.BaseLoader, yaml.CBaseLoader, yaml.BaseLoader), (pyyaml.SafeLoader, yaml.CSafeLoader, yaml.SafeLoader)]
+    pairs.append((pyyaml.FullLoader, yaml.CFullLoader, yaml.FullLoader))
+    seen, wrong = collections.Counter(), []
+    for number, given in enumerate(every):
+        if set(loading.difference(given, pyyaml.BaseLoader)) - {"open end", "spelling"}:
+            continue
+        for loader, c_loader, own_loader in pairs if number % 4 == 0 else pairs[1:2]:
+            value = loaded(given, loader)
+            if value == loaded(given, c_loader):
+                seen["C"] += 1
+            elif value == loaded(given, own_loader):
+                seen["own"] += 1
+            elif any(one[0] == "TagToken" and one[3]["value"] == (None, "!") for one in loading.tokens(given, loader)):
+                seen["!"] += 1  # of an empty scalar with this tag libyaml's parser makes "", and PyYAML's None
+            else:
+                wrong.append(given)
+    found = f"{seen['C']} as by PyYAML's C loaders, {seen['own']} as by its own alone, {seen['!']} with a tag `!` as by neither"
+    print(f"python: values: {found}, {len(wrong)} wrong {wrong[:3] or ''}")
+    return not wrong and seen["C"] > 3000 and seen["own"] + seen["!"] < seen["C"] // 100
+
+
+def told_by(given, loader):
+    try:
+        list(yaml.load_all(given, Loader=loader))
+    except yaml.YAMLError as error:
+        return str(error)
+    return None
+
+
+class Slow(io.RawIOBase):
+    """A file that gives a few characters at a time."""
+
+    def __init__(self, data):
+        self.data, self.name = data, "slow"
+
+    def read(self, size):
+        data, self.data = self.data[: min(size, 3)], self.data[min(size, 3) :]
+        return data
+
+
+def with_path(kind):
+    """A loader with a resolver that looks at paths, and a constructor of its own."""
+
+    class WithPath(kind):
+        pass
+
+    WithPath.add_path_resolver("!own", ["a", 0], str)
+    WithPath.add_constructor("!own", lambda loader, node: node.value)
+    return WithPath
+
+
+def try_errors():
+    """Exceptions in words, files, an error that is asked for again, tokens before an error, and a stream's start."""
+    wrong = [(given, told_by(given, pyyaml.SafeLoader)) for given, text in ERRORS if told_by(given, pyyaml.SafeLoader) != text]
+    loader = pyyaml.SafeLoader("- a\n- @")
+    before = [type(loader.get_token()).__name__ for _ in range(5)]
+    again = [refuses(yaml.scanner.ScannerError, loader.get_token) for _ in range(3)]
+    loader.dispose()
+    text = "- é\n- b"
+    files = [yaml.load(Slow(data), Loader=pyyaml.SafeLoader) for data in (text, text.encode(), text.encode("utf-16"))]
+    inputs = ["a", b"a", b"\xff\xfea\0", b"\xfe\xff\0a", Slow("a"), Slow(b"a")]
+    starts = [next(yaml.scan(given, Loader=pyyaml.BaseLoader)).encoding for given in inputs]
+    told = told_by(Slow("a: b: c"), pyyaml.SafeLoader)
+    mark = next(yaml.scan("é: a", Loader=pyyaml.BaseLoader)).start_mark
+    mark.name = "other"
+    checks = [
+        before == ["StreamStartToken", "BlockSequenceStartToken", "BlockEntryToken", "ScalarToken", "BlockEntryToken"],
+        all(again) and loader.get_token() is None and not loader.check_token(),
+        files == [["é", "b"]] * 3,
+        starts == [None, "utf-8", "utf-16-le", "utf-16-be", None, "utf-8"],
+        str(pickle.loads(pickle.dumps(mark))) == str(mark),
+        told == 'mapping values are not allowed in this context\n  in "slow", line 1, column 5',
+        mark.name == "other" and isinstance(mark, yaml.Mark) and str(mark).startswith('  in "other", line 1, column 1:'),
+        [yaml.load(given, Loader=pyyaml.SafeLoader) for given in ("", b"", "\ufeff")] == [None] * 3,
+        [type(one).__name__ for one in yaml.scan("", Loader=pyyaml.SafeLoader)] == ["StreamStartToken", "StreamEndToken"],
+        [type(one).__name__ for one in yaml.scan("%FOO x\n--- a", Loader=yaml.SafeLoader)][1] == "DirectiveToken",
+        composed("a: [b, {c: d}]", with_path(pyyaml.SafeLoader)) == composed("a: [b, {c: d}]", with_path(yaml.SafeLoader)),
+    ]
+    found = f"{len(wrong)} wrong {wrong or ''}; {checks.count(False)} of {len(checks)} other checks wrong"
+    print(f"python: {len(ERRORS)} exceptions of PyYAML, {found}")
+    return not wrong and all(checks)
+
+
+def places_of(messages):
+    """The messages, without the words of a syntax error."""
+    return [one[:3] if len(one) == 4 and one[2] is None else one for one in messages]
+
+
+def try_yamllint(every, room):
+    """yamllint's messages where both scanners give the same tokens, and its program on a file."""
+    python = python_that_can(YAMLLINT)
+    if python is None:
+        print("python: yamllint skipped: there is none")
+        return True
+    texts = [given for given in every if isinstance(given, str) and len(given) < 100_000]
+    texts = texts[:40] + texts[40::8]
+    asked = b"".join(b"%d\n%s" % (len(text.encode()), text.encode()) for text in texts)
+    words = [python, os.path.join(HERE, "lib", "linting.py"), FOLDER]
+    told = subprocess.run(words, input=asked, capture_output=True, check=True, env=ENVIRONMENT, timeout=600).stdout
+    answers = [json.loads(line) for line in told.splitlines()]
+    same = sum(own == ours for own, ours, _ in answers)
+    words = sum(own != ours and places_of(own) == places_of(ours) for own, ours, _ in answers)
+    wrong = [text for text, (own, ours, is_same) in zip(texts, answers) if is_same and own != ours]
+    path = os.path.join(room, "lint.yaml")
+    with open(path, "w", encoding="utf-8") as out:
+        out.write("a:  1\nb: [é,2 ] #c\n\n\n\nb: 'd'   ")
+    commands = [[python, "-m", name, "-f", "parsable", path] for name in ("yamllint", "bogzhami.yamllint")]
+    runs = [subprocess.run(words, env=ENVIRONMENT, capture_output=True, text=True, timeout=60) for words in commands]
+    is_same = (runs[0].stdout, runs[0].returncode) == (runs[1].stdout, runs[1].returncode) and runs[0].stdout.count("\n") > 6
+    same_tokens = sum(one[2] for one in answers)
+    found = f"{same} the same messages, {words} other words, {same_tokens} the same tokens"
+    print(f"python: yamllint on {len(texts)} texts: {found}, {len(wrong)} wrong {wrong[:3] or ''}")
+    return not wrong and is_same and len(answers) == len(texts) and same_tokens > 500
+
+
+def try_pyyaml():
+    if not can(sys.executable, C_LOADER):
+        print("python: PyYAML skipped: there is none with its C loader")
+        return True
+    global loading, pyyaml, yaml
+    import loading
+    import yaml
+    from bogzhami import pyyaml
+
+    every = list(every_input())
+    some = every[:100] + every[100::6]
+    return all([try_tokens(every), try_own_scanner(some), try_events(some), try_values(some), try_errors()])
+
+
+def main():
+    global bogzhami, held, main_module
+    if shutil.which("cc") is None:
+        print("python: skipped: no C compiler")
+        return 0
+    build_library()
+    if not can(sys.executable, C_LOADER) and can(DEBIAN, C_LOADER):
+        return subprocess.call([DEBIAN, __file__, *sys.argv[1:]], env={**os.environ, "LIBRARY_IS_BUILT": "1"})
+    os.environ["BOGZHAMI_LIBRARY"] = LIBRARY
+    import bogzhami
+    import bogzhami.__main__ as main_module
+    from bogzhami import held
+
+    with tempfile.TemporaryDirectory() as room:
+        good = [
+            try_listings(sys.argv[1] if len(sys.argv) > 1 else None),
+            try_faults(),
+            try_settings(),
+            try_ends(),
+            try_memory(),
+            try_threads(),
+            try_places(room),
+            try_example(),
+            try_pyyaml(),
+            try_yamllint(list(every_input()), room),
+        ]
+    return 0 if all(good) else 1
+
+
+if __name__ == "__main__":
+    sys.exit(main())

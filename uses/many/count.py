@@ -1,0 +1,187 @@
+"""Counts the tokens of YAML files and tells the fault of each: what a worker of check.py runs. Standard library only.
+
+Counter(library).count(data) returns how many tokens an input has, and its fault as a line of text, or None. scan_part does so
+for the files and the members of archives of a part, and makes a line for each.
+"""
+
+import collections
+import ctypes
+import os
+import re
+import stat
+import tarfile
+import zlib
+from ctypes import byref, c_bool, c_int32, c_size_t, c_uint32, c_uint64, c_void_p
+
+BATCH = 1024  # tokens a call
+TOKEN_WORDS = 11  # a record of a token has 88 bytes
+FIRST_TEXTS = 65536
+KEY_LIMIT = 1024
+ANY_ENCODING = 0
+DONE, FAULT, NO_MEMORY, OVER, NO_ROOM = 0, 1, 3, 4, 5
+READER_ERROR, SCANNER_ERROR = 2, 3
+BREAK = re.compile("\r\n|[\r\n\x85\u2028\u2029]")
+# What tarfile and its decompressors raise for an archive that is damaged. lzma and bz2 may be missing from a Python.
+DAMAGED = (tarfile.TarError, EOFError, zlib.error, ValueError)
+try:
+    from lzma import LZMAError
+    DAMAGED += (LZMAError,)
+except ImportError:
+    pass
+
+# A file, if `member` is None. A member of an archive that is not compressed, with its place. An archive whose members are
+# read one after the other, if `size` is None.
+Entry = collections.namedtuple("Entry", "path member at size")
+# The lines of a part, and how many files, tokens, bytes, faults and unread files they have.
+Part = collections.namedtuple("Part", "lines files tokens bytes faults unread")
+
+
+class Mark(ctypes.Structure):
+    _fields_ = [("index", c_uint64), ("line", c_uint64), ("column", c_uint64)]
+
+
+class Answer(ctypes.Structure):
+    _fields_ = [
+        ("token_count", c_uint64), ("text_len", c_uint64), ("error", c_uint32), ("problem_value", c_int32),
+        ("problem_offset", c_uint64), ("problem_mark", Mark), ("context_mark", Mark),
+        ("problem_len", c_uint64), ("context_len", c_uint64),
+    ]
+
+
+class Handle(ctypes.Structure):
+    _fields_ = [("live", c_bool), ("held", c_void_p)]
+
+
+def place(line, column):
+    """A line and a column, which the scanner counts from 0, as editors show them."""
+    return f"{line + 1}:{column + 1}"
+
+
+def place_of_offset(data, offset):
+    """Where in the text a byte of the input is."""
+    encoding = {b"\xff\xfe": "utf-16-le", b"\xfe\xff": "utf-16-be"}.get(data[:2], "utf-8")
+    text = data[:offset].decode(encoding, "ignore").removeprefix("\ufeff")
+    ends = [found.end() for found in BREAK.finditer(text)]
+    return place(len(ends), len(text) - (ends[-1] if ends else 0))
+
+
+class Counter:
+    """Counts with a library. Its rooms are used again for every batch and input, so it is for one thread at a time."""
+
+    def __init__(self, path):
+        library = ctypes.CDLL(path)
+        self.open, self.next, self.close = library.bogzhami_open, library.bogzhami_next, library.bogzhami_close
+        self.open.argtypes = [c_void_p, c_void_p, c_size_t, c_uint32, c_uint32]
+        self.next.argtypes = [c_void_p, c_void_p, c_size_t, c_void_p, c_size_t, c_void_p, c_size_t, c_void_p]
+        self.close.argtypes = [c_void_p]
+        self.open.restype = self.next.restype = self.close.restype = c_uint32
+        self.tokens = (c_uint64 * (TOKEN_WORDS * BATCH))()
+        self.texts = ctypes.create_string_buffer(FIRST_TEXTS)
+        self.answer = Answer()
+
+    def count(self, data):
+        """How many tokens an input has before its end or its fault, and the fault, or None."""
+        handle, answer, tokens = Handle(), self.answer, 0
+        status = self.open(byref(handle), data, len(data), ANY_ENCODING, KEY_LIMIT)
+        try:
+            while status == DONE:
+                status = self.next(byref(handle), data, len(data), self.tokens, BATCH, self.texts, len(self.texts), byref(answer))
+                tokens += answer.token_count
+                if status == NO_ROOM:
+                    self.texts = ctypes.create_string_buffer(answer.text_len)
+                    status = DONE
+        finally:
+            self.close(byref(handle))
+        return tokens, None if status == OVER else self.fault(status, data)
+
+    def fault(self, status, data):
+        """The fault of the last answer: where it is, what is wrong, and what was being read."""
+        answer = self.answer
+        if status == NO_MEMORY or status == FAULT and answer.error not in (READER_ERROR, SCANNER_ERROR):
+            raise MemoryError("memory was refused")
+        if status != FAULT:
+            raise RuntimeError(f"the library returned {status}")
+        words = self.texts[answer.text_len : answer.text_len + answer.problem_len + answer.context_len].decode("utf-8", "replace")
+        problem, context = words[: answer.problem_len], words[answer.problem_len :]
+        if answer.error == READER_ERROR:
+            return f"{place_of_offset(data, answer.problem_offset)}: {problem} (byte {answer.problem_offset + 1} of the file)"
+        start = f", {context} that starts at {place(answer.context_mark.line, answer.context_mark.column)}" if context else ""
+        return f"{place(answer.problem_mark.line, answer.problem_mark.column)}: {problem}{start}"
+
+
+def read_file(path):
+    with open(os.open(path, os.O_RDONLY | os.O_NONBLOCK | os.O_CLOEXEC), "rb", buffering=0) as file:
+        if not stat.S_ISREG(os.fstat(file.fileno()).st_mode):
+            raise OSError("it is no regular file")
+        return file.readall()
+
+
+def read_member(entry, path):
+    with open(path, "rb", buffering=0) as archive:
+        archive.seek(entry.at)
+        data = archive.read(entry.size)
+    if len(data) != entry.size:
+        raise OSError("the archive ends in it")
+    return data
+
+
+def member_name(path, member):
+    return path + b":" + os.fsencode(member)
+
+
+def members(entry, path):
+    """The name of each member of an archive that is read from its beginning, with its bytes. It may raise one of DAMAGED."""
+    with tarfile.open(path, "r|*") as archive:
+        for member in archive:
+            if member.isreg():
+                yield member_name(entry.path, member.name), archive.extractfile(member).read()
+
+
+def inputs(entry, folder):
+    """The name and the bytes of what an entry names, or what keeps it from being read, as an exception."""
+    path, name = os.path.join(folder, entry.path), entry.path
+    try:
+        if entry.size is None:
+            yield from members(entry, path)
+        elif entry.member is None:
+            yield name, read_file(path)
+        else:
+            name = member_name(entry.path, entry.member)
+            yield name, read_member(entry, path)
+    except (OSError, MemoryError, *DAMAGED) as wrong:
+        yield name, wrong
+
+
+def line(name, *cells):
+    """A line with tabs between its cells; a tab or a line feed of the name is written as in C."""
+    name = name.replace(b"\t", b"\\t").replace(b"\n", b"\\n")
+    return name + "".join(f"\t{cell}" for cell in cells).encode() + b"\n"
+
+
+def unread_line(name, why):
+    return line(name, "-", "-", f"not read: {why}")
+
+
+def joined(parts):
+    """One part of several, in their order."""
+    lines, *counts = zip(*parts)
+    return Part(b"".join(lines), *map(sum, counts))
+
+
+def scan_input(counter, name, data):
+    """The part that is this one input."""
+    try:
+        if isinstance(data, Exception):
+            raise data
+        tokens, fault = counter.count(data)
+    except (OSError, MemoryError, *DAMAGED) as wrong:
+        why = getattr(wrong, "strerror", None) or str(wrong) or "out of memory"
+        return Part(unread_line(name, why), 1, 0, 0, 0, 1)
+    return Part(line(name, tokens, len(data), fault or "-"), 1, tokens, len(data), 1 if fault else 0, 0)
+
+
+def scan_part(library, folder, entries):
+    """Scans what the entries name; their paths are from the folder."""
+    counter = Counter(library)
+    found = [scan_input(counter, name, data) for entry in entries for name, data in inputs(entry, folder)]
+    return joined([Part(b"", 0, 0, 0, 0, 0), *found])
