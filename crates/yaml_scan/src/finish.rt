@@ -1,11 +1,11 @@
 //! What comes after a lexeme was read: the step may have to stop, or the lexeme is laid.
-ghost use Rattle.std.specs.Prelude.{ℕ, ◌≡◌, false, not, List, []};
+ghost use Rattle.std.specs.Prelude.{ℕ, ◌≡◌, false, not, List, [], MatchResult};
 ghost use Rattle.yaml_lexeme.specs.Lexeme.{lexeme_of};
 ghost use Rattle.yaml_lexeme.specs.Place.{IsMarkOf};
 ghost use Rattle.yaml_scan.specs.Laid.{Laid};
 ghost use Rattle.yaml_scan.specs.Kind.{is_stream_end};
 ghost use Rattle.yaml_scan.specs.inside.Handed.{LaysTo, StepsTo, made_by};
-ghost use Rattle.yaml_scan.specs.inside.Scanning.{CanLayAll, CanRead, IsDecided, IsReadIn, IsStep};
+ghost use Rattle.yaml_scan.specs.inside.Scanning.{CanLayAll, CanRead, IsDecided, IsReadIn, IsStep, Refuses};
 ghost use Rattle.yaml_scan.specs.inside.TextReads.{IsRead};
 
 use crate::decided::{decided_by, lay_decided};
@@ -17,7 +17,7 @@ use crate::look::{root_after, step_t};
 use crate::scanner::scanner_t;
 use crate::sink::yaml_token_sink_t;
 use crate::source::decider_t;
-use crate::stop::{stop_behind, stop_in_lexeme};
+use crate::stop::{stop_after, stop_in_lexeme};
 use crate::target::{hand_on, no_sink_t};
 use yaml_lexeme::{yaml_lexeme_kind_t, yaml_lexeme_t, yaml_refusal_t};
 
@@ -103,9 +103,38 @@ fn lay_all<const DIRECT: bool, S: yaml_token_sink_t>(
     }
 }
 
-/// Ends a step with the lexeme that was read. Stops if it is near the reader's fault, or a candidate is lost.
+/// Stops if the lexeme of a step, which was read, reaches near the reader's fault, or if a candidate is lost there.
 #[inline(always)]
-pub(crate) fn end_step<const DIRECT: bool, S: yaml_token_sink_t>(
+fn check_reach(
+    scanner: &mut scanner_t,
+    margin: bool,
+    step: step_t,
+    lexeme: &yaml_lexeme_t,
+) -> Result<(), stop_t>
+    ghost before: { List Laid }
+    requires { CanRead before scanner.old margin step × ((p : ℕ) → IsMarkOf scanner.old.text.chars scanner.old.front p
+        → IsRead scanner.old.text.chars step.kind step.context.depth step.context.level p (lexeme_of lexeme.now)) }
+    ensures { MatchResult result
+        (λ _. (scanner.new ≡ scanner.old) × CanLayAll before scanner.old margin step (lexeme_of lexeme.now))
+        (λ stop. Refuses before scanner.old scanner.new stop) }
+{
+    let reach = lexeme.reach;
+    let lost = is_lost(
+        root_after(scanner, margin, step),
+        scanner.limit,
+        reach,
+    );
+    if scanner.near <= reach.index || lost {
+        scanner.there = reach;
+        return Err(stop_after(scanner, margin, step.kind, step.allowed));
+    }
+    Ok(())
+}
+
+/// Ends a step with a lexeme of one character, which was read. What comes after it decides nothing. Stops if it is near
+/// the reader's fault, or a candidate is lost.
+#[inline(always)]
+pub(crate) fn end_character<const DIRECT: bool, S: yaml_token_sink_t>(
     scanner: &mut scanner_t,
     sink: &mut S,
     margin: bool,
@@ -118,20 +147,41 @@ pub(crate) fn end_step<const DIRECT: bool, S: yaml_token_sink_t>(
     ensures { StepsTo before scanner.old scanner.new DIRECT (λ tokens. S.took sink.old tokens sink.new) S.may_refuse
         result }
 {
-    let lost = is_lost(
-        root_after(scanner, margin, step),
-        scanner.limit,
-        lexeme.reach,
-    );
-    if scanner.near <= lexeme.reach.index || lost {
-        scanner.there = lexeme.reach;
-        return Err(stop_behind(scanner, margin, step.kind, step.allowed));
+    match check_reach(scanner, margin, step, &lexeme) {
+        Ok(_) => match put_lexeme::<DIRECT, S>(scanner, sink, margin, step, lexeme) {
+            Ok(_) => {
+                scanner.made += 1;
+                Ok(())
+            }
+            Err(stop) => Err(stopped(stop)),
+        },
+        Err(stop) => Err(stopped(stop)),
     }
-    match lay_all::<DIRECT, S>(scanner, sink, margin, step, lexeme) {
-        Ok(made) => {
-            scanner.made += made;
-            Ok(())
-        }
+}
+
+/// Ends a step with the lexeme that was read. Stops if it is near the reader's fault, or a candidate is lost.
+#[inline(always)]
+fn end_step<const DIRECT: bool, S: yaml_token_sink_t>(
+    scanner: &mut scanner_t,
+    sink: &mut S,
+    margin: bool,
+    step: step_t,
+    lexeme: yaml_lexeme_t,
+) -> Result<(), stop_t>
+    ghost before: { List Laid }
+    requires { CanRead before scanner.old margin step × ((p : ℕ) → IsMarkOf scanner.old.text.chars scanner.old.front p
+        → IsRead scanner.old.text.chars step.kind step.context.depth step.context.level p (lexeme_of lexeme)) }
+    ensures { StepsTo before scanner.old scanner.new DIRECT (λ tokens. S.took sink.old tokens sink.new) S.may_refuse
+        result }
+{
+    match check_reach(scanner, margin, step, &lexeme) {
+        Ok(_) => match lay_all::<DIRECT, S>(scanner, sink, margin, step, lexeme) {
+            Ok(made) => {
+                scanner.made += made;
+                Ok(())
+            }
+            Err(stop) => Err(stopped(stop)),
+        },
         Err(stop) => Err(stopped(stop)),
     }
 }

@@ -8,7 +8,7 @@ ghost use Rattle.yaml_scan.specs.inside.Scanning.{CanStep, Comes, IsStep};
 
 use crate::begin::begin_step;
 use crate::fault::{stop_t, stopped};
-use crate::finish::{end_queued, end_read, end_step};
+use crate::finish::{end_character, end_queued, end_read};
 use crate::keys::{is_lost, root_at};
 use crate::scanner::scanner_t;
 use crate::sink::yaml_token_sink_t;
@@ -108,7 +108,7 @@ fn step_character<const DIRECT: bool, S: yaml_token_sink_t>(
     match begin_step(scanner, margin, kind) {
         Ok(step) => {
             let lexeme = read_character(scanner, kind);
-            end_step::<DIRECT, S>(scanner, sink, margin, step, lexeme)
+            end_character::<DIRECT, S>(scanner, sink, margin, step, lexeme)
         }
         Err(stop) => Err(stopped(stop)),
     }

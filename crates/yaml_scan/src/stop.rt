@@ -11,7 +11,7 @@ ghost use Rattle.yaml_scan.specs.Laid.{Laid};
 ghost use Rattle.yaml_scan.specs.SourceOf.{source_of};
 ghost use Rattle.yaml_scan.specs.Step.{front_of};
 ghost use Rattle.yaml_scan.specs.inside.Slots.{lost_held, root_of};
-ghost use Rattle.yaml_scan.specs.inside.Scanning.{CanRead, CanStep, Comes, Ends, IsBehind, IsReadIn, Offends};
+ghost use Rattle.yaml_scan.specs.inside.Scanning.{CanRead, CanStep, Comes, Ends, StopsAfter, IsReadIn, Offends};
 ghost use Rattle.yaml_scan.specs.inside.Scanning.{Passes, Refuses};
 ghost use Rattle.yaml_scan.specs.inside.Scanning.{allowed_in, cleared_in, refused_in};
 
@@ -189,14 +189,14 @@ pub(crate) fn stop_in_lexeme(
 
 /// Stops after a lexeme that was read: near the reader's fault, or since a candidate is lost there.
 #[cold]
-pub(crate) fn stop_behind(
+pub(crate) fn stop_after(
     scanner: &mut scanner_t,
     margin: bool,
     kind: yaml_lexeme_kind_t,
     allowed: bool,
 ) -> stop_t
     ghost before: { List Laid }
-    requires { (step : step_t) × (lexeme : yaml_lexeme_t) × IsBehind before scanner.old margin step lexeme
+    requires { (step : step_t) × (lexeme : yaml_lexeme_t) × StopsAfter before scanner.old margin step lexeme
         × (step.kind ≡ kind) × (step.allowed ≡ allowed) }
     ensures { Refuses before scanner.old scanner.new result }
 {

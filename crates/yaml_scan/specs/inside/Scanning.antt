@@ -218,7 +218,7 @@ IsReadIn s k x there (Err r) = (p : ℕ) → IsMarkOf s.text.chars s.front p
     → (r ≡ MEMORY) ⊎ IsOffence s.text.chars k x.depth x.level p (refused_at k s.front there r)
 
 -- A step has to stop after the lexeme x, which was read to `there`.
-pub record IsBehind (H : List Laid) (s : scanner_t) (margin : Bool) (r : step_t) (x : yaml_lexeme_t) : Type 0 where
+pub record StopsAfter (H : List Laid) (s : scanner_t) (margin : Bool) (r : step_t) (x : yaml_lexeme_t) : Type 0 where
   pub can : CanRead H s margin r
   pub read : IsRead s.text.chars r.kind (vec_len s.slots.outer) r.context.level (front_of (text_of s) H) x
   pub there : s.there ≡ x.reach

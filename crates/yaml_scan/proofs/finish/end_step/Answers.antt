@@ -1,39 +1,12 @@
-use Rattle.std.proofs.Common.{◌⊎◌, ◌≤◌, ◌≡◌, ◌∙◌, ℕ, refl, ap, sym, subst, inl, inr, true, Option}
-use Rattle.std.specs.Option.{is_some}
-use Rattle.yaml_lexeme.specs.Lexeme.{lexeme_of}
-use Rattle.yaml_scan.specs.SourceOf.{source_of}
-use Rattle.yaml_scan.specs.Step.{front_of}
-use Rattle.yaml_scan.specs.inside.Scanning.{lost_after, met_in}
-use Rattle.yaml_scan.specs.inside.Slots.{Held, lost_held}
-use Rattle.yaml_scan.specs.inside.TextReads.{IsRead}
-use Rattle.yaml_scan.proofs.RunningStep.StepMoves.{cut_all, read_in, steps_all}
+use Rattle.std.proofs.Common.{inl}
+use Rattle.yaml_scan.proofs.RunningStep.StepMoves.{cut_all, steps_all}
 use Rattle.yaml_scan.proofs.finish.end_step.Goals as goal
-use Rattle.yaml_scan.proofs.finish.end_step.Goals.{then-scanner-lexeme-via-then-scanner-lexeme, then-scanner-lexeme-via-else-scanner-lexeme+then-lost}
 
-pub stop_behind-requires : goal.stop_behind-requires
-stop_behind-requires g c =
-    let s = c.args.scanner.now in
-    let q = c.args.step in
-    let x = lexeme_of c.args.lexeme in
-    let can = c.requires.1.1.0 in
-    let stops : (s.near ≤ x.reach.index) ⊎ (is_some (lost_after s.limit s.slots (met_in s q) q.new x.reach) ≡ true) = elim c.then-scanner-lexeme.branch [
-      | then-scanner-lexeme-via-then-scanner-lexeme w ↦ inl (w.if-scanner-lexeme.true)
-      | then-scanner-lexeme-via-else-scanner-lexeme+then-lost w ↦ inr (ap (λ (o : Option Held). is_some (lost_held s.limit x.reach o)) (sym c.root_after.ensures) ∙ sym c.is_lost-lost.ensures ∙ w.if-lost.true)
-    ] in (
-      q,
-      x,
-      record {
-        can = read_in g.before s c.args.margin q x.reach can;
-        read = subst (λ (d : ℕ). IsRead s.text.chars q.kind d q.context.level (front_of (source_of s.text.chars) g.before) x) can.depth (c.requires.1.1.1 (front_of (source_of s.text.chars) g.before) can.met.front);
-        there = refl;
-        stops = stops;
-      },
-      refl,
-      refl,
-    )
+pub returns-in-Ok-lay_all : goal.returns-in-Ok-lay_all
+returns-in-Ok-lay_all g c = rw (← c.in-Ok.ensures.0) (steps_all g.before c.check_reach.new.scanner c.lay_all.new.scanner _ _ c.in-Ok-lay_all.made c.in-Ok-lay_all.ensures)
 
-pub returns-in-Ok : goal.returns-in-Ok
-returns-in-Ok g c = steps_all g.before c.args.scanner.now c.lay_all.new.scanner _ _ c.in-Ok.made c.in-Ok.ensures
+pub returns-in-Err-lay_all : goal.returns-in-Err-lay_all
+returns-in-Err-lay_all g c = rw (← c.in-Ok.ensures.0) (cut_all g.before c.check_reach.new.scanner c.lay_all.new.scanner _ _ _ c.stopped.result (rw c.stopped.ensures c.in-Err-lay_all.ensures))
 
 pub returns-in-Err : goal.returns-in-Err
-returns-in-Err g c = cut_all g.before c.args.scanner.now c.lay_all.new.scanner _ _ _ c.stopped.result (rw c.stopped.ensures c.in-Err.ensures)
+returns-in-Err g c = inl (rw c.stopped-in-Err.ensures c.in-Err.ensures, g.met.S.yaml_token_sink_t.took_none c.args.sink.now)

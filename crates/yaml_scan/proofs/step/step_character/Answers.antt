@@ -3,9 +3,9 @@ use Rattle.yaml_lexeme.specs.Lexeme.{lexeme_of}
 use Rattle.yaml_scan.proofs.RunningStep.StepMoves.{read_as_met, step_to_from}
 use Rattle.yaml_scan.proofs.step.step_character.Goals as goal
 
-pub end_step-requires : goal.end_step-requires
-end_step-requires g c = λ κs w. let b = c.in-Ok.ensures in
+pub end_character-requires : goal.end_character-requires
+end_character-requires g c = λ κs w. let b = c.in-Ok.ensures in
     (search rules, (w, (b.0, read_as_met c.begin_step.new.scanner c.args.kind c.in-Ok.step.kind c.in-Ok.step.context (lexeme_of c.read_character-lexeme.result) b.1 c.read_character-lexeme.ensures)))
 
 pub returns-in-Ok : goal.returns-in-Ok
-returns-in-Ok g c = let b = c.in-Ok.ensures in step_to_from g.before c.args.scanner.now c.begin_step.new.scanner c.end_step.new.scanner _ _ _ c.end_step.result b.2 c.end_step.ensures
+returns-in-Ok g c = let b = c.in-Ok.ensures in step_to_from g.before c.args.scanner.now c.begin_step.new.scanner c.end_character.new.scanner _ _ _ c.end_character.result b.2 c.end_character.ensures

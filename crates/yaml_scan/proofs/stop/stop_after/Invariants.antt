@@ -1,4 +1,4 @@
-use Rattle.yaml_scan.proofs.stop.stop_behind.Given as goal
+use Rattle.yaml_scan.proofs.stop.stop_after.Given as goal
 
 abbrev pub ghost-stop_near : goal.ghost-stop_near
 ghost-stop_near g a = g.before

@@ -7,7 +7,7 @@ use Rattle.yaml_text.specs.Fault.{scanner_fault}
 use Rattle.yaml_scan.specs.Fault.{no_colon, in_simple_key}
 use Rattle.yaml_scan.specs.inside.Scanning.{Offends, lost_after, met_in}
 use Rattle.yaml_scan.proofs.RunningStep.StepTests.{falls_in, front_line, lost_again, near_there, stale_there}
-use Rattle.yaml_scan.proofs.stop.stop_behind.Goals as goal
+use Rattle.yaml_scan.proofs.stop.stop_after.Goals as goal
 
 pub stop_near-requires : goal.stop_near-requires
 stop_near-requires g c = let q = c.requires.0 in let x = c.requires.1 in let b = c.requires.2 in let s = c.args.scanner.now in
