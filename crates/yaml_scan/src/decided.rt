@@ -11,6 +11,7 @@ ghost use Rattle.yaml_scan.specs.Kind.{is_candidate_kind};
 ghost use Rattle.yaml_scan.specs.Laid.{Laid};
 ghost use Rattle.yaml_scan.specs.Levels.{IsFalling};
 ghost use Rattle.yaml_scan.specs.declared.groups.block_t.TheVariants.{MAPPING, NONE};
+ghost use Rattle.yaml_scan.specs.inside.Handed.{lone};
 ghost use Rattle.yaml_scan.specs.inside.Opened.{is_new};
 ghost use Rattle.yaml_scan.specs.inside.Queue.{closing};
 ghost use Rattle.yaml_text.specs.Token.{token_of};
@@ -147,7 +148,7 @@ fn drop_candidate(slots: &mut slots_t, kind: yaml_lexeme_kind_t)
 }
 
 /// Lays the lexeme of a step, which was read, and what decides whether it is a key. Both start at the end of a gap.
-/// Returns their groups.
+/// Returns the group of the lexeme, and the token after it, which is a group alone.
 #[inline(always)]
 pub(crate) fn lay_decided(
     scanner: &mut scanner_t,
@@ -155,18 +156,18 @@ pub(crate) fn lay_decided(
     step: step_t,
     lexeme: yaml_lexeme_t,
     decider: decider_t,
-) -> (group_t, group_t)
+) -> (group_t, yaml_token_t)
     ghost before: { List Laid }
     requires { CanLayAll before scanner.old margin step (lexeme_of lexeme)
         × ((sparing : Bool) × IsDecided scanner.old margin sparing step lexeme.reach decider.kind
         (lexeme_of decider.lexeme)) }
     ensures laid { (sparing : Bool) → IsDecided scanner.old margin sparing step lexeme.reach decider.kind
         (lexeme_of decider.lexeme)
-        → LaysTwo sparing before scanner.old scanner.new (groups_in scanner.new ++ result.0 ∷ (result.1 ∷ [])) }
+        → LaysTwo sparing before scanner.old scanner.new (groups_in scanner.new ++ result.0 ∷ (lone result.1 ∷ [])) }
     ensures queue { scanner.new.layout.queue ≡ scanner.old.layout.queue }
     ensures awaited { scanner.new.slots.awaited ≡ 0 }
     ensures first { (token_of result.0.token).token_data ≡ (lexeme_of lexeme).token_data }
-    ensures second { (token_of result.1.token).token_data ≡ (lexeme_of decider.lexeme).token_data }
+    ensures second { (token_of result.1).token_data ≡ (lexeme_of decider.lexeme).token_data }
 {
     let kind = decider.kind;
     let key = is_colon(kind);
@@ -182,11 +183,5 @@ pub(crate) fn lay_decided(
         key,
         token: token_of(step.new.start, lexeme),
     };
-    let second = group_t {
-        ends: 0,
-        opens: block_t::NONE,
-        key: false,
-        token: token_of(at, decider.lexeme),
-    };
-    (first, second)
+    (first, token_of(at, decider.lexeme))
 }

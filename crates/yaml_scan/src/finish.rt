@@ -18,7 +18,7 @@ use crate::scanner::scanner_t;
 use crate::sink::yaml_token_sink_t;
 use crate::source::decider_t;
 use crate::stop::{stop_after, stop_in_lexeme};
-use crate::target::{hand_on, no_sink_t};
+use crate::target::{hand_on, hand_token, no_sink_t};
 use yaml_lexeme::{yaml_lexeme_kind_t, yaml_lexeme_t, yaml_refusal_t};
 
 /// Whether the group of a lexeme of a kind that was laid has to wait: the stream end always does, and any other if
@@ -69,7 +69,7 @@ fn put_decided<const DIRECT: bool, S: yaml_token_sink_t>(
 {
     let (first, second) = lay_decided(scanner, margin, step, lexeme, decider);
     match hand_on::<DIRECT, S>(scanner, sink, false, first) {
-        Ok(_) => hand_on::<DIRECT, S>(scanner, sink, false, second),
+        Ok(_) => hand_token::<DIRECT, S>(scanner, sink, second),
         Err(stop) => Err(stopped(stop)),
     }
 }

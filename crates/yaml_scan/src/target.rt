@@ -7,7 +7,7 @@ ghost use Rattle.yaml_scan.specs.Words.{HasWords};
 ghost use Rattle.yaml_scan.specs.declared.fault.stop_t.TheVariants.{SINK};
 ghost use Rattle.yaml_scan.specs.inside.Queue.{ends_at, leads, start_at};
 ghost use Rattle.yaml_scan.specs.Groups.Token.{InsertedKey};
-ghost use Rattle.yaml_scan.specs.inside.Handed.{Gives, IsHandedOn, group_tokens, keys_of, starts_of, told_leads};
+ghost use Rattle.yaml_scan.specs.inside.Handed.{Gives, IsHandedOn, group_tokens, keys_of, lone, starts_of, told_leads};
 
 use crate::fault::{stop_by_sink, stop_t, stopped};
 use crate::groups::{block_t, group_t, token_at};
@@ -160,7 +160,7 @@ fn give_group<S: yaml_token_sink_t>(sink: &mut S, group: group_t) -> Result<(), 
 }
 
 /// 1 if the start of a block collection is handed out, and else 0.
-#[inline(always)]
+#[inline]
 fn starts_of(opens: block_t) -> u128
     ensures { result ≡ starts_of opens }
 {
@@ -171,7 +171,7 @@ fn starts_of(opens: block_t) -> u128
 }
 
 /// 1 if a key is handed out, and else 0.
-#[inline(always)]
+#[inline]
 fn keys_of(key: bool) -> u128
     ensures { result ≡ keys_of key }
 {
@@ -179,7 +179,7 @@ fn keys_of(key: bool) -> u128
 }
 
 /// How many tokens a group hands out.
-#[inline(always)]
+#[inline]
 fn count_of(group: &group_t) -> u128
     ensures { result ≡ length (group_tokens group.now) }
 {
@@ -210,6 +210,40 @@ pub(crate) fn hand_on<const DIRECT: bool, S: yaml_token_sink_t>(
         Ok(_) => {
             scanner.layout.queue.done += 1;
             scanner.taken += count;
+            Ok(())
+        }
+        Err(stop) => Err(stopped(stop)),
+    }
+}
+
+/// Hands on the group of a step that is a token alone and need not wait: straight to the sink, or into the queue, which
+/// has room.
+#[inline(always)]
+pub(crate) fn hand_token<const DIRECT: bool, S: yaml_token_sink_t>(
+    scanner: &mut scanner_t,
+    sink: &mut S,
+    token: yaml_token_t,
+) -> Result<(), stop_t>
+    requires room { length scanner.old.layout.queue.groups.items < deque_capacity scanner.old.layout.queue.groups }
+    requires words { HasWords (token_of token).token_data }
+    requires done { scanner.old.layout.queue.done + 1 < 2 ^ 64 }
+    requires taken { scanner.old.taken + length (group_tokens (lone token)) < 2 ^ 128 }
+    ensures { IsHandedOn DIRECT false scanner.old scanner.new (lone token) (λ tokens. S.took sink.old tokens sink.new)
+        S.may_refuse result }
+{
+    if !DIRECT {
+        scanner.layout.queue.groups.push_back_reserved(group_t {
+            ends: 0,
+            opens: block_t::NONE,
+            key: false,
+            token,
+        });
+        return Ok(());
+    }
+    match give(sink, token) {
+        Ok(_) => {
+            scanner.layout.queue.done += 1;
+            scanner.taken += 1;
             Ok(())
         }
         Err(stop) => Err(stopped(stop)),

@@ -76,7 +76,6 @@ impl yaml_token_sink_t for token_lines_t {
 
     ghost may_refuse = { Unit {0} };
 
-    #[inline(always)]
     fn put(&mut self, token: yaml_token_t) -> Result<(), AllocError> {
         self.len = put_line(&mut self.bytes, self.len, &mut self.kept, &token)?;
         Ok(())

@@ -4,6 +4,7 @@ use Rattle.std.specs.Prelude.{Result, Ok, Err, MatchResult}
 use Rattle.std.specs.List.{list_any}
 use Rattle.std.specs.VecDeque.{deque_capacity}
 use Rattle.yaml_text.specs.declared.types.yaml_encoding_t.TheVariants.{YAML_UTF8_ENCODING}
+use Rattle.yaml_text.specs.declared.token.yaml_token_t.{yaml_token_t as code_token_t}
 use Rattle.yaml_text.specs.Token.{token_of}
 use Rattle.yaml_scan.specs.declared.fault.stop_t.{stop_t}
 use Rattle.yaml_scan.specs.declared.fault.stop_t.TheVariants.{SINK}
@@ -38,6 +39,10 @@ keys_of false = 0
 -- all that a group hands out
 abbrev pub group_tokens : group_t → List yaml_token_t
 group_tokens y = told_leads (leads y) ++ token_of y.token ∷ []
+
+-- the group that is a token alone
+abbrev pub lone : code_token_t → group_t
+lone t = record { ends = 0; opens = NONE; key = false; token = t }
 
 -- all that some groups hand out
 abbrev pub groups_tokens : List group_t → List yaml_token_t

@@ -1,6 +1,7 @@
 use Rattle.std.proofs.Common.{List, ap, ◌∙◌, arith, length}
 use Rattle.yaml_lexeme.specs.Lexeme.{lexeme_of}
 use Rattle.yaml_scan.specs.declared.groups.group_t.{group_t}
+use Rattle.yaml_scan.specs.inside.Handed.{lone}
 use Rattle.yaml_scan.proofs.RunningStep.StepHanded.{alone_there, both_done, candidate_says, decider_says, decider_words, done_both, early_there, few_both, first_cut, first_done, room_there, words_there}
 use Rattle.yaml_scan.proofs.finish.put_decided.Goals as goal
 
@@ -17,7 +18,7 @@ hand_on-requires g c =
     let l = c.lay_decided-first.ensures in
     let u = c.lay_decided-first.new.scanner in
     let y = c.lay_decided-first.result.0 in
-    let z = c.lay_decided-first.result.1 in
+    let z = lone c.lay_decided-first.result.1 in
     let alone = alone_there _ g.before s c.args.margin c.args.step x r.0 k w r.1 u.layout.queue l.queue in
     let room = room_there _ g.before s c.args.margin c.args.step x r.0 k w r.1 u.layout.queue l.queue in
     let two = l.laid _ r.1 in
@@ -32,8 +33,8 @@ hand_on-requires g c =
       taken = omega arith;
     }
 
-pub hand_on-requires-in-Ok : goal.hand_on-requires-in-Ok
-hand_on-requires-in-Ok g c =
+pub hand_token-requires : goal.hand_token-requires
+hand_token-requires g c =
     let r = c.requires.1.1 in
     let s = c.args.scanner.now in
     let x = lexeme_of c.args.lexeme in
@@ -42,7 +43,7 @@ hand_on-requires-in-Ok g c =
     let l = c.lay_decided-first.ensures in
     let u = c.lay_decided-first.new.scanner in
     let y = c.lay_decided-first.result.0 in
-    let z = c.lay_decided-first.result.1 in
+    let z = lone c.lay_decided-first.result.1 in
     let alone = alone_there _ g.before s c.args.margin c.args.step x r.0 k w r.1 u.layout.queue l.queue in
     let room = room_there _ g.before s c.args.margin c.args.step x r.0 k w r.1 u.layout.queue l.queue in
     let two = l.laid _ r.1 in
@@ -63,7 +64,7 @@ returns-in-Ok g c =
     let l = c.lay_decided-first.ensures in
     let u = c.lay_decided-first.new.scanner in
     let y = c.lay_decided-first.result.0 in
-    let z = c.lay_decided-first.result.1 in
+    let z = lone c.lay_decided-first.result.1 in
     let alone = alone_there _ g.before s c.args.margin c.args.step x r.0 k w r.1 u.layout.queue l.queue in
     let room = room_there _ g.before s c.args.margin c.args.step x r.0 k w r.1 u.layout.queue l.queue in
     let two = l.laid _ r.1 in
@@ -73,7 +74,7 @@ returns-in-Ok g c =
     let e = c.in-Ok.ensures in
     both_done _ g.before s u y z two few alone (early_there _ g.before s c.args.margin c.args.step x r.0 k w r.1 u.layout.queue l.queue) l.awaited
     (candidate_says _ g.before s c.args.margin c.args.step x r.0 k w r.1 _ l.first) (decider_says _ g.before s c.args.margin c.args.step x r.0 k w r.1 _ l.second)
-    c.hand_on.new.scanner c.hand_on-in-Ok.new.scanner g.S.yaml_token_sink_t.took g.met.S.yaml_token_sink_t.took_more c.args.sink.now c.hand_on.new.sink c.hand_on-in-Ok.new.sink _ e.0 e.1 e.2 c.hand_on-in-Ok.result c.hand_on-in-Ok.ensures
+    c.hand_on.new.scanner c.hand_token.new.scanner g.S.yaml_token_sink_t.took g.met.S.yaml_token_sink_t.took_more c.args.sink.now c.hand_on.new.sink c.hand_token.new.sink _ e.0 e.1 e.2 c.hand_token.result c.hand_token.ensures
 
 pub returns-in-Err : goal.returns-in-Err
 returns-in-Err g c =
@@ -85,7 +86,7 @@ returns-in-Err g c =
     let l = c.lay_decided-first.ensures in
     let u = c.lay_decided-first.new.scanner in
     let y = c.lay_decided-first.result.0 in
-    let z = c.lay_decided-first.result.1 in
+    let z = lone c.lay_decided-first.result.1 in
     let alone = alone_there _ g.before s c.args.margin c.args.step x r.0 k w r.1 u.layout.queue l.queue in
     let room = room_there _ g.before s c.args.margin c.args.step x r.0 k w r.1 u.layout.queue l.queue in
     let two = l.laid _ r.1 in
