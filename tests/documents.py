@@ -23,6 +23,7 @@ One line of output for each check; what is wrong is printed before it. The check
 - versions: the header, the Rust crate, the Python module and the newest entry of CHANGELOG.md have the version of VERSION.
 - folders: a folder with more than eight files has a README.md, but for proofs. That of a folder of code or of definitions is
   the one that `./dev folders` writes, from the first sentence of each file.
+- picture: that of docs/ARCHITECTURE.md is the one that `./dev folders` draws, and each module that it is to show is in it.
 - scripts: the table of tests/README.md has a line for each script of tests/, and no others.
 """
 
@@ -36,6 +37,7 @@ sys.path.insert(0, os.path.join(os.path.dirname(os.path.abspath(__file__)), "lib
 sys.dont_write_bytecode = True
 from citing import statements
 from folders import MOST_FILES, long_folders, sentence, sources, stale
+from picture import drawn, is_stale, unreached
 from rules import files_in, front_and_sections, rules, tests_in
 
 ROOT = os.path.dirname(os.path.dirname(os.path.abspath(__file__)))
@@ -351,6 +353,14 @@ def check_folders():
     return len(long_folders()), wrong
 
 
+# PICTURE
+
+def check_picture():
+    wrong = ["docs/ARCHITECTURE.md: the picture is not what ./dev folders draws"] if is_stale() else []
+    wrong += [f"tests/lib/picture.py: {place} is not on the way" for place in unreached()]
+    return drawn().count("\n"), wrong
+
+
 # SCRIPTS
 
 def check_scripts():
@@ -363,7 +373,7 @@ def check_scripts():
 CHECKS = {"paths": check_paths, "rules": check_rules, "topics": check_topics,
           "laws, functions and lemma files": check_proofs, "lemma files": check_lemmas, "edits": check_edits,
           "lines": check_lines, "kits": check_kits, "versions": check_versions, "folders": check_folders,
-          "scripts": check_scripts}
+          "lines of the picture": check_picture, "scripts": check_scripts}
 
 
 def main():
