@@ -9,13 +9,14 @@ A rule is a heading of docs/RULES.md. A walk has four hops, each to what the lin
   that has functions has such a function.
 - proof: the places are there; in them is the folder of a function of the hop before, or a file with a lemma about a name. If the
   line says "none by hand", there is no such folder.
-- test: the functions are there and are tests, and so are the files of rows. If a must-fail edit is refused by a function of the
-  walk, or by a name, the walk tells the first one too.
+- test: the functions are there and are tests, and so are the files of rows. If the row of a must-fail edit has one of the
+  names, or an edit changes a function of the walk, the walk tells the first such edit too.
 
 Ten rules are chosen by the seed, or all are taken. A line for each walk, and one that counts the hops and those that fail.
 """
 
 import argparse
+import functools
 import os
 import random
 import re
@@ -23,7 +24,7 @@ import sys
 
 sys.path.insert(0, os.path.join(os.path.dirname(os.path.abspath(__file__)), "lib"))
 sys.dont_write_bytecode = True
-from citing import contracts, file_of, leads_to, lemmas, statements
+from citing import changed, contracts, file_of, leads_to, lemmas, statements
 from commands import load_dev
 from documents import found, read
 from rules import files_in, places_in, rules, tests_in
@@ -43,6 +44,16 @@ def need(is_there, why):
 
 def short(paths):
     return ", ".join(dict.fromkeys(os.path.basename(path.rstrip("/")) for path in paths))
+
+
+@functools.cache
+def edits():
+    """Each must-fail edit, the words in backticks of what refuses it, and the functions that it changes."""
+    found_here = []
+    for crate, _, name in (edit.partition("/") for edit in dev.edits() if not edit.startswith("wrong/")):
+        told = set(re.findall(r"`([^`\s]+)`", dev.row_of(crate, name).partition("Refused by: ")[2]))
+        found_here.append((name, told, set(changed(f"crates/{crate}/must-fail/{name}.edit"))))
+    return found_here
 
 
 class Walk:
@@ -111,14 +122,9 @@ class Walk:
         return about[0].partition("/proofs/")[2]
 
     def edits(self):
-        """The must-fail edits whose row names a definition of the walk, or begins its last cell with a function of it."""
-        functions = {name for _, name in self.functions}
-        definitions = {f"{file}.{name}" for (_, file, name), _ in self.definitions}
-        for edit in dev.edits():
-            crate, _, name = edit.partition("/")
-            named = re.findall(r"`([^`\s]+)`", dev.row_of(crate, name).rpartition(": ")[2]) if crate != "wrong" else []
-            if named and (named[0] in functions or definitions.intersection(named)):
-                yield name
+        """The must-fail edits whose row names a definition of the walk, or that change a function of it."""
+        names = {f"{file}.{name}" for (_, file, name), _ in self.definitions}
+        return [edit for edit, told, functions in edits() if names & told or self.functions.keys() & functions]
 
     def test(self):
         named = [(path, name) for path, names in tests_in(self.parts["Shown by"]) for name in names]
@@ -129,8 +135,8 @@ class Walk:
             crate, module = path.split("/")[1], os.path.basename(path)[: -len(".rt")]
             need(f"{crate}::{module}::{name}" in tests, f"{name} is no test of {path}")
         need(all(found(path) for path in files), f"{short(files)} is not there")
-        edits = list(self.edits())
-        return ", ".join([name for _, name in named] + [os.path.basename(path) for path in files] + [f"edit {name}" for name in edits[:1]])
+        told = [name for _, name in named] + [os.path.basename(path) for path in files]
+        return ", ".join(told + [f"edit {name}" for name in self.edits()[:1]])
 
 
 def hops_of(walk):

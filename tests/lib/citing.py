@@ -1,4 +1,4 @@
-"""Which definitions the contract of a function cites, and which a definition is made of. A definition is its crate, file and name."""
+"""Which definitions a contract cites, and which a definition is made of. A definition is its crate, file and name."""
 
 import functools
 import glob
@@ -71,6 +71,18 @@ def contracts(path):
         clauses = CLAUSE.search(head)
         found.setdefault(name, set()).update(cited(head[clauses.start() :], names, files) if clauses else ())
     return found
+
+
+def changed(path):
+    """The functions in which an edit of must-fail/ changes something, each with its file."""
+    file = ""
+    for line in read(path).split("\n"):
+        key, _, value = line.partition(": ")
+        if key == "file":
+            file = f"crates/{path.split('/')[1]}/{value}"
+        before = read(file).partition(value)[0] if key == "old" else ""
+        names = [begun[1] for begun in map(FUNCTION.match, before.split("\n")) if begun]
+        yield from ((file, name) for name in names[-1:])
 
 
 # DEFINITIONS
