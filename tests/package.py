@@ -29,7 +29,10 @@ from library import TOP, VERSION
 from places import NoRoot, make_folder, make_root
 from worked import rows
 
-MACHINE_FILES = shutil.ignore_patterns(".git", "out", "bin", "dist", "target", "Cargo.lock", "__pycache__")
+# What is of this checkout and no part of the repository, as .gitignore has it: the first in any folder, the others in one. Any
+# folder may be called target, as that of the proofs of target.rt is.
+MACHINE_FILES = {".git", "__pycache__", "out"}
+MACHINE_FILES_IN = {".": {"bin", "dist"}, "rust": {"Cargo.lock", "target"}}
 FULL = VERSION + "+test"
 NAME = f"bogzhami-{FULL}-linux-x86_64"
 ROWS = [(words[1:], data, wanted) for words, data, wanted in rows() if words[0] == "scan"]
@@ -37,6 +40,9 @@ SMALL = b"a: 1"
 LISTED = next(wanted for words, data, wanted in ROWS if data == SMALL and words == ["any"])
 PROVED = ["bin/proved", "crates/yamltok/out/yamltok", "ffi/out/libbogzhami.a", f"ffi/out/libbogzhami.so.{VERSION}"]
 MISTAKES = 'mistakes.yaml:7:1: duplicate key "name", first at line 1'
+
+# The path of this checkout, and not a part of another path or of a word; it may follow the letter of a flag for a compiler.
+OF_THIS_MACHINE = re.compile(rb"(?:(?<![\w.}-])|(?<=-[IL]))" + re.escape(TOP.encode()) + rb"(?![\w.-])")
 
 HAS_MODULE = os.path.exists(os.path.join(TOP, "python", "bogzhami", "__init__.py"))
 
@@ -86,6 +92,11 @@ def append(path, data):
         out.write(data)
 
 
+def machine_files(folder, names):
+    """What a copy of the repository leaves out of a folder."""
+    return (MACHINE_FILES | MACHINE_FILES_IN.get(os.path.relpath(folder, TOP), set())).intersection(names)
+
+
 def copy_built(top):
     for path in PROVED:
         os.makedirs(os.path.dirname(os.path.join(top, path)), exist_ok=True)
@@ -132,7 +143,7 @@ def try_refusals(room):
     if shutil.which("git") is None:
         return skip("states that are refused: no git")
     top = os.path.join(room, "copy")
-    shutil.copytree(TOP, top, symlinks=True, ignore=MACHINE_FILES)
+    shutil.copytree(TOP, top, symlinks=True, ignore=machine_files)
     found = [(wanted, status, told) for wanted, (status, told) in refusals(top)]
     wrong = [one for one in found if one[1] != 1 or not one[2].startswith("package: " + one[0])]
     say(not wrong, f"{len(found)} states refused, {len(wrong)} not as they should be {shown(wrong)}")
@@ -177,7 +188,7 @@ def try_contents(folder, told):
             continue
         with (gzip.open if name.endswith(".gz") else open)(path, "rb") as data:
             text = data.read()
-        if TOP.encode() in text:
+        if OF_THIS_MACHINE.search(text):
             wrong.append(f"{name} has a path of this machine")
         if re.search(rb"@[A-Z]+@", text) and not text.startswith(b"\x7fELF") and name != "lib/libbogzhami.a":
             wrong.append(f"{name} has a place that was not filled")

@@ -1,5 +1,5 @@
 -- Tokens that are given one by one make a batch.
-use Rattle.std.proofs.Common.{◌≡◌, ◌⊎◌, ◌++◌, ◌∷◌, [], ℕ, ◌+◌, ◌-◌, ◌≤◌, ◌<◌, ◌^◌, Bool, true, false, List, Some, None, length, refl, ap, ◌∙◌, subst, arith, length-append, append_assoc}
+use Rattle.std.proofs.Common.{◌≡◌, ◌⊎◌, ◌++◌, ◌∷◌, [], ℕ, ◌+◌, ◌-◌, ◌≤◌, ◌<◌, ◌^◌, Bool, true, false, List, Some, None, length, refl, ap, sym, ◌∙◌, subst, arith, append-nil, length-append, append_assoc}
 use Rattle.std.specs.Prelude.{if◌then◌else◌, ◌≢◌}
 use Rattle.std.proofs.lemmas.List.{length_push}
 use Rattle.yaml_text.specs.declared.types.yaml_encoding_t.{yaml_encoding_t}
@@ -10,7 +10,7 @@ use Rattle.yaml_scan.proofs.RunningCalls.ScansToTheEnd.{scans_end}
 use Rattle.yaml_c.specs.Ahead.{Ahead, ahead_of, is_end}
 use Rattle.yaml_c.specs.Ahead.Ahead.{NONE, TOKEN, OVER}
 use Rattle.yaml_c.specs.Held.{Stands}
-use Rattle.yaml_c.specs.inside.Batch.{Stops, GivesNext}
+use Rattle.yaml_c.specs.inside.Batch.{Stops, GivesNext, GoesOn, KeepsSizes}
 use Rattle.yaml_c.specs.Record.{record_of, texts_of, all_texts}
 use Rattle.yaml_c.specs.inside.Sink.{IsPut, ArePut}
 use Rattle.yaml_c.specs.inside.MorePut.{more_put}
@@ -19,28 +19,23 @@ use Rattle.yaml_c.specs.declared.held.ahead_t.TheVariants as code
 use Rattle.yaml_c.specs.declared.sink.token_rooms_t.{token_rooms_t}
 use Rattle.yaml_c.proofs.Rooms.{length-covered_from}
 
--- what was given so far, and what is ahead
-pub record GoesOn
-    (limit : ℕ) (setting : yaml_encoding_t) (input : List ℕ) (given : List Token)
-    (old : token_rooms_t) (p : Parser) (new : token_rooms_t) (ahead : Ahead) : Type 0 where
-  pub list : List Token
-  pub put : ArePut old list new
-  pub count : length list ≡ new.token_count
-  pub text : length (all_texts list) ≡ new.text_len
-  pub stands : Stands limit setting input p (given ++ list) ahead
+-- before the first token
+pub no_token_yet : (r : token_rooms_t) → r.token_count ≡ 0 → r.text_len ≡ 0 → KeepsSizes r r
+no_token_yet r n t = record { tokens = refl; texts = refl; few = omega (arith, n); fit = omega (arith, t) }
 
--- the rooms keep their sizes, and nothing is beyond them
-pub record KeepsSizes (old new : token_rooms_t) : Type 0 where
-  pub tokens : length new.tokens.now ≡ length old.tokens.now
-  pub texts : length new.texts.now ≡ length old.texts.now
-  pub few : new.token_count ≤ length new.tokens.now
-  pub fit : new.text_len ≤ length new.texts.now
+pub goes_from : (limit : ℕ) (setting : yaml_encoding_t) (input : List ℕ) (given : List Token) (r : token_rooms_t) (p : Parser) (a : Ahead)
+    → r.token_count ≡ 0 → r.text_len ≡ 0 → Stands limit setting input p given a → GoesOn limit setting input given r p r a
+goes_from limit setting input given r p a n t s = record {
+  list = [];
+  put = refl;
+  count = sym n;
+  text = sym t;
+  stands = subst (λ (z : List Token). Stands limit setting input p z a) (sym (append-nil given)) s;
+}
 
--- so they do, and something is ahead only before the first token is given
-pub record KeepsRooms (old new : token_rooms_t) (ahead : Ahead) : Type 0 where
-  pub sizes : KeepsSizes old new
-  pub first : (new.token_count ≡ 0) ⊎ (ahead ≡ NONE)
-  pub still_open : ahead ≢ OVER
+-- sizes that are kept twice
+pub sizes_to : (first new next : token_rooms_t) → KeepsSizes first new → KeepsSizes new next → KeepsSizes first next
+sizes_to first new next k l = record { tokens = l.tokens ∙ k.tokens; texts = l.texts ∙ k.texts; few = l.few; fit = l.fit }
 
 -- what ends a batch after a token
 pub goes_on : (b : Bool) → (if b then Some OVER else None) ≡ None → b ≡ false

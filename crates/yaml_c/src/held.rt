@@ -6,7 +6,7 @@ ghost use Rattle.yaml_c.specs.Record.{held, texts_of};
 ghost use Rattle.yaml_c.specs.Ahead.{ahead_of, after_token, need};
 ghost use Rattle.yaml_c.specs.Ahead.Ahead.{NONE, TOKEN, OVER as ALL_GIVEN};
 ghost use Rattle.yaml_c.specs.Held.{Scan, Stands, IsAt, IsNext, Shows};
-ghost use Rattle.yaml_c.specs.inside.Batch.{GivesNext, Ends, ReadsOn};
+ghost use Rattle.yaml_c.specs.inside.Batch.{GivesNext, GoesOn, KeepsSizes, Ends, ReadsOn};
 ghost use Rattle.yaml_c.specs.Held.{opened, looked};
 ghost use Rattle.yaml_c.specs.inside.Batch.{rooms_of};
 ghost use Rattle.yaml_text.specs.Decode.{encoding_of};
@@ -94,6 +94,27 @@ fn give_token(rooms: &mut token_rooms_t, token: yaml_token_t) -> Option<ahead_t>
 }
 
 /// Gives the next tokens, whole ones, until a room is full, or the stream end was given, or the fault comes next.
+/// Nothing was read ahead. Returns what is ahead then.
+fn give_rest(parser: &mut yaml_parser_t, rooms: &mut token_rooms_t) -> ahead_t
+    requires few { rooms.old.token_count ≤ length rooms.old.tokens.now }
+    requires fit { rooms.old.text_len ≤ length rooms.old.texts.now }
+    ensures { (first : token_rooms_t) (e : yaml_encoding_t) (limit : ℕ) (input : List ℕ) (given : List Token)
+        → KeepsSizes first rooms.old → GoesOn limit e input given first parser.old rooms.old NONE
+        → GivesNext limit e input given first parser.new rooms.new (ahead_of result) }
+{
+    'tokens: while rooms.token_count < rooms.tokens.len() as u64 {
+        let token = match look(parser, ahead_t::NONE) {
+            ahead_t::TOKEN(token) => token,
+            other => return other,
+        };
+        if let Some(stop) = give_token(rooms, token) {
+            return stop;
+        }
+    }
+    ahead_t::NONE
+}
+
+/// Gives the next tokens, whole ones, until a room is full, or the stream end was given, or the fault comes next.
 /// Returns what is ahead then.
 pub(crate) fn give(parser: &mut yaml_parser_t, ahead: ahead_t, rooms: &mut token_rooms_t) -> ahead_t
     requires more { ahead_of ahead ≢ ALL_GIVEN }
@@ -104,18 +125,14 @@ pub(crate) fn give(parser: &mut yaml_parser_t, ahead: ahead_t, rooms: &mut token
         → Stands limit e input parser.old given (ahead_of ahead)
         → GivesNext limit e input given rooms.old parser.new rooms.new (ahead_of result) }
 {
-    let mut next = ahead;
-    'tokens: while rooms.token_count < rooms.tokens.len() as u64 {
-        let token = match look(parser, next) {
-            ahead_t::TOKEN(token) => token,
-            other => return other,
-        };
-        if let Some(stop) = give_token(rooms, token) {
-            return stop;
-        }
-        next = ahead_t::NONE;
+    match ahead {
+        ahead_t::NONE => give_rest(parser, rooms),
+        ahead_t::TOKEN(token) => match give_token(rooms, token) {
+            Some(stop) => stop,
+            None => give_rest(parser, rooms),
+        },
+        other => other,
     }
-    next
 }
 
 /// How many bytes of texts what comes next has.

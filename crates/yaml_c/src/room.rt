@@ -8,6 +8,9 @@ use crate::record::bogzhami_token;
 pub(crate) fn put_bytes(room: &mut [u8], at: u64, bytes: &[u8])
     ensures { room.new ≡ covered_from at bytes.now room.old }
 {
+    if bytes.is_empty() {
+        return;
+    }
     if at < room.len() as u64 {
         let start = at as usize;
         let count = (room.len() - start).min(bytes.len());

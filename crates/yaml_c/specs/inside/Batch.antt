@@ -25,6 +25,23 @@ Stops records bytes list (TOKEN t) = bytes < length (all_texts list) + need (TOK
 Stops records bytes list (FAULT f) = Unit {0}
 Stops records bytes list OVER = 0 < length list
 
+-- These tokens were put so far, and the parser stands after them.
+pub record GoesOn
+    (limit : ℕ) (setting : yaml_encoding_t) (input : List ℕ) (given : List Token)
+    (old : token_rooms_t) (p : Parser) (new : token_rooms_t) (ahead : Ahead) : Type 0 where
+  pub list : List Token
+  pub put : ArePut old list new
+  pub count : length list ≡ new.token_count
+  pub text : length (all_texts list) ≡ new.text_len
+  pub stands : Stands limit setting input p (given ++ list) ahead
+
+-- The rooms keep their sizes, and nothing is beyond them.
+pub record KeepsSizes (old new : token_rooms_t) : Type 0 where
+  pub tokens : length new.tokens.now ≡ length old.tokens.now
+  pub texts : length new.texts.now ≡ length old.texts.now
+  pub few : new.token_count ≤ length new.tokens.now
+  pub fit : new.text_len ≤ length new.texts.now
+
 -- The next tokens were put, whole ones, and the parser stands after them.
 pub record GivesNext
     (limit : ℕ) (setting : yaml_encoding_t) (input : List ℕ) (given : List Token)

@@ -1,103 +1,62 @@
-use Rattle.std.proofs.Common.{rules, ◌≡◌, ◌++◌, false, ◌+◌, ◌≤◌, ◌<◌, ◌^◌, List, Option, length, refl, sym, ap, ◌∙◌, subst, [], arith, inl, inr, append-nil}
+use Rattle.std.proofs.Common.{rules, ◌≡◌, ◌++◌, ◌+◌, ◌≤◌, ◌<◌, ◌^◌, Option, length, sym, ap, ◌∙◌, subst, arith, inl, inr}
 use Rattle.std.specs.Prelude.{option_map}
 use Rattle.std.proofs.lemmas.Bool.{cases_lt}
-use Rattle.yaml_text.specs.Token.{Token, token_of}
+use Rattle.yaml_text.specs.Token.{token_of}
 use Rattle.yaml_c.specs.Ahead.{Ahead, ahead_of, is_end}
-use Rattle.yaml_c.specs.Ahead.Ahead.{NONE, TOKEN, OVER}
+use Rattle.yaml_c.specs.Ahead.Ahead.{TOKEN, OVER}
 use Rattle.yaml_c.specs.Held.{Stands}
-use Rattle.yaml_c.specs.inside.Batch.{Stops, GivesNext}
+use Rattle.yaml_c.specs.inside.Batch.{GivesNext}
 use Rattle.yaml_c.specs.Record.{texts_of}
-use Rattle.yaml_c.specs.inside.Sink.{IsPut}
 use Rattle.yaml_c.specs.declared.held.ahead_t.{ahead_t}
 use Rattle.yaml_c.specs.declared.sink.token_rooms_t.{token_rooms_t}
-use Rattle.yaml_c.proofs.Batches.{goes_on, ends_there, keeps_more, fewer_records, goes_more, goes_end, batch_ends, stops_rest, none_is_open}
+use Rattle.yaml_c.proofs.Batches.{goes_on, ends_there, keeps_more, goes_more, goes_end, goes_from, batch_ends, no_token_yet}
 use Rattle.yaml_c.proofs.held.give.Goals as goal
 
-pub tokens-init : goal.tokens-init
-tokens-init c = let r = c.requires in (
-  record { sizes = record { tokens = refl; texts = refl; few = omega (arith, r.none); fit = omega (arith, r.no_text) }; first = inl r.none; still_open = r.more },
-  λ e limit input given s. record {
-    list = [];
-    put = refl;
-    count = sym r.none;
-    text = sym r.no_text;
-    stands = subst (λ (z : List Token). Stands limit e input c.args.parser.now z (ahead_of c.args.ahead)) (sym (append-nil given)) s;
-  },
-)
-
-pub returns-in_default : goal.returns-in_default
-returns-in_default c = λ e limit input given s. let g = c.tokens.invariant.1 e limit input given s in
-    batch_ends limit e input given c.args.rooms.now c.tokens.parser c.tokens.rooms (ahead_of c.tokens.next) g (ahead_of c.look.result) c.look.new.parser c.tokens.invariant.0.sizes
-    (c.look.ensures.stands e limit input (given ++ g.list) g.stands)
-    (stops_rest _ _ g.list c.look.result c.in_default.not-TOKEN c.look.ensures.next (λ o. c.tokens.invariant.0.still_open (c.look.ensures.over o)))
-
 pub returns-in-Some : goal.returns-in-Some
-returns-in-Some c = λ e limit input given s. let g = c.tokens.invariant.1 e limit input given s in
-    let k = c.tokens.invariant.0.sizes in
+returns-in-Some c = λ e limit input given s.
+    let old = c.args.rooms.now in
+    let p = c.args.parser.now in
+    let r = c.requires in
+    let g = goes_from limit e input given old p (ahead_of c.args.ahead) r.none r.no_text s in
+    let k = no_token_yet old r.none r.no_text in
     let t = token_of c.in-TOKEN.token in
-    let few : length c.tokens.rooms.tokens.now < 2 ^ 63 = search rules in
-    let short : length c.tokens.rooms.texts.now < 2 ^ 63 = search rules in
-    let here : Stands limit e input c.look.new.parser (given ++ g.list) (TOKEN t) =
-    subst (λ (z : ahead_t). Stands limit e input c.look.new.parser (given ++ g.list) (ahead_of z)) c.in-TOKEN.is (c.look.ensures.stands e limit input (given ++ g.list) g.stands) in
+    let few : length old.tokens.now < 2 ^ 63 = search rules in
+    let short : length old.texts.now < 2 ^ 63 = search rules in
+    let one : old.token_count < length old.tokens.now = omega (arith, r.none, r.some) in
+    let here : Stands limit e input p (given ++ g.list) (TOKEN t) = subst (λ (z : ahead_t). Stands limit e input p (given ++ g.list) (ahead_of z)) c.in-TOKEN.is g.stands in
     let stop = ap (λ (z : Option ahead_t). option_map ahead_of z) c.in-Some.is in
-    elim (cases_lt (length c.tokens.rooms.texts.now) (c.tokens.rooms.text_len + length (texts_of t))) [
+    elim (cases_lt (length old.texts.now) (old.text_len + length (texts_of t))) [
       | inl low ↦ (let w = c.give_token.ensures.kept low in
           let a : ahead_of c.in-Some.stop ≡ TOKEN t = cc in
-          subst (λ (z : token_rooms_t). GivesNext limit e input given c.args.rooms.now c.look.new.parser z (ahead_of c.in-Some.stop)) (sym w.0)
-          (subst (λ (z : Ahead). GivesNext limit e input given c.args.rooms.now c.look.new.parser c.tokens.rooms z) (sym a)
-          (batch_ends limit e input given c.args.rooms.now c.tokens.parser c.tokens.rooms (ahead_of c.tokens.next) g (TOKEN t) c.look.new.parser k here
+          subst (λ (z : token_rooms_t). GivesNext limit e input given old p z (ahead_of c.in-Some.stop)) (sym w.0)
+          (subst (λ (z : Ahead). GivesNext limit e input given old p old z) (sym a)
+          (batch_ends limit e input given old p old (ahead_of c.args.ahead) g (TOKEN t) p k here
           (omega (arith, low, g.text, k.texts)))))
       | inr high ↦ (let w = c.give_token.ensures.put high in
-          let r = ends_there (is_end t) (ahead_of c.in-Some.stop) (sym w.1 ∙ stop) in
-          let more = goes_end limit e input given c.args.rooms.now c.tokens.parser c.tokens.rooms (ahead_of c.tokens.next) g c.look.new.parser t c.give_token.new.rooms here w.0 c.tokens-test.true high few short r.0 in
-          let kept = keeps_more c.args.rooms.now c.tokens.rooms c.give_token.new.rooms t k w.0 c.tokens-test.true high few short in
-          subst (λ (z : Ahead). GivesNext limit e input given c.args.rooms.now c.look.new.parser c.give_token.new.rooms z) r.1
-          (batch_ends limit e input given c.args.rooms.now c.look.new.parser c.give_token.new.rooms OVER more OVER c.look.new.parser kept more.stands (omega (arith, more.count, w.0.token_count, few))))
+          let u = ends_there (is_end t) (ahead_of c.in-Some.stop) (sym w.1 ∙ stop) in
+          let more = goes_end limit e input given old p old (ahead_of c.args.ahead) g p t c.give_token.new.rooms here w.0 one high few short u.0 in
+          let kept = keeps_more old old c.give_token.new.rooms t k w.0 one high few short in
+          subst (λ (z : Ahead). GivesNext limit e input given old p c.give_token.new.rooms z) u.1
+          (batch_ends limit e input given old p c.give_token.new.rooms OVER more OVER p kept more.stands (omega (arith, more.count, w.0.token_count, few))))
     ]
 
--- the token was put
-record IsGiven (c : goal.In_default-give_token) : Type 0 where
-  put : IsPut c.tokens.rooms (token_of c.in-TOKEN.token) c.give_token.new.rooms
-  fits : c.tokens.rooms.text_len + length (texts_of (token_of c.in-TOKEN.token)) ≤ length c.tokens.rooms.texts.now
-  more : is_end (token_of c.in-TOKEN.token) ≡ false
-
-is_given : (c : goal.In_default-give_token) → IsGiven c
-is_given c =
+pub returns-in-None : goal.returns-in-None
+returns-in-None c = λ e limit input given s.
+    let old = c.args.rooms.now in
+    let p = c.args.parser.now in
+    let r = c.requires in
+    let g = goes_from limit e input given old p (ahead_of c.args.ahead) r.none r.no_text s in
+    let k = no_token_yet old r.none r.no_text in
     let t = token_of c.in-TOKEN.token in
-    let none = ap (λ (z : Option ahead_t). option_map ahead_of z) c.in_default-give_token.is in
-    elim (cases_lt (length c.tokens.rooms.texts.now) (c.tokens.rooms.text_len + length (texts_of t))) [
+    let few : length old.tokens.now < 2 ^ 63 = search rules in
+    let short : length old.texts.now < 2 ^ 63 = search rules in
+    let one : old.token_count < length old.tokens.now = omega (arith, r.none, r.some) in
+    let here : Stands limit e input p (given ++ g.list) (TOKEN t) = subst (λ (z : ahead_t). Stands limit e input p (given ++ g.list) (ahead_of z)) c.in-TOKEN.is g.stands in
+    let none = ap (λ (z : Option ahead_t). option_map ahead_of z) c.in-None.is in
+    elim (cases_lt (length old.texts.now) (old.text_len + length (texts_of t))) [
       | inl low ↦ absurd (let w = c.give_token.ensures.kept low in let e = sym w.1 ∙ none in cc)
-      | inr high ↦ (let w = c.give_token.ensures.put high in record { put = w.0; fits = high; more = goes_on (is_end t) (sym w.1 ∙ none) })
+      | inr high ↦ (let w = c.give_token.ensures.put high in
+          c.give_rest-in-None.ensures old e limit input given
+          (keeps_more old old c.give_token.new.rooms t k w.0 one high few short)
+          (goes_more limit e input given old p old (ahead_of c.args.ahead) g p t c.give_token.new.rooms here w.0 one high few short (goes_on (is_end t) (sym w.1 ∙ none))))
     ]
-
-pub tokens-smaller : goal.tokens-smaller
-tokens-smaller c =
-    let few : length c.tokens.rooms.tokens.now < 2 ^ 63 = search rules in
-    fewer_records c.tokens.rooms c.give_token.new.rooms (token_of c.in-TOKEN.token) (is_given c).put c.tokens-test.true few
-
-pub tokens-preserved : goal.tokens-preserved
-tokens-preserved c =
-    let few : length c.tokens.rooms.tokens.now < 2 ^ 63 = search rules in
-    let short : length c.tokens.rooms.texts.now < 2 ^ 63 = search rules in
-    let t = token_of c.in-TOKEN.token in
-    let w = is_given c in (
-      record {
-        sizes = keeps_more c.args.rooms.now c.tokens.rooms c.give_token.new.rooms t c.tokens.invariant.0.sizes w.put c.tokens-test.true w.fits few short;
-        first = inr refl;
-        still_open = none_is_open;
-      },
-      λ e limit input given s. let g = c.tokens.invariant.1 e limit input given s in
-          let here : Stands limit e input c.look.new.parser (given ++ g.list) (TOKEN t) =
-          subst (λ (z : ahead_t). Stands limit e input c.look.new.parser (given ++ g.list) (ahead_of z)) c.in-TOKEN.is (c.look.ensures.stands e limit input (given ++ g.list) g.stands) in
-          goes_more limit e input given c.args.rooms.now c.tokens.parser c.tokens.rooms (ahead_of c.tokens.next) g c.look.new.parser t c.give_token.new.rooms here w.put c.tokens-test.true w.fits few short w.more,
-    )
-
-pub returns : goal.returns
-returns c = λ e limit input given s. let g = c.tokens.invariant.1 e limit input given s in
-    let k = c.tokens.invariant.0.sizes in
-    let none : ahead_of c.tokens.next ≡ NONE = elim c.tokens.invariant.0.first [
-      | inl z ↦ absurd (omega (arith, z, c.tokens-test.false, k.tokens, c.requires.some))
-      | inr n ↦ n
-    ] in
-    batch_ends limit e input given c.args.rooms.now c.tokens.parser c.tokens.rooms (ahead_of c.tokens.next) g (ahead_of c.tokens.next) c.tokens.parser k g.stands
-    (subst (λ (z : Ahead). Stops (length c.args.rooms.now.tokens.now) (length c.args.rooms.now.texts.now) g.list z) (sym none) (omega (arith, g.count, k.few, k.tokens, c.tokens-test.false)))
