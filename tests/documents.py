@@ -8,7 +8,7 @@ One line of output for each check; what is wrong is printed before it. The check
   bench/results.md, docs/speed.svg and what is in a folder `out`. The documents are README.md, CHANGELOG.md, CONTRIBUTING.md,
   docs/, and the README files of tests/, bench/, uses/, rust/ and python/.
 - rules: in RULES.md every heading has a line with a definition and a code file, and a link to it. What that line names is
-  in the file that it names: a definition in parentheses, and a test.
+  in the file that it names: a definition in parentheses, and a test. walks.py follows the line further.
 - topics: the topic of a rule is the name of its first definition file. The line names a code file of that name, a folder or
   a file of proofs that begins with it (or says that there is none by hand), and a test whose name has it.
 - proofs: PROOFS.md names every law, every public function and every file of lemmas of each crate, and no others.
@@ -23,6 +23,7 @@ One line of output for each check; what is wrong is printed before it. The check
 - versions: the header, the Rust crate, the Python module and the newest entry of CHANGELOG.md have the version of VERSION.
 - folders: a folder with more than eight files has a README.md, but for proofs. That of a folder of code or of definitions is
   the one that `./dev folders` writes, from the first sentence of each file.
+- picture: that of docs/ARCHITECTURE.md is the one that `./dev folders` draws, and each module that it is to show is in it.
 - scripts: the table of tests/README.md has a line for each script of tests/, and no others.
 """
 
@@ -31,6 +32,13 @@ import os
 import re
 import subprocess
 import sys
+
+sys.path.insert(0, os.path.join(os.path.dirname(os.path.abspath(__file__)), "lib"))
+sys.dont_write_bytecode = True
+from citing import statements
+from folders import MOST_FILES, long_folders, sentence, sources, stale
+from picture import drawn, is_stale, unreached
+from rules import files_in, front_and_sections, rules, tests_in
 
 ROOT = os.path.dirname(os.path.dirname(os.path.abspath(__file__)))
 DOCUMENTS = ["README.md", "CHANGELOG.md", "CONTRIBUTING.md", "docs/*.md", "tests/README.md", "bench/README.md", "uses/*/README.md",
@@ -123,42 +131,25 @@ def check_paths():
 
 # RULES
 
-def files_in(text):
-    """Each file that a line names, with the names in parentheses after it."""
-    for path, _, names in re.findall(r"`(crates/[^`]+\.\w+)`( \(((?:`\w+`(?:, )?)+)\))?", text):
-        yield path, re.findall(r"`(\w+)`", names)
-
-
-def tests_in(text):
-    """Each file of tests that a line names, with the names before it."""
-    for names, path in re.findall(r"((?:`\w+`(?:, | and )?)+) in `(crates/[^`]+\.rt)`", text):
-        yield path, re.findall(r"`(\w+)`", names)
-
-
 def anchor(heading):
     return re.sub(r"[^\w -]", "", heading.lower()).replace(" ", "-")
 
 
 def check_rules():
-    wrong, (front, *sections) = [], re.split(r"^## ", read("docs/RULES.md"), flags=re.M)
-    links = re.findall(r"\]\(#([^)]+)\)", front)
-    headings = [section.partition("\n")[0] for section in sections]
-    if links != [anchor(heading) for heading in headings]:
+    front, sections = front_and_sections()
+    links, wrong = re.findall(r"\]\(#([^)]+)\)", front), []
+    if links != [anchor(heading) for heading, _ in sections]:
         wrong.append("RULES.md: the links are not those of the headings, in their order")
-    for section in sections:
-        heading, _, rest = section.partition("\n")
-        line = next((line for line in rest.split("\n") if line.startswith("*Definition:*")), "")
-        definition, _, behind = line.partition("*Code:*")
-        code, _, shown = behind.partition("*Proofs:*")
-        definitions, codes = list(files_in(definition)), list(files_in(code))
+    for heading, parts in rules():
+        definitions = list(files_in(parts["Definition"]))
         if not any("/specs/" in path and found(path) for path, _ in definitions):
             wrong.append(f"RULES.md: {heading}: no definition is named")
-        if not any("/src/" in path and found(path) for path, _ in codes):
+        if not any("/src/" in path and found(path) for path, _ in files_in(parts["Code"])):
             wrong.append(f"RULES.md: {heading}: no code is named")
-        for path, names in definitions:
-            gone = [name for name in names if found(path) and not re.search(rf"^(\w+ )*{name} :", read(path), re.M)]
-            wrong += [f"RULES.md: {heading}: {name} is not in {path}" for name in gone]
-        for path, names in tests_in(shown):
+        for path, names in definitions + list(files_in(parts["Through"])):
+            defined = {name for name, _ in statements(read(path))} if found(path) else set(names)
+            wrong += [f"RULES.md: {heading}: {name} is not in {path}" for name in names if name not in defined]
+        for path, names in tests_in(parts["Shown by"]):
             gone = [name for name in names if found(path) and not re.search(rf"\bfn {name}\b", read(path))]
             wrong += [f"RULES.md: {heading}: {name} is not in {path}" for name in gone]
     return len(sections), wrong
@@ -180,12 +171,12 @@ def is_found(topic, code, proofs, shown):
 
 
 def check_topics():
-    wrong, lines = [], re.findall(r"^\*Definition:\*.*", read("docs/RULES.md"), re.M)
-    for line in lines:
-        definition, code, proofs, shown = re.split(r"\*(?:Code|Proofs|Shown by):\*", line)
-        topic = re.search(r"/specs/(\w+)\.antt", definition)[1]
-        wrong += [f"RULES.md: {topic} has no {what} of its name" for what in is_found(topic, code, proofs, shown)]
-    return len(lines), wrong
+    wrong, every = [], rules()
+    for _, parts in every:
+        topic = re.search(r"/specs/(\w+)\.antt", parts["Definition"])[1]
+        missing = is_found(topic, parts["Code"], parts["Proofs"], parts["Shown by"])
+        wrong += [f"RULES.md: {topic} has no {what} of its name" for what in missing]
+    return len(every), wrong
 
 
 # PROOFS
@@ -351,10 +342,6 @@ def check_versions():
 # FOLDERS
 
 def check_folders():
-    sys.path.insert(0, os.path.join(ROOT, "tests", "lib"))
-    sys.dont_write_bytecode = True
-    from folders import MOST_FILES, long_folders, sentence, sources, stale
-
     wrong = [f"{folder}/README.md: it is not what ./dev folders writes" for folder in stale()]
     files = [(folder, name) for folder in long_folders() for name in sources(folder)]
     wrong += [f"{folder}/{name}: it does not begin with a sentence" for folder, name in files if not sentence(folder, name)]
@@ -364,6 +351,14 @@ def check_folders():
         if count > MOST_FILES and not found(f"{folder}/README.md"):
             wrong.append(f"{folder}: {count} files, and no README.md")
     return len(long_folders()), wrong
+
+
+# PICTURE
+
+def check_picture():
+    wrong = ["docs/ARCHITECTURE.md: the picture is not what ./dev folders draws"] if is_stale() else []
+    wrong += [f"tests/lib/picture.py: {place} is not on the way" for place in unreached()]
+    return drawn().count("\n"), wrong
 
 
 # SCRIPTS
@@ -378,7 +373,7 @@ def check_scripts():
 CHECKS = {"paths": check_paths, "rules": check_rules, "topics": check_topics,
           "laws, functions and lemma files": check_proofs, "lemma files": check_lemmas, "edits": check_edits,
           "lines": check_lines, "kits": check_kits, "versions": check_versions, "folders": check_folders,
-          "scripts": check_scripts}
+          "lines of the picture": check_picture, "scripts": check_scripts}
 
 
 def main():

@@ -1,0 +1,134 @@
+"""Which definitions a contract cites, and which a definition is made of. A definition is its crate, file and name."""
+
+import functools
+import glob
+import os
+import re
+
+TOP = os.path.dirname(os.path.dirname(os.path.dirname(os.path.abspath(__file__))))
+WORD = re.compile(r"(?<![\w.'-])([A-Za-z_][\w-]*)(?:\.([A-Za-z_][\w-]*))?")
+FUNCTION = re.compile(r' *(?:pub(?:\(\w+\))? )?(?:const )?(?:unsafe )?(?:extern "C" )?fn (\w+)')
+CLAUSE = re.compile(r"^ +(?:ghost|requires|ensures)\b", re.M)
+# A name, or more in braces, of a file of definitions; a file can have another name here.
+NAMES = re.compile(r"Rattle\.(\w+)\.specs\.([\w.]+)\.\{([^}]*)\}")
+FILE = re.compile(r"Rattle\.(\w+)\.specs\.([\w.]+)(?: as (\w+))?(?=[;\n])")
+BEGINS = re.compile(r"(?:(?:abbrev|unfoldable|pub|data|record) )+(?!use )([^\s:]+)(?= |$)|([\w-]+) :")
+
+
+def read(path):
+    with open(os.path.join(TOP, path), encoding="utf-8") as text:
+        return text.read()
+
+
+def file_of(path):
+    """The crate of a file of definitions, and the file's name in `use` lines."""
+    return path.split("/")[1], path.partition("/specs/")[2][: -len(".antt")].replace("/", ".")
+
+
+def used(text):
+    """What the `use` lines of a file bring: the definition of each name, and the file of each file's name."""
+    names, files = {}, {}
+    for crate, file, listed in NAMES.findall(text):
+        for entry in listed.split(","):
+            name, _, other = entry.strip().partition(" as ")
+            names[other or name] = (crate, file, name)
+    for crate, file, other in FILE.findall(text):
+        files[other or file.split(".")[-1]] = (crate, file)
+    return names, files
+
+
+def cited(text, names, files):
+    """The definitions that a text names."""
+    for word, inner in WORD.findall(text):
+        if word in files and inner:
+            yield (*files[word], inner)
+        elif word in names:
+            yield names[word]
+
+
+# CODE
+
+def heads(text):
+    """Each function with its lines up to its body."""
+    name, head = None, []
+    for line in text.split("\n"):
+        begun = FUNCTION.match(line)
+        if begun:
+            name, head = begun[1], []
+        if name:
+            head.append(line)
+        if name and (line.strip() == "{" or line.endswith(";") or line.endswith(" {") and not CLAUSE.match(line)):
+            yield name, "\n".join(head)
+            name = None
+
+
+@functools.cache
+def contracts(path):
+    """Each function of a file of code with the definitions that its contract cites."""
+    text, found = read(path), {}
+    names, files = used(text)
+    for name, head in heads(text):
+        clauses = CLAUSE.search(head)
+        found.setdefault(name, set()).update(cited(head[clauses.start() :], names, files) if clauses else ())
+    return found
+
+
+def changed(path):
+    """The functions in which an edit of must-fail/ changes something, each with its file."""
+    file = ""
+    for line in read(path).split("\n"):
+        key, _, value = line.partition(": ")
+        if key == "file":
+            file = f"crates/{path.split('/')[1]}/{value}"
+        before = read(file).partition(value)[0] if key == "old" else ""
+        names = [begun[1] for begun in map(FUNCTION.match, before.split("\n")) if begun]
+        yield from ((file, name) for name in names[-1:])
+
+
+# DEFINITIONS
+
+def statements(text):
+    """Each definition or lemma of a file with its lines, without comments. Those of a module are indented by two."""
+    name, lines, margin = None, [], ""
+    for line in [*text.split("\n"), "end :"]:
+        if line and line[0] not in " -})":
+            margin = "  " if line.startswith("module ") else ""
+        begun = line.startswith(margin) and BEGINS.match(line[len(margin) :])
+        if begun or margin and line.startswith("module "):
+            if name:
+                yield name, "\n".join(lines)
+            name, lines = begun and (begun[1] or begun[2]), []
+        if name and not line.lstrip().startswith("--"):
+            lines.append(line)
+
+
+@functools.cache
+def made_of():
+    """For each definition of the repository those that it names."""
+    found = {}
+    for path in glob.glob("crates/*/specs/**/*.antt", root_dir=TOP, recursive=True):
+        text = read(path)
+        names, files = used(text)
+        own = dict(statements(text))
+        here = {name: (*file_of(path), name) for name in own}
+        found.update({here[name]: set(cited(own[name], {**names, **here}, files)) for name in own})
+    return found
+
+
+def leads_to(begun, wanted):
+    """Whether a definition is made of another one, or of some that are."""
+    seen, left = set(), [begun]
+    while left:
+        one = left.pop()
+        if one not in seen:
+            seen.add(one)
+            left += made_of().get(one, ())
+    return wanted in seen - {begun}
+
+
+@functools.cache
+def lemmas(path):
+    """For each lemma of a file the definitions that it names."""
+    text = read(path)
+    names, files = used(text)
+    return {name: set(cited(lines, names, files)) for name, lines in statements(text)}
