@@ -73,17 +73,17 @@ def body_of(lines):
 
 @functools.cache
 def module(crate, name):
-    """The path of each name that the `use` lines of a module bring, and the body of each of its functions."""
+    """The path of each name that the `use` lines of a module bring, and the body of each of its functions, the first of a name."""
     text, brought, lines, current, margin = read("crates", crate, "src", f"{name}.rt"), {}, {}, None, ""
     for path, names in re.findall(r"^(?:pub )?use ([\w:]+?)::(\w+|\{[^}]*\});", text, re.M):
         brought.update({word: path for word in re.findall(r"\w+", names)})
     for line in text.split("\n"):
         begun = FUNCTION.match(line)
         if begun:
-            margin, current = begun[1], begun[2]
+            margin, current = begun[1], begun[2] if begun[2] not in lines else None
         if current:
             lines.setdefault(current, []).append(line)
-        if line.startswith(margin + "}"):
+        if line.startswith((margin + "}", "}")):
             current = None
     return brought, {function: body_of(found) for function, found in lines.items()}
 
@@ -119,8 +119,8 @@ def called(crate, name, function):
 
 
 def made_by(crate, name, function):
-    """If a trait only declares a function: those of that name in the crate of the call, in modules that bring the trait."""
-    if module(crate, name)[1].get(function, "") is None:
+    """If a trait of another crate only declares a function: those of that name in the crate of the call, where it is brought."""
+    if crate != CALL[0] and module(crate, name)[1].get(function, "") is None:
         for path in sorted(glob.glob(os.path.join(TOP, "crates", CALL[0], "src", "*.rt"))):
             other = os.path.basename(path)[: -len(".rt")]
             brought, functions = module(CALL[0], other)

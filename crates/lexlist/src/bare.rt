@@ -3,8 +3,7 @@ ghost use Rattle.std.specs.Prelude.{ℕ};
 ghost use Rattle.yaml_lexeme.specs.Place.{IsMarkOf};
 
 use crate::ask::mark_at;
-use crate::session::put_mark;
-use crate::show::kind_name;
+use crate::show::{kind_name, put_mark};
 use std::alloc::Global;
 use std::io;
 use std::io::Write;

@@ -5,6 +5,7 @@
 ghost use Rattle.std.specs.Prelude.{◌≤◌, IfOk, IfSome, length};
 
 use crate::bare::put_places;
+use crate::show::put_mark;
 use crate::words::{setting_of, word_at};
 use std::alloc::{AllocError, Global};
 use std::io;
@@ -24,11 +25,6 @@ const KEY_LIMIT: u32 = 1024;
 
 /// The greatest key limit, in bytes.
 pub const MOST_KEY_LIMIT: u32 = 65536;
-
-pub fn put_mark(out: &mut impl Write, mark: yaml_mark_t) -> io::Result<()> {
-    let (index, line, column) = (mark.index, mark.line, mark.column);
-    write!(out, " {index}:{line}:{column}")
-}
 
 fn put_bytes(out: &mut impl Write, bytes: &[u8]) -> io::Result<()> {
     write!(out, " ")?;

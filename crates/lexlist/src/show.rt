@@ -1,5 +1,7 @@
 //! The texts of a kind, a lexeme and a fault in a line.
 use std::alloc::{AllocError, Global};
+use std::io;
+use std::io::Write;
 use yaml_lexeme::{yaml_lexeme_kind_t, yaml_lexeme_t};
 use yaml_text::{unnamed_yaml_token_t_data, yaml_fault_t, yaml_mark_t};
 
@@ -7,6 +9,12 @@ use yaml_text::{unnamed_yaml_token_t_data, yaml_fault_t, yaml_mark_t};
 pub fn show_mark(alloc: Global, mark: yaml_mark_t) -> Result<String, AllocError> {
     let (index, line, column) = (mark.index, mark.line, mark.column);
     format!(in alloc; "{index}:{line}:{column}")
+}
+
+/// Writes a space, and a mark as `INDEX:LINE:COLUMN`.
+pub fn put_mark(out: &mut impl Write, mark: yaml_mark_t) -> io::Result<()> {
+    let (index, line, column) = (mark.index, mark.line, mark.column);
+    write!(out, " {index}:{line}:{column}")
 }
 
 /// The name of a kind.

@@ -1,5 +1,5 @@
 -- Tokens that are given one by one make a batch.
-use Rattle.std.proofs.Common.{◌≡◌, ◌⊎◌, ◌++◌, ◌∷◌, [], ℕ, ◌+◌, ◌-◌, ◌≤◌, ◌<◌, ◌^◌, Bool, true, false, List, Some, None, length, refl, ap, sym, ◌∙◌, subst, arith, append-nil, length-append, append_assoc}
+use Rattle.std.proofs.Common.{◌≡◌, ◌++◌, ◌∷◌, [], ℕ, ◌+◌, ◌-◌, ◌≤◌, ◌<◌, ◌^◌, Bool, true, false, List, Some, None, length, refl, ap, sym, ◌∙◌, subst, arith, append-nil, length-append, append_assoc}
 use Rattle.std.specs.Prelude.{if◌then◌else◌, ◌≢◌}
 use Rattle.std.proofs.lemmas.List.{length_push}
 use Rattle.yaml_text.specs.declared.types.yaml_encoding_t.{yaml_encoding_t}
@@ -12,7 +12,7 @@ use Rattle.yaml_c.specs.Ahead.Ahead.{NONE, TOKEN, OVER}
 use Rattle.yaml_c.specs.Held.{Stands}
 use Rattle.yaml_c.specs.inside.Batch.{Stops, GivesNext, GoesOn, KeepsSizes}
 use Rattle.yaml_c.specs.Record.{record_of, texts_of, all_texts}
-use Rattle.yaml_c.specs.inside.Sink.{IsPut, ArePut}
+use Rattle.yaml_c.specs.inside.Sink.{IsPut}
 use Rattle.yaml_c.specs.inside.MorePut.{more_put}
 use Rattle.yaml_c.specs.declared.held.ahead_t.{ahead_t}
 use Rattle.yaml_c.specs.declared.held.ahead_t.TheVariants as code

@@ -198,12 +198,12 @@ fn read_on(
     if let ahead_t::FAULT(_) = ahead {
         return ahead;
     }
-    let Some(held) = kept.take() else {
+    let Some(held) = kept else {
         unreachable!();
     };
-    let mut parser = held.parser(alloc, input);
+    let mut parser = held.take(alloc, input);
     let ahead = give(&mut parser, ahead, rooms);
-    *kept = Some(yaml_kept_parser_t::new(parser));
+    held.keep(parser);
     ahead
 }
 
@@ -291,13 +291,14 @@ pub(crate) fn look_ahead(alloc: Global, held: held_t, input: &[u8]) -> held_t
     } = held;
     match ahead {
         ahead_t::NONE => {
-            let Some(kept) = parser else {
+            let Some(mut kept) = parser else {
                 unreachable!();
             };
-            let mut parser = kept.parser(alloc, input);
+            let mut parser = kept.take(alloc, input);
             let ahead = look(&mut parser, ahead_t::NONE);
+            kept.keep(parser);
             held_t {
-                parser: Some(yaml_kept_parser_t::new(parser)),
+                parser: Some(kept),
                 ahead,
                 encoding,
             }

@@ -12,7 +12,8 @@ ghost use Rattle.yaml_scan.specs.Parser.{IsRefusedEarly};
 ghost use Rattle.yaml_scan.specs.All.{AllOf, ReadsAll, EndNoMore, EndAll, depth_of};
 
 use crate::keys::KEY_LIMIT;
-use crate::sink::{yaml_scan_to, yaml_token_sink_t};
+use crate::sink::yaml_scan_to;
+use crate::target::yaml_token_sink_t;
 use std::alloc::{AllocError, Global};
 use yaml_text::{yaml_encoding_t, yaml_fault_t, yaml_token_t};
 

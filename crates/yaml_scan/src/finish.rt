@@ -15,10 +15,9 @@ use crate::kind::is_last;
 use crate::lay::lay_lexeme;
 use crate::look::{root_after, step_t};
 use crate::scanner::scanner_t;
-use crate::sink::yaml_token_sink_t;
 use crate::source::decider_t;
 use crate::stop::{stop_after, stop_in_lexeme};
-use crate::target::{hand_on, hand_token, no_sink_t};
+use crate::target::{hand_on, hand_token, no_sink_t, yaml_token_sink_t};
 use yaml_lexeme::{yaml_lexeme_kind_t, yaml_lexeme_t, yaml_refusal_t};
 
 /// Whether the group of a lexeme of a kind that was laid has to wait: the stream end always does, and any other if
@@ -119,11 +118,7 @@ fn check_reach(
         (λ stop. Refuses before scanner.old scanner.new stop) }
 {
     let reach = lexeme.reach;
-    let lost = is_lost(
-        root_after(scanner, margin, step),
-        scanner.limit,
-        reach,
-    );
+    let lost = is_lost(root_after(scanner, margin, step), scanner.limit, reach);
     if scanner.near <= reach.index || lost {
         scanner.there = reach;
         return Err(stop_after(scanner, margin, step.kind, step.allowed));

@@ -38,7 +38,8 @@ pub use parser::{
     yaml_parser_queued, yaml_parser_scan, yaml_parser_skip, yaml_parser_t,
 };
 pub use scanned::yaml_scan_next;
-pub use sink::{yaml_scan_to, yaml_token_sink_t};
+pub use sink::yaml_scan_to;
+pub use target::yaml_token_sink_t;
 pub use yaml_lexeme::{
     yaml_context_t, yaml_gap, yaml_lexeme_at, yaml_lexeme_kind, yaml_lexeme_kind_t, yaml_lexeme_t,
 };

@@ -1,10 +1,9 @@
-//! Sinks: what takes the tokens of an input, one after the other.
-ghost use Rattle.std.specs.Prelude.{◌≡◌, ◌++◌, ◌∷◌, ◌≤◌, [], List, IfOk, MatchResult, OnErr, OnOk, option_map};
+//! Scanning to a sink, which takes the tokens of an input, one after the other.
+ghost use Rattle.std.specs.Prelude.{◌≤◌, IfOk, MatchResult, OnErr, option_map};
 ghost use Rattle.yaml_text.specs.Fault.{fault_of};
-ghost use Rattle.yaml_text.specs.Token.{Token, token_of};
 ghost use Rattle.yaml_scan.specs.Keys.{most_key_limit};
 ghost use Rattle.yaml_scan.specs.Sink.{IsGivenAll, IsGivenFront};
-ghost use Rattle.yaml_scan.specs.Words.{HasWords, HaveWords};
+ghost use Rattle.yaml_scan.specs.Words.{HaveWords};
 ghost use Rattle.yaml_scan.specs.inside.Given.{GaveRest, GivesAll, IsSettledTo, StopsGiving, told_all};
 ghost use Rattle.yaml_scan.specs.inside.Ready.{IsNew};
 ghost use Rattle.yaml_scan.specs.inside.Scanning.{IsOpen, Runs};
@@ -15,29 +14,9 @@ use crate::scanner::scanner_t;
 use crate::session::is_stream_end;
 use crate::settled::is_settled;
 use crate::step::step_to;
-use crate::target::give;
+use crate::target::{give, yaml_token_sink_t};
 use std::alloc::{AllocError, Global};
 use yaml_text::{yaml_encoding_t, yaml_fault_t, yaml_token_t};
-
-/// Takes the tokens of an input, one after the other.
-pub trait yaml_token_sink_t {
-    // Between two states these tokens were taken, in this order, and nothing else.
-    ghost took: { Self → List Token → Self → Type 0 };
-
-    // What is known if it found no memory for a token: nothing, or that this does not happen.
-    ghost may_refuse: { Type 0 };
-
-    /// Takes a token. `AllocError` if it found no memory; then nothing was taken.
-    fn put(&mut self, token: yaml_token_t) -> Result<(), AllocError>
-        requires { HasWords (token_of token).token_data }
-        ensures taken { OnOk result (took self.old (token_of token ∷ []) self.new) }
-        ensures kept { OnErr result (took self.old [] self.new) }
-        ensures refused { OnErr result may_refuse };
-
-    ghost took_none: { (s : Self) → took s [] s };
-
-    ghost took_more: { (a b c : Self) (xs ys : List Token) → took a xs b → took b ys c → took a (xs ++ ys) c };
-}
 
 /// Makes steps until the head of the queue is the next token. The groups of steps that need not wait go to the sink.
 fn settle_to<S: yaml_token_sink_t>(scanner: &mut scanner_t, sink: &mut S) -> Result<(), stop_t>

@@ -11,12 +11,11 @@ use crate::fault::{stop_t, stopped};
 use crate::finish::{end_character, end_queued, end_read};
 use crate::keys::{is_lost, root_at};
 use crate::scanner::scanner_t;
-use crate::sink::yaml_token_sink_t;
 use crate::source::{
     gap_end, kind_at, read_block, read_character, read_other, read_plain, read_quoted,
 };
 use crate::stop::{stop_in_gap, stop_without_kind};
-use crate::target::no_sink_t;
+use crate::target::{no_sink_t, yaml_token_sink_t};
 use yaml_lexeme::yaml_lexeme_kind_t;
 
 /// The kind of a quoted scalar.

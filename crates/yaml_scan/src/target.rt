@@ -1,8 +1,8 @@
 //! Where the group of a step goes: into the queue, or straight to a sink if nothing of it has to wait.
-ghost use Rattle.std.specs.Prelude.{◌≡◌, ◌+◌, ◌<◌, ◌^◌, [], ◌∷◌, ◌++◌, ◌⊎◌, true, false, length, MatchResult};
-ghost use Rattle.std.specs.Prelude.{if◌then◌else◌};
+ghost use Rattle.std.specs.Prelude.{◌≡◌, ◌+◌, ◌<◌, ◌^◌, List, [], ◌∷◌, ◌++◌, ◌⊎◌, true, false, length, MatchResult};
+ghost use Rattle.std.specs.Prelude.{if◌then◌else◌, OnErr, OnOk};
 ghost use Rattle.std.specs.VecDeque.{deque_capacity};
-ghost use Rattle.yaml_text.specs.Token.{token_of};
+ghost use Rattle.yaml_text.specs.Token.{Token, token_of};
 ghost use Rattle.yaml_scan.specs.Words.{HasWords};
 ghost use Rattle.yaml_scan.specs.declared.fault.stop_t.TheVariants.{SINK};
 ghost use Rattle.yaml_scan.specs.inside.Queue.{ends_at, leads, start_at};
@@ -12,9 +12,28 @@ ghost use Rattle.yaml_scan.specs.inside.Handed.{Gives, IsHandedOn, group_tokens,
 use crate::fault::{stop_by_sink, stop_t, stopped};
 use crate::groups::{block_t, group_t, token_at};
 use crate::scanner::scanner_t;
-use crate::sink::yaml_token_sink_t;
 use std::alloc::AllocError;
 use yaml_text::{unnamed_yaml_token_t_data, yaml_mark_t, yaml_token_t};
+
+/// Takes the tokens of an input, one after the other.
+pub trait yaml_token_sink_t {
+    // Between two states these tokens were taken, in this order, and nothing else.
+    ghost took: { Self → List Token → Self → Type 0 };
+
+    // What is known if it found no memory for a token: nothing, or that this does not happen.
+    ghost may_refuse: { Type 0 };
+
+    /// Takes a token. `AllocError` if it found no memory; then nothing was taken.
+    fn put(&mut self, token: yaml_token_t) -> Result<(), AllocError>
+        requires { HasWords (token_of token).token_data }
+        ensures taken { OnOk result (took self.old (token_of token ∷ []) self.new) }
+        ensures kept { OnErr result (took self.old [] self.new) }
+        ensures refused { OnErr result may_refuse };
+
+    ghost took_none: { (s : Self) → took s [] s };
+
+    ghost took_more: { (a b c : Self) (xs ys : List Token) → took a xs b → took b ys c → took a (xs ++ ys) c };
+}
 
 /// The sink of a scanner whose tokens all go through the queue. It is given none.
 #[derive(Drop)]

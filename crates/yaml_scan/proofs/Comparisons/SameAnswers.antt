@@ -8,7 +8,7 @@ use Rattle.yaml_text.proofs.Comparisons.SameParts.{are_same_marks, are_same_mark
 use Rattle.yaml_text.proofs.Comparisons.SameParts.{are_same_types-is, both-is, both_ways}
 use Rattle.yaml_text.proofs.Comparisons.SameTokens.{are_same_tokens, are_same_tokens-is}
 use Rattle.yaml_text.proofs.Comparisons.SameFaults.{are_same_faults, are_same_faults-is}
-use Rattle.yaml_scan.specs.Seen.{seen_of, Seen}
+use Rattle.yaml_scan.specs.Seen.{seen_of}
 use Rattle.yaml_scan.specs.Seen.Seen.{TOKEN, PEEKED, FAULT}
 use Rattle.yaml_scan.specs.declared.calls.yaml_answer_t.{yaml_answer_t}
 use Rattle.yaml_scan.specs.declared.calls.yaml_answer_t.TheVariants as coded

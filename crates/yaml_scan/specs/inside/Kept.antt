@@ -1,5 +1,5 @@
 -- What is kept of a parser when its input is let go.
-use Rattle.std.specs.Prelude.{◌≡◌, ◌<◌, false}
+use Rattle.std.specs.Prelude.{◌≡◌, ◌<◌, Some, false}
 use Rattle.yaml_text.specs.Kept.{KeptText, IsKeptOf}
 use Rattle.yaml_scan.specs.declared.kept.yaml_kept_parser_t.{yaml_kept_parser_t}
 use Rattle.yaml_scan.specs.declared.parser.yaml_parser_t.TheInside.{Inside}
@@ -10,7 +10,7 @@ use Rattle.yaml_scan.specs.inside.Ready.{Sound, parser_of}
 abbrev pub kept_of : Inside → KeptText → yaml_kept_parser_t
 kept_of p text = record {
   setting = p.setting;
-  text = text;
+  text = Some text;
   refusal = p.scanner.refusal;
   near = p.scanner.near;
   limit = p.scanner.limit;
@@ -29,5 +29,6 @@ pub record IsKept (p : Parser) (k : yaml_kept_parser_t) : Type 0 where
   pub parser : Inside
   pub sound : Sound parser
   pub seen_as : parser_of parser ≡ p
-  pub kept : k ≡ kept_of parser k.text
-  pub text : parser.session.over ≡ false → 0 < parser.scanner.made → IsKeptOf parser.scanner.text p.input k.text
+  pub left : KeptText
+  pub kept : k ≡ kept_of parser left
+  pub text : parser.session.over ≡ false → 0 < parser.scanner.made → IsKeptOf parser.scanner.text p.input left

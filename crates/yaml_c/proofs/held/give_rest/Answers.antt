@@ -1,7 +1,7 @@
-use Rattle.std.proofs.Common.{rules, ◌≡◌, ◌++◌, false, ◌+◌, ◌≤◌, ◌<◌, ◌^◌, List, Option, length, refl, sym, ap, ◌∙◌, subst, arith, inl, inr}
+use Rattle.std.proofs.Common.{rules, ◌≡◌, ◌++◌, false, ◌+◌, ◌≤◌, ◌<◌, ◌^◌, Option, length, refl, sym, ap, ◌∙◌, subst, arith, inl, inr}
 use Rattle.std.specs.Prelude.{option_map}
 use Rattle.std.proofs.lemmas.Bool.{cases_lt}
-use Rattle.yaml_text.specs.Token.{Token, token_of}
+use Rattle.yaml_text.specs.Token.{token_of}
 use Rattle.yaml_c.specs.Ahead.{Ahead, ahead_of, is_end}
 use Rattle.yaml_c.specs.Ahead.Ahead.{NONE, TOKEN, OVER}
 use Rattle.yaml_c.specs.Held.{Stands}

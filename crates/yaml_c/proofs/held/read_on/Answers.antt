@@ -10,11 +10,11 @@ use Rattle.yaml_c.proofs.held.read_on.Goals as goal
 
 pub returns : goal.returns
 returns c = λ s same kept stands.
-    let k : IsKept s.parser c.in-Some.held = subst (λ (z : Option yaml_kept_parser_t). IsSomeAnd z (IsKept s.parser)) (sym c.take.ensures.value ∙ c.in-Some.is) kept in
+    let k = subst (λ (z : Option yaml_kept_parser_t). IsSomeAnd z (IsKept s.parser)) c.in-Some.is kept in
     let here = stands_in s.limit s.setting s.input s.parser s.given c.args.ahead c.in_default.not-FAULT c.requires.more stands in
-    let e = c.parser-parser.ensures s.parser (here ∙ same) k in
+    let e = c.take-parser.ensures s.parser (here ∙ same) k in
     record {
       parser = c.give-ahead.new.parser;
-      keeps = c.new.ensures;
+      keeps = c.keep.ensures;
       gives = c.give-ahead.ensures s.setting s.limit s.input s.given (subst (λ (z : Parser). Stands s.limit s.setting s.input z s.given (ahead_of c.args.ahead)) (sym e) stands);
     }

@@ -7,13 +7,17 @@ use Rattle.yaml_scan.specs.inside.Ready.{Sound}
 use Rattle.yaml_scan.specs.inside.Kept.{kept_of}
 use Rattle.yaml_scan.specs.Parser.{Parser}
 use Rattle.yaml_scan.proofs.RunningCalls.KeptParser.{goes_on}
-use Rattle.yaml_scan.proofs.kept.yaml_kept_parser_t.parser.Goals as goal
+use Rattle.yaml_scan.proofs.kept.yaml_kept_parser_t.take.Goals as goal
 
-pub text_again-requires : goal.text_again-requires
-text_again-requires c = λ o m. let k = c.requires.2 in
+pub text_again-text-requires : goal.text_again-text-requires
+text_again-text-requires c = λ o m. let k = c.requires.2 in
     let over_is = ap (λ (z : yaml_kept_parser_t). z.session.over) k.kept in
-    let made_is = ap (λ (z : yaml_kept_parser_t). z.made) k.kept in
-    (k.parser.scanner.text, subst (λ (z : List ℕ). IsKeptOf k.parser.scanner.text z c.args.self.text) c.requires.1 (k.text (sym over_is ∙ o) (omega (arith, made_is, m))))
+    let made_is = ap (λ (z : yaml_kept_parser_t). z.made) k.kept in (
+      k.parser.scanner.text,
+      k.left,
+      c.take.ensures.value ∙ ap (λ (z : yaml_kept_parser_t). z.text) k.kept,
+      subst (λ (z : List ℕ). IsKeptOf k.parser.scanner.text z k.left) c.requires.1 (k.text (sym over_is ∙ o) (omega (arith, made_is, m))),
+    )
 
 pub invariant_of-result : goal.invariant_of-result
 invariant_of-result c = let k = c.requires.2 in let P = k.parser in
@@ -22,7 +26,7 @@ invariant_of-result c = let k = c.requires.2 in let P = k.parser in
       setting = z.setting;
       scanner = record {
         alloc = c.args.alloc;
-        text = c.text_again.result;
+        text = c.text_again-text.result;
         refusal = z.refusal;
         near = z.near;
         limit = z.limit;
@@ -30,8 +34,8 @@ invariant_of-result c = let k = c.requires.2 in let P = k.parser in
         allowed = z.allowed;
         layout = z.layout;
         reach = z.reach;
-        front = c.args.self.reach;
-        there = c.args.self.reach;
+        front = c.args.self.now.reach;
+        there = c.args.self.now.reach;
         kept = c.make_memory_fault.result;
         taken = z.taken;
         made = z.made;
@@ -42,8 +46,9 @@ invariant_of-result c = let k = c.requires.2 in let P = k.parser in
     } in
     let over_is = ap (λ (z : yaml_kept_parser_t). z.session.over) k.kept in
     let made_is = ap (λ (z : yaml_kept_parser_t). z.made) k.kept in
-    let same : P.session.over ≡ false → 0 < P.scanner.made → c.text_again.result ≡ P.scanner.text =
-    λ o m. c.text_again.ensures (over_is ∙ o) (omega (arith, made_is, m)) P.scanner.text
-    (subst (λ (z : List ℕ). IsKeptOf P.scanner.text z c.args.self.text) c.requires.1 (k.text o m)) in
-    subst (λ (z : yaml_kept_parser_t). Sound (F z)) (sym k.kept)
-    (goes_on P k.sound c.text_again.result same (F (kept_of P c.args.self.text)) (sym c.requires.1 ∙ sym (ap (λ (z : Parser). z.input) k.seen_as)) c.empty.ensures)
+    let text_is = c.take.ensures.value ∙ ap (λ (z : yaml_kept_parser_t). z.text) k.kept in
+    let same : P.session.over ≡ false → 0 < P.scanner.made → c.text_again-text.result ≡ P.scanner.text =
+    λ o m. c.text_again-text.ensures (over_is ∙ o) (omega (arith, made_is, m)) P.scanner.text k.left text_is
+    (subst (λ (z : List ℕ). IsKeptOf P.scanner.text z k.left) c.requires.1 (k.text o m)) in
+    rw (c.replace.ensures.value, c.replace-2.ensures.value, c.replace-3.ensures.value) (subst (λ (z : yaml_kept_parser_t). Sound (F z)) (sym k.kept)
+    (goes_on P k.sound c.text_again-text.result same (F (kept_of P k.left)) (sym c.requires.1 ∙ sym (ap (λ (z : Parser). z.input) k.seen_as)) c.empty.ensures))

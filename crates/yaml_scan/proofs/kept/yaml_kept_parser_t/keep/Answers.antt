@@ -2,7 +2,7 @@ use Rattle.std.proofs.Common.{refl, subst}
 use Rattle.yaml_scan.specs.inside.Kept.{IsKept, kept_of}
 use Rattle.yaml_scan.specs.Parser.{Parser}
 use Rattle.yaml_scan.proofs.RunningCalls.KeptParser.{begun_text}
-use Rattle.yaml_scan.proofs.kept.yaml_kept_parser_t.new.Goals as goal
+use Rattle.yaml_scan.proofs.kept.yaml_kept_parser_t.keep.Goals as goal
 
 pub returns : goal.returns
 returns c = let P = c.parser.inside in let t = c.new.result in
@@ -10,6 +10,7 @@ returns c = let P = c.parser.inside in let t = c.new.result in
       parser = P;
       sound = c.parser.invariant;
       seen_as = refl;
+      left = t;
       kept = refl;
       text = λ o m. c.new.ensures (begun_text P c.parser.invariant o m);
     })
