@@ -3,9 +3,9 @@ ghost use Rattle.std.specs.Prelude.{◌≡◌, ◌+◌, ◌<◌, ◌≤◌, ◌^
 ghost use Rattle.std.specs.Prelude.{IfOk, IfErr, IsOk, IsNone, IfSome};
 ghost use Rattle.yaml_text.specs.Chars.{IsText, utf8};
 ghost use Rattle.yaml_text.specs.Utf8.{offence8};
-ghost use Rattle.yaml_text.specs.Decode.{BeginsWithNone, IsFrontOf, encoding_of, dropped, behind_mark};
+ghost use Rattle.yaml_text.specs.Decode.{BeginsWithNone, IsLongestFront, encoding_of, bom_len, behind_bom};
 ghost use Rattle.yaml_text.specs.inside.Fronts.{Fronts};
-ghost use Rattle.yaml_text.specs.Decode.{front, refusal, refusal_seen, decoded, Decodes, outcome, Spells, IsRefused};
+ghost use Rattle.yaml_text.specs.Decode.{front, refusal, refusal_seen, decoding, Decodes, outcome, Spells, IsRefused};
 ghost use Rattle.yaml_text.specs.inside.Fronts.{order};
 ghost use Rattle.yaml_text.specs.Fault.{fault_of, memory_fault, reader_fault};
 ghost use Rattle.yaml_text.specs.declared.types.yaml_encoding_t.TheVariants.{YAML_UTF8_ENCODING};
@@ -74,7 +74,7 @@ fn front8(bytes: &[u8]) -> (usize, Option<offence_t>)
 /// mark are dropped.
 pub(crate) fn find_encoding(setting: yaml_encoding_t, input: &[u8]) -> (yaml_encoding_t, usize)
     ensures encoding { result.0 ≡ encoding_of setting input.now }
-    ensures dropped { result.1 ≡ dropped setting input.now }
+    ensures bom_len { result.1 ≡ bom_len setting input.now }
     ensures within { result.1 ≤ length input.now }
 {
     match setting {
@@ -153,7 +153,7 @@ pub fn yaml_decode_front<'a>(
     setting: yaml_encoding_t,
 ) -> Result<(yaml_text_t<'a>, Option<yaml_fault_t>), yaml_fault_t>
     ensures front { IfOk result (λ r. r.0 ≡ front setting input.now) }
-    ensures longest { IfOk result (λ r. IsFrontOf setting input.now r.0) }
+    ensures longest { IfOk result (λ r. IsLongestFront setting input.now r.0) }
     ensures refusal { IfOk result (λ r. refusal_seen r.1 ≡ refusal setting input.now) }
     ensures memory { IfErr result (λ fault. fault_of fault ≡ memory_fault) }
     ensures borrowed { encoding_of setting input.now ≡ YAML_UTF8_ENCODING → IsOk result }
@@ -181,14 +181,15 @@ pub fn yaml_decode<'a>(
     input: &'a [u8],
     setting: yaml_encoding_t,
 ) -> Result<yaml_text_t<'a>, yaml_fault_t>
-    ensures exact { Decodes result (decoded setting input.now) }
+    ensures exact { Decodes result (decoding setting input.now) }
     ensures text { IfOk result (λ text. Spells setting input.now text) }
     ensures fault { IfErr result (λ fault.
         (fault_of fault ≡ memory_fault) ⊎ IsRefused setting input.now (fault_of fault)) }
     // accepted UTF-8 is its own text, and no memory is taken for it
     ensures own_text { IfOk result (λ text.
-        text.encoding ≡ YAML_UTF8_ENCODING → utf8 text.chars ≡ behind_mark setting input.now) }
-    ensures borrowed { encoding_of setting input.now ≡ YAML_UTF8_ENCODING → outcome result ≡ decoded setting input.now }
+        text.encoding ≡ YAML_UTF8_ENCODING → utf8 text.chars ≡ behind_bom setting input.now) }
+    ensures borrowed { encoding_of setting input.now ≡ YAML_UTF8_ENCODING
+        → outcome result ≡ decoding setting input.now }
 {
     match yaml_decode_front(alloc, input, setting) {
         Ok((text, None)) => Ok(text),

@@ -72,11 +72,7 @@ pub(crate) fn first_char16(bytes: &[u8], big: bool) -> Result<(u32, usize), offe
     if !is_low(second) {
         return refused(problem_t::NO_LOW_UNIT, 2, second as i32);
     }
-    let value = 0x10000 + (first - 0xD800) * 1024 + (second - 0xDC00);
-    if !is_char(value) {
-        return refused(problem_t::CONTROL, 0, value as i32);
-    }
-    Ok((value, 4))
+    Ok((0x10000 + (first - 0xD800) * 1024 + (second - 0xDC00), 4))
 }
 
 /// The low and the high bytes of 16 units.
