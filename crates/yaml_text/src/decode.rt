@@ -12,7 +12,7 @@ ghost use Rattle.yaml_text.specs.declared.types.yaml_encoding_t.TheVariants.{YAM
 ghost use Rattle.yaml_text.specs.declared.types.yaml_encoding_t.TheVariants.{YAML_UTF16LE_ENCODING};
 ghost use Rattle.yaml_text.specs.declared.types.yaml_encoding_t.TheVariants.{YAML_UTF16BE_ENCODING};
 
-use crate::ascii::single_len;
+use crate::ascii::{rest, single_len};
 use crate::blocks::whole_len;
 use crate::fault::{make_memory_fault, make_reader_fault, yaml_fault_t};
 use crate::offence::offence_t;
@@ -21,14 +21,6 @@ use crate::types::yaml_encoding_t;
 use crate::utf8::first_char;
 use crate::utf16::front16;
 use std::alloc::Global;
-
-/// The bytes from a place on.
-pub(crate) fn from(bytes: &[u8], at: usize) -> &[u8]
-    requires { at ≤ length bytes.now }
-    ensures { result.now ≡ drop at bytes.now }
-{
-    &bytes[at..]
-}
 
 /// The bytes up to a place.
 fn up_to(bytes: &[u8], at: usize) -> &[u8]
@@ -47,7 +39,7 @@ fn quick_len(bytes: &[u8]) -> usize
     if run >= 32 {
         return run;
     }
-    run + whole_len(from(bytes, run))
+    run + whole_len(rest(bytes, run))
 }
 
 /// How many bytes the front of a text has, and what is wrong after it.
@@ -61,11 +53,11 @@ fn front8(bytes: &[u8]) -> (usize, Option<offence_t>)
 {
     let mut at = quick_len(bytes);
     while at < bytes.len() {
-        match first_char(from(bytes, at)) {
+        match first_char(rest(bytes, at)) {
             Ok(width) => at += width,
             Err(offence) => return (at, Some(offence)),
         }
-        at += quick_len(from(bytes, at));
+        at += quick_len(rest(bytes, at));
     }
     (at, None)
 }
@@ -159,7 +151,7 @@ pub fn yaml_decode_front<'a>(
     ensures borrowed { encoding_of setting input.now ≡ YAML_UTF8_ENCODING → IsOk result }
 {
     let (encoding, before) = find_encoding(setting, input);
-    let bytes = from(input, before);
+    let bytes = rest(input, before);
     match encoding {
         yaml_encoding_t::YAML_UTF16LE_ENCODING => Ok(front_in_utf16(alloc, bytes, false, before)?),
         yaml_encoding_t::YAML_UTF16BE_ENCODING => Ok(front_in_utf16(alloc, bytes, true, before)?),
