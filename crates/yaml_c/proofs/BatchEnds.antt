@@ -13,7 +13,7 @@ use Rattle.yaml_c.specs.Ahead.Ahead.{NONE, TOKEN, FAULT, OVER}
 use Rattle.yaml_c.specs.Answer.{answer_of, answer_with, fault_texts}
 use Rattle.yaml_c.specs.Held.{Scan, Stands, IsAt, Why, Tells, IsNext}
 use Rattle.yaml_c.specs.inside.Batch.{Stops, ReadsOn, rooms_of, GivesFault, TellsCounts, Ends}
-use Rattle.yaml_c.specs.Numbers.{encoding_number}
+use Rattle.yaml_text.specs.Types.{encoding_number}
 use Rattle.yaml_c.specs.Record.{held, records_of, all_texts}
 use Rattle.yaml_c.specs.Room.{covered, covered_from}
 use Rattle.yaml_c.specs.Status as status

@@ -3,8 +3,8 @@ use Rattle.std.specs.Prelude.{◌≡◌, ℕ, ◌≤◌, ◌<◌, ◌⊎◌, ◌
 use Rattle.yaml_text.specs.declared.types.yaml_encoding_t.{yaml_encoding_t}
 use Rattle.yaml_text.specs.Fault.{Fault, zero_mark}
 use Rattle.yaml_text.specs.Token.{Token}
+use Rattle.yaml_text.specs.Types.{error_type_number, encoding_number}
 use Rattle.yaml_scan.specs.All.{ReadsAll}
-use Rattle.yaml_c.specs.Numbers.{error_number, encoding_of}
 use Rattle.yaml_c.specs.Record.{held, mark_of, records_of, all_texts}
 use Rattle.yaml_c.specs.Room.{covered}
 use Rattle.yaml_c.specs.declared.answer.bogzhami_answer.{bogzhami_answer}
@@ -45,7 +45,7 @@ answer_with token_count text_len None = record {
 answer_with token_count text_len (Some f) = record {
   token_count = token_count;
   text_len = text_len;
-  error = error_number f.error;
+  error = error_type_number f.error;
   problem_value = f.value;
   problem_offset = f.offset;
   problem_mark = mark_of f.problem_mark;
@@ -103,7 +103,7 @@ pub record IsUntouched (before after : Rooms) (answer : bogzhami_answer) (status
 -- What a call with a right setting and limit leaves.
 abbrev pub ScansRight : ℕ → ℕ → List ℕ → Rooms → Rooms → bogzhami_answer → ℕ → Type 0
 ScansRight setting limit input before after answer status =
-    (e : yaml_encoding_t) → encoding_of setting ≡ Some e → 1 ≤ limit → limit ≤ most_key_limit
+    (e : yaml_encoding_t) → encoding_number e ≡ setting → 1 ≤ limit → limit ≤ most_key_limit
     → IsScanned e limit input before after answer status
 
 -- What a call with a wrong setting or limit leaves.

@@ -5,6 +5,7 @@ use Rattle.yaml_text.specs.declared.types.yaml_encoding_t.{yaml_encoding_t}
 use Rattle.yaml_text.specs.Decode.{encoding_of}
 use Rattle.yaml_text.specs.Fault.{Fault}
 use Rattle.yaml_text.specs.Token.{Token}
+use Rattle.yaml_text.specs.Types.{encoding_number}
 use Rattle.yaml_scan.specs.All.{ReadsAll}
 use Rattle.yaml_scan.specs.Parser.{Parser}
 use Rattle.yaml_scan.specs.Scanned.{Scanned}
@@ -13,7 +14,6 @@ use Rattle.yaml_scan.specs.inside.Kept.{IsKept}
 use Rattle.yaml_c.specs.Ahead.{Ahead, ahead_of, is_end, need}
 use Rattle.yaml_c.specs.Ahead.Ahead.{NONE, TOKEN, FAULT, OVER}
 use Rattle.yaml_c.specs.Answer.{Rooms, answer_of, answer_with, no_answer, fault_texts}
-use Rattle.yaml_c.specs.Numbers.{encoding_number}
 use Rattle.yaml_c.specs.Record.{held, record_of, records_of, texts_of, all_texts}
 use Rattle.yaml_c.specs.Room.{covered}
 use Rattle.yaml_c.specs.Status as status

@@ -3,7 +3,7 @@ use Rattle.std.specs.Prelude.{ℕ, ◌+◌, ℤ, pos, List, [], ◌∷◌, ◌++
 use Rattle.yaml_text.specs.declared.types.yaml_mark_t.{yaml_mark_t}
 use Rattle.yaml_text.specs.Token.{Token, TokenData, type_of}
 use Rattle.yaml_text.specs.Token.TokenData.{STREAM_START, VERSION_DIRECTIVE, TAG_DIRECTIVE, ALIAS, ANCHOR, TAG, SCALAR}
-use Rattle.yaml_c.specs.Numbers.{type_number, style_number, encoding_number}
+use Rattle.yaml_text.specs.Types.{token_type_number, scalar_style_number, encoding_number}
 use Rattle.yaml_c.specs.declared.record.bogzhami_mark.{bogzhami_mark}
 use Rattle.yaml_c.specs.declared.record.bogzhami_token.{bogzhami_token}
 
@@ -33,7 +33,7 @@ second_text _ = []
 -- the number of a stream's encoding or of a scalar's style
 abbrev pub detail_of : TokenData → ℕ
 detail_of (STREAM_START encoding) = encoding_number encoding
-detail_of (SCALAR value style) = style_number style
+detail_of (SCALAR value style) = scalar_style_number style
 detail_of _ = 0
 
 -- the major number of a version
@@ -53,7 +53,7 @@ texts_of t = first_text t.token_data ++ second_text t.token_data
 -- the record of a token whose texts begin at a place
 abbrev pub record_of : ℕ → Token → bogzhami_token
 record_of at t = record {
-  token_type = type_number (type_of t.token_data);
+  token_type = token_type_number (type_of t.token_data);
   detail = detail_of t.token_data;
   major = major_of t.token_data;
   minor = minor_of t.token_data;

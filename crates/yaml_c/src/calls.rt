@@ -1,13 +1,13 @@
 //! The calls on a handle.
-ghost use Rattle.std.specs.Prelude.{◌≡◌, ◌≢◌, ◌⊎◌, ◌≤◌, Some, None, true, false};
+ghost use Rattle.std.specs.Prelude.{◌≡◌, ◌≢◌, ◌⊎◌, ◌≤◌, true, false};
 ghost use Rattle.yaml_text.specs.Decode as decoding;
 ghost use Rattle.yaml_text.specs.declared.types.yaml_encoding_t.{yaml_encoding_t};
 ghost use Rattle.yaml_text.specs.Fault.{zero_mark};
+ghost use Rattle.yaml_text.specs.Types.{encoding_number};
 ghost use Rattle.yaml_scan.specs.Session.{session_reach};
 ghost use Rattle.yaml_scan.specs.Parser.{course_read};
 ghost use Rattle.yaml_c.specs.Answer.{IsWrong, most_key_limit, no_answer, rooms};
 ghost use Rattle.yaml_c.specs.Held.{Scan, IsAt, IsNext, IsPeek, opened};
-ghost use Rattle.yaml_c.specs.Numbers as numbers;
 ghost use Rattle.yaml_c.specs.Record as records;
 ghost use Rattle.yaml_c.specs.Status as status;
 
@@ -50,10 +50,10 @@ pub extern "C" fn bogzhami_open(
     key_limit: u32,
 ) -> u32
     ensures wrong { IsWrong encoding key_limit → result ≡ status.wrong }
-    ensures right { (e : yaml_encoding_t) → numbers.encoding_of encoding ≡ Some e → 1 ≤ key_limit
+    ensures right { (e : yaml_encoding_t) → encoding_number e ≡ encoding → 1 ≤ key_limit
         → key_limit ≤ most_key_limit → (result ≡ status.done) ⊎ (result ≡ status.no_memory) }
     ensures opened { result ≡ status.done → (handle.new.live ≡ true) × ((e : yaml_encoding_t)
-        → numbers.encoding_of encoding ≡ Some e → IsAt (opened input.now e key_limit) handle.new.held.value) }
+        → encoding_number e ≡ encoding → IsAt (opened input.now e key_limit) handle.new.held.value) }
     ensures closed { result ≢ status.done → handle.new.live ≡ false }
 {
     let _ = close(alloc, handle);
@@ -185,7 +185,7 @@ pub extern "C" fn bogzhami_encoding(alloc: Global, handle: &mut bogzhami_handle)
     ensures same { handle.old.live ≡ true → handle.new.held.value ≡ handle.old.held.value }
     ensures not_live { handle.old.live ≡ false → result ≡ 0 }
     ensures encoding { handle.old.live ≡ true → (s : Scan) → IsAt s handle.old.held.value
-        → result ≡ numbers.encoding_number (decoding.encoding_of s.setting s.input) }
+        → result ≡ encoding_number (decoding.encoding_of s.setting s.input) }
 {
     let bogzhami_handle { live, held } = std::mem::replace(handle, closed());
     if !live {

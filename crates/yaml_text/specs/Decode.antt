@@ -22,11 +22,11 @@ spelling YAML_UTF16LE_ENCODING c = spelling16 false c
 spelling YAML_UTF16BE_ENCODING c = spelling16 true c
 
 -- The spellings of characters, joined.
-abbrev pub spelled : yaml_encoding_t → List ℕ → List ℕ
-spelled YAML_ANY_ENCODING cs = utf8 cs
-spelled YAML_UTF8_ENCODING cs = utf8 cs
-spelled YAML_UTF16LE_ENCODING cs = utf16 false cs
-spelled YAML_UTF16BE_ENCODING cs = utf16 true cs
+abbrev pub spellings : yaml_encoding_t → List ℕ → List ℕ
+spellings YAML_ANY_ENCODING cs = utf8 cs
+spellings YAML_UTF8_ENCODING cs = utf8 cs
+spellings YAML_UTF16LE_ENCODING cs = utf16 false cs
+spellings YAML_UTF16BE_ENCODING cs = utf16 true cs
 
 -- The bytes begin with the spelling of c.
 abbrev pub Begins : yaml_encoding_t → ℕ → List ℕ → Type 0
@@ -38,7 +38,7 @@ BeginsWithNone e bytes = (c : ℕ) → IsChar c → Begins e c bytes → ⊥
 
 -- The front of the bytes: the longest list of characters whose spellings, joined, begin them.
 pub record IsFront (e : yaml_encoding_t) (bytes chars rest : List ℕ) : Type 0 where
-  pub parts : bytes ≡ spelled e chars ++ rest
+  pub parts : bytes ≡ spellings e chars ++ rest
   pub each : AreChars chars
   pub longest : BeginsWithNone e rest
 
@@ -62,9 +62,9 @@ and_then_list None more = []
 and_then_list (Some c) more = c ∷ more c
 
 -- At most n characters from the front on.
-unfoldable pub front_of : yaml_encoding_t → ℕ → List ℕ → List ℕ
-front_of e zero bytes = []
-front_of e (suc n) bytes = and_then_list (first e bytes) (λ c. front_of e n (drop (length (spelling e c)) bytes))
+unfoldable pub first_chars : yaml_encoding_t → ℕ → List ℕ → List ℕ
+first_chars e zero bytes = []
+first_chars e (suc n) bytes = and_then_list (first e bytes) (λ c. first_chars e n (drop (length (spelling e c)) bytes))
 
 -- The bytes begin with these two. A place past the end reads as 0.
 abbrev pub begins_with : ℕ → ℕ → List ℕ → Bool
@@ -80,19 +80,20 @@ encoding_of YAML_UTF8_ENCODING input = YAML_UTF8_ENCODING
 encoding_of YAML_UTF16LE_ENCODING input = YAML_UTF16LE_ENCODING
 encoding_of YAML_UTF16BE_ENCODING input = YAML_UTF16BE_ENCODING
 
--- How many bytes of a byte order mark are dropped: none if an encoding is set.
-abbrev pub dropped : yaml_encoding_t → List ℕ → ℕ
-dropped YAML_ANY_ENCODING input =
+-- How many bytes the byte order mark has that is dropped. None is, if an encoding is set.
+abbrev pub bom_len : yaml_encoding_t → List ℕ → ℕ
+bom_len YAML_ANY_ENCODING input =
     if begins_with 0xFF 0xFE input then 2
     else if begins_with 0xFE 0xFF input then 2
     else if begins_with 0xEF 0xBB input && slice_index input 2 == 0xBF then 3
     else 0
-dropped YAML_UTF8_ENCODING input = 0
-dropped YAML_UTF16LE_ENCODING input = 0
-dropped YAML_UTF16BE_ENCODING input = 0
+bom_len YAML_UTF8_ENCODING input = 0
+bom_len YAML_UTF16LE_ENCODING input = 0
+bom_len YAML_UTF16BE_ENCODING input = 0
 
-abbrev pub behind_mark : yaml_encoding_t → List ℕ → List ℕ
-behind_mark setting input = drop (dropped setting input) input
+-- What follows it.
+abbrev pub behind_bom : yaml_encoding_t → List ℕ → List ℕ
+behind_bom setting input = drop (bom_len setting input) input
 
 -- What is wrong with bytes that begin with no character.
 abbrev pub offence : yaml_encoding_t → List ℕ → offence_t
@@ -105,13 +106,13 @@ offence YAML_UTF16BE_ENCODING bytes = offence16 true bytes
 unfoldable pub front : yaml_encoding_t → List ℕ → Text
 front setting input = record {
   encoding = encoding_of setting input;
-  chars = front_of (encoding_of setting input) (length (behind_mark setting input)) (behind_mark setting input);
+  chars = first_chars (encoding_of setting input) (length (behind_bom setting input)) (behind_bom setting input);
 }
 
 -- How many bytes of the input the byte order mark and the front take.
 abbrev pub front_len : yaml_encoding_t → List ℕ → ℕ
 front_len setting input =
-    dropped setting input + length (spelled (encoding_of setting input) (front setting input).chars)
+    bom_len setting input + length (spellings (encoding_of setting input) (front setting input).chars)
 
 abbrev pub refusal_of : yaml_encoding_t → ℕ → List ℕ → Option Fault
 refusal_of e before [] = None
@@ -127,34 +128,34 @@ unless_refused None text = Ok text
 unless_refused (Some fault) text = Err fault
 
 -- What an input decodes to.
-abbrev pub decoded : yaml_encoding_t → List ℕ → Result Text Fault
-decoded setting input = unless_refused (refusal setting input) (front setting input)
+abbrev pub decoding : yaml_encoding_t → List ℕ → Result Text Fault
+decoding setting input = unless_refused (refusal setting input) (front setting input)
 
 -- The text is the front of the input: the longest list of characters whose spellings, joined, begin what follows its
 -- byte order mark.
-pub record IsFrontOf (setting : yaml_encoding_t) (input : List ℕ) (text : Text) : Type 0 where
+pub record IsLongestFront (setting : yaml_encoding_t) (input : List ℕ) (text : Text) : Type 0 where
   pub encoding : text.encoding ≡ encoding_of setting input
   pub each : AreChars text.chars
   pub rest : List ℕ
-  pub begins : behind_mark setting input ≡ spelled text.encoding text.chars ++ rest
+  pub begins : behind_bom setting input ≡ spellings text.encoding text.chars ++ rest
   pub longest : (cs more : List ℕ) → AreChars cs
-      → behind_mark setting input ≡ spelled text.encoding cs ++ more
+      → behind_bom setting input ≡ spellings text.encoding cs ++ more
       → length cs ≤ length text.chars
 
 -- The input spells the text.
 pub record Spells (setting : yaml_encoding_t) (input : List ℕ) (text : Text) : Type 0 where
   pub encoding : text.encoding ≡ encoding_of setting input
   pub each : AreChars text.chars
-  pub bytes : behind_mark setting input ≡ spelled text.encoding text.chars
+  pub bytes : behind_bom setting input ≡ spellings text.encoding text.chars
 
 -- The input spells no text: the fault is what is wrong after its front.
 pub record IsRefused (setting : yaml_encoding_t) (input : List ℕ) (fault : Fault) : Type 0 where
   pub chars : List ℕ
   pub rest : List ℕ
-  pub front : IsFront (encoding_of setting input) (behind_mark setting input) chars rest
+  pub front : IsFront (encoding_of setting input) (behind_bom setting input) chars rest
   pub left : 0 < length rest
   pub fault_is : fault ≡ reader_fault
-      (dropped setting input + length (spelled (encoding_of setting input) chars))
+      (bom_len setting input + length (spellings (encoding_of setting input) chars))
       (offence (encoding_of setting input) rest)
 
 -- A fault of the code, if there is one, as the definitions see it.
@@ -163,8 +164,8 @@ refusal_seen fault = option_map fault_of fault
 
 -- A call returned what it should, or memory was refused.
 abbrev pub Decodes : Result Text yaml_fault_t → Result Text Fault → Type 0
-Decodes (Ok text) decoded = decoded ≡ Ok text
-Decodes (Err fault) decoded = (fault_of fault ≡ memory_fault) ⊎ (decoded ≡ Err (fault_of fault))
+Decodes (Ok text) right = right ≡ Ok text
+Decodes (Err fault) right = (fault_of fault ≡ memory_fault) ⊎ (right ≡ Err (fault_of fault))
 
 -- What a call returned, with the fault's texts instead of references to them.
 abbrev pub outcome : Result Text yaml_fault_t → Result Text Fault

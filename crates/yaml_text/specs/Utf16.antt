@@ -46,7 +46,7 @@ value16 big bytes =
     if is_high (unit_at big bytes 0) then pair_of (unit_at big bytes 0) (unit_at big bytes 2)
     else unit_at big bytes 0
 
--- What is wrong with bytes that begin with no character: the first of these tests that fits.
+-- What is wrong with bytes that begin with no character: the first of these tests that fits. Every pair is a character.
 unfoldable pub offence16 : Bool → List ℕ → offence_t
 offence16 big bytes =
     let u = unit_at big bytes 0 in
@@ -55,5 +55,4 @@ offence16 big bytes =
     else if is_low u then offence_at LOW_UNIT 0 (pos u)
     else if is_high u && nat_lt (length bytes) 4 then offence_at HALF_PAIR 0 (negsuc 0)
     else if is_high u && not (is_low v) then offence_at NO_LOW_UNIT 2 (pos v)
-    else if is_high u then offence_at CONTROL 0 (pos (pair_of u v))
     else offence_at CONTROL 0 (pos u)

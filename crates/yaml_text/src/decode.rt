@@ -3,16 +3,16 @@ ghost use Rattle.std.specs.Prelude.{◌≡◌, ◌+◌, ◌<◌, ◌≤◌, ◌^
 ghost use Rattle.std.specs.Prelude.{IfOk, IfErr, IsOk, IsNone, IfSome};
 ghost use Rattle.yaml_text.specs.Chars.{IsText, utf8};
 ghost use Rattle.yaml_text.specs.Utf8.{offence8};
-ghost use Rattle.yaml_text.specs.Decode.{BeginsWithNone, IsFrontOf, encoding_of, dropped, behind_mark};
+ghost use Rattle.yaml_text.specs.Decode.{BeginsWithNone, IsLongestFront, encoding_of, bom_len, behind_bom};
 ghost use Rattle.yaml_text.specs.inside.Fronts.{Fronts};
-ghost use Rattle.yaml_text.specs.Decode.{front, refusal, refusal_seen, decoded, Decodes, outcome, Spells, IsRefused};
+ghost use Rattle.yaml_text.specs.Decode.{front, refusal, refusal_seen, decoding, Decodes, outcome, Spells, IsRefused};
 ghost use Rattle.yaml_text.specs.inside.Fronts.{order};
 ghost use Rattle.yaml_text.specs.Fault.{fault_of, memory_fault, reader_fault};
 ghost use Rattle.yaml_text.specs.declared.types.yaml_encoding_t.TheVariants.{YAML_UTF8_ENCODING};
 ghost use Rattle.yaml_text.specs.declared.types.yaml_encoding_t.TheVariants.{YAML_UTF16LE_ENCODING};
 ghost use Rattle.yaml_text.specs.declared.types.yaml_encoding_t.TheVariants.{YAML_UTF16BE_ENCODING};
 
-use crate::ascii::single_len;
+use crate::ascii::{rest, single_len};
 use crate::blocks::whole_len;
 use crate::fault::{make_memory_fault, make_reader_fault, yaml_fault_t};
 use crate::offence::offence_t;
@@ -21,14 +21,6 @@ use crate::types::yaml_encoding_t;
 use crate::utf8::first_char;
 use crate::utf16::front16;
 use std::alloc::Global;
-
-/// The bytes from a place on.
-pub(crate) fn from(bytes: &[u8], at: usize) -> &[u8]
-    requires { at ≤ length bytes.now }
-    ensures { result.now ≡ drop at bytes.now }
-{
-    &bytes[at..]
-}
 
 /// The bytes up to a place.
 fn up_to(bytes: &[u8], at: usize) -> &[u8]
@@ -47,7 +39,7 @@ fn quick_len(bytes: &[u8]) -> usize
     if run >= 32 {
         return run;
     }
-    run + whole_len(from(bytes, run))
+    run + whole_len(rest(bytes, run))
 }
 
 /// How many bytes the front of a text has, and what is wrong after it.
@@ -61,11 +53,11 @@ fn front8(bytes: &[u8]) -> (usize, Option<offence_t>)
 {
     let mut at = quick_len(bytes);
     while at < bytes.len() {
-        match first_char(from(bytes, at)) {
+        match first_char(rest(bytes, at)) {
             Ok(width) => at += width,
             Err(offence) => return (at, Some(offence)),
         }
-        at += quick_len(from(bytes, at));
+        at += quick_len(rest(bytes, at));
     }
     (at, None)
 }
@@ -74,7 +66,7 @@ fn front8(bytes: &[u8]) -> (usize, Option<offence_t>)
 /// mark are dropped.
 pub(crate) fn find_encoding(setting: yaml_encoding_t, input: &[u8]) -> (yaml_encoding_t, usize)
     ensures encoding { result.0 ≡ encoding_of setting input.now }
-    ensures dropped { result.1 ≡ dropped setting input.now }
+    ensures bom_len { result.1 ≡ bom_len setting input.now }
     ensures within { result.1 ≤ length input.now }
 {
     match setting {
@@ -153,13 +145,13 @@ pub fn yaml_decode_front<'a>(
     setting: yaml_encoding_t,
 ) -> Result<(yaml_text_t<'a>, Option<yaml_fault_t>), yaml_fault_t>
     ensures front { IfOk result (λ r. r.0 ≡ front setting input.now) }
-    ensures longest { IfOk result (λ r. IsFrontOf setting input.now r.0) }
+    ensures longest { IfOk result (λ r. IsLongestFront setting input.now r.0) }
     ensures refusal { IfOk result (λ r. refusal_seen r.1 ≡ refusal setting input.now) }
     ensures memory { IfErr result (λ fault. fault_of fault ≡ memory_fault) }
     ensures borrowed { encoding_of setting input.now ≡ YAML_UTF8_ENCODING → IsOk result }
 {
     let (encoding, before) = find_encoding(setting, input);
-    let bytes = from(input, before);
+    let bytes = rest(input, before);
     match encoding {
         yaml_encoding_t::YAML_UTF16LE_ENCODING => Ok(front_in_utf16(alloc, bytes, false, before)?),
         yaml_encoding_t::YAML_UTF16BE_ENCODING => Ok(front_in_utf16(alloc, bytes, true, before)?),
@@ -181,14 +173,15 @@ pub fn yaml_decode<'a>(
     input: &'a [u8],
     setting: yaml_encoding_t,
 ) -> Result<yaml_text_t<'a>, yaml_fault_t>
-    ensures exact { Decodes result (decoded setting input.now) }
+    ensures exact { Decodes result (decoding setting input.now) }
     ensures text { IfOk result (λ text. Spells setting input.now text) }
     ensures fault { IfErr result (λ fault.
         (fault_of fault ≡ memory_fault) ⊎ IsRefused setting input.now (fault_of fault)) }
     // accepted UTF-8 is its own text, and no memory is taken for it
     ensures own_text { IfOk result (λ text.
-        text.encoding ≡ YAML_UTF8_ENCODING → utf8 text.chars ≡ behind_mark setting input.now) }
-    ensures borrowed { encoding_of setting input.now ≡ YAML_UTF8_ENCODING → outcome result ≡ decoded setting input.now }
+        text.encoding ≡ YAML_UTF8_ENCODING → utf8 text.chars ≡ behind_bom setting input.now) }
+    ensures borrowed { encoding_of setting input.now ≡ YAML_UTF8_ENCODING
+        → outcome result ≡ decoding setting input.now }
 {
     match yaml_decode_front(alloc, input, setting) {
         Ok((text, None)) => Ok(text),

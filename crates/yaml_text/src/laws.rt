@@ -6,7 +6,7 @@ ghost use Rattle.std.specs.Ordering.{nat_cmp};
 ghost use Rattle.yaml_text.specs.Chars.{AreChars, utf8};
 ghost use Rattle.yaml_text.specs.Text.{Text};
 ghost use Rattle.yaml_text.specs.Fault.{Fault, fault_of};
-ghost use Rattle.yaml_text.specs.Decode.{spelled, IsFront, Spells, IsRefused, decoded};
+ghost use Rattle.yaml_text.specs.Decode.{spellings, IsFront, Spells, IsRefused, decoding};
 ghost use Rattle.yaml_text.specs.Mark.{cuts_break, mark_of, mark_on};
 ghost use Rattle.yaml_text.specs.Types as numbers;
 ghost use Rattle.yaml_text.specs.Token.{data_of, token_of};
@@ -27,11 +27,11 @@ use std::hash::{Hash, Hasher};
 /// characters whose spellings begin it.
 pub fn one_reading()
     ensures text { (setting : yaml_encoding_t) (input : List ℕ) (text : Text)
-        → (decoded setting input ≡ Ok text) ↔ Spells setting input text }
+        → (decoding setting input ≡ Ok text) ↔ Spells setting input text }
     ensures fault { (setting : yaml_encoding_t) (input : List ℕ) (fault : Fault)
-        → (decoded setting input ≡ Err fault) ↔ IsRefused setting input fault }
+        → (decoding setting input ≡ Err fault) ↔ IsRefused setting input fault }
     ensures longest { (e : yaml_encoding_t) (bytes chars rest cs more : List ℕ)
-        → IsFront e bytes chars rest → AreChars cs → bytes ≡ spelled e cs ++ more
+        → IsFront e bytes chars rest → AreChars cs → bytes ≡ spellings e cs ++ more
         → length cs ≤ length chars }
 {}
 

@@ -8,9 +8,8 @@ ghost use Rattle.yaml_text.specs.Utf16.{unit_at, is_low, is_high, spelling16, of
 ghost use Rattle.yaml_text.specs.inside.Units.{Begins16, BeginsWithNone16};
 ghost use Rattle.yaml_text.specs.inside.Units.{Reads16};
 
-use crate::ascii::others;
+use crate::ascii::{others, rest};
 use crate::chars::is_char;
-use crate::decode::from;
 use crate::offence::{offence_t, problem_t, refused};
 use crate::utf8::push_char;
 use std::alloc::{AllocError, Global};
@@ -72,11 +71,7 @@ pub(crate) fn first_char16(bytes: &[u8], big: bool) -> Result<(u32, usize), offe
     if !is_low(second) {
         return refused(problem_t::NO_LOW_UNIT, 2, second as i32);
     }
-    let value = 0x10000 + (first - 0xD800) * 1024 + (second - 0xDC00);
-    if !is_char(value) {
-        return refused(problem_t::CONTROL, 0, value as i32);
-    }
-    Ok((value, 4))
+    Ok((0x10000 + (first - 0xD800) * 1024 + (second - 0xDC00), 4))
 }
 
 /// The low and the high bytes of 16 units.
@@ -113,7 +108,7 @@ fn push_singles(out: &mut Vec<u8>, bytes: &[u8], big: bool, at: usize) -> Result
     ensures read { IfOk result (λ n. Reads16 big bytes.now out.new.items (at + 2 * n)) }
     ensures most { IfOk result (λ n. n ≤ 16) }
 {
-    let units = narrow(from(bytes, at), big);
+    let units = narrow(rest(bytes, at), big);
     let found = others(units);
     let before = out.len();
     out.extend_from_slice(&units.to_array())?;
@@ -258,7 +253,7 @@ pub(crate) fn front16(
     let mut out = Vec::new(alloc);
     let mut at = 0;
     while at < bytes.len() {
-        match first_char16(from(bytes, at), big) {
+        match first_char16(rest(bytes, at), big) {
             Ok((c, width)) => {
                 push_char(&mut out, c)?;
                 at = push_quick(&mut out, bytes, big, at + width)?;

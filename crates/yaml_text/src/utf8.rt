@@ -1,9 +1,9 @@
 //! Reading and writing UTF-8.
-ghost use Rattle.std.specs.Prelude.{ℕ, ◌≡◌, ◌+◌, ◌<◌, ◌≤◌, ◌^◌, ◌++◌, length, IfOk, IfErr, OnErr, OnOk};
-ghost use Rattle.std.specs.Prelude.{encode_utf8};
+ghost use Rattle.std.specs.Prelude.{ℕ, ◌≡◌, ◌+◌, ◌<◌, ◌≤◌, ◌^◌, ◌++◌, length, slice_index, IfOk, IfErr, IfSome};
+ghost use Rattle.std.specs.Prelude.{OnErr, OnOk, encode_utf8};
 ghost use Rattle.std.specs.Char.{len_utf8, IsScalar};
 ghost use Rattle.yaml_text.specs.Chars.{IsChar};
-ghost use Rattle.yaml_text.specs.Utf8.{width_of, continues, stray_at, value_of, least_of, is_scalar, offence8};
+ghost use Rattle.yaml_text.specs.Utf8.{width_of, continues, stray_at, value_of, is_scalar, offence8};
 ghost use Rattle.yaml_text.specs.Decode.{Begins, BeginsWithNone};
 ghost use Rattle.yaml_text.specs.declared.types.yaml_encoding_t.TheVariants.{YAML_UTF8_ENCODING};
 
@@ -31,21 +31,29 @@ pub(crate) fn continues(b: u8) -> bool
     matches!(b, 0x80..=0xBF)
 }
 
-#[tactic(auto, unfolding(crate::specs::Utf8::stray_at))]
-fn stray_at(bytes: &[u8], width: usize) -> usize
-    requires { width ≤ length bytes.now }
-    ensures stray { result ≡ stray_at width bytes.now }
-    ensures within { 0 < result → result < width }
+/// The place of the first octet that does not continue the character that the first octet begins, if one does not.
+fn stray_at(bytes: &[u8]) -> Option<usize>
+    requires { width_of (slice_index bytes.now 0) ≤ length bytes.now }
+    ensures stray { result ≡ stray_at (width_of (slice_index bytes.now 0)) bytes.now }
+    ensures within { IfSome result (λ at. at < length bytes.now) }
 {
-    if width > 1 && !continues(bytes[1]) {
-        1
-    } else if width > 2 && !continues(bytes[2]) {
-        2
-    } else if width > 3 && !continues(bytes[3]) {
-        3
-    } else {
-        0
+    let width = width_of(bytes[0]);
+    if width < 2 {
+        return None;
     }
+    if !continues(bytes[1]) {
+        return Some(1);
+    }
+    if width == 2 {
+        return None;
+    }
+    if !continues(bytes[2]) {
+        return Some(2);
+    }
+    if width == 3 {
+        return None;
+    }
+    if continues(bytes[3]) { None } else { Some(3) }
 }
 
 #[tactic(auto, unfolding(crate::specs::Utf8::value_of))]
@@ -70,14 +78,15 @@ fn value_of(bytes: &[u8], width: usize) -> u32
     }
 }
 
-fn least_of(width: usize) -> u32
-    ensures { result ≡ least_of width }
+/// How many octets a value has in UTF-8.
+fn len_of(c: u32) -> usize
+    ensures { result ≡ len_utf8 c }
 {
-    match width {
-        2 => 0x80,
-        3 => 0x800,
-        4 => 0x10000,
-        _ => 0,
+    match c {
+        0..=0x7F => 1,
+        0x80..=0x7FF => 2,
+        0x800..=0xFFFF => 3,
+        _ => 4,
     }
 }
 
@@ -104,12 +113,11 @@ pub(crate) fn first_char(bytes: &[u8]) -> Result<usize, offence_t>
     if bytes.len() < width {
         return refused(problem_t::SHORT, 0, -1);
     }
-    let stray = stray_at(bytes, width);
-    if stray > 0 {
+    if let Some(stray) = stray_at(bytes) {
         return refused(problem_t::TRAIL, stray as u64, bytes[stray] as i32);
     }
     let value = value_of(bytes, width);
-    if value < least_of(width) {
+    if len_of(value) < width {
         return refused(problem_t::LENGTH, 0, -1);
     }
     if !is_scalar(value) {

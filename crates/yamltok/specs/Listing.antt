@@ -66,9 +66,9 @@ use Rattle.yaml_scan.specs.Seen.Seen.{TOKEN, PEEKED, SKIPPED, NOTHING, FAULT}
 abbrev pub line_by : {X : Type 0} → (X → List ℕ) → List X → List ℕ
 line_by text parts = join_by text (codes " ") parts ++ 10 ∷ []
 
--- parts with a space between each two
-abbrev pub parted : List (List ℕ) → List ℕ
-parted parts = join_by (λ part. part) (codes " ") parts
+-- the text of parts, with a space between each two
+abbrev pub parts_text : List (List ℕ) → List ℕ
+parts_text parts = join_by (λ part. part) (codes " ") parts
 
 -- a line of these texts
 abbrev pub line : List (List ℕ) → List ℕ

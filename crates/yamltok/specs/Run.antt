@@ -7,7 +7,7 @@ use Rattle.yaml_text.specs.declared.types.yaml_encoding_t.{yaml_encoding_t}
 use Rattle.yaml_text.specs.declared.types.yaml_encoding_t.TheVariants.{YAML_UTF8_ENCODING}
 use Rattle.yaml_text.specs.Text.{Text}
 use Rattle.yaml_text.specs.Fault.{Fault, memory_fault}
-use Rattle.yaml_text.specs.Decode.{decoded, encoding_of}
+use Rattle.yaml_text.specs.Decode.{decoding, encoding_of}
 use Rattle.yamltok.specs.declared.args.yaml_command_t.{yaml_command_t}
 use Rattle.yamltok.specs.declared.args.yaml_command_t.TheVariants.{Decode, Scan, ScanLimit, Calls}
 use Rattle.yaml_scan.specs.declared.calls.yaml_call_t.{yaml_call_t}
@@ -28,8 +28,8 @@ IsWrong command = is_right command ≡ false
 
 -- The answer is what the input decodes to, or that memory was refused. If the input is in UTF-8, none is refused.
 pub record AnswersDecode (setting : yaml_encoding_t) (input : List ℕ) (answer : Result Text Fault) : Type 0 where
-  pub answer_is : (answer ≡ decoded setting input) ⊎ (answer ≡ Err memory_fault)
-  pub in_utf8 : encoding_of setting input ≡ YAML_UTF8_ENCODING → answer ≡ decoded setting input
+  pub answer_is : (answer ≡ decoding setting input) ⊎ (answer ≡ Err memory_fault)
+  pub in_utf8 : encoding_of setting input ≡ YAML_UTF8_ENCODING → answer ≡ decoding setting input
 
 -- The lines are the listing of the answer to a decoding, and has_fault says whether it is a fault.
 pub record ListsDecode (setting : yaml_encoding_t) (input lines : List ℕ) (has_fault : Bool) : Type 0 where

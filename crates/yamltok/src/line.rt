@@ -6,9 +6,9 @@ ghost use Rattle.yaml_text.specs.declared.types.yaml_encoding_t.TheVariants.{YAM
 ghost use Rattle.yaml_text.specs.declared.types.yaml_scalar_style_t.TheVariants.{YAML_ANY_SCALAR_STYLE};
 ghost use Rattle.yaml_text.specs.Token.{data_of, token_of};
 ghost use Rattle.yaml_scan.specs.Words.{HasWords};
-ghost use Rattle.yamltok.specs.inside.Put.{spaced};
+ghost use Rattle.yamltok.specs.inside.Put.{more_parts_text};
 ghost use Rattle.yamltok.specs.Listing.{bytes_text, encoding_word, type_name, style_word};
-ghost use Rattle.yamltok.specs.Listing.{parted, head_parts, data_parts, token_line};
+ghost use Rattle.yamltok.specs.Listing.{parts_text, head_parts, data_parts, token_line};
 
 use crate::mark::{ROW, kept_mark_t, set_row};
 use crate::put::{set_bytes, set_signed};
@@ -93,7 +93,7 @@ pub fn encoding_word(encoding: yaml_encoding_t) -> &'static str
 fn set_encoding(buffer: &mut [u8], at: usize, encoding: yaml_encoding_t) -> usize
     requires words { encoding ≢ YAML_ANY_ENCODING }
     requires room { at + 44 ≤ length buffer.old }
-    ensures text { take result buffer.new ≡ take at buffer.old ++ spaced (encoding_word encoding ∷ []) }
+    ensures text { take result buffer.new ≡ take at buffer.old ++ more_parts_text (encoding_word encoding ∷ []) }
     ensures high { result ≤ at + 44 }
 {
     let word = encoding_word(encoding).as_bytes();
@@ -108,7 +108,7 @@ fn set_encoding(buffer: &mut [u8], at: usize, encoding: yaml_encoding_t) -> usiz
 fn set_version(buffer: &mut [u8], at: usize, major: i32, minor: i32) -> usize
     requires { at + 44 ≤ length buffer.old }
     ensures text { take result buffer.new
-        ≡ take at buffer.old ++ spaced (signed_decimal major ∷ signed_decimal minor ∷ []) }
+        ≡ take at buffer.old ++ more_parts_text (signed_decimal major ∷ signed_decimal minor ∷ []) }
     ensures high { result ≤ at + 44 }
 {
     let end = set_signed(buffer, at, major);
@@ -138,7 +138,7 @@ fn set_scalar(buffer: &mut [u8], at: usize, value: &[u8], style: yaml_scalar_sty
     requires words { style ≢ YAML_ANY_SCALAR_STYLE }
     requires room { at + 2 * length value.now + 26 ≤ length buffer.old }
     ensures text { take result buffer.new
-        ≡ take at buffer.old ++ spaced (style_word style ∷ bytes_text value.now ∷ []) }
+        ≡ take at buffer.old ++ more_parts_text (style_word style ∷ bytes_text value.now ∷ []) }
     ensures high { result ≤ at + 2 * length value.now + 22 }
 {
     let (row, len) = style_row(style);
@@ -159,7 +159,7 @@ pub fn set_head(
     end_mark: yaml_mark_t,
 ) -> usize
     requires { at + 164 ≤ length buffer.old }
-    ensures text { take result buffer.new ≡ take at buffer.old ++ parted (head_parts kind start_mark end_mark) }
+    ensures text { take result buffer.new ≡ take at buffer.old ++ parts_text (head_parts kind start_mark end_mark) }
     ensures low { at ≤ result }
     ensures high { result ≤ at + 164 }
 {
@@ -208,7 +208,7 @@ fn make_room(bytes: &mut Vec<u8>, at: usize, texts: usize) -> Result<(), AllocEr
 fn put_name(bytes: &mut Vec<u8>, at: usize, value: &[u8]) -> Result<usize, AllocError>
     requires { at ≤ vec_len bytes.old }
     ensures text { IfOk result (λ end. take end bytes.new.items
-        ≡ take at bytes.old.items ++ spaced (bytes_text value.now ∷ [])) }
+        ≡ take at bytes.old.items ++ more_parts_text (bytes_text value.now ∷ [])) }
     ensures room { IfOk result (λ end. end + 1 ≤ vec_len bytes.new) }
     ensures place { at ≤ vec_len bytes.new }
     ensures err { OnErr result (take at bytes.new.items ≡ take at bytes.old.items) }
@@ -227,7 +227,7 @@ fn put_names(
 ) -> Result<usize, AllocError>
     requires { at ≤ vec_len bytes.old }
     ensures text { IfOk result (λ end. take end bytes.new.items
-        ≡ take at bytes.old.items ++ spaced (bytes_text first.now ∷ bytes_text second.now ∷ [])) }
+        ≡ take at bytes.old.items ++ more_parts_text (bytes_text first.now ∷ bytes_text second.now ∷ [])) }
     ensures room { IfOk result (λ end. end + 1 ≤ vec_len bytes.new) }
     ensures place { at ≤ vec_len bytes.new }
     ensures err { OnErr result (take at bytes.new.items ≡ take at bytes.old.items) }
@@ -247,7 +247,7 @@ fn put_data(
     requires words { HasWords (data_of said.now) }
     requires room { at + 92 ≤ vec_len bytes.old }
     ensures text { IfOk result (λ end. take end bytes.new.items
-        ≡ take at bytes.old.items ++ spaced (data_parts (data_of said.now))) }
+        ≡ take at bytes.old.items ++ more_parts_text (data_parts (data_of said.now))) }
     ensures room { IfOk result (λ end. end + 1 ≤ vec_len bytes.new) }
     ensures place { at ≤ vec_len bytes.new }
     ensures err { OnErr result (take at bytes.new.items ≡ take at bytes.old.items) }

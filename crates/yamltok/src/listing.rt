@@ -8,7 +8,7 @@ ghost use Rattle.yaml_text.specs.Token.{data_of, token_of};
 ghost use Rattle.yaml_scan.specs.Words.{HasLine, HasWords};
 ghost use Rattle.yaml_scan.specs.Seen.{seen_of};
 ghost use Rattle.yaml_scan.specs.CallWords.{SeenHasLine, SeenHaveLines};
-ghost use Rattle.yamltok.specs.inside.Put.{Puts, spaced};
+ghost use Rattle.yamltok.specs.inside.Put.{Puts, more_parts_text};
 ghost use Rattle.yamltok.specs.Listing.{reader_line, scanner_line, fault_line, text_line};
 ghost use Rattle.yamltok.specs.Listing.{token_line, peek_line, answer_line, answer_lines};
 
@@ -40,7 +40,8 @@ fn put_reader_fault(
 
 /// Appends a context, then `;`, and a problem to `out`.
 fn put_texts(out: &mut Vec<u8>, context: &str, problem: &str) -> Result<(), AllocError>
-    ensures { Puts result out.old.items (spaced ((context.now ++ codes ";") ∷ problem.now ∷ [])) out.new.items }
+    ensures { Puts result out.old.items (more_parts_text ((context.now ++ codes ";") ∷ problem.now ∷ []))
+        out.new.items }
 {
     put_part(out, context)?;
     put_text(out, ";")?;

@@ -5,7 +5,7 @@ use Rattle.yaml_c.proofs.bogzhami_scan_all.Goals as goal
 
 pub returns-in_default-scan-clause-scanned : goal.returns-in_default-scan-clause-scanned
 returns-in_default-scan-clause-scanned c e is_e least most =
-    let same : c.in-Some.encoding ≡ e = cc in
+    let same : c.in-Some.encoding ≡ e = cc (c.in-Some.is, c.encoding_of.ensures.some e is_e) in
     let rooms = c.scan.new.rooms in
     are_scanned c.in-Some.encoding e c.args.limit c.args.input.now _ rooms _ _ _ rooms.texts.now
     c.counts-in_default-scan.result 0
@@ -16,7 +16,7 @@ returns-in_default-scan-clause-scanned c e is_e least most =
 
 pub returns-clause-scanned : goal.returns-clause-scanned
 returns-clause-scanned c e is_e least most =
-    let same : c.in-Some.encoding ≡ e = cc in
+    let same : c.in-Some.encoding ≡ e = cc (c.in-Some.is, c.encoding_of.ensures.some e is_e) in
     let rooms = c.scan.new.rooms in
     are_scanned c.in-Some.encoding e c.args.limit c.args.input.now _ rooms _ _ _
     c.put_fault_texts.new.room c.counts_and_fault.result 1

@@ -126,6 +126,16 @@ pair_bounds u v h l =
     let b : (0xDC00 ≤ v) × (v ≤ 0xDFFF) = low_range v l in
     (omega arith, omega arith, omega arith)
 
+-- every pair is a character
+pub pair_is_char : (u v : ℕ) → is_high u ≡ true → is_low v ≡ true → is_char (pair_of u v) ≡ true
+unfolding is_char
+pair_is_char u v h l =
+    let a : (0xD800 ≤ u) × (u ≤ 0xDBFF) = high_range u h in
+    let b : (0xDC00 ≤ v) × (v ≤ 0xDFFF) = low_range v l in
+    let least : 0x10000 ≤ pair_of u v = omega arith in
+    let most : pair_of u v ≤ 0x10FFFF = omega arith in
+    grind (arith, nat_tests, least, most)
+
 pub found_two : (big : Bool) (bytes : List ℕ) → AreBytes bytes → 4 ≤ length bytes → is_high (unit_at big bytes 0) ≡ true → is_low (unit_at big bytes 2) ≡ true → Found big bytes (pair_of (unit_at big bytes 0) (unit_at big bytes 2)) 4
 found_two big [] fits l h w = absurd (omega arith)
 found_two big (a ∷ []) fits l h w = absurd (omega arith)

@@ -7,7 +7,7 @@ use Rattle.yaml_text.specs.declared.types.yaml_encoding_t.{yaml_encoding_t}
 use Rattle.yaml_text.specs.declared.types.yaml_encoding_t.TheVariants.{YAML_ANY_ENCODING, YAML_UTF8_ENCODING, YAML_UTF16LE_ENCODING, YAML_UTF16BE_ENCODING}
 use Rattle.yaml_text.specs.Chars.{IsChar, AreChars}
 use Rattle.yaml_text.specs.Utf8.{value_of, value8}
-use Rattle.yaml_text.specs.Decode.{spelling, spelled, Begins, BeginsWithNone, IsFront, value_in_front}
+use Rattle.yaml_text.specs.Decode.{spelling, spellings, Begins, BeginsWithNone, IsFront, value_in_front}
 use Rattle.yaml_text.proofs.Characters.Utf8Spelling.{Stands, stands}
 use Rattle.yaml_text.proofs.Characters.CharRanges.{char_range}
 use Rattle.yaml_text.proofs.Characters.Utf16Spelling.{value16_is, some_units}
@@ -35,17 +35,17 @@ some_spelling YAML_UTF8_ENCODING c ok = some_octets c
 some_spelling YAML_UTF16LE_ENCODING c ok = some_units false c ok
 some_spelling YAML_UTF16BE_ENCODING c ok = some_units true c ok
 
-pub spelled-cons : (e : yaml_encoding_t) (c : ℕ) (cs : List ℕ) → spelled e (c ∷ cs) ≡ spelling e c ++ spelled e cs
-spelled-cons YAML_ANY_ENCODING c cs = refl
-spelled-cons YAML_UTF8_ENCODING c cs = refl
-spelled-cons YAML_UTF16LE_ENCODING c cs = refl
-spelled-cons YAML_UTF16BE_ENCODING c cs = refl
+pub spellings-cons : (e : yaml_encoding_t) (c : ℕ) (cs : List ℕ) → spellings e (c ∷ cs) ≡ spelling e c ++ spellings e cs
+spellings-cons YAML_ANY_ENCODING c cs = refl
+spellings-cons YAML_UTF8_ENCODING c cs = refl
+spellings-cons YAML_UTF16LE_ENCODING c cs = refl
+spellings-cons YAML_UTF16BE_ENCODING c cs = refl
 
-pub spelled-nil : (e : yaml_encoding_t) → spelled e [] ≡ []
-spelled-nil YAML_ANY_ENCODING = refl
-spelled-nil YAML_UTF8_ENCODING = refl
-spelled-nil YAML_UTF16LE_ENCODING = refl
-spelled-nil YAML_UTF16BE_ENCODING = refl
+pub spellings-nil : (e : yaml_encoding_t) → spellings e [] ≡ []
+spellings-nil YAML_ANY_ENCODING = refl
+spellings-nil YAML_UTF8_ENCODING = refl
+spellings-nil YAML_UTF16LE_ENCODING = refl
+spellings-nil YAML_UTF16BE_ENCODING = refl
 
 -- no spelling begins another
 pub spelling_same : (e : yaml_encoding_t) (c d : ℕ) (a b : List ℕ) → IsChar c → IsChar d → spelling e c ++ a ≡ spelling e d ++ b → (c ≡ d) × (a ≡ b)
@@ -57,18 +57,18 @@ pub none_at_end : (e : yaml_encoding_t) (bytes : List ℕ) → length bytes ≤ 
 none_at_end e bytes h c ok b = absurd (omega (arith, ap length b.1, length-append (spelling e c) b.0, some_spelling e c ok))
 
 -- what begins the bytes begins the front
-begins_front : (e : yaml_encoding_t) (cs chars rest more : List ℕ) → AreChars cs → AreChars chars → BeginsWithNone e rest → spelled e chars ++ rest ≡ spelled e cs ++ more → (others : List ℕ) × (chars ≡ cs ++ others)
+begins_front : (e : yaml_encoding_t) (cs chars rest more : List ℕ) → AreChars cs → AreChars chars → BeginsWithNone e rest → spellings e chars ++ rest ≡ spellings e cs ++ more → (others : List ℕ) × (chars ≡ cs ++ others)
 begins_front e [] chars rest more each all none same = (chars, refl)
 begins_front e (d ∷ cs) [] rest more each all none same =
-    absurd (none d each.0 (spelled e cs ++ more, ap (λ (x : List ℕ). x ++ rest) (sym (spelled-nil e)) ∙ same ∙ ap (λ (x : List ℕ). x ++ more) (spelled-cons e d cs) ∙ append_assoc (spelling e d) (spelled e cs) more))
+    absurd (none d each.0 (spellings e cs ++ more, ap (λ (x : List ℕ). x ++ rest) (sym (spellings-nil e)) ∙ same ∙ ap (λ (x : List ℕ). x ++ more) (spellings-cons e d cs) ∙ append_assoc (spelling e d) (spellings e cs) more))
 begins_front e (d ∷ cs) (c ∷ chars) rest more each all none same =
-    let left : spelling e c ++ (spelled e chars ++ rest) ≡ spelled e (c ∷ chars) ++ rest = sym (append_assoc (spelling e c) (spelled e chars) rest) ∙ ap (λ (x : List ℕ). x ++ rest) (sym (spelled-cons e c chars)) in
-    let right : spelled e (d ∷ cs) ++ more ≡ spelling e d ++ (spelled e cs ++ more) = ap (λ (x : List ℕ). x ++ more) (spelled-cons e d cs) ∙ append_assoc (spelling e d) (spelled e cs) more in
-    let s = spelling_same e c d (spelled e chars ++ rest) (spelled e cs ++ more) all.0 each.0 (left ∙ same ∙ right) in
+    let left : spelling e c ++ (spellings e chars ++ rest) ≡ spellings e (c ∷ chars) ++ rest = sym (append_assoc (spelling e c) (spellings e chars) rest) ∙ ap (λ (x : List ℕ). x ++ rest) (sym (spellings-cons e c chars)) in
+    let right : spellings e (d ∷ cs) ++ more ≡ spelling e d ++ (spellings e cs ++ more) = ap (λ (x : List ℕ). x ++ more) (spellings-cons e d cs) ∙ append_assoc (spelling e d) (spellings e cs) more in
+    let s = spelling_same e c d (spellings e chars ++ rest) (spellings e cs ++ more) all.0 each.0 (left ∙ same ∙ right) in
     let r = begins_front e cs chars rest more each.1 all.1 none s.1 in
     (r.0, λ k. s.0 k ∷ r.1 k)
 
-pub longest : (e : yaml_encoding_t) (bytes chars rest cs more : List ℕ) → IsFront e bytes chars rest → AreChars cs → bytes ≡ spelled e cs ++ more → length cs ≤ length chars
+pub longest : (e : yaml_encoding_t) (bytes chars rest cs more : List ℕ) → IsFront e bytes chars rest → AreChars cs → bytes ≡ spellings e cs ++ more → length cs ≤ length chars
 longest e bytes chars rest cs more f each same =
     let b = begins_front e cs chars rest more each f.each f.longest (sym f.parts ∙ same) in
     omega (arith, ap length b.1, length-append cs b.0)
@@ -80,4 +80,4 @@ one_front e bytes c r d s f g =
     let b = begins_front e c d s r f.each g.each g.longest (sym g.parts ∙ f.parts) in
     let n : length a.0 ≡ 0 = omega (arith, ap length a.1, ap length b.1, length-append d a.0, length-append c b.0) in
     let same : c ≡ d = a.1 ∙ ap (λ (x : List ℕ). d ++ x) (nil_from_length a.0 n) ∙ append-nil d in
-    (same, append_cancel_left (spelled e c) r s (sym f.parts ∙ g.parts ∙ ap (λ (x : List ℕ). spelled e x ++ s) (sym same)))
+    (same, append_cancel_left (spellings e c) r s (sym f.parts ∙ g.parts ∙ ap (λ (x : List ℕ). spellings e x ++ s) (sym same)))

@@ -15,9 +15,9 @@ use Rattle.yaml_text.specs.Utf16.{offence16}
 use Rattle.yaml_text.specs.inside.Units.{Reads16, BeginsWithNone16}
 use Rattle.yaml_text.specs.Fault.{Fault, fault_of, reader_fault}
 use Rattle.yaml_text.specs.Text.{Text}
-use Rattle.yaml_text.specs.Decode.{spelling, spelled, Begins, BeginsWithNone, IsFront, value_in_front, first, and_then_list, front_of, encoding_of, dropped, behind_mark, offence, front, front_len, refusal, refusal_of, refusal_seen, unless_refused, decoded, IsFrontOf, Spells, IsRefused}
+use Rattle.yaml_text.specs.Decode.{spelling, spellings, Begins, BeginsWithNone, IsFront, value_in_front, first, and_then_list, first_chars, encoding_of, bom_len, behind_bom, offence, front, front_len, refusal, refusal_of, refusal_seen, unless_refused, decoding, IsLongestFront, Spells, IsRefused}
 use Rattle.yaml_text.specs.inside.Fronts.{order, Fronts}
-use Rattle.yaml_text.proofs.Decodings.DecodeReadings.{longest, value_is, some_spelling, spelled-cons, spelled-nil, none_at_end, one_front}
+use Rattle.yaml_text.proofs.Decodings.DecodeReadings.{longest, value_is, some_spelling, spellings-cons, spellings-nil, none_at_end, one_front}
 
 -- the first character, if there is one
 abbrev FirstIs : yaml_encoding_t → List ℕ → Option ℕ → Type 0
@@ -52,65 +52,65 @@ first_is e bytes = tested e (value_in_front e bytes) bytes _ refl refl _ refl
 
 -- the front of bytes, and the rest
 abbrev Parts : yaml_encoding_t → List ℕ → List ℕ → Type 0
-Parts e bytes chars = IsFront e bytes chars (drop (length (spelled e chars)) bytes)
+Parts e bytes chars = IsFront e bytes chars (drop (length (spellings e chars)) bytes)
 
-front_by : (e : yaml_encoding_t) (n : ℕ) (bytes : List ℕ) (o : Option ℕ) → FirstIs e bytes o → length bytes ≤ suc n → ((more : List ℕ) → length more ≤ n → Parts e more (front_of e n more))
-    → Parts e bytes (and_then_list o (λ c. front_of e n (drop (length (spelling e c)) bytes)))
+front_by : (e : yaml_encoding_t) (n : ℕ) (bytes : List ℕ) (o : Option ℕ) → FirstIs e bytes o → length bytes ≤ suc n → ((more : List ℕ) → length more ≤ n → Parts e more (first_chars e n more))
+    → Parts e bytes (and_then_list o (λ c. first_chars e n (drop (length (spelling e c)) bytes)))
 front_by e n bytes None h le ih =
-    let zero_len : length (spelled e []) ≡ 0 = ap length (spelled-nil e) in
-    let all : drop (length (spelled e [])) bytes ≡ bytes = ap (λ k. drop k bytes) zero_len in
-    subst (λ (x : List ℕ). IsFront e bytes [] x) (sym all) (record { parts = ap (λ (x : List ℕ). x ++ bytes) (sym (spelled-nil e)); each = tt; longest = h })
+    let zero_len : length (spellings e []) ≡ 0 = ap length (spellings-nil e) in
+    let all : drop (length (spellings e [])) bytes ≡ bytes = ap (λ k. drop k bytes) zero_len in
+    subst (λ (x : List ℕ). IsFront e bytes [] x) (sym all) (record { parts = ap (λ (x : List ℕ). x ++ bytes) (sym (spellings-nil e)); each = tt; longest = h })
 front_by e n bytes (Some c) h le ih =
     let more = h.1.0 in
     let len = length (spelling e c) in
     let d : drop len bytes ≡ more = ap (λ (x : List ℕ). drop len x) h.1.1 ∙ drop_at (spelling e c) more len refl in
     let short : length more ≤ n = omega (arith, ap length h.1.1, length-append (spelling e c) more, some_spelling e c h.0) in
     let f = ih more short in
-    let cs = front_of e n more in
-    let rest = drop (length (spelled e cs)) more in
-    let whole : bytes ≡ spelled e (c ∷ cs) ++ rest = h.1.1 ∙ ap (λ (x : List ℕ). spelling e c ++ x) f.parts ∙ sym (append_assoc (spelling e c) (spelled e cs) rest) ∙ ap (λ (x : List ℕ). x ++ rest) (sym (spelled-cons e c cs)) in
-    let behind : drop (length (spelled e (c ∷ cs))) bytes ≡ rest = ap (λ (x : List ℕ). drop (length (spelled e (c ∷ cs))) x) whole ∙ drop_at (spelled e (c ∷ cs)) rest (length (spelled e (c ∷ cs))) refl in
+    let cs = first_chars e n more in
+    let rest = drop (length (spellings e cs)) more in
+    let whole : bytes ≡ spellings e (c ∷ cs) ++ rest = h.1.1 ∙ ap (λ (x : List ℕ). spelling e c ++ x) f.parts ∙ sym (append_assoc (spelling e c) (spellings e cs) rest) ∙ ap (λ (x : List ℕ). x ++ rest) (sym (spellings-cons e c cs)) in
+    let behind : drop (length (spellings e (c ∷ cs))) bytes ≡ rest = ap (λ (x : List ℕ). drop (length (spellings e (c ∷ cs))) x) whole ∙ drop_at (spellings e (c ∷ cs)) rest (length (spellings e (c ∷ cs))) refl in
     let made : Parts e bytes (c ∷ cs) = subst (λ (x : List ℕ). IsFront e bytes (c ∷ cs) x) (sym behind) (record { parts = whole; each = (h.0, f.each); longest = f.longest }) in
-    subst (λ (x : List ℕ). Parts e bytes (c ∷ front_of e n x)) (sym d) made
+    subst (λ (x : List ℕ). Parts e bytes (c ∷ first_chars e n x)) (sym d) made
 
-front_of_is : (e : yaml_encoding_t) (n : ℕ) (bytes : List ℕ) → length bytes ≤ n → Parts e bytes (front_of e n bytes)
-unfolding front_of
-front_of_is e zero bytes le =
-    let zero_len : length (spelled e []) ≡ 0 = ap length (spelled-nil e) in
-    let all : drop (length (spelled e [])) bytes ≡ bytes = ap (λ k. drop k bytes) zero_len in
-    subst (λ (x : List ℕ). IsFront e bytes [] x) (sym all) (record { parts = ap (λ (x : List ℕ). x ++ bytes) (sym (spelled-nil e)); each = tt; longest = none_at_end e bytes le })
-front_of_is e (suc n) bytes le = front_by e n bytes (first e bytes) (first_is e bytes) le (front_of_is e n)
+first_chars_are : (e : yaml_encoding_t) (n : ℕ) (bytes : List ℕ) → length bytes ≤ n → Parts e bytes (first_chars e n bytes)
+unfolding first_chars
+first_chars_are e zero bytes le =
+    let zero_len : length (spellings e []) ≡ 0 = ap length (spellings-nil e) in
+    let all : drop (length (spellings e [])) bytes ≡ bytes = ap (λ k. drop k bytes) zero_len in
+    subst (λ (x : List ℕ). IsFront e bytes [] x) (sym all) (record { parts = ap (λ (x : List ℕ). x ++ bytes) (sym (spellings-nil e)); each = tt; longest = none_at_end e bytes le })
+first_chars_are e (suc n) bytes le = front_by e n bytes (first e bytes) (first_is e bytes) le (first_chars_are e n)
 
 -- a front is what the function gives
-pub front_is : (setting : yaml_encoding_t) (input : List ℕ) → IsFront (encoding_of setting input) (behind_mark setting input) (front setting input).chars (drop (front_len setting input) input)
+pub front_is : (setting : yaml_encoding_t) (input : List ℕ) → IsFront (encoding_of setting input) (behind_bom setting input) (front setting input).chars (drop (front_len setting input) input)
 unfolding front
 front_is setting input =
     let e = encoding_of setting input in
-    let bytes = behind_mark setting input in
-    let chars = front_of e (length bytes) bytes in
-    subst (λ (x : List ℕ). IsFront e bytes chars x) (drop-drop (length (spelled e chars)) (dropped setting input) input) (front_of_is e (length bytes) bytes (omega arith))
+    let bytes = behind_bom setting input in
+    let chars = first_chars e (length bytes) bytes in
+    subst (λ (x : List ℕ). IsFront e bytes chars x) (drop-drop (length (spellings e chars)) (bom_len setting input) input) (first_chars_are e (length bytes) bytes (omega arith))
 
 front-encoding : (setting : yaml_encoding_t) (input : List ℕ) → (front setting input).encoding ≡ encoding_of setting input
 unfolding front
 front-encoding setting input = refl
 
-pub fronts_text : (setting : yaml_encoding_t) (input : List ℕ) (text : Text) (fault : Option Fault) → Fronts (encoding_of setting input) (dropped setting input) (behind_mark setting input) text fault → text ≡ front setting input
+pub fronts_text : (setting : yaml_encoding_t) (input : List ℕ) (text : Text) (fault : Option Fault) → Fronts (encoding_of setting input) (bom_len setting input) (behind_bom setting input) text fault → text ≡ front setting input
 fronts_text setting input text fault f =
     let same = one_front _ _ _ _ _ _ f.front (front_is setting input) in
     λ k. record { encoding = (f.encoding ∙ sym (front-encoding setting input)) k; chars = same.0 k }
 
-pub fronts_refusal : (setting : yaml_encoding_t) (input : List ℕ) (text : Text) (fault : Option Fault) → Fronts (encoding_of setting input) (dropped setting input) (behind_mark setting input) text fault → fault ≡ refusal setting input
+pub fronts_refusal : (setting : yaml_encoding_t) (input : List ℕ) (text : Text) (fault : Option Fault) → Fronts (encoding_of setting input) (bom_len setting input) (behind_bom setting input) text fault → fault ≡ refusal setting input
 unfolding refusal
 fronts_refusal setting input text fault f =
     let e = encoding_of setting input in
     let same = one_front _ _ _ _ _ _ f.front (front_is setting input) in
-    f.refusal ∙ (λ k. refusal_of e (dropped setting input + length (spelled e (same.0 k))) (same.1 k))
+    f.refusal ∙ (λ k. refusal_of e (bom_len setting input + length (spellings e (same.0 k))) (same.1 k))
 
 -- it is the longest list of characters that begins the input
-pub front_longest : (setting : yaml_encoding_t) (input : List ℕ) (text : Text) → text ≡ front setting input → IsFrontOf setting input text
-front_longest setting input text is = subst (λ (x : Text). IsFrontOf setting input x) (sym is) (
+pub front_longest : (setting : yaml_encoding_t) (input : List ℕ) (text : Text) → text ≡ front setting input → IsLongestFront setting input text
+front_longest setting input text is = subst (λ (x : Text). IsLongestFront setting input x) (sym is) (
     let e = encoding_of setting input in
-    let bytes = behind_mark setting input in
+    let bytes = behind_bom setting input in
     let t = front setting input in
     let f = front_is setting input in
     let same = front-encoding setting input in
@@ -118,8 +118,8 @@ front_longest setting input text is = subst (λ (x : Text). IsFrontOf setting in
       encoding = same;
       each = f.each;
       rest = drop (front_len setting input) input;
-      begins = subst (λ (x : yaml_encoding_t). bytes ≡ spelled x t.chars ++ drop (front_len setting input) input) (sym same) f.parts;
-      longest = λ cs more each begin. longest e bytes t.chars (drop (front_len setting input) input) cs more f each (subst (λ (x : yaml_encoding_t). bytes ≡ spelled x cs ++ more) same begin);
+      begins = subst (λ (x : yaml_encoding_t). bytes ≡ spellings x t.chars ++ drop (front_len setting input) input) (sym same) f.parts;
+      longest = λ cs more each begin. longest e bytes t.chars (drop (front_len setting input) input) cs more f each (subst (λ (x : yaml_encoding_t). bytes ≡ spellings x cs ++ more) same begin);
     })
 
 -- ---- what a front and an offence after it make
@@ -142,11 +142,11 @@ refusal_is e before len bytes None h = refusal_none e (before + len) (drop len b
 refusal_is e before len bytes (Some o) h = refusal_some e (before + len) (drop len bytes) o (omega (arith, h.0, length-drop len bytes)) h.1
 
 -- the first len bytes spell the front
-pub fronts : (e : yaml_encoding_t) (before len : ℕ) (bytes cs : List ℕ) (text : Text) (fault : Option Fault) (o : Option offence_t) → text ≡ record { encoding = e; chars = cs } → AreChars cs → len ≤ length bytes → take len bytes ≡ spelled e cs
+pub fronts : (e : yaml_encoding_t) (before len : ℕ) (bytes cs : List ℕ) (text : Text) (fault : Option Fault) (o : Option offence_t) → text ≡ record { encoding = e; chars = cs } → AreChars cs → len ≤ length bytes → take len bytes ≡ spellings e cs
     → BeginsWithNone e (drop len bytes) → OffenceIs e len bytes o → fault ≡ option_map (reader_fault (before + len)) o → Fronts e before bytes text fault
 fronts e before len bytes cs text fault o text-is each within spelt none told fault-is =
     let made : Text = record { encoding = e; chars = cs } in
-    let size : len ≡ length (spelled e cs) = omega (arith, length-take len bytes, ap length spelt) in
+    let size : len ≡ length (spellings e cs) = omega (arith, length-take len bytes, ap length spelt) in
     let whole : Fronts e before bytes made fault = record {
       rest = drop len bytes;
       encoding = refl;
@@ -177,13 +177,13 @@ pub record Told (setting : yaml_encoding_t) (input : List ℕ) (text : Text) (fa
   pub text_is : text ≡ front setting input
   pub refusal_is : fault ≡ refusal setting input
 
-pub by_encoding : (setting : yaml_encoding_t) (input : List ℕ) (e f : yaml_encoding_t) (before : ℕ) (bytes : List ℕ) (text : Text) (fault : Option Fault) → f ≡ encoding_of setting input → f ≡ e → before ≡ dropped setting input → bytes ≡ drop before input
+pub by_encoding : (setting : yaml_encoding_t) (input : List ℕ) (e f : yaml_encoding_t) (before : ℕ) (bytes : List ℕ) (text : Text) (fault : Option Fault) → f ≡ encoding_of setting input → f ≡ e → before ≡ bom_len setting input → bytes ≡ drop before input
     → Fronts e before bytes text fault → Told setting input text fault
 by_encoding setting input e f before bytes text fault f-is e-is before-is bytes-is found =
-    let at-bytes : bytes ≡ behind_mark setting input = bytes-is ∙ ap (λ n. drop n input) before-is in
+    let at-bytes : bytes ≡ behind_bom setting input = bytes-is ∙ ap (λ n. drop n input) before-is in
     let one = subst (λ (x : yaml_encoding_t). Fronts x before bytes text fault) (sym e-is ∙ f-is) found in
     let two = subst (λ (x : ℕ). Fronts (encoding_of setting input) x bytes text fault) before-is one in
-    let three = subst (λ (x : List ℕ). Fronts (encoding_of setting input) (dropped setting input) x text fault) at-bytes two in
+    let three = subst (λ (x : List ℕ). Fronts (encoding_of setting input) (bom_len setting input) x text fault) at-bytes two in
     record { text_is = fronts_text setting input text fault three; refusal_is = fronts_refusal setting input text fault three }
 
 never_any : (a b : Bool) → cond a YAML_UTF16LE_ENCODING (cond b YAML_UTF16BE_ENCODING YAML_UTF8_ENCODING) ≡ YAML_ANY_ENCODING → ⊥
@@ -206,12 +206,12 @@ else_utf8 setting input YAML_UTF16BE_ENCODING is n m = absurd (m refl)
 
 -- ---- what an input decodes to, and the relations
 
-pub spells_is : (setting : yaml_encoding_t) (input : List ℕ) (text : Text) → Spells setting input text → decoded setting input ≡ Ok text
+pub spells_is : (setting : yaml_encoding_t) (input : List ℕ) (text : Text) → Spells setting input text → decoding setting input ≡ Ok text
 unfolding refusal
 spells_is setting input text s =
     let e = encoding_of setting input in
-    let bytes = behind_mark setting input in
-    let parts : bytes ≡ spelled e text.chars ++ [] = s.bytes ∙ ap (λ x. spelled x text.chars) s.encoding ∙ sym (append-nil (spelled e text.chars)) in
+    let bytes = behind_bom setting input in
+    let parts : bytes ≡ spellings e text.chars ++ [] = s.bytes ∙ ap (λ x. spellings x text.chars) s.encoding ∙ sym (append-nil (spellings e text.chars)) in
     let f : IsFront e bytes text.chars [] = record { parts = parts; each = s.each; longest = none_at_end e [] (omega arith) } in
     let same = one_front _ _ _ _ _ _ f (front_is setting input) in
     let text-is : text ≡ front setting input = λ k. record { encoding = (s.encoding ∙ sym (front-encoding setting input)) k; chars = same.0 k } in
@@ -221,13 +221,13 @@ spells_is setting input text s =
 some_refusal : (e : yaml_encoding_t) (before : ℕ) (rest : List ℕ) → 0 < length rest → refusal_of e before rest ≡ Some (reader_fault before (offence e rest))
 some_refusal e before rest some = sym (refusal_some e before rest (offence e rest) some refl)
 
-pub refused_is : (setting : yaml_encoding_t) (input : List ℕ) (fault : Fault) → IsRefused setting input fault → decoded setting input ≡ Err fault
+pub refused_is : (setting : yaml_encoding_t) (input : List ℕ) (fault : Fault) → IsRefused setting input fault → decoding setting input ≡ Err fault
 unfolding refusal
 refused_is setting input fault r =
     let e = encoding_of setting input in
     let same = one_front _ _ _ _ _ _ r.front (front_is setting input) in
     let some : refusal setting input ≡ Some fault =
-    (λ k. refusal_of e (dropped setting input + length (spelled e (sym same.0 k))) (sym same.1 k)) ∙ some_refusal e (dropped setting input + length (spelled e r.chars)) r.rest r.left ∙ ap (λ (x : Fault). Some x) (sym r.fault_is) in
+    (λ k. refusal_of e (bom_len setting input + length (spellings e (sym same.0 k))) (sym same.1 k)) ∙ some_refusal e (bom_len setting input + length (spellings e r.chars)) r.rest r.left ∙ ap (λ (x : Fault). Some x) (sym r.fault_is) in
     ap (λ (x : Option Fault). unless_refused x (front setting input)) some
 
 -- ---- the other way
@@ -244,13 +244,13 @@ spells_front setting input none =
     record {
       encoding = front-encoding setting input;
       each = f.each;
-      bytes = f.parts ∙ ap (λ (x : List ℕ). spelled e chars ++ x) none ∙ append-nil (spelled e chars) ∙ ap (λ x. spelled x chars) (sym (front-encoding setting input));
+      bytes = f.parts ∙ ap (λ (x : List ℕ). spellings e chars ++ x) none ∙ append-nil (spellings e chars) ∙ ap (λ x. spellings x chars) (sym (front-encoding setting input));
     }
 
 refused_front : (setting : yaml_encoding_t) (input : List ℕ) → 0 < length (drop (front_len setting input) input) → IsRefused setting input (reader_fault (front_len setting input) (offence (encoding_of setting input) (drop (front_len setting input) input)))
 refused_front setting input some = record { chars = (front setting input).chars; rest = drop (front_len setting input) input; front = front_is setting input; left = some; fault_is = refl }
 
-pub is_spelled : (setting : yaml_encoding_t) (input : List ℕ) (text : Text) → decoded setting input ≡ Ok text → Spells setting input text
+pub is_spelled : (setting : yaml_encoding_t) (input : List ℕ) (text : Text) → decoding setting input ≡ Ok text → Spells setting input text
 unfolding refusal
 is_spelled setting input text d =
     elim (rest_cases (encoding_of setting input) (front_len setting input) (drop (front_len setting input) input)) [
@@ -264,7 +264,7 @@ is_spelled setting input text d =
           absurd (cc whole)
     ]
 
-pub is_refused : (setting : yaml_encoding_t) (input : List ℕ) (fault : Fault) → decoded setting input ≡ Err fault → IsRefused setting input fault
+pub is_refused : (setting : yaml_encoding_t) (input : List ℕ) (fault : Fault) → decoding setting input ≡ Err fault → IsRefused setting input fault
 unfolding refusal
 is_refused setting input fault d =
     elim (rest_cases (encoding_of setting input) (front_len setting input) (drop (front_len setting input) input)) [
@@ -279,14 +279,14 @@ is_refused setting input fault d =
     ]
 
 -- accepted UTF-8 is its own text
-pub own_text : (setting : yaml_encoding_t) (input : List ℕ) (text : Text) → Spells setting input text → text.encoding ≡ YAML_UTF8_ENCODING → utf8 text.chars ≡ behind_mark setting input
-own_text setting input text s e = ap (λ x. spelled x text.chars) (sym e) ∙ sym s.bytes
+pub own_text : (setting : yaml_encoding_t) (input : List ℕ) (text : Text) → Spells setting input text → text.encoding ≡ YAML_UTF8_ENCODING → utf8 text.chars ≡ behind_bom setting input
+own_text setting input text s e = ap (λ x. spellings x text.chars) (sym e) ∙ sym s.bytes
 
 -- ---- what a call returned
 
-pub front_none : (setting : yaml_encoding_t) (input : List ℕ) (text : Text) (fault : Option yaml_fault_t) → fault ≡ None → text ≡ front setting input → refusal_seen fault ≡ refusal setting input → decoded setting input ≡ Ok text
+pub front_none : (setting : yaml_encoding_t) (input : List ℕ) (text : Text) (fault : Option yaml_fault_t) → fault ≡ None → text ≡ front setting input → refusal_seen fault ≡ refusal setting input → decoding setting input ≡ Ok text
 front_none setting input text fault none text-is refusal-is =
     ap (λ (x : Option Fault). unless_refused x (front setting input)) (sym refusal-is ∙ ap (λ (x : Option yaml_fault_t). refusal_seen x) none) ∙ ap (λ (x : Text). Ok x) (sym text-is)
 
-pub front_some : (setting : yaml_encoding_t) (input : List ℕ) (fault : yaml_fault_t) (found : Option yaml_fault_t) → found ≡ Some fault → refusal_seen found ≡ refusal setting input → decoded setting input ≡ Err (fault_of fault)
+pub front_some : (setting : yaml_encoding_t) (input : List ℕ) (fault : yaml_fault_t) (found : Option yaml_fault_t) → found ≡ Some fault → refusal_seen found ≡ refusal setting input → decoding setting input ≡ Err (fault_of fault)
 front_some setting input fault found some refusal-is = ap (λ (x : Option Fault). unless_refused x (front setting input)) (sym refusal-is ∙ ap (λ (x : Option yaml_fault_t). refusal_seen x) some)

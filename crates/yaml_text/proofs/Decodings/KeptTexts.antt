@@ -8,19 +8,19 @@ use Rattle.yaml_text.specs.declared.types.yaml_encoding_t.{yaml_encoding_t}
 use Rattle.yaml_text.specs.declared.types.yaml_encoding_t.TheVariants.{YAML_UTF8_ENCODING}
 use Rattle.yaml_text.specs.Chars.{utf8, IsText}
 use Rattle.yaml_text.specs.Text.{Text}
-use Rattle.yaml_text.specs.Decode.{front, dropped, spelled}
+use Rattle.yaml_text.specs.Decode.{front, bom_len, spellings}
 use Rattle.yaml_text.specs.Kept.{IsKeptOf}
 use Rattle.yaml_text.proofs.Decodings.DecodeFronts.{chars-utf8, IsText-utf8}
 use Rattle.yaml_text.proofs.Decodings.DecodeResults.{front_longest}
 
 pub kept_part : (setting e : yaml_encoding_t) (input : List ℕ) (text : Text) (start len : ℕ)
-    → text ≡ front setting input → e ≡ text.encoding → text.encoding ≡ YAML_UTF8_ENCODING → start ≡ dropped setting input
+    → text ≡ front setting input → e ≡ text.encoding → text.encoding ≡ YAML_UTF8_ENCODING → start ≡ bom_len setting input
     → start ≤ length input → len ≡ length (utf8 text.chars)
     → IsKeptOf text input (record { encoding = e; own = None; start = start; len = len })
 kept_part setting e input text start len is same in_utf8 starts within long =
     let f = front_longest setting input text is in
     let parts : drop start input ≡ utf8 text.chars ++ f.rest =
-    ap (λ n. drop n input) starts ∙ f.begins ∙ ap (λ e. spelled e text.chars ++ f.rest) in_utf8 in
+    ap (λ n. drop n input) starts ∙ f.begins ∙ ap (λ e. spellings e text.chars ++ f.rest) in_utf8 in
     let part : take len (drop start input) ≡ utf8 text.chars =
     (λ i. take (long i) (parts i)) ∙ take-append_seam (utf8 text.chars) f.rest in
     record {

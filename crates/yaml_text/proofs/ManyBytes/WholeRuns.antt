@@ -7,9 +7,9 @@ use Rattle.std.specs.Char.{len_utf8}
 use Rattle.yaml_text.specs.declared.types.yaml_encoding_t.TheVariants.{YAML_UTF8_ENCODING}
 use Rattle.yaml_text.specs.Chars.{is_char, IsText}
 use Rattle.yaml_text.specs.Decode.{Begins}
-use Rattle.yaml_text.specs.Utf8.{continues, stray_at}
+use Rattle.yaml_text.specs.Utf8.{continues}
 use Rattle.yaml_text.specs.inside.Windows.{is_control, is_rare_lead, is_awaited, is_misplaced, differ, is_suspect, AreClean, Starts}
-use Rattle.yaml_text.proofs.Characters.Utf8Spelling.{reads1, reads2, reads3, reads4}
+use Rattle.yaml_text.proofs.Characters.Utf8Spelling.{stray_two, stray_three, stray_four, reads1, reads2, reads3, reads4}
 use Rattle.yaml_text.proofs.Decodings.DecodeFronts.{front_grows, IsText-nil}
 
 -- ---- what the tests of a window say
@@ -152,18 +152,6 @@ char_four a b c d r l m n =
     ]
 
 -- ---- the first character of bytes whose first four windows are clean
-
-stray_two : (a b : ℕ) (more : List ℕ) → continues b ≡ true → stray_at 2 (a ∷ b ∷ more) ≡ 0
-unfolding stray_at
-stray_two a b more h = rw h refl
-
-stray_three : (a b c : ℕ) (more : List ℕ) → continues b ≡ true → continues c ≡ true → stray_at 3 (a ∷ b ∷ c ∷ more) ≡ 0
-unfolding stray_at
-stray_three a b c more h i = rw (h, i) refl
-
-stray_four : (a b c d : ℕ) (more : List ℕ) → continues b ≡ true → continues c ≡ true → continues d ≡ true → stray_at 4 (a ∷ b ∷ c ∷ d ∷ more) ≡ 0
-unfolding stray_at
-stray_four a b c d more h i j = rw (h, i, j) refl
 
 one_inner : (P : ℕ → Type 0) → P 1 → (j : ℕ) → 0 < j → j < 2 → P j
 one_inner P h j l m = let e : 1 ≡ j = omega arith in subst P e h

@@ -2,7 +2,7 @@
 use Rattle.std.specs.Prelude.{ℕ, ◌≡◌, ◌+◌, Bool, false, true, List, length, Option}
 use Rattle.yaml_text.specs.declared.types.yaml_encoding_t.{yaml_encoding_t}
 use Rattle.yaml_text.specs.declared.types.yaml_encoding_t.TheVariants.{YAML_UTF16LE_ENCODING, YAML_UTF16BE_ENCODING}
-use Rattle.yaml_text.specs.Decode.{spelled, IsFront, refusal_of}
+use Rattle.yaml_text.specs.Decode.{spellings, IsFront, refusal_of}
 use Rattle.yaml_text.specs.Fault.{Fault}
 use Rattle.yaml_text.specs.Text.{Text}
 
@@ -18,4 +18,4 @@ pub record Fronts
   pub rest : List ℕ
   pub encoding : text.encoding ≡ e
   pub front : IsFront e bytes text.chars rest
-  pub refusal : fault ≡ refusal_of e (before + length (spelled e text.chars)) rest
+  pub refusal : fault ≡ refusal_of e (before + length (spellings e text.chars)) rest

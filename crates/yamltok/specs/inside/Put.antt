@@ -11,9 +11,9 @@ abbrev pub Puts : {E : Type 0} → Result (Unit {0}) E → List ℕ → List ℕ
 Puts (Ok _) old text new = new ≡ old ++ text
 Puts (Err _) old text new = Grows old new
 
--- parts with a space before each
-abbrev pub spaced : List (List ℕ) → List ℕ
-spaced parts = flat_map (λ part. codes " " ++ part) parts
+-- the text of more parts, with a space before each
+abbrev pub more_parts_text : List (List ℕ) → List ℕ
+more_parts_text parts = flat_map (λ part. codes " " ++ part) parts
 
 -- the two decimal digits of a number below 100
 abbrev pub pair_text : ℕ → List ℕ

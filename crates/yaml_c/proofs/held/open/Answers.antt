@@ -4,7 +4,7 @@ use Rattle.yaml_scan.specs.inside.Kept.{IsKept}
 use Rattle.yaml_scan.proofs.RunningCalls.ScansToTheEnd.{has_begun}
 use Rattle.yaml_c.specs.declared.held.held_t.{held_t}
 use Rattle.yaml_c.specs.Held.{IsAt, opened}
-use Rattle.yaml_c.specs.Numbers.{encoding_number}
+use Rattle.yaml_text.specs.Types.{encoding_number}
 use Rattle.yaml_c.proofs.held.open.Goals as goal
 
 pub returns-in-Ok : goal.returns-in-Ok

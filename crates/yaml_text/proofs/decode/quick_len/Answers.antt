@@ -10,11 +10,11 @@ returns-clause-text c =
     let xs = c.args.bytes.now in
     let run = c.single_len-run.result in
     let front = single_front xs run c.single_len-run.ensures.value in
-    (text_grows xs run c.whole_len.result c.single_len-run.ensures.bound front (rw c.from.ensures at c.whole_len.ensures.within) (rw c.from.ensures at c.whole_len.ensures.text)).1
+    (text_grows xs run c.whole_len.result c.single_len-run.ensures.bound front (rw c.rest.ensures at c.whole_len.ensures.within) (rw c.rest.ensures at c.whole_len.ensures.text)).1
 
 pub returns-clause-within : goal.returns-clause-within
 returns-clause-within c =
     let xs = c.args.bytes.now in
     let run = c.single_len-run.result in
     let front = single_front xs run c.single_len-run.ensures.value in
-    (text_grows xs run c.whole_len.result c.single_len-run.ensures.bound front (rw c.from.ensures at c.whole_len.ensures.within) (rw c.from.ensures at c.whole_len.ensures.text)).0
+    (text_grows xs run c.whole_len.result c.single_len-run.ensures.bound front (rw c.rest.ensures at c.whole_len.ensures.within) (rw c.rest.ensures at c.whole_len.ensures.text)).0

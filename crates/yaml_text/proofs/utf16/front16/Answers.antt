@@ -12,7 +12,7 @@ push_char-requires c = scalar-IsChar c.in-Ok.c c.in-Ok.ensures.char
 pub push_quick-requires : goal.push_quick-requires
 push_quick-requires c =
     let f = c.in-Ok.ensures.found in
-    rw c.in_ok-push_char-in-Ok.ensures.ok (reads_more c.args.big c.args.bytes.now c.loop-at.out.items c.loop-at.at c.in-Ok.width c.in-Ok.c c.loop-at.invariant c.in-Ok.ensures.char (rw c.from.ensures at f.0) f.1)
+    rw c.in_ok-push_char-in-Ok.ensures.ok (reads_more c.args.big c.args.bytes.now c.loop-at.out.items c.loop-at.at c.in-Ok.width c.in-Ok.c c.loop-at.invariant c.in-Ok.ensures.char (rw c.rest.ensures at f.0) f.1)
 
 pub returns-clause-longest : goal.returns-clause-longest
 returns-clause-longest c = none16_at_end _ _ (omega (arith, length-drop c.loop-at.at c.args.bytes.now))

@@ -12,7 +12,7 @@ returns-then-found-eq0-clause-read c =
     let v = c.narrow-units.result in
     let long : length v ≡ 16 = c.narrow-units.ensures.long in
     let some = all_single v c.others-found.result c.others-found.ensures c.if-found-eq0.true in
-    let units : AreUnits c.args.big (drop c.args.at c.args.bytes.now) v = rw c.from.ensures at c.narrow-units.ensures.units in
+    let units : AreUnits c.args.big (drop c.args.at c.args.bytes.now) v = rw c.rest.ensures at c.narrow-units.ensures.units in
     let read = singles_read c.args.big c.args.bytes.now c.args.out.now.items v c.args.at 16 (λ i. omega (arith, c.type_inv.bytes i)) c.requires.read c.requires.room long (omega arith) units in
     let whole : take 16 v ≡ v = take_all 16 v (omega arith) in
     rw (c.in_ok-extend_from_slice.ensures.items, ← whole) read
@@ -24,7 +24,7 @@ returns-clause-read c =
     let n = count_trailing_zeros 64 c.others-found.result in
     let long : length v ≡ 16 = c.narrow-units.ensures.long in
     let some = some_single v c.others-found.result (omega arith) c.others-found.ensures (omega arith) in
-    let units : AreUnits c.args.big (drop c.args.at c.args.bytes.now) v = rw c.from.ensures at c.narrow-units.ensures.units in
+    let units : AreUnits c.args.big (drop c.args.at c.args.bytes.now) v = rw c.rest.ensures at c.narrow-units.ensures.units in
     let read = singles_read c.args.big c.args.bytes.now text v c.args.at n (λ i. omega (arith, c.type_inv.bytes i)) c.requires.read c.requires.room long (omega (arith, some)) units in
     let size : c.len-before.result ≡ length text = search (rules, c.len-before.ensures) in
     let kept : c.truncate.new.self.items ≡ text ++ take n v =

@@ -1,7 +1,7 @@
 -- If there is no room for what the token says, what stands before its line stays.
 use Rattle.std.proofs.Common.{◌≡◌, ◌≤◌, ℕ, List, Result, Ok, Err, length, take, drop, ap, ◌∙◌, arith}
 use Rattle.std.specs.Prelude.{OnErr}
-use Rattle.yamltok.specs.Listing.{parted, head_parts}
+use Rattle.yamltok.specs.Listing.{parts_text, head_parts}
 use Rattle.yamltok.proofs.Placed.{front_kept, written_back}
 use Rattle.yamltok.proofs.line.put_line.Goals as goal
 
@@ -25,7 +25,7 @@ returns-in_err-end-clause-err c =
     (written_back room.len set (drop (length set) room.items) whole) in
     let kept : take at after ≡ take at before =
     front_kept at c.set_head-head.result before set after
-    (parted (head_parts c.type_.result token.start_mark token.end_mark)) within c.set_head-head.ensures.low
+    (parts_text (head_parts c.type_.result token.start_mark token.end_mark)) within c.set_head-head.ensures.low
     c.set_head-head.ensures.text stays in
     on_err c.from_residual-in_err-end.result
     (kept ∙ ap (λ (z : List ℕ). take at z) c.deref_mut.ensures.value ∙ c.in_ok-make_room.ensures.front)
