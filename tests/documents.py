@@ -15,7 +15,8 @@ One line of output for each check; what is wrong is printed before it. The check
 - lemmas: every file of lemmas begins with a line that says what it shows. So does the file that lists a folder of them, and
   it has a line `mod NAME` for each file there, with a sentence on the line before it or after it on the same line. A crate
   with more than ten such files has them in folders.
-- edits: every must-fail edit has a line in edits.txt, and every line has its edit. The README.md of a crate's must-fail edits
+- edits: every must-fail edit has a line in edits.txt, and every line has its edit. A line of twins.txt is for an edit, and has
+  a text, or `-`, for each that the edit replaces. The README.md of a crate's must-fail edits
   names each of them, and no others. If its last column, "Refused by", begins with a name, the code has a function of that
   name. What an edit replaces stands once in its file.
 - lines: no line of the code or of a definition is longer than 120 characters.
@@ -261,6 +262,12 @@ def check_edits():
     lines = {line.split("\t")[0] for line in read("tests/edits.txt").split("\n") if line and not line.startswith("#")}
     wrong = [f"edits.txt: {name} is missing" for name in sorted(edits - lines)]
     wrong += [f"edits.txt: {name} is gone" for name in sorted(lines - edits)]
+    for line in read("tests/twins.txt").split("\n"):
+        name, *texts = line.split("\t")
+        if line and not line.startswith("#"):
+            path = f"crates/{name.replace('/', '/must-fail/')}.edit"
+            count = len(re.findall(r"(?m)^new: ", read(path))) if name in edits else 0
+            wrong += [f"twins.txt: {name} replaces {count} texts, not {len(texts)}"] if count != len(texts) else []
     for folder in found("crates/*/must-fail"):
         crate, path = folder.split("/")[1], f"{folder}/README.md"
         text = read(path) if found(path) else ""

@@ -1,10 +1,15 @@
 #!/usr/bin/env python3
-"""Shows the answers of wrong programs: wrong.py [NAME ..], where a NAME is as in tests/edits.txt, or a beginning of one.
+"""Shows the answers of wrong programs: wrong.py [--twin] [NAME ..], a NAME as in tests/edits.txt or a beginning of one.
 
 tests/edits.txt has a line for each edit of crates/*/must-fail and of tests/wrong, with an input that tells the wrong
 program from the right one, or the tests that do. The script makes one edit at a time in a copy of the repository,
 builds the program from the edited sources without proving it (`rt try`), and prints the right answer and the wrong
 one, or says whether the tests fail.
+
+With --twin it asks whether an edit is refused for its mistake, and not for its form. A harmless twin of an edit has its
+form, and makes no mistake: other texts stand in the place of the edit's, as tests/twins.txt has them. Each is made in a
+copy that begins with what was proved in this repository, and `rt check` of the crate has to prove it. That takes some
+minutes for each, one after the other.
 
 RT in the environment is the command `rt`, if it is another. BUILD is a command that is given a program's name, the
 folder of the crates and a path, and puts the program there, unproved; tests that are scripts need one, since `rt try`
@@ -48,22 +53,29 @@ def bytes_of(text):
     return text.encode("ascii").decode("unicode_escape").encode("latin-1")
 
 
-def copy(room):
-    """Copies the sources, without what was built."""
+def twins():
+    """The texts of the harmless twins, by the names of the edits; `-` is for a text that the twin does not replace."""
+    with open(os.path.join(TOP, "tests", "twins.txt"), encoding="utf-8") as lines:
+        parts = [line.rstrip("\n").split("\t") for line in lines if line.strip() and not line.startswith("#")]
+    return {name: texts for name, *texts in parts}
+
+
+def copy(room, left_out=("out",)):
+    """Copies the sources, by default without what was built."""
     os.mkdir(room)
     for name in ("crates", "crates.txt", "HANDLES", "tests"):
         path = os.path.join(TOP, name)
         if os.path.isdir(path):
-            shutil.copytree(path, os.path.join(room, name), ignore=shutil.ignore_patterns("out"))
+            shutil.copytree(path, os.path.join(room, name), ignore=shutil.ignore_patterns(*left_out))
         else:
             shutil.copy(path, room)
     return room
 
 
 class Edit:
-    """An edit in a copy, undone at the end."""
+    """An edit in a copy, or its twin of these texts, undone at the end."""
 
-    def __init__(self, room, name):
+    def __init__(self, room, name, texts=None):
         crate, edit = name.split("/")
         folder = "tests/wrong" if crate == "wrong" else f"crates/{crate}/must-fail"
         self.pairs, self.room, self.kept = [], room, {}
@@ -78,6 +90,10 @@ class Edit:
                     old = value
                 elif key == "new":
                     self.pairs.append((path, old, value))
+        if texts is not None:
+            if len(texts) != len(self.pairs):
+                raise SystemExit(f"{name}: {len(self.pairs)} texts are replaced, and its twin has {len(texts)}")
+            self.pairs = [(path, old, text) for (path, old, _), text in zip(self.pairs, texts) if text != "-"]
 
     def __enter__(self):
         for path, old, new in self.pairs:
@@ -164,7 +180,27 @@ def caught(room, row):
     return f"{row.name}: {' '.join(row.words)}: {verdict}\n  {what}", failed is not False
 
 
+def prove_twins(names):
+    """Proves the twins of these edits; whether each is proved."""
+    chosen = [(name, texts) for name, texts in twins().items() if not names or any(map(name.startswith, names))]
+    count = 0
+    with tempfile.TemporaryDirectory() as top:
+        room = copy(os.path.join(top, "0"), ())
+        for name, texts in chosen:
+            folder = os.path.join(room, "crates", name.split("/")[0])
+            with Edit(room, name, texts):
+                done = subprocess.run([*RT, "check", "--jobs", "1"], cwd=folder, capture_output=True, timeout=1800)
+            said = (done.stdout + done.stderr).decode("utf-8", "replace")
+            why = re.findall(r"(?m)^.*(?:: error|not proved|no proof).*$", said)[:MOST] if done.returncode else []
+            count += not done.returncode
+            print("\n  ".join([f"{name}: its twin is {'REFUSED' if done.returncode else 'proved'}", *why]), flush=True)
+    print(f"wrong: {len(chosen)} twins tried, {len(chosen) - count} refused")
+    return 1 if count < len(chosen) or not chosen else 0
+
+
 def main(names):
+    if names[:1] == ["--twin"]:
+        return prove_twins(names[1:])
     chosen = [row for row in rows() if not names or any(row.name.startswith(name) for name in names)]
     by_edit = collections.defaultdict(list)
     for row in chosen:
