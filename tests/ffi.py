@@ -140,12 +140,14 @@ def build_cplusplus(room):
 
 
 def same_numbers():
-    """How many names of the header have the crate's numbers, and those that have not. The statuses are the header's own."""
+    """How many names of the header have the defined numbers, and those that have not. The statuses are the header's own."""
     with open(os.path.join(FFI, "bogzhami.h"), encoding="ascii") as text:
         enums = re.sub(r"enum bogzhami_status \{.*?\};", "", text.read(), flags=re.S)
     header = {name: int(number) for name, number in re.findall(r"\bBOGZHAMI_(\w+) = (\d+)", enums)}
-    crate = {name: int(number) for name, number in re.findall(r"::YAML_(\w+) => (\d+),", source("numbers.rt"))}
-    return len(header), sorted(set(header.items()) ^ set(crate.items()))
+    with open(os.path.join(CRATE, "..", "..", "yaml_text", "specs", "Types.antt"), encoding="utf-8") as text:
+        rows = re.findall(r"^(?:encoding|error_type|scalar_style|token_type)_number YAML_(\w+) = (\d+)$", text.read(), re.M)
+    defined = {name: int(number) for name, number in rows}
+    return len(header), sorted(set(header.items()) ^ set(defined.items()))
 
 
 def load():
@@ -319,7 +321,7 @@ def try_library(every):
     tried, wrong = wrong_calls()
     numbers, others = same_numbers()
     print(f"ffi: {len(every)} inputs compared, {len(bad)} differ; {tried} settings and limits, {len(wrong)} wrong")
-    print(f"ffi: {numbers} numbers of the header, {len(others)} not the crate's")
+    print(f"ffi: {numbers} numbers of the header, {len(others)} not the defined ones")
     return not bad and not wrong and not others and numbers > 30 and len(every) > 20000
 
 
