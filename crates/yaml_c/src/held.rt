@@ -17,14 +17,14 @@ ghost use Rattle.yaml_c.specs.inside.Sink.{IsPut};
 
 use crate::answer::{bogzhami_answer, counts, counts_and_fault, fault_len, put_fault_texts};
 use crate::numbers::encoding_number;
-use crate::record::{bogzhami_token, first_text, record_of, second_text};
+use crate::record::{bogzhami_token, first_text, is_bare, record_of, second_text};
 use crate::room::put_bytes;
 use crate::sink::token_rooms_t;
 use crate::status::{DONE, FAULT, NO_ROOM, OVER};
 use std::alloc::{AllocError, Global};
 use yaml_scan::{
     unnamed_yaml_token_t_data, yaml_decode_front, yaml_encoding_t, yaml_fault_t,
-    yaml_kept_parser_t, yaml_parser_t, yaml_scan_next, yaml_token_t,
+    yaml_kept_parser_t, yaml_parser_reuse, yaml_parser_t, yaml_scan_next, yaml_token_t,
 };
 
 /// What was read ahead of the tokens that were given.
@@ -74,23 +74,47 @@ fn text_len(token: &yaml_token_t) -> u64
     first.saturating_add(second_text(&token.token_data).len() as u64)
 }
 
-/// Gives a token, and says what is ahead if no more are to be given: the token, if its texts find no room, or nothing
-/// after the stream end.
+/// Gives back what a token that was given holds, and says what is ahead if no more are to be given: nothing after the
+/// stream end. The parser gets the room of a scalar's text.
 #[inline(always)]
-fn give_token(rooms: &mut token_rooms_t, token: yaml_token_t) -> Option<ahead_t>
+fn spend(parser: &mut yaml_parser_t, token: yaml_token_t) -> Option<ahead_t>
+    ensures same { parser.new ≡ parser.old }
+    ensures after { option_map ahead_of result ≡ after_token (token_of token) }
+{
+    match token.token_data {
+        unnamed_yaml_token_t_data::STREAM_END => Some(ahead_t::OVER),
+        unnamed_yaml_token_t_data::SCALAR { value, style: _ } => {
+            yaml_parser_reuse(parser, value);
+            None
+        }
+        _ => None,
+    }
+}
+
+/// Gives a token, and says what is ahead if no more are to be given: the token, if its texts find no room, or nothing
+/// after the stream end. The parser gets the room of a scalar's text that was given.
+#[inline(always)]
+fn give_token(
+    parser: &mut yaml_parser_t,
+    rooms: &mut token_rooms_t,
+    token: yaml_token_t,
+) -> Option<ahead_t>
+    requires { rooms.old.text_len ≤ length rooms.old.texts.now }
+    ensures same { parser.new ≡ parser.old }
     ensures put { rooms.old.text_len + length (texts_of (token_of token)) ≤ length rooms.old.texts.now
         → IsPut rooms.old (token_of token) rooms.new × (option_map ahead_of result ≡ after_token (token_of token)) }
     ensures kept { length rooms.old.texts.now < rooms.old.text_len + length (texts_of (token_of token))
         → (rooms.new ≡ rooms.old) × (option_map ahead_of result ≡ Some (TOKEN (token_of token))) }
 {
+    if is_bare(&token.token_data) {
+        rooms.put_bare(&token);
+        return None;
+    }
     if !rooms.has_room(text_len(&token)) {
         return Some(ahead_t::TOKEN(token));
     }
     rooms.put_token(&token);
-    match token.token_data {
-        unnamed_yaml_token_t_data::STREAM_END => Some(ahead_t::OVER),
-        _ => None,
-    }
+    spend(parser, token)
 }
 
 /// Gives the next tokens, whole ones, until a room is full, or the stream end was given, or the fault comes next.
@@ -107,7 +131,7 @@ fn give_rest(parser: &mut yaml_parser_t, rooms: &mut token_rooms_t) -> ahead_t
             ahead_t::TOKEN(token) => token,
             other => return other,
         };
-        if let Some(stop) = give_token(rooms, token) {
+        if let Some(stop) = give_token(parser, rooms, token) {
             return stop;
         }
     }
@@ -127,7 +151,7 @@ pub(crate) fn give(parser: &mut yaml_parser_t, ahead: ahead_t, rooms: &mut token
 {
     match ahead {
         ahead_t::NONE => give_rest(parser, rooms),
-        ahead_t::TOKEN(token) => match give_token(rooms, token) {
+        ahead_t::TOKEN(token) => match give_token(parser, rooms, token) {
             Some(stop) => stop,
             None => give_rest(parser, rooms),
         },

@@ -1,11 +1,15 @@
 //! Tokens as plain records.
-ghost use Rattle.std.specs.Prelude.{◌≡◌};
+ghost use Rattle.std.specs.Prelude.{◌≡◌, true};
 ghost use Rattle.yaml_text.specs.Token.{data_of, token_of};
+ghost use Rattle.yaml_text.specs.Token.TokenData.{SCALAR};
 ghost use Rattle.yaml_c.specs.Record as records;
 ghost use Rattle.yaml_c.specs.Record.{record_of};
+ghost use Rattle.yaml_c.specs.inside.Bare.{IsBare};
 
 use crate::numbers::{encoding_number, style_number, type_number};
-use yaml_scan::{unnamed_yaml_token_t_data, yaml_mark_t, yaml_token_t};
+use yaml_scan::{
+    unnamed_yaml_token_t_data, yaml_mark_t, yaml_scalar_style_t, yaml_token_t, yaml_token_type_t,
+};
 
 /// A place in a text.
 #[repr(C)]
@@ -44,6 +48,7 @@ pub struct bogzhami_token {
 }
 
 /// A mark as a record.
+#[inline(always)]
 pub(crate) fn mark_of(mark: yaml_mark_t) -> bogzhami_mark
     ensures { result ≡ records.mark_of mark }
 {
@@ -96,6 +101,72 @@ fn version_of(said: &unnamed_yaml_token_t_data) -> (i32, i32)
     match said {
         unnamed_yaml_token_t_data::VERSION_DIRECTIVE { major, minor } => (*major, *minor),
         _ => (0, 0),
+    }
+}
+
+/// Whether a token says nothing besides its type. The stream end is left out.
+#[inline(always)]
+pub(crate) fn is_bare(said: &unnamed_yaml_token_t_data) -> bool
+    ensures { result ≡ true → IsBare (data_of said.now) }
+{
+    matches!(
+        said,
+        unnamed_yaml_token_t_data::DOCUMENT_START
+            | unnamed_yaml_token_t_data::DOCUMENT_END
+            | unnamed_yaml_token_t_data::BLOCK_SEQUENCE_START
+            | unnamed_yaml_token_t_data::BLOCK_MAPPING_START
+            | unnamed_yaml_token_t_data::BLOCK_END
+            | unnamed_yaml_token_t_data::FLOW_SEQUENCE_START
+            | unnamed_yaml_token_t_data::FLOW_MAPPING_START
+            | unnamed_yaml_token_t_data::FLOW_SEQUENCE_END
+            | unnamed_yaml_token_t_data::FLOW_MAPPING_END
+            | unnamed_yaml_token_t_data::BLOCK_ENTRY
+            | unnamed_yaml_token_t_data::FLOW_ENTRY
+            | unnamed_yaml_token_t_data::KEY
+            | unnamed_yaml_token_t_data::VALUE
+    )
+}
+
+/// The record of a token that says nothing besides its type. The texts of the next one begin at a place.
+#[inline(always)]
+pub(crate) fn bare_record(text_at: u64, token: &yaml_token_t) -> bogzhami_token
+    requires { IsBare (token_of token.now).token_data }
+    ensures { result ≡ record_of text_at (token_of token.now) }
+{
+    bogzhami_token {
+        token_type: type_number(token.type_()),
+        detail: 0,
+        major: 0,
+        minor: 0,
+        text_at,
+        first_len: 0,
+        second_len: 0,
+        start_mark: mark_of(token.start_mark),
+        end_mark: mark_of(token.end_mark),
+    }
+}
+
+/// The record of a scalar whose text begins at a place.
+#[inline(always)]
+pub(crate) fn scalar_record(
+    text_at: u64,
+    token: &yaml_token_t,
+    value: &[u8],
+    style: yaml_scalar_style_t,
+) -> bogzhami_token
+    requires { (token_of token.now).token_data ≡ SCALAR value.now style }
+    ensures { result ≡ record_of text_at (token_of token.now) }
+{
+    bogzhami_token {
+        token_type: type_number(yaml_token_type_t::YAML_SCALAR_TOKEN),
+        detail: style_number(style),
+        major: 0,
+        minor: 0,
+        text_at,
+        first_len: value.len() as u64,
+        second_len: 0,
+        start_mark: mark_of(token.start_mark),
+        end_mark: mark_of(token.end_mark),
     }
 }
 

@@ -5,6 +5,7 @@ ghost use Rattle.yaml_c.specs.Room.{covered_from};
 use crate::record::bogzhami_token;
 
 /// Puts bytes into a room from a place on, as many as there is room for.
+#[inline(always)]
 pub(crate) fn put_bytes(room: &mut [u8], at: u64, bytes: &[u8])
     ensures { room.new ≡ covered_from at bytes.now room.old }
 {
@@ -19,6 +20,7 @@ pub(crate) fn put_bytes(room: &mut [u8], at: u64, bytes: &[u8])
 }
 
 /// Puts a record into a room at a place, if it has that place.
+#[inline(always)]
 pub(crate) fn put_record(room: &mut [bogzhami_token], at: u64, token: bogzhami_token)
     ensures { room.new ≡ covered_from at (token ∷ []) room.old }
 {

@@ -1,9 +1,13 @@
 //! A caller's two rooms, as the sink of the tokens of an input.
 use crate::answer::put_fault_texts;
-use crate::record::{bogzhami_token, first_text, record_of, second_text};
+use crate::record::{
+    bare_record, bogzhami_token, first_text, record_of, scalar_record, second_text,
+};
 use crate::room::{put_bytes, put_record};
 use std::alloc::AllocError;
-use yaml_scan::{yaml_fault_t, yaml_token_sink_t, yaml_token_t};
+use yaml_scan::{
+    unnamed_yaml_token_t_data, yaml_fault_t, yaml_scalar_style_t, yaml_token_sink_t, yaml_token_t,
+};
 
 /// A room for records and a room for texts, and how much was put into each, also of what it had no room for.
 #[derive(Drop)]
@@ -24,6 +28,9 @@ impl<'a> token_rooms_t<'a> {
     ghost use Rattle.yaml_c.specs.Answer.{fault_texts};
     ghost use Rattle.yaml_c.specs.Room.{covered_from};
     ghost use Rattle.yaml_text.specs.Token.{token_of};
+    ghost use Rattle.yaml_text.specs.Token.TokenData.{SCALAR};
+    ghost use Rattle.yaml_c.specs.Record.{held};
+    ghost use Rattle.yaml_c.specs.inside.Bare.{IsBare};
     ghost use Rattle.yaml_c.specs.inside.Sink.{IsPut};
 
     /// Whether so many bytes find room after the texts that were put.
@@ -34,9 +41,44 @@ impl<'a> token_rooms_t<'a> {
         self.text_len.saturating_add(len) <= self.texts.len() as u64
     }
 
-    /// Puts a token's record and its texts.
+    /// Counts a token that was put, whose texts end there.
     #[inline(always)]
-    pub(crate) fn put_token(&mut self, token: &yaml_token_t)
+    fn count_token(&mut self, texts_end: u64)
+        ensures tokens { self.new.tokens ≡ self.old.tokens }
+        ensures texts { self.new.texts ≡ self.old.texts }
+        ensures token_count { self.new.token_count ≡ held (self.old.token_count + 1) }
+        ensures text_len { self.new.text_len ≡ texts_end }
+    {
+        self.token_count = self.token_count.saturating_add(1);
+        self.text_len = texts_end;
+    }
+
+    /// Puts the record of a token that says nothing besides its type.
+    #[inline(always)]
+    pub(crate) fn put_bare(&mut self, token: &yaml_token_t)
+        requires { IsBare (token_of token.now).token_data }
+        ensures { IsPut self.old (token_of token.now) self.new }
+    {
+        let record = bare_record(self.text_len, token);
+        put_record(self.tokens, self.token_count, record);
+        self.count_token(self.text_len);
+    }
+
+    /// Puts a scalar's record and its text.
+    #[inline(always)]
+    fn put_scalar(&mut self, token: &yaml_token_t, value: &[u8], style: yaml_scalar_style_t)
+        requires { (token_of token.now).token_data ≡ SCALAR value.now style }
+        ensures { IsPut self.old (token_of token.now) self.new }
+    {
+        let record = scalar_record(self.text_len, token, value, style);
+        put_record(self.tokens, self.token_count, record);
+        put_bytes(self.texts, self.text_len, value);
+        self.count_token(self.text_len.saturating_add(value.len() as u64));
+    }
+
+    /// Puts a token's record and its texts, whatever it says.
+    #[inline(always)]
+    fn put_any(&mut self, token: &yaml_token_t)
         ensures { IsPut self.old (token_of token.now) self.new }
     {
         let first = first_text(&token.token_data);
@@ -49,8 +91,20 @@ impl<'a> token_rooms_t<'a> {
         );
         put_bytes(self.texts, self.text_len, first);
         put_bytes(self.texts, second_at, second);
-        self.token_count = self.token_count.saturating_add(1);
-        self.text_len = second_at.saturating_add(second.len() as u64);
+        self.count_token(second_at.saturating_add(second.len() as u64));
+    }
+
+    /// Puts a token's record and its texts. Scalars are the most of those that have a text.
+    #[inline(always)]
+    pub(crate) fn put_token(&mut self, token: &yaml_token_t)
+        ensures { IsPut self.old (token_of token.now) self.new }
+    {
+        match &token.token_data {
+            unnamed_yaml_token_t_data::SCALAR { value, style } => {
+                self.put_scalar(token, value.as_slice(), *style);
+            }
+            _ => self.put_any(token),
+        }
     }
 
     /// Puts the texts of a fault after those of the tokens.

@@ -8,13 +8,13 @@ ghost use Rattle.yaml_lexeme.specs.Place.{skip, break_len};
 ghost use Rattle.yaml_lexeme.specs.inside.Tails.{TakesBlanks, TakesLine, between_tail, chomped_tail};
 
 use crate::classes::{is_blank, is_break};
-use crate::fold::{push_char, written};
+use crate::fold::{emptied, push_char, written};
 use crate::gap::skip_comment;
 use crate::place::{check_at, cursor_t, is_at};
 use crate::plain::scalar_t;
 use crate::problem::{offence, yaml_problem_t, yaml_refusal_t};
 use crate::runs::class_t;
-use std::alloc::{AllocError, Global};
+use std::alloc::AllocError;
 use yaml_text::yaml_mark_t;
 
 /// How many bytes a block scalar first gets room for.
@@ -327,11 +327,11 @@ fn is_text(cursor: &cursor_t, indent: u64) -> bool
     cursor.mark().column == indent && !check_at!(cursor, '\0', 0)
 }
 
-/// Takes a literal or folded scalar, from its first character on. The level is the greatest one that is open. The
-/// cursor is a local variable of the caller, so that it stays in registers.
+/// Takes a literal or folded scalar, from its first character on. The level is the greatest one that is open. Its
+/// value is put into `room` if it fits. The cursor is a local variable of the caller, so that it stays in registers.
 #[inline(always)]
 fn take_lines(
-    alloc: Global,
+    room: Vec<u8>,
     cursor: &mut cursor_t,
     folded: bool,
     level: Option<u64>,
@@ -345,13 +345,13 @@ fn take_lines(
     let set = set_indent(level, header.digit);
     let mut tail = tail_t {
         lead: None,
-        empties: Vec::new(alloc),
+        empties: Vec::new(*room.allocator()),
         indented: false,
         end: cursor.mark(),
     };
     let column = take_blank_lines(cursor, set, &mut tail.empties, &mut tail.end)?;
     let indent = block_indent(level, set, column, cursor.mark().column);
-    let mut out = Vec::with_capacity(alloc, ROOM)?;
+    let mut out = emptied(room, ROOM)?;
     'lines: while is_text(cursor, indent) {
         push_between(&mut out, folded, &tail, is_at!(cursor, is_blank, 0))?;
         take_line(cursor, indent, &mut out, &mut tail)?;
@@ -364,10 +364,11 @@ fn take_lines(
     })
 }
 
-/// Takes a literal or folded scalar, from its first character on. The level is the greatest one that is open.
+/// Takes a literal or folded scalar, from its first character on. The level is the greatest one that is open. Its value
+/// is put into `room` if it fits.
 #[inline(never)]
 pub(crate) fn take_block(
-    alloc: Global,
+    room: Vec<u8>,
     cursor: &mut cursor_t,
     folded: bool,
     level: Option<u64>,
@@ -376,7 +377,7 @@ pub(crate) fn take_block(
     ensures { Gives scalar_of result cursor.new (spec.block folded level cursor.old) }
 {
     let mut here = cursor.again();
-    let taken = take_lines(alloc, &mut here, folded, level);
+    let taken = take_lines(room, &mut here, folded, level);
     *cursor = here;
     taken
 }

@@ -1,5 +1,5 @@
 //! The value of a run of blanks and breaks.
-ghost use Rattle.std.specs.Prelude.{◌≡◌, ◌≤◌, ◌++◌, MatchResult, OnOk, encode_utf8, length, take};
+ghost use Rattle.std.specs.Prelude.{◌≡◌, ◌≤◌, ◌++◌, [], IfOk, MatchResult, OnOk, encode_utf8, length, take};
 ghost use Rattle.yaml_text.specs.Chars.{utf8};
 ghost use Rattle.yaml_lexeme.specs.Classes as sets;
 ghost use Rattle.yaml_lexeme.specs.Place as place;
@@ -9,7 +9,7 @@ ghost use Rattle.yaml_lexeme.specs.declared.problem.yaml_refusal_t.TheVariants.{
 use crate::place::cursor_t;
 use crate::problem::yaml_refusal_t;
 use crate::runs::class_t;
-use std::alloc::{AllocError, Global};
+use std::alloc::AllocError;
 
 /// So many bytes are copied as one.
 const STAGE: usize = 16;
@@ -30,17 +30,32 @@ pub(crate) fn push_front(out: &mut Vec<u8>, bytes: &[u8], n: usize) -> Result<()
     Ok(())
 }
 
-/// A copy of the first `n` bytes. If they are few, a stage of bytes is copied as one, and what is too much of it is cut
-/// off.
+/// An empty list with room for so many bytes: `room` without what it holds, if it has as much, and else a new one.
 #[inline(always)]
-pub(crate) fn copied_front(alloc: Global, bytes: &[u8], n: usize) -> Result<Vec<u8>, yaml_refusal_t>
+pub(crate) fn emptied(room: Vec<u8>, size: usize) -> Result<Vec<u8>, AllocError>
+    ensures items { IfOk result (λ out. out.items ≡ []) }
+{
+    if room.capacity() < size {
+        return Vec::with_capacity(*room.allocator(), size);
+    }
+    let mut out = room;
+    out.clear();
+    Ok(out)
+}
+
+/// A copy of the first `n` bytes, in `room` if they fit. If they are few, a stage of bytes is copied as one, and what is
+/// too much of it is cut off.
+#[inline(always)]
+pub(crate) fn copied_front(room: Vec<u8>, bytes: &[u8], n: usize) -> Result<Vec<u8>, yaml_refusal_t>
     requires { n ≤ length bytes.now }
     ensures { MatchResult result (λ out. out.items ≡ take n bytes.now) (λ e. e ≡ MEMORY) }
 {
     if n > STAGE || bytes.len() < STAGE {
-        return Ok(Vec::from_slice(alloc, &bytes[..n])?);
+        let mut out = emptied(room, n)?;
+        out.extend_from_slice(&bytes[..n])?;
+        return Ok(out);
     }
-    let mut out = Vec::with_capacity(alloc, STAGE)?;
+    let mut out = emptied(room, STAGE)?;
     out.extend_from_slice(&bytes[..STAGE])?;
     out.truncate(n);
     Ok(out)

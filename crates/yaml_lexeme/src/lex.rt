@@ -167,7 +167,7 @@ fn block_style(folded: bool) -> yaml_scalar_style_t
 /// Takes a literal or folded scalar.
 #[inline(always)]
 fn take_block_scalar(
-    alloc: Global,
+    room: Vec<u8>,
     cursor: &mut cursor_t,
     folded: bool,
     context: yaml_context_t,
@@ -177,7 +177,7 @@ fn take_block_scalar(
         (lexeme (scalar_to (spec.block_style folded)) cursor.old (blocks.block folded context.level cursor.old)) }
 {
     let start = cursor.mark();
-    match take_block(alloc, cursor, folded, context.level) {
+    match take_block(room, cursor, folded, context.level) {
         Ok(scalar) => Ok(scalar_to(block_style(folded), start, scalar, cursor.mark())),
         Err(refusal) => Err(refused(refusal)),
     }
@@ -203,7 +203,7 @@ fn quoted_style(single: bool) -> yaml_scalar_style_t
 /// Takes a quoted scalar.
 #[inline(always)]
 fn take_quoted_scalar(
-    alloc: Global,
+    room: Vec<u8>,
     cursor: &mut cursor_t,
     single: bool,
 ) -> Result<yaml_lexeme_t, yaml_refusal_t>
@@ -211,7 +211,7 @@ fn take_quoted_scalar(
         (lexeme (whole (spec.quoted_as (spec.quoted_style single))) cursor.old (quotes.quoted single cursor.old)) }
 {
     let start = cursor.mark();
-    match take_quoted(alloc, cursor, single) {
+    match take_quoted(room, cursor, single) {
         Ok(value) => Ok(whole_of(quoted_as(value, quoted_style(single)), start, cursor.mark())),
         Err(refusal) => Err(refused(refusal)),
     }
@@ -220,7 +220,7 @@ fn take_quoted_scalar(
 /// Takes a plain scalar.
 #[inline(always)]
 fn take_plain_scalar(
-    alloc: Global,
+    room: Vec<u8>,
     cursor: &mut cursor_t,
     context: yaml_context_t,
 ) -> Result<yaml_lexeme_t, yaml_refusal_t>
@@ -230,7 +230,7 @@ fn take_plain_scalar(
         (plains.plain (spec.in_flow context) (spec.least context) cursor.old)) }
 {
     let start = cursor.mark();
-    match take_plain(alloc, cursor, context.depth > 0, least(context)) {
+    match take_plain(room, cursor, context.depth > 0, least(context)) {
         Ok(scalar) => Ok(scalar_to(
             yaml_scalar_style_t::YAML_PLAIN_SCALAR_STYLE,
             start,
@@ -244,7 +244,7 @@ fn take_plain_scalar(
 /// Takes a literal or folded scalar in a function of its own.
 #[inline(never)]
 fn take_block_apart(
-    alloc: Global,
+    room: Vec<u8>,
     cursor: &mut cursor_t,
     folded: bool,
     context: yaml_context_t,
@@ -253,26 +253,26 @@ fn take_block_apart(
     ensures { Gives lexeme_of result cursor.new
         (lexeme (scalar_to (spec.block_style folded)) cursor.old (blocks.block folded context.level cursor.old)) }
 {
-    take_block_scalar(alloc, cursor, folded, context)
+    take_block_scalar(room, cursor, folded, context)
 }
 
 /// Takes a quoted scalar in a function of its own.
 #[inline(never)]
 fn take_quoted_apart(
-    alloc: Global,
+    room: Vec<u8>,
     cursor: &mut cursor_t,
     single: bool,
 ) -> Result<yaml_lexeme_t, yaml_refusal_t>
     ensures { Gives lexeme_of result cursor.new
         (lexeme (whole (spec.quoted_as (spec.quoted_style single))) cursor.old (quotes.quoted single cursor.old)) }
 {
-    take_quoted_scalar(alloc, cursor, single)
+    take_quoted_scalar(room, cursor, single)
 }
 
 /// Takes a plain scalar in a function of its own.
 #[inline(never)]
 fn take_plain_apart(
-    alloc: Global,
+    room: Vec<u8>,
     cursor: &mut cursor_t,
     context: yaml_context_t,
 ) -> Result<yaml_lexeme_t, yaml_refusal_t>
@@ -281,7 +281,7 @@ fn take_plain_apart(
         (lexeme (scalar_to YAML_PLAIN_SCALAR_STYLE) cursor.old
         (plains.plain (spec.in_flow context) (spec.least context) cursor.old)) }
 {
-    take_plain_scalar(alloc, cursor, context)
+    take_plain_scalar(room, cursor, context)
 }
 
 /// Takes a lexeme of the kind. Each kind has a function of its own, so that none pays for the room that another needs.
@@ -315,11 +315,11 @@ fn take_lexeme(
         yaml_lexeme_kind_t::ALIAS => take_anchor_or_alias(alloc, cursor, false),
         yaml_lexeme_kind_t::ANCHOR => take_anchor_or_alias(alloc, cursor, true),
         yaml_lexeme_kind_t::TAG => take_whole_tag(alloc, cursor, context),
-        yaml_lexeme_kind_t::LITERAL => take_block_apart(alloc, cursor, false, context),
-        yaml_lexeme_kind_t::FOLDED => take_block_apart(alloc, cursor, true, context),
-        yaml_lexeme_kind_t::SINGLE_QUOTED => take_quoted_apart(alloc, cursor, true),
-        yaml_lexeme_kind_t::DOUBLE_QUOTED => take_quoted_apart(alloc, cursor, false),
-        yaml_lexeme_kind_t::PLAIN => take_plain_apart(alloc, cursor, context),
+        yaml_lexeme_kind_t::LITERAL => take_block_apart(Vec::new(alloc), cursor, false, context),
+        yaml_lexeme_kind_t::FOLDED => take_block_apart(Vec::new(alloc), cursor, true, context),
+        yaml_lexeme_kind_t::SINGLE_QUOTED => take_quoted_apart(Vec::new(alloc), cursor, true),
+        yaml_lexeme_kind_t::DOUBLE_QUOTED => take_quoted_apart(Vec::new(alloc), cursor, false),
+        yaml_lexeme_kind_t::PLAIN => take_plain_apart(Vec::new(alloc), cursor, context),
     }
 }
 
@@ -346,11 +346,11 @@ fn read_to(
 /// The plain scalar at a place, or why there is none; then `there` is the mark of the offence.
 ///
 /// The place and the context are as for [`yaml_lexeme_at`], and so is the lexeme. [`yaml_lexeme_fault`] makes the fault
-/// of a refusal. Memory may be refused too.
+/// of a refusal. Memory may be refused too. The value is put into `room`, in place of what that holds, if it fits.
 #[tactic(auto, unfolding(crate::specs::Lex::lex))]
 #[inline(always)]
 pub fn yaml_read_plain(
-    alloc: Global,
+    room: Vec<u8>,
     text: &yaml_text_t,
     at: yaml_mark_t,
     context: yaml_context_t,
@@ -362,7 +362,7 @@ pub fn yaml_read_plain(
         → ReadsAs lexeme_of PLAIN at there.new result (spec.lexeme_at PLAIN context (place_at text.now.chars n)) }
 {
     let mut cursor = cursor_t::at(text, at);
-    let taken = take_plain_scalar(alloc, &mut cursor, context);
+    let taken = take_plain_scalar(room, &mut cursor, context);
     read_to(taken, &cursor, there)
 }
 
@@ -371,7 +371,7 @@ pub fn yaml_read_plain(
 #[tactic(auto, unfolding(crate::specs::Lex::lex))]
 #[inline(always)]
 pub fn yaml_read_quoted(
-    alloc: Global,
+    room: Vec<u8>,
     text: &yaml_text_t,
     at: yaml_mark_t,
     single: bool,
@@ -383,7 +383,7 @@ pub fn yaml_read_quoted(
         (spec.lexeme_at (spec.quoted_kind single) context (place_at text.now.chars n)) }
 {
     let mut cursor = cursor_t::at(text, at);
-    let taken = take_quoted_scalar(alloc, &mut cursor, single);
+    let taken = take_quoted_scalar(room, &mut cursor, single);
     read_to(taken, &cursor, there)
 }
 
@@ -391,7 +391,7 @@ pub fn yaml_read_quoted(
 #[tactic(auto, unfolding(crate::specs::Lex::lex))]
 #[inline(always)]
 pub fn yaml_read_block(
-    alloc: Global,
+    room: Vec<u8>,
     text: &yaml_text_t,
     at: yaml_mark_t,
     folded: bool,
@@ -405,7 +405,7 @@ pub fn yaml_read_block(
         (spec.lexeme_at (spec.block_kind folded) context (place_at text.now.chars n)) }
 {
     let mut cursor = cursor_t::at(text, at);
-    let taken = take_block_scalar(alloc, &mut cursor, folded, context);
+    let taken = take_block_scalar(room, &mut cursor, folded, context);
     read_to(taken, &cursor, there)
 }
 

@@ -18,7 +18,6 @@ use crate::kind::is_marker;
 use crate::place::{check_at, cursor_t, is_at};
 use crate::problem::{offence, refused, yaml_problem_t, yaml_refusal_t};
 use crate::runs::class_t;
-use std::alloc::Global;
 use yaml_text::yaml_mark_t;
 
 /// A scalar that was read.
@@ -289,10 +288,10 @@ fn take_lines(
     }
 }
 
-/// Takes a plain scalar. `least` is the least column of a line that goes on.
+/// Takes a plain scalar. `least` is the least column of a line that goes on. Its value is put into `room` if it fits.
 #[inline(always)]
 pub(crate) fn take_plain(
-    alloc: Global,
+    room: Vec<u8>,
     cursor: &mut cursor_t,
     in_flow: bool,
     least: u64,
@@ -304,7 +303,7 @@ pub(crate) fn take_plain(
     if is_bad_colon(cursor, in_flow) {
         return Err(offence(yaml_problem_t::COLON_IN_FLOW));
     }
-    let value = match copied_front(alloc, left, len) {
+    let value = match copied_front(room, left, len) {
         Ok(value) => value,
         Err(refusal) => return Err(refused(refusal)),
     };

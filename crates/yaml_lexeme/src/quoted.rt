@@ -17,12 +17,12 @@ ghost use Rattle.yaml_lexeme.specs.Escape.{backslash};
 
 use crate::classes::{is_break, is_white};
 use crate::escape::take_escape;
-use crate::fold::{copied_front, push_breaks, push_char, push_front, push_separator};
+use crate::fold::{copied_front, emptied, push_breaks, push_char, push_front, push_separator};
 use crate::kind::is_marker;
 use crate::place::{check_at, cursor_t, is_at};
 use crate::problem::{offence, refused, yaml_problem_t, yaml_refusal_t};
 use crate::runs::{class_t, trimmed};
-use std::alloc::{AllocError, Global};
+use std::alloc::AllocError;
 
 /// A document marker here is an offence.
 fn unmarked(cursor: &cursor_t) -> Result<bool, yaml_refusal_t>
@@ -195,10 +195,11 @@ fn take_parts(
     Ok(out)
 }
 
-/// Takes what is left of a quoted scalar after its first line, of which `len` bytes of `left` are kept.
+/// Takes what is left of a quoted scalar after its first line, of which `len` bytes of `left` are kept. Its value is put
+/// into `room` if it fits.
 #[inline(never)]
 fn take_rest(
-    alloc: Global,
+    room: Vec<u8>,
     cursor: &mut cursor_t,
     single: bool,
     left: &[u8],
@@ -209,17 +210,17 @@ fn take_rest(
         → Gives (λ v. v.items) result cursor.new (spec.quoted single p) }
 {
     let mut here = cursor.again();
-    let mut out = Vec::with_capacity(alloc, len + room_behind(cursor, single))?;
+    let mut out = emptied(room, len + room_behind(cursor, single))?;
     out.extend_from_slice(&left[..len])?;
     let taken = take_parts(&mut here, single, out);
     *cursor = here;
     taken
 }
 
-/// Takes a quoted scalar, from its opening quote on.
+/// Takes a quoted scalar, from its opening quote on. Its value is put into `room` if it fits.
 #[inline(always)]
 pub(crate) fn take_quoted(
-    alloc: Global,
+    room: Vec<u8>,
     cursor: &mut cursor_t,
     single: bool,
 ) -> Result<Vec<u8>, yaml_refusal_t>
@@ -229,7 +230,7 @@ pub(crate) fn take_quoted(
     let left = cursor.left();
     let len = line_piece(cursor, single).len();
     if closes(cursor, single) {
-        let value = match copied_front(alloc, left, len) {
+        let value = match copied_front(room, left, len) {
             Ok(value) => value,
             Err(refusal) => return Err(refused(refusal)),
         };
@@ -238,7 +239,7 @@ pub(crate) fn take_quoted(
     }
     // a copy, so that the cursor itself stays in registers
     let mut here = cursor.again();
-    let taken = take_rest(alloc, &mut here, single, left, len);
+    let taken = take_rest(room, &mut here, single, left, len);
     *cursor = here;
     taken
 }

@@ -9,6 +9,7 @@ ghost use Rattle.yaml_scan.specs.inside.Scanning.{HasRead};
 ghost use Rattle.yaml_scan.specs.inside.TextReads.{IsDecider, IsRead};
 
 use crate::scanner::scanner_t;
+use std::mem::replace;
 use yaml_lexeme::{
     yaml_context_t, yaml_decider_at, yaml_gap, yaml_lexeme_kind, yaml_lexeme_kind_t, yaml_lexeme_t,
     yaml_read_block, yaml_read_character, yaml_read_lexeme, yaml_read_plain, yaml_read_quoted,
@@ -68,7 +69,7 @@ pub(crate) fn decider_at(text: &yaml_text_t, at: yaml_mark_t, in_flow: bool) -> 
     }
 }
 
-/// The plain scalar after the gap, or why it is refused.
+/// The plain scalar after the gap, or why it is refused. Its value is put into the spare room if it fits.
 #[inline(always)]
 pub(crate) fn read_plain(
     scanner: &mut scanner_t,
@@ -78,8 +79,9 @@ pub(crate) fn read_plain(
     requires level { IfSome context.level (λ l. l ≤ length scanner.old.text.chars) }
     ensures { HasRead scanner.old scanner.new PLAIN context result }
 {
+    let room = replace(&mut scanner.spare, Vec::new(scanner.alloc));
     yaml_read_plain(
-        scanner.alloc,
+        room,
         &scanner.text,
         scanner.front,
         context,
@@ -87,7 +89,7 @@ pub(crate) fn read_plain(
     )
 }
 
-/// The quoted scalar after the gap, or why it is refused.
+/// The quoted scalar after the gap, or why it is refused. Its value is put into the spare room if it fits.
 #[inline(always)]
 pub(crate) fn read_quoted(
     scanner: &mut scanner_t,
@@ -97,8 +99,9 @@ pub(crate) fn read_quoted(
     requires { (p : ℕ) × IsMarkOf scanner.old.text.chars scanner.old.front p }
     ensures { HasRead scanner.old scanner.new (quoted_kind single) context result }
 {
+    let room = replace(&mut scanner.spare, Vec::new(scanner.alloc));
     yaml_read_quoted(
-        scanner.alloc,
+        room,
         &scanner.text,
         scanner.front,
         single,
@@ -106,7 +109,7 @@ pub(crate) fn read_quoted(
     )
 }
 
-/// The literal or folded scalar after the gap, or why it is refused.
+/// The literal or folded scalar after the gap, or why it is refused. Its value is put into the spare room if it fits.
 #[inline(always)]
 pub(crate) fn read_block(
     scanner: &mut scanner_t,
@@ -117,8 +120,9 @@ pub(crate) fn read_block(
     requires level { IfSome context.level (λ l. l ≤ length scanner.old.text.chars) }
     ensures { HasRead scanner.old scanner.new (block_kind folded) context result }
 {
+    let room = replace(&mut scanner.spare, Vec::new(scanner.alloc));
     yaml_read_block(
-        scanner.alloc,
+        room,
         &scanner.text,
         scanner.front,
         folded,

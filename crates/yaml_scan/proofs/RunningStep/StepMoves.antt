@@ -2,7 +2,6 @@
 use Rattle.std.proofs.Common.{◌≡◌, ℕ, ◌+◌, ◌≤◌, not, Bool, true, false, List, [], ◌∷◌, length, reverse, filter, Option, Ok, Err, refl, ap, sym, ◌∙◌, subst, arith, inl, inr, vec_len}
 use Rattle.std.specs.Prelude.{Result}
 use Rattle.yaml_text.specs.Fault.{Fault}
-use Rattle.yaml_text.specs.declared.types.yaml_mark_t.{yaml_mark_t}
 use Rattle.yaml_lexeme.specs.Lexeme.{Lexeme as yaml_lexeme_t}
 use Rattle.yaml_lexeme.specs.Place.{IsMarkOf}
 use Rattle.yaml_lexeme.specs.declared.lex.yaml_context_t.{yaml_context_t}
@@ -38,9 +37,9 @@ stays_on s t u a b = let p = a.same in let q = b.same in record {
 }
 
 -- READING
-pub read_in : (H : List Laid) (s : scanner_t) (margin : Bool) (r : step_t) (m : yaml_mark_t) → CanRead H s margin r → CanRead H (at_there s m) margin r
-read_in H s margin r m c = let h = c.can.holds in let e = c.met in let w = c.is_new in record {
-  can = record { holds = with_room H (s.made + 1) s (at_there s m) h refl refl refl refl refl refl refl refl refl refl refl refl refl refl; running = c.can.running; small = c.can.small; few_steps = c.can.few_steps; near = c.can.near };
+pub read_in : (H : List Laid) (s : scanner_t) (margin : Bool) (r : step_t) (t : scanner_t) → CanRead H s margin r → CanRead H (at_there s t) margin r
+read_in H s margin r t c = let h = c.can.holds in let e = c.met in let w = c.is_new in record {
+  can = record { holds = with_room H (s.made + 1) s (at_there s t) h refl refl refl refl refl refl refl refl refl refl refl refl refl refl; running = c.can.running; small = c.can.small; few_steps = c.can.few_steps; near = c.can.near };
   met = record { front = e.front; allowed = e.allowed; kind = e.kind; step = e.step };
   is_new = record { at_margin = w.at_margin; is_greatest = w.is_greatest; step = w.step; start = w.start; required = w.required };
   depth = c.depth;
@@ -54,15 +53,15 @@ pub read_as_met : (s : scanner_t) (k m : Kind) (x : yaml_context_t) (l : yaml_le
     → (p : ℕ) → IsMarkOf s.text.chars s.front p → IsRead s.text.chars m x.depth x.level p l
 read_as_met s k m x l e f = λ p i. subst (λ (z : Kind). IsRead s.text.chars z x.depth x.level p l) (sym e) (f p x.depth x.level i)
 
-read_as : (s : scanner_t) (k : Kind) (x : yaml_context_t) (m : yaml_mark_t) (o : Result code_lexeme_t yaml_refusal_t) → IsReadIn s k x m o → IsReadIn (at_there s m) k x m o
-read_as s k x m (Ok l) f = f
-read_as s k x m (Err r) f = f
+read_as : (s : scanner_t) (k : Kind) (x : yaml_context_t) (t : scanner_t) (o : Result code_lexeme_t yaml_refusal_t) → IsReadIn s k x t.there o → IsReadIn (at_there s t) k x t.there o
+read_as s k x t (Ok l) f = f
+read_as s k x t (Err r) f = f
 
 pub read_then : (H : List Laid) (s t : scanner_t) (margin : Bool) (r : step_t) (k : Kind) (o : Result code_lexeme_t yaml_refusal_t) → CanRead H s margin r → r.kind ≡ k → HasRead s t k r.context o
     → CanRead H t margin r × IsReadIn t r.kind r.context t.there o
 read_then H s t margin r k o c e h = (
-  subst (λ (u : scanner_t). CanRead H u margin r) (sym h.same) (read_in H s margin r t.there c),
-  subst (λ (z : Kind). IsReadIn t z r.context t.there o) (sym e) (subst (λ (u : scanner_t). IsReadIn u k r.context t.there o) (sym h.same) (read_as s k r.context t.there o h.read)),
+  subst (λ (u : scanner_t). CanRead H u margin r) (sym h.same) (read_in H s margin r t c),
+  subst (λ (z : Kind). IsReadIn t z r.context t.there o) (sym e) (subst (λ (u : scanner_t). IsReadIn u k r.context t.there o) (sym h.same) (read_as s k r.context t o h.read)),
 )
 
 pub stays_read : (s t : scanner_t) (k : Kind) (x : yaml_context_t) (o : Result code_lexeme_t yaml_refusal_t) → HasRead s t k x o → Stays s t
@@ -186,6 +185,7 @@ made_to s m = record {
   front = s.front;
   there = s.there;
   kept = s.kept;
+  spare = s.spare;
   taken = s.taken;
   made = m;
 }

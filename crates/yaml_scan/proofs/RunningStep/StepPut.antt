@@ -40,6 +40,7 @@ put_in s S a L reach = record {
   front = s.front;
   there = s.there;
   kept = s.kept;
+  spare = s.spare;
   taken = s.taken;
   made = s.made;
 }

@@ -149,6 +149,7 @@ at_front s m = record {
   front = m;
   there = s.there;
   kept = s.kept;
+  spare = s.spare;
   taken = s.taken;
   made = s.made;
 }

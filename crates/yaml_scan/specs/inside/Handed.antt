@@ -86,6 +86,7 @@ set_queue s q n = record {
   front = s.front;
   there = s.there;
   kept = s.kept;
+  spare = s.spare;
   taken = n;
   made = s.made;
 }

@@ -224,9 +224,9 @@ pub record StopsAfter (H : List Laid) (s : scanner_t) (margin : Bool) (r : step_
   pub there : s.there ≡ x.reach
   pub stops : (s.near ≤ x.reach.index) ⊎ (is_some (lost_after s.limit s.slots (met_in s r) r.new x.reach) ≡ true)
 
--- the same scanner, with another place of an offence
-abbrev pub at_there : scanner_t → yaml_mark_t → scanner_t
-at_there s m = record {
+-- the same scanner, with the place of an offence and the spare room of another
+abbrev pub at_there : scanner_t → scanner_t → scanner_t
+at_there s t = record {
   alloc = s.alloc;
   text = s.text;
   refusal = s.refusal;
@@ -237,17 +237,18 @@ at_there s m = record {
   layout = s.layout;
   reach = s.reach;
   front = s.front;
-  there = m;
+  there = t.there;
   kept = s.kept;
+  spare = t.spare;
   taken = s.taken;
   made = s.made;
 }
 
--- what a reader does: it reads, and changes only the place of an offence
+-- what a reader does: it reads, and changes only the place of an offence and the spare room
 pub record HasRead (s t : scanner_t) (k : Kind) (x : yaml_context_t) (o : Result code_lexeme_t yaml_refusal_t)
     : Type 0 where
   pub read : IsReadIn s k x t.there o
-  pub same : t ≡ at_there s t.there
+  pub same : t ≡ at_there s t
 
 -- what a step does not change
 pub record Same (s t : scanner_t) : Type 0 where
@@ -310,6 +311,7 @@ counted s = record {
   front = s.front;
   there = s.there;
   kept = s.kept;
+  spare = s.spare;
   taken = s.taken;
   made = s.made + 1;
 }
