@@ -4,12 +4,10 @@ ghost use Rattle.yaml_text.specs.Token.{data_of, token_of};
 ghost use Rattle.yaml_text.specs.Token.TokenData.{SCALAR};
 ghost use Rattle.yaml_c.specs.Record as records;
 ghost use Rattle.yaml_c.specs.Record.{record_of};
-ghost use Rattle.yaml_c.specs.inside.Bare.{IsBare};
+ghost use Rattle.yaml_c.specs.inside.Bare.{IsBare, with_marks};
 
 use crate::numbers::{encoding_number, style_number, type_number};
-use yaml_scan::{
-    unnamed_yaml_token_t_data, yaml_mark_t, yaml_scalar_style_t, yaml_token_t, yaml_token_type_t,
-};
+use yaml_scan::{unnamed_yaml_token_t_data, yaml_mark_t, yaml_scalar_style_t, yaml_token_t};
 
 /// A place in a text.
 #[repr(C)]
@@ -127,11 +125,10 @@ pub(crate) fn is_bare(said: &unnamed_yaml_token_t_data) -> bool
     )
 }
 
-/// The record of a token that says nothing besides its type. The texts of the next one begin at a place.
+/// A record of a token's type and marks, and of nothing else that it says. Texts begin at a place.
 #[inline(always)]
-pub(crate) fn bare_record(text_at: u64, token: &yaml_token_t) -> bogzhami_token
-    requires { IsBare (token_of token.now).token_data }
-    ensures { result ≡ record_of text_at (token_of token.now) }
+fn with_marks(text_at: u64, token: &yaml_token_t) -> bogzhami_token
+    ensures { result ≡ with_marks text_at (token_of token.now) }
 {
     bogzhami_token {
         token_type: type_number(token.type_()),
@@ -146,6 +143,15 @@ pub(crate) fn bare_record(text_at: u64, token: &yaml_token_t) -> bogzhami_token
     }
 }
 
+/// The record of a token that says nothing besides its type. The texts of the next one begin at a place.
+#[inline(always)]
+pub(crate) fn bare_record(text_at: u64, token: &yaml_token_t) -> bogzhami_token
+    requires { IsBare (token_of token.now).token_data }
+    ensures { result ≡ record_of text_at (token_of token.now) }
+{
+    with_marks(text_at, token)
+}
+
 /// The record of a scalar whose text begins at a place.
 #[inline(always)]
 pub(crate) fn scalar_record(
@@ -158,15 +164,9 @@ pub(crate) fn scalar_record(
     ensures { result ≡ record_of text_at (token_of token.now) }
 {
     bogzhami_token {
-        token_type: type_number(yaml_token_type_t::YAML_SCALAR_TOKEN),
         detail: style_number(style),
-        major: 0,
-        minor: 0,
-        text_at,
         first_len: value.len() as u64,
-        second_len: 0,
-        start_mark: mark_of(token.start_mark),
-        end_mark: mark_of(token.end_mark),
+        ..with_marks(text_at, token)
     }
 }
 
@@ -176,14 +176,11 @@ pub(crate) fn record_of(text_at: u64, token: &yaml_token_t) -> bogzhami_token
 {
     let (major, minor) = version_of(&token.token_data);
     bogzhami_token {
-        token_type: type_number(token.type_()),
         detail: detail_of(&token.token_data),
         major,
         minor,
-        text_at,
         first_len: first_text(&token.token_data).len() as u64,
         second_len: second_text(&token.token_data).len() as u64,
-        start_mark: mark_of(token.start_mark),
-        end_mark: mark_of(token.end_mark),
+        ..with_marks(text_at, token)
     }
 }

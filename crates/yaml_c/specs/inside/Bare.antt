@@ -1,8 +1,10 @@
 -- Tokens that say nothing besides their type.
-use Rattle.std.specs.Prelude.{◌≡◌, [], pos, false}
-use Rattle.yaml_text.specs.Token.{TokenData, type_of}
+use Rattle.std.specs.Prelude.{◌≡◌, ℕ, [], pos, false}
+use Rattle.yaml_text.specs.Token.{Token, TokenData, type_of}
+use Rattle.yaml_text.specs.Types.{token_type_number}
 use Rattle.yaml_scan.specs.Token.{is_last_type}
-use Rattle.yaml_c.specs.Record.{detail_of, first_text, major_of, minor_of, second_text}
+use Rattle.yaml_c.specs.Record.{detail_of, first_text, held, major_of, mark_of, minor_of, second_text}
+use Rattle.yaml_c.specs.declared.record.bogzhami_token.{bogzhami_token}
 
 -- Its record has zeros, and it has no texts. It is not the stream end.
 pub record IsBare (d : TokenData) : Type 0 where
@@ -12,3 +14,17 @@ pub record IsBare (d : TokenData) : Type 0 where
   pub major : major_of d ≡ pos 0
   pub minor : minor_of d ≡ pos 0
   pub goes_on : is_last_type (type_of d) ≡ false
+
+-- a record of the type and the marks of a token, and of nothing else that it says
+abbrev pub with_marks : ℕ → Token → bogzhami_token
+with_marks at t = record {
+  token_type = token_type_number (type_of t.token_data);
+  detail = 0;
+  major = pos 0;
+  minor = pos 0;
+  text_at = held at;
+  first_len = 0;
+  second_len = 0;
+  start_mark = mark_of t.start_mark;
+  end_mark = mark_of t.end_mark;
+}

@@ -5,7 +5,8 @@ use Rattle.yaml_text.specs.Token.{token_of}
 use Rattle.yaml_c.specs.Ahead.{Ahead, ahead_of, is_end}
 use Rattle.yaml_c.specs.Ahead.Ahead.{NONE, TOKEN, OVER}
 use Rattle.yaml_c.specs.Held.{Stands}
-use Rattle.yaml_c.specs.inside.Batch.{GivesNext}
+use Rattle.yaml_scan.specs.Parser.{Parser}
+use Rattle.yaml_c.specs.inside.Batch.{GivesNext, GoesOn}
 use Rattle.yaml_c.specs.Record.{texts_of}
 use Rattle.yaml_c.specs.inside.Sink.{IsPut}
 use Rattle.yaml_c.specs.declared.held.ahead_t.{ahead_t}
@@ -34,16 +35,18 @@ returns-in-Some c = λ first e limit input given l h. let g = c.tokens.invariant
     elim (cases_lt (length c.tokens.rooms.texts.now) (c.tokens.rooms.text_len + length (texts_of t))) [
       | inl low ↦ (let w = c.give_token.ensures.kept low in
           let a : ahead_of c.in-Some.stop ≡ TOKEN t = cc in
-          subst (λ (z : token_rooms_t). GivesNext limit e input given first c.look.new.parser z (ahead_of c.in-Some.stop)) (sym w.0)
+          subst (λ (q : Parser). GivesNext limit e input given first q c.give_token.new.rooms (ahead_of c.in-Some.stop)) (sym c.give_token.ensures.same)
+          (subst (λ (z : token_rooms_t). GivesNext limit e input given first c.look.new.parser z (ahead_of c.in-Some.stop)) (sym w.0)
           (subst (λ (z : Ahead). GivesNext limit e input given first c.look.new.parser c.tokens.rooms z) (sym a)
           (batch_ends limit e input given first c.tokens.parser c.tokens.rooms NONE g (TOKEN t) c.look.new.parser k here
-          (omega (arith, low, g.text, k.texts)))))
+          (omega (arith, low, g.text, k.texts))))))
       | inr high ↦ (let w = c.give_token.ensures.put high in
           let r = ends_there (is_end t) (ahead_of c.in-Some.stop) (sym w.1 ∙ stop) in
           let more = goes_end limit e input given first c.tokens.parser c.tokens.rooms NONE g c.look.new.parser t c.give_token.new.rooms here w.0 c.tokens-test.true high few short r.0 in
           let kept = keeps_more first c.tokens.rooms c.give_token.new.rooms t k w.0 c.tokens-test.true high few short in
-          subst (λ (z : Ahead). GivesNext limit e input given first c.look.new.parser c.give_token.new.rooms z) r.1
-          (batch_ends limit e input given first c.look.new.parser c.give_token.new.rooms OVER more OVER c.look.new.parser kept more.stands (omega (arith, more.count, w.0.token_count, few))))
+          subst (λ (q : Parser). GivesNext limit e input given first q c.give_token.new.rooms (ahead_of c.in-Some.stop)) (sym c.give_token.ensures.same)
+          (subst (λ (z : Ahead). GivesNext limit e input given first c.look.new.parser c.give_token.new.rooms z) r.1
+          (batch_ends limit e input given first c.look.new.parser c.give_token.new.rooms OVER more OVER c.look.new.parser kept more.stands (omega (arith, more.count, w.0.token_count, few)))))
     ]
 
 -- the token was put
@@ -76,7 +79,8 @@ tokens-preserved c =
       λ first e limit input given h. let g = c.tokens.invariant.1 first e limit input given h in
           let here : Stands limit e input c.look.new.parser (given ++ g.list) (TOKEN t) =
           subst (λ (z : ahead_t). Stands limit e input c.look.new.parser (given ++ g.list) (ahead_of z)) c.in-TOKEN.is (c.look.ensures.stands e limit input (given ++ g.list) g.stands) in
-          goes_more limit e input given first c.tokens.parser c.tokens.rooms NONE g c.look.new.parser t c.give_token.new.rooms here w.put c.tokens-test.true w.fits few short w.more,
+          subst (λ (q : Parser). GoesOn limit e input given first q c.give_token.new.rooms NONE) (sym c.give_token.ensures.same)
+          (goes_more limit e input given first c.tokens.parser c.tokens.rooms NONE g c.look.new.parser t c.give_token.new.rooms here w.put c.tokens-test.true w.fits few short w.more),
     )
 
 pub returns : goal.returns
