@@ -36,7 +36,9 @@ pub(crate) fn emptied(room: Vec<u8>, size: usize) -> Result<Vec<u8>, AllocError>
     ensures items { IfOk result (λ out. out.items ≡ []) }
 {
     if room.capacity() < size {
-        return Vec::with_capacity(*room.allocator(), size);
+        let alloc = *room.allocator();
+        drop(room);
+        return Vec::with_capacity(alloc, size);
     }
     let mut out = room;
     out.clear();
