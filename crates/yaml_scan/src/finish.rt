@@ -36,16 +36,16 @@ fn has_to_wait(scanner: &scanner_t, kind: yaml_lexeme_kind_t) -> bool
 fn put_lexeme<const DIRECT: bool, S: yaml_token_sink_t>(
     scanner: &mut scanner_t,
     sink: &mut S,
-    margin: bool,
+    in_flow: bool,
     step: step_t,
     lexeme: yaml_lexeme_t,
 ) -> Result<(), stop_t>
     ghost before: { List Laid }
-    requires { CanLayAll before scanner.old margin step (lexeme_of lexeme) }
+    requires { CanLayAll before scanner.old in_flow step (lexeme_of lexeme) }
     ensures { LaysTo before scanner.old scanner.new DIRECT (λ tokens. S.took sink.old tokens sink.new) S.may_refuse
         (made_by 1 result) }
 {
-    let group = lay_lexeme(scanner, margin, step, lexeme);
+    let group = lay_lexeme(scanner, in_flow, step, lexeme);
     let waits = has_to_wait(scanner, step.kind);
     hand_on::<DIRECT, S>(scanner, sink, waits, group)
 }
@@ -55,18 +55,18 @@ fn put_lexeme<const DIRECT: bool, S: yaml_token_sink_t>(
 fn put_decided<const DIRECT: bool, S: yaml_token_sink_t>(
     scanner: &mut scanner_t,
     sink: &mut S,
-    margin: bool,
+    in_flow: bool,
     step: step_t,
     lexeme: yaml_lexeme_t,
     decider: decider_t,
 ) -> Result<(), stop_t>
     ghost before: { List Laid }
-    requires { CanLayAll before scanner.old margin step (lexeme_of lexeme) × IsDecided scanner.old margin (not DIRECT)
+    requires { CanLayAll before scanner.old in_flow step (lexeme_of lexeme) × IsDecided scanner.old in_flow (not DIRECT)
         step lexeme.reach decider.kind (lexeme_of decider.lexeme) }
     ensures { LaysTo before scanner.old scanner.new DIRECT (λ tokens. S.took sink.old tokens sink.new) S.may_refuse
         (made_by 2 result) }
 {
-    let (first, second) = lay_decided(scanner, margin, step, lexeme, decider);
+    let (first, second) = lay_decided(scanner, in_flow, step, lexeme, decider);
     match hand_on::<DIRECT, S>(scanner, sink, false, first) {
         Ok(_) => hand_token::<DIRECT, S>(scanner, sink, second),
         Err(stop) => Err(stopped(stop)),
@@ -79,23 +79,23 @@ fn put_decided<const DIRECT: bool, S: yaml_token_sink_t>(
 fn lay_all<const DIRECT: bool, S: yaml_token_sink_t>(
     scanner: &mut scanner_t,
     sink: &mut S,
-    margin: bool,
+    in_flow: bool,
     step: step_t,
     lexeme: yaml_lexeme_t,
 ) -> Result<u64, stop_t>
     ghost before: { List Laid }
-    requires { CanLayAll before scanner.old margin step (lexeme_of lexeme) }
+    requires { CanLayAll before scanner.old in_flow step (lexeme_of lexeme) }
     ensures { LaysTo before scanner.old scanner.new DIRECT (λ tokens. S.took sink.old tokens sink.new) S.may_refuse
         result }
 {
-    match decided_by(scanner, margin, !DIRECT, step, lexeme.reach) {
+    match decided_by(scanner, in_flow, !DIRECT, step, lexeme.reach) {
         Some(decider) => {
-            match put_decided::<DIRECT, S>(scanner, sink, margin, step, lexeme, decider) {
+            match put_decided::<DIRECT, S>(scanner, sink, in_flow, step, lexeme, decider) {
                 Ok(_) => Ok(2),
                 Err(stop) => Err(stopped(stop)),
             }
         }
-        None => match put_lexeme::<DIRECT, S>(scanner, sink, margin, step, lexeme) {
+        None => match put_lexeme::<DIRECT, S>(scanner, sink, in_flow, step, lexeme) {
             Ok(_) => Ok(1),
             Err(stop) => Err(stopped(stop)),
         },
@@ -106,22 +106,22 @@ fn lay_all<const DIRECT: bool, S: yaml_token_sink_t>(
 #[inline(always)]
 fn check_reach(
     scanner: &mut scanner_t,
-    margin: bool,
+    in_flow: bool,
     step: step_t,
     lexeme: &yaml_lexeme_t,
 ) -> Result<(), stop_t>
     ghost before: { List Laid }
-    requires { CanRead before scanner.old margin step × ((p : ℕ) → IsMarkOf scanner.old.text.chars scanner.old.front p
+    requires { CanRead before scanner.old in_flow step × ((p : ℕ) → IsMarkOf scanner.old.text.chars scanner.old.front p
         → IsRead scanner.old.text.chars step.kind step.context.depth step.context.level p (lexeme_of lexeme.now)) }
     ensures { MatchResult result
-        (λ _. (scanner.new ≡ scanner.old) × CanLayAll before scanner.old margin step (lexeme_of lexeme.now))
+        (λ _. (scanner.new ≡ scanner.old) × CanLayAll before scanner.old in_flow step (lexeme_of lexeme.now))
         (λ stop. Refuses before scanner.old scanner.new stop) }
 {
     let reach = lexeme.reach;
-    let lost = is_lost(root_after(scanner, margin, step), scanner.limit, reach);
+    let lost = is_lost(root_after(scanner, in_flow, step), scanner.limit, reach);
     if scanner.near <= reach.index || lost {
         scanner.there = reach;
-        return Err(stop_after(scanner, margin, step.kind, step.allowed));
+        return Err(stop_after(scanner, in_flow, step.kind, step.allowed));
     }
     Ok(())
 }
@@ -132,18 +132,18 @@ fn check_reach(
 pub(crate) fn end_character<const DIRECT: bool, S: yaml_token_sink_t>(
     scanner: &mut scanner_t,
     sink: &mut S,
-    margin: bool,
+    in_flow: bool,
     step: step_t,
     lexeme: yaml_lexeme_t,
 ) -> Result<(), stop_t>
     ghost before: { List Laid }
-    requires { CanRead before scanner.old margin step × ((p : ℕ) → IsMarkOf scanner.old.text.chars scanner.old.front p
+    requires { CanRead before scanner.old in_flow step × ((p : ℕ) → IsMarkOf scanner.old.text.chars scanner.old.front p
         → IsRead scanner.old.text.chars step.kind step.context.depth step.context.level p (lexeme_of lexeme)) }
     ensures { StepsTo before scanner.old scanner.new DIRECT (λ tokens. S.took sink.old tokens sink.new) S.may_refuse
         result }
 {
-    match check_reach(scanner, margin, step, &lexeme) {
-        Ok(_) => match put_lexeme::<DIRECT, S>(scanner, sink, margin, step, lexeme) {
+    match check_reach(scanner, in_flow, step, &lexeme) {
+        Ok(_) => match put_lexeme::<DIRECT, S>(scanner, sink, in_flow, step, lexeme) {
             Ok(_) => {
                 scanner.made += 1;
                 Ok(())
@@ -159,18 +159,18 @@ pub(crate) fn end_character<const DIRECT: bool, S: yaml_token_sink_t>(
 fn end_step<const DIRECT: bool, S: yaml_token_sink_t>(
     scanner: &mut scanner_t,
     sink: &mut S,
-    margin: bool,
+    in_flow: bool,
     step: step_t,
     lexeme: yaml_lexeme_t,
 ) -> Result<(), stop_t>
     ghost before: { List Laid }
-    requires { CanRead before scanner.old margin step × ((p : ℕ) → IsMarkOf scanner.old.text.chars scanner.old.front p
+    requires { CanRead before scanner.old in_flow step × ((p : ℕ) → IsMarkOf scanner.old.text.chars scanner.old.front p
         → IsRead scanner.old.text.chars step.kind step.context.depth step.context.level p (lexeme_of lexeme)) }
     ensures { StepsTo before scanner.old scanner.new DIRECT (λ tokens. S.took sink.old tokens sink.new) S.may_refuse
         result }
 {
-    match check_reach(scanner, margin, step, &lexeme) {
-        Ok(_) => match lay_all::<DIRECT, S>(scanner, sink, margin, step, lexeme) {
+    match check_reach(scanner, in_flow, step, &lexeme) {
+        Ok(_) => match lay_all::<DIRECT, S>(scanner, sink, in_flow, step, lexeme) {
             Ok(made) => {
                 scanner.made += made;
                 Ok(())
@@ -186,18 +186,18 @@ fn end_step<const DIRECT: bool, S: yaml_token_sink_t>(
 pub(crate) fn end_read<const DIRECT: bool, S: yaml_token_sink_t>(
     scanner: &mut scanner_t,
     sink: &mut S,
-    margin: bool,
+    in_flow: bool,
     step: step_t,
     read: Result<yaml_lexeme_t, yaml_refusal_t>,
 ) -> Result<(), stop_t>
     ghost before: { List Laid }
-    requires { CanRead before scanner.old margin step
+    requires { CanRead before scanner.old in_flow step
         × IsReadIn scanner.old step.kind step.context scanner.old.there read }
     ensures { StepsTo before scanner.old scanner.new DIRECT (λ tokens. S.took sink.old tokens sink.new) S.may_refuse
         result }
 {
     match read {
-        Ok(lexeme) => end_step::<DIRECT, S>(scanner, sink, margin, step, lexeme),
+        Ok(lexeme) => end_step::<DIRECT, S>(scanner, sink, in_flow, step, lexeme),
         Err(refusal) => Err(stop_in_lexeme(scanner, step.kind, refusal)),
     }
 }
@@ -206,14 +206,14 @@ pub(crate) fn end_read<const DIRECT: bool, S: yaml_token_sink_t>(
 #[inline(always)]
 pub(crate) fn end_queued(
     scanner: &mut scanner_t,
-    margin: bool,
+    in_flow: bool,
     step: step_t,
     read: Result<yaml_lexeme_t, yaml_refusal_t>,
 ) -> Result<(), stop_t>
     ghost before: { List Laid }
-    requires { CanRead before scanner.old margin step
+    requires { CanRead before scanner.old in_flow step
         × IsReadIn scanner.old step.kind step.context scanner.old.there read }
     ensures { IsStep before scanner.old scanner.new result }
 {
-    end_read::<false, no_sink_t>(scanner, &mut no_sink_t {}, margin, step, read)
+    end_read::<false, no_sink_t>(scanner, &mut no_sink_t {}, in_flow, step, read)
 }

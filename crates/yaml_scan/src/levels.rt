@@ -11,7 +11,7 @@ ghost use Rattle.yaml_scan.specs.Groups.Token.{BlockEnd};
 ghost use Rattle.yaml_scan.specs.inside.Opened.{is_new, opened};
 ghost use Rattle.yaml_scan.specs.inside.Queue.{ends_at, closing, completed_in, opened_by, start_of, Fitting};
 ghost use Rattle.yaml_scan.specs.inside.Queue.{KeepsRest};
-ghost use Rattle.yaml_scan.specs.inside.Slots.{is_margin_level};
+ghost use Rattle.yaml_scan.specs.inside.Slots.{is_level};
 
 use crate::groups::{block_t, mark_key, queue_t};
 use crate::kind::{is_last, is_opener, stays_open};
@@ -116,25 +116,25 @@ pub(crate) fn top_level(levels: &[u64]) -> Option<u64>
     levels.last().copied()
 }
 
-/// Whether a level is this column, at depth 0.
+/// Whether a level is this column, outside flow.
 #[inline(always)]
-pub(crate) fn is_level(margin: bool, level: Option<u64>, column: u64) -> bool
-    ensures { result ≡ is_margin_level margin level column }
+pub(crate) fn is_level(in_flow: bool, level: Option<u64>, column: u64) -> bool
+    ensures { result ≡ is_level in_flow level column }
 {
-    margin
+    !in_flow
         && match level {
             None => false,
             Some(level) => level == column,
         }
 }
 
-/// Whether a column opens a level.
+/// Whether a column is a new level: outside flow, and greater than the open ones.
 #[inline(always)]
-pub(crate) fn is_new_level(levels: &[u64], margin: bool, column: u64) -> bool
+pub(crate) fn is_new_level(levels: &[u64], in_flow: bool, column: u64) -> bool
     requires { IsFalling (reverse levels.now) }
-    ensures { result ≡ is_new margin column (reverse levels.now) }
+    ensures { result ≡ is_new in_flow column (reverse levels.now) }
 {
-    margin
+    !in_flow
         && match top_level(levels) {
             None => true,
             Some(level) => level < column,
@@ -143,11 +143,11 @@ pub(crate) fn is_new_level(levels: &[u64], margin: bool, column: u64) -> bool
 
 /// Whether a lexeme that completes nothing opens its column.
 #[inline(always)]
-fn opens_at(levels: &[u64], margin: bool, kind: yaml_lexeme_kind_t, column: u64) -> bool
+fn opens_at(levels: &[u64], in_flow: bool, kind: yaml_lexeme_kind_t, column: u64) -> bool
     requires { IsFalling (reverse levels.now) }
-    ensures { result ≡ (is_new margin column (reverse levels.now) && opens_level kind true) }
+    ensures { result ≡ (is_new in_flow column (reverse levels.now) && opens_level kind true) }
 {
-    is_new_level(levels, margin, column) && is_opener(kind)
+    is_new_level(levels, in_flow, column) && is_opener(kind)
 }
 
 /// Opens a level, or none. There is room for it.
@@ -170,19 +170,19 @@ pub(crate) struct layout_t {
 
 /// Completes a candidate. There is room for a level.
 #[inline(always)]
-fn complete(layout: &mut layout_t, margin: bool, held: held_t)
+fn complete(layout: &mut layout_t, in_flow: bool, held: held_t)
     requires falls { IsFalling (reverse layout.old.levels.items) }
     requires fits { Fitting (Some held) layout.old.queue.done layout.old.queue.groups.items }
     requires room { vec_len layout.old.levels < vec_capacity layout.old.levels }
     ensures levels { reverse layout.new.levels.items
-        ≡ (if is_new margin held.start.column (reverse layout.old.levels.items) then held.start.column ∷ [] else [])
+        ≡ (if is_new in_flow held.start.column (reverse layout.old.levels.items) then held.start.column ∷ [] else [])
         ++ reverse layout.old.levels.items }
     ensures groups { layout.new.queue.groups.items
-        ≡ completed_in margin (Some held) (reverse layout.old.levels.items) layout.old.queue.done
+        ≡ completed_in in_flow (Some held) (reverse layout.old.levels.items) layout.old.queue.done
         layout.old.queue.groups.items }
     ensures rest { KeepsRest layout.old.queue layout.new.queue }
 {
-    let opens = is_new_level(&layout.levels, margin, held.start.column);
+    let opens = is_new_level(&layout.levels, in_flow, held.start.column);
     let at = (held.step - 1 - layout.queue.done) as usize;
     mark_key(&mut layout.queue.groups, at, opens);
     open_level(&mut layout.levels, opens, held.start.column);
@@ -206,16 +206,16 @@ pub(crate) fn block_start(opens: bool, kind: yaml_lexeme_kind_t) -> block_t
 #[inline(always)]
 fn begin(
     levels: &mut Vec<u64>,
-    margin: bool,
+    in_flow: bool,
     kind: yaml_lexeme_kind_t,
     start: yaml_mark_t,
 ) -> block_t
     requires falls { IsFalling (reverse levels.old.items) }
     requires room { vec_len levels.old < vec_capacity levels.old }
-    ensures levels { reverse levels.new.items ≡ opened margin None kind start (reverse levels.old.items) }
-    ensures opens { result ≡ opened_by margin None kind start.column (reverse levels.old.items) }
+    ensures levels { reverse levels.new.items ≡ opened in_flow None kind start (reverse levels.old.items) }
+    ensures opens { result ≡ opened_by in_flow None kind start.column (reverse levels.old.items) }
 {
-    let opens = opens_at(levels, margin, kind, start.column);
+    let opens = opens_at(levels, in_flow, kind, start.column);
     open_level(levels, opens, start.column);
     block_start(opens, kind)
 }
@@ -224,7 +224,7 @@ fn begin(
 #[inline(always)]
 pub(crate) fn put_key(
     layout: &mut layout_t,
-    margin: bool,
+    in_flow: bool,
     completed: Option<held_t>,
     kind: yaml_lexeme_kind_t,
     start: yaml_mark_t,
@@ -233,19 +233,19 @@ pub(crate) fn put_key(
     requires fits { Fitting completed layout.old.queue.done layout.old.queue.groups.items }
     requires room { vec_len layout.old.levels < vec_capacity layout.old.levels }
     ensures levels { reverse layout.new.levels.items
-        ≡ opened margin completed kind start (reverse layout.old.levels.items) }
+        ≡ opened in_flow completed kind start (reverse layout.old.levels.items) }
     ensures groups { layout.new.queue.groups.items
-        ≡ completed_in margin completed (reverse layout.old.levels.items) layout.old.queue.done
+        ≡ completed_in in_flow completed (reverse layout.old.levels.items) layout.old.queue.done
         layout.old.queue.groups.items }
-    ensures opens { result ≡ opened_by margin completed kind start.column (reverse layout.old.levels.items) }
+    ensures opens { result ≡ opened_by in_flow completed kind start.column (reverse layout.old.levels.items) }
     ensures rest { KeepsRest layout.old.queue layout.new.queue }
 {
     match completed {
         Some(held) => {
-            complete(layout, margin, held);
+            complete(layout, in_flow, held);
             block_t::NONE
         }
-        None => begin(&mut layout.levels, margin, kind, start),
+        None => begin(&mut layout.levels, in_flow, kind, start),
     }
 }
 

@@ -16,10 +16,10 @@ use Rattle.std.specs.Prelude.{Bool}
 use Rattle.yaml_scan.proofs.RunningStep.StepTests.{offence_there}
 use Rattle.yaml_scan.proofs.stop.stop_in_lexeme.Goals as goal
 
-offends : (H : List Laid) (s : scanner_t) (margin : Bool) (q : step_t) (k : Kind) (r : yaml_refusal_t) (p : yaml_problem_t) → CanRead H s margin q → q.kind ≡ k → r ≡ OFFENCE p → IsReadIn s k q.context s.there (Err r) → Offends H s (refused_at k s.front s.there r)
-offends H s margin q k r p c e o f = elim (f (front_of (source_of s.text.chars) H) c.met.front) [
+offends : (H : List Laid) (s : scanner_t) (in_flow : Bool) (q : step_t) (k : Kind) (r : yaml_refusal_t) (p : yaml_problem_t) → CanRead H s in_flow q → q.kind ≡ k → r ≡ OFFENCE p → IsReadIn s k q.context s.there (Err r) → Offends H s (refused_at k s.front s.there r)
+offends H s in_flow q k r p c e o f = elim (f (front_of (source_of s.text.chars) H) c.met.front) [
   | inl m ↦ absurd (cc)
-  | inr w ↦ offence_there H s margin q c (refused_at k s.front s.there r) (subst (λ (z : Kind). IsOffence s.text.chars z q.context.depth q.context.level (front_of (source_of s.text.chars) H) (refused_at k s.front s.there r)) (sym e) w)
+  | inr w ↦ offence_there H s in_flow q c (refused_at k s.front s.there r) (subst (λ (z : Kind). IsOffence s.text.chars z q.context.depth q.context.level (front_of (source_of s.text.chars) H) (refused_at k s.front s.there r)) (sym e) w)
 ]
 
 pub keep_nearest-requires : goal.keep_nearest-requires
