@@ -7,7 +7,8 @@ ghost use Rattle.yaml_scan.specs.inside.Stop.{fault_at};
 
 use crate::allowed::is_key_allowed;
 use crate::fault::{stop_t, stopped};
-use crate::look::{cleared_by, refused_by, step_of, step_t};
+use crate::look::{cleared_by, refused_by, step_of};
+use crate::met::step_t;
 use crate::scanner::scanner_t;
 use crate::stop::{stop_at_kind, stop_at_start};
 use yaml_lexeme::yaml_lexeme_kind_t;
@@ -82,7 +83,7 @@ pub(crate) fn begin_step(
     ghost before: { List Laid }
     requires { Comes before scanner.old in_flow kind }
     ensures { MatchResult result
-        (λ step. CanRead before scanner.new in_flow step × (step.kind ≡ kind) × Stays scanner.old scanner.new)
+        (λ step. CanRead before scanner.new step × (step.kind ≡ kind) × Stays scanner.old scanner.new)
         (λ stop. Refuses before scanner.old scanner.new stop) }
 {
     let allowed = is_key_allowed(scanner.allowed, in_flow, scanner.reach, scanner.front);

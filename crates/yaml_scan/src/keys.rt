@@ -11,6 +11,7 @@ ghost use Rattle.yaml_scan.specs.inside.Slots.{AreNested};
 
 use crate::depth::{is_flow_start, nest, nests};
 use crate::kind::{is_candidate, is_colon};
+use crate::met::step_t;
 use crate::slots::{held_t, slots_t};
 use yaml_lexeme::yaml_lexeme_kind_t;
 use yaml_text::yaml_mark_t;
@@ -219,36 +220,31 @@ fn step_of(held: Option<held_t>) -> u64
     }
 }
 
-/// Gives up what is stale at a mark, and changes the depth after a lexeme. There is room for one. `in_flow`: the depth
-/// was above 0.
+/// Gives up what is stale at a mark, and changes the depth after the lexeme of a step. There is room for one.
 #[inline(always)]
-pub(crate) fn move_slots(
-    slots: &mut slots_t,
-    in_flow: bool,
-    kind: yaml_lexeme_kind_t,
-    limit: u64,
-    mark: yaml_mark_t,
-)
-    requires flow { in_flow ≡ nat_lt 0 (vec_len slots.old.outer) }
+pub(crate) fn move_slots(slots: &mut slots_t, step: step_t, limit: u64, mark: yaml_mark_t)
+    requires flow { step.in_flow ≡ nat_lt 0 (vec_len slots.old.outer) }
     requires empty { slots.old.not_simple_keys ≡ empty_slots slots.old.outer.items }
     requires nested { AreNested slots.old.outer.items }
     requires room { vec_len slots.old.outer < vec_capacity slots.old.outer }
     ensures outer { slots.new.outer.items
-        ≡ nested_outer kind (map (still_held limit mark) slots.old.outer.items) (still_held limit mark slots.old.top) }
+        ≡ nested_outer step.kind (map (still_held limit mark) slots.old.outer.items)
+        (still_held limit mark slots.old.top) }
     ensures top { slots.new.top
-        ≡ nested_top kind (map (still_held limit mark) slots.old.outer.items) (still_held limit mark slots.old.top) }
+        ≡ nested_top step.kind (map (still_held limit mark) slots.old.outer.items)
+        (still_held limit mark slots.old.top) }
     ensures empty { slots.new.not_simple_keys ≡ empty_slots slots.new.outer.items }
     ensures awaited { slots.new.awaited ≡ step_of (lowest (slots.new.outer.items ++ slots.new.top ∷ [])) }
 {
-    if !in_flow && !is_flow_start(kind) {
+    if !step.in_flow && !is_flow_start(step.kind) {
         give_up(&mut slots.top, limit, mark);
         slots.awaited = step_of(slots.top);
         return;
     }
     let below = give_up_stale(&mut slots.outer, slots.not_simple_keys, limit, mark);
     give_up(&mut slots.top, limit, mark);
-    slots.not_simple_keys = if nests(kind) {
-        nest(slots, kind);
+    slots.not_simple_keys = if nests(step.kind) {
+        nest(slots, step.kind);
         count_empty(&slots.outer, below)
     } else {
         below

@@ -15,6 +15,7 @@ ghost use Rattle.yaml_scan.specs.inside.Slots.{is_level};
 
 use crate::groups::{block_t, mark_key, queue_t};
 use crate::kind::{is_last, is_opener, stays_open};
+use crate::met::step_t;
 use crate::slots::held_t;
 use yaml_lexeme::yaml_lexeme_kind_t;
 use yaml_text::yaml_mark_t;
@@ -57,29 +58,24 @@ pub(crate) struct closed_t {
     pub ends: usize,
 }
 
-/// Closes the levels that a lexeme does not keep, greatest first.
+/// Closes the levels that the lexeme of a step does not keep, greatest first. The gap before it ends at `front`.
 #[inline(always)]
-pub(crate) fn close_levels(
-    levels: &mut Vec<u64>,
-    in_flow: bool,
-    kind: yaml_lexeme_kind_t,
-    front: yaml_mark_t,
-    start: yaml_mark_t,
-) -> closed_t
+pub(crate) fn close_levels(levels: &mut Vec<u64>, step: step_t, front: yaml_mark_t) -> closed_t
     requires { IsFalling (reverse levels.old.items) }
-    ensures levels { reverse levels.new.items ≡ filter (stays in_flow kind start) (reverse levels.old.items) }
-    ensures ends { ends_at result.early front ++ ends_at result.ends start
-        ≡ map (λ c. BlockEnd (end_at kind front start c)) (filter (λ c.
-        not (stays in_flow kind start c)) (reverse levels.old.items)) }
-    ensures none { is_stream_end kind ≡ false → result.early ≡ 0 }
+    ensures levels { reverse levels.new.items
+        ≡ filter (stays step.in_flow step.kind step.new.start) (reverse levels.old.items) }
+    ensures ends { ends_at result.early front ++ ends_at result.ends step.new.start
+        ≡ map (λ c. BlockEnd (end_at step.kind front step.new.start c)) (filter (λ c.
+        not (stays step.in_flow step.kind step.new.start c)) (reverse levels.old.items)) }
+    ensures none { is_stream_end step.kind ≡ false → result.early ≡ 0 }
     ensures len { vec_len levels.new ≤ vec_len levels.old }
     ensures capacity { vec_capacity levels.new ≡ vec_capacity levels.old }
 {
     let mut early = 0;
     let mut ends = 0;
-    while let Some(last) = closing(levels, in_flow, kind, start) {
+    while let Some(last) = closing(levels, step.in_flow, step.kind, step.new.start) {
         levels.pop();
-        if is_early(kind, front, last) {
+        if is_early(step.kind, front, last) {
             early += 1;
         } else {
             ends += 1;
@@ -202,50 +198,42 @@ pub(crate) fn block_start(opens: bool, kind: yaml_lexeme_kind_t) -> block_t
     }
 }
 
-/// Opens a level at a lexeme that completes nothing, if it does. There is room for one.
+/// Opens a level at the lexeme of a step, which completes nothing, if it does. There is room for one.
 #[inline(always)]
-fn begin(
-    levels: &mut Vec<u64>,
-    in_flow: bool,
-    kind: yaml_lexeme_kind_t,
-    start: yaml_mark_t,
-) -> block_t
+fn begin(levels: &mut Vec<u64>, step: step_t) -> block_t
     requires falls { IsFalling (reverse levels.old.items) }
     requires room { vec_len levels.old < vec_capacity levels.old }
-    ensures levels { reverse levels.new.items ≡ opened in_flow None kind start (reverse levels.old.items) }
-    ensures opens { result ≡ opened_by in_flow None kind start.column (reverse levels.old.items) }
+    ensures levels { reverse levels.new.items
+        ≡ opened step.in_flow None step.kind step.new.start (reverse levels.old.items) }
+    ensures opens { result ≡ opened_by step.in_flow None step.kind step.new.start.column (reverse levels.old.items) }
 {
-    let opens = opens_at(levels, in_flow, kind, start.column);
-    open_level(levels, opens, start.column);
-    block_start(opens, kind)
+    let column = step.new.start.column;
+    let opens = opens_at(levels, step.in_flow, step.kind, column);
+    open_level(levels, opens, column);
+    block_start(opens, step.kind)
 }
 
-/// Completes a candidate, or opens a level at a lexeme. There is room for one.
+/// Completes a candidate, or opens a level at the lexeme of a step. There is room for one.
 #[inline(always)]
-pub(crate) fn put_key(
-    layout: &mut layout_t,
-    in_flow: bool,
-    completed: Option<held_t>,
-    kind: yaml_lexeme_kind_t,
-    start: yaml_mark_t,
-) -> block_t
+pub(crate) fn put_key(layout: &mut layout_t, step: step_t, completed: Option<held_t>) -> block_t
     requires falls { IsFalling (reverse layout.old.levels.items) }
     requires fits { Fitting completed layout.old.queue.done layout.old.queue.groups.items }
     requires room { vec_len layout.old.levels < vec_capacity layout.old.levels }
     ensures levels { reverse layout.new.levels.items
-        ≡ opened in_flow completed kind start (reverse layout.old.levels.items) }
+        ≡ opened step.in_flow completed step.kind step.new.start (reverse layout.old.levels.items) }
     ensures groups { layout.new.queue.groups.items
-        ≡ completed_in in_flow completed (reverse layout.old.levels.items) layout.old.queue.done
+        ≡ completed_in step.in_flow completed (reverse layout.old.levels.items) layout.old.queue.done
         layout.old.queue.groups.items }
-    ensures opens { result ≡ opened_by in_flow completed kind start.column (reverse layout.old.levels.items) }
+    ensures opens { result
+        ≡ opened_by step.in_flow completed step.kind step.new.start.column (reverse layout.old.levels.items) }
     ensures rest { KeepsRest layout.old.queue layout.new.queue }
 {
     match completed {
         Some(held) => {
-            complete(layout, in_flow, held);
+            complete(layout, step.in_flow, held);
             block_t::NONE
         }
-        None => begin(&mut layout.levels, in_flow, kind, start),
+        None => begin(&mut layout.levels, step),
     }
 }
 

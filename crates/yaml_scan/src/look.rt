@@ -9,21 +9,11 @@ ghost use Rattle.yaml_scan.specs.inside.Slots.{is_level, root_of, slot_after};
 use crate::keys::{completed_by, needed_at, root_at, settle};
 use crate::kind::{is_candidate, is_colon, start_after};
 use crate::levels::{is_level, level_at};
+use crate::met::step_t;
 use crate::scanner::scanner_t;
 use crate::slots::{held_t, slots_t};
 use yaml_lexeme::{yaml_context_t, yaml_lexeme_kind_t};
 use yaml_text::yaml_mark_t;
-
-/// What a lexeme is read and laid with.
-#[derive(Clone, Copy)]
-pub(crate) struct step_t {
-    pub kind: yaml_lexeme_kind_t,
-    /// Whether a key is allowed there.
-    pub allowed: bool,
-    /// What is kept of the lexeme, if it is a candidate.
-    pub new: held_t,
-    pub context: yaml_context_t,
-}
 
 /// What is wrong with a kind if no key is allowed at depth 0. `none`: it completes nothing.
 #[inline(always)]
@@ -114,14 +104,16 @@ pub(crate) fn step_of(
     requires line { scanner.now.front.line + 1 < 2 ^ 64 }
     requires made { scanner.now.made + 1 < 2 ^ 64 }
     ensures kind { result.kind ≡ kind }
+    ensures flow { result.in_flow ≡ in_flow }
     ensures allowed { result.allowed ≡ allowed }
-    ensures new { IsNewHeld scanner.now (met_in scanner.now result) in_flow result.context.level result.new }
+    ensures new { IsNewHeld scanner.now (met_in scanner.now result) result.in_flow result.context.level result.new }
     ensures depth { result.context.depth ≡ vec_len scanner.now.slots.outer }
 {
     let start = start_after(kind, scanner.front);
     let level = level_at(&scanner.layout.levels, in_flow, kind, start);
     step_t {
         kind,
+        in_flow,
         allowed,
         new: new_candidate(scanner.made + 1, start, in_flow, level),
         context: yaml_context_t {
@@ -131,15 +123,14 @@ pub(crate) fn step_of(
     }
 }
 
-/// The candidate of depth 0 after the lexeme of a step. `in_flow`: the lexeme is inside a flow
-/// collection.
+/// The candidate of depth 0 after the lexeme of a step.
 #[inline(always)]
-pub(crate) fn root_after(scanner: &scanner_t, in_flow: bool, step: step_t) -> Option<held_t>
-    requires { in_flow ≡ nat_lt 0 (vec_len scanner.now.slots.outer) }
+pub(crate) fn root_after(scanner: &scanner_t, step: step_t) -> Option<held_t>
+    requires { step.in_flow ≡ nat_lt 0 (vec_len scanner.now.slots.outer) }
     ensures { result ≡ root_of scanner.now.slots.outer.items
         (slot_after step.kind step.allowed step.new scanner.now.slots.top) }
 {
     let mut top = scanner.slots.top;
     settle(&mut top, step.kind, step.allowed, step.new);
-    root_at(&scanner.slots.outer, top, in_flow)
+    root_at(&scanner.slots.outer, top, step.in_flow)
 }

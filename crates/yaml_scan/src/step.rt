@@ -44,7 +44,7 @@ fn step_plain<const IN_FLOW: bool, const DIRECT: bool, S: yaml_token_sink_t>(
     match begin_step(scanner, IN_FLOW, yaml_lexeme_kind_t::PLAIN) {
         Ok(step) => {
             let read = read_plain(scanner, step.context);
-            end_read::<DIRECT, S>(scanner, sink, IN_FLOW, step, read)
+            end_read::<DIRECT, S>(scanner, sink, step, read)
         }
         Err(stop) => Err(stopped(stop)),
     }
@@ -64,7 +64,7 @@ fn step_quoted<const IN_FLOW: bool, const SINGLE: bool, const DIRECT: bool, S: y
     match begin_step(scanner, IN_FLOW, quoted_kind(SINGLE)) {
         Ok(step) => {
             let read = read_quoted(scanner, SINGLE, step.context);
-            end_read::<DIRECT, S>(scanner, sink, IN_FLOW, step, read)
+            end_read::<DIRECT, S>(scanner, sink, step, read)
         }
         Err(stop) => Err(stopped(stop)),
     }
@@ -84,7 +84,7 @@ fn step_literal<const IN_FLOW: bool, const DIRECT: bool, S: yaml_token_sink_t>(
     match begin_step(scanner, IN_FLOW, yaml_lexeme_kind_t::LITERAL) {
         Ok(step) => {
             let read = read_block(scanner, false, step.context);
-            end_read::<DIRECT, S>(scanner, sink, IN_FLOW, step, read)
+            end_read::<DIRECT, S>(scanner, sink, step, read)
         }
         Err(stop) => Err(stopped(stop)),
     }
@@ -107,7 +107,7 @@ fn step_character<const DIRECT: bool, S: yaml_token_sink_t>(
     match begin_step(scanner, in_flow, kind) {
         Ok(step) => {
             let lexeme = read_character(scanner, kind);
-            end_character::<DIRECT, S>(scanner, sink, in_flow, step, lexeme)
+            end_character::<DIRECT, S>(scanner, sink, step, lexeme)
         }
         Err(stop) => Err(stopped(stop)),
     }
@@ -127,7 +127,7 @@ fn step_other<const IN_FLOW: bool>(
     match begin_step(scanner, IN_FLOW, kind) {
         Ok(step) => {
             let read = read_other(scanner, kind, step.context);
-            end_queued(scanner, IN_FLOW, step, read)
+            end_queued(scanner, step, read)
         }
         Err(stop) => Err(stopped(stop)),
     }

@@ -5,7 +5,7 @@ ghost use Rattle.yaml_text.specs.Decode.{refusal_seen};
 ghost use Rattle.yaml_text.specs.Fault.{Fault, fault_of, scanner_fault};
 ghost use Rattle.yaml_lexeme.specs.Lexeme.{Lexeme as yaml_lexeme_t};
 ghost use Rattle.yaml_lexeme.specs.Place.{IsMarkOf};
-ghost use Rattle.yaml_scan.specs.declared.look.step_t.{step_t};
+ghost use Rattle.yaml_scan.specs.declared.met.step_t.{step_t};
 ghost use Rattle.yaml_scan.specs.Fault.{no_colon, in_simple_key};
 ghost use Rattle.yaml_scan.specs.Laid.{Laid};
 ghost use Rattle.yaml_scan.specs.SourceOf.{source_of};
@@ -174,7 +174,7 @@ pub(crate) fn stop_in_lexeme(
     refusal: yaml_refusal_t,
 ) -> stop_t
     ghost before: { List Laid }
-    requires { (in_flow : Bool) × (step : step_t) × CanRead before scanner.old in_flow step × (step.kind ≡ kind)
+    requires { (step : step_t) × CanRead before scanner.old step × (step.kind ≡ kind)
         × IsReadIn scanner.old kind step.context scanner.old.there (Err refusal) }
     ensures { Refuses before scanner.old scanner.new result }
 {
@@ -196,8 +196,8 @@ pub(crate) fn stop_after(
     allowed: bool,
 ) -> stop_t
     ghost before: { List Laid }
-    requires { (step : step_t) × (lexeme : yaml_lexeme_t) × StopsAfter before scanner.old in_flow step lexeme
-        × (step.kind ≡ kind) × (step.allowed ≡ allowed) }
+    requires { (step : step_t) × (lexeme : yaml_lexeme_t) × StopsAfter before scanner.old step lexeme
+        × (step.in_flow ≡ in_flow) × (step.kind ≡ kind) × (step.allowed ≡ allowed) }
     ensures { Refuses before scanner.old scanner.new result }
 {
     let there = scanner.there;
@@ -205,7 +205,7 @@ pub(crate) fn stop_after(
         return stop_near(scanner);
     }
     let step = step_of(scanner, in_flow, kind, allowed);
-    match lost_at(root_after(scanner, in_flow, step), scanner.limit, there) {
+    match lost_at(root_after(scanner, step), scanner.limit, there) {
         Some(held) => stop_without(scanner, held, there),
         None => unreachable!(),
     }

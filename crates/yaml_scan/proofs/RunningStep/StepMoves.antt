@@ -10,7 +10,7 @@ use Rattle.yaml_lexeme.specs.declared.lexeme.yaml_lexeme_t.{yaml_lexeme_t as cod
 use Rattle.yaml_lexeme.specs.declared.problem.yaml_refusal_t.{yaml_refusal_t}
 use Rattle.yaml_scan.specs.declared.fault.stop_t.{stop_t}
 use Rattle.yaml_scan.specs.declared.groups.group_t.{group_t}
-use Rattle.yaml_scan.specs.declared.look.step_t.{step_t}
+use Rattle.yaml_scan.specs.declared.met.step_t.{step_t}
 use Rattle.yaml_scan.specs.declared.scanner.scanner_t.{scanner_t}
 use Rattle.yaml_scan.specs.Kind.{Kind}
 use Rattle.yaml_scan.specs.Laid.{Laid}
@@ -38,8 +38,8 @@ stays_on s t u a b = let p = a.same in let q = b.same in record {
 }
 
 -- READING
-pub read_in : (H : List Laid) (s : scanner_t) (in_flow : Bool) (r : step_t) (m : yaml_mark_t) → CanRead H s in_flow r → CanRead H (at_there s m) in_flow r
-read_in H s in_flow r m c = let h = c.can.holds in let e = c.met in let w = c.is_new in record {
+pub read_in : (H : List Laid) (s : scanner_t) (r : step_t) (m : yaml_mark_t) → CanRead H s r → CanRead H (at_there s m) r
+read_in H s r m c = let h = c.can.holds in let e = c.met in let w = c.is_new in record {
   can = record { holds = with_room H (s.made + 1) s (at_there s m) h refl refl refl refl refl refl refl refl refl refl refl refl refl refl; running = c.can.running; small = c.can.small; few_steps = c.can.few_steps; near = c.can.near };
   met = record { front = e.front; allowed = e.allowed; kind = e.kind; step = e.step };
   is_new = record { flow = w.flow; is_greatest = w.is_greatest; step = w.step; start = w.start; required = w.required };
@@ -58,10 +58,10 @@ read_as : (s : scanner_t) (k : Kind) (x : yaml_context_t) (m : yaml_mark_t) (o :
 read_as s k x m (Ok l) f = f
 read_as s k x m (Err r) f = f
 
-pub read_then : (H : List Laid) (s t : scanner_t) (in_flow : Bool) (r : step_t) (k : Kind) (o : Result code_lexeme_t yaml_refusal_t) → CanRead H s in_flow r → r.kind ≡ k → HasRead s t k r.context o
-    → CanRead H t in_flow r × IsReadIn t r.kind r.context t.there o
-read_then H s t in_flow r k o c e h = (
-  subst (λ (u : scanner_t). CanRead H u in_flow r) (sym h.same) (read_in H s in_flow r t.there c),
+pub read_then : (H : List Laid) (s t : scanner_t) (r : step_t) (k : Kind) (o : Result code_lexeme_t yaml_refusal_t) → CanRead H s r → r.kind ≡ k → HasRead s t k r.context o
+    → CanRead H t r × IsReadIn t r.kind r.context t.there o
+read_then H s t r k o c e h = (
+  subst (λ (u : scanner_t). CanRead H u r) (sym h.same) (read_in H s r t.there c),
   subst (λ (z : Kind). IsReadIn t z r.context t.there o) (sym e) (subst (λ (u : scanner_t). IsReadIn u k r.context t.there o) (sym h.same) (read_as s k r.context t.there o h.read)),
 )
 
@@ -143,7 +143,7 @@ stop_from H s t u stop e w = refuses_from H s t u stop e w
 
 -- ROOM
 pub ready : (H : List Laid) (s t : scanner_t) (in_flow : Bool) (k : Kind) → Comes H s in_flow k → IsMet H s (record { kind = k; front = s.front; allowed = allowed_in s in_flow }) → Beside s t → HasRoom t
-    → (r : step_t) → r.kind ≡ k → r.allowed ≡ allowed_in s in_flow → IsNewHeld t (met_in t r) in_flow r.context.level r.new → r.context.depth ≡ vec_len t.slots.outer → CanRead H t in_flow r
+    → (r : step_t) → r.kind ≡ k → r.allowed ≡ allowed_in s in_flow → IsNewHeld t (met_in t r) r.in_flow r.context.level r.new → r.context.depth ≡ vec_len t.slots.outer → CanRead H t r
 ready H s t in_flow k w m b room r K A new d =
     let c = w.passes.can in
     let can : CanStep H t = record {
@@ -159,15 +159,15 @@ ready H s t in_flow k w m b room r K A new d =
       kind = rw (b.text, K) m.kind;
       step = rw (b.text, b.limit, K) m.step;
     } in
-    let cs : List ℕ = filter (stays in_flow r.kind r.new.start) (reverse t.layout.levels.items) in
+    let cs : List ℕ = filter (stays r.in_flow r.kind r.new.start) (reverse t.layout.levels.items) in
     let level : r.context.level ≡ greatest_level (reverse (reverse cs)) = new.is_greatest ∙ ap greatest_level (sym (reverse-reverse cs)) in
     record {
       can = can;
       met = met;
       is_new = new;
       depth = d;
-      within = level_within H (t.made + 1) t can.holds can.running (met_in t r) met in_flow new.flow r.new.start new.start (reverse cs) (reverse-reverse cs) r.context.level level r.context.depth d;
-      there = kind_there H (t.made + 1) t can.holds can.running (met_in t r) met in_flow new.flow r.new.start new.start (reverse cs) (reverse-reverse cs) r.context.level level r.context.depth d;
+      within = level_within H (t.made + 1) t can.holds can.running (met_in t r) met r.in_flow new.flow r.new.start new.start (reverse cs) (reverse-reverse cs) r.context.level level r.context.depth d;
+      there = kind_there H (t.made + 1) t can.holds can.running (met_in t r) met r.in_flow new.flow r.new.start new.start (reverse cs) (reverse-reverse cs) r.context.level level r.context.depth d;
       room = room;
     }
 

@@ -8,7 +8,7 @@ use Rattle.yaml_text.specs.Fault.{Fault, scanner_fault}
 use Rattle.yaml_text.specs.Decode.{refusal_seen}
 use Rattle.yaml_lexeme.specs.Lexeme.{Lexeme as yaml_lexeme_t}
 use Rattle.yaml_lexeme.specs.Place.{IsMarkOf}
-use Rattle.yaml_scan.specs.declared.look.step_t.{step_t}
+use Rattle.yaml_scan.specs.declared.met.step_t.{step_t}
 use Rattle.yaml_scan.specs.declared.scanner.scanner_t.{scanner_t}
 use Rattle.yaml_scan.specs.Fault.{no_colon, no_token, in_next_token, in_simple_key}
 use Rattle.yaml_scan.specs.Kind.{Kind}
@@ -110,28 +110,31 @@ module _ (H : List Laid) (s : scanner_t) (in_flow : Bool) (w : Passes H s in_flo
     }
 
 -- what is kept of a lexeme is the same whenever it is asked
-new_same : (s : scanner_t) (in_flow : Bool) (q r : step_t) → q.kind ≡ r.kind → IsNewHeld s (met_in s q) in_flow q.context.level q.new → IsNewHeld s (met_in s r) in_flow r.context.level r.new → q.new ≡ r.new
-new_same s in_flow q r k a b =
+new_same : (s : scanner_t) (q r : step_t) → q.kind ≡ r.kind → IsNewHeld s (met_in s q) q.in_flow q.context.level q.new → IsNewHeld s (met_in s r) r.in_flow r.context.level r.new → q.new ≡ r.new
+new_same s q r k a b =
+    let f : q.in_flow ≡ r.in_flow = a.flow ∙ sym b.flow in
     let st : q.new.start ≡ r.new.start = a.start ∙ ap (λ (z : Kind). start_at z s.front) k ∙ sym b.start in
-    let lv : q.context.level ≡ r.context.level = a.is_greatest ∙ ap (λ (z : Kind). greatest_level (filter (stays in_flow z q.new.start) (reverse s.layout.levels.items))) k
-    ∙ ap (λ (z : yaml_mark_t). greatest_level (filter (stays in_flow r.kind z) (reverse s.layout.levels.items))) st ∙ sym b.is_greatest in
-    let rq : q.new.required ≡ r.new.required = a.required ∙ ap (λ (z : Option ℕ). is_level in_flow z q.new.start.column) lv ∙ ap (λ (z : yaml_mark_t). is_level in_flow r.context.level z.column) st ∙ sym b.required in
+    let lv : q.context.level ≡ r.context.level = a.is_greatest ∙ ap (λ (z : Bool). greatest_level (filter (stays z q.kind q.new.start) (reverse s.layout.levels.items))) f
+    ∙ ap (λ (z : Kind). greatest_level (filter (stays r.in_flow z q.new.start) (reverse s.layout.levels.items))) k
+    ∙ ap (λ (z : yaml_mark_t). greatest_level (filter (stays r.in_flow r.kind z) (reverse s.layout.levels.items))) st ∙ sym b.is_greatest in
+    let rq : q.new.required ≡ r.new.required = a.required ∙ ap (λ (z : Bool). is_level z q.context.level q.new.start.column) f
+    ∙ ap (λ (z : Option ℕ). is_level r.in_flow z q.new.start.column) lv ∙ ap (λ (z : yaml_mark_t). is_level r.in_flow r.context.level z.column) st ∙ sym b.required in
     held_same q.new r.new (a.step ∙ sym b.step) st rq
   where
     held_same : (h k : Held) → h.step ≡ k.step → h.start ≡ k.start → h.required ≡ k.required → h ≡ k
     held_same h k e f g = λ j. record { step = e j; start = f j; required = g j }
 
-pub root_same : (s : scanner_t) (in_flow : Bool) (q r : step_t) → q.kind ≡ r.kind → q.allowed ≡ r.allowed → IsNewHeld s (met_in s q) in_flow q.context.level q.new → IsNewHeld s (met_in s r) in_flow r.context.level r.new
+pub root_same : (s : scanner_t) (q r : step_t) → q.kind ≡ r.kind → q.allowed ≡ r.allowed → IsNewHeld s (met_in s q) q.in_flow q.context.level q.new → IsNewHeld s (met_in s r) r.in_flow r.context.level r.new
     → root_of s.slots.outer.items (slot_after q.kind q.allowed q.new s.slots.top) ≡ root_of s.slots.outer.items (slot_after r.kind r.allowed r.new s.slots.top)
-root_same s in_flow q r k a b c = let n = new_same s in_flow q r k b c in rw (k, a, n) refl
+root_same s q r k a b c = let n = new_same s q r k b c in rw (k, a, n) refl
 
 -- the candidate that is lost is found again
-pub lost_again : (s : scanner_t) (in_flow : Bool) (q r : step_t) → q.kind ≡ r.kind → q.allowed ≡ r.allowed → IsNewHeld s (met_in s q) in_flow q.context.level q.new → IsNewHeld s (met_in s r) in_flow r.context.level r.new
+pub lost_again : (s : scanner_t) (q r : step_t) → q.kind ≡ r.kind → q.allowed ≡ r.allowed → IsNewHeld s (met_in s q) q.in_flow q.context.level q.new → IsNewHeld s (met_in s r) r.in_flow r.context.level r.new
     → (there m : yaml_mark_t) → there ≡ m → (root : Option Held) → root ≡ root_of s.slots.outer.items (slot_after r.kind r.allowed r.new s.slots.top) → (l : Option Held) → l ≡ lost_held s.limit there root
     → lost_after s.limit s.slots (met_in s q) q.new m ≡ l
-lost_again s in_flow q r k a b c there m t root R l L =
+lost_again s q r k a b c there m t root R l L =
     ap (λ (z : yaml_mark_t). lost_after s.limit s.slots (met_in s q) q.new z) (sym t)
-    ∙ ap (λ (o : Option Held). lost_held s.limit there o) (root_same s in_flow q r k a b c ∙ sym R)
+    ∙ ap (λ (o : Option Held). lost_held s.limit there o) (root_same s q r k a b c ∙ sym R)
     ∙ sym L
 
 -- THE GAP
@@ -175,9 +178,9 @@ module _ (H : List Laid) (s : scanner_t) (c : CanStep H s) (in_flow : Bool) (FLO
     gap_passed e = record { can = front_can H s m c; flow = FLOW; front = gap_front; none_lost = none_or (lost_held s.limit m (root_of s.slots.outer.items s.slots.top)) (sym lost_is ∙ e) }
 
 -- AFTER THE LEXEME
-module _ (H : List Laid) (s : scanner_t) (in_flow : Bool) (q : step_t) (c : CanRead H s in_flow q) where
+module _ (H : List Laid) (s : scanner_t) (q : step_t) (c : CanRead H s q) where
   abbrev cs : List ℕ
-  cs = filter (stays in_flow q.kind q.new.start) (reverse s.layout.levels.items)
+  cs = filter (stays q.in_flow q.kind q.new.start) (reverse s.layout.levels.items)
 
   abbrev n : ℕ
   n = s.made + 1
@@ -187,7 +190,7 @@ module _ (H : List Laid) (s : scanner_t) (in_flow : Bool) (q : step_t) (c : CanR
 
   -- its offence
   pub offence_there : (f : Fault) → IsOffence s.text.chars q.kind q.context.depth q.context.level (front_of (source_of s.text.chars) H) f → Offends H s f
-  offence_there f o = row_offence H n s c.can.holds c.can.running (met_in s q) c.met in_flow c.is_new.flow q.new.start c.is_new.start (reverse cs) (reverse-reverse cs) q.context.level level_of q.context.depth c.depth f o
+  offence_there f o = row_offence H n s c.can.holds c.can.running (met_in s q) c.met q.in_flow c.is_new.flow q.new.start c.is_new.start (reverse cs) (reverse-reverse cs) q.context.level level_of q.context.depth c.depth f o
 
   module _ (x : yaml_lexeme_t) (read : IsRead s.text.chars q.kind (vec_len s.slots.outer) q.context.level (front_of (source_of s.text.chars) H) x) where
     abbrev lost : Option Held
@@ -198,20 +201,20 @@ module _ (H : List Laid) (s : scanner_t) (in_flow : Bool) (q : step_t) (c : CanR
 
     -- a candidate is lost after it
     pub stale_there : (h : Held) → lost ≡ Some h → Offends H s (scanner_fault no_colon x.reach (Some in_simple_key) h.start)
-    stale_there h e = row_stale H n s c.can.holds c.can.running (met_in s q) c.met in_flow c.is_new.flow q.new.start c.is_new.start (reverse cs) (reverse-reverse cs) q.context.level level_of (vec_len s.slots.outer) refl x read
+    stale_there h e = row_stale H n s c.can.holds c.can.running (met_in s q) c.met q.in_flow c.is_new.flow q.new.start c.is_new.start (reverse cs) (reverse-reverse cs) q.context.level level_of (vec_len s.slots.outer) refl x read
         (completed_held q.kind s.limit q.new.start s.slots.top) refl q.new c.is_new.step refl c.is_new.required q.allowed c.met.allowed _ refl _ s.slots.outer.items refl refl lost refl
         (scanner_fault no_colon x.reach (Some in_simple_key) h.start) (subst (λ (o : Option Held). IsLost o x.reach (scanner_fault no_colon x.reach (Some in_simple_key) h.start)) (sym e) refl)
 
     -- none is
     pub reads_there : lost ≡ None → step (source_of s.text.chars) s.limit H ≡ Reads X
-    reads_there e = step_reads H n s c.can.holds c.can.running (met_in s q) c.met in_flow c.is_new.flow q.new.start c.is_new.start (reverse cs) (reverse-reverse cs) q.context.level level_of (vec_len s.slots.outer) refl x read
+    reads_there e = step_reads H n s c.can.holds c.can.running (met_in s q) c.met q.in_flow c.is_new.flow q.new.start c.is_new.start (reverse cs) (reverse-reverse cs) q.context.level level_of (vec_len s.slots.outer) refl x read
         (completed_held q.kind s.limit q.new.start s.slots.top) refl q.new c.is_new.step refl c.is_new.required q.allowed c.met.allowed _ refl _ s.slots.outer.items refl refl lost refl e
 
     pub reach_index : x.reach.index ≡ ((source_of s.text.chars).mark read.0).index
-    reach_index = index_is H n s c.can.holds c.can.running (met_in s q) c.met in_flow c.is_new.flow q.new.start c.is_new.start (reverse cs) (reverse-reverse cs) q.context.level level_of (vec_len s.slots.outer) refl x read
+    reach_index = index_is H n s c.can.holds c.can.running (met_in s q) c.met q.in_flow c.is_new.flow q.new.start c.is_new.start (reverse cs) (reverse-reverse cs) q.context.level level_of (vec_len s.slots.outer) refl x read
 
     reach_within : read.0 ≤ length s.text.chars
-    reach_within = place_within H n s c.can.holds c.can.running (met_in s q) c.met in_flow c.is_new.flow q.new.start c.is_new.start (reverse cs) (reverse-reverse cs) q.context.level level_of (vec_len s.slots.outer) refl x read
+    reach_within = place_within H n s c.can.holds c.can.running (met_in s q) c.met q.in_flow c.is_new.flow q.new.start c.is_new.start (reverse cs) (reverse-reverse cs) q.context.level level_of (vec_len s.slots.outer) refl x read
 
     -- it is near the reader's fault
     pub near_there : s.near ≤ x.reach.index → (f : Fault) × (refusal_seen s.refusal ≡ Some f) × Ends H s f
@@ -228,8 +231,8 @@ module _ (H : List Laid) (s : scanner_t) (in_flow : Bool) (q : step_t) (c : CanR
             ends (Some h) v = ends_near H s (scanner_fault no_colon x.reach (Some in_simple_key) h.start) (stale_there h v) c.can.near f e l
 
 -- a lexeme that was read can be laid
-pub can_put : (H : List Laid) (s : scanner_t) (in_flow : Bool) (q : step_t) (x : yaml_lexeme_t) → CanLayAll H s in_flow q x → CanPut H s (groups_in s) (met_in s q) in_flow q.new x
-can_put H s in_flow q x w = let c = w.can in record {
+pub can_put : (H : List Laid) (s : scanner_t) (q : step_t) (x : yaml_lexeme_t) → CanLayAll H s q x → CanPut H s (groups_in s) (met_in s q) q.in_flow q.new x
+can_put H s q x w = let c = w.can in record {
   can = record { holds = c.can.holds; running = c.can.running; small = c.can.small; few_steps = (let f = c.can.few_steps in omega arith); met = c.met };
   level = q.context.level;
   is_new = c.is_new;

@@ -19,7 +19,7 @@ use Rattle.yaml_lexeme.specs.declared.problem.yaml_refusal_t.{yaml_refusal_t}
 use Rattle.yaml_lexeme.specs.declared.problem.yaml_refusal_t.TheVariants.{MEMORY}
 use Rattle.yaml_scan.specs.declared.fault.stop_t.{stop_t}
 use Rattle.yaml_scan.specs.declared.groups.group_t.{group_t}
-use Rattle.yaml_scan.specs.declared.look.step_t.{step_t}
+use Rattle.yaml_scan.specs.declared.met.step_t.{step_t}
 use Rattle.yaml_scan.specs.declared.scanner.scanner_t.{scanner_t}
 use Rattle.yaml_scan.specs.declared.slots.slots_t.{slots_t}
 use Rattle.yaml_scan.specs.Kind.{Kind, is_candidate_kind, is_flow_start}
@@ -178,10 +178,10 @@ pub record CanPut
   pub kept : lost_after s.limit s.slots m new x.reach ≡ None
 
 -- a lexeme that was met can be read, and there is room for it
-pub record CanRead (H : List Laid) (s : scanner_t) (in_flow : Bool) (r : step_t) : Type 0 where
+pub record CanRead (H : List Laid) (s : scanner_t) (r : step_t) : Type 0 where
   pub can : CanStep H s
   pub met : IsMet H s (met_in s r)
-  pub is_new : IsNewHeld s (met_in s r) in_flow r.context.level r.new
+  pub is_new : IsNewHeld s (met_in s r) r.in_flow r.context.level r.new
   pub depth : r.context.depth ≡ vec_len s.slots.outer
   pub within : IfSome r.context.level (λ l. l ≤ length s.text.chars)
   pub there : (text_of s).kind (nat_lt 0 r.context.depth) (front_of (text_of s) H) ≡ Some r.kind
@@ -217,8 +217,8 @@ IsReadIn s k x there (Err r) = (p : ℕ) → IsMarkOf s.text.chars s.front p
     → (r ≡ MEMORY) ⊎ IsOffence s.text.chars k x.depth x.level p (refused_at k s.front there r)
 
 -- A step has to stop after the lexeme x, which was read to `there`.
-pub record StopsAfter (H : List Laid) (s : scanner_t) (in_flow : Bool) (r : step_t) (x : yaml_lexeme_t) : Type 0 where
-  pub can : CanRead H s in_flow r
+pub record StopsAfter (H : List Laid) (s : scanner_t) (r : step_t) (x : yaml_lexeme_t) : Type 0 where
+  pub can : CanRead H s r
   pub read : IsRead s.text.chars r.kind (vec_len s.slots.outer) r.context.level (front_of (text_of s) H) x
   pub there : s.there ≡ x.reach
   pub stops : (s.near ≤ x.reach.index) ⊎ (is_some (lost_after s.limit s.slots (met_in s r) r.new x.reach) ≡ true)
@@ -269,26 +269,26 @@ pub record AdvancesWith (H : List Laid) (s t : scanner_t) (zs : List group_t) : 
 
 -- The token of a lexeme that was met needs what comes after it, if it is read to `at`: it is a candidate, and no other
 -- token is queued. If sparing, it closes no level, so its token is the next one. There is room for two groups.
-pub record IsUndecided (s : scanner_t) (in_flow sparing : Bool) (r : step_t) (at : yaml_mark_t) : Type 0 where
+pub record IsUndecided (s : scanner_t) (sparing : Bool) (r : step_t) (at : yaml_mark_t) : Type 0 where
   pub candidate : is_candidate_kind r.kind ≡ true
   pub stays : is_flow_start r.kind ≡ false
   pub allowed : r.allowed ≡ true
   pub alone : s.layout.queue.groups.items ≡ []
   pub room : 1 < deque_capacity s.layout.queue.groups
-  pub kept : sparing ≡ true → closing in_flow r.kind r.new.start (reverse s.layout.levels.items) ≡ None
+  pub kept : sparing ≡ true → closing r.in_flow r.kind r.new.start (reverse s.layout.levels.items) ≡ None
   pub live : is_live s.limit at r.new ≡ true
 
 -- the lexeme x, of kind k, which comes right there, decides whether it is a key
 pub record IsDecided
-    (s : scanner_t) (in_flow sparing : Bool) (r : step_t) (at : yaml_mark_t) (k : Kind) (x : yaml_lexeme_t)
+    (s : scanner_t) (sparing : Bool) (r : step_t) (at : yaml_mark_t) (k : Kind) (x : yaml_lexeme_t)
     : Type 0 where
-  pub undecided : IsUndecided s in_flow sparing r at
-  pub decider : (p : ℕ) → IsMarkOf s.text.chars at p → IsDecider s.text.chars in_flow p k x
+  pub undecided : IsUndecided s sparing r at
+  pub decider : (p : ℕ) → IsMarkOf s.text.chars at p → IsDecider s.text.chars r.in_flow p k x
   pub far : x.reach.index < s.near
 
 -- a lexeme that was read can be laid, alone or with what decides whether it is a key
-pub record CanLayAll (H : List Laid) (s : scanner_t) (in_flow : Bool) (r : step_t) (x : yaml_lexeme_t) : Type 0 where
-  pub can : CanRead H s in_flow r
+pub record CanLayAll (H : List Laid) (s : scanner_t) (r : step_t) (x : yaml_lexeme_t) : Type 0 where
+  pub can : CanRead H s r
   pub read : (p : ℕ) → IsMarkOf s.text.chars s.front p
       → IsRead s.text.chars r.kind r.context.depth r.context.level p x
   pub kept : lost_after s.limit s.slots (met_in s r) r.new x.reach ≡ None
