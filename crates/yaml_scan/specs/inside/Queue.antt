@@ -140,5 +140,5 @@ pub record Takes (e : yaml_encoding_t) (old new : queue_t) (token : yaml_token_t
 
 -- the column on top of the stack of levels, if a lexeme does not keep it
 abbrev pub closing : Bool → Kind → yaml_mark_t → List ℕ → Option ℕ
-closing flow k m [] = None
-closing flow k m (c ∷ cs) = if stays flow k m c then None else Some c
+closing in_flow k m [] = None
+closing in_flow k m (c ∷ cs) = if stays in_flow k m c then None else Some c
