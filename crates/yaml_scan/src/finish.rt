@@ -51,7 +51,6 @@ fn put_lexeme<const DIRECT: bool, S: yaml_token_sink_t>(
 }
 
 /// The lexeme of a step, which was read, and what comes right after it and decides whether it is a key.
-#[derive(Drop)]
 struct decided_t {
     pub lexeme: yaml_lexeme_t,
     pub decider: decider_t,
@@ -71,7 +70,8 @@ fn put_decided<const DIRECT: bool, S: yaml_token_sink_t>(
     ensures { LaysTo before scanner.old scanner.new DIRECT (λ tokens. S.took sink.old tokens sink.new) S.may_refuse
         (made_by 2 result) }
 {
-    let (first, second) = lay_decided(scanner, step, both.lexeme, both.decider);
+    let decided_t { lexeme, decider } = both;
+    let (first, second) = lay_decided(scanner, step, lexeme, decider);
     match hand_on::<DIRECT, S>(scanner, sink, false, first) {
         Ok(_) => hand_token::<DIRECT, S>(scanner, sink, second),
         Err(stop) => Err(stopped(stop)),
