@@ -7,7 +7,8 @@ ghost use Rattle.yaml_scan.specs.inside.Stop.{fault_at};
 
 use crate::allowed::is_key_allowed;
 use crate::fault::{stop_t, stopped};
-use crate::look::{cleared_by, refused_by, step_of, step_t};
+use crate::look::{cleared_by, refused_by, step_of};
+use crate::met::step_t;
 use crate::scanner::scanner_t;
 use crate::stop::{stop_at_kind, stop_at_start};
 use yaml_lexeme::yaml_lexeme_kind_t;
@@ -51,46 +52,47 @@ fn ensure_room(scanner: &mut scanner_t) -> Result<(), stop_t>
 #[inline(always)]
 fn refuse_kind(
     scanner: &mut scanner_t,
-    margin: bool,
+    in_flow: bool,
     kind: yaml_lexeme_kind_t,
     allowed: bool,
 ) -> Result<(), stop_t>
     ghost before: { List Laid }
-    requires comes { Comes before scanner.old margin kind }
-    requires allowed { allowed ≡ allowed_in scanner.old margin }
+    requires comes { Comes before scanner.old in_flow kind }
+    requires allowed { allowed ≡ allowed_in scanner.old in_flow }
     ensures { MatchResult result
         (λ _. IsMet before scanner.old record { kind = kind; front = scanner.old.front; allowed = allowed }
         × (scanner.new ≡ scanner.old)) (λ stop. Refuses before scanner.old scanner.new stop) }
 {
-    if refused_by(scanner, margin, kind, allowed).is_some() {
-        return Err(stop_at_kind(scanner, margin, kind));
+    if refused_by(scanner, in_flow, kind, allowed).is_some() {
+        return Err(stop_at_kind(scanner, in_flow, kind));
     }
-    if cleared_by(scanner, margin, kind, allowed).is_some() {
-        return Err(stop_at_start(scanner, margin, kind));
+    if cleared_by(scanner, in_flow, kind, allowed).is_some() {
+        return Err(stop_at_start(scanner, in_flow, kind));
     }
     Ok(())
 }
 
-/// Begins the step of a lexeme of a kind, which comes after the gap. `margin`: the scanner is at depth 0.
+/// Begins the step of a lexeme of a kind, which comes after the gap. `in_flow`: the scanner is inside a flow
+/// collection.
 #[inline(always)]
 pub(crate) fn begin_step(
     scanner: &mut scanner_t,
-    margin: bool,
+    in_flow: bool,
     kind: yaml_lexeme_kind_t,
 ) -> Result<step_t, stop_t>
     ghost before: { List Laid }
-    requires { Comes before scanner.old margin kind }
+    requires { Comes before scanner.old in_flow kind }
     ensures { MatchResult result
-        (λ step. CanRead before scanner.new margin step × (step.kind ≡ kind) × Stays scanner.old scanner.new)
+        (λ step. CanRead before scanner.new step × (step.kind ≡ kind) × Stays scanner.old scanner.new)
         (λ stop. Refuses before scanner.old scanner.new stop) }
 {
-    let allowed = is_key_allowed(scanner.allowed, margin, scanner.reach, scanner.front);
-    match refuse_kind(scanner, margin, kind, allowed) {
+    let allowed = is_key_allowed(scanner.allowed, in_flow, scanner.reach, scanner.front);
+    match refuse_kind(scanner, in_flow, kind, allowed) {
         Ok(_) => {}
         Err(stop) => return Err(stopped(stop)),
     }
     match ensure_room(scanner) {
-        Ok(_) => Ok(step_of(scanner, margin, kind, allowed)),
+        Ok(_) => Ok(step_of(scanner, in_flow, kind, allowed)),
         Err(stop) => Err(stopped(stop)),
     }
 }

@@ -29,7 +29,7 @@ use crate::keys::is_still_live;
 use crate::kind::{is_candidate, is_colon};
 use crate::lay::token_of;
 use crate::levels::{close_levels, closing, is_new_level, open_level};
-use crate::look::step_t;
+use crate::met::step_t;
 use crate::scanner::scanner_t;
 use crate::slots::slots_t;
 use crate::source::{decider_at, decider_t};
@@ -57,20 +57,20 @@ fn keeps_levels(levels: &[u64], in_flow: bool, kind: yaml_lexeme_kind_t, start: 
 /// and no other token is before it. If `sparing`, its step closes no level, so that its token comes next. There is room
 /// for both.
 #[inline(always)]
-fn is_undecided(
-    scanner: &scanner_t,
-    margin: bool,
-    sparing: bool,
-    step: step_t,
-    reach: yaml_mark_t,
-) -> bool
-    ensures { result ≡ true → IsUndecided scanner.now margin sparing step reach }
+fn is_undecided(scanner: &scanner_t, sparing: bool, step: step_t, reach: yaml_mark_t) -> bool
+    ensures { result ≡ true → IsUndecided scanner.now sparing step reach }
 {
     is_candidate(step.kind)
         && !is_flow_start(step.kind)
         && step.allowed
         && has_room_for_two(&scanner.layout.queue)
-        && (!sparing || keeps_levels(&scanner.layout.levels, !margin, step.kind, step.new.start))
+        && (!sparing
+            || keeps_levels(
+                &scanner.layout.levels,
+                step.in_flow,
+                step.kind,
+                step.new.start,
+            ))
         && is_still_live(scanner.limit, reach, step.new)
 }
 
@@ -79,18 +79,17 @@ fn is_undecided(
 #[inline(always)]
 pub(crate) fn decided_by(
     scanner: &scanner_t,
-    margin: bool,
     sparing: bool,
     step: step_t,
     reach: yaml_mark_t,
 ) -> Option<decider_t>
     requires { is_candidate_kind step.kind ≡ true → (p : ℕ) × IsMarkOf scanner.now.text.chars reach p }
-    ensures { IfSome result (λ d. IsDecided scanner.now margin sparing step reach d.kind (lexeme_of d.lexeme)) }
+    ensures { IfSome result (λ d. IsDecided scanner.now sparing step reach d.kind (lexeme_of d.lexeme)) }
 {
-    if !is_undecided(scanner, margin, sparing, step, reach) {
+    if !is_undecided(scanner, sparing, step, reach) {
         return None;
     }
-    let decider = decider_at(&scanner.text, reach, !margin)?;
+    let decider = decider_at(&scanner.text, reach, step.in_flow)?;
     if decider.lexeme.reach.index < scanner.near {
         Some(decider)
     } else {
@@ -113,21 +112,21 @@ fn mapping_start(opens: bool) -> block_t
 /// Closes the levels that the candidate of a step does not keep. If it is a key in a column above the others, opens
 /// that; there is room for it. Returns how many levels end at the candidate, and what it opens.
 #[inline(always)]
-fn lay_candidate(levels: &mut Vec<u64>, margin: bool, step: step_t, key: bool) -> (usize, block_t)
+fn lay_candidate(levels: &mut Vec<u64>, step: step_t, key: bool) -> (usize, block_t)
     requires falls { IsFalling (reverse levels.old.items) }
     requires room { vec_len levels.old < vec_capacity levels.old }
     requires last { is_stream_end step.kind ≡ false }
     ensures levels { (kept : List ℕ) × (reverse kept
-        ≡ filter (stays (not margin) step.kind step.new.start) (reverse levels.old.items))
-        × (reverse levels.new.items ≡ (if key && is_new margin step.new.start.column (reverse kept)
+        ≡ filter (stays step.in_flow step.kind step.new.start) (reverse levels.old.items))
+        × (reverse levels.new.items ≡ (if key && is_new step.in_flow step.new.start.column (reverse kept)
         then step.new.start.column ∷ [] else []) ++ reverse kept)
-        × (result.1 ≡ (if key && is_new margin step.new.start.column (reverse kept) then MAPPING else NONE)) }
+        × (result.1 ≡ (if key && is_new step.in_flow step.new.start.column (reverse kept) then MAPPING else NONE)) }
     ensures ends { ends_at result.0 step.new.start ≡ map (λ c. BlockEnd step.new.start) (filter (λ c.
-        not (stays (not margin) step.kind step.new.start c)) (reverse levels.old.items)) }
+        not (stays step.in_flow step.kind step.new.start c)) (reverse levels.old.items)) }
 {
     let start = step.new.start;
-    let closed = close_levels(levels, !margin, step.kind, start, start);
-    let opens = key && is_new_level(levels, margin, start.column);
+    let closed = close_levels(levels, step, start);
+    let opens = key && is_new_level(levels, step.in_flow, start.column);
     open_level(levels, opens, start.column);
     (closed.ends, mapping_start(opens))
 }
@@ -152,16 +151,15 @@ fn drop_candidate(slots: &mut slots_t, kind: yaml_lexeme_kind_t)
 #[inline(always)]
 pub(crate) fn lay_decided(
     scanner: &mut scanner_t,
-    margin: bool,
     step: step_t,
     lexeme: yaml_lexeme_t,
     decider: decider_t,
 ) -> (group_t, yaml_token_t)
     ghost before: { List Laid }
-    requires { CanLayAll before scanner.old margin step (lexeme_of lexeme)
-        × ((sparing : Bool) × IsDecided scanner.old margin sparing step lexeme.reach decider.kind
+    requires { CanLayAll before scanner.old step (lexeme_of lexeme)
+        × ((sparing : Bool) × IsDecided scanner.old sparing step lexeme.reach decider.kind
         (lexeme_of decider.lexeme)) }
-    ensures laid { (sparing : Bool) → IsDecided scanner.old margin sparing step lexeme.reach decider.kind
+    ensures laid { (sparing : Bool) → IsDecided scanner.old sparing step lexeme.reach decider.kind
         (lexeme_of decider.lexeme)
         → LaysTwo sparing before scanner.old scanner.new (groups_in scanner.new ++ result.0 ∷ (lone result.1 ∷ [])) }
     ensures queue { scanner.new.layout.queue ≡ scanner.old.layout.queue }
@@ -173,9 +171,9 @@ pub(crate) fn lay_decided(
     let key = is_colon(kind);
     let at = lexeme.reach;
     let reach = decider.lexeme.reach;
-    let (ends, opens) = lay_candidate(&mut scanner.layout.levels, margin, step, key);
+    let (ends, opens) = lay_candidate(&mut scanner.layout.levels, step, key);
     drop_candidate(&mut scanner.slots, kind);
-    scanner.allowed = is_allowed_after(kind, margin, !key, false);
+    scanner.allowed = is_allowed_after(kind, step.in_flow, !key, false);
     scanner.reach = reach;
     let first = group_t {
         ends,

@@ -13,7 +13,8 @@ use crate::fault::{stop_t, stopped};
 use crate::keys::is_lost;
 use crate::kind::is_last;
 use crate::lay::lay_lexeme;
-use crate::look::{root_after, step_t};
+use crate::look::root_after;
+use crate::met::step_t;
 use crate::scanner::scanner_t;
 use crate::source::decider_t;
 use crate::stop::{stop_after, stop_in_lexeme};
@@ -36,18 +37,23 @@ fn has_to_wait(scanner: &scanner_t, kind: yaml_lexeme_kind_t) -> bool
 fn put_lexeme<const DIRECT: bool, S: yaml_token_sink_t>(
     scanner: &mut scanner_t,
     sink: &mut S,
-    margin: bool,
     step: step_t,
     lexeme: yaml_lexeme_t,
 ) -> Result<(), stop_t>
     ghost before: { List Laid }
-    requires { CanLayAll before scanner.old margin step (lexeme_of lexeme) }
+    requires { CanLayAll before scanner.old step (lexeme_of lexeme) }
     ensures { LaysTo before scanner.old scanner.new DIRECT (λ tokens. S.took sink.old tokens sink.new) S.may_refuse
         (made_by 1 result) }
 {
-    let group = lay_lexeme(scanner, margin, step, lexeme);
+    let group = lay_lexeme(scanner, step, lexeme);
     let waits = has_to_wait(scanner, step.kind);
     hand_on::<DIRECT, S>(scanner, sink, waits, group)
+}
+
+/// The lexeme of a step, which was read, and what comes right after it and decides whether it is a key.
+struct decided_t {
+    pub lexeme: yaml_lexeme_t,
+    pub decider: decider_t,
 }
 
 /// Lays the lexeme of a step and what decides whether it is a key, and hands on their groups.
@@ -55,18 +61,17 @@ fn put_lexeme<const DIRECT: bool, S: yaml_token_sink_t>(
 fn put_decided<const DIRECT: bool, S: yaml_token_sink_t>(
     scanner: &mut scanner_t,
     sink: &mut S,
-    margin: bool,
     step: step_t,
-    lexeme: yaml_lexeme_t,
-    decider: decider_t,
+    both: decided_t,
 ) -> Result<(), stop_t>
     ghost before: { List Laid }
-    requires { CanLayAll before scanner.old margin step (lexeme_of lexeme) × IsDecided scanner.old margin (not DIRECT)
-        step lexeme.reach decider.kind (lexeme_of decider.lexeme) }
+    requires { CanLayAll before scanner.old step (lexeme_of both.lexeme) × IsDecided scanner.old (not DIRECT)
+        step both.lexeme.reach both.decider.kind (lexeme_of both.decider.lexeme) }
     ensures { LaysTo before scanner.old scanner.new DIRECT (λ tokens. S.took sink.old tokens sink.new) S.may_refuse
         (made_by 2 result) }
 {
-    let (first, second) = lay_decided(scanner, margin, step, lexeme, decider);
+    let decided_t { lexeme, decider } = both;
+    let (first, second) = lay_decided(scanner, step, lexeme, decider);
     match hand_on::<DIRECT, S>(scanner, sink, false, first) {
         Ok(_) => hand_token::<DIRECT, S>(scanner, sink, second),
         Err(stop) => Err(stopped(stop)),
@@ -79,23 +84,22 @@ fn put_decided<const DIRECT: bool, S: yaml_token_sink_t>(
 fn lay_all<const DIRECT: bool, S: yaml_token_sink_t>(
     scanner: &mut scanner_t,
     sink: &mut S,
-    margin: bool,
     step: step_t,
     lexeme: yaml_lexeme_t,
 ) -> Result<u64, stop_t>
     ghost before: { List Laid }
-    requires { CanLayAll before scanner.old margin step (lexeme_of lexeme) }
+    requires { CanLayAll before scanner.old step (lexeme_of lexeme) }
     ensures { LaysTo before scanner.old scanner.new DIRECT (λ tokens. S.took sink.old tokens sink.new) S.may_refuse
         result }
 {
-    match decided_by(scanner, margin, !DIRECT, step, lexeme.reach) {
+    match decided_by(scanner, !DIRECT, step, lexeme.reach) {
         Some(decider) => {
-            match put_decided::<DIRECT, S>(scanner, sink, margin, step, lexeme, decider) {
+            match put_decided::<DIRECT, S>(scanner, sink, step, decided_t { lexeme, decider }) {
                 Ok(_) => Ok(2),
                 Err(stop) => Err(stopped(stop)),
             }
         }
-        None => match put_lexeme::<DIRECT, S>(scanner, sink, margin, step, lexeme) {
+        None => match put_lexeme::<DIRECT, S>(scanner, sink, step, lexeme) {
             Ok(_) => Ok(1),
             Err(stop) => Err(stopped(stop)),
         },
@@ -104,24 +108,19 @@ fn lay_all<const DIRECT: bool, S: yaml_token_sink_t>(
 
 /// Stops if the lexeme of a step, which was read, reaches near the reader's fault, or if a candidate is lost there.
 #[inline(always)]
-fn check_reach(
-    scanner: &mut scanner_t,
-    margin: bool,
-    step: step_t,
-    lexeme: &yaml_lexeme_t,
-) -> Result<(), stop_t>
+fn check_reach(scanner: &mut scanner_t, step: step_t, lexeme: &yaml_lexeme_t) -> Result<(), stop_t>
     ghost before: { List Laid }
-    requires { CanRead before scanner.old margin step × ((p : ℕ) → IsMarkOf scanner.old.text.chars scanner.old.front p
+    requires { CanRead before scanner.old step × ((p : ℕ) → IsMarkOf scanner.old.text.chars scanner.old.front p
         → IsRead scanner.old.text.chars step.kind step.context.depth step.context.level p (lexeme_of lexeme.now)) }
     ensures { MatchResult result
-        (λ _. (scanner.new ≡ scanner.old) × CanLayAll before scanner.old margin step (lexeme_of lexeme.now))
+        (λ _. (scanner.new ≡ scanner.old) × CanLayAll before scanner.old step (lexeme_of lexeme.now))
         (λ stop. Refuses before scanner.old scanner.new stop) }
 {
     let reach = lexeme.reach;
-    let lost = is_lost(root_after(scanner, margin, step), scanner.limit, reach);
+    let lost = is_lost(root_after(scanner, step), scanner.limit, reach);
     if scanner.near <= reach.index || lost {
         scanner.there = reach;
-        return Err(stop_after(scanner, margin, step.kind, step.allowed));
+        return Err(stop_after(scanner, step.in_flow, step.kind, step.allowed));
     }
     Ok(())
 }
@@ -132,18 +131,17 @@ fn check_reach(
 pub(crate) fn end_character<const DIRECT: bool, S: yaml_token_sink_t>(
     scanner: &mut scanner_t,
     sink: &mut S,
-    margin: bool,
     step: step_t,
     lexeme: yaml_lexeme_t,
 ) -> Result<(), stop_t>
     ghost before: { List Laid }
-    requires { CanRead before scanner.old margin step × ((p : ℕ) → IsMarkOf scanner.old.text.chars scanner.old.front p
+    requires { CanRead before scanner.old step × ((p : ℕ) → IsMarkOf scanner.old.text.chars scanner.old.front p
         → IsRead scanner.old.text.chars step.kind step.context.depth step.context.level p (lexeme_of lexeme)) }
     ensures { StepsTo before scanner.old scanner.new DIRECT (λ tokens. S.took sink.old tokens sink.new) S.may_refuse
         result }
 {
-    match check_reach(scanner, margin, step, &lexeme) {
-        Ok(_) => match put_lexeme::<DIRECT, S>(scanner, sink, margin, step, lexeme) {
+    match check_reach(scanner, step, &lexeme) {
+        Ok(_) => match put_lexeme::<DIRECT, S>(scanner, sink, step, lexeme) {
             Ok(_) => {
                 scanner.made += 1;
                 Ok(())
@@ -159,18 +157,17 @@ pub(crate) fn end_character<const DIRECT: bool, S: yaml_token_sink_t>(
 fn end_step<const DIRECT: bool, S: yaml_token_sink_t>(
     scanner: &mut scanner_t,
     sink: &mut S,
-    margin: bool,
     step: step_t,
     lexeme: yaml_lexeme_t,
 ) -> Result<(), stop_t>
     ghost before: { List Laid }
-    requires { CanRead before scanner.old margin step × ((p : ℕ) → IsMarkOf scanner.old.text.chars scanner.old.front p
+    requires { CanRead before scanner.old step × ((p : ℕ) → IsMarkOf scanner.old.text.chars scanner.old.front p
         → IsRead scanner.old.text.chars step.kind step.context.depth step.context.level p (lexeme_of lexeme)) }
     ensures { StepsTo before scanner.old scanner.new DIRECT (λ tokens. S.took sink.old tokens sink.new) S.may_refuse
         result }
 {
-    match check_reach(scanner, margin, step, &lexeme) {
-        Ok(_) => match lay_all::<DIRECT, S>(scanner, sink, margin, step, lexeme) {
+    match check_reach(scanner, step, &lexeme) {
+        Ok(_) => match lay_all::<DIRECT, S>(scanner, sink, step, lexeme) {
             Ok(made) => {
                 scanner.made += made;
                 Ok(())
@@ -186,18 +183,17 @@ fn end_step<const DIRECT: bool, S: yaml_token_sink_t>(
 pub(crate) fn end_read<const DIRECT: bool, S: yaml_token_sink_t>(
     scanner: &mut scanner_t,
     sink: &mut S,
-    margin: bool,
     step: step_t,
     read: Result<yaml_lexeme_t, yaml_refusal_t>,
 ) -> Result<(), stop_t>
     ghost before: { List Laid }
-    requires { CanRead before scanner.old margin step
+    requires { CanRead before scanner.old step
         × IsReadIn scanner.old step.kind step.context scanner.old.there read }
     ensures { StepsTo before scanner.old scanner.new DIRECT (λ tokens. S.took sink.old tokens sink.new) S.may_refuse
         result }
 {
     match read {
-        Ok(lexeme) => end_step::<DIRECT, S>(scanner, sink, margin, step, lexeme),
+        Ok(lexeme) => end_step::<DIRECT, S>(scanner, sink, step, lexeme),
         Err(refusal) => Err(stop_in_lexeme(scanner, step.kind, refusal)),
     }
 }
@@ -206,14 +202,13 @@ pub(crate) fn end_read<const DIRECT: bool, S: yaml_token_sink_t>(
 #[inline(always)]
 pub(crate) fn end_queued(
     scanner: &mut scanner_t,
-    margin: bool,
     step: step_t,
     read: Result<yaml_lexeme_t, yaml_refusal_t>,
 ) -> Result<(), stop_t>
     ghost before: { List Laid }
-    requires { CanRead before scanner.old margin step
+    requires { CanRead before scanner.old step
         × IsReadIn scanner.old step.kind step.context scanner.old.there read }
     ensures { IsStep before scanner.old scanner.new result }
 {
-    end_read::<false, no_sink_t>(scanner, &mut no_sink_t {}, margin, step, read)
+    end_read::<false, no_sink_t>(scanner, &mut no_sink_t {}, step, read)
 }

@@ -1,5 +1,5 @@
 //! A parser whose input was let go, and taken up again.
-ghost use Rattle.std.specs.Prelude.{◌≡◌, ◌<◌, Some, false};
+ghost use Rattle.std.specs.Prelude.{◌≡◌, Some, true};
 ghost use Rattle.yaml_text.specs.Text.{Text};
 ghost use Rattle.yaml_text.specs.Kept.{IsKeptOf, KeptText};
 ghost use Rattle.yaml_scan.specs.Session.{session_reach};
@@ -40,19 +40,18 @@ pub struct yaml_kept_parser_t {
     lead: yaml_token_t,
 }
 
-/// The text that was kept, or the empty one before the first step and after the last.
+/// The text that was kept, or the empty one before the first step and after the last. `under_way`: it is between these.
 fn text_again<'a>(
     alloc: Global,
     kept: Option<yaml_kept_text_t>,
     input: &'a [u8],
-    made: u64,
-    over: bool,
+    under_way: bool,
 ) -> yaml_text_t<'a>
-    requires { over ≡ false → 0 < made → (x : Text) × (k : KeptText) × (kept ≡ Some k) × IsKeptOf x input.now k }
-    ensures { over ≡ false → 0 < made
+    requires { under_way ≡ true → (x : Text) × (k : KeptText) × (kept ≡ Some k) × IsKeptOf x input.now k }
+    ensures { under_way ≡ true
         → (x : Text) (k : KeptText) → kept ≡ Some k → IsKeptOf x input.now k → result ≡ x }
 {
-    if made > 0 && !over {
+    if under_way {
         if let Some(kept) = kept {
             return kept.text(input);
         }
@@ -126,7 +125,8 @@ impl yaml_kept_parser_t {
     {
         let kept = self;
         let over = kept.session.over;
-        let text = text_again(alloc, kept.text.take(), input, kept.made, over);
+        let under_way = kept.made > 0 && !over;
+        let text = text_again(alloc, kept.text.take(), input, under_way);
         yaml_parser_t {
             input,
             setting: kept.setting,

@@ -1,7 +1,7 @@
 //! Simple keys: the candidate of each flow depth, which a `:` may yet make a key (YAML 1.1, 10.2 Mappings, simple
 //! keys).
 ghost use Rattle.std.specs.Prelude.{◌≡◌, ◌+◌, ◌-◌, ◌<◌, ◌&&◌, ◌++◌, ◌∷◌, [], Option, None, map, vec_len};
-ghost use Rattle.std.specs.Prelude.{length, ◌==◌};
+ghost use Rattle.std.specs.Prelude.{length, nat_lt};
 ghost use Rattle.std.specs.Option.{is_some};
 ghost use Rattle.std.specs.Vec.{vec_capacity};
 ghost use Rattle.yaml_scan.specs.inside.Slots.{is_live, still_held, lost_held, needed, slot_after, root_of, step_of};
@@ -11,6 +11,7 @@ ghost use Rattle.yaml_scan.specs.inside.Slots.{AreNested};
 
 use crate::depth::{is_flow_start, nest, nests};
 use crate::kind::{is_candidate, is_colon};
+use crate::met::step_t;
 use crate::slots::{held_t, slots_t};
 use yaml_lexeme::yaml_lexeme_kind_t;
 use yaml_text::yaml_mark_t;
@@ -136,14 +137,18 @@ pub(crate) fn root(outer: &[Option<held_t>], top: Option<held_t>) -> Option<held
     }
 }
 
-/// The candidate of depth 0. `margin`: it is the present depth. Written so, the compiler knows the depth if it knows
-/// `margin`.
+/// The candidate of depth 0. `in_flow`: the present depth is above 0. Written so, the compiler knows whether it is if
+/// it knows `in_flow`.
 #[inline(always)]
-pub(crate) fn root_at(outer: &[Option<held_t>], top: Option<held_t>, margin: bool) -> Option<held_t>
-    requires { margin ≡ length outer.now == 0 }
+pub(crate) fn root_at(
+    outer: &[Option<held_t>],
+    top: Option<held_t>,
+    in_flow: bool,
+) -> Option<held_t>
+    requires { in_flow ≡ nat_lt 0 (length outer.now) }
     ensures { result ≡ root_of outer.now top }
 {
-    if margin { top } else { root(outer, top) }
+    if in_flow { root(outer, top) } else { top }
 }
 
 /// Changes the slot of a depth after a lexeme was read at it.
@@ -215,36 +220,31 @@ fn step_of(held: Option<held_t>) -> u64
     }
 }
 
-/// Gives up what is stale at a mark, and changes the depth after a lexeme. There is room for one. `margin`: the depth
-/// was 0.
+/// Gives up what is stale at a mark, and changes the depth after the lexeme of a step. There is room for one.
 #[inline(always)]
-pub(crate) fn move_slots(
-    slots: &mut slots_t,
-    margin: bool,
-    kind: yaml_lexeme_kind_t,
-    limit: u64,
-    mark: yaml_mark_t,
-)
-    requires margin { margin ≡ vec_len slots.old.outer == 0 }
+pub(crate) fn move_slots(slots: &mut slots_t, step: step_t, limit: u64, mark: yaml_mark_t)
+    requires flow { step.in_flow ≡ nat_lt 0 (vec_len slots.old.outer) }
     requires empty { slots.old.not_simple_keys ≡ empty_slots slots.old.outer.items }
     requires nested { AreNested slots.old.outer.items }
     requires room { vec_len slots.old.outer < vec_capacity slots.old.outer }
     ensures outer { slots.new.outer.items
-        ≡ nested_outer kind (map (still_held limit mark) slots.old.outer.items) (still_held limit mark slots.old.top) }
+        ≡ nested_outer step.kind (map (still_held limit mark) slots.old.outer.items)
+        (still_held limit mark slots.old.top) }
     ensures top { slots.new.top
-        ≡ nested_top kind (map (still_held limit mark) slots.old.outer.items) (still_held limit mark slots.old.top) }
+        ≡ nested_top step.kind (map (still_held limit mark) slots.old.outer.items)
+        (still_held limit mark slots.old.top) }
     ensures empty { slots.new.not_simple_keys ≡ empty_slots slots.new.outer.items }
     ensures awaited { slots.new.awaited ≡ step_of (lowest (slots.new.outer.items ++ slots.new.top ∷ [])) }
 {
-    if margin && !is_flow_start(kind) {
+    if !step.in_flow && !is_flow_start(step.kind) {
         give_up(&mut slots.top, limit, mark);
         slots.awaited = step_of(slots.top);
         return;
     }
     let below = give_up_stale(&mut slots.outer, slots.not_simple_keys, limit, mark);
     give_up(&mut slots.top, limit, mark);
-    slots.not_simple_keys = if nests(kind) {
-        nest(slots, kind);
+    slots.not_simple_keys = if nests(step.kind) {
+        nest(slots, step.kind);
         count_empty(&slots.outer, below)
     } else {
         below

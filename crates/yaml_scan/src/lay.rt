@@ -1,5 +1,5 @@
 //! What the layout makes of a lexeme.
-ghost use Rattle.std.specs.Prelude.{◌≡◌, ◌<◌, ◌==◌, ◌++◌, ◌∷◌, List, [], length, map, vec_len};
+ghost use Rattle.std.specs.Prelude.{◌≡◌, ◌<◌, ◌++◌, ◌∷◌, List, [], length, map, nat_lt, vec_len};
 ghost use Rattle.std.specs.Vec.{vec_capacity};
 ghost use Rattle.std.specs.VecDeque.{deque_capacity};
 ghost use Rattle.yaml_text.specs.Token.{data_of, token_of};
@@ -14,7 +14,7 @@ use crate::allowed::is_allowed_after;
 use crate::groups::group_t;
 use crate::keys::{completed_by, move_slots, settle};
 use crate::levels::{close_levels, keep_early, put_key};
-use crate::look::step_t;
+use crate::met::step_t;
 use crate::scanner::scanner_t;
 use crate::slots::slots_t;
 use yaml_lexeme::yaml_lexeme_t;
@@ -36,11 +36,10 @@ pub(crate) fn token_of(start: yaml_mark_t, lexeme: yaml_lexeme_t) -> yaml_token_
     }
 }
 
-/// Changes the candidates after a lexeme that was read to a mark. There is room for one more depth. `margin`: the
-/// lexeme is at depth 0.
+/// Changes the candidates after the lexeme of a step, which was read to a mark. There is room for one more depth.
 #[inline(always)]
-fn keep_candidates(slots: &mut slots_t, margin: bool, step: step_t, limit: u64, mark: yaml_mark_t)
-    requires margin { margin ≡ vec_len slots.old.outer == 0 }
+fn keep_candidates(slots: &mut slots_t, step: step_t, limit: u64, mark: yaml_mark_t)
+    requires flow { step.in_flow ≡ nat_lt 0 (vec_len slots.old.outer) }
     requires empty { slots.old.not_simple_keys ≡ empty_slots slots.old.outer.items }
     requires nested { AreNested slots.old.outer.items }
     requires room { vec_len slots.old.outer < vec_capacity slots.old.outer }
@@ -54,21 +53,15 @@ fn keep_candidates(slots: &mut slots_t, margin: bool, step: step_t, limit: u64, 
     ensures awaited { slots.new.awaited ≡ step_of (lowest (slots.new.outer.items ++ slots.new.top ∷ [])) }
 {
     settle(&mut slots.top, step.kind, step.allowed, step.new);
-    move_slots(slots, margin, step.kind, limit, mark);
+    move_slots(slots, step, limit, mark);
 }
 
 /// Lays the lexeme of a step, which was read: changes levels and candidates, and marks the group that it completes.
 /// Returns its own group, which then goes into the queue or is handed out. There is room, and no candidate is lost.
-/// `margin`: it is at depth 0.
 #[inline(always)]
-pub(crate) fn lay_lexeme(
-    scanner: &mut scanner_t,
-    margin: bool,
-    step: step_t,
-    lexeme: yaml_lexeme_t,
-) -> group_t
+pub(crate) fn lay_lexeme(scanner: &mut scanner_t, step: step_t, lexeme: yaml_lexeme_t) -> group_t
     ghost before: { List Laid }
-    requires can { CanPut before scanner.old (groups_in scanner.old) (met_in scanner.old step) margin step.new
+    requires can { CanPut before scanner.old (groups_in scanner.old) (met_in scanner.old step) step.in_flow step.new
         (lexeme_of lexeme) }
     requires room { HasRoom scanner.old }
     ensures laid { IsLaidAs before scanner.old step.kind scanner.new (groups_in scanner.new ++ result ∷ []) }
@@ -81,12 +74,12 @@ pub(crate) fn lay_lexeme(
     let start = step.new.start;
     let reach = lexeme.reach;
     let passed_break = lexeme.passed_break;
-    let closed = close_levels(&mut scanner.layout.levels, !margin, kind, front, start);
+    let closed = close_levels(&mut scanner.layout.levels, step, front);
     let completed = completed_by(kind, scanner.slots.top, scanner.limit, start);
-    keep_candidates(&mut scanner.slots, margin, step, scanner.limit, reach);
-    let opens = put_key(&mut scanner.layout, margin, completed, kind, start);
+    keep_candidates(&mut scanner.slots, step, scanner.limit, reach);
+    let opens = put_key(&mut scanner.layout, step, completed);
     keep_early(&mut scanner.layout.queue, closed, front);
-    scanner.allowed = is_allowed_after(kind, margin, completed.is_none(), passed_break);
+    scanner.allowed = is_allowed_after(kind, step.in_flow, completed.is_none(), passed_break);
     scanner.reach = reach;
     group_t {
         ends: closed.ends,

@@ -11,10 +11,11 @@ ghost use Rattle.yaml_scan.specs.Groups.Token.{BlockEnd};
 ghost use Rattle.yaml_scan.specs.inside.Opened.{is_new, opened};
 ghost use Rattle.yaml_scan.specs.inside.Queue.{ends_at, closing, completed_in, opened_by, start_of, Fitting};
 ghost use Rattle.yaml_scan.specs.inside.Queue.{KeepsRest};
-ghost use Rattle.yaml_scan.specs.inside.Slots.{is_margin_level};
+ghost use Rattle.yaml_scan.specs.inside.Slots.{is_level};
 
 use crate::groups::{block_t, mark_key, queue_t};
 use crate::kind::{is_last, is_opener, stays_open};
+use crate::met::step_t;
 use crate::slots::held_t;
 use yaml_lexeme::yaml_lexeme_kind_t;
 use yaml_text::yaml_mark_t;
@@ -57,29 +58,24 @@ pub(crate) struct closed_t {
     pub ends: usize,
 }
 
-/// Closes the levels that a lexeme does not keep, greatest first.
+/// Closes the levels that the lexeme of a step does not keep, greatest first. The gap before it ends at `front`.
 #[inline(always)]
-pub(crate) fn close_levels(
-    levels: &mut Vec<u64>,
-    in_flow: bool,
-    kind: yaml_lexeme_kind_t,
-    front: yaml_mark_t,
-    start: yaml_mark_t,
-) -> closed_t
+pub(crate) fn close_levels(levels: &mut Vec<u64>, step: step_t, front: yaml_mark_t) -> closed_t
     requires { IsFalling (reverse levels.old.items) }
-    ensures levels { reverse levels.new.items ≡ filter (stays in_flow kind start) (reverse levels.old.items) }
-    ensures ends { ends_at result.early front ++ ends_at result.ends start
-        ≡ map (λ c. BlockEnd (end_at kind front start c)) (filter (λ c.
-        not (stays in_flow kind start c)) (reverse levels.old.items)) }
-    ensures none { is_stream_end kind ≡ false → result.early ≡ 0 }
+    ensures levels { reverse levels.new.items
+        ≡ filter (stays step.in_flow step.kind step.new.start) (reverse levels.old.items) }
+    ensures ends { ends_at result.early front ++ ends_at result.ends step.new.start
+        ≡ map (λ c. BlockEnd (end_at step.kind front step.new.start c)) (filter (λ c.
+        not (stays step.in_flow step.kind step.new.start c)) (reverse levels.old.items)) }
+    ensures none { is_stream_end step.kind ≡ false → result.early ≡ 0 }
     ensures len { vec_len levels.new ≤ vec_len levels.old }
     ensures capacity { vec_capacity levels.new ≡ vec_capacity levels.old }
 {
     let mut early = 0;
     let mut ends = 0;
-    while let Some(last) = closing(levels, in_flow, kind, start) {
+    while let Some(last) = closing(levels, step.in_flow, step.kind, step.new.start) {
         levels.pop();
-        if is_early(kind, front, last) {
+        if is_early(step.kind, front, last) {
             early += 1;
         } else {
             ends += 1;
@@ -116,25 +112,25 @@ pub(crate) fn top_level(levels: &[u64]) -> Option<u64>
     levels.last().copied()
 }
 
-/// Whether a level is this column, at depth 0.
+/// Whether a level is this column, outside flow.
 #[inline(always)]
-pub(crate) fn is_level(margin: bool, level: Option<u64>, column: u64) -> bool
-    ensures { result ≡ is_margin_level margin level column }
+pub(crate) fn is_level(in_flow: bool, level: Option<u64>, column: u64) -> bool
+    ensures { result ≡ is_level in_flow level column }
 {
-    margin
+    !in_flow
         && match level {
             None => false,
             Some(level) => level == column,
         }
 }
 
-/// Whether a column opens a level.
+/// Whether a column is a new level: outside flow, and greater than the open ones.
 #[inline(always)]
-pub(crate) fn is_new_level(levels: &[u64], margin: bool, column: u64) -> bool
+pub(crate) fn is_new_level(levels: &[u64], in_flow: bool, column: u64) -> bool
     requires { IsFalling (reverse levels.now) }
-    ensures { result ≡ is_new margin column (reverse levels.now) }
+    ensures { result ≡ is_new in_flow column (reverse levels.now) }
 {
-    margin
+    !in_flow
         && match top_level(levels) {
             None => true,
             Some(level) => level < column,
@@ -143,11 +139,11 @@ pub(crate) fn is_new_level(levels: &[u64], margin: bool, column: u64) -> bool
 
 /// Whether a lexeme that completes nothing opens its column.
 #[inline(always)]
-fn opens_at(levels: &[u64], margin: bool, kind: yaml_lexeme_kind_t, column: u64) -> bool
+fn opens_at(levels: &[u64], in_flow: bool, kind: yaml_lexeme_kind_t, column: u64) -> bool
     requires { IsFalling (reverse levels.now) }
-    ensures { result ≡ (is_new margin column (reverse levels.now) && opens_level kind true) }
+    ensures { result ≡ (is_new in_flow column (reverse levels.now) && opens_level kind true) }
 {
-    is_new_level(levels, margin, column) && is_opener(kind)
+    is_new_level(levels, in_flow, column) && is_opener(kind)
 }
 
 /// Opens a level, or none. There is room for it.
@@ -170,19 +166,19 @@ pub(crate) struct layout_t {
 
 /// Completes a candidate. There is room for a level.
 #[inline(always)]
-fn complete(layout: &mut layout_t, margin: bool, held: held_t)
+fn complete(layout: &mut layout_t, in_flow: bool, held: held_t)
     requires falls { IsFalling (reverse layout.old.levels.items) }
     requires fits { Fitting (Some held) layout.old.queue.done layout.old.queue.groups.items }
     requires room { vec_len layout.old.levels < vec_capacity layout.old.levels }
     ensures levels { reverse layout.new.levels.items
-        ≡ (if is_new margin held.start.column (reverse layout.old.levels.items) then held.start.column ∷ [] else [])
+        ≡ (if is_new in_flow held.start.column (reverse layout.old.levels.items) then held.start.column ∷ [] else [])
         ++ reverse layout.old.levels.items }
     ensures groups { layout.new.queue.groups.items
-        ≡ completed_in margin (Some held) (reverse layout.old.levels.items) layout.old.queue.done
+        ≡ completed_in in_flow (Some held) (reverse layout.old.levels.items) layout.old.queue.done
         layout.old.queue.groups.items }
     ensures rest { KeepsRest layout.old.queue layout.new.queue }
 {
-    let opens = is_new_level(&layout.levels, margin, held.start.column);
+    let opens = is_new_level(&layout.levels, in_flow, held.start.column);
     let at = (held.step - 1 - layout.queue.done) as usize;
     mark_key(&mut layout.queue.groups, at, opens);
     open_level(&mut layout.levels, opens, held.start.column);
@@ -202,50 +198,42 @@ pub(crate) fn block_start(opens: bool, kind: yaml_lexeme_kind_t) -> block_t
     }
 }
 
-/// Opens a level at a lexeme that completes nothing, if it does. There is room for one.
+/// Opens a level at the lexeme of a step, which completes nothing, if it does. There is room for one.
 #[inline(always)]
-fn begin(
-    levels: &mut Vec<u64>,
-    margin: bool,
-    kind: yaml_lexeme_kind_t,
-    start: yaml_mark_t,
-) -> block_t
+fn begin(levels: &mut Vec<u64>, step: step_t) -> block_t
     requires falls { IsFalling (reverse levels.old.items) }
     requires room { vec_len levels.old < vec_capacity levels.old }
-    ensures levels { reverse levels.new.items ≡ opened margin None kind start (reverse levels.old.items) }
-    ensures opens { result ≡ opened_by margin None kind start.column (reverse levels.old.items) }
+    ensures levels { reverse levels.new.items
+        ≡ opened step.in_flow None step.kind step.new.start (reverse levels.old.items) }
+    ensures opens { result ≡ opened_by step.in_flow None step.kind step.new.start.column (reverse levels.old.items) }
 {
-    let opens = opens_at(levels, margin, kind, start.column);
-    open_level(levels, opens, start.column);
-    block_start(opens, kind)
+    let column = step.new.start.column;
+    let opens = opens_at(levels, step.in_flow, step.kind, column);
+    open_level(levels, opens, column);
+    block_start(opens, step.kind)
 }
 
-/// Completes a candidate, or opens a level at a lexeme. There is room for one.
+/// Completes a candidate, or opens a level at the lexeme of a step. There is room for one.
 #[inline(always)]
-pub(crate) fn put_key(
-    layout: &mut layout_t,
-    margin: bool,
-    completed: Option<held_t>,
-    kind: yaml_lexeme_kind_t,
-    start: yaml_mark_t,
-) -> block_t
+pub(crate) fn put_key(layout: &mut layout_t, step: step_t, completed: Option<held_t>) -> block_t
     requires falls { IsFalling (reverse layout.old.levels.items) }
     requires fits { Fitting completed layout.old.queue.done layout.old.queue.groups.items }
     requires room { vec_len layout.old.levels < vec_capacity layout.old.levels }
     ensures levels { reverse layout.new.levels.items
-        ≡ opened margin completed kind start (reverse layout.old.levels.items) }
+        ≡ opened step.in_flow completed step.kind step.new.start (reverse layout.old.levels.items) }
     ensures groups { layout.new.queue.groups.items
-        ≡ completed_in margin completed (reverse layout.old.levels.items) layout.old.queue.done
+        ≡ completed_in step.in_flow completed (reverse layout.old.levels.items) layout.old.queue.done
         layout.old.queue.groups.items }
-    ensures opens { result ≡ opened_by margin completed kind start.column (reverse layout.old.levels.items) }
+    ensures opens { result
+        ≡ opened_by step.in_flow completed step.kind step.new.start.column (reverse layout.old.levels.items) }
     ensures rest { KeepsRest layout.old.queue layout.new.queue }
 {
     match completed {
         Some(held) => {
-            complete(layout, margin, held);
+            complete(layout, step.in_flow, held);
             block_t::NONE
         }
-        None => begin(&mut layout.levels, margin, kind, start),
+        None => begin(&mut layout.levels, step),
     }
 }
 

@@ -17,6 +17,7 @@ pub mod laws;
 mod lay;
 mod levels;
 mod look;
+mod met;
 mod near;
 mod parser;
 mod scanned;

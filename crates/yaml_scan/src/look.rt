@@ -1,29 +1,19 @@
 //! What a step tests before and after it reads its lexeme.
-ghost use Rattle.std.specs.Prelude.{◌≡◌, ◌+◌, ◌<◌, ◌^◌, ◌&&◌, ◌==◌, not, if◌then◌else◌, None, reverse, vec_len};
+ghost use Rattle.std.specs.Prelude.{◌≡◌, ◌+◌, ◌<◌, ◌^◌, ◌&&◌, not, if◌then◌else◌, nat_lt, None, reverse, vec_len};
 ghost use Rattle.std.specs.Option.{is_some, option_copied};
 ghost use Rattle.yaml_scan.specs.Levels.{IsFalling};
 ghost use Rattle.yaml_scan.specs.Step.{problem_of};
 ghost use Rattle.yaml_scan.specs.inside.Scanning.{IsNewHeld, cleared_in, met_in, refused_in};
-ghost use Rattle.yaml_scan.specs.inside.Slots.{is_margin_level, root_of, slot_after};
+ghost use Rattle.yaml_scan.specs.inside.Slots.{is_level, root_of, slot_after};
 
 use crate::keys::{completed_by, needed_at, root_at, settle};
 use crate::kind::{is_candidate, is_colon, start_after};
 use crate::levels::{is_level, level_at};
+use crate::met::step_t;
 use crate::scanner::scanner_t;
 use crate::slots::{held_t, slots_t};
 use yaml_lexeme::{yaml_context_t, yaml_lexeme_kind_t};
 use yaml_text::yaml_mark_t;
-
-/// What a lexeme is read and laid with.
-#[derive(Clone, Copy)]
-pub(crate) struct step_t {
-    pub kind: yaml_lexeme_kind_t,
-    /// Whether a key is allowed there.
-    pub allowed: bool,
-    /// What is kept of the lexeme, if it is a candidate.
-    pub new: held_t,
-    pub context: yaml_context_t,
-}
 
 /// What is wrong with a kind if no key is allowed at depth 0. `none`: it completes nothing.
 #[inline(always)]
@@ -46,13 +36,13 @@ pub(crate) fn problem(kind: yaml_lexeme_kind_t, none: bool) -> Option<&'static s
 #[inline(always)]
 pub(crate) fn refused_by(
     scanner: &scanner_t,
-    margin: bool,
+    in_flow: bool,
     kind: yaml_lexeme_kind_t,
     allowed: bool,
 ) -> Option<&'static str>
-    ensures { option_copied result ≡ refused_in scanner.now margin kind allowed }
+    ensures { option_copied result ≡ refused_in scanner.now in_flow kind allowed }
 {
-    if !margin || allowed {
+    if in_flow || allowed {
         return None;
     }
     let completed = completed_by(kind, scanner.slots.top, scanner.limit, scanner.front);
@@ -63,41 +53,41 @@ pub(crate) fn refused_by(
 #[inline(always)]
 pub(crate) fn cleared_by(
     scanner: &scanner_t,
-    margin: bool,
+    in_flow: bool,
     kind: yaml_lexeme_kind_t,
     allowed: bool,
 ) -> Option<held_t>
-    ensures { result ≡ cleared_in scanner.now margin kind allowed }
+    ensures { result ≡ cleared_in scanner.now in_flow kind allowed }
 {
-    if !is_colon(kind) && (!is_candidate(kind) || allowed) && margin {
+    if !is_colon(kind) && (!is_candidate(kind) || allowed) && !in_flow {
         needed_at(scanner.slots.top, scanner.limit, scanner.front)
     } else {
         None
     }
 }
 
-/// The flow depth. `margin`: it is 0. Written so, the compiler knows whether it is 0 if it knows `margin`.
+/// The flow depth. `in_flow`: it is above 0. Written so, the compiler knows whether it is if it knows `in_flow`.
 #[inline(always)]
-fn depth_at(slots: &slots_t, margin: bool) -> u64
-    requires { margin ≡ vec_len slots.now.outer == 0 }
+fn depth_at(slots: &slots_t, in_flow: bool) -> u64
+    requires { in_flow ≡ nat_lt 0 (vec_len slots.now.outer) }
     ensures { result ≡ vec_len slots.now.outer }
 {
-    if margin {
-        0
-    } else {
+    if in_flow {
         slots.outer.len().max(1) as u64
+    } else {
+        0
     }
 }
 
 /// What is kept of a lexeme of this step that starts at a mark, if it is a candidate.
 #[inline(always)]
-fn new_candidate(step: u64, start: yaml_mark_t, margin: bool, level: Option<u64>) -> held_t
-    ensures { result ≡ record { step = step; start = start; required = is_margin_level margin level start.column } }
+fn new_candidate(step: u64, start: yaml_mark_t, in_flow: bool, level: Option<u64>) -> held_t
+    ensures { result ≡ record { step = step; start = start; required = is_level in_flow level start.column } }
 {
     held_t {
         step,
         start,
-        required: is_level(margin, level, start.column),
+        required: is_level(in_flow, level, start.column),
     }
 }
 
@@ -105,40 +95,42 @@ fn new_candidate(step: u64, start: yaml_mark_t, margin: bool, level: Option<u64>
 #[inline(always)]
 pub(crate) fn step_of(
     scanner: &scanner_t,
-    margin: bool,
+    in_flow: bool,
     kind: yaml_lexeme_kind_t,
     allowed: bool,
 ) -> step_t
-    requires margin { margin ≡ vec_len scanner.now.slots.outer == 0 }
+    requires flow { in_flow ≡ nat_lt 0 (vec_len scanner.now.slots.outer) }
     requires falls { IsFalling (reverse scanner.now.layout.levels.items) }
     requires line { scanner.now.front.line + 1 < 2 ^ 64 }
     requires made { scanner.now.made + 1 < 2 ^ 64 }
     ensures kind { result.kind ≡ kind }
+    ensures flow { result.in_flow ≡ in_flow }
     ensures allowed { result.allowed ≡ allowed }
-    ensures new { IsNewHeld scanner.now (met_in scanner.now result) margin result.context.level result.new }
+    ensures new { IsNewHeld scanner.now (met_in scanner.now result) result.in_flow result.context.level result.new }
     ensures depth { result.context.depth ≡ vec_len scanner.now.slots.outer }
 {
     let start = start_after(kind, scanner.front);
-    let level = level_at(&scanner.layout.levels, !margin, kind, start);
+    let level = level_at(&scanner.layout.levels, in_flow, kind, start);
     step_t {
         kind,
+        in_flow,
         allowed,
-        new: new_candidate(scanner.made + 1, start, margin, level),
+        new: new_candidate(scanner.made + 1, start, in_flow, level),
         context: yaml_context_t {
-            depth: depth_at(&scanner.slots, margin),
+            depth: depth_at(&scanner.slots, in_flow),
             level,
         },
     }
 }
 
-/// The candidate of depth 0 after the lexeme of a step. `margin`: the lexeme is at depth 0.
+/// The candidate of depth 0 after the lexeme of a step.
 #[inline(always)]
-pub(crate) fn root_after(scanner: &scanner_t, margin: bool, step: step_t) -> Option<held_t>
-    requires { margin ≡ vec_len scanner.now.slots.outer == 0 }
+pub(crate) fn root_after(scanner: &scanner_t, step: step_t) -> Option<held_t>
+    requires { step.in_flow ≡ nat_lt 0 (vec_len scanner.now.slots.outer) }
     ensures { result ≡ root_of scanner.now.slots.outer.items
         (slot_after step.kind step.allowed step.new scanner.now.slots.top) }
 {
     let mut top = scanner.slots.top;
     settle(&mut top, step.kind, step.allowed, step.new);
-    root_at(&scanner.slots.outer, top, margin)
+    root_at(&scanner.slots.outer, top, step.in_flow)
 }

@@ -1,5 +1,5 @@
 //! A step: the gap, the kind of the next lexeme, the lexeme, and what the layout makes of it.
-ghost use Rattle.std.specs.Prelude.{List, ◌≡◌, ◌==◌, ◌<◌, true, false, vec_len};
+ghost use Rattle.std.specs.Prelude.{List, ◌≡◌, ◌<◌, true, false, nat_lt, vec_len};
 ghost use Rattle.yaml_lexeme.specs.Lex.{block_kind, is_character, quoted_kind};
 ghost use Rattle.yaml_lexeme.specs.declared.kind.yaml_lexeme_kind_t.TheVariants.{PLAIN};
 ghost use Rattle.yaml_scan.specs.Laid.{Laid};
@@ -32,19 +32,19 @@ fn quoted_kind(single: bool) -> yaml_lexeme_kind_t
 
 /// Makes the step of a plain scalar.
 #[inline(never)]
-fn step_plain<const MARGIN: bool, const DIRECT: bool, S: yaml_token_sink_t>(
+fn step_plain<const IN_FLOW: bool, const DIRECT: bool, S: yaml_token_sink_t>(
     scanner: &mut scanner_t,
     sink: &mut S,
 ) -> Result<(), stop_t>
     ghost before: { List Laid }
-    requires { Comes before scanner.old MARGIN PLAIN }
+    requires { Comes before scanner.old IN_FLOW PLAIN }
     ensures { StepsTo before scanner.old scanner.new DIRECT (λ tokens. S.took sink.old tokens sink.new) S.may_refuse
         result }
 {
-    match begin_step(scanner, MARGIN, yaml_lexeme_kind_t::PLAIN) {
+    match begin_step(scanner, IN_FLOW, yaml_lexeme_kind_t::PLAIN) {
         Ok(step) => {
             let read = read_plain(scanner, step.context);
-            end_read::<DIRECT, S>(scanner, sink, MARGIN, step, read)
+            end_read::<DIRECT, S>(scanner, sink, step, read)
         }
         Err(stop) => Err(stopped(stop)),
     }
@@ -52,19 +52,19 @@ fn step_plain<const MARGIN: bool, const DIRECT: bool, S: yaml_token_sink_t>(
 
 /// Makes the step of a scalar in single or double quotes.
 #[inline(never)]
-fn step_quoted<const MARGIN: bool, const SINGLE: bool, const DIRECT: bool, S: yaml_token_sink_t>(
+fn step_quoted<const IN_FLOW: bool, const SINGLE: bool, const DIRECT: bool, S: yaml_token_sink_t>(
     scanner: &mut scanner_t,
     sink: &mut S,
 ) -> Result<(), stop_t>
     ghost before: { List Laid }
-    requires { Comes before scanner.old MARGIN (quoted_kind SINGLE) }
+    requires { Comes before scanner.old IN_FLOW (quoted_kind SINGLE) }
     ensures { StepsTo before scanner.old scanner.new DIRECT (λ tokens. S.took sink.old tokens sink.new) S.may_refuse
         result }
 {
-    match begin_step(scanner, MARGIN, quoted_kind(SINGLE)) {
+    match begin_step(scanner, IN_FLOW, quoted_kind(SINGLE)) {
         Ok(step) => {
             let read = read_quoted(scanner, SINGLE, step.context);
-            end_read::<DIRECT, S>(scanner, sink, MARGIN, step, read)
+            end_read::<DIRECT, S>(scanner, sink, step, read)
         }
         Err(stop) => Err(stopped(stop)),
     }
@@ -72,19 +72,19 @@ fn step_quoted<const MARGIN: bool, const SINGLE: bool, const DIRECT: bool, S: ya
 
 /// Makes the step of a literal scalar.
 #[inline(never)]
-fn step_literal<const MARGIN: bool, const DIRECT: bool, S: yaml_token_sink_t>(
+fn step_literal<const IN_FLOW: bool, const DIRECT: bool, S: yaml_token_sink_t>(
     scanner: &mut scanner_t,
     sink: &mut S,
 ) -> Result<(), stop_t>
     ghost before: { List Laid }
-    requires { Comes before scanner.old MARGIN (block_kind false) }
+    requires { Comes before scanner.old IN_FLOW (block_kind false) }
     ensures { StepsTo before scanner.old scanner.new DIRECT (λ tokens. S.took sink.old tokens sink.new) S.may_refuse
         result }
 {
-    match begin_step(scanner, MARGIN, yaml_lexeme_kind_t::LITERAL) {
+    match begin_step(scanner, IN_FLOW, yaml_lexeme_kind_t::LITERAL) {
         Ok(step) => {
             let read = read_block(scanner, false, step.context);
-            end_read::<DIRECT, S>(scanner, sink, MARGIN, step, read)
+            end_read::<DIRECT, S>(scanner, sink, step, read)
         }
         Err(stop) => Err(stopped(stop)),
     }
@@ -95,19 +95,19 @@ fn step_literal<const MARGIN: bool, const DIRECT: bool, S: yaml_token_sink_t>(
 fn step_character<const DIRECT: bool, S: yaml_token_sink_t>(
     scanner: &mut scanner_t,
     sink: &mut S,
-    margin: bool,
+    in_flow: bool,
     kind: yaml_lexeme_kind_t,
 ) -> Result<(), stop_t>
     ghost before: { List Laid }
-    requires comes { Comes before scanner.old margin kind }
+    requires comes { Comes before scanner.old in_flow kind }
     requires kind { is_character kind ≡ true }
     ensures { StepsTo before scanner.old scanner.new DIRECT (λ tokens. S.took sink.old tokens sink.new) S.may_refuse
         result }
 {
-    match begin_step(scanner, margin, kind) {
+    match begin_step(scanner, in_flow, kind) {
         Ok(step) => {
             let lexeme = read_character(scanner, kind);
-            end_character::<DIRECT, S>(scanner, sink, margin, step, lexeme)
+            end_character::<DIRECT, S>(scanner, sink, step, lexeme)
         }
         Err(stop) => Err(stopped(stop)),
     }
@@ -116,18 +116,18 @@ fn step_character<const DIRECT: bool, S: yaml_token_sink_t>(
 /// Makes the step of a lexeme of any kind. Those that come here are rare, so their groups always go into the queue, and
 /// one function serves every sink.
 #[inline(never)]
-fn step_other<const MARGIN: bool>(
+fn step_other<const IN_FLOW: bool>(
     scanner: &mut scanner_t,
     kind: yaml_lexeme_kind_t,
 ) -> Result<(), stop_t>
     ghost before: { List Laid }
-    requires { Comes before scanner.old MARGIN kind }
+    requires { Comes before scanner.old IN_FLOW kind }
     ensures { IsStep before scanner.old scanner.new result }
 {
-    match begin_step(scanner, MARGIN, kind) {
+    match begin_step(scanner, IN_FLOW, kind) {
         Ok(step) => {
             let read = read_other(scanner, kind, step.context);
-            end_queued(scanner, MARGIN, step, read)
+            end_queued(scanner, step, read)
         }
         Err(stop) => Err(stopped(stop)),
     }
@@ -136,44 +136,46 @@ fn step_other<const MARGIN: bool>(
 /// Makes the step of a lexeme of a kind, after the gap. Scalars and rare kinds have functions of their own, so that no
 /// kind pays for the room that another needs. Common kinds are constants there.
 #[inline(always)]
-fn step_kind<const MARGIN: bool, const DIRECT: bool, S: yaml_token_sink_t>(
+fn step_kind<const IN_FLOW: bool, const DIRECT: bool, S: yaml_token_sink_t>(
     scanner: &mut scanner_t,
     sink: &mut S,
     kind: yaml_lexeme_kind_t,
 ) -> Result<(), stop_t>
     ghost before: { List Laid }
-    requires { Comes before scanner.old MARGIN kind }
+    requires { Comes before scanner.old IN_FLOW kind }
     ensures { StepsTo before scanner.old scanner.new DIRECT (λ tokens. S.took sink.old tokens sink.new) S.may_refuse
         result }
 {
     match kind {
-        yaml_lexeme_kind_t::PLAIN => step_plain::<MARGIN, DIRECT, S>(scanner, sink),
-        yaml_lexeme_kind_t::SINGLE_QUOTED => step_quoted::<MARGIN, true, DIRECT, S>(scanner, sink),
-        yaml_lexeme_kind_t::DOUBLE_QUOTED => step_quoted::<MARGIN, false, DIRECT, S>(scanner, sink),
-        yaml_lexeme_kind_t::LITERAL => step_literal::<MARGIN, DIRECT, S>(scanner, sink),
+        yaml_lexeme_kind_t::PLAIN => step_plain::<IN_FLOW, DIRECT, S>(scanner, sink),
+        yaml_lexeme_kind_t::SINGLE_QUOTED => step_quoted::<IN_FLOW, true, DIRECT, S>(scanner, sink),
+        yaml_lexeme_kind_t::DOUBLE_QUOTED => step_quoted::<IN_FLOW, false, DIRECT, S>(
+            scanner, sink,
+        ),
+        yaml_lexeme_kind_t::LITERAL => step_literal::<IN_FLOW, DIRECT, S>(scanner, sink),
         yaml_lexeme_kind_t::VALUE => step_character::<DIRECT, S>(
             scanner,
             sink,
-            MARGIN,
+            IN_FLOW,
             yaml_lexeme_kind_t::VALUE,
         ),
         yaml_lexeme_kind_t::KEY => step_character::<DIRECT, S>(
             scanner,
             sink,
-            MARGIN,
+            IN_FLOW,
             yaml_lexeme_kind_t::KEY,
         ),
         yaml_lexeme_kind_t::BLOCK_ENTRY => {
-            step_character::<DIRECT, S>(scanner, sink, MARGIN, yaml_lexeme_kind_t::BLOCK_ENTRY)
+            step_character::<DIRECT, S>(scanner, sink, IN_FLOW, yaml_lexeme_kind_t::BLOCK_ENTRY)
         }
         yaml_lexeme_kind_t::FLOW_ENTRY => {
-            step_character::<DIRECT, S>(scanner, sink, MARGIN, yaml_lexeme_kind_t::FLOW_ENTRY)
+            step_character::<DIRECT, S>(scanner, sink, IN_FLOW, yaml_lexeme_kind_t::FLOW_ENTRY)
         }
         yaml_lexeme_kind_t::FLOW_SEQUENCE_START => {
             step_character::<DIRECT, S>(
                 scanner,
                 sink,
-                MARGIN,
+                IN_FLOW,
                 yaml_lexeme_kind_t::FLOW_SEQUENCE_START,
             )
         }
@@ -181,7 +183,7 @@ fn step_kind<const MARGIN: bool, const DIRECT: bool, S: yaml_token_sink_t>(
             step_character::<DIRECT, S>(
                 scanner,
                 sink,
-                MARGIN,
+                IN_FLOW,
                 yaml_lexeme_kind_t::FLOW_MAPPING_START,
             )
         }
@@ -189,78 +191,83 @@ fn step_kind<const MARGIN: bool, const DIRECT: bool, S: yaml_token_sink_t>(
             step_character::<DIRECT, S>(
                 scanner,
                 sink,
-                MARGIN,
+                IN_FLOW,
                 yaml_lexeme_kind_t::FLOW_SEQUENCE_END,
             )
         }
         yaml_lexeme_kind_t::FLOW_MAPPING_END => {
-            step_character::<DIRECT, S>(scanner, sink, MARGIN, yaml_lexeme_kind_t::FLOW_MAPPING_END)
+            step_character::<DIRECT, S>(
+                scanner,
+                sink,
+                IN_FLOW,
+                yaml_lexeme_kind_t::FLOW_MAPPING_END,
+            )
         }
-        _ => step_other::<MARGIN>(scanner, kind),
+        _ => step_other::<IN_FLOW>(scanner, kind),
     }
 }
 
-/// Makes the step of a lexeme of a kind, after the gap. `margin`: the scanner is at depth 0.
+/// Makes the step of a lexeme of a kind, after the gap. `in_flow`: the scanner is inside a flow collection.
 #[inline(always)]
 fn step_any<const DIRECT: bool, S: yaml_token_sink_t>(
     scanner: &mut scanner_t,
     sink: &mut S,
-    margin: bool,
+    in_flow: bool,
     kind: yaml_lexeme_kind_t,
 ) -> Result<(), stop_t>
     ghost before: { List Laid }
-    requires { Comes before scanner.old margin kind }
+    requires { Comes before scanner.old in_flow kind }
     ensures { StepsTo before scanner.old scanner.new DIRECT (λ tokens. S.took sink.old tokens sink.new) S.may_refuse
         result }
 {
-    if margin {
+    if in_flow {
         step_kind::<true, DIRECT, S>(scanner, sink, kind)
     } else {
         step_kind::<false, DIRECT, S>(scanner, sink, kind)
     }
 }
 
-/// Makes a step. `margin`: the scanner is at depth 0.
+/// Makes a step. `in_flow`: the scanner is inside a flow collection.
 #[inline(always)]
 fn step_at<const DIRECT: bool, S: yaml_token_sink_t>(
     scanner: &mut scanner_t,
     sink: &mut S,
-    margin: bool,
+    in_flow: bool,
 ) -> Result<(), stop_t>
     ghost before: { List Laid }
     requires can { CanStep before scanner.old }
-    requires margin { margin ≡ vec_len scanner.old.slots.outer == 0 }
+    requires flow { in_flow ≡ nat_lt 0 (vec_len scanner.old.slots.outer) }
     ensures { StepsTo before scanner.old scanner.new DIRECT (λ tokens. S.took sink.old tokens sink.new) S.may_refuse
         result }
 {
-    let front = gap_end(&scanner.text, scanner.reach, !margin, scanner.allowed);
+    let front = gap_end(&scanner.text, scanner.reach, in_flow, scanner.allowed);
     scanner.front = front;
-    let root = root_at(&scanner.slots.outer, scanner.slots.top, margin);
+    let root = root_at(&scanner.slots.outer, scanner.slots.top, in_flow);
     if is_lost(root, scanner.limit, front) {
         return Err(stop_in_gap(scanner));
     }
-    match kind_at(&scanner.text, front, !margin) {
-        Some(kind) => step_any::<DIRECT, S>(scanner, sink, margin, kind),
+    match kind_at(&scanner.text, front, in_flow) {
+        Some(kind) => step_any::<DIRECT, S>(scanner, sink, in_flow, kind),
         None => Err(stop_without_kind(scanner)),
     }
 }
 
-/// Makes a step at depth 0.
+/// Makes a step outside flow collections, where columns count.
 #[inline(never)]
-fn step_at_margin<const DIRECT: bool, S: yaml_token_sink_t>(
+fn step_in_block<const DIRECT: bool, S: yaml_token_sink_t>(
     scanner: &mut scanner_t,
     sink: &mut S,
 ) -> Result<(), stop_t>
     ghost before: { List Laid }
     requires can { CanStep before scanner.old }
-    requires margin { vec_len scanner.old.slots.outer ≡ 0 }
+    requires block { vec_len scanner.old.slots.outer ≡ 0 }
     ensures { StepsTo before scanner.old scanner.new DIRECT (λ tokens. S.took sink.old tokens sink.new) S.may_refuse
         result }
 {
-    step_at::<DIRECT, S>(scanner, sink, true)
+    step_at::<DIRECT, S>(scanner, sink, false)
 }
 
-/// Makes a step in flow.
+/// Makes a step inside a flow collection.
 #[inline(never)]
 fn step_in_flow<const DIRECT: bool, S: yaml_token_sink_t>(
     scanner: &mut scanner_t,
@@ -272,7 +279,7 @@ fn step_in_flow<const DIRECT: bool, S: yaml_token_sink_t>(
     ensures { StepsTo before scanner.old scanner.new DIRECT (λ tokens. S.took sink.old tokens sink.new) S.may_refuse
         result }
 {
-    step_at::<DIRECT, S>(scanner, sink, false)
+    step_at::<DIRECT, S>(scanner, sink, true)
 }
 
 /// Makes a step, or two if the next token needs both, and hands on their groups: straight to the sink if `DIRECT` and
@@ -288,7 +295,7 @@ pub(crate) fn step_to<const DIRECT: bool, S: yaml_token_sink_t>(
         result }
 {
     if scanner.slots.outer.is_empty() {
-        step_at_margin::<DIRECT, S>(scanner, sink)
+        step_in_block::<DIRECT, S>(scanner, sink)
     } else {
         step_in_flow::<DIRECT, S>(scanner, sink)
     }

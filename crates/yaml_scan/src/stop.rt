@@ -5,7 +5,7 @@ ghost use Rattle.yaml_text.specs.Decode.{refusal_seen};
 ghost use Rattle.yaml_text.specs.Fault.{Fault, fault_of, scanner_fault};
 ghost use Rattle.yaml_lexeme.specs.Lexeme.{Lexeme as yaml_lexeme_t};
 ghost use Rattle.yaml_lexeme.specs.Place.{IsMarkOf};
-ghost use Rattle.yaml_scan.specs.declared.look.step_t.{step_t};
+ghost use Rattle.yaml_scan.specs.declared.met.step_t.{step_t};
 ghost use Rattle.yaml_scan.specs.Fault.{no_colon, in_simple_key};
 ghost use Rattle.yaml_scan.specs.Laid.{Laid};
 ghost use Rattle.yaml_scan.specs.SourceOf.{source_of};
@@ -107,8 +107,8 @@ pub(crate) fn stop_in_gap(scanner: &mut scanner_t) -> stop_t
 #[cold]
 pub(crate) fn stop_without_kind(scanner: &mut scanner_t) -> stop_t
     ghost before: { List Laid }
-    requires { (margin : Bool) × Passes before scanner.old margin
-        × ((source_of scanner.old.text.chars).kind (not margin)
+    requires { (in_flow : Bool) × Passes before scanner.old in_flow
+        × ((source_of scanner.old.text.chars).kind in_flow
         (front_of (source_of scanner.old.text.chars) before) ≡ None) }
     ensures { Refuses before scanner.old scanner.new result }
 {
@@ -126,17 +126,17 @@ pub(crate) fn stop_without_kind(scanner: &mut scanner_t) -> stop_t
 #[cold]
 pub(crate) fn stop_at_kind(
     scanner: &mut scanner_t,
-    margin: bool,
+    in_flow: bool,
     kind: yaml_lexeme_kind_t,
 ) -> stop_t
     ghost before: { List Laid }
-    requires comes { Comes before scanner.old margin kind }
-    requires refused { is_some (refused_in scanner.old margin kind (allowed_in scanner.old margin)) ≡ true }
+    requires comes { Comes before scanner.old in_flow kind }
+    requires refused { is_some (refused_in scanner.old in_flow kind (allowed_in scanner.old in_flow)) ≡ true }
     ensures { Refuses before scanner.old scanner.new result }
 {
     let front = scanner.front;
-    let allowed = is_key_allowed(scanner.allowed, margin, scanner.reach, front);
-    match refused_by(scanner, margin, kind, allowed) {
+    let allowed = is_key_allowed(scanner.allowed, in_flow, scanner.reach, front);
+    match refused_by(scanner, in_flow, kind, allowed) {
         Some(problem) => {
             let fault = make_scanner_fault(problem, front, None, front);
             keep_nearest(scanner, fault)
@@ -149,18 +149,18 @@ pub(crate) fn stop_at_kind(
 #[cold]
 pub(crate) fn stop_at_start(
     scanner: &mut scanner_t,
-    margin: bool,
+    in_flow: bool,
     kind: yaml_lexeme_kind_t,
 ) -> stop_t
     ghost before: { List Laid }
-    requires comes { Comes before scanner.old margin kind }
-    requires accepted { refused_in scanner.old margin kind (allowed_in scanner.old margin) ≡ None }
-    requires cleared { is_some (cleared_in scanner.old margin kind (allowed_in scanner.old margin)) ≡ true }
+    requires comes { Comes before scanner.old in_flow kind }
+    requires accepted { refused_in scanner.old in_flow kind (allowed_in scanner.old in_flow) ≡ None }
+    requires cleared { is_some (cleared_in scanner.old in_flow kind (allowed_in scanner.old in_flow)) ≡ true }
     ensures { Refuses before scanner.old scanner.new result }
 {
     let front = scanner.front;
-    let allowed = is_key_allowed(scanner.allowed, margin, scanner.reach, front);
-    match cleared_by(scanner, margin, kind, allowed) {
+    let allowed = is_key_allowed(scanner.allowed, in_flow, scanner.reach, front);
+    match cleared_by(scanner, in_flow, kind, allowed) {
         Some(held) => stop_without(scanner, held, start_after(kind, front)),
         None => unreachable!(),
     }
@@ -174,7 +174,7 @@ pub(crate) fn stop_in_lexeme(
     refusal: yaml_refusal_t,
 ) -> stop_t
     ghost before: { List Laid }
-    requires { (margin : Bool) × (step : step_t) × CanRead before scanner.old margin step × (step.kind ≡ kind)
+    requires { (step : step_t) × CanRead before scanner.old step × (step.kind ≡ kind)
         × IsReadIn scanner.old kind step.context scanner.old.there (Err refusal) }
     ensures { Refuses before scanner.old scanner.new result }
 {
@@ -191,21 +191,21 @@ pub(crate) fn stop_in_lexeme(
 #[cold]
 pub(crate) fn stop_after(
     scanner: &mut scanner_t,
-    margin: bool,
+    in_flow: bool,
     kind: yaml_lexeme_kind_t,
     allowed: bool,
 ) -> stop_t
     ghost before: { List Laid }
-    requires { (step : step_t) × (lexeme : yaml_lexeme_t) × StopsAfter before scanner.old margin step lexeme
-        × (step.kind ≡ kind) × (step.allowed ≡ allowed) }
+    requires { (step : step_t) × (lexeme : yaml_lexeme_t) × StopsAfter before scanner.old step lexeme
+        × (step.in_flow ≡ in_flow) × (step.kind ≡ kind) × (step.allowed ≡ allowed) }
     ensures { Refuses before scanner.old scanner.new result }
 {
     let there = scanner.there;
     if scanner.near <= there.index {
         return stop_near(scanner);
     }
-    let step = step_of(scanner, margin, kind, allowed);
-    match lost_at(root_after(scanner, margin, step), scanner.limit, there) {
+    let step = step_of(scanner, in_flow, kind, allowed);
+    match lost_at(root_after(scanner, step), scanner.limit, there) {
         Some(held) => stop_without(scanner, held, there),
         None => unreachable!(),
     }

@@ -17,7 +17,7 @@ use Rattle.yaml_scan.specs.declared.groups.block_t.TheVariants.{MAPPING, NONE}
 use Rattle.yaml_scan.specs.declared.groups.group_t.{group_t}
 use Rattle.yaml_scan.specs.declared.slots.slots_t.{slots_t}
 use Rattle.yaml_scan.specs.declared.levels.layout_t.{layout_t}
-use Rattle.yaml_scan.specs.declared.look.step_t.{step_t}
+use Rattle.yaml_scan.specs.declared.met.step_t.{step_t}
 use Rattle.yaml_scan.specs.declared.scanner.scanner_t.{scanner_t}
 use Rattle.yaml_scan.specs.Allowed.{allowed_after, allows}
 use Rattle.yaml_scan.specs.Depth.{depth}
@@ -33,7 +33,7 @@ use Rattle.yaml_scan.specs.Groups.Token.{BlockEnd}
 use Rattle.yaml_scan.specs.inside.Handed.{IsLaidAs}
 use Rattle.yaml_scan.specs.inside.Queue.{begins_with_end, closing, completed_in, ends_at, opened_by, pending}
 use Rattle.yaml_scan.specs.inside.Scanning.{AdvancesTwice, CanLayAll, CanPut, Holds, HoldsWith, IsDecided, IsMet, IsUndecided, LaysTwo, Met, Needs, counted, groups_in, met_in}
-use Rattle.yaml_scan.specs.inside.Slots.{Held, completed_held, held, is_live, is_margin_level, lost_held, lowest, nested_outer, nested_top, root_of, step_of}
+use Rattle.yaml_scan.specs.inside.Slots.{Held, completed_held, held, is_live, is_level, lost_held, lowest, nested_outer, nested_top, root_of, step_of}
 use Rattle.yaml_scan.specs.inside.StepFaults.{IsRefused}
 use Rattle.yaml_scan.specs.inside.TextReads.{IsDecider, IsRead}
 use Rattle.yaml_scan.proofs.History.HistoryOrder.{to_reach}
@@ -118,25 +118,25 @@ within_room v = let a = v.ok.0 in let b = v.ok.1 in omega arith
 
 -- WHAT DECIDES
 -- it is accepted after a candidate, whether a key is allowed or not, and clears none that is required
-accepted : (margin : Bool) (k : Kind) (a : Bool) (g : yaml_mark_t) → decides (not margin) k ≡ true → IsRefused (if margin && not a then problem_of k (not (is_value k)) else None) g None
-accepted false k a g e = refl
-accepted true k true g e = refl
-accepted true k false g e = rw (decider_is_value k e, decider_not_entry false k e, decider_not_key false k e) refl
+accepted : (in_flow : Bool) (k : Kind) (a : Bool) (g : yaml_mark_t) → decides in_flow k ≡ true → IsRefused (if not in_flow && not a then problem_of k (not (is_value k)) else None) g None
+accepted true k a g e = refl
+accepted false k true g e = refl
+accepted false k false g e = rw (decider_is_value k e, decider_not_entry false k e, decider_not_key false k e) refl
 
-clears_none : (margin : Bool) (k : Kind) (a : Bool) → decides (not margin) k ≡ true → (replaces k a && margin) ≡ false
-clears_none false k a e = and_not (replaces k a)
-clears_none true k a e = rw (decider_is_value k e) refl
+clears_none : (in_flow : Bool) (k : Kind) (a : Bool) → decides in_flow k ≡ true → (replaces k a && not in_flow) ≡ false
+clears_none true k a e = and_not (replaces k a)
+clears_none false k a e = rw (decider_is_value k e) refl
 
 allows_same : (f : Bool) (k : Kind) (n : ℕ) (none b : Bool) → decides f k ≡ true → allows k n none false ≡ allows k n none b
 allows_same f k n none b e = rw (decider_not_plain f k e) refl
 
 -- a lexeme that was met and read
-module _ (H : List Laid) (s : scanner_t) (margin : Bool) (r : step_t) (x : yaml_lexeme_t) (c : CanLayAll H s margin r x) (q : is_candidate_kind r.kind ≡ true) where
+module _ (H : List Laid) (s : scanner_t) (r : step_t) (x : yaml_lexeme_t) (c : CanLayAll H s r x) (q : is_candidate_kind r.kind ≡ true) where
   abbrev cs : List ℕ
   cs = reverse s.layout.levels.items
 
   abbrev kept : List ℕ
-  kept = filter (stays (not margin) r.kind r.new.start) cs
+  kept = filter (stays r.in_flow r.kind r.new.start) cs
 
   level_is : r.context.level ≡ greatest_level (reverse (reverse kept))
   level_is = c.can.is_new.is_greatest ∙ ap greatest_level (sym (reverse-reverse kept))
@@ -149,22 +149,22 @@ module _ (H : List Laid) (s : scanner_t) (margin : Bool) (r : step_t) (x : yaml_
   unfolding laid
   read_place = (
     _,
-    place_then H (s.made + 1) s c.can.can.holds c.can.can.running (met_in s r) c.can.met margin c.can.is_new.at_margin r.new.start c.can.is_new.start (reverse kept) (reverse-reverse kept) r.context.level level_is r.context.depth c.can.depth x read
+    place_then H (s.made + 1) s c.can.can.holds c.can.can.running (met_in s r) c.can.met r.in_flow c.can.is_new.flow r.new.start c.can.is_new.start (reverse kept) (reverse-reverse kept) r.context.level level_is r.context.depth c.can.depth x read
         (candidate_not_end r.kind q),
   )
 
   reach_later : IsNotBefore r.new.start x.reach
   unfolding laid
   reach_later =
-      let f = history H (s.made + 1) s c.can.can.holds c.can.can.running (met_in s r) c.can.met margin c.can.is_new.at_margin r.new.start c.can.is_new.start (reverse kept) (reverse-reverse kept) r.context.level level_is r.context.depth c.can.depth x read in
+      let f = history H (s.made + 1) s c.can.can.holds c.can.can.running (met_in s r) c.can.met r.in_flow c.can.is_new.flow r.new.start c.can.is_new.start (reverse kept) (reverse-reverse kept) r.context.level level_is r.context.depth c.can.depth x read in
       to_reach f.1
 
 -- A CANDIDATE, AND WHAT DECIDES IT
-module _ (H : List Laid) (s : scanner_t) (margin : Bool) (r : step_t) (x : yaml_lexeme_t) (c : CanLayAll H s margin r x) (sparing : Bool) (k : Kind) (y : yaml_lexeme_t) (d : IsDecided s margin sparing r x.reach k y) where
+module _ (H : List Laid) (s : scanner_t) (r : step_t) (x : yaml_lexeme_t) (c : CanLayAll H s r x) (sparing : Bool) (k : Kind) (y : yaml_lexeme_t) (d : IsDecided s sparing r x.reach k y) where
   abbrev h : Holds H (s.made + 1) s
   h = c.can.can.holds
 
-  abbrev u : IsUndecided s margin sparing r x.reach
+  abbrev u : IsUndecided s sparing r x.reach
   u = d.undecided
 
   abbrev new : Held
@@ -180,16 +180,16 @@ module _ (H : List Laid) (s : scanner_t) (margin : Bool) (r : step_t) (x : yaml_
   none = none_held H (s.made + 1) s h u.alone
 
   pub falls : IsFalling ls
-  falls = levels_fall H (s.made + 1) s h c.can.can.running (met_in s r) c.can.met margin c.can.is_new.at_margin new.start c.can.is_new.start
+  falls = levels_fall H (s.made + 1) s h c.can.can.running (met_in s r) c.can.met r.in_flow c.can.is_new.flow new.start c.can.is_new.start
 
   pub not_last : is_stream_end r.kind ≡ false
   not_last = candidate_not_end r.kind u.candidate
 
-  canput : CanPut H s (groups_in s) (met_in s r) margin new x
-  canput = can_put H s margin r x c
+  canput : CanPut H s (groups_in s) (met_in s r) r.in_flow new x
+  canput = can_put H s r x c
 
   -- the levels that the candidate keeps, and its group
-  module _ (lv : List ℕ) (KEPT : reverse lv ≡ filter (stays (not margin) r.kind new.start) ls) (n : ℕ) (ENDS : ends_at n new.start ≡ map (λ z. BlockEnd new.start) (filter (λ z. not (stays (not margin) r.kind new.start z)) ls))
+  module _ (lv : List ℕ) (KEPT : reverse lv ≡ filter (stays r.in_flow r.kind new.start) ls) (n : ℕ) (ENDS : ends_at n new.start ≡ map (λ z. BlockEnd new.start) (filter (λ z. not (stays r.in_flow r.kind new.start z)) ls))
       (token : yaml_token_t) (TOKEN : token_of token ≡ record { token_data = x.token_data; start_mark = new.start; end_mark = x.end_mark }) where
     abbrev ks : List ℕ
     ks = reverse lv
@@ -198,12 +198,12 @@ module _ (H : List Laid) (s : scanner_t) (margin : Bool) (r : step_t) (x : yaml_
     short =
         let a = length-reverse lv in
         let b = ap (λ (cs : List ℕ). length cs) KEPT in
-        let d = filter_shorter (stays (not margin) r.kind new.start) ls in
+        let d = filter_shorter (stays r.in_flow r.kind new.start) ls in
         let e = length-reverse s.layout.levels.items in
         let f = within_room s.layout.levels in omega arith
 
     kept_falls : IsFalling ks
-    kept_falls = rw KEPT (filter_falls (stays (not margin) r.kind new.start) ls falls)
+    kept_falls = rw KEPT (filter_falls (stays r.in_flow r.kind new.start) ls falls)
 
     -- its group, before it is decided
     abbrev group : group_t
@@ -225,7 +225,7 @@ module _ (H : List Laid) (s : scanner_t) (margin : Bool) (r : step_t) (x : yaml_
     early = h.early c.can.can.running
 
     first : IsLaidAs H s r.kind between (group ∷ [])
-    first = put_advances H s (groups_in s) (met_in s r) margin new x canput slots then_allowed layout (group ∷ []) record {
+    first = put_advances H s (groups_in s) (met_in s r) r.in_flow new x canput slots then_allowed layout (group ∷ []) record {
       kept = lv;
       kept_is = KEPT;
       early = 0;
@@ -240,8 +240,8 @@ module _ (H : List Laid) (s : scanner_t) (margin : Bool) (r : step_t) (x : yaml_
       ends_are = rw not_last ENDS;
       token = TOKEN;
       key = refl;
-      opens = rw (candidate_opens_nothing r.kind true u.candidate, and_not (is_new margin new.start.column ks)) refl;
-      levels = rw (candidate_opens_nothing r.kind true u.candidate, and_not (is_new margin new.start.column ks)) refl;
+      opens = rw (candidate_opens_nothing r.kind true u.candidate, and_not (is_new r.in_flow new.start.column ks)) refl;
+      levels = rw (candidate_opens_nothing r.kind true u.candidate, and_not (is_new r.in_flow new.start.column ks)) refl;
       groups = rw u.alone refl;
       long = rw u.alone refl;
       done = refl;
@@ -267,7 +267,7 @@ module _ (H : List Laid) (s : scanner_t) (margin : Bool) (r : step_t) (x : yaml_
     step_is = let a = c.can.is_new.step in let n = h.number in let z = h.count in let e = ap (λ (ys : List group_t). length ys) u.alone in omega arith
 
     none_ended : sparing ≡ true → n ≡ 0
-    none_ended q = no_ends n new.start (ENDS ∙ (rw (none_closed (not margin) r.kind new.start ls falls (u.kept q)) refl))
+    none_ended q = no_ends n new.start (ENDS ∙ (rw (none_closed r.in_flow r.kind new.start ls falls (u.kept q)) refl))
 
     then_needed : sparing ≡ true → length (before s.limit H1) ≤ s.taken
     then_needed q = let e = none_ended q in unsettled H1 (s.made + 1 + 1) between group first.advances.holds (rw (early, e) refl) step_is
@@ -277,30 +277,30 @@ module _ (H : List Laid) (s : scanner_t) (margin : Bool) (r : step_t) (x : yaml_
     front = x.reach
 
     abbrev met : Met
-    met = record { kind = k; front = front; allowed = then_allowed || (margin && nat_lt x.reach.line front.line) }
+    met = record { kind = k; front = front; allowed = then_allowed || (not r.in_flow && nat_lt x.reach.line front.line) }
 
     at_front : IsMarkOf s.text.chars front (place_after H1)
     at_front = then_holds.place then_running
 
-    decider : IsDecider s.text.chars (not margin) (place_after H1) k y
+    decider : IsDecider s.text.chars r.in_flow (place_after H1) k y
     decider = d.decider (place_after H1) at_front
 
     then_front : IsMarkOf s.text.chars front (front_of (source_of s.text.chars) H1)
-    then_front = front_mark H1 (s.made + 1 + 1) (counted between) then_holds then_running margin c.can.is_new.at_margin front (rw (decider.gap then_allowed) at_front)
+    then_front = front_mark H1 (s.made + 1 + 1) (counted between) then_holds then_running r.in_flow c.can.is_new.flow front (rw (decider.gap then_allowed) at_front)
 
     front_is : front_of (source_of s.text.chars) H1 ≡ place_after H1
     front_is =
-        let flow : not margin ≡ nat_lt 0 (depth H1) = flow_is H1 (s.made + 1 + 1) (counted between) then_holds then_running margin c.can.is_new.at_margin in
+        let flow : r.in_flow ≡ nat_lt 0 (depth H1) = flow_is H1 (s.made + 1 + 1) (counted between) then_holds then_running r.in_flow c.can.is_new.flow in
         subst (λ (f : Bool). (source_of s.text.chars).gap f (allowed_after H1) (place_after H1) ≡ place_after H1) flow (decider.gap (allowed_after H1))
 
-    kind_then : Some k ≡ (source_of s.text.chars).kind (not margin) (front_of (source_of s.text.chars) H1)
+    kind_then : Some k ≡ (source_of s.text.chars).kind r.in_flow (front_of (source_of s.text.chars) H1)
     kind_then = rw front_is (sym decider.kind)
 
     abbrev root : Option Held
     root = root_of outer (Some new)
 
     root_then : root ≡ held s.limit H1 0
-    root_then = root_held H1 (s.made + 1 + 1) (counted between) then_holds then_running margin c.can.is_new.at_margin root outer refl refl
+    root_then = root_held H1 (s.made + 1 + 1) (counted between) then_holds then_running r.in_flow c.can.is_new.flow root outer refl refl
 
     not_lost : lost_held s.limit front root ≡ None
     not_lost = none_lost s.limit front outer (Some new) none (live_kept s.limit front new u.live)
@@ -312,81 +312,81 @@ module _ (H : List Laid) (s : scanner_t) (margin : Bool) (r : step_t) (x : yaml_
     completes = elim (cases_Bool (is_value k)) [ inl v ↦ rw (v, u.live) refl | inr v ↦ rw v refl ]
 
     start_then : front ≡ Rattle.yaml_scan.specs.Step.start_at k front
-    start_then = rw (decider_not_end (not margin) k decider.decides) refl
+    start_then = rw (decider_not_end r.in_flow k decider.decides) refl
 
     then_met : IsMet H1 (counted between) met
     then_met = record {
       front = then_front;
-      allowed = allowed_is H1 (s.made + 1 + 1) (counted between) then_holds then_running margin c.can.is_new.at_margin front then_front root (lost_held s.limit front root) root_then refl not_lost (Some k) kind_then k refl met.allowed refl;
-      kind = sym (kind_is H1 (s.made + 1 + 1) (counted between) then_holds then_running margin c.can.is_new.at_margin front then_front root (lost_held s.limit front root) root_then refl not_lost (Some k) kind_then);
-      step = row_met H1 (s.made + 1 + 1) (counted between) then_holds then_running margin c.can.is_new.at_margin front then_front root (lost_held s.limit front root) root_then refl not_lost (Some k) kind_then k refl met.allowed refl
-          completed refl (not (is_value k)) completes (accepted margin k met.allowed front decider.decides) front start_then None (rw (clears_none margin k met.allowed decider.decides) refl) refl;
+      allowed = allowed_is H1 (s.made + 1 + 1) (counted between) then_holds then_running r.in_flow c.can.is_new.flow front then_front root (lost_held s.limit front root) root_then refl not_lost (Some k) kind_then k refl met.allowed refl;
+      kind = sym (kind_is H1 (s.made + 1 + 1) (counted between) then_holds then_running r.in_flow c.can.is_new.flow front then_front root (lost_held s.limit front root) root_then refl not_lost (Some k) kind_then);
+      step = row_met H1 (s.made + 1 + 1) (counted between) then_holds then_running r.in_flow c.can.is_new.flow front then_front root (lost_held s.limit front root) root_then refl not_lost (Some k) kind_then k refl met.allowed refl
+          completed refl (not (is_value k)) completes (accepted r.in_flow k met.allowed front decider.decides) front start_then None (rw (clears_none r.in_flow k met.allowed decider.decides) refl) refl;
     }
 
     abbrev level : Option ℕ
-    level = greatest_level (filter (stays (not margin) k front) ks)
+    level = greatest_level (filter (stays r.in_flow k front) ks)
 
     abbrev then_new : Held
-    then_new = record { step = s.made + 1 + 1; start = front; required = is_margin_level margin level front.column }
+    then_new = record { step = s.made + 1 + 1; start = front; required = is_level r.in_flow level front.column }
 
-    then_canput : CanPut H1 (counted between) (group ∷ []) met margin then_new y
+    then_canput : CanPut H1 (counted between) (group ∷ []) met r.in_flow then_new y
     then_canput = record {
       can = record { holds = then_holds; running = then_running; small = c.can.can.small; few_steps = (let f = c.can.can.few_steps in omega arith); met = then_met };
       level = level;
-      is_new = record { at_margin = c.can.is_new.at_margin; is_greatest = refl; step = refl; start = start_then; required = refl };
+      is_new = record { flow = c.can.is_new.flow; is_greatest = refl; step = refl; start = start_then; required = refl };
       read = rw front_is (decider.read (vec_len s.slots.outer) level);
-      kept = rw (decider_not_candidate (not margin) k decider.decides) (none_lost s.limit y.reach outer None none refl);
+      kept = rw (decider_not_candidate r.in_flow k decider.decides) (none_lost s.limit y.reach outer None none refl);
     }
 
-    then_kept : closing (not margin) k front ks ≡ None
+    then_kept : closing r.in_flow k front ks ≡ None
     then_kept =
         let l = and_parts _ _ u.live in
         let e : front.line ≡ new.start.line = eqb-true _ _ l.0 in
-        let w : closing (not margin) r.kind new.start ks ≡ None = rw KEPT (closing_kept (not margin) r.kind new.start ls) in
-        closing_on (not margin) r.kind k new.start front ks w ((reach_later H s margin r x c u.candidate).column (sym e)) (decider_not_closer (not margin) k decider.decides)
+        let w : closing r.in_flow r.kind new.start ks ≡ None = rw KEPT (closing_kept r.in_flow r.kind new.start ls) in
+        closing_on r.in_flow r.kind k new.start front ks w ((reach_later H s r x c u.candidate).column (sym e)) (decider_not_closer r.in_flow k decider.decides)
 
     at_head : new.step - 1 - s.layout.queue.done ≡ 0
     at_head = let e = step_is in omega arith
 
-    module _ (key : Bool) (KEY : key ≡ is_value k) (V : Vec ℕ Global) (LEVELS : reverse V.items ≡ (if key && is_new margin new.start.column ks then new.start.column ∷ [] else []) ++ ks)
+    module _ (key : Bool) (KEY : key ≡ is_value k) (V : Vec ℕ Global) (LEVELS : reverse V.items ≡ (if key && is_new r.in_flow new.start.column ks then new.start.column ∷ [] else []) ++ ks)
         (value : yaml_token_t) (SAYS : token_of value ≡ record { token_data = y.token_data; start_mark = front; end_mark = y.end_mark })
         (S : slots_t) (OUTER : S.outer.items ≡ nested_outer k outer None) (TOP : S.top ≡ nested_top k outer None) (EMPTY : S.not_simple_keys ≡ vec_len S.outer) (AWAITED : S.awaited ≡ 0)
-        (a : Bool) (ALLOWED : (n : ℕ) → margin ≡ nat_eq n 0 → a ≡ allows k n (not key) false) where
+        (a : Bool) (ALLOWED : (n : ℕ) → r.in_flow ≡ nat_lt 0 n → a ≡ allows k n (not key) false) where
       abbrev pub after : scanner_t
       after = record { alloc = s.alloc; text = s.text; refusal = s.refusal; near = s.near; limit = s.limit; slots = S; allowed = a; layout = record { levels = V; queue = s.layout.queue }; reach = y.reach; front = s.front; there = s.there; kept = s.kept; spare = s.spare; taken = s.taken; made = s.made + 1 }
 
       -- its group, once it is decided
       abbrev pub keyed_group : group_t
-      keyed_group = record { ends = n; opens = if key && is_new margin new.start.column ks then MAPPING else NONE; key = key; token = token }
+      keyed_group = record { ends = n; opens = if key && is_new r.in_flow new.start.column ks then MAPPING else NONE; key = key; token = token }
 
       abbrev pub last : group_t
       last = record { ends = 0; opens = NONE; key = false; token = value }
 
-      levels_then : reverse V.items ≡ opened margin completed k front ks
+      levels_then : reverse V.items ≡ opened r.in_flow completed k front ks
       levels_then = LEVELS ∙ (rw KEY (elim (cases_Bool (is_value k)) [
         | inl v ↦ rw (v, u.live) refl
-        | inr v ↦ rw (v, decider_not_entry (not margin) k decider.decides, decider_not_key (not margin) k decider.decides, v, and_not (is_new margin front.column ks)) refl
+        | inr v ↦ rw (v, decider_not_entry r.in_flow k decider.decides, decider_not_key r.in_flow k decider.decides, v, and_not (is_new r.in_flow front.column ks)) refl
       ]))
 
-      opens_then : NONE ≡ opened_by margin completed k front.column ks
+      opens_then : NONE ≡ opened_by r.in_flow completed k front.column ks
       opens_then = elim (cases_Bool (is_value k)) [
         | inl v ↦ rw (v, u.live) refl
-        | inr v ↦ rw (v, decider_not_entry (not margin) k decider.decides, decider_not_key (not margin) k decider.decides, v, and_not (is_new margin front.column ks)) refl
+        | inr v ↦ rw (v, decider_not_entry r.in_flow k decider.decides, decider_not_key r.in_flow k decider.decides, v, and_not (is_new r.in_flow front.column ks)) refl
       ]
 
-      groups_then : keyed_group ∷ (last ∷ []) ≡ completed_in margin completed ks s.layout.queue.done (group ∷ []) ++ last ∷ []
+      groups_then : keyed_group ∷ (last ∷ []) ≡ completed_in r.in_flow completed ks s.layout.queue.done (group ∷ []) ++ last ∷ []
       groups_then = rw KEY (elim (cases_Bool (is_value k)) [
         | inl v ↦ rw (v, u.live, at_head) refl
         | inr v ↦ rw v refl
       ])
 
       nested : (lowest (nested_outer k outer None) ≡ None) × (nested_top k outer None ≡ None)
-      nested = nested_none k outer (decider_no_start (not margin) k decider.decides) none
+      nested = nested_none k outer (decider_no_start r.in_flow k decider.decides) none
 
       second : IsLaidAs H1 (counted between) k after (keyed_group ∷ (last ∷ []))
-      second = put_advances H1 (counted between) (group ∷ []) met margin then_new y then_canput S a after.layout (keyed_group ∷ (last ∷ [])) record {
+      second = put_advances H1 (counted between) (group ∷ []) met r.in_flow then_new y then_canput S a after.layout (keyed_group ∷ (last ∷ [])) record {
         kept = lv;
-        kept_is = sym (all_kept (not margin) k front ks kept_falls then_kept);
+        kept_is = sym (all_kept r.in_flow k front ks kept_falls then_kept);
         early = 0;
         early_none = λ z. refl;
         early_is = early;
@@ -396,7 +396,7 @@ module _ (H : List Laid) (s : scanner_t) (margin : Bool) (r : step_t) (x : yaml_
         none = not (is_value k);
         none_is = completes;
         group = last;
-        ends_are = rw (none_closed (not margin) k front ks kept_falls then_kept) refl;
+        ends_are = rw (none_closed r.in_flow k front ks kept_falls then_kept) refl;
         token = SAYS;
         key = refl;
         opens = opens_then;
@@ -404,11 +404,11 @@ module _ (H : List Laid) (s : scanner_t) (margin : Bool) (r : step_t) (x : yaml_
         groups = groups_then;
         long = refl;
         done = refl;
-        outer = OUTER ∙ (rw (decider_not_candidate (not margin) k decider.decides, none_given_up s.limit y.reach outer none) refl);
-        top = TOP ∙ (rw (decider_not_candidate (not margin) k decider.decides, none_given_up s.limit y.reach outer none) refl);
+        outer = OUTER ∙ (rw (decider_not_candidate r.in_flow k decider.decides, none_given_up s.limit y.reach outer none) refl);
+        top = TOP ∙ (rw (decider_not_candidate r.in_flow k decider.decides, none_given_up s.limit y.reach outer none) refl);
         empty = (let e = all_empty (nested_outer k outer None) nested.0 in let f = ap (λ (hs : List (Option Held)). length hs) OUTER in let g = EMPTY in rw OUTER (omega arith));
         awaited = AWAITED ∙ (rw (OUTER, TOP, nested.1, lowest-next (nested_outer k outer None) None nested.0) refl);
-        allows = λ n e. ALLOWED n e ∙ (rw KEY (allows_same (not margin) k n (not (is_value k)) y.passed_break decider.decides));
+        allows = λ n e. ALLOWED n e ∙ (rw KEY (allows_same r.in_flow k n (not (is_value k)) y.passed_break decider.decides));
       }
 
       pub twice : (zs : List group_t) → zs ≡ keyed_group ∷ (last ∷ []) → (t : scanner_t) → counted t ≡ after → LaysTwo sparing H s t zs

@@ -1,7 +1,7 @@
 -- What the scanner keeps of the candidates is what a step tests of them.
-use Rattle.std.proofs.Common.{◌≡◌, ℕ, zero, suc, Bool, true, false, List, [], ◌∷◌, ◌++◌, length, length-append, Option, Some, None, refl, ap, sym, subst, arith, inl, inr, append_assoc, append-nil}
+use Rattle.std.proofs.Common.{◌≡◌, ℕ, zero, suc, not, Bool, true, false, List, [], ◌∷◌, ◌++◌, length, length-append, Option, Some, None, refl, ap, sym, subst, arith, inl, inr, append_assoc, append-nil, eqb, ltb, ne_eqb, lt-ltb}
 use Rattle.std.specs.Prelude.{if◌then◌else◌, option_map}
-use Rattle.std.proofs.lemmas.Bool.{cases_Bool}
+use Rattle.std.proofs.lemmas.Bool.{cases_Bool, cases_eq}
 use Rattle.yaml_scan.specs.Kind.{Kind, is_value}
 use Rattle.yaml_text.specs.declared.types.yaml_mark_t.{yaml_mark_t}
 use Rattle.yaml_scan.specs.inside.Slots.{Held, held, held_of, still_held, lost_held, needed, outer_to, root_of}
@@ -16,6 +16,13 @@ use Rattle.yaml_scan.specs.Step.Outcome.{Faults}
 use Rattle.yaml_scan.proofs.History.KeyCandidates.{candidate_split}
 use Rattle.yaml_scan.proofs.TokenList.NeverRevised.{start_in}
 use Rattle.yaml_scan.proofs.History.HistoryOrder.{live_earlier}
+
+-- a depth that is not above 0
+pub zero_test : (n : ℕ) → not (ltb 0 n) ≡ eqb n 0
+zero_test n = elim (cases_eq n 0) [
+  | inl e ↦ rw e refl
+  | inr e ↦ rw (ne_eqb n 0 e, lt-ltb 0 n (omega arith)) refl
+]
 
 module _ (limit : ℕ) (H : List Laid) (h : IsHistory limit H) (m : yaml_mark_t) (o : IsNotBefore (reach H) m) where
   live_then : (k : ℕ) (c : Laid) → candidate H k ≡ Some c → live limit c m ≡ true → live limit c (reach H) ≡ true

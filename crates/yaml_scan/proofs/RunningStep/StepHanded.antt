@@ -29,7 +29,7 @@ use Rattle.yaml_scan.specs.Step.{front_of}
 use Rattle.yaml_scan.specs.inside.TextReads.{IsDecider, IsRead}
 use Rattle.yaml_scan.proofs.RunningStep.DecidedLaid.{read_place}
 use Rattle.yaml_lexeme.specs.Lexeme.{Lexeme as yaml_lexeme_t}
-use Rattle.yaml_scan.specs.declared.look.step_t.{step_t}
+use Rattle.yaml_scan.specs.declared.met.step_t.{step_t}
 use Rattle.yaml_scan.proofs.SessionCalls.AnswerWords.{read_has_words}
 use Rattle.yaml_scan.proofs.Texts.LexemeReads.{read_says}
 use Rattle.yaml_scan.specs.inside.Handed.{AllSettled, Empties, IsCut, IsHanded, IsHandedOn, IsLaidAs, IsPushed, LaysTo, group_tokens, groups_tokens, is_end, made_by, one_done, set_queue, told_leads, with_queue}
@@ -191,7 +191,7 @@ module _ (H : List Laid) (s u : scanner_t) (k : Kind) (y : group_t) (A : IsLaidA
     one_handed (Err stop) g = (g.2, (1, group_tokens y, u, groups_in u ++ y ∷ [], inl (refl, A.advances, FAR), g.0, settled_all g.1, g.3), g.4)
 
 -- THE LEXEME OF A STEP
-module _ (H : List Laid) (s : scanner_t) (margin : Bool) (r : step_t) (x : yaml_lexeme_t) (c : CanLayAll H s margin r x) where
+module _ (H : List Laid) (s : scanner_t) (r : step_t) (x : yaml_lexeme_t) (c : CanLayAll H s r x) where
   read_there : IsRead s.text.chars r.kind r.context.depth r.context.level (front_of (source_of s.text.chars) H) x
   read_there = c.read (front_of (source_of s.text.chars) H) c.can.met.front
 
@@ -326,25 +326,25 @@ first_done direct u t y z k (inr p) A R D T =
     (omega arith, omega arith, omega arith)
 
 -- WHAT DECIDES
-module _ (direct : Bool) (H : List Laid) (s : scanner_t) (margin : Bool) (r : step_t) (x : yaml_lexeme_t) (c : CanLayAll H s margin r x) (k : Kind) (w : yaml_lexeme_t) (d : IsDecided s margin (not direct) r x.reach k w) where
-  decider_there : IsDecider s.text.chars (not margin) (read_place H s margin r x c (let u = d.undecided in u.candidate)).0 k w
-  decider_there = let p = read_place H s margin r x c (let u = d.undecided in u.candidate) in d.decider p.0 p.1
+module _ (direct : Bool) (H : List Laid) (s : scanner_t) (r : step_t) (x : yaml_lexeme_t) (c : CanLayAll H s r x) (k : Kind) (w : yaml_lexeme_t) (d : IsDecided s (not direct) r x.reach k w) where
+  decider_there : IsDecider s.text.chars r.in_flow (read_place H s r x c (let u = d.undecided in u.candidate)).0 k w
+  decider_there = let p = read_place H s r x c (let u = d.undecided in u.candidate) in d.decider p.0 p.1
 
   pub decider_words : (t : unnamed_yaml_token_t_data) → t ≡ w.token_data → HasWords t
   decider_words t e =
-      let p = read_place H s margin r x c (let u = d.undecided in u.candidate) in
+      let p = read_place H s r x c (let u = d.undecided in u.candidate) in
       subst (λ (z : unnamed_yaml_token_t_data). HasWords z) (sym e) (read_has_words s.text.chars k 0 None p.0 w (let q = decider_there in q.read 0 None))
 
   pub decider_says : (t : unnamed_yaml_token_t_data) → t ≡ w.token_data → is_last_type (type_of t) ≡ false
   decider_says t e =
-      let p = read_place H s margin r x c (let u = d.undecided in u.candidate) in
+      let p = read_place H s r x c (let u = d.undecided in u.candidate) in
       let q = decider_there in
       ap (λ (z : unnamed_yaml_token_t_data). is_last_type (type_of z)) e
       ∙ (let v = read_says s.text.chars k 0 None p.0 w (q.read 0 None) in v.last)
-      ∙ decider_not_end (not margin) k q.decides
+      ∙ decider_not_end r.in_flow k q.decides
 
   pub candidate_says : (t : unnamed_yaml_token_t_data) → t ≡ x.token_data → is_last_type (type_of t) ≡ false
-  candidate_says t e = says_there H s margin r x c t e ∙ candidate_not_end r.kind (let u = d.undecided in u.candidate)
+  candidate_says t e = says_there H s r x c t e ∙ candidate_not_end r.kind (let u = d.undecided in u.candidate)
 
   pub alone_there : (q : queue_t) → q ≡ s.layout.queue → q.groups.items ≡ []
   alone_there q e = ap (λ (z : queue_t). z.groups.items) e ∙ (let u = d.undecided in u.alone)

@@ -1,6 +1,5 @@
 -- The tests of a step after its lexeme, and that the lexeme is laid as the definition says.
 use Rattle.std.proofs.Common.{◌≡◌, ℕ, ◌+◌, ◌≤◌, ◌<◌, not, ◌&&◌, Bool, true, false, List, [], ◌∷◌, ◌++◌, reverse, map, filter, drop, length, Option, Some, None, refl, ap, sym, ◌∙◌, subst, arith, inl, inr, eqb, vec_len, eqb-true, eq-eqb, ne_eqb}
-use Rattle.std.specs.Bool.{◌==◌}
 use Rattle.std.specs.Option.{is_some, IfSome}
 use Rattle.std.specs.Prelude.{if◌then◌else◌, option_map, nat_eq, nat_lt, Result, Ok, Err}
 use Rattle.std.proofs.lemmas.Bool.{cases_Bool, cases_eq, and_parts}
@@ -29,7 +28,7 @@ use Rattle.yaml_scan.specs.Settled.{before}
 use Rattle.yaml_scan.specs.Groups.Token.{BlockEnd}
 use Rattle.yaml_scan.specs.inside.Opened.{opened, is_new}
 use Rattle.yaml_scan.specs.inside.Slots.{Held, held, held_of, still_held, lost_held, outer_to, root_of, slot_after}
-use Rattle.yaml_scan.specs.inside.Slots.{completed_held, nested_outer, nested_top, is_margin_level}
+use Rattle.yaml_scan.specs.inside.Slots.{completed_held, nested_outer, nested_top, is_level}
 use Rattle.yaml_scan.specs.Step.{Outcome, step, read_step, after_read, unless, stale, required, lost, start_at}
 use Rattle.yaml_scan.specs.Step.{lexeme_of, front_of, place_after}
 use Rattle.yaml_scan.specs.Step.Outcome.{Reads}
@@ -42,7 +41,7 @@ use Rattle.yaml_scan.proofs.TokenList.NeverRevised.{start_in}
 use Rattle.yaml_scan.proofs.History.KeyCandidates.{candidate-other, candidate-saved, candidate-kept, candidate-cleared, candidate_split}
 use Rattle.yaml_scan.proofs.History.LevelsFall.{open_columns-falls, falling_filter}
 use Rattle.yaml_scan.proofs.RunningStep.SlotTests.{completed_later, lost_later, root_is, outer_length}
-use Rattle.yaml_scan.proofs.RunningStep.TestsBefore.{margin_is, flow_is, mark_is, later, Loses, is_none_some, is_none_map}
+use Rattle.yaml_scan.proofs.RunningStep.TestsBefore.{flow_is, mark_is, later, Loses, is_none_some, is_none_map}
 use Rattle.yaml_scan.proofs.RunningStep.ScannerOneOn.{ends_are, levels_more, queue_more, fits, new_is, taken_more, allowed_more, outer_swept, top_swept, nested_outer_is, nested_top_is, candidate_is, allowed_of, at_depth, enters_below, reach_is}
 use Rattle.yaml_scan.proofs.Texts.TextOrder.{text_order, text_problem, text_sums, text_reach}
 
@@ -151,21 +150,21 @@ completed_column limit H x c h f e =
     let q : x.start.line ≡ c.lexeme.start.line = eqb-true _ _ p.0 in
     o.column (sym q)
 
-opened_less : (limit : ℕ) (H : List Laid) (x : Lexeme) (n : ℕ) (margin : Bool) (cs : List ℕ) (o : Option Laid) → completed_by limit H x.kind x.start ≡ o → IsHistory limit (laid limit H x ∷ H) → Follows (reach H) x → x.start.column < n → AllLess n cs
-    → AllLess n (opened margin (option_map held_of o) x.kind x.start cs)
-opened_less limit H x n margin cs None e h f l a = go (is_new margin x.start.column cs && Rattle.yaml_scan.specs.Levels.opens_level x.kind true)
+opened_less : (limit : ℕ) (H : List Laid) (x : Lexeme) (n : ℕ) (in_flow : Bool) (cs : List ℕ) (o : Option Laid) → completed_by limit H x.kind x.start ≡ o → IsHistory limit (laid limit H x ∷ H) → Follows (reach H) x → x.start.column < n → AllLess n cs
+    → AllLess n (opened in_flow (option_map held_of o) x.kind x.start cs)
+opened_less limit H x n in_flow cs None e h f l a = go (is_new in_flow x.start.column cs && Rattle.yaml_scan.specs.Levels.opens_level x.kind true)
   where
     go : (b : Bool) → AllLess n ((if b then x.start.column ∷ [] else []) ++ cs)
     go true = (l, a)
     go false = a
-opened_less limit H x n margin cs (Some c) e h f l a = go (is_new margin c.lexeme.start.column cs)
+opened_less limit H x n in_flow cs (Some c) e h f l a = go (is_new in_flow c.lexeme.start.column cs)
   where
     go : (b : Bool) → AllLess n ((if b then c.lexeme.start.column ∷ [] else []) ++ cs)
     go true = (let d = completed_column limit H x c h f e in omega arith, a)
     go false = a
 
 -- THE STEP
-module _ (H : List Laid) (N : ℕ) (s : scanner_t) {ys : List group_t} (r : HoldsWith H N s ys) (running : ended H ≡ false) (m : Met) (w : IsMet H s m) (margin : Bool) (M : margin ≡ vec_len s.slots.outer == 0)
+module _ (H : List Laid) (N : ℕ) (s : scanner_t) {ys : List group_t} (r : HoldsWith H N s ys) (running : ended H ≡ false) (m : Met) (w : IsMet H s m) (in_flow : Bool) (FLOW : in_flow ≡ nat_lt 0 (vec_len s.slots.outer))
     (start : yaml_mark_t) (START : start ≡ start_at m.kind m.front) where
   abbrev S : Source
   S = source_of s.text.chars
@@ -174,14 +173,14 @@ module _ (H : List Laid) (N : ℕ) (s : scanner_t) {ys : List group_t} (r : Hold
   P = front_of S H
 
   front_is : m.front ≡ S.mark P
-  front_is = mark_is H N s r running margin M m.front w.front
+  front_is = mark_is H N s r running in_flow FLOW m.front w.front
 
   pub levels_fall : IsFalling (reverse s.layout.levels.items)
   levels_fall = rw r.levels (open_columns-falls s.limit H r.is_history)
 
-  open_is : filter (stays (not margin) m.kind start) (reverse s.layout.levels.items) ≡ kept_columns H m.kind start
+  open_is : filter (stays in_flow m.kind start) (reverse s.layout.levels.items) ≡ kept_columns H m.kind start
   unfolding kept_columns
-  open_is = rw (flow_is H N s r running margin M, r.levels) refl
+  open_is = rw (flow_is H N s r running in_flow FLOW, r.levels) refl
 
   kept_less : (k : Kind) (g : yaml_mark_t) → AllLess (length s.text.chars + 1) (kept_columns H k g)
   unfolding kept_columns
@@ -193,12 +192,12 @@ module _ (H : List Laid) (N : ℕ) (s : scanner_t) {ys : List group_t} (r : Hold
   front_column : m.front.column ≤ length s.text.chars
   front_column = let t = text_sums s.text.chars P front_within in let q = ap (λ (z : yaml_mark_t). z.column) front_is in let v = front_within in omega arith
 
-  module _ (l : List ℕ) (L : reverse l ≡ filter (stays (not margin) m.kind start) (reverse s.layout.levels.items)) where
+  module _ (l : List ℕ) (L : reverse l ≡ filter (stays in_flow m.kind start) (reverse s.layout.levels.items)) where
     l_is : reverse l ≡ kept_columns H m.kind start
     l_is = L ∙ open_is
 
     pub l_falls : IsFalling (reverse l)
-    l_falls = rw L (falling_filter (stays (not margin) m.kind start) (reverse s.layout.levels.items) levels_fall)
+    l_falls = rw L (falling_filter (stays in_flow m.kind start) (reverse s.layout.levels.items) levels_fall)
 
     module _ (level' : Option ℕ) (LV : level' ≡ greatest_level (reverse l)) (n : ℕ) (D : n ≡ vec_len s.slots.outer) where
       pub level_within : IfSome level' (λ z. z ≤ length s.text.chars)
@@ -244,7 +243,7 @@ module _ (H : List Laid) (N : ℕ) (s : scanner_t) {ys : List group_t} (r : Hold
 
         follows : Follows (reach H) X
         follows = let q : Follows (S.mark P) X = subst (λ (z : Lexeme). Follows (S.mark P) z) (sym x_is) in_order.follows in
-            record { front = later H N s r running margin M m.front w.front; start = q.start; at_once = q.at_once; end = q.end; reach = q.reach; takes_a_byte = q.takes_a_byte; takes_a_column = q.takes_a_column; ends_at_margin = q.ends_at_margin }
+            record { front = later H N s r running in_flow FLOW m.front w.front; start = q.start; at_once = q.at_once; end = q.end; reach = q.reach; takes_a_byte = q.takes_a_byte; takes_a_column = q.takes_a_column; ends_at_margin = q.ends_at_margin }
 
         pub history : IsHistory s.limit (laid s.limit H X ∷ H)
         unfolding laid
@@ -285,30 +284,30 @@ module _ (H : List Laid) (N : ℕ) (s : scanner_t) {ys : List group_t} (r : Hold
           fitting = rw c_is (fits s.limit H X history s.taken r.taken s.text.encoding s.layout.queue.front ys none_early s.layout.queue.done r.count)
 
           -- the levels and the queue
-          pub levels_then : (l2 : List ℕ) → reverse l2 ≡ opened margin c X.kind X.start (reverse l) → reverse l2 ≡ open_columns (laid s.limit H X ∷ H)
-          levels_then l2 e = e ∙ (rw (margin_is H N s r running margin M, c_is, l_is) (levels_more s.limit H X history))
+          pub levels_then : (l2 : List ℕ) → reverse l2 ≡ opened in_flow c X.kind X.start (reverse l) → reverse l2 ≡ open_columns (laid s.limit H X ∷ H)
+          levels_then l2 e = e ∙ (rw (flow_is H N s r running in_flow FLOW, c_is, l_is) (levels_more s.limit H X history))
 
           pub columns_then : AllLess (length s.text.chars + 1) (open_columns (laid s.limit H X ∷ H))
           columns_then = subst (λ (z : List ℕ). AllLess (length s.text.chars + 1) z) (levels_more s.limit H X history)
-              (opened_less s.limit H X (length s.text.chars + 1) (nat_eq (depth H) 0) (kept_columns H X.kind X.start) (completed_by s.limit H X.kind X.start) refl history follows
+              (opened_less s.limit H X (length s.text.chars + 1) (nat_lt 0 (depth H)) (kept_columns H X.kind X.start) (completed_by s.limit H X.kind X.start) refl history follows
               (rw START (start_less m.kind m.front (length s.text.chars) front_column)) (kept_less X.kind X.start))
 
-          pub queue_then : (y : group_t) (n : ℕ) (f : yaml_mark_t) → ends_at n f ++ ends_at y.ends start ≡ map (λ z. BlockEnd (end_at m.kind m.front start z)) (filter (λ z. not (stays (not margin) m.kind start z)) (reverse s.layout.levels.items))
-              → token_of y.token ≡ record { token_data = b.token_data; start_mark = start; end_mark = b.end_mark } → y.key ≡ false → y.opens ≡ opened_by margin c m.kind start.column (reverse l)
-              → (zs : List group_t) → zs ≡ completed_in margin c (reverse l) s.layout.queue.done ys ++ y ∷ [] → IsQueue s.text.encoding n f zs (drop s.taken (offline (laid s.limit H X ∷ H)))
-          queue_then y n f E Y K O zs V = rw V (rw (margin_is H N s r running margin M, c_is, l_is) (queue_more s.limit H X history s.taken r.taken s.text.encoding s.layout.queue.front ys none_early s.layout.queue.done r.count y n f
-              (E ∙ ap (λ (f : Bool). map (λ z. BlockEnd (end_at m.kind m.front start z)) (filter (λ z. not (stays f m.kind start z)) (reverse s.layout.levels.items))) (flow_is H N s r running margin M)
+          pub queue_then : (y : group_t) (n : ℕ) (f : yaml_mark_t) → ends_at n f ++ ends_at y.ends start ≡ map (λ z. BlockEnd (end_at m.kind m.front start z)) (filter (λ z. not (stays in_flow m.kind start z)) (reverse s.layout.levels.items))
+              → token_of y.token ≡ record { token_data = b.token_data; start_mark = start; end_mark = b.end_mark } → y.key ≡ false → y.opens ≡ opened_by in_flow c m.kind start.column (reverse l)
+              → (zs : List group_t) → zs ≡ completed_in in_flow c (reverse l) s.layout.queue.done ys ++ y ∷ [] → IsQueue s.text.encoding n f zs (drop s.taken (offline (laid s.limit H X ∷ H)))
+          queue_then y n f E Y K O zs V = rw V (rw (flow_is H N s r running in_flow FLOW, c_is, l_is) (queue_more s.limit H X history s.taken r.taken s.text.encoding s.layout.queue.front ys none_early s.layout.queue.done r.count y n f
+              (E ∙ ap (λ (f : Bool). map (λ z. BlockEnd (end_at m.kind m.front start z)) (filter (λ z. not (stays f m.kind start z)) (reverse s.layout.levels.items))) (flow_is H N s r running in_flow FLOW)
               ∙ ap (λ (z : List ℕ). map (λ z. BlockEnd (end_at m.kind m.front start z)) (filter (λ z. not (stays (nat_lt 0 (depth H)) m.kind start z)) z)) r.levels ∙ ends_are s.limit H X history)
-              Y K (O ∙ (rw (margin_is H N s r running margin M, c_is, l_is) refl))))
+              Y K (O ∙ (rw (flow_is H N s r running in_flow FLOW, c_is, l_is) refl))))
 
-          pub allowed_then : (none : Bool) → is_some c ≡ not none → (a : Bool) → ((d : ℕ) → margin ≡ nat_eq d 0 → a ≡ allows X.kind d none X.passed_break) → a ≡ allowed_after (laid s.limit H X ∷ H)
-          allowed_then none V a e = e (depth H) (margin_is H N s r running margin M) ∙ allowed_more s.limit H X history none (is_none_some c none V ∙ ap (λ (z : Option Held). is_none z) c_is ∙ is_none_map (completed_by s.limit H X.kind X.start))
+          pub allowed_then : (none : Bool) → is_some c ≡ not none → (a : Bool) → ((d : ℕ) → in_flow ≡ nat_lt 0 d → a ≡ allows X.kind d none X.passed_break) → a ≡ allowed_after (laid s.limit H X ∷ H)
+          allowed_then none V a e = e (depth H) (flow_is H N s r running in_flow FLOW) ∙ allowed_more s.limit H X history none (is_none_some c none V ∙ ap (λ (z : Option Held). is_none z) c_is ∙ is_none_map (completed_by s.limit H X.kind X.start))
 
           -- the slots
-          module _ (new : Held) (NA : new.step ≡ N) (NS : new.start ≡ start) (NR : new.required ≡ is_margin_level margin level' start.column)
+          module _ (new : Held) (NA : new.step ≡ N) (NS : new.start ≡ start) (NR : new.required ≡ is_level in_flow level' start.column)
               (a : Bool) (A : a ≡ allowed H m.front) (top' : Option Held) (T : top' ≡ slot_after m.kind a new s.slots.top) where
-            required_then : new.required ≡ is_margin_level (nat_eq (depth H) 0) (greatest_level (kept_columns H m.kind start)) start.column
-            required_then = NR ∙ (rw (margin_is H N s r running margin M, LV, l_is) refl)
+            required_then : new.required ≡ is_level (nat_lt 0 (depth H)) (greatest_level (kept_columns H m.kind start)) start.column
+            required_then = NR ∙ (rw (flow_is H N s r running in_flow FLOW, LV, l_is) refl)
 
             new_laid : new ≡ held_of (laid s.limit H X)
             new_laid = new_is s.limit H X history new (held_eq new _ _ _ (NA ∙ r.number) NS required_then)

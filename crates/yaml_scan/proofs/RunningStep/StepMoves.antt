@@ -9,7 +9,7 @@ use Rattle.yaml_lexeme.specs.declared.lexeme.yaml_lexeme_t.{yaml_lexeme_t as cod
 use Rattle.yaml_lexeme.specs.declared.problem.yaml_refusal_t.{yaml_refusal_t}
 use Rattle.yaml_scan.specs.declared.fault.stop_t.{stop_t}
 use Rattle.yaml_scan.specs.declared.groups.group_t.{group_t}
-use Rattle.yaml_scan.specs.declared.look.step_t.{step_t}
+use Rattle.yaml_scan.specs.declared.met.step_t.{step_t}
 use Rattle.yaml_scan.specs.declared.scanner.scanner_t.{scanner_t}
 use Rattle.yaml_scan.specs.Kind.{Kind}
 use Rattle.yaml_scan.specs.Laid.{Laid}
@@ -37,11 +37,11 @@ stays_on s t u a b = let p = a.same in let q = b.same in record {
 }
 
 -- READING
-pub read_in : (H : List Laid) (s : scanner_t) (margin : Bool) (r : step_t) (t : scanner_t) → CanRead H s margin r → CanRead H (at_there s t) margin r
-read_in H s margin r t c = let h = c.can.holds in let e = c.met in let w = c.is_new in record {
+pub read_in : (H : List Laid) (s : scanner_t) (r : step_t) (t : scanner_t) → CanRead H s r → CanRead H (at_there s t) r
+read_in H s r t c = let h = c.can.holds in let e = c.met in let w = c.is_new in record {
   can = record { holds = with_room H (s.made + 1) s (at_there s t) h refl refl refl refl refl refl refl refl refl refl refl refl refl refl; running = c.can.running; small = c.can.small; few_steps = c.can.few_steps; near = c.can.near };
   met = record { front = e.front; allowed = e.allowed; kind = e.kind; step = e.step };
-  is_new = record { at_margin = w.at_margin; is_greatest = w.is_greatest; step = w.step; start = w.start; required = w.required };
+  is_new = record { flow = w.flow; is_greatest = w.is_greatest; step = w.step; start = w.start; required = w.required };
   depth = c.depth;
   within = c.within;
   there = c.there;
@@ -57,10 +57,10 @@ read_as : (s : scanner_t) (k : Kind) (x : yaml_context_t) (t : scanner_t) (o : R
 read_as s k x t (Ok l) f = f
 read_as s k x t (Err r) f = f
 
-pub read_then : (H : List Laid) (s t : scanner_t) (margin : Bool) (r : step_t) (k : Kind) (o : Result code_lexeme_t yaml_refusal_t) → CanRead H s margin r → r.kind ≡ k → HasRead s t k r.context o
-    → CanRead H t margin r × IsReadIn t r.kind r.context t.there o
-read_then H s t margin r k o c e h = (
-  subst (λ (u : scanner_t). CanRead H u margin r) (sym h.same) (read_in H s margin r t c),
+pub read_then : (H : List Laid) (s t : scanner_t) (r : step_t) (k : Kind) (o : Result code_lexeme_t yaml_refusal_t) → CanRead H s r → r.kind ≡ k → HasRead s t k r.context o
+    → CanRead H t r × IsReadIn t r.kind r.context t.there o
+read_then H s t r k o c e h = (
+  subst (λ (u : scanner_t). CanRead H u r) (sym h.same) (read_in H s r t c),
   subst (λ (z : Kind). IsReadIn t z r.context t.there o) (sym e) (subst (λ (u : scanner_t). IsReadIn u k r.context t.there o) (sym h.same) (read_as s k r.context t o h.read)),
 )
 
@@ -141,9 +141,9 @@ pub stop_from : (H : List Laid) (s t u : scanner_t) (stop : stop_t) → Stays s 
 stop_from H s t u stop e w = refuses_from H s t u stop e w
 
 -- ROOM
-pub ready : (H : List Laid) (s t : scanner_t) (margin : Bool) (k : Kind) → Comes H s margin k → IsMet H s (record { kind = k; front = s.front; allowed = allowed_in s margin }) → Beside s t → HasRoom t
-    → (r : step_t) → r.kind ≡ k → r.allowed ≡ allowed_in s margin → IsNewHeld t (met_in t r) margin r.context.level r.new → r.context.depth ≡ vec_len t.slots.outer → CanRead H t margin r
-ready H s t margin k w m b room r K A new d =
+pub ready : (H : List Laid) (s t : scanner_t) (in_flow : Bool) (k : Kind) → Comes H s in_flow k → IsMet H s (record { kind = k; front = s.front; allowed = allowed_in s in_flow }) → Beside s t → HasRoom t
+    → (r : step_t) → r.kind ≡ k → r.allowed ≡ allowed_in s in_flow → IsNewHeld t (met_in t r) r.in_flow r.context.level r.new → r.context.depth ≡ vec_len t.slots.outer → CanRead H t r
+ready H s t in_flow k w m b room r K A new d =
     let c = w.passes.can in
     let can : CanStep H t = record {
       holds = subst (λ (z : ℕ). Holds H (z + 1) t) (sym b.made) (with_room H (s.made + 1) s t c.holds b.text b.limit b.outer b.empty b.top b.awaited b.allowed b.levels b.groups b.done b.early b.queue_front b.reach b.taken);
@@ -158,15 +158,15 @@ ready H s t margin k w m b room r K A new d =
       kind = rw (b.text, K) m.kind;
       step = rw (b.text, b.limit, K) m.step;
     } in
-    let cs : List ℕ = filter (stays (not margin) r.kind r.new.start) (reverse t.layout.levels.items) in
+    let cs : List ℕ = filter (stays r.in_flow r.kind r.new.start) (reverse t.layout.levels.items) in
     let level : r.context.level ≡ greatest_level (reverse (reverse cs)) = new.is_greatest ∙ ap greatest_level (sym (reverse-reverse cs)) in
     record {
       can = can;
       met = met;
       is_new = new;
       depth = d;
-      within = level_within H (t.made + 1) t can.holds can.running (met_in t r) met margin new.at_margin r.new.start new.start (reverse cs) (reverse-reverse cs) r.context.level level r.context.depth d;
-      there = kind_there H (t.made + 1) t can.holds can.running (met_in t r) met margin new.at_margin r.new.start new.start (reverse cs) (reverse-reverse cs) r.context.level level r.context.depth d;
+      within = level_within H (t.made + 1) t can.holds can.running (met_in t r) met r.in_flow new.flow r.new.start new.start (reverse cs) (reverse-reverse cs) r.context.level level r.context.depth d;
+      there = kind_there H (t.made + 1) t can.holds can.running (met_in t r) met r.in_flow new.flow r.new.start new.start (reverse cs) (reverse-reverse cs) r.context.level level r.context.depth d;
       room = room;
     }
 

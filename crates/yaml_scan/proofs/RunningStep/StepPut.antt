@@ -1,7 +1,7 @@
 -- A lexeme that was read is laid if levels, queue and slots change as its definition says.
 use Rattle.std.proofs.Common.{◌≡◌, ℕ, ◌+◌, ◌<◌, not, Bool, false, List, [], ◌∷◌, ◌++◌, reverse, map, filter, length, Option, vec_len, refl, ap, sym, ◌∙◌, arith}
 use Rattle.std.specs.Option.{is_some}
-use Rattle.std.specs.Prelude.{nat_eq}
+use Rattle.std.specs.Prelude.{nat_lt}
 use Rattle.yaml_text.specs.declared.types.yaml_mark_t.{yaml_mark_t}
 use Rattle.yaml_text.specs.Token.{token_of}
 use Rattle.yaml_lexeme.specs.Lexeme.{Lexeme as yaml_lexeme_t}
@@ -47,9 +47,9 @@ put_in s S a L reach = record {
 
 -- These are the slots, whether a key is allowed, the layout and the groups after the lexeme x, of which `new` is kept. The groups
 -- before it are ys.
-pub record IsPut (s : scanner_t) (ys : List group_t) (m : Met) (margin : Bool) (new : Held) (x : yaml_lexeme_t) (S : slots_t) (a : Bool) (L : layout_t) (zs : List group_t) : Type 0 where
+pub record IsPut (s : scanner_t) (ys : List group_t) (m : Met) (in_flow : Bool) (new : Held) (x : yaml_lexeme_t) (S : slots_t) (a : Bool) (L : layout_t) (zs : List group_t) : Type 0 where
   pub kept : List ℕ
-  pub kept_is : reverse kept ≡ filter (stays (not margin) m.kind new.start) (reverse s.layout.levels.items)
+  pub kept_is : reverse kept ≡ filter (stays in_flow m.kind new.start) (reverse s.layout.levels.items)
   pub early : ℕ
   pub early_none : is_stream_end m.kind ≡ false → early ≡ 0
   pub early_is : L.queue.early ≡ early
@@ -60,48 +60,48 @@ pub record IsPut (s : scanner_t) (ys : List group_t) (m : Met) (margin : Bool) (
   pub none_is : is_some completed ≡ not none
   pub group : group_t
   pub ends_are : ends_at early m.front ++ ends_at group.ends new.start
-      ≡ map (λ c. BlockEnd (end_at m.kind m.front new.start c)) (filter (λ c. not (stays (not margin) m.kind new.start c)) (reverse s.layout.levels.items))
+      ≡ map (λ c. BlockEnd (end_at m.kind m.front new.start c)) (filter (λ c. not (stays in_flow m.kind new.start c)) (reverse s.layout.levels.items))
   pub token : token_of group.token ≡ record { token_data = x.token_data; start_mark = new.start; end_mark = x.end_mark }
   pub key : group.key ≡ false
-  pub opens : group.opens ≡ opened_by margin completed m.kind new.start.column (reverse kept)
-  pub levels : reverse L.levels.items ≡ opened margin completed m.kind new.start (reverse kept)
-  pub groups : zs ≡ completed_in margin completed (reverse kept) s.layout.queue.done ys ++ group ∷ []
+  pub opens : group.opens ≡ opened_by in_flow completed m.kind new.start.column (reverse kept)
+  pub levels : reverse L.levels.items ≡ opened in_flow completed m.kind new.start (reverse kept)
+  pub groups : zs ≡ completed_in in_flow completed (reverse kept) s.layout.queue.done ys ++ group ∷ []
   pub long : length zs ≡ length ys + 1
   pub done : L.queue.done ≡ s.layout.queue.done
   pub outer : S.outer.items ≡ nested_outer m.kind (map (still_held s.limit x.reach) s.slots.outer.items) (still_held s.limit x.reach (slot_after m.kind m.allowed new s.slots.top))
   pub top : S.top ≡ nested_top m.kind (map (still_held s.limit x.reach) s.slots.outer.items) (still_held s.limit x.reach (slot_after m.kind m.allowed new s.slots.top))
   pub empty : S.not_simple_keys ≡ empty_slots S.outer.items
   pub awaited : S.awaited ≡ step_of (lowest (S.outer.items ++ S.top ∷ []))
-  pub allows : (d : ℕ) → margin ≡ nat_eq d 0 → a ≡ allows m.kind d none x.passed_break
+  pub allows : (d : ℕ) → in_flow ≡ nat_lt 0 d → a ≡ allows m.kind d none x.passed_break
 
-pub put_advances : (H : List Laid) (s : scanner_t) (ys : List group_t) (m : Met) (margin : Bool) (new : Held) (x : yaml_lexeme_t) → CanPut H s ys m margin new x
-    → (S : slots_t) (a : Bool) (L : layout_t) (zs : List group_t) → IsPut s ys m margin new x S a L zs → IsLaidAs H s m.kind (put_in s S a L x.reach) zs
-put_advances H s ys m margin new x p S a L zs q = record {
+pub put_advances : (H : List Laid) (s : scanner_t) (ys : List group_t) (m : Met) (in_flow : Bool) (new : Held) (x : yaml_lexeme_t) → CanPut H s ys m in_flow new x
+    → (S : slots_t) (a : Bool) (L : layout_t) (zs : List group_t) → IsPut s ys m in_flow new x S a L zs → IsLaidAs H s m.kind (put_in s S a L x.reach) zs
+put_advances H s ys m in_flow new x p S a L zs q = record {
   kind = refl;
   advances = record {
     lexeme = _;
-    step = step_reads H (s.made + 1) s p.can.holds p.can.running m p.can.met margin p.is_new.at_margin new.start p.is_new.start q.kept q.kept_is p.level (p.is_new.is_greatest ∙ ap greatest_level (sym q.kept_is)) (vec_len s.slots.outer) refl x p.read q.completed q.completed_is new p.is_new.step refl p.is_new.required m.allowed p.can.met.allowed _ refl _ s.slots.outer.items refl refl _ refl p.kept;
+    step = step_reads H (s.made + 1) s p.can.holds p.can.running m p.can.met in_flow p.is_new.flow new.start p.is_new.start q.kept q.kept_is p.level (p.is_new.is_greatest ∙ ap greatest_level (sym q.kept_is)) (vec_len s.slots.outer) refl x p.read q.completed q.completed_is new p.is_new.step refl p.is_new.required m.allowed p.can.met.allowed _ refl _ s.slots.outer.items refl refl _ refl p.kept;
     holds = record {
       text = p.can.holds.text;
-      is_history = history H (s.made + 1) s p.can.holds p.can.running m p.can.met margin p.is_new.at_margin new.start p.is_new.start q.kept q.kept_is p.level (p.is_new.is_greatest ∙ ap greatest_level (sym q.kept_is)) (vec_len s.slots.outer) refl x p.read;
-      number = number_then H (s.made + 1) s p.can.holds p.can.running m p.can.met margin p.is_new.at_margin new.start p.is_new.start q.kept q.kept_is p.level (p.is_new.is_greatest ∙ ap greatest_level (sym q.kept_is)) (vec_len s.slots.outer) refl x p.read;
-      fresh = fresh_then H (s.made + 1) s p.can.holds p.can.running m p.can.met margin p.is_new.at_margin new.start p.is_new.start q.kept q.kept_is p.level (p.is_new.is_greatest ∙ ap greatest_level (sym q.kept_is)) (vec_len s.slots.outer) refl x p.read q.completed q.completed_is new p.is_new.step refl p.is_new.required m.allowed p.can.met.allowed _ refl _ s.slots.outer.items refl refl _ refl p.kept;
-      levels = levels_then H (s.made + 1) s p.can.holds p.can.running m p.can.met margin p.is_new.at_margin new.start p.is_new.start q.kept q.kept_is p.level (p.is_new.is_greatest ∙ ap greatest_level (sym q.kept_is)) (vec_len s.slots.outer) refl x p.read q.completed q.completed_is L.levels.items q.levels;
-      columns = columns_then H (s.made + 1) s p.can.holds p.can.running m p.can.met margin p.is_new.at_margin new.start p.is_new.start q.kept q.kept_is p.level (p.is_new.is_greatest ∙ ap greatest_level (sym q.kept_is)) (vec_len s.slots.outer) refl x p.read q.completed q.completed_is;
-      outer = outer_then H (s.made + 1) s p.can.holds p.can.running m p.can.met margin p.is_new.at_margin new.start p.is_new.start q.kept q.kept_is p.level (p.is_new.is_greatest ∙ ap greatest_level (sym q.kept_is)) (vec_len s.slots.outer) refl x p.read q.completed q.completed_is new p.is_new.step refl p.is_new.required m.allowed p.can.met.allowed _ refl S.outer.items s.slots.outer.items refl q.outer;
+      is_history = history H (s.made + 1) s p.can.holds p.can.running m p.can.met in_flow p.is_new.flow new.start p.is_new.start q.kept q.kept_is p.level (p.is_new.is_greatest ∙ ap greatest_level (sym q.kept_is)) (vec_len s.slots.outer) refl x p.read;
+      number = number_then H (s.made + 1) s p.can.holds p.can.running m p.can.met in_flow p.is_new.flow new.start p.is_new.start q.kept q.kept_is p.level (p.is_new.is_greatest ∙ ap greatest_level (sym q.kept_is)) (vec_len s.slots.outer) refl x p.read;
+      fresh = fresh_then H (s.made + 1) s p.can.holds p.can.running m p.can.met in_flow p.is_new.flow new.start p.is_new.start q.kept q.kept_is p.level (p.is_new.is_greatest ∙ ap greatest_level (sym q.kept_is)) (vec_len s.slots.outer) refl x p.read q.completed q.completed_is new p.is_new.step refl p.is_new.required m.allowed p.can.met.allowed _ refl _ s.slots.outer.items refl refl _ refl p.kept;
+      levels = levels_then H (s.made + 1) s p.can.holds p.can.running m p.can.met in_flow p.is_new.flow new.start p.is_new.start q.kept q.kept_is p.level (p.is_new.is_greatest ∙ ap greatest_level (sym q.kept_is)) (vec_len s.slots.outer) refl x p.read q.completed q.completed_is L.levels.items q.levels;
+      columns = columns_then H (s.made + 1) s p.can.holds p.can.running m p.can.met in_flow p.is_new.flow new.start p.is_new.start q.kept q.kept_is p.level (p.is_new.is_greatest ∙ ap greatest_level (sym q.kept_is)) (vec_len s.slots.outer) refl x p.read q.completed q.completed_is;
+      outer = outer_then H (s.made + 1) s p.can.holds p.can.running m p.can.met in_flow p.is_new.flow new.start p.is_new.start q.kept q.kept_is p.level (p.is_new.is_greatest ∙ ap greatest_level (sym q.kept_is)) (vec_len s.slots.outer) refl x p.read q.completed q.completed_is new p.is_new.step refl p.is_new.required m.allowed p.can.met.allowed _ refl S.outer.items s.slots.outer.items refl q.outer;
       empty = q.empty;
-      top = top_then H (s.made + 1) s p.can.holds p.can.running m p.can.met margin p.is_new.at_margin new.start p.is_new.start q.kept q.kept_is p.level (p.is_new.is_greatest ∙ ap greatest_level (sym q.kept_is)) (vec_len s.slots.outer) refl x p.read q.completed q.completed_is new p.is_new.step refl p.is_new.required m.allowed p.can.met.allowed _ refl _ s.slots.outer.items refl q.top;
+      top = top_then H (s.made + 1) s p.can.holds p.can.running m p.can.met in_flow p.is_new.flow new.start p.is_new.start q.kept q.kept_is p.level (p.is_new.is_greatest ∙ ap greatest_level (sym q.kept_is)) (vec_len s.slots.outer) refl x p.read q.completed q.completed_is new p.is_new.step refl p.is_new.required m.allowed p.can.met.allowed _ refl _ s.slots.outer.items refl q.top;
       awaited = q.awaited;
-      allowed = allowed_then H (s.made + 1) s p.can.holds p.can.running m p.can.met margin p.is_new.at_margin new.start p.is_new.start q.kept q.kept_is p.level (p.is_new.is_greatest ∙ ap greatest_level (sym q.kept_is)) (vec_len s.slots.outer) refl x p.read q.completed q.completed_is q.none q.none_is a q.allows;
-      queue = rw q.early_is (front_free s.text.encoding q.early m.front L.queue.front zs _ q.front (queue_then H (s.made + 1) s p.can.holds p.can.running m p.can.met margin p.is_new.at_margin new.start p.is_new.start q.kept q.kept_is p.level (p.is_new.is_greatest ∙ ap greatest_level (sym q.kept_is)) (vec_len s.slots.outer) refl x p.read q.completed q.completed_is _ q.early m.front q.ends_are q.token q.key q.opens zs q.groups));
+      allowed = allowed_then H (s.made + 1) s p.can.holds p.can.running m p.can.met in_flow p.is_new.flow new.start p.is_new.start q.kept q.kept_is p.level (p.is_new.is_greatest ∙ ap greatest_level (sym q.kept_is)) (vec_len s.slots.outer) refl x p.read q.completed q.completed_is q.none q.none_is a q.allows;
+      queue = rw q.early_is (front_free s.text.encoding q.early m.front L.queue.front zs _ q.front (queue_then H (s.made + 1) s p.can.holds p.can.running m p.can.met in_flow p.is_new.flow new.start p.is_new.start q.kept q.kept_is p.level (p.is_new.is_greatest ∙ ap greatest_level (sym q.kept_is)) (vec_len s.slots.outer) refl x p.read q.completed q.completed_is _ q.early m.front q.ends_are q.token q.key q.opens zs q.groups));
       count = (let d = q.done in let l = q.long in let z = p.can.holds.count in omega arith);
-      early = early_then H (s.made + 1) s p.can.holds p.can.running m p.can.met margin p.is_new.at_margin new.start p.is_new.start q.kept q.kept_is p.level (p.is_new.is_greatest ∙ ap greatest_level (sym q.kept_is)) (vec_len s.slots.outer) refl x p.read _ (λ z. q.early_is ∙ q.early_none z);
-      reach = reach_then H (s.made + 1) s p.can.holds p.can.running m p.can.met margin p.is_new.at_margin new.start p.is_new.start q.kept q.kept_is p.level (p.is_new.is_greatest ∙ ap greatest_level (sym q.kept_is)) (vec_len s.slots.outer) refl x p.read;
-      taken = taken_then H (s.made + 1) s p.can.holds p.can.running m p.can.met margin p.is_new.at_margin new.start p.is_new.start q.kept q.kept_is p.level (p.is_new.is_greatest ∙ ap greatest_level (sym q.kept_is)) (vec_len s.slots.outer) refl x p.read;
-      place = place_then H (s.made + 1) s p.can.holds p.can.running m p.can.met margin p.is_new.at_margin new.start p.is_new.start q.kept q.kept_is p.level (p.is_new.is_greatest ∙ ap greatest_level (sym q.kept_is)) (vec_len s.slots.outer) refl x p.read;
+      early = early_then H (s.made + 1) s p.can.holds p.can.running m p.can.met in_flow p.is_new.flow new.start p.is_new.start q.kept q.kept_is p.level (p.is_new.is_greatest ∙ ap greatest_level (sym q.kept_is)) (vec_len s.slots.outer) refl x p.read _ (λ z. q.early_is ∙ q.early_none z);
+      reach = reach_then H (s.made + 1) s p.can.holds p.can.running m p.can.met in_flow p.is_new.flow new.start p.is_new.start q.kept q.kept_is p.level (p.is_new.is_greatest ∙ ap greatest_level (sym q.kept_is)) (vec_len s.slots.outer) refl x p.read;
+      taken = taken_then H (s.made + 1) s p.can.holds p.can.running m p.can.met in_flow p.is_new.flow new.start p.is_new.start q.kept q.kept_is p.level (p.is_new.is_greatest ∙ ap greatest_level (sym q.kept_is)) (vec_len s.slots.outer) refl x p.read;
+      place = place_then H (s.made + 1) s p.can.holds p.can.running m p.can.met in_flow p.is_new.flow new.start p.is_new.start q.kept q.kept_is p.level (p.is_new.is_greatest ∙ ap greatest_level (sym q.kept_is)) (vec_len s.slots.outer) refl x p.read;
     };
-    index = index_is H (s.made + 1) s p.can.holds p.can.running m p.can.met margin p.is_new.at_margin new.start p.is_new.start q.kept q.kept_is p.level (p.is_new.is_greatest ∙ ap greatest_level (sym q.kept_is)) (vec_len s.slots.outer) refl x p.read;
-    within = place_within H (s.made + 1) s p.can.holds p.can.running m p.can.met margin p.is_new.at_margin new.start p.is_new.start q.kept q.kept_is p.level (p.is_new.is_greatest ∙ ap greatest_level (sym q.kept_is)) (vec_len s.slots.outer) refl x p.read;
+    index = index_is H (s.made + 1) s p.can.holds p.can.running m p.can.met in_flow p.is_new.flow new.start p.is_new.start q.kept q.kept_is p.level (p.is_new.is_greatest ∙ ap greatest_level (sym q.kept_is)) (vec_len s.slots.outer) refl x p.read;
+    within = place_within H (s.made + 1) s p.can.holds p.can.running m p.can.met in_flow p.is_new.flow new.start p.is_new.start q.kept q.kept_is p.level (p.is_new.is_greatest ∙ ap greatest_level (sym q.kept_is)) (vec_len s.slots.outer) refl x p.read;
     same = record { text = refl; refusal = refl; near = refl; limit = refl; taken = refl; done = q.done };
     made = refl;
   };

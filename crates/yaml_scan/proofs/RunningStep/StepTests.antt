@@ -1,6 +1,6 @@
 -- What a step has tested, and what it stops with.
 use Rattle.std.proofs.Common.{◌≡◌, ℕ, ◌+◌, ◌≤◌, ◌<◌, ◌^◌, not, Bool, true, false, List, reverse, filter, length, Option, Some, None, refl, ap, sym, ◌∙◌, subst, arith, vec_len}
-use Rattle.std.specs.Bool.{◌==◌}
+use Rattle.std.specs.Prelude.{nat_lt}
 use Rattle.std.specs.Option.{is_some}
 use Rattle.std.proofs.lemmas.List.{reverse-reverse}
 use Rattle.yaml_text.specs.declared.types.yaml_mark_t.{yaml_mark_t}
@@ -8,7 +8,7 @@ use Rattle.yaml_text.specs.Fault.{Fault, scanner_fault}
 use Rattle.yaml_text.specs.Decode.{refusal_seen}
 use Rattle.yaml_lexeme.specs.Lexeme.{Lexeme as yaml_lexeme_t}
 use Rattle.yaml_lexeme.specs.Place.{IsMarkOf}
-use Rattle.yaml_scan.specs.declared.look.step_t.{step_t}
+use Rattle.yaml_scan.specs.declared.met.step_t.{step_t}
 use Rattle.yaml_scan.specs.declared.scanner.scanner_t.{scanner_t}
 use Rattle.yaml_scan.specs.Fault.{no_colon, no_token, in_next_token, in_simple_key}
 use Rattle.yaml_scan.specs.Kind.{Kind}
@@ -19,7 +19,7 @@ use Rattle.yaml_scan.specs.SourceOf.{source_of}
 use Rattle.yaml_scan.specs.Step.{step, front_of, start_at, place_after}
 use Rattle.yaml_scan.specs.Step.Outcome.{Reads}
 use Rattle.yaml_scan.specs.inside.StepFaults.{IsLost, IsRefused}
-use Rattle.yaml_scan.specs.inside.Slots.{Held, held, completed_held, lost_held, root_of, slot_after, is_margin_level}
+use Rattle.yaml_scan.specs.inside.Slots.{Held, held, completed_held, lost_held, root_of, slot_after, is_level}
 use Rattle.yaml_scan.specs.inside.TextReads.{IsRead, IsOffence}
 use Rattle.yaml_scan.specs.inside.Scanning.{CanLayAll, CanPut, CanRead, CanStep, Ends, Holds, IsMet, IsNearOf, IsNewHeld, Offends, Passes, Stays}
 use Rattle.yaml_scan.specs.inside.Scanning.{allowed_in, groups_in, cleared_in, lost_after, met_in, refused_in}
@@ -57,12 +57,12 @@ falls_in H n s r = rw r.levels (open_columns-falls s.limit H r.is_history)
 pub lost_in_gap : (H : List Laid) (s : scanner_t) → CanStep H s → IsMarkOf s.text.chars s.front (front_of (source_of s.text.chars) H) → (h : Held)
     → lost_held s.limit s.front (root_of s.slots.outer.items s.slots.top) ≡ Some h → Offends H s (scanner_fault no_colon s.front (Some in_simple_key) h.start)
 lost_in_gap H s c i h e =
-    let margin : Bool = vec_len s.slots.outer == 0 in
+    let in_flow : Bool = nat_lt 0 (vec_len s.slots.outer) in
     let root : Option Held = root_of s.slots.outer.items s.slots.top in
-    row_lost H (s.made + 1) s c.holds c.running margin refl s.front i root (lost_held s.limit s.front root) (scanner_fault no_colon s.front (Some in_simple_key) h.start)
-    (root_held H (s.made + 1) s c.holds c.running margin refl root s.slots.outer.items refl refl) refl (rw e refl)
+    row_lost H (s.made + 1) s c.holds c.running in_flow refl s.front i root (lost_held s.limit s.front root) (scanner_fault no_colon s.front (Some in_simple_key) h.start)
+    (root_held H (s.made + 1) s c.holds c.running in_flow refl root s.slots.outer.items refl refl) refl (rw e refl)
 
-module _ (H : List Laid) (s : scanner_t) (margin : Bool) (w : Passes H s margin) where
+module _ (H : List Laid) (s : scanner_t) (in_flow : Bool) (w : Passes H s in_flow) where
   abbrev r : Holds H (s.made + 1) s
   r = w.can.holds
 
@@ -70,15 +70,15 @@ module _ (H : List Laid) (s : scanner_t) (margin : Bool) (w : Passes H s margin)
   root = root_of s.slots.outer.items s.slots.top
 
   root_is : root ≡ held s.limit H 0
-  root_is = root_held H (s.made + 1) s r w.can.running margin w.at_margin root s.slots.outer.items refl refl
+  root_is = root_held H (s.made + 1) s r w.can.running in_flow w.flow root s.slots.outer.items refl refl
 
   -- no lexeme starts there
-  pub no_kind_there : (source_of s.text.chars).kind (not margin) (front_of (source_of s.text.chars) H) ≡ None → Offends H s (scanner_fault no_token s.front (Some in_next_token) s.front)
-  no_kind_there e = row_no_kind H (s.made + 1) s r w.can.running margin w.at_margin s.front w.front root (lost_held s.limit s.front root) root_is refl w.none_lost None (sym e) (scanner_fault no_token s.front (Some in_next_token) s.front) refl refl
+  pub no_kind_there : (source_of s.text.chars).kind in_flow (front_of (source_of s.text.chars) H) ≡ None → Offends H s (scanner_fault no_token s.front (Some in_next_token) s.front)
+  no_kind_there e = row_no_kind H (s.made + 1) s r w.can.running in_flow w.flow s.front w.front root (lost_held s.limit s.front root) root_is refl w.none_lost None (sym e) (scanner_fault no_token s.front (Some in_next_token) s.front) refl refl
 
-  module _ (k : Kind) (K : (source_of s.text.chars).kind (not margin) (front_of (source_of s.text.chars) H) ≡ Some k) where
+  module _ (k : Kind) (K : (source_of s.text.chars).kind in_flow (front_of (source_of s.text.chars) H) ≡ Some k) where
     abbrev a : Bool
-    a = allowed_in s margin
+    a = allowed_in s in_flow
 
     abbrev c : Option Held
     c = completed_held k s.limit s.front s.slots.top
@@ -87,51 +87,54 @@ module _ (H : List Laid) (s : scanner_t) (margin : Bool) (w : Passes H s margin)
     none = not (is_some c)
 
     -- the kind is not allowed there
-    pub refused_there : (p : List ℕ) → refused_in s margin k a ≡ Some p → Offends H s (scanner_fault p s.front None s.front)
-    refused_there p e = row_refused H (s.made + 1) s r w.can.running margin w.at_margin s.front w.front root (lost_held s.limit s.front root) root_is refl w.none_lost (Some k) (sym K) k refl a refl c refl none (not_not (is_some c))
+    pub refused_there : (p : List ℕ) → refused_in s in_flow k a ≡ Some p → Offends H s (scanner_fault p s.front None s.front)
+    refused_there p e = row_refused H (s.made + 1) s r w.can.running in_flow w.flow s.front w.front root (lost_held s.limit s.front root) root_is refl w.none_lost (Some k) (sym K) k refl a refl c refl none (not_not (is_some c))
         (scanner_fault p s.front None s.front) (subst (λ (o : Option (List ℕ)). IsRefused o s.front (Some (scanner_fault p s.front None s.front))) (sym e) refl)
 
-    accepted : refused_in s margin k a ≡ None → IsRefused (refused_in s margin k a) s.front None
+    accepted : refused_in s in_flow k a ≡ None → IsRefused (refused_in s in_flow k a) s.front None
     accepted e = subst (λ (o : Option (List ℕ)). IsRefused o s.front None) (sym e) refl
 
     -- a required candidate would be cleared or replaced
-    pub cleared_there : refused_in s margin k a ≡ None → (h : Held) → cleared_in s margin k a ≡ Some h → Offends H s (scanner_fault no_colon (start_at k s.front) (Some in_simple_key) h.start)
-    cleared_there e h d = row_clears H (s.made + 1) s r w.can.running margin w.at_margin s.front w.front root (lost_held s.limit s.front root) root_is refl w.none_lost (Some k) (sym K) k refl a refl c refl none (not_not (is_some c))
-        (accepted e) (start_at k s.front) refl (cleared_in s margin k a) refl (scanner_fault no_colon (start_at k s.front) (Some in_simple_key) h.start) (subst (λ (o : Option Held). IsLost o (start_at k s.front) (scanner_fault no_colon (start_at k s.front) (Some in_simple_key) h.start)) (sym d) refl)
+    pub cleared_there : refused_in s in_flow k a ≡ None → (h : Held) → cleared_in s in_flow k a ≡ Some h → Offends H s (scanner_fault no_colon (start_at k s.front) (Some in_simple_key) h.start)
+    cleared_there e h d = row_clears H (s.made + 1) s r w.can.running in_flow w.flow s.front w.front root (lost_held s.limit s.front root) root_is refl w.none_lost (Some k) (sym K) k refl a refl c refl none (not_not (is_some c))
+        (accepted e) (start_at k s.front) refl (cleared_in s in_flow k a) refl (scanner_fault no_colon (start_at k s.front) (Some in_simple_key) h.start) (subst (λ (o : Option Held). IsLost o (start_at k s.front) (scanner_fault no_colon (start_at k s.front) (Some in_simple_key) h.start)) (sym d) refl)
 
     -- neither
-    pub met_there : refused_in s margin k a ≡ None → cleared_in s margin k a ≡ None → IsMet H s (record { kind = k; front = s.front; allowed = a })
+    pub met_there : refused_in s in_flow k a ≡ None → cleared_in s in_flow k a ≡ None → IsMet H s (record { kind = k; front = s.front; allowed = a })
     met_there e d = record {
       front = w.front;
-      allowed = allowed_is H (s.made + 1) s r w.can.running margin w.at_margin s.front w.front root (lost_held s.limit s.front root) root_is refl w.none_lost (Some k) (sym K) k refl a refl;
-      kind = sym (kind_is H (s.made + 1) s r w.can.running margin w.at_margin s.front w.front root (lost_held s.limit s.front root) root_is refl w.none_lost (Some k) (sym K));
-      step = row_met H (s.made + 1) s r w.can.running margin w.at_margin s.front w.front root (lost_held s.limit s.front root) root_is refl w.none_lost (Some k) (sym K) k refl a refl c refl none (not_not (is_some c))
-          (accepted e) (start_at k s.front) refl (cleared_in s margin k a) refl d;
+      allowed = allowed_is H (s.made + 1) s r w.can.running in_flow w.flow s.front w.front root (lost_held s.limit s.front root) root_is refl w.none_lost (Some k) (sym K) k refl a refl;
+      kind = sym (kind_is H (s.made + 1) s r w.can.running in_flow w.flow s.front w.front root (lost_held s.limit s.front root) root_is refl w.none_lost (Some k) (sym K));
+      step = row_met H (s.made + 1) s r w.can.running in_flow w.flow s.front w.front root (lost_held s.limit s.front root) root_is refl w.none_lost (Some k) (sym K) k refl a refl c refl none (not_not (is_some c))
+          (accepted e) (start_at k s.front) refl (cleared_in s in_flow k a) refl d;
     }
 
 -- what is kept of a lexeme is the same whenever it is asked
-new_same : (s : scanner_t) (margin : Bool) (q r : step_t) → q.kind ≡ r.kind → IsNewHeld s (met_in s q) margin q.context.level q.new → IsNewHeld s (met_in s r) margin r.context.level r.new → q.new ≡ r.new
-new_same s margin q r k a b =
+new_same : (s : scanner_t) (q r : step_t) → q.kind ≡ r.kind → IsNewHeld s (met_in s q) q.in_flow q.context.level q.new → IsNewHeld s (met_in s r) r.in_flow r.context.level r.new → q.new ≡ r.new
+new_same s q r k a b =
+    let f : q.in_flow ≡ r.in_flow = a.flow ∙ sym b.flow in
     let st : q.new.start ≡ r.new.start = a.start ∙ ap (λ (z : Kind). start_at z s.front) k ∙ sym b.start in
-    let lv : q.context.level ≡ r.context.level = a.is_greatest ∙ ap (λ (z : Kind). greatest_level (filter (stays (not margin) z q.new.start) (reverse s.layout.levels.items))) k
-    ∙ ap (λ (z : yaml_mark_t). greatest_level (filter (stays (not margin) r.kind z) (reverse s.layout.levels.items))) st ∙ sym b.is_greatest in
-    let rq : q.new.required ≡ r.new.required = a.required ∙ ap (λ (z : Option ℕ). is_margin_level margin z q.new.start.column) lv ∙ ap (λ (z : yaml_mark_t). is_margin_level margin r.context.level z.column) st ∙ sym b.required in
+    let lv : q.context.level ≡ r.context.level = a.is_greatest ∙ ap (λ (z : Bool). greatest_level (filter (stays z q.kind q.new.start) (reverse s.layout.levels.items))) f
+    ∙ ap (λ (z : Kind). greatest_level (filter (stays r.in_flow z q.new.start) (reverse s.layout.levels.items))) k
+    ∙ ap (λ (z : yaml_mark_t). greatest_level (filter (stays r.in_flow r.kind z) (reverse s.layout.levels.items))) st ∙ sym b.is_greatest in
+    let rq : q.new.required ≡ r.new.required = a.required ∙ ap (λ (z : Bool). is_level z q.context.level q.new.start.column) f
+    ∙ ap (λ (z : Option ℕ). is_level r.in_flow z q.new.start.column) lv ∙ ap (λ (z : yaml_mark_t). is_level r.in_flow r.context.level z.column) st ∙ sym b.required in
     held_same q.new r.new (a.step ∙ sym b.step) st rq
   where
     held_same : (h k : Held) → h.step ≡ k.step → h.start ≡ k.start → h.required ≡ k.required → h ≡ k
     held_same h k e f g = λ j. record { step = e j; start = f j; required = g j }
 
-pub root_same : (s : scanner_t) (margin : Bool) (q r : step_t) → q.kind ≡ r.kind → q.allowed ≡ r.allowed → IsNewHeld s (met_in s q) margin q.context.level q.new → IsNewHeld s (met_in s r) margin r.context.level r.new
+pub root_same : (s : scanner_t) (q r : step_t) → q.kind ≡ r.kind → q.allowed ≡ r.allowed → IsNewHeld s (met_in s q) q.in_flow q.context.level q.new → IsNewHeld s (met_in s r) r.in_flow r.context.level r.new
     → root_of s.slots.outer.items (slot_after q.kind q.allowed q.new s.slots.top) ≡ root_of s.slots.outer.items (slot_after r.kind r.allowed r.new s.slots.top)
-root_same s margin q r k a b c = let n = new_same s margin q r k b c in rw (k, a, n) refl
+root_same s q r k a b c = let n = new_same s q r k b c in rw (k, a, n) refl
 
 -- the candidate that is lost is found again
-pub lost_again : (s : scanner_t) (margin : Bool) (q r : step_t) → q.kind ≡ r.kind → q.allowed ≡ r.allowed → IsNewHeld s (met_in s q) margin q.context.level q.new → IsNewHeld s (met_in s r) margin r.context.level r.new
+pub lost_again : (s : scanner_t) (q r : step_t) → q.kind ≡ r.kind → q.allowed ≡ r.allowed → IsNewHeld s (met_in s q) q.in_flow q.context.level q.new → IsNewHeld s (met_in s r) r.in_flow r.context.level r.new
     → (there m : yaml_mark_t) → there ≡ m → (root : Option Held) → root ≡ root_of s.slots.outer.items (slot_after r.kind r.allowed r.new s.slots.top) → (l : Option Held) → l ≡ lost_held s.limit there root
     → lost_after s.limit s.slots (met_in s q) q.new m ≡ l
-lost_again s margin q r k a b c there m t root R l L =
+lost_again s q r k a b c there m t root R l L =
     ap (λ (z : yaml_mark_t). lost_after s.limit s.slots (met_in s q) q.new z) (sym t)
-    ∙ ap (λ (o : Option Held). lost_held s.limit there o) (root_same s margin q r k a b c ∙ sym R)
+    ∙ ap (λ (o : Option Held). lost_held s.limit there o) (root_same s q r k a b c ∙ sym R)
     ∙ sym L
 
 -- THE GAP
@@ -160,10 +163,10 @@ front_can H s m c = record { holds = with_room H (s.made + 1) s (at_front s m) c
 pub front_stays : (s : scanner_t) (m : yaml_mark_t) → Stays s (at_front s m)
 front_stays s m = record { same = record { text = refl; refusal = refl; near = refl; limit = refl; taken = refl; done = refl }; made = refl; reach = refl }
 
-module _ (H : List Laid) (s : scanner_t) (c : CanStep H s) (margin : Bool) (M : margin ≡ vec_len s.slots.outer == 0) (m : yaml_mark_t)
-    (G : (p : ℕ) → IsMarkOf s.text.chars s.reach p → IsMarkOf s.text.chars m ((source_of s.text.chars).gap (not margin) s.allowed p)) where
+module _ (H : List Laid) (s : scanner_t) (c : CanStep H s) (in_flow : Bool) (FLOW : in_flow ≡ nat_lt 0 (vec_len s.slots.outer)) (m : yaml_mark_t)
+    (G : (p : ℕ) → IsMarkOf s.text.chars s.reach p → IsMarkOf s.text.chars m ((source_of s.text.chars).gap in_flow s.allowed p)) where
   pub gap_front : IsMarkOf s.text.chars m (front_of (source_of s.text.chars) H)
-  gap_front = front_mark H (s.made + 1) s c.holds c.running margin M m (G (place_after H) (c.holds.place c.running))
+  gap_front = front_mark H (s.made + 1) s c.holds c.running in_flow FLOW m (G (place_after H) (c.holds.place c.running))
 
   module _ (outer : List (Option Held)) (O : outer ≡ s.slots.outer.items) (root : Option Held) (R : root ≡ root_of outer s.slots.top) (lost : Bool) (L : lost ≡ is_some (lost_held s.limit m root)) where
     lost_is : lost ≡ is_some (lost_held s.limit m (root_of s.slots.outer.items s.slots.top))
@@ -172,13 +175,13 @@ module _ (H : List Laid) (s : scanner_t) (c : CanStep H s) (margin : Bool) (M : 
     pub gap_lost : lost ≡ true → is_some (lost_held s.limit m (root_of s.slots.outer.items s.slots.top)) ≡ true
     gap_lost e = sym lost_is ∙ e
 
-    pub gap_passed : lost ≡ false → Passes H (at_front s m) margin
-    gap_passed e = record { can = front_can H s m c; at_margin = M; front = gap_front; none_lost = none_or (lost_held s.limit m (root_of s.slots.outer.items s.slots.top)) (sym lost_is ∙ e) }
+    pub gap_passed : lost ≡ false → Passes H (at_front s m) in_flow
+    gap_passed e = record { can = front_can H s m c; flow = FLOW; front = gap_front; none_lost = none_or (lost_held s.limit m (root_of s.slots.outer.items s.slots.top)) (sym lost_is ∙ e) }
 
 -- AFTER THE LEXEME
-module _ (H : List Laid) (s : scanner_t) (margin : Bool) (q : step_t) (c : CanRead H s margin q) where
+module _ (H : List Laid) (s : scanner_t) (q : step_t) (c : CanRead H s q) where
   abbrev cs : List ℕ
-  cs = filter (stays (not margin) q.kind q.new.start) (reverse s.layout.levels.items)
+  cs = filter (stays q.in_flow q.kind q.new.start) (reverse s.layout.levels.items)
 
   abbrev n : ℕ
   n = s.made + 1
@@ -188,7 +191,7 @@ module _ (H : List Laid) (s : scanner_t) (margin : Bool) (q : step_t) (c : CanRe
 
   -- its offence
   pub offence_there : (f : Fault) → IsOffence s.text.chars q.kind q.context.depth q.context.level (front_of (source_of s.text.chars) H) f → Offends H s f
-  offence_there f o = row_offence H n s c.can.holds c.can.running (met_in s q) c.met margin c.is_new.at_margin q.new.start c.is_new.start (reverse cs) (reverse-reverse cs) q.context.level level_of q.context.depth c.depth f o
+  offence_there f o = row_offence H n s c.can.holds c.can.running (met_in s q) c.met q.in_flow c.is_new.flow q.new.start c.is_new.start (reverse cs) (reverse-reverse cs) q.context.level level_of q.context.depth c.depth f o
 
   module _ (x : yaml_lexeme_t) (read : IsRead s.text.chars q.kind (vec_len s.slots.outer) q.context.level (front_of (source_of s.text.chars) H) x) where
     abbrev lost : Option Held
@@ -199,20 +202,20 @@ module _ (H : List Laid) (s : scanner_t) (margin : Bool) (q : step_t) (c : CanRe
 
     -- a candidate is lost after it
     pub stale_there : (h : Held) → lost ≡ Some h → Offends H s (scanner_fault no_colon x.reach (Some in_simple_key) h.start)
-    stale_there h e = row_stale H n s c.can.holds c.can.running (met_in s q) c.met margin c.is_new.at_margin q.new.start c.is_new.start (reverse cs) (reverse-reverse cs) q.context.level level_of (vec_len s.slots.outer) refl x read
+    stale_there h e = row_stale H n s c.can.holds c.can.running (met_in s q) c.met q.in_flow c.is_new.flow q.new.start c.is_new.start (reverse cs) (reverse-reverse cs) q.context.level level_of (vec_len s.slots.outer) refl x read
         (completed_held q.kind s.limit q.new.start s.slots.top) refl q.new c.is_new.step refl c.is_new.required q.allowed c.met.allowed _ refl _ s.slots.outer.items refl refl lost refl
         (scanner_fault no_colon x.reach (Some in_simple_key) h.start) (subst (λ (o : Option Held). IsLost o x.reach (scanner_fault no_colon x.reach (Some in_simple_key) h.start)) (sym e) refl)
 
     -- none is
     pub reads_there : lost ≡ None → step (source_of s.text.chars) s.limit H ≡ Reads X
-    reads_there e = step_reads H n s c.can.holds c.can.running (met_in s q) c.met margin c.is_new.at_margin q.new.start c.is_new.start (reverse cs) (reverse-reverse cs) q.context.level level_of (vec_len s.slots.outer) refl x read
+    reads_there e = step_reads H n s c.can.holds c.can.running (met_in s q) c.met q.in_flow c.is_new.flow q.new.start c.is_new.start (reverse cs) (reverse-reverse cs) q.context.level level_of (vec_len s.slots.outer) refl x read
         (completed_held q.kind s.limit q.new.start s.slots.top) refl q.new c.is_new.step refl c.is_new.required q.allowed c.met.allowed _ refl _ s.slots.outer.items refl refl lost refl e
 
     pub reach_index : x.reach.index ≡ ((source_of s.text.chars).mark read.0).index
-    reach_index = index_is H n s c.can.holds c.can.running (met_in s q) c.met margin c.is_new.at_margin q.new.start c.is_new.start (reverse cs) (reverse-reverse cs) q.context.level level_of (vec_len s.slots.outer) refl x read
+    reach_index = index_is H n s c.can.holds c.can.running (met_in s q) c.met q.in_flow c.is_new.flow q.new.start c.is_new.start (reverse cs) (reverse-reverse cs) q.context.level level_of (vec_len s.slots.outer) refl x read
 
     reach_within : read.0 ≤ length s.text.chars
-    reach_within = place_within H n s c.can.holds c.can.running (met_in s q) c.met margin c.is_new.at_margin q.new.start c.is_new.start (reverse cs) (reverse-reverse cs) q.context.level level_of (vec_len s.slots.outer) refl x read
+    reach_within = place_within H n s c.can.holds c.can.running (met_in s q) c.met q.in_flow c.is_new.flow q.new.start c.is_new.start (reverse cs) (reverse-reverse cs) q.context.level level_of (vec_len s.slots.outer) refl x read
 
     -- it is near the reader's fault
     pub near_there : s.near ≤ x.reach.index → (f : Fault) × (refusal_seen s.refusal ≡ Some f) × Ends H s f
@@ -229,8 +232,8 @@ module _ (H : List Laid) (s : scanner_t) (margin : Bool) (q : step_t) (c : CanRe
             ends (Some h) v = ends_near H s (scanner_fault no_colon x.reach (Some in_simple_key) h.start) (stale_there h v) c.can.near f e l
 
 -- a lexeme that was read can be laid
-pub can_put : (H : List Laid) (s : scanner_t) (margin : Bool) (q : step_t) (x : yaml_lexeme_t) → CanLayAll H s margin q x → CanPut H s (groups_in s) (met_in s q) margin q.new x
-can_put H s margin q x w = let c = w.can in record {
+pub can_put : (H : List Laid) (s : scanner_t) (q : step_t) (x : yaml_lexeme_t) → CanLayAll H s q x → CanPut H s (groups_in s) (met_in s q) q.in_flow q.new x
+can_put H s q x w = let c = w.can in record {
   can = record { holds = c.can.holds; running = c.can.running; small = c.can.small; few_steps = (let f = c.can.few_steps in omega arith); met = c.met };
   level = q.context.level;
   is_new = c.is_new;

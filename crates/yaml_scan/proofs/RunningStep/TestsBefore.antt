@@ -1,9 +1,7 @@
 -- The tests of a step before its lexeme are those of the definition, from what the scanner computes.
-use Rattle.std.proofs.Common.{◌≡◌, ℕ, ◌+◌, ◌≤◌, not, ◌&&◌, ◌||◌, Bool, true, false, List, length, Option, Some, None, refl, ap, sym, ◌∙◌, subst, arith, inl, inr, ltb, eqb, vec_len, eqb-true, ne_eqb, lt-ltb}
-use Rattle.std.specs.Bool.{◌==◌}
+use Rattle.std.proofs.Common.{◌≡◌, ℕ, ◌+◌, ◌≤◌, not, ◌&&◌, ◌||◌, Bool, true, false, List, length, Option, Some, None, refl, ap, sym, ◌∙◌, subst, arith, eqb, vec_len, eqb-true}
 use Rattle.std.specs.Option.{is_some}
 use Rattle.std.specs.Prelude.{if◌then◌else◌, option_map, nat_eq, nat_lt}
-use Rattle.std.proofs.lemmas.Bool.{cases_eq}
 use Rattle.yaml_text.specs.declared.types.yaml_mark_t.{yaml_mark_t}
 use Rattle.yaml_text.specs.Fault.{Fault, scanner_fault}
 use Rattle.yaml_lexeme.specs.Place.{IsMarkOf}
@@ -24,14 +22,8 @@ use Rattle.yaml_scan.specs.Step.{lost, no_kind, not_allowed, problem_of, replace
 use Rattle.yaml_scan.specs.Step.Outcome.{Faults}
 use Rattle.yaml_scan.specs.inside.StepFaults.{IsLost, IsRefused}
 use Rattle.yaml_scan.specs.inside.Scanning.{HoldsWith, Offends}
-use Rattle.yaml_scan.proofs.RunningStep.SlotTests.{completed_later, needed_later, lost_later, root_is, outer_length, kept_row, lost_row}
+use Rattle.yaml_scan.proofs.RunningStep.SlotTests.{completed_later, needed_later, lost_later, root_is, outer_length, kept_row, lost_row, zero_test}
 use Rattle.yaml_scan.proofs.Texts.TextOrder.{text_order}
-
-zero_test : (n : ℕ) → not (eqb n 0) ≡ ltb 0 n
-zero_test n = elim (cases_eq n 0) [
-  | inl e ↦ rw e refl
-  | inr e ↦ rw (ne_eqb n 0 e, lt-ltb 0 n (omega arith)) refl
-]
 
 pub is_none_map : (o : Option Laid) → is_none (option_map held_of o) ≡ is_none o
 is_none_map None = refl
@@ -65,12 +57,12 @@ start_index k g = go (Rattle.yaml_scan.specs.Kind.is_stream_end k) (nat_eq g.col
     go true false = refl
     go false b = refl
 
-module _ (H : List Laid) (n : ℕ) (s : scanner_t) {ys : List group_t} (r : HoldsWith H n s ys) (running : ended H ≡ false) (margin : Bool) (M : margin ≡ vec_len s.slots.outer == 0) where
-  pub margin_is : margin ≡ nat_eq (depth H) 0
-  margin_is = let e = ap (λ (l : List (Option Held)). length l) r.outer in let o = outer_length s.limit H (depth H) in let n : vec_len s.slots.outer ≡ depth H = omega arith in M ∙ (rw n refl)
+module _ (H : List Laid) (n : ℕ) (s : scanner_t) {ys : List group_t} (r : HoldsWith H n s ys) (running : ended H ≡ false) (in_flow : Bool) (FLOW : in_flow ≡ nat_lt 0 (vec_len s.slots.outer)) where
+  pub flow_is : in_flow ≡ nat_lt 0 (depth H)
+  flow_is = let e = ap (λ (l : List (Option Held)). length l) r.outer in let o = outer_length s.limit H (depth H) in let n : vec_len s.slots.outer ≡ depth H = omega arith in FLOW ∙ (rw n refl)
 
-  pub flow_is : not margin ≡ nat_lt 0 (depth H)
-  flow_is = ap (λ (b : Bool). not b) margin_is ∙ zero_test (depth H)
+  block_is : not in_flow ≡ nat_eq (depth H) 0
+  block_is = ap (λ (b : Bool). not b) flow_is ∙ zero_test (depth H)
 
   pub root_held : (root : Option Held) (l : List (Option Held)) → l ≡ s.slots.outer.items → root ≡ root_of l s.slots.top → root ≡ held s.limit H 0
   root_held root l e f = f ∙ (rw (e, r.outer) (root_is s.limit H (depth H) s.slots.top (λ z. r.top ∙ ap (λ (n : ℕ). held s.limit H n) z)))
@@ -82,8 +74,8 @@ module _ (H : List Laid) (n : ℕ) (s : scanner_t) {ys : List group_t} (r : Hold
   P = front_of S H
 
   -- where the gap ends
-  pub front_mark : (g : yaml_mark_t) → IsMarkOf s.text.chars g (S.gap (not margin) s.allowed (place_after H)) → IsMarkOf s.text.chars g P
-  front_mark g i = subst (λ (f : Bool). IsMarkOf s.text.chars g (S.gap f (allowed_after H) (place_after H))) flow_is (subst (λ (a : Bool). IsMarkOf s.text.chars g (S.gap (not margin) a (place_after H))) r.allowed i)
+  pub front_mark : (g : yaml_mark_t) → IsMarkOf s.text.chars g (S.gap in_flow s.allowed (place_after H)) → IsMarkOf s.text.chars g P
+  front_mark g i = subst (λ (f : Bool). IsMarkOf s.text.chars g (S.gap f (allowed_after H) (place_after H))) flow_is (subst (λ (a : Bool). IsMarkOf s.text.chars g (S.gap in_flow a (place_after H))) r.allowed i)
 
   module _ (g : yaml_mark_t) (G : IsMarkOf s.text.chars g P) where
     pub mark_is : g ≡ S.mark P
@@ -135,7 +127,7 @@ module _ (H : List Laid) (n : ℕ) (s : scanner_t) {ys : List group_t} (r : Hold
     row_not_lost : (root l : Option Held) → root ≡ held s.limit H 0 → l ≡ lost_held s.limit g root → l ≡ None → step S s.limit H ≡ kind_from g (S.kind (nat_lt 0 (depth H)) P)
     row_not_lost root l e k q = step_is ∙ kept_row (stale s.limit H g) l g P _ (stale_is root l e k) q
 
-    module _ (root l : Option Held) (e : root ≡ held s.limit H 0) (k : l ≡ lost_held s.limit g root) (q : l ≡ None) (o : Option Kind) (K : o ≡ S.kind (not margin) P) where
+    module _ (root l : Option Held) (e : root ≡ held s.limit H 0) (k : l ≡ lost_held s.limit g root) (q : l ≡ None) (o : Option Kind) (K : o ≡ S.kind in_flow P) where
       pub kind_is : o ≡ S.kind (nat_lt 0 (depth H)) P
       kind_is = K ∙ ap (λ (b : Bool). S.kind b P) flow_is
 
@@ -143,10 +135,10 @@ module _ (H : List Laid) (n : ℕ) (s : scanner_t) {ys : List group_t} (r : Hold
       pub row_no_kind : (f : Fault) → o ≡ None → f ≡ scanner_fault no_token g (Some in_next_token) g → Offends H s f
       row_no_kind f n u = offends_at (no_kind g P) f (row_not_lost root l e k q ∙ ap (λ (x : Option Kind). kind_from g x) (sym kind_is ∙ n)) (sym u) refl refl refl
 
-      module _ (kind : Kind) (some : o ≡ Some kind) (a : Bool) (A : a ≡ (s.allowed || (margin && nat_lt s.reach.line g.line))) where
+      module _ (kind : Kind) (some : o ≡ Some kind) (a : Bool) (A : a ≡ (s.allowed || (not in_flow && nat_lt s.reach.line g.line))) where
         pub allowed_is : a ≡ allowed H g
         unfolding allowed
-        allowed_is = A ∙ (rw (r.allowed, r.reach, margin_is) refl)
+        allowed_is = A ∙ (rw (r.allowed, r.reach, block_is) refl)
 
         step_kind : step S s.limit H ≡ kind_from g (Some kind)
         step_kind = row_not_lost root l e k q ∙ ap (λ (x : Option Kind). kind_from g x) (sym kind_is ∙ some)
@@ -155,12 +147,12 @@ module _ (H : List Laid) (n : ℕ) (s : scanner_t) {ys : List group_t} (r : Hold
           none_is : none ≡ is_none (completed_by s.limit H kind g)
           none_is = is_none_some c none N ∙ ap (λ (x : Option Held). is_none x) (C ∙ (rw r.top (completed_later s.limit H r.is_history g later kind))) ∙ is_none_map (completed_by s.limit H kind g)
 
-          refused_is : (if margin && not a then problem_of kind none else None) ≡ refused s.limit H kind g
+          refused_is : (if not in_flow && not a then problem_of kind none else None) ≡ refused s.limit H kind g
           unfolding refused
-          refused_is = rw (margin_is, allowed_is, none_is) refl
+          refused_is = rw (block_is, allowed_is, none_is) refl
 
           -- row 3
-          pub row_refused : (f : Fault) → IsRefused (if margin && not a then problem_of kind none else None) g (Some f) → Offends H s f
+          pub row_refused : (f : Fault) → IsRefused (if not in_flow && not a then problem_of kind none else None) g (Some f) → Offends H s f
           row_refused f u = go (refused s.limit H kind g) refl (subst (λ (x : Option (List ℕ)). IsRefused x g (Some f)) refused_is u)
             where
               some_same : (a b : Fault) → Some a ≡ Some b → b ≡ a
@@ -170,23 +162,23 @@ module _ (H : List Laid) (n : ℕ) (s : scanner_t) {ys : List group_t} (r : Hold
               go None w v = cc
               go (Some p) w v = offends_at (not_allowed p g P) f (step_kind ∙ ap (λ (x : Option (List ℕ)). refuse x g P (unless (clears s.limit H kind g) (start_at kind g) P (read_step S s.limit H kind P))) w) (some_same f _ v) refl refl refl
 
-          step_accepted : IsRefused (if margin && not a then problem_of kind none else None) g None → step S s.limit H ≡ unless (clears s.limit H kind g) (start_at kind g) P (read_step S s.limit H kind P)
+          step_accepted : IsRefused (if not in_flow && not a then problem_of kind none else None) g None → step S s.limit H ≡ unless (clears s.limit H kind g) (start_at kind g) P (read_step S s.limit H kind P)
           step_accepted u = step_kind ∙ go (refused s.limit H kind g) (subst (λ (x : Option (List ℕ)). IsRefused x g None) refused_is u)
             where
               go : (x : Option (List ℕ)) → IsRefused x g None → refuse x g P (unless (clears s.limit H kind g) (start_at kind g) P (read_step S s.limit H kind P)) ≡ unless (clears s.limit H kind g) (start_at kind g) P (read_step S s.limit H kind P)
               go None v = refl
               go (Some p) v = cc
 
-          clears_is : (d : Option Held) → d ≡ (if replaces kind a && margin then needed s.limit g s.slots.top else None) → d ≡ option_map held_of (clears s.limit H kind g)
+          clears_is : (d : Option Held) → d ≡ (if replaces kind a && not in_flow then needed s.limit g s.slots.top else None) → d ≡ option_map held_of (clears s.limit H kind g)
           unfolding clears
-          clears_is d D = D ∙ (rw (allowed_is, margin_is, r.top) (go (replaces kind (allowed H g)) (nat_eq (depth H) 0) refl))
+          clears_is d D = D ∙ (rw (allowed_is, block_is, r.top) (go (replaces kind (allowed H g)) (nat_eq (depth H) 0) refl))
             where
               go : (x y : Bool) → nat_eq (depth H) 0 ≡ y → (if x && y then needed s.limit g (held s.limit H (depth H)) else None) ≡ option_map held_of (if x && y then only_live s.limit g (required H) else None)
               go true true z = (let w : depth H ≡ 0 = eqb-true _ _ z in rw w (needed_later s.limit H r.is_history g later))
               go true false z = refl
               go false y z = refl
 
-          module _ (u : IsRefused (if margin && not a then problem_of kind none else None) g None) (start : yaml_mark_t) (B : start ≡ start_at kind g) (d : Option Held) (D : d ≡ (if replaces kind a && margin then needed s.limit g s.slots.top else None)) where
+          module _ (u : IsRefused (if not in_flow && not a then problem_of kind none else None) g None) (start : yaml_mark_t) (B : start ≡ start_at kind g) (d : Option Held) (D : d ≡ (if replaces kind a && not in_flow then needed s.limit g s.slots.top else None)) where
             -- row 4
             pub row_clears : (f : Fault) → IsLost d start f → Offends H s f
             row_clears f w = let v : Loses (start_at kind g) P (unless (clears s.limit H kind g) (start_at kind g) P (read_step S s.limit H kind P)) f = loses (clears s.limit H kind g) d (start_at kind g) P _ f (clears_is d D) (subst (λ (m : yaml_mark_t). IsLost d m f) B w) in

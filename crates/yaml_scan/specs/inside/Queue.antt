@@ -84,16 +84,16 @@ keyed_at (suc n) opens (y ∷ ys) = y ∷ keyed_at n opens ys
 
 -- the groups after a lexeme that completes the candidate that is held, if d groups were taken
 abbrev pub completed_in : Bool → Option Held → List ℕ → ℕ → List group_t → List group_t
-completed_in margin None cs d ys = ys
-completed_in margin (Some h) cs d ys = keyed_at (h.step - 1 - d) (is_new margin h.start.column cs) ys
+completed_in in_flow None cs d ys = ys
+completed_in in_flow (Some h) cs d ys = keyed_at (h.step - 1 - d) (is_new in_flow h.start.column cs) ys
 
 abbrev pub start_of : Kind → block_t
 start_of k = if is_block_entry k then SEQUENCE else MAPPING
 
 -- what a lexeme of kind k in a column opens itself
 abbrev pub opened_by : Bool → Option Held → Kind → ℕ → List ℕ → block_t
-opened_by margin None k column cs = if is_new margin column cs && opens_level k true then start_of k else NONE
-opened_by margin (Some h) k column cs = NONE
+opened_by in_flow None k column cs = if is_new in_flow column cs && opens_level k true then start_of k else NONE
+opened_by in_flow (Some h) k column cs = NONE
 
 -- the group of the candidate that is held is among those that are queued, if d were taken
 abbrev pub Fitting : Option Held → ℕ → List group_t → Type 0
@@ -140,5 +140,5 @@ pub record Takes (e : yaml_encoding_t) (old new : queue_t) (token : yaml_token_t
 
 -- the column on top of the stack of levels, if a lexeme does not keep it
 abbrev pub closing : Bool → Kind → yaml_mark_t → List ℕ → Option ℕ
-closing flow k m [] = None
-closing flow k m (c ∷ cs) = if stays flow k m c then None else Some c
+closing in_flow k m [] = None
+closing in_flow k m (c ∷ cs) = if stays in_flow k m c then None else Some c

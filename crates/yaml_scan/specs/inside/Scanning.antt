@@ -2,7 +2,6 @@
 use Rattle.std.specs.Prelude.{◌≡◌, ℕ, ◌+◌, ◌-◌, ◌≤◌, ◌<◌, ◌^◌, true, false, List, [], ◌∷◌, ◌++◌, reverse, drop, length}
 use Rattle.std.specs.Prelude.{◌⊎◌, ◌&&◌, ◌||◌, Bool, Option, None, Some, nat_lt, not, filter, vec_len, MatchResult}
 use Rattle.std.specs.Prelude.{Result, Ok, Err, if◌then◌else◌}
-use Rattle.std.specs.Bool.{◌==◌}
 use Rattle.std.specs.Option.{IfSome, is_some}
 use Rattle.std.specs.Vec.{vec_capacity}
 use Rattle.std.specs.VecDeque.{deque_capacity}
@@ -20,7 +19,7 @@ use Rattle.yaml_lexeme.specs.declared.problem.yaml_refusal_t.{yaml_refusal_t}
 use Rattle.yaml_lexeme.specs.declared.problem.yaml_refusal_t.TheVariants.{MEMORY}
 use Rattle.yaml_scan.specs.declared.fault.stop_t.{stop_t}
 use Rattle.yaml_scan.specs.declared.groups.group_t.{group_t}
-use Rattle.yaml_scan.specs.declared.look.step_t.{step_t}
+use Rattle.yaml_scan.specs.declared.met.step_t.{step_t}
 use Rattle.yaml_scan.specs.declared.scanner.scanner_t.{scanner_t}
 use Rattle.yaml_scan.specs.declared.slots.slots_t.{slots_t}
 use Rattle.yaml_scan.specs.Kind.{Kind, is_candidate_kind, is_flow_start}
@@ -37,7 +36,7 @@ use Rattle.yaml_scan.specs.Order.{IsHistory, ended}
 use Rattle.yaml_scan.specs.Groups.{offline}
 use Rattle.yaml_scan.specs.Settled.{before, pace}
 use Rattle.yaml_scan.specs.inside.Slots.{Held, held, outer_to, empty_slots, lowest, step_of}
-use Rattle.yaml_scan.specs.inside.Slots.{completed_held, is_live, is_margin_level, lost_held, needed}
+use Rattle.yaml_scan.specs.inside.Slots.{completed_held, is_live, is_level, lost_held, needed}
 use Rattle.yaml_scan.specs.inside.Slots.{root_of, slot_after}
 use Rattle.yaml_scan.specs.inside.Queue.{IsQueue, closing}
 use Rattle.yaml_scan.specs.Step.{step, read_step, stale, place_after, front_of, start_at, problem_of, replaces}
@@ -130,38 +129,38 @@ pub record CanStep (H : List Laid) (s : scanner_t) : Type 0 where
   pub few_steps : s.made + 2 < 2 ^ 64
   pub near : IsNearOf (refusal_seen s.refusal) s.text.chars s.near
 
--- the gap was passed at depth 0 (margin) or not, and no candidate is lost there
-pub record Passes (H : List Laid) (s : scanner_t) (margin : Bool) : Type 0 where
+-- the gap was passed, in flow or not, and no candidate is lost there
+pub record Passes (H : List Laid) (s : scanner_t) (in_flow : Bool) : Type 0 where
   pub can : CanStep H s
-  pub at_margin : margin ≡ vec_len s.slots.outer == 0
+  pub flow : in_flow ≡ nat_lt 0 (vec_len s.slots.outer)
   pub front : IsMarkOf s.text.chars s.front (front_of (text_of s) H)
   pub none_lost : lost_held s.limit s.front (root_of s.slots.outer.items s.slots.top) ≡ None
 
 -- a lexeme of kind k comes after the gap
-pub record Comes (H : List Laid) (s : scanner_t) (margin : Bool) (k : Kind) : Type 0 where
-  pub passes : Passes H s margin
-  pub is_kind : (text_of s).kind (not margin) (front_of (text_of s) H) ≡ Some k
+pub record Comes (H : List Laid) (s : scanner_t) (in_flow : Bool) (k : Kind) : Type 0 where
+  pub passes : Passes H s in_flow
+  pub is_kind : (text_of s).kind in_flow (front_of (text_of s) H) ≡ Some k
 
 -- whether a key is allowed there
 abbrev pub allowed_in : scanner_t → Bool → Bool
-allowed_in s margin = s.allowed || (margin && nat_lt s.reach.line s.front.line)
+allowed_in s in_flow = s.allowed || (not in_flow && nat_lt s.reach.line s.front.line)
 
 -- what is wrong with a kind after the gap, if it needs an allowed key and none is allowed
 abbrev pub refused_in : scanner_t → Bool → Kind → Bool → Option (List ℕ)
-refused_in s margin k allowed = if margin && not allowed
+refused_in s in_flow k allowed = if not in_flow && not allowed
     then problem_of k (not (is_some (completed_held k s.limit s.front s.slots.top))) else None
 
 -- the required candidate that a lexeme of a kind after the gap would clear or replace
 abbrev pub cleared_in : scanner_t → Bool → Kind → Bool → Option Held
-cleared_in s margin k allowed = if replaces k allowed && margin then needed s.limit s.front s.slots.top else None
+cleared_in s in_flow k allowed = if replaces k allowed && not in_flow then needed s.limit s.front s.slots.top else None
 
--- `new` is what is kept of the lexeme that was met, at depth 0 (margin) or not, with the greatest level that it keeps
-pub record IsNewHeld (s : scanner_t) (m : Met) (margin : Bool) (l : Option ℕ) (new : Held) : Type 0 where
-  pub at_margin : margin ≡ vec_len s.slots.outer == 0
-  pub is_greatest : l ≡ greatest_level (filter (stays (not margin) m.kind new.start) (reverse s.layout.levels.items))
+-- `new` is what is kept of the lexeme that was met, in flow or not, with the greatest level that it keeps
+pub record IsNewHeld (s : scanner_t) (m : Met) (in_flow : Bool) (l : Option ℕ) (new : Held) : Type 0 where
+  pub flow : in_flow ≡ nat_lt 0 (vec_len s.slots.outer)
+  pub is_greatest : l ≡ greatest_level (filter (stays in_flow m.kind new.start) (reverse s.layout.levels.items))
   pub step : new.step ≡ s.made + 1
   pub start : new.start ≡ start_at m.kind m.front
-  pub required : new.required ≡ is_margin_level margin l new.start.column
+  pub required : new.required ≡ is_level in_flow l new.start.column
 
 -- the required candidate that is stale at a mark after the lexeme that was met
 abbrev pub lost_after : ℕ → slots_t → Met → Held → yaml_mark_t → Option Held
@@ -170,19 +169,19 @@ lost_after limit slots m new mark =
 
 -- a lexeme that was read can be laid, after the groups ys
 pub record CanPut
-    (H : List Laid) (s : scanner_t) (ys : List group_t) (m : Met) (margin : Bool) (new : Held) (x : yaml_lexeme_t)
+    (H : List Laid) (s : scanner_t) (ys : List group_t) (m : Met) (in_flow : Bool) (new : Held) (x : yaml_lexeme_t)
     : Type 0 where
   pub can : CanLay H s ys m
   pub level : Option ℕ
-  pub is_new : IsNewHeld s m margin level new
+  pub is_new : IsNewHeld s m in_flow level new
   pub read : IsRead s.text.chars m.kind (vec_len s.slots.outer) level (front_of (text_of s) H) x
   pub kept : lost_after s.limit s.slots m new x.reach ≡ None
 
 -- a lexeme that was met can be read, and there is room for it
-pub record CanRead (H : List Laid) (s : scanner_t) (margin : Bool) (r : step_t) : Type 0 where
+pub record CanRead (H : List Laid) (s : scanner_t) (r : step_t) : Type 0 where
   pub can : CanStep H s
   pub met : IsMet H s (met_in s r)
-  pub is_new : IsNewHeld s (met_in s r) margin r.context.level r.new
+  pub is_new : IsNewHeld s (met_in s r) r.in_flow r.context.level r.new
   pub depth : r.context.depth ≡ vec_len s.slots.outer
   pub within : IfSome r.context.level (λ l. l ≤ length s.text.chars)
   pub there : (text_of s).kind (nat_lt 0 r.context.depth) (front_of (text_of s) H) ≡ Some r.kind
@@ -218,8 +217,8 @@ IsReadIn s k x there (Err r) = (p : ℕ) → IsMarkOf s.text.chars s.front p
     → (r ≡ MEMORY) ⊎ IsOffence s.text.chars k x.depth x.level p (refused_at k s.front there r)
 
 -- A step has to stop after the lexeme x, which was read to `there`.
-pub record StopsAfter (H : List Laid) (s : scanner_t) (margin : Bool) (r : step_t) (x : yaml_lexeme_t) : Type 0 where
-  pub can : CanRead H s margin r
+pub record StopsAfter (H : List Laid) (s : scanner_t) (r : step_t) (x : yaml_lexeme_t) : Type 0 where
+  pub can : CanRead H s r
   pub read : IsRead s.text.chars r.kind (vec_len s.slots.outer) r.context.level (front_of (text_of s) H) x
   pub there : s.there ≡ x.reach
   pub stops : (s.near ≤ x.reach.index) ⊎ (is_some (lost_after s.limit s.slots (met_in s r) r.new x.reach) ≡ true)
@@ -271,26 +270,26 @@ pub record AdvancesWith (H : List Laid) (s t : scanner_t) (zs : List group_t) : 
 
 -- The token of a lexeme that was met needs what comes after it, if it is read to `at`: it is a candidate, and no other
 -- token is queued. If sparing, it closes no level, so its token is the next one. There is room for two groups.
-pub record IsUndecided (s : scanner_t) (margin sparing : Bool) (r : step_t) (at : yaml_mark_t) : Type 0 where
+pub record IsUndecided (s : scanner_t) (sparing : Bool) (r : step_t) (at : yaml_mark_t) : Type 0 where
   pub candidate : is_candidate_kind r.kind ≡ true
   pub stays : is_flow_start r.kind ≡ false
   pub allowed : r.allowed ≡ true
   pub alone : s.layout.queue.groups.items ≡ []
   pub room : 1 < deque_capacity s.layout.queue.groups
-  pub kept : sparing ≡ true → closing (not margin) r.kind r.new.start (reverse s.layout.levels.items) ≡ None
+  pub kept : sparing ≡ true → closing r.in_flow r.kind r.new.start (reverse s.layout.levels.items) ≡ None
   pub live : is_live s.limit at r.new ≡ true
 
 -- the lexeme x, of kind k, which comes right there, decides whether it is a key
 pub record IsDecided
-    (s : scanner_t) (margin sparing : Bool) (r : step_t) (at : yaml_mark_t) (k : Kind) (x : yaml_lexeme_t)
+    (s : scanner_t) (sparing : Bool) (r : step_t) (at : yaml_mark_t) (k : Kind) (x : yaml_lexeme_t)
     : Type 0 where
-  pub undecided : IsUndecided s margin sparing r at
-  pub decider : (p : ℕ) → IsMarkOf s.text.chars at p → IsDecider s.text.chars (not margin) p k x
+  pub undecided : IsUndecided s sparing r at
+  pub decider : (p : ℕ) → IsMarkOf s.text.chars at p → IsDecider s.text.chars r.in_flow p k x
   pub far : x.reach.index < s.near
 
 -- a lexeme that was read can be laid, alone or with what decides whether it is a key
-pub record CanLayAll (H : List Laid) (s : scanner_t) (margin : Bool) (r : step_t) (x : yaml_lexeme_t) : Type 0 where
-  pub can : CanRead H s margin r
+pub record CanLayAll (H : List Laid) (s : scanner_t) (r : step_t) (x : yaml_lexeme_t) : Type 0 where
+  pub can : CanRead H s r
   pub read : (p : ℕ) → IsMarkOf s.text.chars s.front p
       → IsRead s.text.chars r.kind r.context.depth r.context.level p x
   pub kept : lost_after s.limit s.slots (met_in s r) r.new x.reach ≡ None

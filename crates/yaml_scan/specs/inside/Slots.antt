@@ -79,9 +79,9 @@ step_of (Some h) = h.step
 abbrev pub completed_held : Kind → ℕ → yaml_mark_t → Option Held → Option Held
 completed_held k limit m top = if is_value k then still_held limit m top else None
 
--- a column at depth 0 (margin) is the level
-abbrev pub is_margin_level : Bool → Option ℕ → ℕ → Bool
-is_margin_level margin l c = margin && names c l
+-- a column outside flow is the level
+abbrev pub is_level : Bool → Option ℕ → ℕ → Bool
+is_level in_flow l c = not in_flow && names c l
 
 -- THE NEXT DEPTH
 -- the outer slots after a lexeme of kind k

@@ -24,8 +24,8 @@ pub record IsProblem (S : Source) (o : Offence) : Type 0 where
 
 -- After p characters comes the lexeme x, of kind k, before which there is no gap, in flow or not. It decides whether a
 -- candidate before it is a key.
-pub record IsDecider (cs : List ℕ) (flow : Bool) (p : ℕ) (k : Kind) (x : yaml_lexeme_t) : Type 0 where
-  pub decides : decides flow k ≡ true
-  pub gap : (allowed : Bool) → (source_of cs).gap flow allowed p ≡ p
-  pub kind : (source_of cs).kind flow p ≡ Some k
+pub record IsDecider (cs : List ℕ) (in_flow : Bool) (p : ℕ) (k : Kind) (x : yaml_lexeme_t) : Type 0 where
+  pub decides : decides in_flow k ≡ true
+  pub gap : (allowed : Bool) → (source_of cs).gap in_flow allowed p ≡ p
+  pub kind : (source_of cs).kind in_flow p ≡ Some k
   pub read : (d : ℕ) (l : Option ℕ) → IsRead cs k d l p x

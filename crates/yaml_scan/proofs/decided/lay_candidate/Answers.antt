@@ -11,12 +11,12 @@ use Rattle.yaml_scan.proofs.decided.lay_candidate.Goals.{then-key, else-key}
 
 pub is_new_level-opens-requires : goal.is_new_level-opens-requires
 is_new_level-opens-requires c = let r = c.args.step in let e = c.close_levels-closed.ensures in
-    rw (c.deref.ensures.value, e.levels) (filter_falls (stays (not c.args.margin) r.kind r.new.start) (reverse c.args.levels.now.items) c.requires.falls)
+    rw (c.deref.ensures.value, e.levels) (filter_falls (stays r.in_flow r.kind r.new.start) (reverse c.args.levels.now.items) c.requires.falls)
 
 pub returns-clause-ends : goal.returns-clause-ends
 returns-clause-ends c = let r = c.args.step in let e = c.close_levels-closed.ensures in
     let n = e.none c.requires.last in
-    let w : ends_at c.close_levels-closed.result.early r.new.start ++ ends_at c.close_levels-closed.result.ends r.new.start ≡ map (λ z. BlockEnd (end_at r.kind r.new.start r.new.start z)) (filter (λ z. not (stays (not c.args.margin) r.kind r.new.start z)) (reverse c.args.levels.now.items)) = e.ends in
+    let w : ends_at c.close_levels-closed.result.early r.new.start ++ ends_at c.close_levels-closed.result.ends r.new.start ≡ map (λ z. BlockEnd (end_at r.kind r.new.start r.new.start z)) (filter (λ z. not (stays r.in_flow r.kind r.new.start z)) (reverse c.args.levels.now.items)) = e.ends in
     rw (n, c.requires.last) at w
 
 pub returns-clause-levels : goal.returns-clause-levels
@@ -24,8 +24,8 @@ returns-clause-levels c =
     let e = c.close_levels-closed.ensures in
     let r = c.args.step in
     let cs : List ℕ = reverse c.close_levels-closed.new.levels.items in
-    let o : c.if-key.opens ≡ (c.args.key && is_new c.args.margin r.new.start.column cs) = elim c.if-key.branch [
-      | then-key w ↦ w.opens-is ∙ w.is_new_level-opens.ensures ∙ ap (λ (l : List ℕ). is_new c.args.margin r.new.start.column (reverse l)) w.deref.ensures.value ∙ (rw w.if-key.true refl)
+    let o : c.if-key.opens ≡ (c.args.key && is_new r.in_flow r.new.start.column cs) = elim c.if-key.branch [
+      | then-key w ↦ w.opens-is ∙ w.is_new_level-opens.ensures ∙ ap (λ (l : List ℕ). is_new r.in_flow r.new.start.column (reverse l)) w.deref.ensures.value ∙ (rw w.if-key.true refl)
       | else-key w ↦ w.opens-is ∙ (rw w.if-key.false refl)
     ] in (
       c.close_levels-closed.new.levels.items,

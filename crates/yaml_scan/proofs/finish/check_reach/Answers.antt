@@ -23,11 +23,12 @@ stop_after-requires g c =
       q,
       x,
       record {
-        can = read_in g.before s c.args.margin q (record s { there = x.reach }) can;
+        can = read_in g.before s q (record s { there = x.reach }) can;
         read = subst (λ (d : ℕ). IsRead s.text.chars q.kind d q.context.level (front_of (source_of s.text.chars) g.before) x) can.depth (c.requires.1 (front_of (source_of s.text.chars) g.before) can.met.front);
         there = refl;
         stops = stops;
       },
+      refl,
       refl,
       refl,
     )

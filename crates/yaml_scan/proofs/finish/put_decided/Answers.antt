@@ -12,15 +12,15 @@ pub hand_on-requires : goal.hand_on-requires
 hand_on-requires g c =
     let r = c.requires.1.1 in
     let s = c.args.scanner.now in
-    let x = lexeme_of c.args.lexeme in
-    let w = lexeme_of c.args.decider.lexeme in
-    let k = c.args.decider.kind in
+    let x = lexeme_of c.args.both.lexeme in
+    let w = lexeme_of c.args.both.decider.lexeme in
+    let k = c.args.both.decider.kind in
     let l = c.lay_decided-first.ensures in
     let u = c.lay_decided-first.new.scanner in
     let y = c.lay_decided-first.result.0 in
     let z = lone c.lay_decided-first.result.1 in
-    let alone = alone_there _ g.before s c.args.margin c.args.step x r.0 k w r.1 u.layout.queue l.queue in
-    let room = room_there _ g.before s c.args.margin c.args.step x r.0 k w r.1 u.layout.queue l.queue in
+    let alone = alone_there _ g.before s c.args.step x r.0 k w r.1 u.layout.queue l.queue in
+    let room = room_there _ g.before s c.args.step x r.0 k w r.1 u.layout.queue l.queue in
     let two = l.laid _ r.1 in
     let few = r.0.can.can.few_steps in
     let taken = few_both _ g.before s u y z two few alone in
@@ -28,7 +28,7 @@ hand_on-requires g c =
     let n = ap (λ (ys : List group_t). length ys) alone in
     record {
       room = omega arith;
-      words = words_there g.before s c.args.margin c.args.step x r.0 _ l.first;
+      words = words_there g.before s c.args.step x r.0 _ l.first;
       done = omega arith;
       taken = omega arith;
     }
@@ -37,63 +37,63 @@ pub hand_token-requires : goal.hand_token-requires
 hand_token-requires g c =
     let r = c.requires.1.1 in
     let s = c.args.scanner.now in
-    let x = lexeme_of c.args.lexeme in
-    let w = lexeme_of c.args.decider.lexeme in
-    let k = c.args.decider.kind in
+    let x = lexeme_of c.args.both.lexeme in
+    let w = lexeme_of c.args.both.decider.lexeme in
+    let k = c.args.both.decider.kind in
     let l = c.lay_decided-first.ensures in
     let u = c.lay_decided-first.new.scanner in
     let y = c.lay_decided-first.result.0 in
     let z = lone c.lay_decided-first.result.1 in
-    let alone = alone_there _ g.before s c.args.margin c.args.step x r.0 k w r.1 u.layout.queue l.queue in
-    let room = room_there _ g.before s c.args.margin c.args.step x r.0 k w r.1 u.layout.queue l.queue in
+    let alone = alone_there _ g.before s c.args.step x r.0 k w r.1 u.layout.queue l.queue in
+    let room = room_there _ g.before s c.args.step x r.0 k w r.1 u.layout.queue l.queue in
     let two = l.laid _ r.1 in
     let few = r.0.can.can.few_steps in
     let taken = few_both _ g.before s u y z two few alone in
     let done = done_both _ g.before s u y z two few alone in
     let e = c.in-Ok.ensures in
     let f = first_done _ u c.hand_on.new.scanner y z e.0 e.1 alone room done taken in
-    record { room = f.0; words = decider_words _ g.before s c.args.margin c.args.step x r.0 k w r.1 _ l.second; done = f.1; taken = f.2 }
+    record { room = f.0; words = decider_words _ g.before s c.args.step x r.0 k w r.1 _ l.second; done = f.1; taken = f.2 }
 
 pub returns-in-Ok : goal.returns-in-Ok
 returns-in-Ok g c =
     let r = c.requires.1.1 in
     let s = c.args.scanner.now in
-    let x = lexeme_of c.args.lexeme in
-    let w = lexeme_of c.args.decider.lexeme in
-    let k = c.args.decider.kind in
+    let x = lexeme_of c.args.both.lexeme in
+    let w = lexeme_of c.args.both.decider.lexeme in
+    let k = c.args.both.decider.kind in
     let l = c.lay_decided-first.ensures in
     let u = c.lay_decided-first.new.scanner in
     let y = c.lay_decided-first.result.0 in
     let z = lone c.lay_decided-first.result.1 in
-    let alone = alone_there _ g.before s c.args.margin c.args.step x r.0 k w r.1 u.layout.queue l.queue in
-    let room = room_there _ g.before s c.args.margin c.args.step x r.0 k w r.1 u.layout.queue l.queue in
+    let alone = alone_there _ g.before s c.args.step x r.0 k w r.1 u.layout.queue l.queue in
+    let room = room_there _ g.before s c.args.step x r.0 k w r.1 u.layout.queue l.queue in
     let two = l.laid _ r.1 in
     let few = r.0.can.can.few_steps in
     let taken = few_both _ g.before s u y z two few alone in
     let done = done_both _ g.before s u y z two few alone in
     let e = c.in-Ok.ensures in
-    both_done _ g.before s u y z two few alone (early_there _ g.before s c.args.margin c.args.step x r.0 k w r.1 u.layout.queue l.queue) l.awaited
-    (candidate_says _ g.before s c.args.margin c.args.step x r.0 k w r.1 _ l.first) (decider_says _ g.before s c.args.margin c.args.step x r.0 k w r.1 _ l.second)
+    both_done _ g.before s u y z two few alone (early_there _ g.before s c.args.step x r.0 k w r.1 u.layout.queue l.queue) l.awaited
+    (candidate_says _ g.before s c.args.step x r.0 k w r.1 _ l.first) (decider_says _ g.before s c.args.step x r.0 k w r.1 _ l.second)
     c.hand_on.new.scanner c.hand_token.new.scanner g.S.yaml_token_sink_t.took g.met.S.yaml_token_sink_t.took_more c.args.sink.now c.hand_on.new.sink c.hand_token.new.sink _ e.0 e.1 e.2 c.hand_token.result c.hand_token.ensures
 
 pub returns-in-Err : goal.returns-in-Err
 returns-in-Err g c =
     let r = c.requires.1.1 in
     let s = c.args.scanner.now in
-    let x = lexeme_of c.args.lexeme in
-    let w = lexeme_of c.args.decider.lexeme in
-    let k = c.args.decider.kind in
+    let x = lexeme_of c.args.both.lexeme in
+    let w = lexeme_of c.args.both.decider.lexeme in
+    let k = c.args.both.decider.kind in
     let l = c.lay_decided-first.ensures in
     let u = c.lay_decided-first.new.scanner in
     let y = c.lay_decided-first.result.0 in
     let z = lone c.lay_decided-first.result.1 in
-    let alone = alone_there _ g.before s c.args.margin c.args.step x r.0 k w r.1 u.layout.queue l.queue in
-    let room = room_there _ g.before s c.args.margin c.args.step x r.0 k w r.1 u.layout.queue l.queue in
+    let alone = alone_there _ g.before s c.args.step x r.0 k w r.1 u.layout.queue l.queue in
+    let room = room_there _ g.before s c.args.step x r.0 k w r.1 u.layout.queue l.queue in
     let two = l.laid _ r.1 in
     let few = r.0.can.can.few_steps in
     let taken = few_both _ g.before s u y z two few alone in
     let done = done_both _ g.before s u y z two few alone in
     let e = c.in-Err.ensures in
-    first_cut _ g.before s u y z two few alone (early_there _ g.before s c.args.margin c.args.step x r.0 k w r.1 u.layout.queue l.queue) l.awaited
-    (candidate_says _ g.before s c.args.margin c.args.step x r.0 k w r.1 _ l.first) (decider_says _ g.before s c.args.margin c.args.step x r.0 k w r.1 _ l.second)
+    first_cut _ g.before s u y z two few alone (early_there _ g.before s c.args.step x r.0 k w r.1 u.layout.queue l.queue) l.awaited
+    (candidate_says _ g.before s c.args.step x r.0 k w r.1 _ l.first) (decider_says _ g.before s c.args.step x r.0 k w r.1 _ l.second)
     c.hand_on.new.scanner c.hand_on.new.scanner _ _ c.stopped.result e.0 (c.stopped.ensures ∙ e.2) e.3 e.4

@@ -4,20 +4,20 @@ use Rattle.yaml_scan.proofs.RunningStep.StepTests.{can_put}
 use Rattle.yaml_scan.proofs.finish.put_lexeme.Goals as goal
 
 pub lay_lexeme-group-requires : goal.lay_lexeme-group-requires
-lay_lexeme-group-requires g c = (can_put g.before c.args.scanner.now c.args.margin c.args.step (lexeme_of c.args.lexeme) c.requires.1.1, c.requires.1.1.can.room)
+lay_lexeme-group-requires g c = (can_put g.before c.args.scanner.now c.args.step (lexeme_of c.args.lexeme) c.requires.1.1, c.requires.1.1.can.room)
 
 pub hand_on-requires-clause-words : goal.hand_on-requires-clause-words
-hand_on-requires-clause-words g c = words_there g.before c.args.scanner.now c.args.margin c.args.step (lexeme_of c.args.lexeme) c.requires.1.1 _ c.lay_lexeme-group.ensures.says
+hand_on-requires-clause-words g c = words_there g.before c.args.scanner.now c.args.step (lexeme_of c.args.lexeme) c.requires.1.1 _ c.lay_lexeme-group.ensures.says
 
 pub hand_on-requires-clause-done : goal.hand_on-requires-clause-done
 hand_on-requires-clause-done g c = let s = c.args.scanner.now in let l = c.lay_lexeme-group.ensures in let x = lexeme_of c.args.lexeme in
-    done_there g.before s c.lay_lexeme-group.new.scanner c.args.step.kind c.lay_lexeme-group.result l.laid (far_there g.before s c.args.margin c.args.step x c.requires.1.1 _ l.reach) (says_there g.before s c.args.margin c.args.step x c.requires.1.1 _ l.says) c.requires.1.1.can.can.few_steps
+    done_there g.before s c.lay_lexeme-group.new.scanner c.args.step.kind c.lay_lexeme-group.result l.laid (far_there g.before s c.args.step x c.requires.1.1 _ l.reach) (says_there g.before s c.args.step x c.requires.1.1 _ l.says) c.requires.1.1.can.can.few_steps
 
 pub hand_on-requires-clause-taken : goal.hand_on-requires-clause-taken
 hand_on-requires-clause-taken g c = let s = c.args.scanner.now in let l = c.lay_lexeme-group.ensures in let x = lexeme_of c.args.lexeme in
-    few_there g.before s c.lay_lexeme-group.new.scanner c.args.step.kind c.lay_lexeme-group.result l.laid (far_there g.before s c.args.margin c.args.step x c.requires.1.1 _ l.reach) (says_there g.before s c.args.margin c.args.step x c.requires.1.1 _ l.says) c.requires.1.1.can.can.few_steps
+    few_there g.before s c.lay_lexeme-group.new.scanner c.args.step.kind c.lay_lexeme-group.result l.laid (far_there g.before s c.args.step x c.requires.1.1 _ l.reach) (says_there g.before s c.args.step x c.requires.1.1 _ l.says) c.requires.1.1.can.can.few_steps
 
 pub returns : goal.returns
 returns g c = let s = c.args.scanner.now in let l = c.lay_lexeme-group.ensures in let x = lexeme_of c.args.lexeme in let w = c.has_to_wait-waits.ensures in
-    one_handed g.before s c.lay_lexeme-group.new.scanner c.args.step.kind c.lay_lexeme-group.result l.laid (far_there g.before s c.args.margin c.args.step x c.requires.1.1 _ l.reach) (says_there g.before s c.args.margin c.args.step x c.requires.1.1 _ l.says)
+    one_handed g.before s c.lay_lexeme-group.new.scanner c.args.step.kind c.lay_lexeme-group.result l.laid (far_there g.before s c.args.step x c.requires.1.1 _ l.reach) (says_there g.before s c.args.step x c.requires.1.1 _ l.says)
     _ c.has_to_wait-waits.result w.last w.awaited w.lone c.hand_on.new.scanner _ _ c.hand_on.result c.hand_on.ensures

@@ -9,8 +9,8 @@ pub stop_in_gap-requires : goal.stop_in_gap-requires
 stop_in_gap-requires g c = let s = c.args.scanner.now in let can = c.requires.1.1.0 in (
   front_can g.before s c.gap_end-front.result can,
   (
-    gap_front g.before s can c.args.margin c.requires.1.1.1 c.gap_end-front.result c.gap_end-front.ensures,
-    gap_lost g.before s can c.args.margin c.requires.1.1.1 c.gap_end-front.result c.gap_end-front.ensures c.deref.result.now c.deref.ensures.value c.root_at-root.result c.root_at-root.ensures c.is_lost.result c.is_lost.ensures c.if-is_lost.true,
+    gap_front g.before s can c.args.in_flow c.requires.1.1.1 c.gap_end-front.result c.gap_end-front.ensures,
+    gap_lost g.before s can c.args.in_flow c.requires.1.1.1 c.gap_end-front.result c.gap_end-front.ensures c.deref.result.now c.deref.ensures.value c.root_at-root.result c.root_at-root.ensures c.is_lost.result c.is_lost.ensures c.if-is_lost.true,
   ),
 )
 
@@ -20,17 +20,17 @@ step_any-requires g c = λ κs w. let s = c.args.scanner.now in let can = c.requ
   (
     w,
     record {
-      passes = gap_passed g.before s can c.args.margin c.requires.1.1.1 c.gap_end-front.result c.gap_end-front.ensures c.deref.result.now c.deref.ensures.value c.root_at-root.result c.root_at-root.ensures c.is_lost.result c.is_lost.ensures c.if-is_lost.false;
-      is_kind = sym (c.kind_at.ensures (front_of (source_of s.text.chars) g.before) (gap_front g.before s can c.args.margin c.requires.1.1.1 c.gap_end-front.result c.gap_end-front.ensures)) ∙ c.in-Some.is;
+      passes = gap_passed g.before s can c.args.in_flow c.requires.1.1.1 c.gap_end-front.result c.gap_end-front.ensures c.deref.result.now c.deref.ensures.value c.root_at-root.result c.root_at-root.ensures c.is_lost.result c.is_lost.ensures c.if-is_lost.false;
+      is_kind = sym (c.kind_at.ensures (front_of (source_of s.text.chars) g.before) (gap_front g.before s can c.args.in_flow c.requires.1.1.1 c.gap_end-front.result c.gap_end-front.ensures)) ∙ c.in-Some.is;
     },
   ),
 )
 
 pub stop_without_kind-requires : goal.stop_without_kind-requires
 stop_without_kind-requires g c = let s = c.args.scanner.now in let can = c.requires.1.1.0 in (
-  c.args.margin,
-  gap_passed g.before s can c.args.margin c.requires.1.1.1 c.gap_end-front.result c.gap_end-front.ensures c.deref.result.now c.deref.ensures.value c.root_at-root.result c.root_at-root.ensures c.is_lost.result c.is_lost.ensures c.if-is_lost.false,
-  sym (c.kind_at.ensures (front_of (source_of s.text.chars) g.before) (gap_front g.before s can c.args.margin c.requires.1.1.1 c.gap_end-front.result c.gap_end-front.ensures)) ∙ c.in-None.is,
+  c.args.in_flow,
+  gap_passed g.before s can c.args.in_flow c.requires.1.1.1 c.gap_end-front.result c.gap_end-front.ensures c.deref.result.now c.deref.ensures.value c.root_at-root.result c.root_at-root.ensures c.is_lost.result c.is_lost.ensures c.if-is_lost.false,
+  sym (c.kind_at.ensures (front_of (source_of s.text.chars) g.before) (gap_front g.before s can c.args.in_flow c.requires.1.1.1 c.gap_end-front.result c.gap_end-front.ensures)) ∙ c.in-None.is,
 )
 
 pub returns-in-Some : goal.returns-in-Some

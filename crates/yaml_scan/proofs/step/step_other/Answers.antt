@@ -2,7 +2,7 @@ use Rattle.yaml_scan.proofs.RunningStep.StepMoves.{read_then, stays_on, stays_re
 use Rattle.yaml_scan.proofs.step.step_other.Goals as goal
 
 pub end_queued-requires : goal.end_queued-requires
-end_queued-requires g c = let b = c.in-Ok.ensures in read_then g.before c.begin_step.new.scanner c.read_other-read.new.scanner _ c.in-Ok.step c.args.kind c.read_other-read.result b.0 b.1 c.read_other-read.ensures
+end_queued-requires g c = let b = c.in-Ok.ensures in read_then g.before c.begin_step.new.scanner c.read_other-read.new.scanner c.in-Ok.step c.args.kind c.read_other-read.result b.0 b.1 c.read_other-read.ensures
 
 pub returns-in-Ok : goal.returns-in-Ok
 returns-in-Ok g c = let b = c.in-Ok.ensures in

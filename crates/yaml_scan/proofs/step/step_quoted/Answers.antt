@@ -3,7 +3,7 @@ use Rattle.yaml_scan.proofs.RunningStep.StepMoves.{read_then, stays_on, stays_re
 use Rattle.yaml_scan.proofs.step.step_quoted.Goals as goal
 
 pub end_read-requires : goal.end_read-requires
-end_read-requires g c = λ κs w. let b = c.in-Ok.ensures in (search rules, (w, read_then g.before c.begin_step.new.scanner c.read_quoted-read.new.scanner _ c.in-Ok.step _ c.read_quoted-read.result b.0 (b.1 ∙ c.quoted_kind.ensures) c.read_quoted-read.ensures))
+end_read-requires g c = λ κs w. let b = c.in-Ok.ensures in (search rules, (w, read_then g.before c.begin_step.new.scanner c.read_quoted-read.new.scanner c.in-Ok.step _ c.read_quoted-read.result b.0 (b.1 ∙ c.quoted_kind.ensures) c.read_quoted-read.ensures))
 
 pub returns-in-Ok : goal.returns-in-Ok
 returns-in-Ok g c = let b = c.in-Ok.ensures in

@@ -13,5 +13,5 @@ pub stop_without-requires : goal.stop_without-requires
 stop_without-requires g c = let w = c.requires.0.passes in let s = c.args.scanner.now in (
   w.can,
   subst (λ (m : yaml_mark_t). Offends g.before s (scanner_fault no_colon m (Some in_simple_key) c.in-Some.held.start)) (sym c.start_after.ensures)
-      (cleared_there g.before s c.args.margin w c.args.kind c.requires.0.is_kind c.requires.1.0 c.in-Some.held (ap (λ (b : Bool). cleared_in s c.args.margin c.args.kind b) (sym c.is_key_allowed-allowed.ensures) ∙ sym c.cleared_by.ensures ∙ c.in-Some.is)),
+      (cleared_there g.before s c.args.in_flow w c.args.kind c.requires.0.is_kind c.requires.1.0 c.in-Some.held (ap (λ (b : Bool). cleared_in s c.args.in_flow c.args.kind b) (sym c.is_key_allowed-allowed.ensures) ∙ sym c.cleared_by.ensures ∙ c.in-Some.is)),
 )
