@@ -38,10 +38,10 @@ except ImportError as lacking:
 LIBRARY = os.path.join(HERE, "..", "..", "ffi", "out", "libbogzhami.so")
 ARCHIVES = (b".tar", b".tar.gz", b".tgz", b".tar.bz2", b".tbz2", b".tar.xz", b".txz")
 MEGABYTE = 1_000_000
-SAMPLE = 256  # of so many files the size is asked, to know about how long all are
-SHARES = 2  # of what is left a processor gets a part of this share,
-MOST_SHARES = 12  # but at least this share of the whole
-TOO_MUCH = 2  # a worker gives back the rest of a part that weighs so many times what was thought
+SAMPLE = 256  # the system is asked for the size of about so many files, to guess how long all are
+SHARES = 2  # a part is what is left for a processor, divided by this,
+MOST_SHARES = 8  # but not less than all of what a processor gets, divided by this
+TOO_MUCH = 2  # a worker gives back the rest of a part that weighs so many times what was guessed
 WAITING_EACH = 2  # how many parts a processor may have at a time: one that it scans, and one that waits
 BAR = 30
 # What dask.distributed does for its charts: look up the source of who hands out work, and look every 10 ms at what a worker does.
@@ -100,8 +100,8 @@ def archive_entries(path):
 
 
 class Job:
-    """A part: its entries, and what they weigh as far as is known. A worker that finds them to weigh `most` gives back the rest.
-    Its lines come when it is done."""
+    """A part: its entries, and what they weigh as far as is known. A worker that has scanned so many of them that they weigh
+    `most` gives back the rest. The lines come when it is done."""
 
     def __init__(self, entries, weight, most):
         self.entries, self.weight, self.most, self.lines = entries, weight, most, None
@@ -135,17 +135,21 @@ class Cut:
         self.given += weight
         return Job(entries, weight, min(self.most, TOO_MUCH * weight))
 
+    def share(self, processors):
+        """What the next part may weigh."""
+        return min(self.most, max((self.total - self.given) / SHARES, self.total / MOST_SHARES) / processors)
+
     def jobs(self, processors):
         """All parts, for so many processors."""
         entries, full, share = [], 0, 0
         for run, weight in self.runs():
             at = 0
             while at < len(run):
-                if not entries:
-                    share = max((self.total - self.given) / SHARES, self.total / MOST_SHARES) / processors
-                fit = max(0 if entries else 1, int((min(share, self.most) - full) / weight))
-                entries += run[at : at + fit]
-                full, at = full + weight * len(run[at : at + fit]), at + fit
+                share = share if entries else self.share(processors)
+                fit = max(0 if entries else 1, int((share - full) / weight))
+                more = run[at : at + fit]
+                entries += more
+                full, at = full + weight * len(more), at + len(more)
                 if at < len(run):
                     yield self.job(entries, full)
                     entries, full = [], 0
