@@ -5,7 +5,7 @@ The lines of the inputs of vectors/ are the expected ones, as files and as membe
 UTF-8 and UTF-16, with and without a fault, are those of a plain loop. What can not be read gets a line that says why, and all
 else is scanned: missing files, folders, pipes, damaged archives. A worker is killed when it is in the middle of a part: the
 lines are all there, the files of that part that it had opened were opened twice, and every other file once. At a file that
-ends each worker, only that file is lost. If the scheduler is killed, that is said, and the lines before are whole. What needs a C compiler or dask.distributed is skipped if there is none.
+ends each worker, only that file is lost. If files are longer than those whose size is asked for, each is opened once. If the scheduler is killed, that is said, and the lines before are whole. What needs a C compiler or dask.distributed is skipped if there is none.
 """
 
 import collections
@@ -318,6 +318,18 @@ def try_deadly(machines, counter):
     return not wrong
 
 
+def try_uneven(machines, counter):
+    """Files that are longer than was guessed from every third of them: what workers give back is scanned, and nothing twice."""
+    paths = [write(machines.files, f"uneven{number}.yaml", EQUAL * (300 if number % 3 else 1)) for number in range(600)]
+    before = len(machines.opens())
+    found, _, status = machines.lines(paths)
+    wrong = differences("uneven", found, [plain_line(counter, path, EQUAL * (300 if number % 3 else 1)) for number, path in enumerate(paths)])
+    times = collections.Counter(name for _, name in machines.opens()[before:])
+    wrong += status != 0 or times != dict.fromkeys(map(os.path.basename, paths), 1)
+    print(f"many: {len(paths)} files of uneven lengths, {wrong} wrong")
+    return not wrong
+
+
 def try_gone(machines, counter):
     """The scheduler is killed while a worker waits: the lines are whole and the first ones, and the call says what it is."""
     paths = equal_files(machines, 60, {40: "wait.yaml"})
@@ -372,6 +384,7 @@ def main():
             good += [
                 try_kill(machines, counter),
                 try_deadly(machines, counter),
+                try_uneven(machines, counter),
                 try_files(machines, room, counter),
                 try_archives(machines, room, counter),
                 try_unread(machines, room),

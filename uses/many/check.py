@@ -7,6 +7,7 @@ and column, or `-`. The exit status is 0, 1 if a file has a fault, 2 if a file w
 """
 
 import argparse
+import collections
 import contextlib
 import hashlib
 import itertools
@@ -14,6 +15,7 @@ import logging
 import math
 import os
 import pickle
+import queue
 import sys
 import tarfile
 import time
@@ -23,10 +25,11 @@ HERE = os.path.dirname(os.path.abspath(__file__))
 sys.path.insert(0, HERE)
 sys.dont_write_bytecode = True
 import count
-from count import Entry, Part, joined, member_name, scan_part, unread_line
+from count import FILE_WEIGHT, Entry, Part, joined, member_name, scan_part, unread_line
 
 try:
-    from distributed import Client, KilledWorker, LocalCluster, WorkerPlugin, as_completed, get_worker
+    import dask.config
+    from distributed import Client, KilledWorker, LocalCluster, WorkerPlugin, get_worker
     from distributed.comm import CommClosedError
 except ImportError as lacking:
     sys.stderr.write(f"check: {lacking}: dask.distributed is needed (Debian: python3-distributed, for /usr/bin/python3)\n")
@@ -35,10 +38,14 @@ except ImportError as lacking:
 LIBRARY = os.path.join(HERE, "..", "..", "ffi", "out", "libbogzhami.so")
 ARCHIVES = (b".tar", b".tar.gz", b".tgz", b".tar.bz2", b".tbz2", b".tar.xz", b".txz")
 MEGABYTE = 1_000_000
-FILE_WEIGHT = 10_000  # to open and read a file takes about as long as to scan so many bytes
-PARTS_EACH = 8  # a processor gets at least so many parts, so that all end at about the same time
+SAMPLE = 256  # the system is asked for the size of about so many files, to guess how long all are
+SHARES = 2  # a part is what is left for a processor, divided by this,
+MOST_SHARES = 8  # but not less than all of what a processor gets, divided by this
+TOO_MUCH = 2  # a worker gives back the rest of a part that weighs so many times what was guessed
 WAITING_EACH = 2  # how many parts a processor may have at a time: one that it scans, and one that waits
 BAR = 30
+# What dask.distributed does for its charts: look up the source of who hands out work, and look every 10 ms at what a worker does.
+NO_CHARTS = {"distributed.diagnostics.computations.ignore-modules": [".*"], "distributed.worker.profile.enabled": False}
 
 
 class SendLibrary(WorkerPlugin):
@@ -57,66 +64,12 @@ class SendLibrary(WorkerPlugin):
             os.rename(path + ".new", path)
 
 
-def scan_on_worker(file_name, folder, packed):
-    return scan_part(os.path.join(get_worker().local_directory, file_name), folder, pickle.loads(packed))
+def scan_on_worker(packed):
+    file_name, *words = pickle.loads(packed)
+    return scan_part(os.path.join(get_worker().local_directory, file_name), *words)
 
 
 # The list
-
-
-def archive_entries(path):
-    """The members of an archive, with their places. If it is compressed or damaged, the archive as a whole."""
-    try:
-        with tarfile.open(path, "r:") as archive:
-            found = [Entry(path, one.name, one.offset_data, one.size) for one in archive if one.isreg()]
-    except (OSError, ValueError, tarfile.TarError):
-        found = []
-    return found or [Entry(path, None, 0, None)]
-
-
-def size_of(path):
-    try:
-        return os.stat(path).st_size
-    except (OSError, ValueError):
-        return 0
-
-
-def entries_of(path):
-    """What a line of the list names, each with its weight."""
-    if not path.lower().endswith(ARCHIVES):
-        size = size_of(path)
-        return [(Entry(path, None, 0, size), FILE_WEIGHT + size)]
-    return [(one, FILE_WEIGHT + (size_of(path) if one.size is None else one.size)) for one in archive_entries(path)]
-
-
-class Cut:
-    """Cuts what a list names into parts of about one weight: at most that, and less if all processors would not get enough.
-
-    Files are looked at as parts are wanted. What all of them weigh is guessed from those that were seen."""
-
-    def __init__(self, lines, processors, most):
-        self.lines, self.most = lines, most
-        self.wanted = len(lines) / (processors * PARTS_EACH)  # files of a part, if all weigh the same
-        self.seen = 0
-
-    def weighed(self):
-        """Each entry with its weight, and how many lines of the list come before it."""
-        for number, path in enumerate(self.lines):
-            found = entries_of(path)
-            self.seen += sum(weight for _, weight in found)
-            yield from ((entry, weight, number) for entry, weight in found)
-
-    def parts(self):
-        """Each part with how many lines of the list are behind it."""
-        part, full = [], 0
-        for entry, weight, number in self.weighed():
-            if part and full + weight > min(self.most, self.wanted * self.seen / (number + 1)):
-                yield part, number
-                part, full = [], 0
-            part.append(entry)
-            full += weight
-        if part:
-            yield part, len(self.lines)
 
 
 def read_list(name):
@@ -129,12 +82,87 @@ def read_list(name):
     return [line for line in data.split(b"\n") if line]
 
 
+def size_of(path):
+    try:
+        return os.stat(path).st_size
+    except (OSError, ValueError):
+        return 0
+
+
+def archive_entries(path):
+    """The members of an archive, each with its weight. If it is compressed or damaged, the archive as a whole."""
+    try:
+        with tarfile.open(path, "r:") as archive:
+            found = [(Entry(path, one.name, one.offset_data, one.size), FILE_WEIGHT + one.size) for one in archive if one.isreg()]
+    except (OSError, ValueError, tarfile.TarError):
+        found = []
+    return found or [(Entry(path, None, 0, None), FILE_WEIGHT + size_of(path))]
+
+
+class Job:
+    """A part: its entries, and what they weigh as far as is known. A worker that has scanned so many of them that they weigh
+    `most` gives back the rest. The lines come when it is done."""
+
+    def __init__(self, entries, weight, most):
+        self.entries, self.weight, self.most, self.lines = entries, weight, most, None
+
+
+class Cut:
+    """Cuts what a list names into parts. Each is a share of what is left: the first ones are large, so that there are few, and
+    the last ones are small, so that all processors end at about the same time.
+
+    A file is not looked at before a worker reads it. Each counts as the mean of some that are spread over the list."""
+
+    def __init__(self, lines, most):
+        self.lines, self.most = lines, most
+        self.archives = [number for number, path in enumerate(lines) if path.lower().endswith(ARCHIVES)]
+        sample = lines[:: len(lines) // SAMPLE + 1]
+        self.usual = FILE_WEIGHT + sum(map(size_of, sample)) // max(1, len(sample))
+        self.total, self.given = self.usual * len(lines), 0  # what all weighs, as far as is known, and what the parts weigh
+
+    def runs(self):
+        """Entries that follow one another in the list, and what each of them weighs."""
+        start = 0
+        for number in self.archives:
+            yield self.lines[start:number], self.usual
+            found = archive_entries(self.lines[number])
+            self.total += sum(weight for _, weight in found) - self.usual
+            yield from (([entry], weight) for entry, weight in found)
+            start = number + 1
+        yield self.lines[start:], self.usual
+
+    def job(self, entries, weight):
+        self.given += weight
+        return Job(entries, weight, min(self.most, TOO_MUCH * weight))
+
+    def share(self, processors):
+        """What the next part may weigh."""
+        return min(self.most, max((self.total - self.given) / SHARES, self.total / MOST_SHARES) / processors)
+
+    def jobs(self, processors):
+        """All parts, for so many processors."""
+        entries, full, share = [], 0, 0
+        for run, weight in self.runs():
+            at = 0
+            while at < len(run):
+                share = share if entries else self.share(processors)
+                fit = max(0 if entries else 1, int((share - full) / weight))
+                more = run[at : at + fit]
+                entries += more
+                full, at = full + weight * len(more), at + len(more)
+                if at < len(run):
+                    yield self.job(entries, full)
+                    entries, full = [], 0
+        if entries:
+            yield self.job(entries, full)
+
+
 # Scanning
 
 
 def lost(entry):
     """The part of an entry at which every worker ended."""
-    name = member_name(entry.path, entry.member) if entry.member is not None else entry.path
+    name = entry if isinstance(entry, bytes) else entry.path if entry.member is None else member_name(entry.path, entry.member)
     return Part(unread_line(name, "each worker that read it was ended"), 1, 0, 0, 0, 1)
 
 
@@ -146,12 +174,41 @@ class Scan:
         client.upload_file(count.__file__)
         client.register_worker_plugin(plugin, name=plugin.file_name)
         self.client, self.words = client, (plugin.file_name, folder)
-        self.processors, self.asked = 0, -math.inf
-        self.begun, self.done = {}, as_completed([])
+        self.processors, self.asked = sum(client.nthreads().values()), time.monotonic()
+        self.order = []  # the parts that are begun and whose lines are not written, as in the list
+        self.left = collections.deque()  # those of them that no worker has
+        self.running, self.ended = 0, queue.SimpleQueue()
 
-    def begin(self, entries):
+    def room(self):
+        """How many parts may be with the workers at a time. More workers may have come, or some gone."""
+        if time.monotonic() > self.asked + 1:
+            self.processors, self.asked = sum(self.client.nthreads().values()), time.monotonic()
+        return WAITING_EACH * max(1, self.processors)
+
+    def submit(self, parts):
         # packed, since dask would look into each entry for results of other calls
-        return self.client.submit(scan_on_worker, *self.words, pickle.dumps(entries), pure=False)
+        packed = [pickle.dumps((*self.words, entries, most)) for entries, most in parts]
+        return self.client.map(scan_on_worker, packed, pure=False)
+
+    async def bring(self, job, future):
+        """Puts what comes of a part into the queue: what a worker found, or what went wrong."""
+        try:
+            result = await self.client.gather(future, asynchronous=True)
+        except BaseException as wrong:
+            result = wrong
+        self.ended.put((job, result))
+
+    def fill(self, jobs):
+        """Begins parts, as many as there is room for: what was given back, and then new ones."""
+        free = range(self.room() - self.running)
+        new = list(itertools.islice(jobs, max(0, len(free) - len(self.left))))
+        self.order += new
+        self.left += new
+        begun = [self.left.popleft() for _ in free if self.left]
+        futures = self.submit([(job.entries, job.most) for job in begun]) if begun else []
+        for job, future in zip(begun, futures):
+            self.client.loop.add_callback(self.bring, job, future)
+        self.running += len(begun)
 
     def again(self, entries):
         """Scans a part whose workers were all ended, by ever smaller pieces, so that only what ends them is not read."""
@@ -161,39 +218,45 @@ class Scan:
         for at in range(0, len(entries), size):
             piece = entries[at : at + size]
             try:
-                pieces.append(self.begin(piece).result())
+                pieces.append(self.submit([(piece, math.inf)])[0].result()[0])
             except KilledWorker:
                 pieces.append(self.again(piece) if len(piece) > 1 else lost(piece[0]))
         return joined(pieces)
 
-    def end(self, future, entries):
-        try:
-            return future.result()
-        except KilledWorker:
-            return self.again(entries)
+    def give_back(self, job, done):
+        """Makes parts of what a worker left of a part. They have as many entries as it scanned."""
+        rest = [job.entries[at : at + done] for at in range(done, len(job.entries), done)]
+        job.weight //= len(rest) + 1
+        pieces = [Job(entries, job.weight, job.most) for entries in rest]
+        at = self.order.index(job) + 1
+        self.order[at:at] = pieces
+        self.left += pieces
 
-    def room(self):
-        """How many parts may be with the workers at a time. More workers may have come, or some gone."""
-        if time.monotonic() > self.asked + 1:
-            self.processors, self.asked = sum(self.client.nthreads().values()), time.monotonic()
-        return WAITING_EACH * max(1, self.processors)
+    def end(self, job, result):
+        if isinstance(result, KilledWorker):
+            result = self.again(job.entries), len(job.entries)
+        if isinstance(result, BaseException):
+            raise result
+        part, done = result
+        if done < len(job.entries):
+            self.give_back(job, done)
+        job.lines = part.lines
+        return part._replace(lines=b"")
 
-    def fill(self, waiting):
-        """Begins parts, as many as there is room for."""
-        for number, entries in itertools.islice(waiting, max(0, self.room() - len(self.begun))):
-            future = self.begin(entries)
-            self.begun[future] = number, entries
-            self.done.add(future)
+    def parts(self, jobs):
+        """What was found in each part, as parts are done; its lines are in the job."""
+        self.fill(jobs)
+        while self.running:
+            job, result = self.ended.get()
+            self.running -= 1
+            found = self.end(job, result)
+            self.fill(jobs)
+            yield found
 
-    def parts(self, parts):
-        """The number of each part with what was found, as parts are done."""
-        waiting = enumerate(parts)
-        self.fill(waiting)
-        while self.begun:
-            future = next(self.done)
-            number, entries = self.begun.pop(future)
-            yield number, self.end(future, entries)
-            self.fill(waiting)
+    def ready(self):
+        """The parts whose lines are to be written next."""
+        while self.order and self.order[0].lines is not None:
+            yield self.order.pop(0)
 
 
 # What is shown
@@ -202,12 +265,11 @@ class Scan:
 class Bar:
     """A bar on standard error, if that is a terminal: how much of the list is behind us."""
 
-    def __init__(self, total, start):
-        self.total, self.start, self.is_shown = total, start, sys.stderr.isatty()
+    def __init__(self):
+        self.start, self.is_shown = time.monotonic(), sys.stderr.isatty()
 
-    def show(self, behind, found):
+    def show(self, share, found):
         if self.is_shown:
-            share = behind / self.total
             speed = found.bytes / MEGABYTE / (time.monotonic() - self.start)
             full = "#" * round(BAR * share)
             text = f"[{full:{BAR}}] {share:4.0%}  {found.files} files, {found.faults} with a fault  {speed:.0f} MB/s"
@@ -223,34 +285,16 @@ class Bar:
         )
 
 
-def numbered(parts, behind):
-    """The parts alone; for each, how much of the list is behind it goes into the list `behind`."""
-    for entries, lines in parts:
-        behind.append(lines)
-        yield entries
-
-
-class InOrder:
-    """Writes the lines of parts in the order of their numbers; those that are early are kept."""
-
-    def __init__(self, out):
-        self.out, self.early, self.next = out, {}, 0
-
-    def write(self, number, lines):
-        self.early[number] = lines
-        while self.next in self.early:
-            self.out.write(self.early.pop(self.next))
-            self.next += 1
-        self.out.flush()
-
-
-def write_all(scan, parts, bar):
-    """Writes the lines of all parts, and returns their counts."""
-    found, behind, order = Part(b"", 0, 0, 0, 0, 0), [0], InOrder(sys.stdout.buffer)
-    for number, part in scan.parts(numbered(parts, behind)):
-        order.write(number, part.lines)
-        found = joined([found, part._replace(lines=b"")])
-        bar.show(behind[order.next], found)
+def write_all(scan, cut, processors, bar):
+    """Writes the lines of all parts in the order of the list, and returns their counts."""
+    found, behind, out = Part(b"", 0, 0, 0, 0, 0), 0, sys.stdout.buffer
+    for part in scan.parts(cut.jobs(processors)):
+        for job in scan.ready():
+            out.write(job.lines)
+            behind += job.weight
+        out.flush()
+        found = joined([found, part])
+        bar.show(behind / cut.total, found)
     return found
 
 
@@ -280,14 +324,13 @@ def arguments():
     return words
 
 
-def scan_list(words, lines):
-    """Scans what the list names, and returns the exit status."""
+def scan_list(words, cut):
+    """Scans what a list names, and returns the exit status."""
     with open_client(words) as client:
         client.wait_for_workers(1)
-        processors = sum(client.nthreads().values())
         scan = Scan(client, words.library, os.fsencode(os.getcwd()))
-        bar = Bar(len(lines), time.monotonic())
-        found = write_all(scan, Cut(lines, processors, words.part * MEGABYTE).parts(), bar)
+        processors, bar = scan.processors, Bar()
+        found = write_all(scan, cut, processors, bar)
         bar.end(found, processors)
     return 2 if found.unread else 1 if found.faults else 0
 
@@ -295,9 +338,10 @@ def scan_list(words, lines):
 def main():
     words = arguments()
     logging.disable(logging.CRITICAL)  # what dask.distributed would say of workers and schedulers that end
+    dask.config.set(NO_CHARTS)
     try:
         count.Counter(words.library)
-        return scan_list(words, read_list(words.list))
+        return scan_list(words, Cut(read_list(words.list), max(1, round(words.part * MEGABYTE))))
     except (CancelledError, CommClosedError):
         sys.stderr.write("check: the scheduler is gone\n")
     except OSError as wrong:

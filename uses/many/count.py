@@ -16,7 +16,9 @@ from ctypes import byref, c_bool, c_int32, c_size_t, c_uint32, c_uint64, c_void_
 BATCH = 1024  # tokens a call
 TOKEN_WORDS = 11  # a record of a token has 88 bytes
 FIRST_TEXTS = 65536
+READ = 1_000_000
 KEY_LIMIT = 1024
+FILE_WEIGHT = 10_000  # to open and read a file takes about as long as to scan so many bytes
 ANY_ENCODING = 0
 DONE, FAULT, NO_MEMORY, OVER, NO_ROOM = 0, 1, 3, 4, 5
 READER_ERROR, SCANNER_ERROR = 2, 3
@@ -29,8 +31,8 @@ try:
 except ImportError:
     pass
 
-# A file, if `member` is None. A member of an archive that is not compressed, with its place. An archive whose members are
-# read one after the other, if `size` is None.
+# What is scanned is a path, for a file, or an Entry: a member of an archive that is not compressed, with its place, or an archive
+# whose members are read one after the other, if `size` is None.
 Entry = collections.namedtuple("Entry", "path member at size")
 # The lines of a part, and how many files, tokens, bytes, faults and unread files they have.
 Part = collections.namedtuple("Part", "lines files tokens bytes faults unread")
@@ -110,10 +112,18 @@ class Counter:
 
 
 def read_file(path):
-    with open(os.open(path, os.O_RDONLY | os.O_NONBLOCK | os.O_CLOEXEC), "rb", buffering=0) as file:
-        if not stat.S_ISREG(os.fstat(file.fileno()).st_mode):
+    file = os.open(path, os.O_RDONLY | os.O_NONBLOCK | os.O_CLOEXEC)
+    try:
+        about = os.fstat(file)
+        if not stat.S_ISREG(about.st_mode) and not stat.S_ISDIR(about.st_mode):
             raise OSError("it is no regular file")
-        return file.readall()
+        data = more = os.read(file, about.st_size + 1)
+        while more and len(data) != about.st_size:  # it grows, or has no size, as in /proc, or is longer than a call reads
+            more = os.read(file, max(about.st_size - len(data), READ))
+            data += more
+        return data
+    finally:
+        os.close(file)
 
 
 def read_member(entry, path):
@@ -139,12 +149,13 @@ def members(entry, path):
 
 def inputs(entry, folder):
     """The name and the bytes of what an entry names, or what keeps it from being read, as an exception."""
-    path, name = os.path.join(folder, entry.path), entry.path
+    name = path = entry if isinstance(entry, bytes) else entry.path
     try:
-        if entry.size is None:
-            yield from members(entry, path)
-        elif entry.member is None:
+        path = os.path.join(folder, path)
+        if isinstance(entry, bytes):
             yield name, read_file(path)
+        elif entry.size is None:
+            yield from members(entry, path)
         else:
             name = member_name(entry.path, entry.member)
             yield name, read_member(entry, path)
@@ -180,8 +191,14 @@ def scan_input(counter, name, data):
     return Part(line(name, tokens, len(data), fault or "-"), 1, tokens, len(data), 1 if fault else 0, 0)
 
 
-def scan_part(library, folder, entries):
-    """Scans what the entries name; their paths are from the folder."""
-    counter = Counter(library)
-    found = [scan_input(counter, name, data) for entry in entries for name, data in inputs(entry, folder)]
-    return joined([Part(b"", 0, 0, 0, 0, 0), *found])
+def scan_part(library, folder, entries, most):
+    """Scans what the entries name, up to that with which they weigh `most`; their paths are from the folder. Returns the part,
+    and how many entries it has."""
+    counter, found, weight = Counter(library), [Part(b"", 0, 0, 0, 0, 0)], 0
+    for done, entry in enumerate(entries):
+        if weight >= most:
+            return joined(found), done
+        for name, data in inputs(entry, folder):
+            found.append(scan_input(counter, name, data))
+            weight += FILE_WEIGHT + found[-1].bytes
+    return joined(found), len(entries)
