@@ -45,8 +45,8 @@ pub(crate) fn emptied(room: Vec<u8>, size: usize) -> Result<Vec<u8>, AllocError>
     Ok(out)
 }
 
-/// A copy of the first `n` bytes, in `room` if they fit. If they are few, a stage of bytes is copied as one, and what is
-/// too much of it is cut off.
+/// A copy of the first `n` bytes, in `room` if they fit. If they are few, a stage of bytes is copied as one, and what
+/// is too much of it is cut off.
 #[inline(always)]
 pub(crate) fn copied_front(room: Vec<u8>, bytes: &[u8], n: usize) -> Result<Vec<u8>, yaml_refusal_t>
     requires { n ≤ length bytes.now }

@@ -195,8 +195,8 @@ fn take_parts(
     Ok(out)
 }
 
-/// Takes what is left of a quoted scalar after its first line, of which `len` bytes of `left` are kept. Its value is put
-/// into `room` if it fits.
+/// Takes what is left of a quoted scalar after its first line, of which `len` bytes of `left` are kept. Its value is
+/// put into `room` if it fits.
 #[inline(never)]
 fn take_rest(
     room: Vec<u8>,

@@ -373,8 +373,8 @@ pub fn yaml_parser_fault<'s>(parser: &'s yaml_parser_t<'_>) -> Option<&'s yaml_f
     parser.session.fault.as_ref()
 }
 
-/// Gives a parser the room of a text that is no longer needed, for the text of a scalar to come. What is in it is thrown
-/// away. Then the parser asks for less memory; nothing else changes.
+/// Gives a parser the room of a text that is no longer needed, for the text of a scalar to come. What is in it is
+/// thrown away. Then the parser asks for less memory, and nothing else changes.
 #[inline(always)]
 pub fn yaml_parser_reuse(parser: &mut yaml_parser_t, text: Vec<u8>)
     ensures { parser.new ≡ parser.old }
