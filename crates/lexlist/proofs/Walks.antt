@@ -31,8 +31,8 @@ reaches cs k c n x l stands some e = go (lex k c (place_at cs n)) refl e
     go (Ok f) is a =
         let v : f.value ≡ x = same f.value x a in
         let s = lexeme_spans k c (place_at cs n) f stands (λ h. true≢false (sym (ap is_stream_end h) ∙ some)) is in
-        let b = ahead_place cs n 1 s.2.behind l s.2.taken in
-        let at = count_to (length cs) s.2.behind in
+        let b = ahead_place cs n 1 s.2.between l s.2.taken in
+        let at = count_to (length cs) s.2.between in
         let q = ahead_place cs at 0 f.end b.within (subst (λ (p : Place). IsAhead 0 p f.end) b.is s.2.read) in
         let mark = ap (λ (y : yaml_lexeme_t). y.reach) (sym v) ∙ s.1 ∙ ap (λ (p : Place). p.mark) q.is in
         (count_to (length cs) f.end, record { within = q.within; mark_is = mark })

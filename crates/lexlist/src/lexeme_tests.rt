@@ -126,7 +126,7 @@ fn show_gap(alloc: Global, bytes: &[u8], in_flow: bool, allowed: bool) -> Result
 }
 
 /// The kind after so many bytes of a text.
-fn kind_behind(
+fn kind_after(
     alloc: Global,
     bytes: &[u8],
     index: usize,
@@ -325,7 +325,7 @@ fn kinds_at_the_start_of_a_line(rt: HostRuntime) -> Result<(), Fail> {
         (" ---", 1, Some(yaml_lexeme_kind_t::PLAIN)),
     ];
     for (text, index, want) in rows {
-        let found = kind_behind(alloc, text.as_bytes(), index, false)?;
+        let found = kind_after(alloc, text.as_bytes(), index, false)?;
         assert!(rt; found == want, "{text}");
     }
     Ok(())
@@ -364,7 +364,7 @@ fn kinds_of_fixed_length(rt: HostRuntime) -> Result<(), Fail> {
 #[test]
 fn stream_end(rt: HostRuntime) -> Result<(), Fail> {
     let rows: [(&str, u64, Option<u64>, &str); 1] = [("", 0, None, "end 0:0:0 0:0:0 0:0:0 false")];
-    assert!(rt; kind_behind(rt.alloc(), b"a", 1, false)? == Some(yaml_lexeme_kind_t::STREAM_END));
+    assert!(rt; kind_after(rt.alloc(), b"a", 1, false)? == Some(yaml_lexeme_kind_t::STREAM_END));
     expect_rows(&rt, rt.alloc(), &rows)
 }
 

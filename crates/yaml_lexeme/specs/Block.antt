@@ -12,7 +12,7 @@ use Rattle.yaml_lexeme.specs.Lexeme.{Scalar as scalar_t}
 use Rattle.yaml_lexeme.specs.declared.problem.yaml_problem_t.TheVariants.{NO_COMMENT_OR_BREAK, INDICATOR_ZERO}
 use Rattle.yaml_lexeme.specs.declared.problem.yaml_problem_t.TheVariants.{TAB_IN_INDENTATION}
 use Rattle.yaml_lexeme.specs.Classes.{is_in_line, line_feed}
-use Rattle.yaml_lexeme.specs.Place.{Place, first, skip, run, run_len, behind, break_len}
+use Rattle.yaml_lexeme.specs.Place.{Place, first, skip, run, run_len, after_run, break_len}
 use Rattle.yaml_lexeme.specs.Gap.{after_comment}
 use Rattle.yaml_lexeme.specs.Fold.{written}
 use Rattle.yaml_lexeme.specs.Reading.{Offence, Read, found, refuse, ◌>>=◌, Part, part, over, many}
@@ -45,7 +45,7 @@ header_at p =
 -- after blanks, a comment and a break, or at the end of the text
 unfoldable pub after_line : Place → Result Place Offence
 after_line p =
-    let q = after_comment (behind is_blank p) in
+    let q = after_comment (after_run is_blank p) in
     if is_break (first q) || is_z (first q) then Ok (skip (break_len q) q) else refuse NO_COMMENT_OR_BREAK q
 
 -- A bound on columns, or none.
@@ -113,7 +113,7 @@ break_at q = if nat_lt 0 (break_len q) then Some (written (first q)) else None
 -- A text line whose indentation is read. The indentation of the line that follows is read with it.
 unfoldable pub line_at : ℕ → Place → Read Line
 line_at indent p =
-    let q = behind is_in_line p in
+    let q = after_run is_in_line p in
     blank_lines (Some indent) (skip (break_len q) q) >>= λ blanks.
     found (record {
       text = run is_in_line p;
@@ -159,9 +159,9 @@ chomped CLIP l = or_none l.break
 chomped KEEP l = or_none l.break ++ l.empties
 
 -- what comes after a text line, given those that follow
-abbrev pub behind_line : Bool → chomp_t → Line → List Line → List ℕ
-behind_line folded chomp a [] = chomped chomp a
-behind_line folded chomp a (b ∷ ls) = between folded a b ++ b.text ++ behind_line folded chomp b ls
+abbrev pub value_after : Bool → chomp_t → Line → List Line → List ℕ
+value_after folded chomp a [] = chomped chomp a
+value_after folded chomp a (b ∷ ls) = between folded a b ++ b.text ++ value_after folded chomp b ls
 
 abbrev pub only_breaks : chomp_t → List ℕ → List ℕ
 only_breaks STRIP breaks = []
@@ -171,7 +171,7 @@ only_breaks KEEP breaks = breaks
 -- the value, from the breaks of the leading empty lines and the text lines
 abbrev pub block_value : Bool → chomp_t → List ℕ → List Line → List ℕ
 block_value folded chomp leading [] = only_breaks chomp leading
-block_value folded chomp leading (l ∷ ls) = leading ++ l.text ++ behind_line folded chomp l ls
+block_value folded chomp leading (l ∷ ls) = leading ++ l.text ++ value_after folded chomp l ls
 
 -- the greatest open level, or 0 if none is open
 abbrev pub base : Option ℕ → ℕ

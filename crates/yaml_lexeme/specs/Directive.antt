@@ -11,7 +11,7 @@ use Rattle.yaml_lexeme.specs.declared.problem.yaml_problem_t.TheVariants.{NO_NUM
 use Rattle.yaml_lexeme.specs.declared.problem.yaml_problem_t.TheVariants.{NO_HANDLE, OPEN_HANDLE}
 use Rattle.yaml_lexeme.specs.Lexeme.{Directive as directive_t}
 use Rattle.yaml_lexeme.specs.Classes.{ends}
-use Rattle.yaml_lexeme.specs.Place.{Place, first, skip, run, run_len, behind}
+use Rattle.yaml_lexeme.specs.Place.{Place, first, skip, run, run_len, after_run}
 use Rattle.yaml_lexeme.specs.Block.{after_line}
 use Rattle.yaml_lexeme.specs.Uri.{some_uri}
 use Rattle.yaml_lexeme.specs.Reading.{Read, found, refuse, ◌>>=◌}
@@ -21,12 +21,12 @@ unfoldable pub number : Place → Read ℕ
 number p =
     if run_len is_digit p == 0 then refuse NO_NUMBER p
     else if nat_lt 9 (run_len is_digit p) then refuse LONG_NUMBER (skip 9 p)
-    else found (digits_value 10 (run is_digit p)) (behind is_digit p)
+    else found (digits_value 10 (run is_digit p)) (after_run is_digit p)
 
 -- after `YAML`
 unfoldable pub version_at : Place → Read unnamed_yaml_token_t_data
 version_at p =
-    number (behind is_blank p) >>= λ major.
+    number (after_run is_blank p) >>= λ major.
     if not (first major.end == 0x2E) then refuse NO_DOT major.end
     else number (skip 1 major.end) >>= λ minor. found (VERSION_DIRECTIVE (pos major.value) (pos minor.value)) minor.end
 
@@ -34,7 +34,7 @@ version_at p =
 unfoldable pub handle_at : Place → Read (List ℕ)
 handle_at p =
     let letters = run is_alpha (skip 1 p) in
-    let end = behind is_alpha (skip 1 p) in
+    let end = after_run is_alpha (skip 1 p) in
     if not (first p == 0x21) then refuse NO_HANDLE p
     else if first end == 0x21 then found (codes "!" ++ letters ++ codes "!") (skip 1 end)
     else if nat_lt 0 (length letters) then refuse OPEN_HANDLE end
@@ -43,9 +43,9 @@ handle_at p =
 -- after `TAG`
 unfoldable pub tag_directive_at : Place → Read unnamed_yaml_token_t_data
 tag_directive_at p =
-    handle_at (behind is_blank p) >>= λ handle.
+    handle_at (after_run is_blank p) >>= λ handle.
     if not (is_blank (first handle.end)) then refuse NO_BLANK handle.end
-    else some_uri true (behind is_blank handle.end) >>= λ prefix.
+    else some_uri true (after_run is_blank handle.end) >>= λ prefix.
     if not (ends (first prefix.end)) then refuse NO_BLANK_OR_BREAK prefix.end
     else found (TAG_DIRECTIVE handle.value prefix.value) prefix.end
 
@@ -60,7 +60,7 @@ named letters p =
 unfoldable pub directive : Place → Read directive_t
 directive p =
     let letters = run is_alpha (skip 1 p) in
-    let end = behind is_alpha (skip 1 p) in
+    let end = after_run is_alpha (skip 1 p) in
     if length letters == 0 then refuse NO_DIRECTIVE_NAME end
     else if not (ends (first end)) then refuse DIRECTIVE_NAME_GOES_ON end
     else named letters end >>= λ d.

@@ -1,7 +1,7 @@
 -- What is between lexemes (YAML 1.1, 6.2 Comments and 6.3 Separation Spaces).
 use Rattle.std.specs.Prelude.{ℕ, ◌≡◌, zero, suc, length, Bool, not, ◌&&◌, ◌||◌, ◌==◌, nat_lt, if◌then◌else◌}
 use Rattle.yaml_lexeme.specs.Classes.{is_in_line}
-use Rattle.yaml_lexeme.specs.Place.{Place, first, skip, behind, break_len}
+use Rattle.yaml_lexeme.specs.Place.{Place, first, skip, after_run, break_len}
 
 abbrev pub byte_order_mark : ℕ
 byte_order_mark = 0xFEFF
@@ -20,11 +20,11 @@ after_mark p = if p.mark.column == 0 && first p == byte_order_mark then skip 1 p
 
 -- after a comment, which goes on to the end of its line
 abbrev pub after_comment : Place → Place
-after_comment p = if first p == 0x23 then behind is_in_line p else p
+after_comment p = if first p == 0x23 then after_run is_in_line p else p
 
 -- after a gap line, without its break
 unfoldable pub after_gap_line : Bool → Place → Place
-after_gap_line tabs p = after_comment (behind (is_gap_blank tabs) (after_mark p))
+after_gap_line tabs p = after_comment (after_run (is_gap_blank tabs) (after_mark p))
 
 -- After at most n more gap lines, each after a break. The place is after a gap line.
 unfoldable pub after_gap_lines : ℕ → Bool → Place → Place

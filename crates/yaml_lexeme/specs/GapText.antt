@@ -2,7 +2,7 @@
 use Rattle.std.specs.Prelude.{ℕ, zero, suc, ◌≡◌, ◌⊎◌, ◌<◌, ◌≤◌, Bool, true, false, not, ◌||◌, nat_lt, length}
 use Rattle.yaml_lexeme.specs.Classes.{is_in_line}
 use Rattle.yaml_lexeme.specs.Gap.{byte_order_mark, is_gap_blank, gap}
-use Rattle.yaml_lexeme.specs.Place.{Place, peek, first, skip, distance, behind, break_len}
+use Rattle.yaml_lexeme.specs.Place.{Place, peek, first, skip, distance, after_run, break_len}
 
 -- all characters from p up to q pass
 pub record Passes (test : ℕ → Bool) (p q : Place) : Type 0 where
@@ -47,4 +47,4 @@ GapIsLongest = (flow allowed : Bool) (p : Place) →
 -- A run is as many characters that pass as possible.
 abbrev pub RunIsLongest : Type 0
 RunIsLongest = (test : ℕ → Bool) (p : Place) →
-    Passes test p (behind test p) × (0 < length (behind test p).rest → test (first (behind test p)) ≡ false)
+    Passes test p (after_run test p) × (0 < length (after_run test p).rest → test (first (after_run test p)) ≡ false)

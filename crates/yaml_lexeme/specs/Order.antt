@@ -26,10 +26,10 @@ pub record IsAfter (n : ℕ) (a b : yaml_mark_t) : Type 0 where
 
 -- a token from p on takes n characters or more and ends at a mark, and was read up to q
 pub record Spans (n : ℕ) (p : Place) (end : yaml_mark_t) (q : Place) : Type 0 where
-  pub behind : Place
-  pub is : end ≡ behind.mark
-  pub taken : IsAhead n p behind
-  pub read : IsAhead 0 behind q
+  pub between : Place
+  pub is : end ≡ between.mark
+  pub taken : IsAhead n p between
+  pub read : IsAhead 0 between q
 
 -- A lexeme of a kind that is at p, other than the stream end, starts at p, takes a character or more, and reaches
 -- to its end or further: all of these are places of the text.

@@ -9,7 +9,7 @@ use Rattle.yaml_lexeme.specs.declared.block.header_t.{header_t}
 use Rattle.yaml_lexeme.specs.Lexeme.{Scalar as scalar_t}
 use Rattle.yaml_lexeme.specs.declared.problem.yaml_problem_t.TheVariants.{COLON_IN_FLOW}
 use Rattle.yaml_lexeme.specs.Classes.{is_white}
-use Rattle.yaml_lexeme.specs.Place.{Place, peek, first, skip, run, behind}
+use Rattle.yaml_lexeme.specs.Place.{Place, peek, first, skip, run, after_run}
 use Rattle.yaml_lexeme.specs.Reading.{Offence, Found, found, Part, part, over}
 use Rattle.yaml_lexeme.specs.Fold.{fold}
 use Rattle.yaml_lexeme.specs.Quoted.{quote, body_part, quoted}
@@ -87,7 +87,7 @@ pub record PlainParts (flow : Bool) (least : ℕ) (p : Place) (f : Found scalar_
   pub longest : IsLongest (link flow least) head.end links last over
   pub joined : p.rest ≡ head.value ++ texts links ++ last.rest
   pub value : f.value ≡ plain_scalar head.value (values links) last
-  pub end : f.end ≡ behind is_white last
+  pub end : f.end ≡ after_run is_white last
 
 abbrev pub PlainIsParts : Type 0
 PlainIsParts = (flow : Bool) (least : ℕ) (p : Place) (f : Found scalar_t) →
@@ -127,10 +127,10 @@ ChunkIsLongest = (flow : Bool) (p : Place) (f : Found (List ℕ)) → chunk flow
 pub record LinkParts (flow : Bool) (least : ℕ) (p : Place) (f : Found (List ℕ)) : Type 0 where
   pub text : List ℕ
   pub white : is_white (first p) ≡ true
-  pub stops : is_white (first (behind is_white p)) ≡ false
-  pub separator : separator least p ≡ found (fold (run is_white p)) (behind is_white p)
-  pub goes_on : is_over flow least (behind is_white p) ≡ false
-  pub chunk : chunk flow (behind is_white p) ≡ found text f.end
+  pub stops : is_white (first (after_run is_white p)) ≡ false
+  pub separator : separator least p ≡ found (fold (run is_white p)) (after_run is_white p)
+  pub goes_on : is_over flow least (after_run is_white p) ≡ false
+  pub chunk : chunk flow (after_run is_white p) ≡ found text f.end
   pub some : 0 < length text
   pub value : f.value ≡ fold (run is_white p) ++ text
 
@@ -140,9 +140,9 @@ LinkIsLongest = (flow : Bool) (least : ℕ) (p : Place) (f : Found (List ℕ)) �
 
 -- After a separator, with no tab in indentation, the scalar is over, or no character of a chunk follows.
 pub record SeparatorEnds (flow : Bool) (least : ℕ) (p : Place) : Type 0 where
-  pub separator : separator least p ≡ found (fold (run is_white p)) (behind is_white p)
-  pub ends : (is_over flow least (behind is_white p) ≡ true)
-      ⊎ (chunk flow (behind is_white p) ≡ found [] (behind is_white p))
+  pub separator : separator least p ≡ found (fold (run is_white p)) (after_run is_white p)
+  pub ends : (is_over flow least (after_run is_white p) ≡ true)
+      ⊎ (chunk flow (after_run is_white p) ≡ found [] (after_run is_white p))
 
 -- there is no link if there is no blank or break, or if the scalar ends after them
 abbrev pub LinkIsOver : Type 0

@@ -29,15 +29,15 @@ abbrev pub ends_line : ℕ → ℕ → Bool
 ends_line c next = is_break c && not (c == carriage_return && next == line_feed)
 
 -- the mark after c
-abbrev pub mark_behind : yaml_mark_t → ℕ → ℕ → yaml_mark_t
-mark_behind m c next =
+abbrev pub mark_after : yaml_mark_t → ℕ → ℕ → yaml_mark_t
+mark_after m c next =
     if ends_line c next then record { index = m.index + width c; line = m.line + 1; column = 0 }
     else record { index = m.index + width c; line = m.line; column = m.column + 1 }
 
 abbrev pub skip_from : ℕ → yaml_mark_t → List ℕ → Place
 skip_from zero m cs = record { mark = m; rest = cs }
 skip_from (suc n) m [] = record { mark = m; rest = [] }
-skip_from (suc n) m (c ∷ cs) = skip_from n (mark_behind m c (slice_index cs 0)) cs
+skip_from (suc n) m (c ∷ cs) = skip_from n (mark_after m c (slice_index cs 0)) cs
 
 -- the place n characters on, or the end
 unfoldable pub skip : ℕ → Place → Place
@@ -68,5 +68,5 @@ run_len test p = prefix_len test p.rest
 abbrev pub run : (ℕ → Bool) → Place → List ℕ
 run test p = take (run_len test p) p.rest
 
-abbrev pub behind : (ℕ → Bool) → Place → Place
-behind test p = skip (run_len test p) p
+abbrev pub after_run : (ℕ → Bool) → Place → Place
+after_run test p = skip (run_len test p) p

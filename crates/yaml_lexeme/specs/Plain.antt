@@ -7,7 +7,7 @@ use Rattle.yaml_text.specs.Classes.{is_break}
 use Rattle.yaml_lexeme.specs.declared.problem.yaml_problem_t.TheVariants.{COLON_IN_FLOW, TAB_IN_PLAIN}
 use Rattle.yaml_lexeme.specs.Lexeme.{Scalar as scalar_t}
 use Rattle.yaml_lexeme.specs.Classes.{is_white, ends, is_one_of}
-use Rattle.yaml_lexeme.specs.Place.{Place, peek, first, skip, run, run_len, behind}
+use Rattle.yaml_lexeme.specs.Place.{Place, peek, first, skip, run, run_len, after_run}
 use Rattle.yaml_lexeme.specs.Kind.{is_marker}
 use Rattle.yaml_lexeme.specs.Fold.{fold}
 use Rattle.yaml_lexeme.specs.Reading.{Read, found, refuse, ◌>>=◌, Part, part, over, many}
@@ -55,7 +55,7 @@ untabbed (Some tab) value p = refuse TAB_IN_PLAIN tab
 
 -- The longest run of blanks and breaks, with its value. A tab in indentation is an offence.
 unfoldable pub separator : ℕ → Place → Read (List ℕ)
-separator least p = untabbed (bad_tab least p) (fold (run is_white p)) (behind is_white p)
+separator least p = untabbed (bad_tab least p) (fold (run is_white p)) (after_run is_white p)
 
 -- the scalar is over after a separator
 abbrev pub is_over : Bool → ℕ → Place → Bool
@@ -80,4 +80,4 @@ plain flow least p = do
     value = utf8 head.value ++ flat_map utf8 links.value;
     end = links.end.mark;
     passed_break = list_any is_break (run is_white links.end);
-  }) (behind is_white links.end)
+  }) (after_run is_white links.end)

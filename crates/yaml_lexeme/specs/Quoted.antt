@@ -5,7 +5,7 @@ use Rattle.yaml_text.specs.Chars.{utf8}
 use Rattle.yaml_text.specs.Classes.{is_break, is_z}
 use Rattle.yaml_lexeme.specs.declared.problem.yaml_problem_t.TheVariants.{DOCUMENT_MARKER, END_OF_TEXT}
 use Rattle.yaml_lexeme.specs.Classes.{is_white}
-use Rattle.yaml_lexeme.specs.Place.{Place, peek, first, skip, run, behind, break_len}
+use Rattle.yaml_lexeme.specs.Place.{Place, peek, first, skip, run, after_run, break_len}
 use Rattle.yaml_lexeme.specs.Kind.{is_marker}
 use Rattle.yaml_lexeme.specs.Fold.{fold, breaks}
 use Rattle.yaml_lexeme.specs.Escape.{backslash, escape}
@@ -23,13 +23,13 @@ unmarked value p = if is_marker p then refuse DOCUMENT_MARKER p else part value 
 unfoldable pub body_part : Bool → Place → Part (List ℕ)
 body_part single p =
     let c = first p in
-    let behind_break = skip (break_len (skip 1 p)) (skip 1 p) in
+    let after_break = skip (break_len (skip 1 p)) (skip 1 p) in
     if is_z c then refuse END_OF_TEXT p
-    else if is_white c then unmarked (fold (run is_white p)) (behind is_white p)
+    else if is_white c then unmarked (fold (run is_white p)) (after_run is_white p)
     else if c == quote single && not (single && peek p 1 == c) then over
     else if c == quote single then part (c ∷ []) (skip 2 p)
     else if single || not (c == backslash) then part (c ∷ []) (skip 1 p)
-    else if is_break (peek p 1) then unmarked (breaks (run is_white behind_break)) (behind is_white behind_break)
+    else if is_break (peek p 1) then unmarked (breaks (run is_white after_break)) (after_run is_white after_break)
     else escape p >>= λ r. part (r.value ∷ []) r.end
 
 -- the bytes of a list of parts

@@ -5,7 +5,7 @@ use Rattle.yaml_text.specs.Token.{TokenData as unnamed_yaml_token_t_data}
 use Rattle.yaml_text.specs.Token.TokenData.{TAG}
 use Rattle.yaml_lexeme.specs.declared.problem.yaml_problem_t.TheVariants.{NO_BLANK_OR_BREAK, NO_CLOSING_ANGLE}
 use Rattle.yaml_lexeme.specs.Classes.{ends}
-use Rattle.yaml_lexeme.specs.Place.{Place, first, skip, run, behind}
+use Rattle.yaml_lexeme.specs.Place.{Place, first, skip, run, after_run}
 use Rattle.yaml_lexeme.specs.Uri.{uri, some_uri}
 use Rattle.yaml_lexeme.specs.Reading.{Read, found, refuse, ◌>>=◌}
 
@@ -28,7 +28,7 @@ with_handle letters suffix = TAG (codes "!" ++ letters ++ codes "!") suffix
 unfoldable pub handled : Place → Read unnamed_yaml_token_t_data
 handled p =
     let letters = run is_alpha p in
-    let end = behind is_alpha p in
+    let end = after_run is_alpha p in
     if first end == 0x21 then (some_uri false (skip 1 end) >>= λ r. found (with_handle letters r.value) r.end)
     else uri false end >>= λ r. found (lone (letters ++ r.value)) r.end
 

@@ -131,7 +131,7 @@ pub(crate) fn written(c: char) -> char
 pub(crate) fn push_breaks(cursor: &mut cursor_t, out: &mut Vec<u8>) -> Result<(), AllocError>
     ensures value { OnOk result
         (out.new.items ≡ out.old.items ++ utf8 (spec.breaks (place.run sets.is_white cursor.old))) }
-    ensures end { OnOk result (cursor.new ≡ place.behind sets.is_white cursor.old) }
+    ensures end { OnOk result (cursor.new ≡ place.after_run sets.is_white cursor.old) }
 {
     cursor.skip_run(class_t::BLANK);
     'breaks: while cursor.break_len() > 0 {
@@ -146,7 +146,7 @@ pub(crate) fn push_breaks(cursor: &mut cursor_t, out: &mut Vec<u8>) -> Result<()
 pub(crate) fn push_separator(cursor: &mut cursor_t, out: &mut Vec<u8>) -> Result<(), AllocError>
     ensures value { OnOk result
         (out.new.items ≡ out.old.items ++ utf8 (spec.fold (place.run sets.is_white cursor.old))) }
-    ensures end { OnOk result (cursor.new ≡ place.behind sets.is_white cursor.old) }
+    ensures end { OnOk result (cursor.new ≡ place.after_run sets.is_white cursor.old) }
 {
     let blanks = cursor.run(class_t::BLANK);
     if cursor.break_len() == 0 {

@@ -1,6 +1,6 @@
 //! What is between lexemes.
 ghost use Rattle.std.specs.Prelude.{ℕ, ◌≡◌, true, IfSome};
-ghost use Rattle.yaml_lexeme.specs.Place.{IsMarkOf, place_at, behind, peek};
+ghost use Rattle.yaml_lexeme.specs.Place.{IsMarkOf, place_at, after_run, peek};
 ghost use Rattle.yaml_lexeme.specs.Classes.{is_in_line};
 ghost use Rattle.yaml_lexeme.specs.Gap as spec;
 
@@ -11,7 +11,7 @@ use yaml_text::{yaml_mark_t, yaml_text_t};
 /// Takes what is left of a line.
 #[inline(never)]
 fn skip_line(cursor: &mut cursor_t)
-    ensures { cursor.new ≡ behind is_in_line cursor.old }
+    ensures { cursor.new ≡ after_run is_in_line cursor.old }
 {
     cursor.skip_run(class_t::IN_LINE);
 }

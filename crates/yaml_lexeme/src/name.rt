@@ -14,13 +14,13 @@ use std::alloc::Global;
 /// Takes as many letters, digits, `_` and `-` as possible.
 pub(crate) fn take_letters<'a>(cursor: &mut cursor_t<'a>) -> &'a [u8]
     ensures value { result.now ≡ place.run is_alpha cursor.old }
-    ensures end { cursor.new ≡ place.behind is_alpha cursor.old }
+    ensures end { cursor.new ≡ place.after_run is_alpha cursor.old }
 {
     cursor.run(class_t::ALPHA)
 }
 
-fn is_behind_name(c: char) -> bool
-    ensures { result ≡ spec.is_behind_name c }
+fn is_after_name(c: char) -> bool
+    ensures { result ≡ spec.is_after_name c }
 {
     ends(c)
         || c == '?'
@@ -40,7 +40,7 @@ pub(crate) fn take_name(alloc: Global, cursor: &mut cursor_t) -> Result<Vec<u8>,
 {
     cursor.advance();
     let letters = take_letters(cursor);
-    if letters.is_empty() || !is_at!(cursor, is_behind_name, 0) {
+    if letters.is_empty() || !is_at!(cursor, is_after_name, 0) {
         return Err(offence(yaml_problem_t::NO_NAME));
     }
     Ok(Vec::from_slice(alloc, letters)?)

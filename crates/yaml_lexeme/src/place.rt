@@ -4,7 +4,7 @@ ghost use Rattle.std.specs.Str.{chars};
 ghost use Rattle.yaml_text.specs.Chars.{IsText, utf8};
 ghost use Rattle.yaml_text.specs.Classes.{is_break};
 ghost use Rattle.yaml_text.specs.Utf8.{value_of};
-ghost use Rattle.yaml_lexeme.specs.Place.{peek, first, place_at, IsMarkOf, skip, mark_behind, width, behind, run};
+ghost use Rattle.yaml_lexeme.specs.Place.{peek, first, place_at, IsMarkOf, skip, mark_after, width, after_run, run};
 ghost use Rattle.yaml_lexeme.specs.Place.{run_len, break_len};
 ghost use Rattle.yaml_lexeme.specs.declared.runs.class_t.TheVariants.{SPACE};
 ghost use Rattle.yaml_lexeme.specs.inside.Runs.{class_test, is_line, Stands};
@@ -143,10 +143,10 @@ fn past_char(bytes: &[u8]) -> &[u8]
     past_wide(bytes)
 }
 
-fn mark_behind(mark: yaml_mark_t, c: char, next: char) -> yaml_mark_t
+fn mark_after(mark: yaml_mark_t, c: char, next: char) -> yaml_mark_t
     requires index { mark.index + width c < 2 ^ 64 }
     requires sums { mark.line + mark.column ≤ mark.index }
-    ensures value { result ≡ mark_behind mark c next }
+    ensures value { result ≡ mark_after mark c next }
     ensures sums { result.line + result.column ≤ result.index }
 {
     let index = mark.index + c.len_utf8() as u64;
@@ -266,7 +266,7 @@ impl<'a> cursor_t<'a> {
         let c = first_char(self.bytes);
         let next = self.peek(1);
         cursor_t {
-            mark: mark_behind(self.mark, c, next),
+            mark: mark_after(self.mark, c, next),
             bytes: past_char(self.bytes),
         }
     }
@@ -320,7 +320,7 @@ impl<'a> cursor_t<'a> {
     /// Takes characters of a run, up to a byte at which it may end.
     #[inline(always)]
     fn skip_quiet(&mut self, class: class_t)
-        ensures goes { behind (class_test class) self.new ≡ behind (class_test class) self.old }
+        ensures goes { after_run (class_test class) self.new ≡ after_run (class_test class) self.old }
         ensures shorter { length self.new.rest ≤ length self.old.rest }
     {
         let (n, count) = quiet_len(class, self.bytes);
@@ -336,7 +336,7 @@ impl<'a> cursor_t<'a> {
     #[inline(always)]
     pub fn run(&mut self, class: class_t) -> &'a [u8]
         ensures value { result.now ≡ utf8 (run (class_test class) self.old) }
-        ensures end { self.new ≡ behind (class_test class) self.old }
+        ensures end { self.new ≡ after_run (class_test class) self.old }
     {
         let start = self.left();
         self.skip_quiet(class);
@@ -383,7 +383,7 @@ impl<'a> cursor_t<'a> {
     /// Takes the spaces that are here.
     #[inline(always)]
     pub fn skip_all_spaces(&mut self)
-        ensures { self.new ≡ behind (class_test SPACE) self.old }
+        ensures { self.new ≡ after_run (class_test SPACE) self.old }
     {
         self.skip_spaces(u64::MAX);
     }
@@ -391,7 +391,7 @@ impl<'a> cursor_t<'a> {
     /// Takes the longest run of characters of the class.
     #[inline(always)]
     pub fn skip_run(&mut self, class: class_t)
-        ensures { self.new ≡ behind (class_test class) self.old }
+        ensures { self.new ≡ after_run (class_test class) self.old }
     {
         let _ = self.run(class);
     }

@@ -5,7 +5,7 @@ ghost use Rattle.std.specs.List.{list_any};
 ghost use Rattle.yaml_text.specs.Classes as classes;
 ghost use Rattle.yaml_text.specs.Chars.{utf8};
 ghost use Rattle.yaml_lexeme.specs.Classes as sets;
-ghost use Rattle.yaml_lexeme.specs.Place.{Place, first, peek, run, behind};
+ghost use Rattle.yaml_lexeme.specs.Place.{Place, first, peek, run, after_run};
 ghost use Rattle.yaml_lexeme.specs.Plain as spec;
 ghost use Rattle.yaml_lexeme.specs.inside.Gives.{Gives, Appends};
 ghost use Rattle.yaml_lexeme.specs.Lexeme.{scalar_of, scalar_with};
@@ -218,7 +218,7 @@ fn take_link(
 #[inline(always)]
 fn ends_at_once(cursor: &mut cursor_t, in_flow: bool, least: u64) -> Option<bool>
     ensures over { IfSome result (λ b. spec.link in_flow least cursor.old ≡ over) }
-    ensures end { IfSome result (λ b. cursor.new ≡ behind sets.is_white cursor.old) }
+    ensures end { IfSome result (λ b. cursor.new ≡ after_run sets.is_white cursor.old) }
     ensures broken { IfSome result (λ b. b ≡ list_any classes.is_break (run sets.is_white cursor.old)) }
     ensures stays { result ≡ None → cursor.new ≡ cursor.old }
 {

@@ -167,7 +167,7 @@ fn push_line(cursor: &mut cursor_t, single: bool, out: &mut Vec<u8>) -> Result<(
 
 /// How many bytes a scalar gets room for after what was taken of it: none if its quote is here.
 #[inline(always)]
-fn room_behind(cursor: &cursor_t, single: bool) -> usize
+fn room_after(cursor: &cursor_t, single: bool) -> usize
     ensures { result ≤ 64 }
 {
     if cursor.peek(0) == quote(single) {
@@ -210,7 +210,7 @@ fn take_rest(
         → Gives (λ v. v.items) result cursor.new (spec.quoted single p) }
 {
     let mut here = cursor.again();
-    let mut out = emptied(room, len + room_behind(cursor, single))?;
+    let mut out = emptied(room, len + room_after(cursor, single))?;
     out.extend_from_slice(&left[..len])?;
     let taken = take_parts(&mut here, single, out);
     *cursor = here;

@@ -92,8 +92,8 @@ bom_len YAML_UTF16LE_ENCODING input = 0
 bom_len YAML_UTF16BE_ENCODING input = 0
 
 -- What follows it.
-abbrev pub behind_bom : yaml_encoding_t → List ℕ → List ℕ
-behind_bom setting input = drop (bom_len setting input) input
+abbrev pub after_bom : yaml_encoding_t → List ℕ → List ℕ
+after_bom setting input = drop (bom_len setting input) input
 
 -- What is wrong with bytes that begin with no character.
 abbrev pub offence : yaml_encoding_t → List ℕ → offence_t
@@ -106,7 +106,7 @@ offence YAML_UTF16BE_ENCODING bytes = offence16 true bytes
 unfoldable pub front : yaml_encoding_t → List ℕ → Text
 front setting input = record {
   encoding = encoding_of setting input;
-  chars = first_chars (encoding_of setting input) (length (behind_bom setting input)) (behind_bom setting input);
+  chars = first_chars (encoding_of setting input) (length (after_bom setting input)) (after_bom setting input);
 }
 
 -- How many bytes of the input the byte order mark and the front take.
@@ -137,22 +137,22 @@ pub record IsLongestFront (setting : yaml_encoding_t) (input : List ℕ) (text :
   pub encoding : text.encoding ≡ encoding_of setting input
   pub each : AreChars text.chars
   pub rest : List ℕ
-  pub begins : behind_bom setting input ≡ spellings text.encoding text.chars ++ rest
+  pub begins : after_bom setting input ≡ spellings text.encoding text.chars ++ rest
   pub longest : (cs more : List ℕ) → AreChars cs
-      → behind_bom setting input ≡ spellings text.encoding cs ++ more
+      → after_bom setting input ≡ spellings text.encoding cs ++ more
       → length cs ≤ length text.chars
 
 -- The input spells the text.
 pub record Spells (setting : yaml_encoding_t) (input : List ℕ) (text : Text) : Type 0 where
   pub encoding : text.encoding ≡ encoding_of setting input
   pub each : AreChars text.chars
-  pub bytes : behind_bom setting input ≡ spellings text.encoding text.chars
+  pub bytes : after_bom setting input ≡ spellings text.encoding text.chars
 
 -- The input spells no text: the fault is what is wrong after its front.
 pub record IsRefused (setting : yaml_encoding_t) (input : List ℕ) (fault : Fault) : Type 0 where
   pub chars : List ℕ
   pub rest : List ℕ
-  pub front : IsFront (encoding_of setting input) (behind_bom setting input) chars rest
+  pub front : IsFront (encoding_of setting input) (after_bom setting input) chars rest
   pub left : 0 < length rest
   pub fault_is : fault ≡ reader_fault
       (bom_len setting input + length (spellings (encoding_of setting input) chars))

@@ -28,8 +28,8 @@ abbrev pub mark_of : List ℕ → yaml_mark_t
 mark_of before = record { index = length (utf8 before); line = breaks before; column = column before }
 
 -- The mark after one character c more, which the characters `after` follow.
-abbrev pub mark_behind : yaml_mark_t → ℕ → List ℕ → yaml_mark_t
-mark_behind m c after =
+abbrev pub mark_after : yaml_mark_t → ℕ → List ℕ → yaml_mark_t
+mark_after m c after =
     if ends_break c after then record { index = m.index + len_utf8 c; line = m.line + 1; column = 0 }
     else record { index = m.index + len_utf8 c; line = m.line; column = m.column + 1 }
 
@@ -37,7 +37,7 @@ mark_behind m c after =
 abbrev pub mark_on : ℕ → yaml_mark_t → List ℕ → yaml_mark_t
 mark_on zero m cs = m
 mark_on (suc n) m [] = m
-mark_on (suc n) m (c ∷ cs) = mark_on n (mark_behind m c cs) cs
+mark_on (suc n) m (c ∷ cs) = mark_on n (mark_after m c cs) cs
 
 -- CR and LF of one break are on the two sides
 abbrev pub cuts_break : List ℕ → List ℕ → Bool

@@ -19,7 +19,7 @@ fn byte_at(s: &[u8], at: usize) -> u8
 }
 
 #[inline(always)]
-fn byte_behind(s: &[u8], at: usize, more: usize) -> u8
+fn byte_after(s: &[u8], at: usize, more: usize) -> u8
     ensures { result ≡ slice_index s.now (at + more) }
 {
     match at.checked_add(more) {
@@ -34,8 +34,8 @@ fn breaks_at(s: &[u8], at: usize) -> bool
 {
     match byte_at(s, at) {
         b'\r' | b'\n' => true,
-        0xC2 => byte_behind(s, at, 1) == 0x85,
-        0xE2 => byte_behind(s, at, 1) == 0x80 && matches!(byte_behind(s, at, 2), 0xA8 | 0xA9),
+        0xC2 => byte_after(s, at, 1) == 0x85,
+        0xE2 => byte_after(s, at, 1) == 0x80 && matches!(byte_after(s, at, 2), 0xA8 | 0xA9),
         _ => false,
     }
 }
@@ -44,13 +44,13 @@ fn breaks_at(s: &[u8], at: usize) -> bool
 fn crlf_at(s: &[u8], at: usize) -> bool
     ensures { result ≡ is_crlf_at s.now at }
 {
-    byte_at(s, at) == b'\r' && byte_behind(s, at, 1) == b'\n'
+    byte_at(s, at) == b'\r' && byte_after(s, at, 1) == b'\n'
 }
 
 fn bom_at(s: &[u8], at: usize) -> bool
     ensures { result ≡ is_bom_at s.now at }
 {
-    byte_at(s, at) == 0xEF && byte_behind(s, at, 1) == 0xBB && byte_behind(s, at, 2) == 0xBF
+    byte_at(s, at) == 0xEF && byte_after(s, at, 1) == 0xBB && byte_after(s, at, 2) == 0xBF
 }
 
 fn printable_at(s: &[u8], at: usize) -> bool
@@ -58,11 +58,11 @@ fn printable_at(s: &[u8], at: usize) -> bool
 {
     match byte_at(s, at) {
         b'\n' | 0x20..=0x7E | 0xC3..=0xEC | 0xEE | 0xF0..=0xF4 => true,
-        0xC2 => matches!(byte_behind(s, at, 1), 0xA0..=0xBF),
-        0xED => byte_behind(s, at, 1) <= 0x9F,
-        0xEF => match byte_behind(s, at, 1) {
-            0xBB => byte_behind(s, at, 2) != 0xBF,
-            0xBF => !matches!(byte_behind(s, at, 2), 0xBE | 0xBF),
+        0xC2 => matches!(byte_after(s, at, 1), 0xA0..=0xBF),
+        0xED => byte_after(s, at, 1) <= 0x9F,
+        0xEF => match byte_after(s, at, 1) {
+            0xBB => byte_after(s, at, 2) != 0xBF,
+            0xBF => !matches!(byte_after(s, at, 2), 0xBE | 0xBF),
             _ => true,
         },
         _ => false,

@@ -3,7 +3,7 @@ ghost use Rattle.std.specs.Prelude.{◌≡◌, ◌+◌, ◌<◌, ◌≤◌, ◌^
 ghost use Rattle.std.specs.Prelude.{IfOk, IfErr, IsOk, IsNone, IfSome};
 ghost use Rattle.yaml_text.specs.Chars.{IsText, utf8};
 ghost use Rattle.yaml_text.specs.Utf8.{offence8};
-ghost use Rattle.yaml_text.specs.Decode.{BeginsWithNone, IsLongestFront, encoding_of, bom_len, behind_bom};
+ghost use Rattle.yaml_text.specs.Decode.{BeginsWithNone, IsLongestFront, encoding_of, bom_len, after_bom};
 ghost use Rattle.yaml_text.specs.inside.Fronts.{Fronts};
 ghost use Rattle.yaml_text.specs.Decode.{front, refusal, refusal_seen, decoding, Decodes, outcome, Spells, IsRefused};
 ghost use Rattle.yaml_text.specs.inside.Fronts.{order};
@@ -179,7 +179,7 @@ pub fn yaml_decode<'a>(
         (fault_of fault ≡ memory_fault) ⊎ IsRefused setting input.now (fault_of fault)) }
     // accepted UTF-8 is its own text, and no memory is taken for it
     ensures own_text { IfOk result (λ text.
-        text.encoding ≡ YAML_UTF8_ENCODING → utf8 text.chars ≡ behind_bom setting input.now) }
+        text.encoding ≡ YAML_UTF8_ENCODING → utf8 text.chars ≡ after_bom setting input.now) }
     ensures borrowed { encoding_of setting input.now ≡ YAML_UTF8_ENCODING
         → outcome result ≡ decoding setting input.now }
 {

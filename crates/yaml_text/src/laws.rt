@@ -47,7 +47,7 @@ pub fn running_mark()
 pub fn cut_between_characters()
     ensures before { (front rest : List ℕ) → AreChars (front ++ rest)
         → take (length (utf8 front)) (utf8 (front ++ rest)) ≡ utf8 front }
-    ensures behind { (front rest : List ℕ) → AreChars (front ++ rest)
+    ensures after { (front rest : List ℕ) → AreChars (front ++ rest)
         → chars (drop (length (utf8 front)) (utf8 (front ++ rest))) ≡ rest }
 {}
 

@@ -4,7 +4,7 @@ use Rattle.yaml_text.specs.declared.types.yaml_mark_t.{yaml_mark_t}
 use Rattle.yaml_text.specs.Mark.{column, cuts_break, mark_on, mark_at}
 use Rattle.yaml_text.proofs.Marks.MarkCounts.{running}
 use Rattle.yaml_lexeme.specs.Counted.{PlacesAreCounted, MarksAreCounted}
-use Rattle.yaml_lexeme.specs.Place.{Place, place_at, mark_behind, skip_from, skip}
+use Rattle.yaml_lexeme.specs.Place.{Place, place_at, mark_after, skip_from, skip}
 
 abbrev place_of : yaml_mark_t → List ℕ → Place
 place_of m cs = record { mark = m; rest = cs }
@@ -13,7 +13,7 @@ place_of m cs = record { mark = m; rest = cs }
 walk : (n : ℕ) (m : yaml_mark_t) (cs : List ℕ) → skip_from n m cs ≡ place_of (mark_on n m cs) (drop n cs)
 walk zero m cs = refl
 walk (suc n) m [] = refl
-walk (suc n) m (c ∷ cs) = walk n (mark_behind m c (slice_index cs 0)) cs
+walk (suc n) m (c ∷ cs) = walk n (mark_after m c (slice_index cs 0)) cs
 
 place_is : (text : List ℕ) (n : ℕ) → n ≤ length text → cuts_break (take n text) (drop n text) ≡ false → place_at text n ≡ place_of (mark_at text n) (drop n text)
 unfolding skip column

@@ -14,7 +14,7 @@ use Rattle.yaml_text.specs.Token.{TokenData as unnamed_yaml_token_t_data}
 use Rattle.yaml_text.specs.declared.types.yaml_mark_t.{yaml_mark_t}
 use Rattle.yaml_text.specs.declared.types.yaml_scalar_style_t.{yaml_scalar_style_t}
 use Rattle.yaml_text.specs.declared.types.yaml_scalar_style_t.TheVariants.{YAML_PLAIN_SCALAR_STYLE, YAML_SINGLE_QUOTED_SCALAR_STYLE, YAML_DOUBLE_QUOTED_SCALAR_STYLE, YAML_LITERAL_SCALAR_STYLE, YAML_FOLDED_SCALAR_STYLE}
-use Rattle.yaml_lexeme.proofs.CountedMarks.WholePlaces.{parts, Clear, clear_here, clear_behind, clear_one}
+use Rattle.yaml_lexeme.proofs.CountedMarks.WholePlaces.{parts, Clear, clear_here, clear_after, clear_one}
 use Rattle.yaml_lexeme.proofs.CountedMarks.WholeSmallReaders.{Held, Holds, ok_holds, bind_holds, Clears, is_not, gap_clear, name_clears, tag_clears}
 use Rattle.yaml_lexeme.proofs.CountedMarks.CountedPlaces.{places_counted}
 use Rattle.yaml_lexeme.proofs.Places.PlaceMoves.{skip_skip, length_skip, rest_skip}
@@ -119,8 +119,8 @@ lexeme_holds : (k : yaml_lexeme_kind_t) (c : yaml_context_t) (p : Place) → kin
 unfolding lex
 lexeme_holds kind.STREAM_END c p h other t = absurd (other refl)
 lexeme_holds kind.DIRECTIVE c p h other t = ended_holds p (directive p) (directive_marks p t)
-lexeme_holds kind.DOCUMENT_START c p h other t = some_hold kind.DOCUMENT_START 3 p (clear_behind 2 p (marker_end (in_flow c) kind.DOCUMENT_START p refl h))
-lexeme_holds kind.DOCUMENT_END c p h other t = some_hold kind.DOCUMENT_END 3 p (clear_behind 2 p (marker_end (in_flow c) kind.DOCUMENT_END p refl h))
+lexeme_holds kind.DOCUMENT_START c p h other t = some_hold kind.DOCUMENT_START 3 p (clear_after 2 p (marker_end (in_flow c) kind.DOCUMENT_START p refl h))
+lexeme_holds kind.DOCUMENT_END c p h other t = some_hold kind.DOCUMENT_END 3 p (clear_after 2 p (marker_end (in_flow c) kind.DOCUMENT_END p refl h))
 lexeme_holds kind.FLOW_SEQUENCE_START c p h other t = some_hold kind.FLOW_SEQUENCE_START 1 p (clear_one p t)
 lexeme_holds kind.FLOW_MAPPING_START c p h other t = some_hold kind.FLOW_MAPPING_START 1 p (clear_one p t)
 lexeme_holds kind.FLOW_SEQUENCE_END c p h other t = some_hold kind.FLOW_SEQUENCE_END 1 p (clear_one p t)
@@ -181,12 +181,12 @@ before_is n text h =
     let e : length (take (suc n) text) - 1 ≡ n = omega (arith, length-take (suc n) text) in
     ap (λ (i : ℕ). slice_index (take (suc n) text) i) e ∙ get_or-take (suc n) text n 0 (omega arith)
 
-behind_is : (n : ℕ) (text : List ℕ) → slice_index (drop n text) 0 ≡ slice_index text n
-behind_is n text = let e : n + 0 ≡ n = omega arith in get_or-drop n text 0 0 ∙ ap (λ (i : ℕ). slice_index text i) e
+after_is : (n : ℕ) (text : List ℕ) → slice_index (drop n text) 0 ≡ slice_index text n
+after_is n text = let e : n + 0 ≡ n = omega arith in get_or-drop n text 0 0 ∙ ap (λ (i : ℕ). slice_index text i) e
 
 cut_is : (n : ℕ) (text : List ℕ) → suc n ≤ length text → cuts_break (take (suc n) text) (drop (suc n) text) ≡ is_crlf (slice_index text n) (slice_index text (suc n))
 cut_is n text h =
-    ap (λ (c : ℕ). is_crlf c (slice_index (drop (suc n) text) 0)) (before_is n text h) ∙ ap (λ (d : ℕ). is_crlf (slice_index text n) d) (behind_is (suc n) text)
+    ap (λ (c : ℕ). is_crlf c (slice_index (drop (suc n) text) 0)) (before_is n text h) ∙ ap (λ (d : ℕ). is_crlf (slice_index text n) d) (after_is (suc n) text)
 
 far : (text : List ℕ) (n i : ℕ) → slice_index (place_at text n).rest i ≡ slice_index text (n + i)
 far text n i = ap (λ (cs : List ℕ). slice_index cs i) (rest_skip n (start text)) ∙ get_or-drop n text i 0

@@ -8,7 +8,7 @@ use Rattle.yaml_text.specs.Classes.{is_crlf, is_break}
 use Rattle.yaml_lexeme.proofs.MarkOrder.ReadingAhead.{ahead_any}
 use Rattle.yaml_lexeme.proofs.Places.PlaceMoves.{skip_none, skip_skip, length_skip, peek_on}
 use Rattle.yaml_lexeme.specs.Order.{IsAhead}
-use Rattle.yaml_lexeme.specs.Place.{Place, first, peek, skip, run_len, behind, break_len}
+use Rattle.yaml_lexeme.specs.Place.{Place, first, peek, skip, run_len, after_run, break_len}
 
 -- CR and LF of one break are on the two sides of the place after n of the characters
 abbrev pub parts : List ℕ → ℕ → Bool
@@ -68,11 +68,11 @@ pub no_return : (c d : ℕ) → (c == 0x0D) ≡ false → is_crlf c d ≡ false
 no_return c d h = grind (arith, nat_tests)
 
 -- after a character that is not CR
-pub clear_behind : (k : ℕ) (p : Place) → (peek p k == 0x0D) ≡ false → Clear p (skip (suc k) p)
-clear_behind k p h = clear_skip (suc k) p (no_return (peek p k) (peek p (suc k)) h)
+pub clear_after : (k : ℕ) (p : Place) → (peek p k == 0x0D) ≡ false → Clear p (skip (suc k) p)
+clear_after k p h = clear_skip (suc k) p (no_return (peek p k) (peek p (suc k)) h)
 
 pub clear_one : (p : Place) → (first p == 0x0D) ≡ false → Clear p (skip 1 p)
-clear_one p h = clear_behind 0 p h
+clear_one p h = clear_after 0 p h
 
 pub clear_if : (b : Bool) {p q r : Place} → (b ≡ true → Clear p q) → (b ≡ false → Clear p r) → Clear p (cond b q r)
 clear_if true {p} {q} {r} a b = a refl
@@ -104,7 +104,7 @@ run_whole test sure (c ∷ cs) =
       | inr f ↦ let m : prefix_len test (c ∷ cs) ≡ 0 = rw f refl in rw m refl
     ]
 
-pub clear_run : (test : ℕ → Bool) (p : Place) → IsSure test → Clear p (behind test p)
+pub clear_run : (test : ℕ → Bool) (p : Place) → IsSure test → Clear p (after_run test p)
 clear_run test p sure = clear_skip (run_len test p) p (run_whole test sure p.rest)
 
 pub other : (test : ℕ → Bool) → test 0x0D ≡ false → (c : ℕ) → test c ≡ true → (c == 0x0D) ≡ false
@@ -142,6 +142,6 @@ clear_break p =
     elim (cases_Bool (first p == 0x0D && peek p 1 == 0x0A)) [
       | inl t ↦
           let m : break_len p ≡ 2 = rw t refl in
-          rw m (clear_behind 1 p (line_feed_is (peek p 1) (and_parts (first p == 0x0D) (peek p 1 == 0x0A) t).1))
+          rw m (clear_after 1 p (line_feed_is (peek p 1) (and_parts (first p == 0x0D) (peek p 1 == 0x0A) t).1))
       | inr f ↦ rw f (break_one (is_break (first p)) p f)
     ]

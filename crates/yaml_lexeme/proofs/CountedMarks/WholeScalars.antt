@@ -8,7 +8,7 @@ use Rattle.yaml_text.specs.declared.types.yaml_mark_t.{yaml_mark_t}
 use Rattle.yaml_lexeme.specs.Lexeme.{Scalar as scalar_t}
 use Rattle.yaml_lexeme.specs.Lexeme.{Directive as directive_t}
 use Rattle.yaml_lexeme.proofs.MarkOrder.ReadingAhead.{shorter, part_shorter, PartAhead}
-use Rattle.yaml_lexeme.proofs.CountedMarks.WholePlaces.{parts, Clear, clear_here, clear_trans, clear_skip, clear_behind, clear_one, clear_run, clear_within, clear_break, other, one_more, no_return, end_whole}
+use Rattle.yaml_lexeme.proofs.CountedMarks.WholePlaces.{parts, Clear, clear_here, clear_trans, clear_skip, clear_after, clear_one, clear_run, clear_within, clear_break, other, one_more, no_return, end_whole}
 use Rattle.yaml_lexeme.proofs.CountedMarks.WholeSmallReaders.{Held, Holds, ok_holds, refuse_holds, if_holds, bind_holds, from_holds, Clears, PartClears, ClearsTo, then_clears, then_to, many_clears, sure_white, sure_in_line, sure_alpha, is_not, named_clears, line_end_clears}
 use Rattle.yaml_lexeme.proofs.Parts.PartByPart.{many_turn}
 use Rattle.yaml_lexeme.proofs.MarkOrder.ScalarsAhead.{body_goes}
@@ -17,7 +17,7 @@ use Rattle.yaml_lexeme.specs.Classes.{ends, is_white, is_in_line}
 use Rattle.yaml_lexeme.specs.Directive.{directive}
 use Rattle.yaml_lexeme.specs.Escape.{backslash, escape, hex_escape, simple_at, hex_len, simple_escape, is_scalar}
 use Rattle.yaml_lexeme.specs.Kind.{is_marker}
-use Rattle.yaml_lexeme.specs.Place.{Place, first, peek, skip, mark_behind, run, run_len, behind, break_len}
+use Rattle.yaml_lexeme.specs.Place.{Place, first, peek, skip, mark_after, run, run_len, after_run, break_len}
 use Rattle.yaml_lexeme.proofs.Readers.PlainLinks.{tab_from, separator_is}
 use Rattle.yaml_lexeme.specs.Plain.{is_chunk, is_bad_colon, chunk_len, chunk, untabbed, separator, is_over, link, plain}
 use Rattle.yaml_lexeme.specs.Quoted.{quote, unmarked, body_part, spelled, quoted}
@@ -46,13 +46,13 @@ hex_clears n p =
 
 simple_clears : (o : Option ℕ) (p : Place) → (is_some o ≡ true → (peek p 1 == 0x0D) ≡ false) → Clears p (simple_at o p)
 simple_clears None p h = refuse_holds (clear_here p)
-simple_clears (Some c) p h = ok_holds (clear_behind 1 p (h refl))
+simple_clears (Some c) p h = ok_holds (clear_after 1 p (h refl))
 
 escape_clears : (p : Place) → Clears p (escape p)
 unfolding escape
 escape_clears p =
     if_holds (nat_lt 0 (hex_len (peek p 1)))
-    (λ e. then_clears (clear_behind 1 p (other (λ c. nat_lt 0 (hex_len c)) refl (peek p 1) e)) (hex_clears (hex_len (peek p 1)) (skip 2 p)))
+    (λ e. then_clears (clear_after 1 p (other (λ c. nat_lt 0 (hex_len c)) refl (peek p 1) e)) (hex_clears (hex_len (peek p 1)) (skip 2 p)))
     (λ e. simple_clears (simple_escape (peek p 1)) p (λ h. other (λ c. is_some (simple_escape c)) refl (peek p 1) h))
 
 -- quoted scalars
@@ -92,12 +92,12 @@ body_clears single p =
     let q = skip 1 p in
     let r = skip (break_len q) q in
     if_holds (is_z c) (λ e. refuse_holds (clear_here p)) (λ e.
-    if_holds (is_white c) (λ s. body_unmarked _ p (behind is_white p) (clear_run is_white p sure_white)) (λ s.
+    if_holds (is_white c) (λ s. body_unmarked _ p (after_run is_white p) (clear_run is_white p sure_white)) (λ s.
     let a : Clear p q = clear_one p (white_not c s) in
     if_holds (c == quote single && not (single && peek p 1 == c)) (λ o. ok_holds (white_not c s)) (λ o.
-    if_holds (c == quote single) (λ d. ok_holds (clear_behind 1 p (same_not c (peek p 1) (doubled (c == quote single) single (peek p 1 == c) o d) (white_not c s)))) (λ d.
+    if_holds (c == quote single) (λ d. ok_holds (clear_after 1 p (same_not c (peek p 1) (doubled (c == quote single) single (peek p 1 == c) o d) (white_not c s)))) (λ d.
     if_holds (single || not (c == backslash)) (λ f. ok_holds a) (λ f.
-    if_holds (is_break (peek p 1)) (λ b. body_unmarked _ p (behind is_white r) (clear_trans a (clear_trans (clear_break q) (clear_run is_white r sure_white)))) (λ b.
+    if_holds (is_break (peek p 1)) (λ b. body_unmarked _ p (after_run is_white r) (clear_trans a (clear_trans (clear_break q) (clear_run is_white r sure_white)))) (λ b.
     bind_holds (escape_clears p) (λ x y. ok_holds y)))))))
 
 abbrev Short : Place → Option (Found (List ℕ)) → Type 0
@@ -163,7 +163,7 @@ abbrev Tabbed : yaml_mark_t → List ℕ → Option Place → Type 0
 Tabbed m cs None = Unit {0}
 Tabbed m cs (Some t) = TabAt (record { mark = m; rest = cs }) t
 
-tab_more : (m : yaml_mark_t) (c : ℕ) (cs : List ℕ) (o : Option Place) → Tabbed (mark_behind m c (slice_index cs 0)) cs o → Tabbed m (c ∷ cs) o
+tab_more : (m : yaml_mark_t) (c : ℕ) (cs : List ℕ) (o : Option Place) → Tabbed (mark_after m c (slice_index cs 0)) cs o → Tabbed m (c ∷ cs) o
 unfolding skip
 tab_more m c cs None h = tt
 tab_more m c cs (Some t) h = record { count = suc h.count; within = omega (arith, h.within); is = h.is; tab = h.tab }
@@ -177,9 +177,9 @@ tab_at : (least : ℕ) (broken : Bool) (m : yaml_mark_t) (cs : List ℕ) → Tab
 unfolding skip
 tab_at least broken m [] = tt
 tab_at least broken m (c ∷ cs) =
-    tab_if (not (is_white c)) ((c == 0x09 && broken) && nat_lt m.column least) m (c ∷ cs) (record { mark = m; rest = c ∷ cs }) (tab_from least (broken || is_break c) (mark_behind m c (slice_index cs 0)) cs)
+    tab_if (not (is_white c)) ((c == 0x09 && broken) && nat_lt m.column least) m (c ∷ cs) (record { mark = m; rest = c ∷ cs }) (tab_from least (broken || is_break c) (mark_after m c (slice_index cs 0)) cs)
     (λ e. record { count = 0; within = omega arith; is = refl; tab = (and_parts (c == 0x09) broken (and_parts (c == 0x09 && broken) (nat_lt m.column least) e).0).0 })
-    (tab_more m c cs _ (tab_at least (broken || is_break c) (mark_behind m c (slice_index cs 0)) cs))
+    (tab_more m c cs _ (tab_at least (broken || is_break c) (mark_after m c (slice_index cs 0)) cs))
 
 no_feed : (c d : ℕ) → (d == 0x09) ≡ true → is_crlf c d ≡ false
 no_feed c d h = grind (arith, nat_tests)
@@ -193,7 +193,7 @@ untabbed_clears None value p q t a = ok_holds a
 untabbed_clears (Some t) value p q h a = refuse_holds (record { count = h.count; within = h.within; is = h.is; whole = tab_whole h.count p.rest h.tab })
 
 separator_clears : (least : ℕ) (p : Place) → Clears p (separator least p)
-separator_clears least p = rw (separator_is least p) (untabbed_clears (tab_from least false p.mark p.rest) _ p (behind is_white p) (tab_at least false p.mark p.rest) (clear_run is_white p sure_white))
+separator_clears least p = rw (separator_is least p) (untabbed_clears (tab_from least false p.mark p.rest) _ p (after_run is_white p) (tab_at least false p.mark p.rest) (clear_run is_white p sure_white))
 
 link_clears : (flow : Bool) (least : ℕ) (p : Place) → PartClears p (link flow least p)
 unfolding link
@@ -232,7 +232,7 @@ pub directive_marks : (p : Place) → (first p == 0x0D) ≡ false → Marks (λ 
 unfolding directive
 directive_marks p h =
     let letters = run is_alpha (skip 1 p) in
-    let end = behind is_alpha (skip 1 p) in
+    let end = after_run is_alpha (skip 1 p) in
     let a : Clear p end = clear_trans (clear_one p h) (clear_run is_alpha (skip 1 p) sure_alpha) in
     if_holds (length letters == 0) (λ e. refuse_holds a) (λ e.
     if_holds (not (ends (first end))) (λ f. refuse_holds a) (λ f.
@@ -286,7 +286,7 @@ then_marks {A} mark {p} {q} {r} a h = from_holds a h (λ x b. (mark_then a b.0, 
 line_marks : (indent : ℕ) (p : Place) → Marks (λ (l : Line). l.end) p (line_at indent p)
 unfolding line_at
 line_marks indent p =
-    let q = behind is_in_line p in
+    let q = after_run is_in_line p in
     bind_holds (then_marks (λ (b : Blanks). b.end) (clear_trans (clear_run is_in_line p sure_in_line) (clear_break q)) (blanks_marks (Some indent) (skip (break_len q) q))) (λ x b. ok_holds b)
 
 abbrev LineEnd : Place → Option (Found Line) → Type 0

@@ -3,14 +3,14 @@ use Rattle.std.proofs.Common.{◌≡◌, ℕ, zero, suc, ◌+◌, ◌-◌, Bool,
 use Rattle.std.proofs.lemmas.Bool.Decides.{nat_tests}
 use Rattle.std.specs.Str.{bytes_eq}
 use Rattle.yaml_lexeme.specs.declared.problem.yaml_problem_t.{yaml_problem_t}
-use Rattle.yaml_lexeme.proofs.CountedMarks.WholePlaces.{Clear, clear_here, clear_trans, clear_behind, clear_one, clear_if, IsSure, clear_run, clear_within, clear_break, other, no_return}
+use Rattle.yaml_lexeme.proofs.CountedMarks.WholePlaces.{Clear, clear_here, clear_trans, clear_after, clear_one, clear_if, IsSure, clear_run, clear_within, clear_break, other, no_return}
 use Rattle.std.proofs.lemmas.Bool.{and_parts, not-false}
 use Rattle.yaml_lexeme.specs.Block.{after_line}
 use Rattle.yaml_lexeme.specs.Classes.{is_white, is_in_line, ends}
 use Rattle.yaml_lexeme.specs.Directive.{number, version_at, handle_at, tag_directive_at, named}
 use Rattle.yaml_lexeme.specs.Gap.{byte_order_mark, is_gap_blank, after_mark, after_comment, after_gap_line, after_gap_lines, gap}
-use Rattle.yaml_lexeme.specs.Name.{is_behind_name, name}
-use Rattle.yaml_lexeme.specs.Place.{Place, first, peek, skip, run, run_len, behind, break_len}
+use Rattle.yaml_lexeme.specs.Name.{is_after_name, name}
+use Rattle.yaml_lexeme.specs.Place.{Place, first, peek, skip, run, run_len, after_run, break_len}
 use Rattle.yaml_lexeme.specs.Reading.{Offence, Found, Read, refuse, ◌>>=◌, Part, go_on, at_most, many}
 use Rattle.yaml_lexeme.specs.Tag.{angled, handled, tag}
 use Rattle.yaml_lexeme.specs.Uri.{is_uri, octet, is_bad_next, next_octets, octet_width, uri_escape, uri_part, uri, some_uri}
@@ -115,7 +115,7 @@ line_clear : (tabs : Bool) (p : Place) → Clear p (after_gap_line tabs p)
 unfolding after_gap_line
 line_clear tabs p =
     let a = after_mark p in
-    let b = behind (is_gap_blank tabs) a in
+    let b = after_run (is_gap_blank tabs) a in
     clear_trans (mark_clear p) (clear_trans (clear_run (is_gap_blank tabs) a (sure_gap tabs)) (comment_clear b))
 
 lines_clear : (n : ℕ) (flow : Bool) (p : Place) → Clear p (after_gap_lines n flow p)
@@ -133,17 +133,17 @@ gap_clear flow allowed p =
     clear_trans (line_clear (flow || not allowed) p) (lines_clear (length a.rest) flow a)
 
 -- names and tags
-alpha_clear : (p : Place) → Clear p (behind is_alpha p)
+alpha_clear : (p : Place) → Clear p (after_run is_alpha p)
 alpha_clear p = clear_run is_alpha p sure_alpha
 
-blank_clear : (p : Place) → Clear p (behind is_blank p)
+blank_clear : (p : Place) → Clear p (after_run is_blank p)
 blank_clear p = clear_run is_blank p sure_blank
 
 pub name_clears : (p : Place) → (first p == 0x0D) ≡ false → Clears p (name p)
 unfolding name
 name_clears p h =
     let a = clear_trans (clear_one p h) (alpha_clear (skip 1 p)) in
-    if_holds (nat_lt 0 (length (run is_alpha (skip 1 p))) && is_behind_name (first (behind is_alpha (skip 1 p)))) (λ e. ok_holds a) (λ e. refuse_holds a)
+    if_holds (nat_lt 0 (length (run is_alpha (skip 1 p))) && is_after_name (first (after_run is_alpha (skip 1 p)))) (λ e. ok_holds a) (λ e. refuse_holds a)
 
 three : (a b c : Bool) → (a && (b && c)) ≡ true → c ≡ true
 three a b c h = (and_parts b c (and_parts a (b && c) h).1).1
@@ -152,7 +152,7 @@ octet_clears : (p : Place) → Clears p (octet p)
 unfolding octet
 octet_clears p =
     if_holds (first p == 0x25 && (is_hex (peek p 1) && is_hex (peek p 2)))
-    (λ e. ok_holds (clear_behind 2 p (other is_hex refl (peek p 2) (three (first p == 0x25) (is_hex (peek p 1)) (is_hex (peek p 2)) e))))
+    (λ e. ok_holds (clear_after 2 p (other is_hex refl (peek p 2) (three (first p == 0x25) (is_hex (peek p 1)) (is_hex (peek p 2)) e))))
     (λ e. refuse_holds (clear_here p))
 
 next_clears : (n : ℕ) (p : Place) → Clears p (next_octets n p)
@@ -193,7 +193,7 @@ angled_clears p h =
 handled_clears : (p : Place) → Clears p (handled p)
 unfolding handled
 handled_clears p =
-    let end = behind is_alpha p in
+    let end = after_run is_alpha p in
     if_holds (first end == 0x21)
     (λ e. bind_holds (then_clears (clear_trans (alpha_clear p) (clear_one end (is_not (first end) 0x21 refl e))) (some_clears false (skip 1 end))) (λ x a. ok_holds a))
     (λ e. bind_holds (then_clears (alpha_clear p) (uri_clears false end)) (λ x a. ok_holds a))
@@ -216,14 +216,14 @@ number_clears p =
 version_clears : (p : Place) → Clears p (version_at p)
 unfolding version_at
 version_clears p =
-    bind_holds (then_clears (blank_clear p) (number_clears (behind is_blank p))) (λ x a.
+    bind_holds (then_clears (blank_clear p) (number_clears (after_run is_blank p))) (λ x a.
     if_holds (not (first x.end == 0x2E)) (λ e. refuse_holds a) (λ e.
     bind_holds (then_clears (clear_trans a (clear_one x.end (is_not (first x.end) 0x2E refl (not-false (first x.end == 0x2E) e)))) (number_clears (skip 1 x.end))) (λ y b. ok_holds b)))
 
 handle_clears : (p : Place) → Clears p (handle_at p)
 unfolding handle_at
 handle_clears p =
-    let end = behind is_alpha (skip 1 p) in
+    let end = after_run is_alpha (skip 1 p) in
     if_holds (not (first p == 0x21)) (λ e. refuse_holds (clear_here p)) (λ e.
     let a : Clear p end = clear_trans (clear_one p (is_not (first p) 0x21 refl (not-false (first p == 0x21) e))) (alpha_clear (skip 1 p)) in
     if_holds (first end == 0x21) (λ f. ok_holds (clear_trans a (clear_one end (is_not (first end) 0x21 refl f)))) (λ f.
@@ -232,9 +232,9 @@ handle_clears p =
 tag_directive_clears : (p : Place) → Clears p (tag_directive_at p)
 unfolding tag_directive_at
 tag_directive_clears p =
-    bind_holds (then_clears (blank_clear p) (handle_clears (behind is_blank p))) (λ x a.
+    bind_holds (then_clears (blank_clear p) (handle_clears (after_run is_blank p))) (λ x a.
     if_holds (not (is_blank (first x.end))) (λ e. refuse_holds a) (λ e.
-    bind_holds (then_clears (clear_trans a (blank_clear x.end)) (some_clears true (behind is_blank x.end))) (λ y b.
+    bind_holds (then_clears (clear_trans a (blank_clear x.end)) (some_clears true (after_run is_blank x.end))) (λ y b.
     if_holds (not (ends (first y.end))) (λ f. refuse_holds b) (λ f. ok_holds b))))
 
 pub named_clears : (letters : List ℕ) (p : Place) → Clears p (named letters p)
@@ -244,7 +244,7 @@ named_clears letters p = if_holds (bytes_eq letters (codes "YAML")) (λ e. versi
 pub line_end_clears : (p : Place) → ClearsTo p (after_line p)
 unfolding after_line
 line_end_clears p =
-    let b = behind is_blank p in
+    let b = after_run is_blank p in
     let q = after_comment b in
     let a : Clear p q = clear_trans (blank_clear p) (comment_clear b) in
     if_holds (is_break (first q) || is_z (first q)) (λ e. ok_holds (clear_trans a (clear_break q))) (λ e. refuse_holds a)

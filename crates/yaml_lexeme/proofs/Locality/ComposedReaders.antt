@@ -6,7 +6,7 @@ use Rattle.yaml_lexeme.proofs.Parts.PartByPart.{Shortens}
 use Rattle.yaml_lexeme.proofs.Places.PlaceMoves.{skip_none, length_skip, skip_skip}
 use Rattle.yaml_lexeme.proofs.Locality.AgreeingPlaces.{Agree}
 use Rattle.yaml_lexeme.specs.Locality.{move, IsLocal}
-use Rattle.yaml_lexeme.specs.Place.{Place, skip, run, run_len, behind}
+use Rattle.yaml_lexeme.specs.Place.{Place, skip, run, run_len, after_run}
 use Rattle.yaml_lexeme.specs.Reading.{Found, Read, found, refuse, ◌>>=◌, Part, part, over, many}
 use Rattle.yaml_lexeme.specs.declared.problem.yaml_problem_t.{yaml_problem_t}
 
@@ -31,8 +31,8 @@ pub agree_self : (p : Place) → Agree 0 p p
 agree_self p = record { mark = refl; left = omega arith; right = omega arith; same = λ i h. refl }
 
 -- after k characters, 8 of which are common
-pub agree_behind : (n k : ℕ) (p q : Place) → k + 8 ≤ n → Agree n p q → Agree (n - k) (skip k p) (skip k q)
-agree_behind n k p q h a =
+pub agree_after : (n k : ℕ) (p q : Place) → k + 8 ≤ n → Agree n p q → Agree (n - k) (skip k p) (skip k q)
+agree_after n k p q h a =
     let m = n - k - 1 in
     let e : 1 + m ≡ n - k = omega arith in
     subst (λ (i : ℕ). Agree i (skip k p) (skip k q)) e (agree_skip k m p q (agree_less (k + (1 + m)) n p q (omega arith) a))
@@ -61,9 +61,9 @@ pub part_like_if : {A : Type 0} {n : ℕ} {p q : Place} {x y u v : Part A} → (
 part_like_if {A} {n} {p} {q} {x} {y} {u} {v} true c e hx hy = record { count = hx.count; ends = hx.ends; same = λ h. ap (λ (d : Bool). if d then u else v) (e (omega arith)) ∙ hx.same h }
 part_like_if {A} {n} {p} {q} {x} {y} {u} {v} false c e hx hy = record { count = hy.count; ends = hy.ends; same = λ h. ap (λ (d : Bool). if d then u else v) (e (omega arith)) ∙ hy.same h }
 
-pub ends_behind : {A : Type 0} → (k n : ℕ) (p x : Place) (r : Read A) → x ≡ skip k p → EndsAt n x r → EndsAt (k + n) p r
-ends_behind k n p x (Ok r) e h = h ∙ ap (skip n) e ∙ skip_skip k n p
-ends_behind k n p x (Err r) e h = h ∙ ap (skip n) e ∙ skip_skip k n p
+pub ends_after : {A : Type 0} → (k n : ℕ) (p x : Place) (r : Read A) → x ≡ skip k p → EndsAt n x r → EndsAt (k + n) p r
+ends_after k n p x (Ok r) e h = h ∙ ap (skip n) e ∙ skip_skip k n p
+ends_after k n p x (Err r) e h = h ∙ ap (skip n) e ∙ skip_skip k n p
 
 -- reading at x and y, k characters on
 pub like_on : {A : Type 0} (read : Place → Read A) → IsLike read → (n k : ℕ) (p q x y : Place) → Agree n p q → x ≡ skip k p → (k + 8 ≤ n → y ≡ skip k q) → Like n p q (read x) (read y)
@@ -71,11 +71,11 @@ like_on read all n k p q x y a e f =
     elim (cases_lt n (k + 8)) [
       | inl short ↦
           let l = all 0 x x (agree_self x) in
-          record { count = k + l.count; ends = ends_behind k l.count p x (read x) e l.ends; same = λ h. absurd (omega arith) }
+          record { count = k + l.count; ends = ends_after k l.count p x (read x) e l.ends; same = λ h. absurd (omega arith) }
       | inr enough ↦
-          let there : Agree (n - k) x y = subst (λ (z : Place). Agree (n - k) z y) (sym e) (subst (λ (z : Place). Agree (n - k) (skip k p) z) (sym (f enough)) (agree_behind n k p q enough a)) in
+          let there : Agree (n - k) x y = subst (λ (z : Place). Agree (n - k) z y) (sym e) (subst (λ (z : Place). Agree (n - k) (skip k p) z) (sym (f enough)) (agree_after n k p q enough a)) in
           let l = all (n - k) x y there in
-          record { count = k + l.count; ends = ends_behind k l.count p x (read x) e l.ends; same = λ h. l.same (omega arith) ∙ ap (λ (z : Place). move (read x) (skip l.count z)) (f enough) ∙ ap (move (read x)) (skip_skip k l.count q) }
+          record { count = k + l.count; ends = ends_after k l.count p x (read x) e l.ends; same = λ h. l.same (omega arith) ∙ ap (λ (z : Place). move (read x) (skip l.count z)) (f enough) ∙ ap (move (read x)) (skip_skip k l.count q) }
     ]
 
 -- and what is made of it
@@ -87,11 +87,11 @@ bind_like n p q (Ok x) s f g a l more =
     elim (cases_lt n (k + 8)) [
       | inl short ↦
           let m = more x x.end 0 (agree_self x.end) in
-          record { count = k + m.count; ends = ends_behind k m.count p x.end (f x) l.ends m.ends; same = λ h. absurd (omega arith) }
+          record { count = k + m.count; ends = ends_after k m.count p x.end (f x) l.ends m.ends; same = λ h. absurd (omega arith) }
       | inr enough ↦
-          let there : Agree (n - k) x.end (skip k q) = subst (λ (z : Place). Agree (n - k) z (skip k q)) (sym l.ends) (agree_behind n k p q enough a) in
+          let there : Agree (n - k) x.end (skip k q) = subst (λ (z : Place). Agree (n - k) z (skip k q)) (sym l.ends) (agree_after n k p q enough a) in
           let m = more x (skip k q) (n - k) there in
-          record { count = k + m.count; ends = ends_behind k m.count p x.end (f x) l.ends m.ends; same = λ h. ap (λ t. t >>= g) (l.same enough) ∙ m.same (omega arith) ∙ ap (move (f x)) (skip_skip k m.count q) }
+          record { count = k + m.count; ends = ends_after k m.count p x.end (f x) l.ends m.ends; same = λ h. ap (λ t. t >>= g) (l.same enough) ∙ m.same (omega arith) ∙ ap (move (f x)) (skip_skip k m.count q) }
     ]
 
 pub like_bind : {A B : Type 0} {n : ℕ} {p q : Place} {r s : Read A} → (f g : Found A → Read B) → Agree n p q → Like n p q r s
@@ -100,24 +100,24 @@ like_bind {A} {B} {n} {p} {q} {r} {s} f g a l more = bind_like n p q r s f g a l
 
 -- a run, and what is read after it
 pub like_run : {A : Type 0} (read : List ℕ → Place → Read A) → ((cs : List ℕ) → IsLike (read cs)) → (test : ℕ → Bool) (n : ℕ) (p q : Place) → Agree n p q
-    → Like n p q (read (run test p) (behind test p)) (read (run test q) (behind test q))
+    → Like n p q (read (run test p) (after_run test p)) (read (run test q) (after_run test q))
 like_run read all test n p q a =
     let k = run_len test p in
-    let x = behind test p in
+    let x = after_run test p in
     let cs = run test p in
     elim (cases_lt n (k + 8)) [
       | inl short ↦
           let l = all cs 0 x x (agree_self x) in
-          record { count = k + l.count; ends = ends_behind k l.count p x (read cs x) refl l.ends; same = λ h. absurd (omega arith) }
+          record { count = k + l.count; ends = ends_after k l.count p x (read cs x) refl l.ends; same = λ h. absurd (omega arith) }
       | inr enough ↦
           let len : run_len test q ≡ k = run_same test p q (agree_less (k + 1) n p q (omega arith) a) in
           let text : run test q ≡ cs = ap (λ (i : ℕ). take i q.rest) len ∙ take_same k p q (agree_less k n p q (omega arith) a) in
-          let at : behind test q ≡ skip k q = ap (λ (i : ℕ). skip i q) len in
-          let l = all cs (n - k) x (skip k q) (agree_behind n k p q enough a) in
+          let at : after_run test q ≡ skip k q = ap (λ (i : ℕ). skip i q) len in
+          let l = all cs (n - k) x (skip k q) (agree_after n k p q enough a) in
           record {
             count = k + l.count;
-            ends = ends_behind k l.count p x (read cs x) refl l.ends;
-            same = λ h. ap (λ (ds : List ℕ). read ds (behind test q)) text ∙ ap (read cs) at ∙ l.same (omega arith) ∙ ap (move (read cs x)) (skip_skip k l.count q);
+            ends = ends_after k l.count p x (read cs x) refl l.ends;
+            same = λ h. ap (λ (ds : List ℕ). read ds (after_run test q)) text ∙ ap (read cs) at ∙ l.same (omega arith) ∙ ap (move (read cs x)) (skip_skip k l.count q);
           }
     ]
 
@@ -211,7 +211,7 @@ step_here {n} {p} {q} = record { count = 0; is = sym (skip_none p); same = λ h.
 pub step_skip : {n : ℕ} {p q : Place} → (j k : ℕ) → (8 ≤ n → k ≡ j) → Step n p q (skip j p) (skip k q)
 step_skip {n} {p} {q} j k e = record { count = j; is = refl; same = λ h. ap (λ (i : ℕ). skip i q) (e (omega arith)) }
 
-pub step_run : (test : ℕ → Bool) → IsStep (behind test)
+pub step_run : (test : ℕ → Bool) → IsStep (after_run test)
 step_run test n p q a =
     let k = run_len test p in
     record { count = k; is = refl; same = λ h. ap (λ (i : ℕ). skip i q) (run_same test p q (agree_less (k + 1) n p q (omega arith) a)) }
@@ -229,7 +229,7 @@ step_then f all n p q x y a s =
           let t = all 0 x x (agree_self x) in
           record { count = k + t.count; is = t.is ∙ ap (skip t.count) s.is ∙ skip_skip k t.count p; same = λ h. absurd (omega arith) }
       | inr enough ↦
-          let there : Agree (n - k) x y = subst (λ (z : Place). Agree (n - k) z y) (sym s.is) (subst (λ (z : Place). Agree (n - k) (skip k p) z) (sym (s.same enough)) (agree_behind n k p q enough a)) in
+          let there : Agree (n - k) x y = subst (λ (z : Place). Agree (n - k) z y) (sym s.is) (subst (λ (z : Place). Agree (n - k) (skip k p) z) (sym (s.same enough)) (agree_after n k p q enough a)) in
           let t = all (n - k) x y there in
           record { count = k + t.count; is = t.is ∙ ap (skip t.count) s.is ∙ skip_skip k t.count p; same = λ h. t.same (omega arith) ∙ ap (skip t.count) (s.same enough) ∙ skip_skip k t.count q }
     ]

@@ -14,7 +14,7 @@ use Rattle.yaml_lexeme.specs.Classes.{ends}
 use Rattle.yaml_lexeme.specs.Directive.{number, version_at, handle_at, tag_directive_at, named, directive}
 use Rattle.yaml_lexeme.specs.Gap.{after_comment}
 use Rattle.yaml_lexeme.proofs.Locality.AgreeingPlaces.{Agree}
-use Rattle.yaml_lexeme.specs.Place.{Place, first, skip, run, run_len, behind, break_len}
+use Rattle.yaml_lexeme.specs.Place.{Place, first, skip, run, run_len, after_run, break_len}
 use Rattle.yaml_lexeme.specs.Reading.{Read, found, refuse, ◌>>=◌}
 use Rattle.yaml_lexeme.specs.Uri.{some_uri}
 use Rattle.yaml_lexeme.specs.Lexeme.{Directive as directive_t}
@@ -31,7 +31,7 @@ at_long : (p : Place) → (run_len is_digit p == 0) ≡ false → nat_lt 9 (run_
 unfolding number
 at_long p h l = rw (h, l) refl
 
-at_some : (p : Place) → (run_len is_digit p == 0) ≡ false → nat_lt 9 (run_len is_digit p) ≡ false → number p ≡ found (digits_value 10 (run is_digit p)) (behind is_digit p)
+at_some : (p : Place) → (run_len is_digit p == 0) ≡ false → nat_lt 9 (run_len is_digit p) ≡ false → number p ≡ found (digits_value 10 (run is_digit p)) (after_run is_digit p)
 unfolding number
 at_some p h l = rw (h, l) refl
 
@@ -74,7 +74,7 @@ number_like n p q a =
 version_like : IsLike version_at
 unfolding version_at
 version_like n p q a =
-    like_bind _ _ a (like_step number number_like n p q (behind is_blank p) (behind is_blank q) a (step_run is_blank n p q a)) (λ x z m b.
+    like_bind _ _ a (like_step number number_like n p q (after_run is_blank p) (after_run is_blank q) a (step_run is_blank n p q a)) (λ x z m b.
     like_if (not (first x.end == 0x2E)) (not (first z == 0x2E)) (λ h. rw (b.same 0 (omega arith)) refl) refuse_here
     (like_map (λ (d : ℕ). VERSION_DIRECTIVE (pos x.value) (pos d)) (like_on number number_like m 1 x.end z (skip 1 x.end) (skip 1 z) b refl (λ h. refl))))
 
@@ -86,23 +86,23 @@ handle_then_like : (letters : List ℕ) → IsLike (handle_then letters)
 handle_then_like letters n p q a =
     like_if (first p == 0x21) (first q == 0x21) (λ h. rw (a.same 0 (omega arith)) refl) (found_on 1) (like_if (nat_lt 0 (length letters)) (nat_lt 0 (length letters)) (λ h. refl) refuse_here found_here)
 
-abbrev handle_behind : Place → Read (List ℕ)
-handle_behind p = handle_then (run is_alpha p) (behind is_alpha p)
+abbrev handle_after : Place → Read (List ℕ)
+handle_after p = handle_then (run is_alpha p) (after_run is_alpha p)
 
-handle_behind_like : IsLike handle_behind
-handle_behind_like n p q a = like_run handle_then handle_then_like is_alpha n p q a
+handle_after_like : IsLike handle_after
+handle_after_like n p q a = like_run handle_then handle_then_like is_alpha n p q a
 
 handle_like : IsLike handle_at
 unfolding handle_at
 handle_like n p q a =
-    like_if (not (first p == 0x21)) (not (first q == 0x21)) (λ h. rw (a.same 0 (omega arith)) refl) refuse_here (like_on handle_behind handle_behind_like n 1 p q (skip 1 p) (skip 1 q) a refl (λ h. refl))
+    like_if (not (first p == 0x21)) (not (first q == 0x21)) (λ h. rw (a.same 0 (omega arith)) refl) refuse_here (like_on handle_after handle_after_like n 1 p q (skip 1 p) (skip 1 q) a refl (λ h. refl))
 
 tag_handle_like : IsLike tag_directive_at
 unfolding tag_directive_at
 tag_handle_like n p q a =
-    like_bind _ _ a (like_step handle_at handle_like n p q (behind is_blank p) (behind is_blank q) a (step_run is_blank n p q a)) (λ x z m b.
+    like_bind _ _ a (like_step handle_at handle_like n p q (after_run is_blank p) (after_run is_blank q) a (step_run is_blank n p q a)) (λ x z m b.
     like_if (not (is_blank (first x.end))) (not (is_blank (first z))) (λ h. rw (b.same 0 (omega arith)) refl) refuse_here
-    (like_bind _ _ b (like_step (some_uri true) (some_like true) m x.end z (behind is_blank x.end) (behind is_blank z) b (step_run is_blank m x.end z b)) (λ y w i c.
+    (like_bind _ _ b (like_step (some_uri true) (some_like true) m x.end z (after_run is_blank x.end) (after_run is_blank z) b (step_run is_blank m x.end z b)) (λ y w i c.
     like_if (not (ends (first y.end))) (not (ends (first w))) (λ h. rw (c.same 0 (omega arith)) refl) refuse_here found_here)))
 
 named_like : (letters : List ℕ) → IsLike (named letters)
@@ -120,14 +120,14 @@ line_then_like v n p q a =
     like_if (is_break (first p) || is_z (first p)) (is_break (first q) || is_z (first q)) (λ h. rw (a.same 0 (omega arith)) refl)
     (like_found (break_len p) refl (λ h. ap (λ (i : ℕ). skip i q) (break_same n p q a (omega arith))) (λ h. refl)) refuse_here
 
-pub line_is : {A : Type 0} (v : A) (p : Place) → (after_line p >>= λ next. found v next) ≡ line_then v (after_comment (behind is_blank p))
+pub line_is : {A : Type 0} (v : A) (p : Place) → (after_line p >>= λ next. found v next) ≡ line_then v (after_comment (after_run is_blank p))
 unfolding after_line
-line_is v p = let q = after_comment (behind is_blank p) in elim (cases_Bool (is_break (first q) || is_z (first q))) [ inl e ↦ rw e refl | inr e ↦ rw e refl ]
+line_is v p = let q = after_comment (after_run is_blank p) in elim (cases_Bool (is_break (first q) || is_z (first q))) [ inl e ↦ rw e refl | inr e ↦ rw e refl ]
 
 pub line_like : {A : Type 0} (v : A) (n : ℕ) (p q : Place) → Agree n p q → Like n p q (after_line p >>= λ next. found v next) (after_line q >>= λ next. found v next)
 line_like v n p q a =
-    let s = step_then after_comment comment_step n p q (behind is_blank p) (behind is_blank q) a (step_run is_blank n p q a) in
-    rw (line_is v p, line_is v q) (like_step (line_then v) (line_then_like v) n p q (after_comment (behind is_blank p)) (after_comment (behind is_blank q)) a s)
+    let s = step_then after_comment comment_step n p q (after_run is_blank p) (after_run is_blank q) a (step_run is_blank n p q a) in
+    rw (line_is v p, line_is v q) (like_step (line_then v) (line_then_like v) n p q (after_comment (after_run is_blank p)) (after_comment (after_run is_blank q)) a s)
 
 abbrev directive_then : List ℕ → Place → Read directive_t
 directive_then letters end =
@@ -143,12 +143,12 @@ then_like letters n p q a =
     subst (λ (mark : yaml_mark_t). Like {A = directive_t} m x.end z (after_line x.end >>= λ next. found (record { says = x.value; end = x.end.mark }) next) (after_line z >>= λ next. found (record { says = x.value; end = mark }) next)) b.mark
     (line_like (record { says = x.value; end = x.end.mark }) m x.end z b))))
 
-abbrev directive_behind : Place → Read directive_t
-directive_behind p = directive_then (run is_alpha p) (behind is_alpha p)
+abbrev directive_after : Place → Read directive_t
+directive_after p = directive_then (run is_alpha p) (after_run is_alpha p)
 
-behind_like : IsLike directive_behind
-behind_like n p q a = like_run directive_then then_like is_alpha n p q a
+after_run_like : IsLike directive_after
+after_run_like n p q a = like_run directive_then then_like is_alpha n p q a
 
 pub directive_like : IsLike directive
 unfolding directive
-directive_like n p q a = like_on directive_behind behind_like n 1 p q (skip 1 p) (skip 1 q) a refl (λ h. refl)
+directive_like n p q a = like_on directive_after after_run_like n 1 p q (skip 1 p) (skip 1 q) a refl (λ h. refl)

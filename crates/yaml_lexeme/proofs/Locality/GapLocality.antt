@@ -1,7 +1,7 @@
 -- Gaps are local.
 use Rattle.std.proofs.Common.{◌≡◌, ℕ, zero, suc, ◌+◌, ◌-◌, ◌≤◌, Bool, not, ◌==◌, ◌&&◌, ◌||◌, nat_lt, length, refl, sym, ap, ◌∙◌, subst, arith, inl, inr}
 use Rattle.yaml_lexeme.proofs.Readers.GapLines.{any_fuel}
-use Rattle.yaml_lexeme.proofs.Locality.ComposedReaders.{Step, IsStep, step_here, step_skip, step_run, step_if, step_then, agree_behind}
+use Rattle.yaml_lexeme.proofs.Locality.ComposedReaders.{Step, IsStep, step_here, step_skip, step_run, step_if, step_then, agree_after}
 use Rattle.yaml_lexeme.proofs.Locality.LocalReaders.{distance_on}
 use Rattle.yaml_lexeme.proofs.MarkOrder.SmallReadersAhead.{gap_order}
 use Rattle.yaml_lexeme.proofs.Places.PlaceMoves.{length_skip, skip_skip}
@@ -9,7 +9,7 @@ use Rattle.yaml_lexeme.specs.Classes.{is_in_line}
 use Rattle.yaml_lexeme.specs.Gap.{byte_order_mark, is_gap_blank, after_mark, after_comment, after_gap_line, after_gap_lines, gap}
 use Rattle.yaml_lexeme.proofs.Locality.AgreeingPlaces.{Agree, by_agreeing}
 use Rattle.yaml_lexeme.specs.Locality.{GapIsLocal}
-use Rattle.yaml_lexeme.specs.Place.{Place, first, skip, distance, behind, break_len}
+use Rattle.yaml_lexeme.specs.Place.{Place, first, skip, distance, after_run, break_len}
 
 pub break_same : (n : ℕ) (p q : Place) → Agree n p q → 8 ≤ n → break_len q ≡ break_len p
 break_same n p q a h = rw (a.same 0 (omega arith), a.same 1 (omega arith)) refl
@@ -25,8 +25,8 @@ line_step : (tabs : Bool) → IsStep (after_gap_line tabs)
 unfolding after_gap_line
 line_step tabs n p q a =
     let s = mark_step n p q a in
-    let t = step_then (behind (is_gap_blank tabs)) (step_run (is_gap_blank tabs)) n p q (after_mark p) (after_mark q) a s in
-    step_then after_comment comment_step n p q (behind (is_gap_blank tabs) (after_mark p)) (behind (is_gap_blank tabs) (after_mark q)) a t
+    let t = step_then (after_run (is_gap_blank tabs)) (step_run (is_gap_blank tabs)) n p q (after_mark p) (after_mark q) a s in
+    step_then after_comment comment_step n p q (after_run (is_gap_blank tabs) (after_mark p)) (after_run (is_gap_blank tabs) (after_mark q)) a t
 
 lines_step : (m : ℕ) (flow : Bool) → IsStep (after_gap_lines m flow)
 unfolding after_gap_lines
@@ -60,7 +60,7 @@ gap_local_to flow allowed p q k e a =
     let more = ap (λ (w : Place). length w.rest) (u.is ∙ ap (skip u.count) s.is ∙ skip_skip s.count u.count p) in
     let lengths' = ap (λ (w : Place). length w.rest) (sym e ∙ xz) in
     let near : s.count ≤ k = omega (arith, a.left, length_skip k p, length_skip (s.count + u.count) p, more, lengths') in
-    let there : Agree (n - s.count) x y = subst (λ (w : Place). Agree (n - s.count) w y) (sym s.is) (subst (λ (w : Place). Agree (n - s.count) (skip s.count p) w) (sym (s.same (omega arith))) (agree_behind n s.count p q (omega arith) a)) in
+    let there : Agree (n - s.count) x y = subst (λ (w : Place). Agree (n - s.count) w y) (sym s.is) (subst (λ (w : Place). Agree (n - s.count) (skip s.count p) w) (sym (s.same (omega arith))) (agree_after n s.count p q (omega arith) a)) in
     let end : after_gap_lines (length y.rest) flow y ≡ skip k q = yz ∙ t.same (omega arith) ∙ ap (λ (i : ℕ). skip i q) all in
     let flag : nat_lt 0 (break_len y) ≡ nat_lt 0 (break_len x) = broken_same (n - s.count) x y (omega arith) there in
     rw (end, flag) refl

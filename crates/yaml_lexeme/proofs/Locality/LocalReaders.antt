@@ -88,9 +88,9 @@ front_move a (Err r) q = refl
 rw_agree : (n : ℕ) (p q : Place) → Agree (1 + (n + 7)) p q → Agree (n + 8) p q
 rw_agree n p q a = agree_less (n + 8) (1 + (n + 7)) p q (omega arith) a
 
-ends_behind : {A : Type 0} → (k n : ℕ) (p : Place) (r : Read A) → EndsAt n (skip k p) r → EndsAt (k + n) p r
-ends_behind k n p (Ok r) h = h ∙ skip_skip k n p
-ends_behind k n p (Err r) h = h ∙ skip_skip k n p
+ends_after : {A : Type 0} → (k n : ℕ) (p : Place) (r : Read A) → EndsAt n (skip k p) r → EndsAt (k + n) p r
+ends_after k n p (Ok r) h = h ∙ skip_skip k n p
+ends_after k n p (Err r) h = h ∙ skip_skip k n p
 
 -- the turn of a list that is local after its first part
 local_turn : {A : Type 0} → (one : Place → Part A) → Shortens one → (p : Place) (k : ℕ) (r : Part A) → one p ≡ r → IsShorter p r → PartEndsAt k p r
@@ -135,12 +135,12 @@ pub local_many : {A : Type 0} → (one : Place → Part A) → Shortens one → 
 local_many one short parts p = local_within one short parts (length p.rest + 1) p (omega arith)
 
 -- what comes after k characters
-pub local_behind : {A : Type 0} → (read : Place → Read A) (k : ℕ) (p : Place) → Local read (skip k p) → Local (λ x. read (skip k x)) p
-local_behind read k p here =
+pub local_after : {A : Type 0} → (read : Place → Read A) (k : ℕ) (p : Place) → Local read (skip k p) → Local (λ x. read (skip k x)) p
+local_after read k p here =
     let n = here.count in
     record {
       count = k + n;
-      ends = ends_behind k n p (read (skip k p)) here.ends;
+      ends = ends_after k n p (read (skip k p)) here.ends;
       same = λ q a.
           here.same (skip k q) (rw_agree n (skip k p) (skip k q) (agree_skip k (n + 7) p q (agree_less (k + (1 + (n + 7))) (k + n + 8) p q (omega arith) a)))
           ∙ ap (move (read (skip k p))) (skip_skip k n q);

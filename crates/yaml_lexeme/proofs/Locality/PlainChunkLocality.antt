@@ -2,15 +2,15 @@
 use Rattle.std.proofs.Common.{◌≡◌, ℕ, zero, suc, ◌+◌, ◌-◌, ◌<◌, ◌≤◌, Bool, false, not, ◌||◌, if◌then◌else◌, inl, inr, List, [], ◌∷◌, length, take, slice_index, Option, Some, None, Ok, Err, refl, sym, ap, ◌∙◌, arith}
 use Rattle.std.proofs.lemmas.Bool.{cases_Bool, cases_lt}
 use Rattle.std.proofs.lemmas.List.Sums.{prefix_len-le-length}
-use Rattle.yaml_lexeme.proofs.Locality.ComposedReaders.{Like, IsLike, found_here, refuse_here, like_if, like_on, like_same, agree_self, agree_behind, ends_behind}
+use Rattle.yaml_lexeme.proofs.Locality.ComposedReaders.{Like, IsLike, found_here, refuse_here, like_if, like_on, like_same, agree_self, agree_after, ends_after}
 use Rattle.yaml_lexeme.proofs.Locality.LocalReaders.{agree_less, run_same, take_same}
-use Rattle.yaml_lexeme.proofs.Places.PlaceMoves.{length_skip, length_one, behind_more, behind_none, skip_skip}
+use Rattle.yaml_lexeme.proofs.Places.PlaceMoves.{length_skip, length_one, after_run_more, after_none, skip_skip}
 use Rattle.yaml_lexeme.proofs.Readers.PlainLinks.{tab_at, tab_over, tab_here, tab_more}
 use Rattle.yaml_lexeme.specs.Classes.{is_white}
 use Rattle.yaml_lexeme.proofs.Locality.AgreeingPlaces.{Agree}
 use Rattle.yaml_lexeme.proofs.Parts.ReadResults.{end_or}
 use Rattle.yaml_lexeme.specs.Locality.{move}
-use Rattle.yaml_lexeme.specs.Place.{Place, first, peek, skip, run, run_len, behind}
+use Rattle.yaml_lexeme.specs.Place.{Place, first, peek, skip, run, run_len, after_run}
 use Rattle.yaml_lexeme.specs.Plain.{is_bad_tab, is_bad_colon, is_chunk, chunk_len, chunk, untabbed}
 use Rattle.yaml_lexeme.specs.Reading.{Found, Read, found, refuse, ◌>>=◌}
 use Rattle.yaml_lexeme.specs.declared.problem.yaml_problem_t.TheVariants.{COLON_IN_FLOW, TAB_IN_PLAIN}
@@ -46,15 +46,15 @@ like_take read all j k n p q a e =
     elim (cases_lt n (j + 8)) [
       | inl short ↦
           let l = all cs 0 x x (agree_self x) in
-          record { count = j + l.count; ends = ends_behind j l.count p x (read cs x) refl l.ends; same = λ h. absurd (omega arith) }
+          record { count = j + l.count; ends = ends_after j l.count p x (read cs x) refl l.ends; same = λ h. absurd (omega arith) }
       | inr enough ↦
           let len : k ≡ j = e enough in
           let text : take k q.rest ≡ cs = ap (λ (i : ℕ). take i q.rest) len ∙ take_same j p q (agree_less j n p q (omega arith) a) in
           let at : skip k q ≡ skip j q = ap (λ (i : ℕ). skip i q) len in
-          let l = all cs (n - j) x (skip j q) (agree_behind n j p q enough a) in
+          let l = all cs (n - j) x (skip j q) (agree_after n j p q enough a) in
           record {
             count = j + l.count;
-            ends = ends_behind j l.count p x (read cs x) refl l.ends;
+            ends = ends_after j l.count p x (read cs x) refl l.ends;
             same = λ h. ap (λ (ds : List ℕ). read ds (skip k q)) text ∙ ap (read cs) at ∙ l.same (omega arith) ∙ ap (move (read cs x)) (skip_skip j l.count q);
           }
     ]
@@ -82,7 +82,7 @@ pass_like (suc f) least broken n p q a =
     (like_same (λ h. ap (λ (c : ℕ). pass f least (broken || is_break c) (skip 1 q)) (sym (a.same 0 (omega arith))))
     (like_on (pass f least (broken || is_break (first p))) (pass_like f least (broken || is_break (first p))) n 1 p q (skip 1 p) (skip 1 q) a refl (λ h. refl))))
 
-pass_is : (f least : ℕ) (broken : Bool) (p : Place) → length p.rest < f → pass f least broken p ≡ untabbed (tab_at least broken p) [] (behind is_white p)
+pass_is : (f least : ℕ) (broken : Bool) (p : Place) → length p.rest < f → pass f least broken p ≡ untabbed (tab_at least broken p) [] (after_run is_white p)
 unfolding pass
 pass_is zero least broken p h = absurd (omega arith)
 pass_is (suc f) least broken p h =
@@ -91,10 +91,10 @@ pass_is (suc f) least broken p h =
           elim (cases_Bool (is_bad_tab least broken p)) [
             | inl tab ↦ rw (space, tab, tab_here least broken p space tab) refl
             | inr fine ↦
-                let t = behind_more is_white p space refl in
+                let t = after_run_more is_white p space refl in
                 rw (space, fine, tab_more least broken p space fine, t.1) (pass_is f least (broken || is_break (first p)) (skip 1 p) (omega (arith, t.0, length_one p)))
           ]
-      | inr other ↦ rw (other, tab_over least broken p.mark p.rest other, behind_none is_white p other) refl
+      | inr other ↦ rw (other, tab_over least broken p.mark p.rest other, after_none is_white p other) refl
     ]
 
 revalue : (o : Option Place) (v : List ℕ) (e : Place) → (untabbed o [] e >>= λ x. found v x.end) ≡ untabbed o v e
@@ -116,19 +116,19 @@ revalued n p q (Err o) s v w l e = record { count = l.count; ends = l.ends; same
 
 -- a separator, and the run that it is
 unfoldable pub sep_run : ℕ → Place → Read (List ℕ)
-sep_run least p = untabbed (tab_at least false p) (run is_white p) (behind is_white p)
+sep_run least p = untabbed (tab_at least false p) (run is_white p) (after_run is_white p)
 
 run_is : (f least : ℕ) (p : Place) → length p.rest < f → sep_run least p ≡ pass f least false p >>= λ x. found (run is_white p) x.end
 unfolding sep_run
 run_is f least p h =
-    sym (revalue (tab_at least false p) (run is_white p) (behind is_white p)) ∙ ap (λ (r : Read (List ℕ)). r >>= λ x. found (run is_white p) x.end) (sym (pass_is f least false p h))
+    sym (revalue (tab_at least false p) (run is_white p) (after_run is_white p)) ∙ ap (λ (r : Read (List ℕ)). r >>= λ x. found (run is_white p) x.end) (sym (pass_is f least false p h))
 
 pub sep_like : (least : ℕ) → IsLike (sep_run least)
 sep_like least n p q a =
     let f = length p.rest + length q.rest + 1 in
     rw (run_is f least p (omega arith), run_is f least q (omega arith))
     (revalued n p q (pass f least false p) (pass f least false q) (run is_white p) (run is_white q) (pass_like f least false n p q a) (λ g is k e h.
-    let end : g.end ≡ behind is_white p = at_end (tab_at least false p) (behind is_white p) g (sym (pass_is f least false p (omega arith)) ∙ is) in
+    let end : g.end ≡ after_run is_white p = at_end (tab_at least false p) (after_run is_white p) g (sym (pass_is f least false p (omega arith)) ∙ is) in
     let lengths = ap (λ (x : Place). length x.rest) (sym end ∙ e) in
     let same : run_len is_white p ≡ k = omega (arith, a.left, length_skip k p, length_skip (run_len is_white p) p, lengths, prefix_len-le-length is_white p.rest) in
     let len : run_len is_white q ≡ run_len is_white p = run_same is_white p q (agree_less (run_len is_white p + 1) n p q (omega arith) a) in

@@ -6,14 +6,14 @@ use Rattle.std.specs.List.{list_any, flat_map}
 use Rattle.yaml_lexeme.proofs.Locality.PlainChunkLocality.{chunk_like, sep_run, sep_like}
 use Rattle.yaml_lexeme.proofs.Locality.ComposedReaders.{Like, IsLike, found_here, like_if, like_bind, like_map}
 use Rattle.yaml_lexeme.proofs.Locality.LookaheadLists.{Next, go, stop, join, finish, finish_like}
-use Rattle.yaml_lexeme.proofs.Places.PlaceMoves.{skip_none, behind_none}
-use Rattle.yaml_lexeme.proofs.Readers.PlainLinks.{tab_at, separator_is, link_shortens, behind_gap, tail_of}
+use Rattle.yaml_lexeme.proofs.Places.PlaceMoves.{skip_none, after_none}
+use Rattle.yaml_lexeme.proofs.Readers.PlainLinks.{tab_at, separator_is, link_shortens, after_gap, tail_of}
 use Rattle.yaml_lexeme.proofs.Readers.FoldSeparators.{run_none}
 use Rattle.yaml_lexeme.specs.Classes.{is_white}
 use Rattle.yaml_lexeme.specs.Fold.{fold}
 use Rattle.yaml_lexeme.proofs.Locality.AgreeingPlaces.{Agree}
 use Rattle.yaml_lexeme.proofs.Parts.ReadResults.{value_or, end_or}
-use Rattle.yaml_lexeme.specs.Place.{Place, first, peek, skip, run, behind}
+use Rattle.yaml_lexeme.specs.Place.{Place, first, peek, skip, run, after_run}
 use Rattle.yaml_lexeme.specs.Plain.{is_bad_colon, is_chunk, chunk_len, chunk, untabbed, is_over, link, plain}
 use Rattle.yaml_lexeme.specs.Reading.{Found, Read, found, refuse, ◌>>=◌, part, over, many}
 use Rattle.yaml_lexeme.specs.Lexeme.{Scalar as scalar_t}
@@ -28,7 +28,7 @@ Tail = yaml_mark_t × Bool
 
 -- after the last chunk
 abbrev trailing : Place → Read Tail
-trailing p = found (p.mark, list_any is_break (run is_white p)) (behind is_white p)
+trailing p = found (p.mark, list_any is_break (run is_white p)) (after_run is_white p)
 
 -- after a separator
 abbrev turn_then : Bool → ℕ → yaml_mark_t → List ℕ → Place → Read (Next (List ℕ) Tail)
@@ -86,12 +86,12 @@ by_chunk : (r : Read (List ℕ)) (b : Bool) (flow : Bool) (least : ℕ) (m : yam
 by_chunk (Ok c) b flow least m cs e h = by_length (length c.value == 0) b flow least m cs e c (λ z. chunk_empty flow e c h z)
 by_chunk (Err o) b flow least m cs e h = refl
 
-by_over : (o : Bool) (flow : Bool) (least : ℕ) (m : yaml_mark_t) (cs : List ℕ) (e : Place) → is_over flow least e ≡ o → turn_then flow least m cs e ≡ join (behind_gap flow least (fold cs) e) (found {A = Tail} (m, list_any is_break cs) e)
+by_over : (o : Bool) (flow : Bool) (least : ℕ) (m : yaml_mark_t) (cs : List ℕ) (e : Place) → is_over flow least e ≡ o → turn_then flow least m cs e ≡ join (after_gap flow least (fold cs) e) (found {A = Tail} (m, list_any is_break cs) e)
 by_over true flow least m cs e h = rw h refl
 by_over false flow least m cs e h = rw h (by_chunk (chunk flow e) (list_any is_break cs) flow least m cs e refl)
 
 by_tab : (o : Option Place) (flow : Bool) (least : ℕ) (m : yaml_mark_t) (cs : List ℕ) (e : Place)
-    → (untabbed o cs e >>= λ g. turn_then flow least m g.value g.end) ≡ join (untabbed o (fold cs) e >>= λ gap. behind_gap flow least gap.value gap.end) (found {A = Tail} (m, list_any is_break cs) e)
+    → (untabbed o cs e >>= λ g. turn_then flow least m g.value g.end) ≡ join (untabbed o (fold cs) e >>= λ gap. after_gap flow least gap.value gap.end) (found {A = Tail} (m, list_any is_break cs) e)
 by_tab None flow least m cs e = by_over (is_over flow least e) flow least m cs e refl
 by_tab (Some t) flow least m cs e = refl
 
@@ -100,8 +100,8 @@ turn_is : (flow : Bool) (least : ℕ) (p : Place) → turn flow least p ≡ join
 unfolding link sep_run
 turn_is flow least p =
     elim (cases_Bool (is_white (first p))) [
-      | inl space ↦ rw (space, separator_is least p) (by_tab (tab_at least false p) flow least p.mark (run is_white p) (behind is_white p))
-      | inr other ↦ rw (other, behind_none is_white p other, run_none is_white p other) refl
+      | inl space ↦ rw (space, separator_is least p) (by_tab (tab_at least false p) flow least p.mark (run is_white p) (after_run is_white p))
+      | inr other ↦ rw (other, after_none is_white p other, run_none is_white p other) refl
     ]
 
 abbrev scalar_of : List ℕ → List (List ℕ) × Tail → scalar_t

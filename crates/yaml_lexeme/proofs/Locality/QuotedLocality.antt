@@ -5,7 +5,7 @@ use Rattle.std.proofs.lemmas.Bool.Decides.{nat_tests}
 use Rattle.std.specs.List.{list_all, flat_map}
 use Rattle.std.specs.Str.Parse.{digits_value}
 use Rattle.yaml_lexeme.proofs.Readers.QuotedBody.{at_end, at_space, at_quotes, at_quote, at_char, at_break, at_escape, body_shortens, finish, quoted_is}
-use Rattle.yaml_lexeme.proofs.Locality.LocalReaders.{agree_less, agree_skip, run_same, take_same, EndsAt, PartEndsAt, Local, LocalPart, move_part, local_many, local_behind}
+use Rattle.yaml_lexeme.proofs.Locality.LocalReaders.{agree_less, agree_skip, run_same, take_same, EndsAt, PartEndsAt, Local, LocalPart, move_part, local_many, local_after}
 use Rattle.yaml_lexeme.proofs.Places.PlaceMoves.{skip_none, skip_skip}
 use Rattle.yaml_lexeme.proofs.Readers.FoldSeparators.{breaks_at}
 use Rattle.yaml_lexeme.specs.Classes.{is_white}
@@ -14,7 +14,7 @@ use Rattle.yaml_lexeme.specs.Fold.{fold, breaks}
 use Rattle.yaml_lexeme.specs.Kind.{is_marker}
 use Rattle.yaml_lexeme.proofs.Locality.AgreeingPlaces.{Agree}
 use Rattle.yaml_lexeme.specs.Locality.{move}
-use Rattle.yaml_lexeme.specs.Place.{Place, first, peek, skip, run, run_len, behind, break_len}
+use Rattle.yaml_lexeme.specs.Place.{Place, first, peek, skip, run, run_len, after_run, break_len}
 use Rattle.yaml_lexeme.specs.Quoted.{quote, unmarked, body_part, quoted}
 use Rattle.yaml_lexeme.specs.Reading.{Read, found, part, refuse, many, ◌>>=◌}
 use Rattle.yaml_lexeme.specs.declared.problem.yaml_problem_t.TheVariants.{DOCUMENT_MARKER, NO_HEX_DIGIT, NO_SCALAR_VALUE, UNKNOWN_ESCAPE}
@@ -51,12 +51,12 @@ space_part single p e s =
     let here = at_space single p e s in
     record {
       count = n;
-      ends = rw here (choose (is_marker (behind is_white p)) n (fold (run is_white p)) p (behind is_white p) refl);
+      ends = rw here (choose (is_marker (after_run is_white p)) n (fold (run is_white p)) p (after_run is_white p) refl);
       same = λ q a.
           let len : run_len is_white q ≡ n = run_same is_white p q (agree_less (n + 1) (n + 8) p q (omega arith) a) in
           let text : run is_white q ≡ run is_white p = ap (λ (k : ℕ). take k q.rest) len ∙ take_same n p q (agree_less n (n + 8) p q (omega arith) a) in
           rw here (at_space single q (at_first is_z false n p q a e) (at_first is_white true n p q a s)
-          ∙ unmarked_move n (fold (run is_white p)) (fold (run is_white q)) p q (behind is_white p) (behind is_white q) refl (ap (λ (k : ℕ). skip k q) len) (ap fold (sym text)) a);
+          ∙ unmarked_move n (fold (run is_white p)) (fold (run is_white q)) p q (after_run is_white p) (after_run is_white q) refl (ap (λ (k : ℕ). skip k q) len) (ap fold (sym text)) a);
     }
 
 break_same : (p q : Place) → Agree 2 p q → break_len q ≡ break_len p
@@ -73,10 +73,10 @@ break_part single p e s f d b =
     let n = run_len is_white r in
     let k = 1 + l + n in
     let here = at_break single p e s f d b in
-    let end : behind is_white r ≡ skip k p = ap (skip n) (skip_skip 1 l p) ∙ skip_skip (1 + l) n p in
+    let end : after_run is_white r ≡ skip k p = ap (skip n) (skip_skip 1 l p) ∙ skip_skip (1 + l) n p in
     record {
       count = k;
-      ends = rw here (choose (is_marker (behind is_white r)) k (breaks_at r) p (behind is_white r) end);
+      ends = rw here (choose (is_marker (after_run is_white r)) k (breaks_at r) p (after_run is_white r) end);
       same = λ q a.
           let t = skip (break_len (skip 1 q)) (skip 1 q) in
           let one : Agree 2 (skip 1 p) (skip 1 q) = agree_skip 1 1 p q (agree_less 3 (k + 8) p q (omega arith) a) in
@@ -85,9 +85,9 @@ break_part single p e s f d b =
           let there : Agree (n + 1) r t = agree_to (n + 1) _ _ r t from two (agree_less (n + 1) (1 + n) (skip (1 + l) p) (skip (1 + l) q) (omega arith) (agree_skip (1 + l) n p q (agree_less (1 + l + (1 + n)) (k + 8) p q (omega arith) a))) in
           let len : run_len is_white t ≡ n = run_same is_white r t there in
           let text : run is_white t ≡ run is_white r = ap (λ (i : ℕ). take i t.rest) len ∙ take_same n r t (agree_less n (n + 1) r t (omega arith) there) in
-          let end' : behind is_white t ≡ skip k q = ap (λ (i : ℕ). skip i t) len ∙ ap (skip n) two ∙ skip_skip (1 + l) n q in
+          let end' : after_run is_white t ≡ skip k q = ap (λ (i : ℕ). skip i t) len ∙ ap (skip n) two ∙ skip_skip (1 + l) n q in
           rw here (at_break single q (at_first is_z false k p q a e) (at_first is_white false k p q a s) (at_first (λ c. c == quote single) false k p q a f) (at_first (λ c. single || not (c == 0x5C)) false k p q a d) (at_second (λ c d. is_break d) true k p q a b)
-          ∙ unmarked_move k (breaks_at r) (breaks_at t) p q (behind is_white r) (behind is_white t) end end' (ap breaks (sym text)) a);
+          ∙ unmarked_move k (breaks_at r) (breaks_at t) p q (after_run is_white r) (after_run is_white t) end end' (ap breaks (sym text)) a);
     }
 
 bind_ends : (k : ℕ) (p : Place) (r : Read ℕ) → EndsAt k p r → PartEndsAt k p (r >>= λ x. part (x.value ∷ []) x.end)
@@ -172,7 +172,7 @@ escape_local p =
     elim (cases_Bool (nat_lt 0 (hex_len (peek p 1)))) [
       | inl hex ↦
           let n = hex_len (peek p 1) in
-          let there = local_behind (hex_escape n) 2 p (hex_local n (skip 2 p) (hex_most (peek p 1))) in
+          let there = local_after (hex_escape n) 2 p (hex_local n (skip 2 p) (hex_most (peek p 1))) in
           let here = at_hex p hex in
           record {
             count = there.count;
@@ -261,5 +261,5 @@ whole_local single p k (Err o) e ends same =
 -- a quoted scalar is local
 pub quoted_local : (single : Bool) (p : Place) → Local (quoted single) p
 quoted_local single p =
-    let parts = local_behind (many (body_part single)) 1 p (local_many (body_part single) (body_shortens single) (body_local single) (skip 1 p)) in
+    let parts = local_after (many (body_part single)) 1 p (local_many (body_part single) (body_shortens single) (body_local single) (skip 1 p)) in
     whole_local single p parts.count (many (body_part single) (skip 1 p)) refl parts.ends parts.same

@@ -9,13 +9,13 @@ use Rattle.yaml_lexeme.proofs.Readers.FoldSeparators.{stopped}
 use Rattle.yaml_lexeme.specs.Classes.{is_in_line}
 use Rattle.yaml_lexeme.specs.Gap.{byte_order_mark, is_gap_blank, after_mark, after_comment, after_gap_line, after_gap_lines, gap}
 use Rattle.yaml_lexeme.specs.GapText.{Passes, MayBeMark, MayBeComment, GapLine, GapLines, GapIsLongest, RunIsLongest}
-use Rattle.yaml_lexeme.specs.Place.{Place, first, skip, run_len, behind, break_len}
+use Rattle.yaml_lexeme.specs.Place.{Place, first, skip, run_len, after_run, break_len}
 
 -- runs
-pass_run : (test : ℕ → Bool) (p : Place) → Passes test p (behind test p)
+pass_run : (test : ℕ → Bool) (p : Place) → Passes test p (after_run test p)
 pass_run test p = record { count = run_len test p; within = prefix_len-le-length test p.rest; is = refl; all = λ i l. prefix_len_passes test p.rest i 0 l }
 
-run_stops : (test : ℕ → Bool) (p : Place) → 0 < length (behind test p).rest → test (first (behind test p)) ≡ false
+run_stops : (test : ℕ → Bool) (p : Place) → 0 < length (after_run test p).rest → test (first (after_run test p)) ≡ false
 run_stops test p h =
     let k = run_len test p in
     rw (first_on k p) (prefix_len_stops test p.rest 0 (omega (arith, length_skip k p)))
@@ -24,7 +24,7 @@ pub run_longest : RunIsLongest
 run_longest test p = (pass_run test p, run_stops test p)
 
 -- characters that pass are the run, or one that passes follows them
-passes_cases : (test : ℕ → Bool) (p q : Place) → Passes test p q → (q ≡ behind test p) ⊎ ((test (first q) ≡ true) × (length (behind test p).rest ≤ length q.rest))
+passes_cases : (test : ℕ → Bool) (p q : Place) → Passes test p q → (q ≡ after_run test p) ⊎ ((test (first q) ≡ true) × (length (after_run test p).rest ≤ length q.rest))
 passes_cases test p q a =
     let k = run_len test p in
     let n = a.count in
@@ -59,7 +59,7 @@ abbrev Short : Place → Place → Type 0
 Short q x = (break_len x ≡ 0) × (length q.rest ≤ length x.rest)
 
 comment_rest : (p : Place) → length (after_comment p).rest ≤ length p.rest
-comment_rest p = within_if (first p == 0x23) p (behind is_in_line p) p (omega (arith, length_skip (run_len is_in_line p) p)) (omega arith)
+comment_rest p = within_if (first p == 0x23) p (after_run is_in_line p) p (omega (arith, length_skip (run_len is_in_line p) p)) (omega arith)
 
 is_hash : (c : ℕ) → (c == 0x23) ≡ true → c ≡ 0x23
 is_hash c h = grind (arith, nat_tests)
@@ -71,7 +71,7 @@ comment_cases p q (inl e) = elim (cases_Bool (first p == 0x23)) [
   | inr none ↦ inl (rw none e)
 ]
 comment_cases p q (inr c) =
-    let is : after_comment p ≡ behind is_in_line p = rw c.0 refl in
+    let is : after_comment p ≡ after_run is_in_line p = rw c.0 refl in
     elim (passes_cases is_in_line p q c.1) [
       | inl e ↦ inl (e ∙ sym is)
       | inr m ↦ absurd (true≢false (sym m.0 ∙ c.2))
@@ -85,15 +85,15 @@ hash_no_blank tabs c e h = absurd (none tabs (subst (λ (d : ℕ). is_gap_blank 
     none false h = cc
 
 -- if a blank follows blanks, a gap line that ends there is short
-blank_ends : (tabs : Bool) (r to x : Place) → is_gap_blank tabs (first to) ≡ true → length (behind (is_gap_blank tabs) r).rest ≤ length to.rest → MayBeComment to x → Short (after_comment (behind (is_gap_blank tabs) r)) x
+blank_ends : (tabs : Bool) (r to x : Place) → is_gap_blank tabs (first to) ≡ true → length (after_run (is_gap_blank tabs) r).rest ≤ length to.rest → MayBeComment to x → Short (after_comment (after_run (is_gap_blank tabs) r)) x
 blank_ends tabs r to x b l (inl e) =
-    let c = comment_rest (behind (is_gap_blank tabs) r) in
-    let s : length (after_comment (behind (is_gap_blank tabs) r)).rest ≤ length to.rest = omega arith in
+    let c = comment_rest (after_run (is_gap_blank tabs) r) in
+    let s : length (after_comment (after_run (is_gap_blank tabs) r)).rest ≤ length to.rest = omega arith in
     (rw e (blank_no_break tabs to b), rw e s)
 blank_ends tabs r to x b l (inr c) = absurd (hash_no_blank tabs (first to) c.0 b)
 
 -- the blanks and comment after a byte order mark, or after none
-line_from : (tabs : Bool) (r to x : Place) → Passes (is_gap_blank tabs) r to → MayBeComment to x → (x ≡ after_comment (behind (is_gap_blank tabs) r)) ⊎ Short (after_comment (behind (is_gap_blank tabs) r)) x
+line_from : (tabs : Bool) (r to x : Place) → Passes (is_gap_blank tabs) r to → MayBeComment to x → (x ≡ after_comment (after_run (is_gap_blank tabs) r)) ⊎ Short (after_comment (after_run (is_gap_blank tabs) r)) x
 line_from tabs r to x a c =
     elim (passes_cases (is_gap_blank tabs) r to a) [
       | inl e ↦ subst (λ (y : Place). (x ≡ after_comment y) ⊎ Short (after_comment y) x) e (comment_cases to x c)
@@ -146,10 +146,10 @@ line_is : (tabs : Bool) (p : Place) → GapLine tabs p (after_gap_line tabs p)
 unfolding after_gap_line
 line_is tabs p = record {
   from = after_mark p;
-  to = behind (is_gap_blank tabs) (after_mark p);
+  to = after_run (is_gap_blank tabs) (after_mark p);
   mark = mark_is;
   blanks = pass_run (is_gap_blank tabs) (after_mark p);
-  comment = comment_is (behind (is_gap_blank tabs) (after_mark p));
+  comment = comment_is (after_run (is_gap_blank tabs) (after_mark p));
 }
   where
     mark_is : MayBeMark p (after_mark p)
@@ -160,7 +160,7 @@ line_is tabs p = record {
 
     comment_is : (q : Place) → MayBeComment q (after_comment q)
     comment_is q = elim (cases_Bool (first q == 0x23)) [
-      | inl b ↦ let is : after_comment q ≡ behind is_in_line q = rw b refl in
+      | inl b ↦ let is : after_comment q ≡ after_run is_in_line q = rw b refl in
           inr (is_hash (first q) b, subst (λ (y : Place). Passes is_in_line q y) (sym is) (pass_run is_in_line q), subst (λ (y : Place). is_in_line (first y) ≡ false) (sym is) (stopped is_in_line q refl))
       | inr b ↦ inl (rw b refl)
     ]
@@ -212,13 +212,13 @@ goes_on flow tabs p q h r = record { breaks = suc r.breaks; text = (after_gap_li
     short x (inl e) = rw e within
     short x (inr s) = let w = within in omega (arith, s.1)
 
-    behind_line : (n : ℕ) (y x : Place) → 0 < break_len y → GapLines n flow flow (skip (break_len y) y) x → (y ≡ after_gap_line tabs p) ⊎ Short (after_gap_line tabs p) y → length q.rest ≤ length x.rest
-    behind_line n y x b g (inl e) = r.longest n x (subst (λ (z : Place). GapLines n flow flow (skip (break_len z) z) x) e g)
-    behind_line n y x b g (inr s) = absurd (omega (arith, s.0))
+    value_after : (n : ℕ) (y x : Place) → 0 < break_len y → GapLines n flow flow (skip (break_len y) y) x → (y ≡ after_gap_line tabs p) ⊎ Short (after_gap_line tabs p) y → length q.rest ≤ length x.rest
+    value_after n y x b g (inl e) = r.longest n x (subst (λ (z : Place). GapLines n flow flow (skip (break_len z) z) x) e g)
+    value_after n y x b g (inr s) = absurd (omega (arith, s.0))
 
     all : (n : ℕ) (x : Place) → GapLines n flow tabs p x → length q.rest ≤ length x.rest
     all zero x g = short x (line_cases tabs p x g)
-    all (suc n) x g = behind_line n g.0 x g.2 g.3 (line_cases tabs p g.0 g.1)
+    all (suc n) x g = value_after n g.0 x g.2 g.3 (line_cases tabs p g.0 g.1)
 
 one_more : (n : ℕ) (flow : Bool) (p : Place) → 0 < break_len p → after_gap_lines (suc n) flow p ≡ after_gap_lines n flow (after_gap_line flow (skip (break_len p) p))
 unfolding after_gap_lines

@@ -9,7 +9,7 @@ use Rattle.yaml_lexeme.specs.declared.problem.yaml_problem_t.TheVariants.{COLON_
 use Rattle.yaml_lexeme.specs.Classes.{is_white}
 use Rattle.yaml_lexeme.specs.Fold.{fold}
 use Rattle.yaml_lexeme.specs.Parts.{texts, values, plain_scalar, PlainParts, PlainIsParts, ChunkRefused, LinksRefused, PlainIsRefused, ChunkIsLongest, LinkParts, LinkIsLongest, SeparatorEnds, LinkIsOver}
-use Rattle.yaml_lexeme.specs.Place.{Place, first, peek, skip, run, behind}
+use Rattle.yaml_lexeme.specs.Place.{Place, first, peek, skip, run, after_run}
 use Rattle.yaml_lexeme.specs.Plain.{is_bad_colon, is_chunk, chunk_len, chunk, bad_tab, untabbed, separator, is_over, link, plain}
 use Rattle.yaml_lexeme.specs.Reading.{Offence, Found, Read, found, refuse, ◌>>=◌, Part, part, over, many}
 use Rattle.yaml_lexeme.proofs.LongestLists.LongestParts.{Advances, split, many_longest, many_refused, found_of, refused_of}
@@ -162,7 +162,7 @@ by_chunk flow gap q f (Err o) e h = absurd cc
 link_from : (flow : Bool) (least : ℕ) (p : Place) (f : Found (List ℕ)) → link flow least p ≡ part f.value f.end → LinkParts flow least p f
 unfolding link separator
 link_from flow least p f h =
-    let end = behind is_white p in
+    let end = after_run is_white p in
     let h1 = not_over (not (is_white (first p))) _ f h in
     let h2 = no_tab (bad_tab least p) (fold (run is_white p)) end _ f h1.1 in
     let h3 = not_over (is_over flow least end) _ f h2.1 in
@@ -224,7 +224,7 @@ over_from flow least p h =
     elim (over_or (not (is_white (first p))) _ h) [
       | inl none ↦ inl (is_not (is_white (first p)) none)
       | inr h1 ↦
-          let end = behind is_white p in
+          let end = after_run is_white p in
           let h2 = tab_or (bad_tab least p) (fold (run is_white p)) end _ h1 in
           inr (record {
             separator = h2.0;
@@ -245,7 +245,7 @@ separator_over flow least p false w s = rw w refl
 separator_over flow least p true w s =
     elim s.ends [
       | inl e ↦ rw (w, s.separator, e) refl
-      | inr e ↦ rw (w, s.separator) (either (is_over flow least (behind is_white p)) _ (rw e refl))
+      | inr e ↦ rw (w, s.separator) (either (is_over flow least (after_run is_white p)) _ (rw e refl))
     ]
   where
     either : (b : Bool) (y : Part (List ℕ)) → y ≡ over → (if b then over else y) ≡ over
@@ -286,7 +286,7 @@ head_from flow least p f (Err o) e h = absurd cc
 plain_to : (flow : Bool) (least : ℕ) (p : Place) (f : Found scalar_t) → PlainParts flow least p f → plain flow least p ≡ Ok f
 plain_to flow least p f q =
     plain_is flow least p ∙ ap (after_head flow least) q.starts ∙ ap (tail_of q.head.value) (found_of (link flow least) (link_advances flow least) q.head.end q.links q.last q.longest)
-    ∙ both f (plain_scalar q.head.value (values q.links) q.last) (behind is_white q.last) q.value q.end
+    ∙ both f (plain_scalar q.head.value (values q.links) q.last) (after_run is_white q.last) q.value q.end
 
 pub plain_parts : PlainIsParts
 plain_parts flow least p f = (λ h. head_from flow least p f (chunk flow p) refl (sym (plain_is flow least p) ∙ h), plain_to flow least p f)

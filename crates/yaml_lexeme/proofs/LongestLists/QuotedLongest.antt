@@ -9,7 +9,7 @@ use Rattle.yaml_lexeme.specs.Classes.{is_white}
 use Rattle.yaml_lexeme.specs.Escape.{backslash, escape}
 use Rattle.yaml_lexeme.specs.Kind.{is_marker}
 use Rattle.yaml_lexeme.specs.Parts.{Piece, values, IsLongest, QuotedParts, QuotedIsParts, QuotedIsRefused}
-use Rattle.yaml_lexeme.specs.Place.{Place, first, peek, skip, behind}
+use Rattle.yaml_lexeme.specs.Place.{Place, first, peek, skip, after_run}
 use Rattle.yaml_lexeme.specs.Quoted.{quote, body_part, quoted}
 use Rattle.yaml_lexeme.specs.Reading.{Offence, Found, Read, refuse, ◌>>=◌, Part, part, over, many}
 use Rattle.yaml_lexeme.proofs.LongestLists.LongestParts.{Advances, many_longest, many_refused, found_of, refused_of}
@@ -43,7 +43,7 @@ unfolding body_part
 closes single p h =
     let c = first p in
     let h1 = other (is_z c) _ _ (λ e. absurd cc) h in
-    let h2 = other (is_white c) _ _ (no_unmarked (is_marker (behind is_white p)) _ (behind is_white p)) h1 in
+    let h2 = other (is_white c) _ _ (no_unmarked (is_marker (after_run is_white p)) _ (after_run is_white p)) h1 in
     let closed = this (c == quote single && not (single && peek p 1 == c)) _ (λ r.
     let r1 = other (c == quote single) _ _ (λ e. absurd cc) r in
     let r2 = other (single || not (c == backslash)) _ _ (λ e. absurd cc) r1 in

@@ -12,7 +12,7 @@ use Rattle.yaml_text.specs.Chars.{AreChars, utf8}
 use Rattle.yaml_text.specs.Classes.{is_break}
 use Rattle.yaml_text.proofs.Characters.Utf8Spelling.{two, three, four}
 use Rattle.yaml_text.proofs.Characters.CharRanges.{char_range}
-use Rattle.yaml_lexeme.specs.Place.{skip_from, mark_behind, width}
+use Rattle.yaml_lexeme.specs.Place.{skip_from, mark_after, width}
 use Rattle.yaml_lexeme.specs.declared.runs.class_t.{class_t}
 use Rattle.yaml_lexeme.specs.declared.runs.class_t.TheVariants.{BLANK, GAP_BLANK, SPACE, BLANK_OR_BREAK, ALPHA}
 use Rattle.yaml_lexeme.specs.inside.Runs.{is_quiet, class_test, begins, may_break, is_line}
@@ -144,8 +144,8 @@ pub record Over (class : class_t) (m : yaml_mark_t) (cs : List ℕ) (n : ℕ) : 
   pub place : skip_from (length front) m cs ≡ record { mark = along m n (length front); rest = left }
   pub goes : prefix_len (class_test class) cs ≡ length front + prefix_len (class_test class) left
 
-behind_in_line : (m : yaml_mark_t) (c next : ℕ) → is_break c ≡ false → mark_behind m c next ≡ along m (width c) 1
-behind_in_line m c next h = rw h refl
+after_in_line : (m : yaml_mark_t) (c next : ℕ) → is_break c ≡ false → mark_after m c next ≡ along m (width c) 1
+after_in_line m c next h = rw h refl
 
 width_is : (c : ℕ) → length (encode c) ≡ width c
 width_is c = length-encode c
@@ -166,7 +166,7 @@ one_over class m c cs n good o =
     let i : m.index + width c + n ≡ m.index + (length (encode c) + n) = omega (arith, width_is c) in
     let j : m.column + 1 + length o.front ≡ m.column + length (c ∷ o.front) = omega arith in
     let same : along (along m (width c) 1) n (length o.front) ≡ along m (length (encode c) + n) (length (c ∷ o.front)) = λ t. record { index = i t; line = m.line; column = j t } in
-    let first : mark_behind m c (get_or cs 0 0) ≡ along m (width c) 1 = behind_in_line m c (get_or cs 0 0) good.1 in
+    let first : mark_after m c (get_or cs 0 0) ≡ along m (width c) 1 = after_in_line m c (get_or cs 0 0) good.1 in
     let pass : class_test class c ≡ true = good.0 in
     record {
       front = c ∷ o.front;
@@ -308,7 +308,7 @@ over_spaces m (c ∷ cs) (suc k) h =
           let is : c ≡ 32 = grind (arith, nat_tests) in
           let low : k ≤ prefix_len (class_test SPACE) cs = omega (arith, rw t at h) in
           let o = over_spaces (along m 1 1) cs k low in
-          let first : mark_behind m c (get_or cs 0 0) ≡ along m 1 1 = rw is refl in
+          let first : mark_after m c (get_or cs 0 0) ≡ along m 1 1 = rw is refl in
           let i : m.index + 1 + k ≡ m.index + suc k = omega arith in
           let j : m.column + 1 + k ≡ m.column + suc k = omega arith in
           let e : utf8 (c ∷ cs) ≡ c ∷ utf8 cs = ap (λ (x : List ℕ). x ++ utf8 cs) (encode_ascii c (omega (arith, is))) in

@@ -15,7 +15,7 @@ use Rattle.yaml_text.proofs.Decodings.DecodeFronts.{chars-utf8, IsText-utf8}
 use Rattle.yaml_text.proofs.Marks.MarkMoves.{AreChars-parts}
 use Rattle.yaml_lexeme.specs.declared.runs.class_t.{class_t}
 use Rattle.yaml_lexeme.specs.declared.runs.class_t.TheVariants.{BLANK_OR_BREAK}
-use Rattle.yaml_lexeme.specs.Place.{Place, skip_from, skip, mark_behind, width}
+use Rattle.yaml_lexeme.specs.Place.{Place, skip_from, skip, mark_after, width}
 use Rattle.yaml_lexeme.specs.inside.Runs.{class_test, is_line, is_quiet, begins, trim, Stands}
 use Rattle.yaml_lexeme.proofs.ManyBytes.QuietRuns.{along, Over, over, count_chars}
 use Rattle.yaml_lexeme.proofs.ManyBytes.TrimmedLists.{trimmed, trim_bytes}
@@ -35,7 +35,7 @@ line_from zero m cs l h =
 line_from (suc n) m [] l h = absurd (omega arith)
 line_from (suc n) m (c ∷ cs) l h =
     let none : is_break c ≡ false = h 0 (omega arith) in
-    let one : mark_behind m c (get_or cs 0 0) ≡ along m (width c) 1 = rw none refl in
+    let one : mark_after m c (get_or cs 0 0) ≡ along m (width c) 1 = rw none refl in
     let more = line_from n (along m (width c) 1) cs (omega arith) (λ i l. h (suc i) (omega arith)) in
     let i : m.index + width c + length (utf8 (take n cs)) ≡ m.index + length (utf8 (take (suc n) (c ∷ cs))) = omega (arith, length-append (encode c) (utf8 (take n cs)), length-encode c) in
     let j : m.column + 1 + n ≡ m.column + suc n = omega arith in

@@ -93,7 +93,7 @@ Stands p (Ok f) = (f.value.start_mark ≡ p.mark) × (f.value.reach ≡ f.end.ma
 Stands p (Err e) = Unit {0}
 
 whole_stands : {A : Type 0} → (says : A → unnamed_yaml_token_t_data) (p : Place) (r : Read A) → Goes 1 p r → Stands p (lexeme (whole says) p r)
-whole_stands says p (Ok f) h = (refl, refl, record { behind = f.end; is = refl; taken = h.goes; read = ahead_here f.end })
+whole_stands says p (Ok f) h = (refl, refl, record { between = f.end; is = refl; taken = h.goes; read = ahead_here f.end })
 whole_stands says p (Err e) h = tt
 
 scalar_stands : (style : yaml_scalar_style_t) (p : Place) (r : Read scalar_t) → Span (λ (s : scalar_t). s.end) 1 p r → Stands p (lexeme (scalar_to style) p r)
@@ -105,7 +105,7 @@ ended_stands p (Ok f) h = (refl, refl, h.span)
 ended_stands p (Err e) h = tt
 
 some_stand : (k : yaml_lexeme_kind_t) (n : ℕ) (p : Place) → 1 ≤ n → 0 < length p.rest → Stands p (lexeme (whole says_of) p (found k (skip n p)))
-some_stand k n p l h = (refl, refl, record { behind = skip n p; is = refl; taken = ahead_some 1 n p l (omega arith); read = ahead_here (skip n p) })
+some_stand k n p l h = (refl, refl, record { between = skip n p; is = refl; taken = ahead_some 1 n p l (omega arith); read = ahead_here (skip n p) })
 
 stands : (k : yaml_lexeme_kind_t) (c : yaml_context_t) (p : Place) → kind_at (in_flow c) p ≡ Some k → (k ≡ kind.STREAM_END → ⊥) → 0 < length p.rest → Stands p (lex k c p)
 unfolding lex
@@ -135,7 +135,7 @@ lexeme_spans k c p f h other e = subst (λ (r : Read yaml_lexeme_t). Stands p r)
 
 in_order : (p : Place) (l : yaml_lexeme_t) (q : Place) → l.start_mark ≡ p.mark → l.reach ≡ q.mark → Spans 1 p l.end_mark q → IsAfter 1 l.start_mark l.end_mark × IsAfter 0 l.end_mark l.reach × IsAfter 1 l.start_mark l.reach
 in_order p l q s r t =
-    rw (s, r, t.is) (marks_after 1 p t.behind t.taken, marks_after 0 t.behind q t.read, marks_after 1 p q (ahead_on 1 p t.behind q t.taken t.read))
+    rw (s, r, t.is) (marks_after 1 p t.between t.taken, marks_after 0 t.between q t.read, marks_after 1 p q (ahead_on 1 p t.between q t.taken t.read))
 
 pub lexeme_order : LexemeOrder
 lexeme_order k c p f h other e = let s = lexeme_spans k c p f h other e in in_order p f.value f.end s.0 s.1 s.2

@@ -6,7 +6,7 @@ use Rattle.yaml_lexeme.specs.declared.problem.yaml_problem_t.{yaml_problem_t}
 use Rattle.yaml_lexeme.proofs.Parts.PartByPart.{IsShorter, many_turn}
 use Rattle.yaml_lexeme.proofs.Places.PlaceMoves.{skip_none, stays, length_skip, skip_skip}
 use Rattle.yaml_lexeme.specs.Order.{IsAhead, Spans}
-use Rattle.yaml_lexeme.specs.Place.{Place, skip, run_len, behind}
+use Rattle.yaml_lexeme.specs.Place.{Place, skip, run_len, after_run}
 use Rattle.yaml_lexeme.specs.Reading.{Offence, Found, Read, found, refuse, ◌>>=◌, Part, part, over, go_on, many}
 
 pub ahead_here : (p : Place) → IsAhead 0 p p
@@ -52,8 +52,8 @@ ahead_some m k p h l =
 pub ahead_any : (k : ℕ) (p : Place) → IsAhead 0 p (skip k p)
 ahead_any k p = ahead_some 0 k p (omega arith) (omega arith)
 
-pub ahead_behind : (test : ℕ → Bool) (p : Place) → IsAhead 0 p (behind test p)
-ahead_behind test p = ahead_any (run_len test p) p
+pub ahead_after : (test : ℕ → Bool) (p : Place) → IsAhead 0 p (after_run test p)
+ahead_after test p = ahead_any (run_len test p) p
 
 pub ahead_if : (b : Bool) (n : ℕ) (p q r : Place) → IsAhead n p q → IsAhead n p r → IsAhead n p (cond b q r)
 ahead_if true n p q r a b = a
@@ -219,11 +219,11 @@ pub span_span : {A B : Type 0} {was : A → yaml_mark_t} {mark : B → yaml_mark
 span_span {A} {B} {was} {mark} {n} {p} {r} {f} m h g = span_in was mark m n p r f h.span g
 
 pub spans_then : (m n : ℕ) (p q : Place) (e : yaml_mark_t) (r : Place) → IsAhead m p q → Spans n q e r → Spans (m + n) p e r
-spans_then m n p q e r a s = record { behind = s.behind; is = s.is; taken = ahead_trans m n p q s.behind a s.taken; read = s.read }
+spans_then m n p q e r a s = record { between = s.between; is = s.is; taken = ahead_trans m n p q s.between a s.taken; read = s.read }
 
 pub then_span : {A : Type 0} {mark : A → yaml_mark_t} {p q : Place} → (m n : ℕ) (r : Read A) → IsAhead m p q → Span mark n q r → Span mark (m + n) p r
 then_span {A} {mark} {p} {q} m n (Ok f) a h = record { span = spans_then m n p q (mark f.value) f.end a h.span }
 then_span {A} {mark} {p} {q} m n (Err e) a h = record { span = tt }
 
 pub spans_end : (n : ℕ) (p : Place) (e : yaml_mark_t) (q : Place) → Spans n p e q → IsAhead n p q
-spans_end n p e q s = ahead_on n p s.behind q s.taken s.read
+spans_end n p e q s = ahead_on n p s.between q s.taken s.read

@@ -4,10 +4,10 @@ use Rattle.std.proofs.lemmas.Bool.{cases_Bool, not-false}
 use Rattle.std.proofs.lemmas.Bool.Decides.{nat_tests}
 use Rattle.std.specs.List.{list_all}
 use Rattle.std.specs.Str.Parse.{digits_value}
-use Rattle.yaml_lexeme.proofs.MarkOrder.ReadingAhead.{ahead_here, ahead_less, ahead_trans, ahead_skip, ahead_some, ahead_any, ahead_behind, ahead_on, shorter, part_shorter, Goes, found_goes, refuse_goes, if_goes, bind_goes, then_goes, PartGoes, part_goes, over_goes, refuse_part, part_if, part_bind, many_goes, GoesTo, to_goes, refuse_to, to_if, to_part_bind, Span, found_span, refuse_span, if_span, bind_span, to_span, span_span, spans_then, then_span, spans_end}
+use Rattle.yaml_lexeme.proofs.MarkOrder.ReadingAhead.{ahead_here, ahead_less, ahead_trans, ahead_skip, ahead_some, ahead_any, ahead_after, ahead_on, shorter, part_shorter, Goes, found_goes, refuse_goes, if_goes, bind_goes, then_goes, PartGoes, part_goes, over_goes, refuse_part, part_if, part_bind, many_goes, GoesTo, to_goes, refuse_to, to_if, to_part_bind, Span, found_span, refuse_span, if_span, bind_span, to_span, span_span, spans_then, then_span, spans_end}
 use Rattle.yaml_lexeme.proofs.Parts.PartByPart.{many_turn, Shortens}
 use Rattle.yaml_lexeme.proofs.MarkOrder.SmallReadersAhead.{comment_ahead, on, next, named_goes}
-use Rattle.yaml_lexeme.proofs.Places.PlaceMoves.{is_there, break_within, behind_more, behind_none, some_char, in_or_break, is_break_len}
+use Rattle.yaml_lexeme.proofs.Places.PlaceMoves.{is_there, break_within, after_run_more, after_none, some_char, in_or_break, is_break_len}
 use Rattle.yaml_lexeme.proofs.Readers.PlainLinks.{chunk_more, chunk_there}
 use Rattle.yaml_lexeme.specs.Block.{is_sign, digit_at, header_at, after_line, is_indenting, indent_len, after_indent, blank_line, Blanks, blank_lines, Line, line_at, is_text, text_line, end_of, block, block_indent, set_indent}
 use Rattle.yaml_lexeme.specs.Classes.{ends, is_white, is_in_line}
@@ -16,7 +16,7 @@ use Rattle.yaml_lexeme.specs.Escape.{escape, hex_escape, simple_at, hex_len, sim
 use Rattle.yaml_lexeme.specs.Gap.{after_comment}
 use Rattle.yaml_lexeme.specs.Kind.{is_marker}
 use Rattle.yaml_lexeme.specs.Order.{IsAhead, Spans}
-use Rattle.yaml_lexeme.specs.Place.{Place, first, peek, skip, run, behind, break_len}
+use Rattle.yaml_lexeme.specs.Place.{Place, first, peek, skip, run, after_run, break_len}
 use Rattle.yaml_lexeme.specs.Plain.{is_chunk, is_bad_colon, chunk_len, chunk, bad_tab, untabbed, separator, is_over, link, plain}
 use Rattle.yaml_lexeme.specs.Quoted.{quote, unmarked, body_part, quoted}
 use Rattle.yaml_lexeme.specs.Reading.{Read, ◌>>=◌, Part, part, over, many, with_front, go_on}
@@ -26,10 +26,10 @@ use Rattle.yaml_text.specs.Classes.{is_z, is_break, is_alpha, is_blank, is_hex, 
 use Rattle.yaml_text.specs.declared.types.yaml_mark_t.{yaml_mark_t}
 
 -- a run that is not empty
-behind_some : (test : ℕ → Bool) (p : Place) → test (first p) ≡ true → test 0 ≡ false → IsAhead 1 p (behind test p)
-behind_some test p h none =
-    let t = behind_more test p h none in
-    subst (λ (x : Place). IsAhead 1 p x) (sym t.1) (next p (behind test (skip 1 p)) t.0 (ahead_behind test (skip 1 p)))
+after_some : (test : ℕ → Bool) (p : Place) → test (first p) ≡ true → test 0 ≡ false → IsAhead 1 p (after_run test p)
+after_some test p h none =
+    let t = after_run_more test p h none in
+    subst (λ (x : Place). IsAhead 1 p x) (sym t.1) (next p (after_run test (skip 1 p)) t.0 (ahead_after test (skip 1 p)))
 
 unmarked_goes : (n : ℕ) (value : List ℕ) (p q : Place) → IsAhead n p q → PartGoes n p (unmarked value q)
 unmarked_goes n value p q a = part_if (is_marker q) (λ e. refuse_part) (λ e. part_goes a)
@@ -55,11 +55,11 @@ body_goes single p =
     let r = skip (break_len (skip 1 p)) (skip 1 p) in
     part_if (is_z c) (λ e. refuse_part) (λ e.
     let there : 0 < length p.rest = is_there p 0 (some_char c e) in
-    part_if (is_white c) (λ s. unmarked_goes 1 _ p (behind is_white p) (behind_some is_white p s refl)) (λ s.
+    part_if (is_white c) (λ s. unmarked_goes 1 _ p (after_run is_white p) (after_some is_white p s refl)) (λ s.
     part_if (c == quote single && not (single && peek p 1 == c)) (λ e. over_goes) (λ e.
     part_if (c == quote single) (λ e. part_goes (ahead_some 1 2 p (omega arith) (omega arith))) (λ e.
     part_if (single || not (c == 0x5C)) (λ e. part_goes (ahead_skip 1 p (omega arith))) (λ e.
-    part_if (is_break (peek p 1)) (λ b. unmarked_goes 1 _ p (behind is_white r) (next p (behind is_white r) there (ahead_trans 0 0 (skip 1 p) r (behind is_white r) (ahead_any (break_len (skip 1 p)) (skip 1 p)) (ahead_behind is_white r)))) (λ b.
+    part_if (is_break (peek p 1)) (λ b. unmarked_goes 1 _ p (after_run is_white r) (next p (after_run is_white r) there (ahead_trans 0 0 (skip 1 p) r (after_run is_white r) (ahead_any (break_len (skip 1 p)) (skip 1 p)) (ahead_after is_white r)))) (λ b.
     part_bind 1 (escape_goes p there) (λ x a. part_goes a)))))))
 
 pub quoted_goes : (single : Bool) (p : Place) → 0 < length p.rest → Goes 1 p (quoted single p)
@@ -85,7 +85,7 @@ untabbed_goes (Some t) value p q a = refuse_goes
 
 separator_goes : (least : ℕ) (p : Place) → is_white (first p) ≡ true → Goes 1 p (separator least p)
 unfolding separator
-separator_goes least p h = untabbed_goes (bad_tab least p) _ p (behind is_white p) (behind_some is_white p h refl)
+separator_goes least p h = untabbed_goes (bad_tab least p) _ p (after_run is_white p) (after_some is_white p h refl)
 
 pub link_goes : (flow : Bool) (least : ℕ) (p : Place) → PartGoes 1 p (link flow least p)
 unfolding link
@@ -101,26 +101,26 @@ unfolding plain
 plain_span flow least p h =
     bind_span 1 (chunk_some flow p h) (λ head a.
     bind_span 1 (then_goes 1 0 a (many_goes (link flow least) (link_goes flow least) head.end)) (λ links b.
-    found_span (record { behind = links.end; is = refl; taken = b; read = ahead_behind is_white links.end })))
+    found_span (record { between = links.end; is = refl; taken = b; read = ahead_after is_white links.end })))
 
 -- directives
 line_end_goes : (p : Place) → GoesTo 0 p (after_line p)
 unfolding after_line
 line_end_goes p =
-    let b = behind is_blank p in
+    let b = after_run is_blank p in
     let q = after_comment b in
-    let a : IsAhead 0 p q = ahead_trans 0 0 p b q (ahead_behind is_blank p) (comment_ahead b) in
+    let a : IsAhead 0 p q = ahead_trans 0 0 p b q (ahead_after is_blank p) (comment_ahead b) in
     to_if (is_break (first q) || is_z (first q)) (to_goes (on (break_len q) p q a)) refuse_to
 
 pub directive_span : (p : Place) → 0 < length p.rest → Span (λ (e : directive_t). e.end) 1 p (directive p)
 unfolding directive
 directive_span p h =
     let letters = run is_alpha (skip 1 p) in
-    let end = behind is_alpha (skip 1 p) in
-    let a : IsAhead 1 p end = next p end h (ahead_behind is_alpha (skip 1 p)) in
+    let end = after_run is_alpha (skip 1 p) in
+    let a : IsAhead 1 p end = next p end h (ahead_after is_alpha (skip 1 p)) in
     if_span (length letters == 0) refuse_span (if_span (not (ends (first end))) refuse_span
     (bind_span 1 (then_goes 1 0 a (named_goes letters end)) (λ d b.
-    to_span 1 b (line_end_goes d.end) (λ x c e. found_span (record { behind = d.end; is = refl; taken = b; read = e })))))
+    to_span 1 b (line_end_goes d.end) (λ x c e. found_span (record { between = d.end; is = refl; taken = b; read = e })))))
 
 -- literal and folded scalars
 digit_goes : (p : Place) → Goes 0 p (digit_at p)
@@ -155,21 +155,21 @@ blanks_span : (limit : Option ℕ) (p : Place) → Span (λ (b : Blanks). b.end)
 unfolding blank_lines
 blanks_span limit p =
     bind_span 0 (many_goes (blank_line limit) (blank_goes limit) p) (λ lines a.
-    to_span 0 a (indent_goes limit lines.end) (λ x b c. found_span (record { behind = lines.end; is = refl; taken = a; read = c })))
+    to_span 0 a (indent_goes limit lines.end) (λ x b c. found_span (record { between = lines.end; is = refl; taken = a; read = c })))
 
 -- a line that does not begin at the end
-line_some : (p : Place) → is_z (first p) ≡ false → let q = behind is_in_line p in IsAhead 1 p (skip (break_len q) q)
+line_some : (p : Place) → is_z (first p) ≡ false → let q = after_run is_in_line p in IsAhead 1 p (skip (break_len q) q)
 line_some p h =
-    let q = behind is_in_line p in
+    let q = after_run is_in_line p in
     elim (cases_Bool (is_in_line (first p))) [
-      | inl i ↦ ahead_on 1 p q (skip (break_len q) q) (behind_some is_in_line p i refl) (ahead_any (break_len q) q)
-      | inr o ↦ rw (behind_none is_in_line p o) (break_some p (is_break_len p (in_or_break (first p) h o)))
+      | inl i ↦ ahead_on 1 p q (skip (break_len q) q) (after_some is_in_line p i refl) (ahead_any (break_len q) q)
+      | inr o ↦ rw (after_none is_in_line p o) (break_some p (is_break_len p (in_or_break (first p) h o)))
     ]
 
 line_span : (indent : ℕ) (p : Place) → is_z (first p) ≡ false → Span (λ (l : Line). l.end) 1 p (line_at indent p)
 unfolding line_at
 line_span indent p h =
-    let q = behind is_in_line p in
+    let q = after_run is_in_line p in
     span_span 1 (then_span 1 0 (blank_lines (Some indent) (skip (break_len q) q)) (line_some p h) (blanks_span (Some indent) (skip (break_len q) q)))
     (λ x s. found_span s)
 
@@ -206,7 +206,7 @@ lines_turn : (n indent : ℕ) (start : Place) (m : yaml_mark_t) (p : Place) (r :
     → Span (end_of m) n start (r >>= λ a. go_on (many (text_line indent)) p a)
 lines_turn n indent start m p (Ok (Some f)) h s more =
     let t = spans_then n 1 start p f.value.end f.end (spans_end n start m p s) h in
-    let u : Spans n start f.value.end f.end = record { behind = t.behind; is = t.is; taken = ahead_less n (n + 1) start t.behind (omega arith) t.taken; read = t.read } in
+    let u : Spans n start f.value.end f.end = record { between = t.between; is = t.is; taken = ahead_less n (n + 1) start t.between (omega arith) t.taken; read = t.read } in
     lines_more n start f.value m (many (text_line indent) f.end) (more f.value f.end (shorter p f.end (spans_end 1 p f.value.end f.end h)) u)
 lines_turn n indent start m p (Ok None) h s more = record { span = s }
 lines_turn n indent start m p (Err e) h s more = record { span = tt }

@@ -14,7 +14,7 @@ use Rattle.yaml_text.specs.Classes.{is_break}
 use Rattle.yaml_text.proofs.Decodings.DecodeFronts.{chars-utf8, IsText-utf8}
 use Rattle.yaml_text.proofs.Marks.MarkMoves.{AreChars-parts}
 use Rattle.yaml_text.proofs.Characters.ClassTables.{Leads, leads}
-use Rattle.yaml_lexeme.specs.Place.{first, Place, place_at, IsMarkOf, ends_line, skip_from, skip, behind, run, run_len, mark_behind, width}
+use Rattle.yaml_lexeme.specs.Place.{first, Place, place_at, IsMarkOf, ends_line, skip_from, skip, after_run, run, run_len, mark_after, width}
 use Rattle.yaml_lexeme.specs.declared.runs.class_t.{class_t}
 use Rattle.yaml_lexeme.specs.inside.Runs.{is_quiet, class_test, begins}
 use Rattle.yaml_lexeme.proofs.Places.PlaceMoves.{skip_skip, moved, rest_skip, is_there}
@@ -24,10 +24,10 @@ use Rattle.yaml_lexeme.specs.declared.runs.class_t.TheVariants.{SPACE}
 
 pub record QuietMove (class : class_t) (m : yaml_mark_t) (bytes : List ℕ) (n k : ℕ) : Type 0 where
   pub text : IsText (drop n bytes)
-  pub goes : let p : Place = record { mark = m; rest = chars bytes } in let q : Place = record { mark = along m n k; rest = chars (drop n bytes) } in behind (class_test class) q ≡ behind (class_test class) p
+  pub goes : let p : Place = record { mark = m; rest = chars bytes } in let q : Place = record { mark = along m n k; rest = chars (drop n bytes) } in after_run (class_test class) q ≡ after_run (class_test class) p
   pub shorter : length (chars (drop n bytes)) ≤ length (chars bytes)
 
-further : (test : ℕ → Bool) (p q : Place) (k : ℕ) → skip k p ≡ q → prefix_len test p.rest ≡ k + prefix_len test q.rest → behind test q ≡ behind test p
+further : (test : ℕ → Bool) (p q : Place) (k : ℕ) → skip k p ≡ q → prefix_len test p.rest ≡ k + prefix_len test q.rest → after_run test q ≡ after_run test p
 further test p q k e g = ap (skip (prefix_len test q.rest)) (sym e) ∙ skip_skip k (prefix_len test q.rest) p ∙ ap (λ n. skip n p) (sym g)
 
 skip_is : (n : ℕ) (m : yaml_mark_t) (cs : List ℕ) → let p : Place = record { mark = m; rest = cs } in skip n p ≡ skip_from n m cs
@@ -50,7 +50,7 @@ quiet_moves class m bytes n k t n-is k-is =
     let same : q ≡ r = λ i. record { mark = along m n (count i); rest = left i } in
     record {
       text = subst IsText (sym dr) (IsText-utf8 o.left each.1);
-      goes = ap (λ (x : Place). behind (class_test class) x) same ∙ further (class_test class) p r (length o.front) (skip_is (length o.front) m cs ∙ o.place) o.goes;
+      goes = ap (λ (x : Place). after_run (class_test class) x) same ∙ further (class_test class) p r (length o.front) (skip_is (length o.front) m cs ∙ o.place) o.goes;
       shorter = omega (arith, ap length left, ap length o.parts, length-append o.front o.left);
     }
 
@@ -69,7 +69,7 @@ skip_bytes k p q whole left e w l =
     (omega (arith, len), ap (λ (x : List ℕ). take (length whole - length left) x) parts ∙ take_at (utf8 (take k p.rest)) (utf8 (drop k p.rest)) (length whole - length left) n)
 
 -- and those that a run does
-pub run_bytes : (test : ℕ → Bool) (p q : Place) (whole left : List ℕ) → q ≡ behind test p → whole ≡ utf8 p.rest → left ≡ utf8 q.rest → (length left ≤ length whole) × (take (length whole - length left) whole ≡ utf8 (run test p))
+pub run_bytes : (test : ℕ → Bool) (p q : Place) (whole left : List ℕ) → q ≡ after_run test p → whole ≡ utf8 p.rest → left ≡ utf8 q.rest → (length left ≤ length whole) × (take (length whole - length left) whole ≡ utf8 (run test p))
 run_bytes test p q whole left e w l = skip_bytes (prefix_len test p.rest) p q whole left e w l
 
 -- ---- the place of a mark
@@ -79,17 +79,17 @@ record Onward (n : ℕ) (m : yaml_mark_t) (cs : List ℕ) : Type 0 where
   index : (skip_from n m cs).mark.index ≡ m.index + length (utf8 (take n cs))
   sums : (skip_from n m cs).mark.line + (skip_from n m cs).mark.column ≤ (skip_from n m cs).mark.index
 
-one_index : (m : yaml_mark_t) (c next : ℕ) → (mark_behind m c next).index ≡ m.index + length (encode c)
+one_index : (m : yaml_mark_t) (c next : ℕ) → (mark_after m c next).index ≡ m.index + length (encode c)
 one_index m c next = elim (cases_Bool (ends_line c next)) [ inl t ↦ rw t (omega (arith, length-encode c)) | inr f ↦ rw f (omega (arith, length-encode c)) ]
 
-one_sums : (m : yaml_mark_t) (c next : ℕ) → m.line + m.column ≤ m.index → (mark_behind m c next).line + (mark_behind m c next).column ≤ (mark_behind m c next).index
+one_sums : (m : yaml_mark_t) (c next : ℕ) → m.line + m.column ≤ m.index → (mark_after m c next).line + (mark_after m c next).column ≤ (mark_after m c next).index
 one_sums m c next h = elim (cases_Bool (ends_line c next)) [ inl t ↦ rw t (omega (arith, len_utf8_bounds c)) | inr f ↦ rw f (omega (arith, len_utf8_bounds c)) ]
 
 onward : (n : ℕ) (m : yaml_mark_t) (cs : List ℕ) → m.line + m.column ≤ m.index → Onward n m cs
 onward zero m cs h = record { index = omega arith; sums = h }
 onward (suc n) m [] h = record { index = omega arith; sums = h }
 onward (suc n) m (c ∷ cs) h =
-    let m' = mark_behind m c (get_or cs 0 0) in
+    let m' = mark_after m c (get_or cs 0 0) in
     let o = onward n m' cs (one_sums m c (get_or cs 0 0) h) in
     record { index = omega (arith, o.index, one_index m c (get_or cs 0 0), length-append (encode c) (utf8 (take n cs))); sums = o.sums }
 
@@ -118,15 +118,15 @@ finds bytes cs m n e each at =
       place = λ i. record { mark = mark i; rest = left i };
     }
 
-pub index_behind : (m : yaml_mark_t) (c next : ℕ) → (mark_behind m c next).index ≡ m.index + width c
-index_behind m c next = elim (cases_Bool (ends_line c next)) [ inl t ↦ rw t refl | inr f ↦ rw f refl ]
+pub index_after : (m : yaml_mark_t) (c next : ℕ) → (mark_after m c next).index ≡ m.index + width c
+index_after m c next = elim (cases_Bool (ends_line c next)) [ inl t ↦ rw t refl | inr f ↦ rw f refl ]
 
 -- a character of ASCII that is no break is one byte and one column
 pub record AsciiMove (m : yaml_mark_t) (bytes : List ℕ) : Type 0 where
   pub text : IsText (drop 1 bytes)
   pub place : let p : Place = record { mark = m; rest = chars bytes } in let q : Place = record { mark = along m 1 1; rest = chars (drop 1 bytes) } in q ≡ skip 1 p
 
-ascii_mark : (m : yaml_mark_t) (c next : ℕ) → c < 128 → (c ≡ 10 → ⊥) → (c ≡ 13 → ⊥) → along m 1 1 ≡ mark_behind m c next
+ascii_mark : (m : yaml_mark_t) (c next : ℕ) → c < 128 → (c ≡ 10 → ⊥) → (c ≡ 13 → ⊥) → along m 1 1 ≡ mark_after m c next
 ascii_mark m c next low a b =
     let none : is_break c ≡ false = grind (arith, nat_tests) in
     let one : width c ≡ 1 = grind (arith, nat_tests) in
@@ -152,7 +152,7 @@ pub record LineMove (m : yaml_mark_t) (bytes : List ℕ) : Type 0 where
   pub text : IsText (drop 1 bytes)
   pub place : let p : Place = record { mark = m; rest = chars bytes } in let q : Place = record { mark = record { index = m.index + 1; line = m.line + 1; column = 0 }; rest = chars (drop 1 bytes) } in q ≡ skip 1 p
 
-line_feed_mark : (m : yaml_mark_t) (c next : ℕ) → c ≡ 10 → record { index = m.index + 1; line = m.line + 1; column = 0 } ≡ mark_behind m c next
+line_feed_mark : (m : yaml_mark_t) (c next : ℕ) → c ≡ 10 → record { index = m.index + 1; line = m.line + 1; column = 0 } ≡ mark_after m c next
 line_feed_mark m c next e = rw e refl
 
 pub line_feed_moves : (m : yaml_mark_t) (bytes : List ℕ) → IsText bytes → 0 < length bytes → get_or bytes 0 0 ≡ 10 → LineMove m bytes

@@ -7,20 +7,20 @@ use Rattle.std.specs.List.{prefix_len}
 use Rattle.yaml_text.specs.declared.types.yaml_mark_t.{yaml_mark_t}
 use Rattle.yaml_lexeme.specs.declared.runs.class_t.{class_t}
 use Rattle.yaml_lexeme.specs.declared.runs.class_t.TheVariants.{BLANK, GAP_BLANK, SPACE, BLANK_OR_BREAK, ALPHA, IN_LINE, DOUBLE, SINGLE, PLAIN, FLOW}
-use Rattle.yaml_lexeme.specs.Place.{Place, peek, first, mark_behind, skip_from, skip, behind, break_len}
+use Rattle.yaml_lexeme.specs.Place.{Place, peek, first, mark_after, skip_from, skip, after_run, break_len}
 use Rattle.yaml_lexeme.specs.inside.Runs.{class_test}
 use Rattle.yaml_lexeme.specs.Classes.{is_white, is_in_line}
 use Rattle.yaml_text.specs.Classes.{is_blank, is_break, is_z}
 
-one : (m : yaml_mark_t) (cs : List ℕ) → 0 < length cs → skip_from 1 m cs ≡ record { mark = mark_behind m (peek (record { mark = m; rest = cs }) 0) (peek (record { mark = m; rest = cs }) 1); rest = drop 1 cs }
+one : (m : yaml_mark_t) (cs : List ℕ) → 0 < length cs → skip_from 1 m cs ≡ record { mark = mark_after m (peek (record { mark = m; rest = cs }) 0) (peek (record { mark = m; rest = cs }) 1); rest = drop 1 cs }
 one m [] h = absurd (omega arith)
 one m (c ∷ cs) h = refl
 
-pub skip_one : (p : Place) → 0 < length p.rest → skip 1 p ≡ record { mark = mark_behind p.mark (peek p 0) (peek p 1); rest = drop 1 p.rest }
+pub skip_one : (p : Place) → 0 < length p.rest → skip 1 p ≡ record { mark = mark_after p.mark (peek p 0) (peek p 1); rest = drop 1 p.rest }
 unfolding skip
 skip_one p h = one p.mark p.rest h
 
-pub moved : (p : Place) (m₀ m : yaml_mark_t) (cs ds : List ℕ) (next : ℕ) → record { mark = m₀; rest = cs } ≡ p → 0 < length cs → next ≡ peek p 1 → m ≡ mark_behind m₀ (slice_index cs 0) next → ds ≡ drop 1 cs
+pub moved : (p : Place) (m₀ m : yaml_mark_t) (cs ds : List ℕ) (next : ℕ) → record { mark = m₀; rest = cs } ≡ p → 0 < length cs → next ≡ peek p 1 → m ≡ mark_after m₀ (slice_index cs 0) next → ds ≡ drop 1 cs
     → record { mark = m; rest = ds } ≡ skip 1 p
 moved p m₀ m cs ds next v h n e d =
     let q : Place = record { mark = m₀; rest = cs } in
@@ -56,7 +56,7 @@ skip_none p = refl
 rest_from : (n : ℕ) (m : yaml_mark_t) (cs : List ℕ) → (skip_from n m cs).rest ≡ drop n cs
 rest_from zero m cs = refl
 rest_from (suc n) m [] = refl
-rest_from (suc n) m (c ∷ cs) = rest_from n (mark_behind m c (slice_index cs 0)) cs
+rest_from (suc n) m (c ∷ cs) = rest_from n (mark_after m c (slice_index cs 0)) cs
 
 -- what is left after n characters
 pub rest_skip : (n : ℕ) (p : Place) → (skip n p).rest ≡ drop n p.rest
@@ -79,7 +79,7 @@ first_on k p = let e : k + 0 ≡ k = omega arith in peek_on k 0 p ∙ ap (peek p
 pub skip_step : (n i : ℕ) (p q : Place) → i < n → skip (n - i) p ≡ q → skip (n - (i + 1)) (skip 1 p) ≡ q
 skip_step n i p q h e = let k : n - i ≡ suc (n - (i + 1)) = omega arith in sym (skip_more (n - (i + 1)) p) ∙ rw (← k) e
 
-run_more : (test : ℕ → Bool) (m : yaml_mark_t) (cs : List ℕ) → test (slice_index cs 0) ≡ true → test 0 ≡ false → let p : Place = record { mark = m; rest = cs } in (0 < length cs) × (behind test p ≡ behind test (skip 1 p))
+run_more : (test : ℕ → Bool) (m : yaml_mark_t) (cs : List ℕ) → test (slice_index cs 0) ≡ true → test 0 ≡ false → let p : Place = record { mark = m; rest = cs } in (0 < length cs) × (after_run test p ≡ after_run test (skip 1 p))
 unfolding skip
 run_more test m [] h none = absurd (grind (arith, nat_tests))
 run_more test m (c ∷ cs) h none =
@@ -87,16 +87,16 @@ run_more test m (c ∷ cs) h none =
     (omega arith, rw (h, k) refl)
 
 -- a run is taken one by one
-pub behind_more : (test : ℕ → Bool) (p : Place) → test (first p) ≡ true → test 0 ≡ false → (0 < length p.rest) × (behind test p ≡ behind test (skip 1 p))
-behind_more test p h none = run_more test p.mark p.rest h none
+pub after_run_more : (test : ℕ → Bool) (p : Place) → test (first p) ≡ true → test 0 ≡ false → (0 < length p.rest) × (after_run test p ≡ after_run test (skip 1 p))
+after_run_more test p h none = run_more test p.mark p.rest h none
 
-run_none : (test : ℕ → Bool) (m : yaml_mark_t) (cs : List ℕ) → test (slice_index cs 0) ≡ false → let p : Place = record { mark = m; rest = cs } in behind test p ≡ p
+run_none : (test : ℕ → Bool) (m : yaml_mark_t) (cs : List ℕ) → test (slice_index cs 0) ≡ false → let p : Place = record { mark = m; rest = cs } in after_run test p ≡ p
 unfolding skip
 run_none test m [] h = refl
 run_none test m (c ∷ cs) h = rw h refl
 
-pub behind_none : (test : ℕ → Bool) (p : Place) → test (first p) ≡ false → behind test p ≡ p
-behind_none test p h = run_none test p.mark p.rest h
+pub after_none : (test : ℕ → Bool) (p : Place) → test (first p) ≡ false → after_run test p ≡ p
+after_none test p h = run_none test p.mark p.rest h
 
 -- no run goes past the end
 pub class_end : (class : class_t) → class_test class 0 ≡ false
@@ -112,7 +112,7 @@ class_end PLAIN = refl
 class_end FLOW = refl
 
 abbrev pub Goes : class_t → Place → Place → Type 0
-Goes class p q = behind (class_test class) p ≡ behind (class_test class) q
+Goes class p q = after_run (class_test class) p ≡ after_run (class_test class) q
 
 pub within_if : (b : Bool) (p q r : Place) → length q.rest ≤ length p.rest → length r.rest ≤ length p.rest → length (cond b q r).rest ≤ length p.rest
 within_if true p q r hq hr = hq

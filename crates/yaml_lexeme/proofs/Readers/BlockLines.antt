@@ -14,11 +14,11 @@ use Rattle.yaml_lexeme.proofs.Places.PlaceMoves.{length_skip, break_within}
 use Rattle.yaml_lexeme.proofs.Readers.FoldSeparators.{run_more, run_none, encode_some}
 use Rattle.yaml_lexeme.proofs.MarkOrder.ScalarsAhead.{blank_shortens, text_shortens}
 use Rattle.yaml_lexeme.proofs.Parts.ReadResults.{value_or, end_or}
-use Rattle.yaml_lexeme.specs.Block.{is_indenting, indent_len, after_indent, Blank, blank_line, Blanks, blanks_of, blank_lines, Line, break_at, line_at, is_text, text_line, header_at, after_line, set_indent, block_indent, between, chomped, behind_line, block_value, end_of as end_of_lines, block, or_none, or_space, is_line_feed, is_more_indented}
+use Rattle.yaml_lexeme.specs.Block.{is_indenting, indent_len, after_indent, Blank, blank_line, Blanks, blanks_of, blank_lines, Line, break_at, line_at, is_text, text_line, header_at, after_line, set_indent, block_indent, between, chomped, value_after, block_value, end_of as end_of_lines, block, or_none, or_space, is_line_feed, is_more_indented}
 use Rattle.yaml_lexeme.specs.Classes.{is_in_line}
 use Rattle.yaml_lexeme.specs.Fold.{written}
 use Rattle.yaml_lexeme.specs.inside.Gives.{Refuses}
-use Rattle.yaml_lexeme.specs.Place.{Place, first, skip, run, behind, break_len}
+use Rattle.yaml_lexeme.specs.Place.{Place, first, skip, run, after_run, break_len}
 use Rattle.yaml_lexeme.specs.Reading.{Offence, Found, Read, found, Part, part, refuse, over, many, ◌>>=◌}
 use Rattle.yaml_lexeme.specs.inside.Tails.{TakesBlanks, TakesLine, Keeps, between_tail, chomped_tail}
 use Rattle.yaml_text.specs.Chars.{utf8}
@@ -156,12 +156,12 @@ blanks_from column end old new q (Err e) h = absurd h
 
 -- what follows a line's text
 abbrev after_text : Place → Read Blanks → Read Line
-after_text p r = r >>= λ blanks. found (record { text = run is_in_line p; break = break_at (behind is_in_line p); empties = blanks.value.breaks; end = blanks.value.end }) blanks.end
+after_text p r = r >>= λ blanks. found (record { text = run is_in_line p; break = break_at (after_run is_in_line p); empties = blanks.value.breaks; end = blanks.value.end }) blanks.end
 
 abbrev pub line_end : Place → Place
-line_end p = let q = behind is_in_line p in skip (break_len q) q
+line_end p = let q = after_run is_in_line p in skip (break_len q) q
 
-pub to_line_end : (p q r : Place) → q ≡ behind is_in_line p → r ≡ skip (break_len q) q → r ≡ line_end p
+pub to_line_end : (p q r : Place) → q ≡ after_run is_in_line p → r ≡ skip (break_len q) q → r ≡ line_end p
 to_line_end p q r h f = f ∙ ap (λ (x : Place). skip (break_len x) x) h
 
 line_is : (indent : ℕ) (p : Place) → line_at indent p ≡ after_text p (blank_lines (Some indent) (line_end p))
@@ -179,11 +179,11 @@ first_blank : (b : Bool) (p : Place) → is_in_line (first p) ≡ b → is_blank
 first_blank true p h = ap (λ (cs : List ℕ). is_blank (slice_index cs 0)) (run_more is_in_line p h refl)
 first_blank false p h = ap (λ (cs : List ℕ). is_blank (slice_index cs 0)) (run_none is_in_line p h) ∙ sym (no_blank (first p) h)
 
-pub line_taken : (indent : ℕ) (p q : Place) (old new : List ℕ) (tail : tail_t) (column : ℕ) → tail.lead ≡ break_at (behind is_in_line p) → tail.indented ≡ is_blank (first p) → new ≡ old ++ utf8 (run is_in_line p)
+pub line_taken : (indent : ℕ) (p q : Place) (old new : List ℕ) (tail : tail_t) (column : ℕ) → tail.lead ≡ break_at (after_run is_in_line p) → tail.indented ≡ is_blank (first p) → new ≡ old ++ utf8 (run is_in_line p)
     → TakesBlanks (Ok column) [] tail.empties.items tail.end q (blank_lines (Some indent) (line_end p)) → TakesLine (Ok tt) old new tail q (line_at indent p)
 line_taken indent p q old new tail column l i v h =
     let (b, read, wide, breaks, end) = blanks_from column tail.end [] tail.empties.items q (blank_lines (Some indent) (line_end p)) h in
-    let whole : line_at indent p ≡ found (record { text = run is_in_line p; break = break_at (behind is_in_line p); empties = b.breaks; end = b.end }) q = line_is indent p ∙ ap (after_text p) read in
+    let whole : line_at indent p ≡ found (record { text = run is_in_line p; break = break_at (after_run is_in_line p); empties = b.breaks; end = b.end }) q = line_is indent p ∙ ap (after_text p) read in
     rw whole (record { lead = l; empties = breaks; indented = i ∙ sym (first_blank (is_in_line (first p)) p refl); end = end }, v, refl)
 
 -- the bytes and the last line so far
@@ -203,13 +203,13 @@ finish chomp r = r >>= λ s. found (record { value = s.value.0 ++ utf8 (chomped 
 
 gathered : (folded : Bool) (chomp : chomp_t) (ls : List Line) (out : List ℕ) (last : Line)
     → let s = fold_list (add_line folded) (out, last) ls in
-    (s.0 ++ utf8 (chomped chomp s.1) ≡ out ++ utf8 (behind_line folded chomp last ls)) × (s.1.end ≡ end_of_lines last.end ls)
+    (s.0 ++ utf8 (chomped chomp s.1) ≡ out ++ utf8 (value_after folded chomp last ls)) × (s.1.end ≡ end_of_lines last.end ls)
 gathered folded chomp [] out last = (refl, refl)
 gathered folded chomp (l ∷ ls) out last =
     let b = between folded last l in
     let next = out ++ utf8 b ++ utf8 l.text in
     let more = gathered folded chomp ls next l in
-    let rest = behind_line folded chomp l ls in (
+    let rest = value_after folded chomp l ls in (
       more.0 ∙ append_assoc (out ++ utf8 b) (utf8 l.text) (utf8 rest) ∙ append_assoc out (utf8 b) (utf8 l.text ++ utf8 rest)
           ∙ ap (λ (xs : List ℕ). out ++ (utf8 b ++ xs)) (sym (encodes-append l.text rest))
           ∙ ap (λ (xs : List ℕ). out ++ xs) (sym (encodes-append b (l.text ++ rest)))
@@ -217,7 +217,7 @@ gathered folded chomp (l ∷ ls) out last =
       more.1,
     )
 
-first_of : (folded : Bool) (chomp : chomp_t) (leading : List ℕ) (m : yaml_mark_t) (ls : List Line) → behind_line folded chomp (before_lines leading m) ls ≡ block_value folded chomp leading ls
+first_of : (folded : Bool) (chomp : chomp_t) (leading : List ℕ) (m : yaml_mark_t) (ls : List Line) → value_after folded chomp (before_lines leading m) ls ≡ block_value folded chomp leading ls
 first_of folded STRIP leading m [] = refl
 first_of folded CLIP leading m [] = refl
 first_of folded KEEP leading m [] = refl

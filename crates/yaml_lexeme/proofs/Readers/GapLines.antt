@@ -6,19 +6,19 @@ use Rattle.std.specs.Prelude.{nat_lt}
 use Rattle.yaml_text.specs.Classes.{is_break}
 use Rattle.yaml_lexeme.specs.declared.runs.class_t.TheVariants.{SPACE}
 use Rattle.yaml_lexeme.specs.inside.Runs.{class_test}
-use Rattle.yaml_lexeme.proofs.Places.PlaceMoves.{length_skip, length_one, within_if, break_within, behind_none, behind_more, first_on}
+use Rattle.yaml_lexeme.proofs.Places.PlaceMoves.{length_skip, length_one, within_if, break_within, after_none, after_run_more, first_on}
 use Rattle.yaml_lexeme.specs.Classes.{is_in_line}
 use Rattle.yaml_lexeme.specs.Gap.{byte_order_mark, is_gap_blank, is_solid, after_mark, after_comment, after_gap_line, after_gap_lines, gap, IsGap}
-use Rattle.yaml_lexeme.specs.Place.{Place, first, peek, skip, behind, run_len, break_len}
+use Rattle.yaml_lexeme.specs.Place.{Place, first, peek, skip, after_run, run_len, break_len}
 
 pub within_line : (tabs : Bool) (p : Place) → length (after_gap_line tabs p).rest ≤ length p.rest
 unfolding after_gap_line
 within_line tabs p =
     let a = after_mark p in
-    let b = behind (is_gap_blank tabs) a in
+    let b = after_run (is_gap_blank tabs) a in
     let ha : length a.rest ≤ length p.rest = within_if (p.mark.column == 0 && first p == byte_order_mark) p (skip 1 p) p (omega (arith, length_skip 1 p)) (omega arith) in
     let hb : length b.rest ≤ length a.rest = omega (arith, length_skip (run_len (is_gap_blank tabs) a) a) in
-    let hc : length (after_comment b).rest ≤ length b.rest = within_if (first b == 0x23) b (behind is_in_line b) b (omega (arith, length_skip (run_len is_in_line b) b)) (omega arith) in
+    let hc : length (after_comment b).rest ≤ length b.rest = within_if (first b == 0x23) b (after_run is_in_line b) b (omega (arith, length_skip (run_len is_in_line b) b)) (omega arith) in
     omega arith
 
 abbrev pub next_line : Bool → Place → Place
@@ -85,9 +85,9 @@ mark_none : (p : Place) → (first p == byte_order_mark) ≡ false → after_mar
 mark_none p h = rw (h, and_right (p.mark.column == 0) false refl) refl
 
 -- a gap line that ends at q
-line_is : (tabs : Bool) (p q : Place) → (first p == byte_order_mark) ≡ false → behind (is_gap_blank tabs) p ≡ q → (first q == 0x23) ≡ false → after_gap_line tabs p ≡ q
+line_is : (tabs : Bool) (p q : Place) → (first p == byte_order_mark) ≡ false → after_run (is_gap_blank tabs) p ≡ q → (first q == 0x23) ≡ false → after_gap_line tabs p ≡ q
 unfolding after_gap_line
-line_is tabs p q m e h = ap (λ (r : Place). after_comment (behind (is_gap_blank tabs) r)) (mark_none p m) ∙ ap after_comment e ∙ rw h refl
+line_is tabs p q m e h = ap (λ (r : Place). after_comment (after_run (is_gap_blank tabs) r)) (mark_none p m) ∙ ap after_comment e ∙ rw h refl
 
 no_break : (p : Place) → is_break (first p) ≡ false → break_len p ≡ 0
 no_break p h = grind (arith, nat_tests)
@@ -107,7 +107,7 @@ gap_in_line flow allowed p q e h =
 pub gap_none : (p : Place) → is_solid (first p) ≡ true → IsGap p p false
 gap_none p h flow allowed =
     let s = solid_is (flow || not allowed) (first p) h in
-    gap_in_line flow allowed p p (line_is (flow || not allowed) p p s.mark (behind_none (is_gap_blank (flow || not allowed)) p s.blank) s.comment) (no_break p s.break)
+    gap_in_line flow allowed p p (line_is (flow || not allowed) p p s.mark (after_none (is_gap_blank (flow || not allowed)) p s.blank) s.comment) (no_break p s.break)
 
 pub gap_space : (p : Place) → first p ≡ 0x20 → is_solid (peek p 1) ≡ true → IsGap p (skip 1 p) false
 gap_space p e h flow allowed =
@@ -116,36 +116,36 @@ gap_space p e h flow allowed =
     let s = solid_is tabs (first q) (ap is_solid (first_on 1 p) ∙ h) in
     let mark : (first p == byte_order_mark) ≡ false = rw e refl in
     let blank : is_gap_blank tabs (first p) ≡ true = rw e refl in
-    let run = (behind_more (is_gap_blank tabs) p blank refl).1 ∙ behind_none (is_gap_blank tabs) q s.blank in
+    let run = (after_run_more (is_gap_blank tabs) p blank refl).1 ∙ after_none (is_gap_blank tabs) q s.blank in
     gap_in_line flow allowed p q (line_is tabs p q mark run s.comment) (no_break q s.break)
 
 -- a run goes on after a run of fewer characters
-run_on : (test more : ℕ → Bool) → ((c : ℕ) → test c ≡ true → more c ≡ true) → test 0 ≡ false → more 0 ≡ false → (fuel : ℕ) (p : Place) → length p.rest ≤ fuel → behind more p ≡ behind more (behind test p)
+run_on : (test more : ℕ → Bool) → ((c : ℕ) → test c ≡ true → more c ≡ true) → test 0 ≡ false → more 0 ≡ false → (fuel : ℕ) (p : Place) → length p.rest ≤ fuel → after_run more p ≡ after_run more (after_run test p)
 run_on test more sub z y zero p l =
     elim (cases_Bool (test (first p))) [
-      | inl t ↦ absurd (omega (arith, l, (behind_more test p t z).0))
-      | inr f ↦ ap (behind more) (sym (behind_none test p f))
+      | inl t ↦ absurd (omega (arith, l, (after_run_more test p t z).0))
+      | inr f ↦ ap (after_run more) (sym (after_none test p f))
     ]
 run_on test more sub z y (suc fuel) p l =
     elim (cases_Bool (test (first p))) [
       | inl t ↦
-          let a = behind_more test p t z in
-          let b = behind_more more p (sub (first p) t) y in
-          b.1 ∙ run_on test more sub z y fuel (skip 1 p) (omega (arith, l, a.0, length_one p)) ∙ ap (behind more) (sym a.1)
-      | inr f ↦ ap (behind more) (sym (behind_none test p f))
+          let a = after_run_more test p t z in
+          let b = after_run_more more p (sub (first p) t) y in
+          b.1 ∙ run_on test more sub z y fuel (skip 1 p) (omega (arith, l, a.0, length_one p)) ∙ ap (after_run more) (sym a.1)
+      | inr f ↦ ap (after_run more) (sym (after_none test p f))
     ]
 
 space_blank : (tabs : Bool) (c : ℕ) → class_test SPACE c ≡ true → is_gap_blank tabs c ≡ true
 space_blank tabs c h = grind (arith, nat_tests)
 
-space_no_mark : (p q : Place) → q ≡ behind (class_test SPACE) p → is_solid (first q) ≡ true → (first p == byte_order_mark) ≡ false
+space_no_mark : (p q : Place) → q ≡ after_run (class_test SPACE) p → is_solid (first q) ≡ true → (first p == byte_order_mark) ≡ false
 space_no_mark p q e h =
     elim (cases_Bool (class_test SPACE (first p))) [
       | inl t ↦ grind (arith, nat_tests)
-      | inr f ↦ let same : first q ≡ first p = ap (λ (r : Place). first r) (e ∙ behind_none (class_test SPACE) p f) in (solid_is false (first p) (ap is_solid (sym same) ∙ h)).mark
+      | inr f ↦ let same : first q ≡ first p = ap (λ (r : Place). first r) (e ∙ after_none (class_test SPACE) p f) in (solid_is false (first p) (ap is_solid (sym same) ∙ h)).mark
     ]
 
-pub gap_feed : (p q : Place) → first p ≡ 0x0A → q ≡ behind (class_test SPACE) (skip 1 p) → is_solid (first q) ≡ true → IsGap p q true
+pub gap_feed : (p q : Place) → first p ≡ 0x0A → q ≡ after_run (class_test SPACE) (skip 1 p) → is_solid (first q) ≡ true → IsGap p q true
 unfolding gap
 gap_feed p q e at h flow allowed =
     let tabs = flow || not allowed in
@@ -156,9 +156,9 @@ gap_feed p q e at h flow allowed =
     let comment : (first p == 0x23) ≡ false = rw e refl in
     let one : break_len p ≡ 1 = rw e refl in
     let some : nat_lt 0 (break_len p) ≡ true = rw one refl in
-    let front = line_is tabs p p mark (behind_none (is_gap_blank tabs) p none) comment in
-    let run : behind (is_gap_blank flow) r ≡ q =
-    run_on (class_test SPACE) (is_gap_blank flow) (space_blank flow) refl refl (length r.rest) r (omega arith) ∙ ap (behind (is_gap_blank flow)) (sym at) ∙ behind_none (is_gap_blank flow) q s.blank in
+    let front = line_is tabs p p mark (after_none (is_gap_blank tabs) p none) comment in
+    let run : after_run (is_gap_blank flow) r ≡ q =
+    run_on (class_test SPACE) (is_gap_blank flow) (space_blank flow) refl refl (length r.rest) r (omega arith) ∙ ap (after_run (is_gap_blank flow)) (sym at) ∙ after_none (is_gap_blank flow) q s.blank in
     let next : next_line flow p ≡ q = ap (λ n. after_gap_line flow (skip n p)) one ∙ line_is flow r q (space_no_mark r q at h) run s.comment in
     let n = length p.rest in
     let lines : after_gap_lines n flow p ≡ q =

@@ -15,15 +15,15 @@ use Rattle.yaml_lexeme.specs.declared.problem.yaml_problem_t.TheVariants.{COLON_
 use Rattle.yaml_lexeme.specs.declared.problem.yaml_refusal_t.{yaml_refusal_t}
 use Rattle.yaml_lexeme.specs.declared.problem.yaml_refusal_t.TheVariants as errors
 use Rattle.yaml_lexeme.proofs.Parts.PartByPart.{joined, many_turn, reads_all, reads_none, no_front}
-use Rattle.yaml_lexeme.proofs.Readers.QuotedRuns.{fold_none, no_breaks, column_behind, no_marker, space_first, stop_le, first_one}
-use Rattle.yaml_lexeme.proofs.Places.PlaceMoves.{skip_none, skip_skip, length_skip, behind_more, behind_none, rest_skip, solid}
+use Rattle.yaml_lexeme.proofs.Readers.QuotedRuns.{fold_none, no_breaks, column_after, no_marker, space_first, stop_le, first_one}
+use Rattle.yaml_lexeme.proofs.Places.PlaceMoves.{skip_none, skip_skip, length_skip, after_run_more, after_none, rest_skip, solid}
 use Rattle.yaml_lexeme.proofs.Readers.PlainLinks.{tab_from, separator_is, chunk_more, chunk_stop, chunk_there, Gap, at_gap, Passes, passes_more, passes_spaces, passes_all, passed, same_none, link_shortens, tail_all, tail_none, scalar_at, plain_is, after_head}
 use Rattle.yaml_lexeme.proofs.ManyBytes.TrimmedLists.{trims_at}
 use Rattle.yaml_lexeme.specs.Classes.{is_white}
 use Rattle.yaml_lexeme.specs.Fold.{fold}
 use Rattle.yaml_lexeme.specs.inside.Gives.{Refuses, TakesPart}
 use Rattle.yaml_lexeme.specs.Kind.{is_marker}
-use Rattle.yaml_lexeme.specs.Place.{Place, first, peek, skip, run, run_len, behind, width}
+use Rattle.yaml_lexeme.specs.Place.{Place, first, peek, skip, run, run_len, after_run, width}
 use Rattle.yaml_lexeme.specs.declared.runs.class_t.TheVariants.{SPACE}
 use Rattle.yaml_lexeme.specs.Plain.{is_bad_tab, untabbed, is_bad_colon, is_chunk, chunk, separator, is_over, link, plain}
 use Rattle.yaml_lexeme.specs.Reading.{Offence, Read, found, refuse, Part, part, over, many, with_front, go_on, ◌>>=◌}
@@ -125,11 +125,11 @@ words_blanks : (flow : Bool) (least n : ℕ) (p : Place) → n ≡ prefix_len is
     → class_test (plain_of flow) (first (skip n p)) ≡ true → is_white (first (skip n p)) ≡ false → words flow least p ≡ with_front (utf8 (take n p.rest)) (words flow least (skip n p))
 words_blanks flow least n p e w some clean far line solid =
     let q = skip n p in
-    let at : behind is_white p ≡ q = ap (λ i. skip i p) (sym e) in
+    let at : after_run is_white p ≡ q = ap (λ i. skip i p) (sym e) in
     let tab : tab_from least false p.mark p.rest ≡ None = tab_none least p.mark p.rest (λ i l. clean i (omega (arith, e))) in
-    let read : separator least p ≡ found (fold (run is_white p)) q = separator_is least p ∙ ap (λ o. untabbed o (fold (run is_white p)) (behind is_white p)) tab ∙ ap (λ (x : Place). found (fold (run is_white p)) x) at in
+    let read : separator least p ≡ found (fold (run is_white p)) q = separator_is least p ∙ ap (λ o. untabbed o (fold (run is_white p)) (after_run is_white p)) tab ∙ ap (λ (x : Place). found (fold (run is_white p)) x) at in
     let within : n ≤ length p.rest = omega (arith, e, prefix_len-le-length is_white p.rest) in
-    let col : q.mark.column ≡ p.mark.column + n = column_behind n p within clean in
+    let col : q.mark.column ≡ p.mark.column + n = column_after n p within clean in
     let unmark : is_marker q ≡ false = no_marker q (omega (arith, col)) in
     let a : (not flow && nat_lt q.mark.column least) ≡ false = ap (λ i. not flow && nat_lt i least) col ∙ over_not flow least p.mark.column n some far in
     let b : (first q == 0x23) ≡ false = (line_char flow (first q) line).1 in
@@ -148,8 +148,8 @@ pub record Solid (flow : Bool) (k : ℕ) (cs : List ℕ) : Type 0 where
   pub each : (i : ℕ) → i < k → class_test (plain_of flow) (get_or cs i 0) ≡ true
   pub last : 0 < k → is_white (get_or cs (k - 1) 0) ≡ false
 
-solid_behind : (flow : Bool) (a b k : ℕ) (cs : List ℕ) → a + b ≡ k → 0 < b → Solid flow k cs → Solid flow b (drop a cs)
-solid_behind flow a b k cs e some s = record {
+solid_after : (flow : Bool) (a b k : ℕ) (cs : List ℕ) → a + b ≡ k → 0 < b → Solid flow k cs → Solid flow b (drop a cs)
+solid_after flow a b k cs e some s = record {
   within = omega (arith, length-drop a cs, s.within);
   each = λ i h. ap (class_test (plain_of flow)) (get_or-drop a cs i 0) ∙ s.each (a + i) (omega arith);
   last = λ h. let i : a + (b - 1) ≡ k - 1 = omega arith in ap is_white (get_or-drop a cs (b - 1) 0 ∙ ap (λ n. get_or cs n 0) i) ∙ s.last (omega arith);
@@ -189,18 +189,18 @@ words_over flow least (suc fuel) (suc k) p le s far =
           let solid : is_white (first (skip n p)) ≡ false = ap is_white next ∙ prefix_len_stops is_white cs 0 (omega (arith, s.within)) in
           let b = suc k - n in
           let sum : n + b ≡ suc k = omega arith in
-          let col : (skip n p).mark.column ≡ p.mark.column + n = column_behind n p (prefix_len-le-length is_white cs) clean in
-          let more = words_over flow least fuel b (skip n p) (omega arith) (subst (λ (x : List ℕ). Solid flow b x) (sym (rest_skip n p)) (solid_behind flow n b (suc k) cs sum (omega arith) s)) (far_on flow least p (skip n p) (omega (arith, col)) far) in
+          let col : (skip n p).mark.column ≡ p.mark.column + n = column_after n p (prefix_len-le-length is_white cs) clean in
+          let more = words_over flow least fuel b (skip n p) (omega arith) (subst (λ (x : List ℕ). Solid flow b x) (sym (rest_skip n p)) (solid_after flow n b (suc k) cs sum (omega arith) s)) (far_on flow least p (skip n p) (omega (arith, col)) far) in
           two flow least p n b (suc k) sum (words_blanks flow least n p refl w n-some clean far line solid) more
       | inr w ↦
           let one : words flow least p ≡ with_front (utf8 (take 1 cs)) (words flow least (skip 1 p)) =
           words_more flow least p (solid_chunk flow (first p) (peek p 1) on w) ∙ ap (λ (xs : List ℕ). with_front xs (words flow least (skip 1 p))) (sym (ap utf8 (first_one cs some) ∙ append-nil (encode_utf8 (first p)))) in
           let clean : (i : ℕ) → i < 1 → is_break (get_or cs i 0) ≡ false = λ i h. (line_char flow (get_or cs i 0) (s.each i (omega arith))).0 in
-          let col : (skip 1 p).mark.column ≡ p.mark.column + 1 = column_behind 1 p some clean in
+          let col : (skip 1 p).mark.column ≡ p.mark.column + 1 = column_after 1 p some clean in
           elim (cases_lt 0 k) [
             | inl more ↦
                 let sum : 1 + k ≡ suc k = omega arith in
-                let rest = words_over flow least fuel k (skip 1 p) (omega arith) (subst (λ (x : List ℕ). Solid flow k x) (sym (rest_skip 1 p)) (solid_behind flow 1 k (suc k) cs sum more s)) (far_on flow least p (skip 1 p) (omega (arith, col)) far) in
+                let rest = words_over flow least fuel k (skip 1 p) (omega arith) (subst (λ (x : List ℕ). Solid flow k x) (sym (rest_skip 1 p)) (solid_after flow 1 k (suc k) cs sum more s)) (far_on flow least p (skip 1 p) (omega (arith, col)) far) in
                 two flow least p 1 k (suc k) sum one rest
             | inr none ↦ let e : 1 ≡ suc k = omega arith in subst (λ n. words flow least p ≡ with_front (utf8 (take n cs)) (words flow least (skip n p))) e one
           ]
@@ -289,9 +289,9 @@ pub links_go_wrong : (error : yaml_refusal_t) (before after : Read (List ℕ)) (
 links_go_wrong errors.MEMORY before after q e h = tt
 links_go_wrong (errors.OFFENCE problem) before after q e h = e ∙ h
 
-pub white_shorter : (p q : Place) → is_white (first p) ≡ true → q ≡ behind is_white p → length q.rest < length p.rest
+pub white_shorter : (p q : Place) → is_white (first p) ≡ true → q ≡ after_run is_white p → length q.rest < length p.rest
 white_shorter p q w e =
-    let t = behind_more is_white p w refl in
+    let t = after_run_more is_white p w refl in
     omega (arith, ap (λ (x : Place). length x.rest) (e ∙ t.1), t.0, length_skip (run_len is_white (skip 1 p)) (skip 1 p), length_skip 1 p)
 
 -- ---- the end of a scalar
@@ -301,7 +301,7 @@ pub links_end : (flow : Bool) (least : ℕ) (p : Place) (out : List ℕ) → lin
 links_end flow least p out h = links_over flow least p p out (same_none (link flow least p) out p p h refl)
 
 -- a line feed and spaces, before a line that is not indented enough
-pub over_below : (flow : Bool) (least : ℕ) (p q : Place) → flow ≡ false → first p ≡ 10 → q ≡ behind (class_test SPACE) (skip 1 p) → is_white (first q) ≡ false → q.mark.column < least → (link flow least p ≡ over) × (q ≡ behind is_white p)
+pub over_below : (flow : Bool) (least : ℕ) (p q : Place) → flow ≡ false → first p ≡ 10 → q ≡ after_run (class_test SPACE) (skip 1 p) → is_white (first q) ≡ false → q.mark.column < least → (link flow least p ≡ over) × (q ≡ after_run is_white p)
 over_below flow least p q block feed e stop low =
     let w : is_white (first p) ≡ true = rw feed refl in
     let fine : is_bad_tab least false p ≡ false = rw feed refl in
@@ -315,7 +315,7 @@ over_below flow least p q block feed e stop low =
 pub passed_feed : (p : Place) → first p ≡ 10 → list_any is_break (run is_white p) ≡ true
 passed_feed p feed =
     let none : is_blank (first p) ≡ false = rw feed refl in
-    passed p ∙ ap (λ (q : Place). is_break (first q)) (behind_none is_blank p none) ∙ rw feed refl
+    passed p ∙ ap (λ (q : Place). is_break (first q)) (after_none is_blank p none) ∙ rw feed refl
 
 -- the words of the first line are appended
 pub plain_out : (flow : Bool) (least : ℕ) (p q : Place) (out piece : List ℕ) → words flow least p ≡ with_front piece (words flow least q) → is_chunk flow (first q) (peek q 1) ≡ false → is_bad_colon flow (first q) (peek q 1) ≡ false → out ≡ piece

@@ -10,13 +10,13 @@ use Rattle.yaml_lexeme.specs.declared.problem.yaml_problem_t.{yaml_problem_t}
 use Rattle.yaml_lexeme.specs.Lexeme.{Scalar as scalar_t}
 use Rattle.yaml_lexeme.specs.declared.problem.yaml_problem_t.TheVariants.{COLON_IN_FLOW, TAB_IN_PLAIN}
 use Rattle.yaml_lexeme.proofs.Parts.PartByPart.{IsShorter, Shortens, joined}
-use Rattle.yaml_lexeme.proofs.Places.PlaceMoves.{length_skip, length_one, is_there, behind_more, behind_none, blank_white, first_on, rest_skip, skip_none, skip_skip}
-use Rattle.yaml_lexeme.proofs.Readers.FoldSeparators.{run_more, run_none, behind_blanks, stopped as run_stopped}
+use Rattle.yaml_lexeme.proofs.Places.PlaceMoves.{length_skip, length_one, is_there, after_run_more, after_none, blank_white, first_on, rest_skip, skip_none, skip_skip}
+use Rattle.yaml_lexeme.proofs.Readers.FoldSeparators.{run_more, run_none, after_run_blanks, stopped as run_stopped}
 use Rattle.yaml_lexeme.proofs.Parts.ReadResults.{value_or, end_or}
 use Rattle.yaml_lexeme.specs.Classes.{is_white, ends}
 use Rattle.yaml_lexeme.specs.Fold.{fold}
 use Rattle.yaml_lexeme.specs.inside.Gives.{Refuses, TakesPart, TakesRead}
-use Rattle.yaml_lexeme.specs.Place.{Place, first, peek, skip, skip_from, run, run_len, behind, mark_behind}
+use Rattle.yaml_lexeme.specs.Place.{Place, first, peek, skip, skip_from, run, run_len, after_run, mark_after}
 use Rattle.yaml_lexeme.specs.Plain.{is_bad_tab, has_bad_tab, bad_tab, is_flow_indicator, is_bad_colon, is_chunk, chunk_len, chunk, untabbed, separator, is_over, link, plain}
 use Rattle.yaml_lexeme.specs.Reading.{Read, found, Part, part, refuse, over, many, with_front, ◌>>=◌}
 use Rattle.yaml_text.specs.Chars.{utf8}
@@ -38,7 +38,7 @@ unfolding chunk skip
 chunk_step flow m [] h = absurd cc
 chunk_step flow m (c ∷ cs) h =
     let k : 1 + chunk_len flow cs ≡ suc (chunk_len flow cs) = omega arith in
-    let end : Place = skip_from (chunk_len flow cs) (mark_behind m c (slice_index cs 0)) cs in
+    let end : Place = skip_from (chunk_len flow cs) (mark_after m c (slice_index cs 0)) cs in
     rw (h, k) (one_front (is_bad_colon flow (first end) (peek end 1)) c (take (chunk_len flow cs) cs) end)
 
 -- a chunk's first character, and the others
@@ -65,7 +65,7 @@ tab_from least broken m [] = None
 tab_from least broken m (c ∷ cs) =
     if not (is_white c) then None
     else if (c == 0x09 && broken) && nat_lt m.column least then Some (record { mark = m; rest = c ∷ cs })
-    else tab_from least (broken || is_break c) (mark_behind m c (slice_index cs 0)) cs
+    else tab_from least (broken || is_break c) (mark_after m c (slice_index cs 0)) cs
 
 -- the same from a place on
 abbrev pub tab_at : ℕ → Bool → Place → Option Place
@@ -146,10 +146,10 @@ tab_is least p = sym (ap (tab_at least false) (sym (skip_none p)) ∙ find_from 
 -- a separator is being passed
 pub record Passes (least : ℕ) (broken : Bool) (p start : Place) : Type 0 where
   pub tab : tab_at least broken p ≡ tab_at least false start
-  pub end : behind is_white p ≡ behind is_white start
+  pub end : after_run is_white p ≡ after_run is_white start
 
 pub passes_more : (least : ℕ) (broken : Bool) (p start : Place) → is_white (first p) ≡ true → is_bad_tab least broken p ≡ false → Passes least broken p start → Passes least (broken || is_break (first p)) (skip 1 p) start
-passes_more least broken p start h t s = record { tab = sym (tab_more least broken p h t) ∙ s.tab; end = sym (behind_more is_white p h refl).1 ∙ s.end }
+passes_more least broken p start h t s = record { tab = sym (tab_more least broken p h t) ∙ s.tab; end = sym (after_run_more is_white p h refl).1 ∙ s.end }
 
 space_is : (c : ℕ) → class_test SPACE c ≡ true → (is_white c ≡ true) × ((c == 0x09) ≡ false) × (is_break c ≡ false)
 space_is c h = (grind (arith, nat_tests), grind (arith, nat_tests), grind (arith, nat_tests))
@@ -166,36 +166,36 @@ one_space least broken p start h s =
     let same : (broken || is_break (first p)) ≡ broken = ap (λ b. broken || b) c.2 ∙ or_none broken in
     subst (λ b. Passes least b (skip 1 p) start) same next
 
-spaces_from : (least : ℕ) (broken : Bool) (fuel : ℕ) (p start : Place) → length p.rest ≤ fuel → Passes least broken p start → Passes least broken (behind (class_test SPACE) p) start
+spaces_from : (least : ℕ) (broken : Bool) (fuel : ℕ) (p start : Place) → length p.rest ≤ fuel → Passes least broken p start → Passes least broken (after_run (class_test SPACE) p) start
 spaces_from least broken zero p start l s =
     elim (cases_Bool (class_test SPACE (first p))) [
-      | inl t ↦ absurd (omega (arith, l, (behind_more (class_test SPACE) p t refl).0))
-      | inr f ↦ subst (λ (q : Place). Passes least broken q start) (sym (behind_none (class_test SPACE) p f)) s
+      | inl t ↦ absurd (omega (arith, l, (after_run_more (class_test SPACE) p t refl).0))
+      | inr f ↦ subst (λ (q : Place). Passes least broken q start) (sym (after_none (class_test SPACE) p f)) s
     ]
 spaces_from least broken (suc fuel) p start l s =
     elim (cases_Bool (class_test SPACE (first p))) [
       | inl t ↦
-          let m = behind_more (class_test SPACE) p t refl in
+          let m = after_run_more (class_test SPACE) p t refl in
           let shorter : length (skip 1 p).rest ≤ fuel = omega (arith, l, length_one p) in
           subst (λ (q : Place). Passes least broken q start) (sym m.1) (spaces_from least broken fuel (skip 1 p) start shorter (one_space least broken p start t s))
-      | inr f ↦ subst (λ (q : Place). Passes least broken q start) (sym (behind_none (class_test SPACE) p f)) s
+      | inr f ↦ subst (λ (q : Place). Passes least broken q start) (sym (after_none (class_test SPACE) p f)) s
     ]
 
 -- spaces after what was passed
-pub passes_spaces : (least : ℕ) (broken : Bool) (p start : Place) → Passes least broken p start → Passes least broken (behind (class_test SPACE) p) start
+pub passes_spaces : (least : ℕ) (broken : Bool) (p start : Place) → Passes least broken p start → Passes least broken (after_run (class_test SPACE) p) start
 passes_spaces least broken p start s = spaces_from least broken (length p.rest) p start (omega arith) s
 
 -- a separator, by that search
-pub separator_is : (least : ℕ) (p : Place) → separator least p ≡ untabbed (tab_at least false p) (fold (run is_white p)) (behind is_white p)
+pub separator_is : (least : ℕ) (p : Place) → separator least p ≡ untabbed (tab_at least false p) (fold (run is_white p)) (after_run is_white p)
 unfolding separator
-separator_is least p = ap (λ o. untabbed o (fold (run is_white p)) (behind is_white p)) (tab_is least p)
+separator_is least p = ap (λ o. untabbed o (fold (run is_white p)) (after_run is_white p)) (tab_is least p)
 
 pub passes_none : (least : ℕ) (broken : Bool) (p start : Place) → is_white (first p) ≡ true → is_bad_tab least broken p ≡ true → Passes least broken p start → separator least start ≡ refuse TAB_IN_PLAIN p
-passes_none least broken p start h t s = separator_is least start ∙ ap (λ o. untabbed o (fold (run is_white start)) (behind is_white start)) (sym s.tab ∙ tab_here least broken p h t)
+passes_none least broken p start h t s = separator_is least start ∙ ap (λ o. untabbed o (fold (run is_white start)) (after_run is_white start)) (sym s.tab ∙ tab_here least broken p h t)
 
-pub passes_all : (least : ℕ) (broken : Bool) (p start : Place) → is_white (first p) ≡ false → Passes least broken p start → (separator least start ≡ found (fold (run is_white start)) (behind is_white start)) × (p ≡ behind is_white start)
+pub passes_all : (least : ℕ) (broken : Bool) (p start : Place) → is_white (first p) ≡ false → Passes least broken p start → (separator least start ≡ found (fold (run is_white start)) (after_run is_white start)) × (p ≡ after_run is_white start)
 passes_all least broken p start h s =
-    (separator_is least start ∙ ap (λ o. untabbed o (fold (run is_white start)) (behind is_white start)) (sym s.tab ∙ tab_over least broken p.mark p.rest h), sym (behind_none is_white p h) ∙ s.end)
+    (separator_is least start ∙ ap (λ o. untabbed o (fold (run is_white start)) (after_run is_white start)) (sym s.tab ∙ tab_over least broken p.mark p.rest h), sym (after_none is_white p h) ∙ s.end)
 
 pub takes_found : (read : Read (List ℕ)) (value : List ℕ) (p q : Place) → (read ≡ found value q) × (p ≡ q) → TakesRead (λ run. []) read [] [] p
 takes_found read value p q h = rw (h.0) (refl, h.1)
@@ -206,18 +206,18 @@ unfolding link
 link_none flow least p h = rw h refl
 
 -- the part of a link after its separator
-abbrev pub behind_gap : Bool → ℕ → List ℕ → Place → Part (List ℕ)
-behind_gap flow least gap q =
+abbrev pub after_gap : Bool → ℕ → List ℕ → Place → Part (List ℕ)
+after_gap flow least gap q =
     if is_over flow least q then over
     else chunk flow q >>= λ c.
     if length c.value == 0 then over else part (gap ++ c.value) c.end
 
-link_gap : (flow : Bool) (least : ℕ) (p : Place) → is_white (first p) ≡ true → link flow least p ≡ separator least p >>= λ gap. behind_gap flow least gap.value gap.end
+link_gap : (flow : Bool) (least : ℕ) (p : Place) → is_white (first p) ≡ true → link flow least p ≡ separator least p >>= λ gap. after_gap flow least gap.value gap.end
 unfolding link
 link_gap flow least p h = rw h refl
 
-link_from : (flow : Bool) (least : ℕ) (p : Place) (gap : List ℕ) (q : Place) → is_white (first p) ≡ true → separator least p ≡ found gap q → link flow least p ≡ behind_gap flow least gap q
-link_from flow least p gap q h e = link_gap flow least p h ∙ ap (λ (r : Read (List ℕ)). r >>= λ gap. behind_gap flow least gap.value gap.end) e
+link_from : (flow : Bool) (least : ℕ) (p : Place) (gap : List ℕ) (q : Place) → is_white (first p) ≡ true → separator least p ≡ found gap q → link flow least p ≡ after_gap flow least gap q
+link_from flow least p gap q h e = link_gap flow least p h ∙ ap (λ (r : Read (List ℕ)). r >>= λ gap. after_gap flow least gap.value gap.end) e
 
 pub same_none : (read : Part (List ℕ)) (old : List ℕ) (p q : Place) → read ≡ over → q ≡ p → TakesPart utf8 read false old old p q
 same_none read old p q h e = rw h (refl, e)
@@ -230,20 +230,20 @@ gap_by None value end q h = (rw h.1 refl, h.1)
 gap_by (Some t) value end q h = absurd h
 
 -- what passing a separator said
-pub gap_is : (least : ℕ) (p q : Place) → TakesRead (λ run. []) (separator least p) [] [] q → (separator least p ≡ found (fold (run is_white p)) q) × (q ≡ behind is_white p)
+pub gap_is : (least : ℕ) (p q : Place) → TakesRead (λ run. []) (separator least p) [] [] q → (separator least p ≡ found (fold (run is_white p)) q) × (q ≡ after_run is_white p)
 unfolding separator
-gap_is least p q h = gap_by (bad_tab least p) (fold (run is_white p)) (behind is_white p) q h
+gap_is least p q h = gap_by (bad_tab least p) (fold (run is_white p)) (after_run is_white p) q h
 
 pub link_refused : (error : yaml_refusal_t) (flow : Bool) (least : ℕ) (p q : Place) → is_white (first p) ≡ true → Refuses error q (separator least p) → Refuses error q (link flow least p)
 link_refused errors.MEMORY flow least p q h e = tt
-link_refused (errors.OFFENCE problem) flow least p q h e = link_gap flow least p h ∙ ap (λ (r : Read (List ℕ)). r >>= λ gap. behind_gap flow least gap.value gap.end) e
+link_refused (errors.OFFENCE problem) flow least p q h e = link_gap flow least p h ∙ ap (λ (r : Read (List ℕ)). r >>= λ gap. after_gap flow least gap.value gap.end) e
 
 -- what taking a link knows of its separator, which ends at q
 pub record Gap (flow : Bool) (least : ℕ) (p q : Place) : Type 0 where
   pub space : is_white (first p) ≡ true
   pub read : separator least p ≡ found (fold (run is_white p)) q
 
-pub at_gap : (flow : Bool) (least : ℕ) (p q : Place) → Gap flow least p q → link flow least p ≡ behind_gap flow least (fold (run is_white p)) q
+pub at_gap : (flow : Bool) (least : ℕ) (p q : Place) → Gap flow least p q → link flow least p ≡ after_gap flow least (fold (run is_white p)) q
 at_gap flow least p q g = link_from flow least p (fold (run is_white p)) q g.space g.read
 
 pub is_over_there : (flow : Bool) (least : ℕ) (p q start : Place) (old : List ℕ) → Gap flow least p q → is_over flow least q ≡ true → start ≡ p → TakesPart utf8 (link flow least p) false old old p start
@@ -301,7 +301,7 @@ chunk_near flow p q h =
     let end = skip n q in
     near_if (is_bad_colon flow (first end) (peek end 1)) (take n q.rest) p end (omega (arith, length_skip n q))
 
-shorter_tab : (o : Option Place) (flow : Bool) (least : ℕ) (gap : List ℕ) (p q : Place) → length q.rest < length p.rest → IsShorter p (untabbed o gap q >>= λ g. behind_gap flow least g.value g.end)
+shorter_tab : (o : Option Place) (flow : Bool) (least : ℕ) (gap : List ℕ) (p q : Place) → length q.rest < length p.rest → IsShorter p (untabbed o gap q >>= λ g. after_gap flow least g.value g.end)
 shorter_tab None flow least gap p q h = shorter_gap (is_over flow least q) (chunk flow q) gap p (chunk_near flow p q h)
 shorter_tab (Some t) flow least gap p q h = tt
 
@@ -310,8 +310,8 @@ pub link_shortens : (flow : Bool) (least : ℕ) → Shortens (link flow least)
 link_shortens flow least p =
     elim (cases_Bool (is_white (first p))) [
       | inl space ↦
-          let t = behind_more is_white p space refl in
-          let q = behind is_white p in
+          let t = after_run_more is_white p space refl in
+          let q = after_run is_white p in
           let near : length q.rest < length p.rest = rw t.1 (omega (arith, t.0, length_skip (run_len is_white (skip 1 p)) (skip 1 p), length_skip 1 p)) in
           rw (link_gap flow least p space, separator_is least p) (shorter_tab (tab_at least false p) flow least (fold (run is_white p)) p q near)
       | inr other ↦ rw (link_none flow least p other) tt
@@ -319,7 +319,7 @@ link_shortens flow least p =
 
 -- a scalar, from the bytes and the place where its last chunk ends
 abbrev pub scalar_at : List ℕ → Place → Read scalar_t
-scalar_at bytes q = found (record { value = bytes; end = q.mark; passed_break = list_any is_break (run is_white q) }) (behind is_white q)
+scalar_at bytes q = found (record { value = bytes; end = q.mark; passed_break = list_any is_break (run is_white q) }) (after_run is_white q)
 
 -- what follows the bytes of the first chunk
 abbrev pub tail_of : List ℕ → Read (List (List ℕ)) → Read scalar_t
@@ -345,20 +345,20 @@ pub tail_none : (m : Read (List (List ℕ))) (front : List ℕ) (problem : yaml_
 tail_none (Ok links) front problem q h = absurd cc
 tail_none (Err e) front problem q h = ap refusal h
 
-any_behind : (n : ℕ) (p : Place) → length p.rest ≤ n → list_any is_break (run is_white p) ≡ list_any is_break (run is_white (behind is_blank p))
-any_behind zero p h =
+any_after : (n : ℕ) (p : Place) → length p.rest ≤ n → list_any is_break (run is_white p) ≡ list_any is_break (run is_white (after_run is_blank p))
+any_after zero p h =
     elim (cases_Bool (is_blank (first p))) [
-      | inl blank ↦ absurd (omega (arith, (behind_more is_blank p blank refl).0))
-      | inr other ↦ rw (behind_none is_blank p other) refl
+      | inl blank ↦ absurd (omega (arith, (after_run_more is_blank p blank refl).0))
+      | inr other ↦ rw (after_none is_blank p other) refl
     ]
-any_behind (suc n) p h =
+any_after (suc n) p h =
     elim (cases_Bool (is_blank (first p))) [
       | inl blank ↦
-          let t = behind_more is_blank p blank refl in
+          let t = after_run_more is_blank p blank refl in
           let space : is_white (first p) ≡ true = blank_white (first p) blank in
           let other : is_break (first p) ≡ false = blank_no_break (first p) blank in
-          rw t.1 (ap (list_any is_break) (run_more is_white p space refl) ∙ rw other (any_behind n (skip 1 p) (omega (arith, t.0, length_one p))))
-      | inr other ↦ rw (behind_none is_blank p other) refl
+          rw t.1 (ap (list_any is_break) (run_more is_white p space refl) ∙ rw other (any_after n (skip 1 p) (omega (arith, t.0, length_one p))))
+      | inr other ↦ rw (after_none is_blank p other) refl
     ]
 
 break_any : (b : Bool) (q : Place) → is_break (first q) ≡ b → is_blank (first q) ≡ false → list_any is_break (run is_white q) ≡ b
@@ -366,14 +366,14 @@ break_any true q e h = ap (list_any is_break) (run_more is_white q (break_space 
 break_any false q e h = ap (list_any is_break) (run_none is_white q (neither_space (first q) e h))
 
 -- whether a break is in a run
-pub passed : (p : Place) → list_any is_break (run is_white p) ≡ is_break (first (behind is_blank p))
-passed p = any_behind (length p.rest) p (omega arith) ∙ break_any (is_break (first (behind is_blank p))) (behind is_blank p) refl (run_stopped is_blank p refl)
+pub passed : (p : Place) → list_any is_break (run is_white p) ≡ is_break (first (after_run is_blank p))
+passed p = any_after (length p.rest) p (omega arith) ∙ break_any (is_break (first (after_run is_blank p))) (after_run is_blank p) refl (run_stopped is_blank p refl)
 
 -- the scalar as the code makes it
-pub scalar_made : (flow : Bool) (least : ℕ) (p q r : Place) (out : List ℕ) (end : yaml_mark_t) (b : Bool) → plain flow least p ≡ scalar_at out q → end ≡ q.mark → b ≡ is_break (first (behind is_blank q)) → r ≡ behind is_white (behind is_blank q)
+pub scalar_made : (flow : Bool) (least : ℕ) (p q r : Place) (out : List ℕ) (end : yaml_mark_t) (b : Bool) → plain flow least p ≡ scalar_at out q → end ≡ q.mark → b ≡ is_break (first (after_run is_blank q)) → r ≡ after_run is_white (after_run is_blank q)
     → plain flow least p ≡ found (record { value = out; end = end; passed_break = b }) r
-scalar_made flow least p q r out end b h m e f = rw (m, e, f, ← passed q, ← (behind_blanks q).1) h
+scalar_made flow least p q r out end b h m e f = rw (m, e, f, ← passed q, ← (after_run_blanks q).1) h
 
-pub scalar_ends : (flow : Bool) (least : ℕ) (p q r : Place) (out : List ℕ) (end : yaml_mark_t) (b : Bool) → plain flow least p ≡ scalar_at out q → end ≡ q.mark → b ≡ list_any is_break (run is_white q) → r ≡ behind is_white q
+pub scalar_ends : (flow : Bool) (least : ℕ) (p q r : Place) (out : List ℕ) (end : yaml_mark_t) (b : Bool) → plain flow least p ≡ scalar_at out q → end ≡ q.mark → b ≡ list_any is_break (run is_white q) → r ≡ after_run is_white q
     → plain flow least p ≡ found (record { value = out; end = end; passed_break = b }) r
 scalar_ends flow least p q r out end b m e h f = rw (m, e, h, f) refl

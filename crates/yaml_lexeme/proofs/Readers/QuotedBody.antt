@@ -7,14 +7,14 @@ use Rattle.yaml_lexeme.specs.declared.problem.yaml_refusal_t.{yaml_refusal_t}
 use Rattle.yaml_lexeme.specs.declared.problem.yaml_refusal_t.TheVariants as errors
 use Rattle.yaml_lexeme.specs.declared.problem.yaml_problem_t.TheVariants.{DOCUMENT_MARKER, END_OF_TEXT, NO_HEX_DIGIT, NO_SCALAR_VALUE}
 use Rattle.yaml_lexeme.proofs.Parts.PartByPart.{IsShorter, Shortens}
-use Rattle.yaml_lexeme.proofs.Places.PlaceMoves.{length_skip, is_there, behind_more, some_char}
+use Rattle.yaml_lexeme.proofs.Places.PlaceMoves.{length_skip, is_there, after_run_more, some_char}
 use Rattle.yaml_lexeme.proofs.Readers.FoldSeparators.{breaks_at}
 use Rattle.yaml_lexeme.specs.Classes.{is_white}
 use Rattle.yaml_lexeme.specs.Escape.{escape, hex_escape, simple_at, hex_len, simple_escape, is_scalar}
 use Rattle.yaml_lexeme.specs.Fold.{fold}
 use Rattle.yaml_lexeme.specs.inside.Gives.{Refuses, TakesPart, Takes}
 use Rattle.yaml_lexeme.specs.Kind.{is_marker}
-use Rattle.yaml_lexeme.specs.Place.{Place, first, peek, skip, run, run_len, behind, break_len}
+use Rattle.yaml_lexeme.specs.Place.{Place, first, peek, skip, run, run_len, after_run, break_len}
 use Rattle.yaml_lexeme.specs.Quoted.{quote, unmarked, body_part, spelled, quoted}
 use Rattle.yaml_lexeme.specs.Reading.{Read, found, Part, part, refuse, over, many, ◌>>=◌}
 use Rattle.yaml_text.specs.Chars.{utf8}
@@ -23,7 +23,7 @@ use Rattle.std.specs.List.{list_all}
 use Rattle.std.specs.Str.Parse.{digits_value}
 
 -- what a space, a doubled quote, a character and a dropped break give
-pub at_space : (single : Bool) (p : Place) → is_z (first p) ≡ false → is_white (first p) ≡ true → body_part single p ≡ unmarked (fold (run is_white p)) (behind is_white p)
+pub at_space : (single : Bool) (p : Place) → is_z (first p) ≡ false → is_white (first p) ≡ true → body_part single p ≡ unmarked (fold (run is_white p)) (after_run is_white p)
 unfolding body_part
 at_space single p e s = rw (e, s) refl
 
@@ -38,7 +38,7 @@ unfolding body_part
 at_char single p e s q d = rw (e, s, q, d) refl
 
 pub at_break : (single : Bool) (p : Place) → is_z (first p) ≡ false → is_white (first p) ≡ false → (first p == quote single) ≡ false → (single || not (first p == 0x5C)) ≡ false
-    → is_break (peek p 1) ≡ true → let q = skip (break_len (skip 1 p)) (skip 1 p) in body_part single p ≡ unmarked (breaks_at q) (behind is_white q)
+    → is_break (peek p 1) ≡ true → let q = skip (break_len (skip 1 p)) (skip 1 p) in body_part single p ≡ unmarked (breaks_at q) (after_run is_white q)
 unfolding body_part
 at_break single p e s q d b = rw (e, s, q, d, b) refl
 
@@ -111,7 +111,7 @@ inside : (single : Bool) (p : Place) → is_z (first p) ≡ false → 0 < length
 inside single p e h =
     let c = first p in
     elim (cases_Bool (is_white c)) [
-      | inl s ↦ let t = behind_more is_white p s refl in rw (at_space single p e s) (short_unmarked p (behind is_white p) (fold (run is_white p)) (rw t.1 (omega (arith, length_skip (run_len is_white (skip 1 p)) (skip 1 p), length_skip 1 p))))
+      | inl s ↦ let t = after_run_more is_white p s refl in rw (at_space single p e s) (short_unmarked p (after_run is_white p) (fold (run is_white p)) (rw t.1 (omega (arith, length_skip (run_len is_white (skip 1 p)) (skip 1 p), length_skip 1 p))))
       | inr s ↦
           elim (cases_Bool (c == quote single)) [
             | inl q ↦
@@ -126,7 +126,7 @@ inside single p e h =
                       elim (cases_Bool (is_break (peek p 1))) [
                         | inl b ↦
                             let r = skip (break_len (skip 1 p)) (skip 1 p) in
-                            rw (at_break single p e s q d b) (short_unmarked p (behind is_white r) (breaks_at r) (omega (arith, length_skip (run_len is_white r) r, length_skip (break_len (skip 1 p)) (skip 1 p), length_skip 1 p)))
+                            rw (at_break single p e s q d b) (short_unmarked p (after_run is_white r) (breaks_at r) (omega (arith, length_skip (run_len is_white r) r, length_skip (break_len (skip 1 p)) (skip 1 p), length_skip 1 p)))
                         | inr b ↦ rw (at_escape single p e s q d b) (short_bind p (escape p) (near_escape p h))
                       ]
                 ]

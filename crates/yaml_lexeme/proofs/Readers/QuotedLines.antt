@@ -11,13 +11,13 @@ use Rattle.yaml_lexeme.specs.declared.runs.class_t.{class_t}
 use Rattle.yaml_lexeme.proofs.Readers.QuotedBody.{at_space, body_shortens}
 use Rattle.yaml_lexeme.proofs.Parts.PartByPart.{Reading, joined, many_turn}
 use Rattle.yaml_lexeme.proofs.Readers.QuotedRuns.{Whole, parts_over, in_quotes, stop_le}
-use Rattle.yaml_lexeme.proofs.Places.PlaceMoves.{class_end, skip_skip, behind_none, rest_skip, is_break_len, solid, blank_white}
+use Rattle.yaml_lexeme.proofs.Places.PlaceMoves.{class_end, skip_skip, after_none, rest_skip, is_break_len, solid, blank_white}
 use Rattle.yaml_lexeme.proofs.Readers.FoldSeparators.{fold_breaks, breaks_at}
 use Rattle.yaml_lexeme.proofs.ManyBytes.TrimmedLists.{trimmed, trims_at}
 use Rattle.yaml_lexeme.specs.Classes.{is_white}
 use Rattle.yaml_lexeme.specs.Fold.{fold, join_breaks, written}
 use Rattle.yaml_lexeme.specs.Kind.{is_marker}
-use Rattle.yaml_lexeme.specs.Place.{Place, first, skip, run, behind, break_len}
+use Rattle.yaml_lexeme.specs.Place.{Place, first, skip, run, after_run, break_len}
 use Rattle.yaml_lexeme.specs.Quoted.{body_part, unmarked}
 use Rattle.yaml_lexeme.specs.Reading.{Read, ◌>>=◌, go_on, many, with_front}
 use Rattle.yaml_lexeme.specs.inside.Runs.{class_test, line_of, trim}
@@ -52,7 +52,7 @@ ends_before k i cs lt h =
     omega (arith, stop_le is_white (drop i cs) j f)
 
 -- If no break follows it, the whole run is appended.
-pub run_goes_on : (single : Bool) (p q : Place) (out new : List ℕ) → q ≡ behind (class_test (line_of single)) p → new ≡ out ++ utf8 (run (class_test (line_of single)) p) → is_break (first q) ≡ false → GoesOn single p out q new
+pub run_goes_on : (single : Bool) (p q : Place) (out new : List ℕ) → q ≡ after_run (class_test (line_of single)) p → new ≡ out ++ utf8 (run (class_test (line_of single)) p) → is_break (first q) ≡ false → GoesOn single p out q new
 run_goes_on single p q out new e n h whole r =
     let test = class_test (line_of single) in
     let k = prefix_len test p.rest in
@@ -85,19 +85,19 @@ break_white : (c : ℕ) → is_break c ≡ true → (is_white c ≡ true) × (is
 break_white c h = (grind (arith, nat_tests), grind (arith, nat_tests))
 
 -- a separator has the same value from its break on
-pub blanks_pass : (single : Bool) (p q : Place) → q ≡ behind is_blank p → is_white (first p) ≡ true → is_break (first q) ≡ true → many (body_part single) p ≡ many (body_part single) q
+pub blanks_pass : (single : Bool) (p q : Place) → q ≡ after_run is_blank p → is_white (first p) ≡ true → is_break (first q) ≡ true → many (body_part single) p ≡ many (body_part single) q
 blanks_pass single p q e wp bq =
     let t = break_white (first q) bq in
-    let stays : behind is_blank q ≡ q = behind_none is_blank q t.1 in
-    let two : behind is_blank p ≡ behind is_blank q = sym e ∙ sym stays in
-    let some : 0 < break_len (behind is_blank p) = subst (λ (x : Place). 0 < break_len x) e (is_break_len q bq) in
+    let stays : after_run is_blank q ≡ q = after_none is_blank q t.1 in
+    let two : after_run is_blank p ≡ after_run is_blank q = sym e ∙ sym stays in
+    let some : 0 < break_len (after_run is_blank p) = subst (λ (x : Place). 0 < break_len x) e (is_break_len q bq) in
     let fp = fold_breaks p some in
     let fq = fold_breaks q (subst (λ (x : Place). 0 < break_len x) two some) in
     let value : fold (run is_white p) ≡ fold (run is_white q) = fp.0 ∙ ap (λ (x : Place). join_breaks (written (first x)) (breaks_at (skip (break_len x) x))) two ∙ sym fq.0 in
-    let end : behind is_white p ≡ behind is_white q = fp.1 ∙ ap (λ (x : Place). behind is_white (skip (break_len x) x)) two ∙ sym fq.1 in
-    let a : body_part single p ≡ unmarked (fold (run is_white p)) (behind is_white p) = at_space single p (white_more (first p) wp) wp in
-    let b : body_part single q ≡ unmarked (fold (run is_white p)) (behind is_white p) = at_space single q (white_more (first q) t.0) t.0 ∙ ap (λ (v : List ℕ). unmarked v (behind is_white q)) (sym value) ∙ ap (λ (x : Place). unmarked (fold (run is_white p)) x) (sym end) in
-    same_many single p q (behind is_white p) (fold (run is_white p)) a b
+    let end : after_run is_white p ≡ after_run is_white q = fp.1 ∙ ap (λ (x : Place). after_run is_white (skip (break_len x) x)) two ∙ sym fq.1 in
+    let a : body_part single p ≡ unmarked (fold (run is_white p)) (after_run is_white p) = at_space single p (white_more (first p) wp) wp in
+    let b : body_part single q ≡ unmarked (fold (run is_white p)) (after_run is_white p) = at_space single q (white_more (first q) t.0) t.0 ∙ ap (λ (v : List ℕ). unmarked v (after_run is_white q)) (sym value) ∙ ap (λ (x : Place). unmarked (fold (run is_white p)) x) (sym end) in
+    same_many single p q (after_run is_white p) (fold (run is_white p)) a b
 
 all_index : (xs : List ℕ) (i : ℕ) → list_all is_blank xs ≡ true → i < length xs → is_blank (get_or xs i 0) ≡ true
 all_index [] i h l = absurd (omega arith)
@@ -105,7 +105,7 @@ all_index (x ∷ xs) zero h l = (and_parts (is_blank x) (list_all is_blank xs) h
 all_index (x ∷ xs) (suc i) h l = all_index xs i (and_parts (is_blank x) (list_all is_blank xs) h).1 (omega arith)
 
 -- the run without the blanks before a break
-pub trimmed_goes_on : (single : Bool) (p q : Place) (out new : List ℕ) → q ≡ behind (class_test (line_of single)) p → new ≡ out ++ utf8 (trim (run (class_test (line_of single)) p)) → is_break (first q) ≡ true → GoesOn single p out q new
+pub trimmed_goes_on : (single : Bool) (p q : Place) (out new : List ℕ) → q ≡ after_run (class_test (line_of single)) p → new ≡ out ++ utf8 (trim (run (class_test (line_of single)) p)) → is_break (first q) ≡ true → GoesOn single p out q new
 trimmed_goes_on single p q out new e n h whole r =
     let test = class_test (line_of single) in
     let cs = p.rest in
@@ -137,7 +137,7 @@ trimmed_goes_on single p q out new e n h whole r =
     ∙ prefix_len_is is_blank (drop k cs) (length t.blanks) 0 (omega (arith, length-drop k cs))
     (λ i l. ap is_blank (get_or-drop k cs i 0) ∙ inside i l)
     (λ l. ap is_blank (get_or-drop k cs (length t.blanks) 0 ∙ ap (λ i. get_or cs i 0) sum) ∙ (break_white (get_or cs m 0) broken).1) in
-    let end : q ≡ behind is_blank here = e ∙ ap (λ i. skip i p) (sym sum) ∙ sym (skip_skip k (length t.blanks) p) ∙ ap (λ i. skip i here) (sym count) in
+    let end : q ≡ after_run is_blank here = e ∙ ap (λ i. skip i p) (sym sum) ∙ sym (skip_skip k (length t.blanks) p) ∙ ap (λ i. skip i here) (sym count) in
     let there : first here ≡ get_or cs k 0 = ap (λ (x : List ℕ). get_or x 0 0) rest ∙ get_or-drop k cs 0 0 ∙ ap (λ i. get_or cs i 0) (add-zero k) in
     let white : is_white (first here) ≡ true = ap is_white there ∙ elim (cases_lt 0 (length t.blanks)) [
       | inl some ↦ blank_white (get_or cs k 0) (ap (λ i. is_blank (get_or cs i 0)) (sym (add-zero k)) ∙ inside 0 some)

@@ -15,7 +15,7 @@ use Rattle.yaml_lexeme.specs.Classes.{is_white}
 use Rattle.yaml_lexeme.specs.Fold.{fold, breaks}
 use Rattle.yaml_lexeme.specs.inside.Gives.{TakesPart}
 use Rattle.yaml_lexeme.specs.Kind.{is_marker}
-use Rattle.yaml_lexeme.specs.Place.{Place, first, skip_from, skip, mark_behind}
+use Rattle.yaml_lexeme.specs.Place.{Place, first, skip_from, skip, mark_after}
 use Rattle.yaml_lexeme.specs.Quoted.{body_part, quote}
 use Rattle.yaml_lexeme.specs.Reading.{Read, Part, part}
 use Rattle.yaml_lexeme.specs.inside.Runs.{class_test, line_of}
@@ -29,8 +29,8 @@ pub record Whole (line : class_t) (k : ℕ) (cs : List ℕ) : Type 0 where
   pub each : (i : ℕ) → i < k → class_test line (get_or cs i 0) ≡ true
   pub whole : (i : ℕ) → i < k → i + prefix_len is_white (drop i cs) ≤ k
 
-whole_behind : (line : class_t) (a b k : ℕ) (cs : List ℕ) → a + b ≡ k → Whole line k cs → Whole line b (drop a cs)
-whole_behind line a b k cs e w = record {
+whole_after : (line : class_t) (a b k : ℕ) (cs : List ℕ) → a + b ≡ k → Whole line k cs → Whole line b (drop a cs)
+whole_after line a b k cs e w = record {
   within = omega (arith, length-drop a cs, w.within);
   each = λ i h. ap (class_test line) (get_or-drop a cs i 0) ∙ w.each (a + i) (omega arith);
   whole = λ i h. let f : drop (a + i) cs ≡ drop i (drop a cs) = sym (drop-drop i a cs) in omega (arith, w.whole (a + i) (omega arith), ap (prefix_len is_white) f);
@@ -50,14 +50,14 @@ column_from zero m cs l h = omega arith
 column_from (suc n) m [] l h = absurd (omega arith)
 column_from (suc n) m (c ∷ cs) l h =
     let b : is_break c ≡ false = h 0 (omega arith) in
-    let m' = mark_behind m c (get_or cs 0 0) in
+    let m' = mark_after m c (get_or cs 0 0) in
     let one : m'.column ≡ m.column + 1 = rw b refl in
     let more : (skip_from n m' cs).mark.column ≡ m'.column + n = column_from n m' cs (omega arith) (λ i l. h (suc i) (omega arith)) in
     omega (arith, more, one)
 
-pub column_behind : (n : ℕ) (p : Place) → n ≤ length p.rest → ((i : ℕ) → i < n → is_break (get_or p.rest i 0) ≡ false) → (skip n p).mark.column ≡ p.mark.column + n
+pub column_after : (n : ℕ) (p : Place) → n ≤ length p.rest → ((i : ℕ) → i < n → is_break (get_or p.rest i 0) ≡ false) → (skip n p).mark.column ≡ p.mark.column + n
 unfolding skip
-column_behind n p l h = column_from n p.mark p.rest l h
+column_after n p l h = column_from n p.mark p.rest l h
 
 pub no_marker : (p : Place) → 0 < p.mark.column → is_marker p ≡ false
 no_marker p h = let z : (p.mark.column == 0) ≡ false = grind (arith, nat_tests) in rw z refl
@@ -116,17 +116,17 @@ parts_over single (suc fuel) (suc k) p out whole le w r =
           let le-n : n ≤ suc k = omega (arith, w.whole 0 (omega arith)) in
           let n-some : 0 < n = space_first p.rest s some in
           let clean : (i : ℕ) → i < n → is_break (get_or p.rest i 0) ≡ false = λ i h. in_quotes single (get_or p.rest i 0) (w.each i (omega arith)) in
-          let col : (skip n p).mark.column ≡ p.mark.column + n = column_behind n p (prefix_len-le-length is_white p.rest) clean in
+          let col : (skip n p).mark.column ≡ p.mark.column + n = column_after n p (prefix_len-le-length is_white p.rest) clean in
           let unmark : is_marker (skip n p) ≡ false = no_marker (skip n p) (omega (arith, col)) in
           let value : fold (take n p.rest) ≡ take n p.rest = fold_none (take n p.rest) (no_breaks n p.rest clean) in
           let e : body_part single p ≡ part (take n p.rest) (skip n p) = at_space single p pc.0 s ∙ (rw (unmark, value) refl) in
           let next = (reads_more utf8 (body_part single) (body_shortens single) p (skip n p) out (out ++ utf8 (take n p.rest)) whole (takes_some (body_part single p) (take n p.rest) out p (skip n p) e) r).1 in
           let b = suc k - n in
           let sum : n + b ≡ suc k = omega arith in
-          two single p out whole n b (suc k) sum (parts_over single fuel b (skip n p) (out ++ utf8 (take n p.rest)) whole (omega arith) (subst (λ (x : List ℕ). Whole (line_of single) b x) (sym (rest_skip n p)) (whole_behind (line_of single) n b (suc k) p.rest sum w)) next)
+          two single p out whole n b (suc k) sum (parts_over single fuel b (skip n p) (out ++ utf8 (take n p.rest)) whole (omega arith) (subst (λ (x : List ℕ). Whole (line_of single) b x) (sym (rest_skip n p)) (whole_after (line_of single) n b (suc k) p.rest sum w)) next)
       | inr s ↦
           let e : body_part single p ≡ part (take 1 p.rest) (skip 1 p) = at_char single p pc.0 s pc.1 pc.2 ∙ ap (λ (x : List ℕ). part x (skip 1 p)) (sym (first_one p.rest some)) in
           let next = (reads_more utf8 (body_part single) (body_shortens single) p (skip 1 p) out (out ++ utf8 (take 1 p.rest)) whole (takes_some (body_part single p) (take 1 p.rest) out p (skip 1 p) e) r).1 in
           let sum : 1 + k ≡ suc k = omega arith in
-          two single p out whole 1 k (suc k) sum (parts_over single fuel k (skip 1 p) (out ++ utf8 (take 1 p.rest)) whole (omega arith) (subst (λ (x : List ℕ). Whole (line_of single) k x) (sym (rest_skip 1 p)) (whole_behind (line_of single) 1 k (suc k) p.rest sum w)) next)
+          two single p out whole 1 k (suc k) sum (parts_over single fuel k (skip 1 p) (out ++ utf8 (take 1 p.rest)) whole (omega arith) (subst (λ (x : List ℕ). Whole (line_of single) k x) (sym (rest_skip 1 p)) (whole_after (line_of single) 1 k (suc k) p.rest sum w)) next)
     ]

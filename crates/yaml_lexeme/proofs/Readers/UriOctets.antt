@@ -166,11 +166,11 @@ unfolding uri
 uri_is listed p = concat_joined (many (uri_part listed) p)
 
 -- a uri is being appended to `old`
-abbrev pub uri_behind : Bool → List ℕ → Place → Read (List ℕ)
-uri_behind listed old p = with_front old (joined (λ cs. cs) (many (uri_part listed) p))
+abbrev pub uri_after : Bool → List ℕ → Place → Read (List ℕ)
+uri_after listed old p = with_front old (joined (λ cs. cs) (many (uri_part listed) p))
 
-pub uri_taken : (listed : Bool) (p q : Place) (old new : List ℕ) → uri_behind listed old p ≡ found new q → TakesRead (λ cs. cs) (uri listed p) old new q
+pub uri_taken : (listed : Bool) (p q : Place) (old new : List ℕ) → uri_after listed old p ≡ found new q → TakesRead (λ cs. cs) (uri listed p) old new q
 uri_taken listed p q old new h = appended (uri listed p) old new q (ap (with_front old) (uri_is listed p) ∙ h)
 
-pub uri_refused : (e : yaml_refusal_t) (listed : Bool) (p q : Place) (old : List ℕ) → Refuses e q (uri_behind listed old p) → Refuses e q (uri listed p)
+pub uri_refused : (e : yaml_refusal_t) (listed : Bool) (p q : Place) (old : List ℕ) → Refuses e q (uri_after listed old p) → Refuses e q (uri listed p)
 uri_refused e listed p q old h = not_appended e (uri listed p) old q (rw (uri_is listed p) h)

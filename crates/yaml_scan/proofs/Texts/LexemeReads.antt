@@ -12,7 +12,7 @@ use Rattle.yaml_lexeme.specs.declared.kind.yaml_lexeme_kind_t.TheVariants as kin
 use Rattle.yaml_lexeme.specs.declared.lex.yaml_context_t.{yaml_context_t}
 use Rattle.yaml_lexeme.specs.Lexeme.{Lexeme as yaml_lexeme_t}
 use Rattle.yaml_lexeme.specs.Classes.{ends}
-use Rattle.yaml_lexeme.specs.Place.{Place, first, place_at, skip, run, behind}
+use Rattle.yaml_lexeme.specs.Place.{Place, first, place_at, skip, run, after_run}
 use Rattle.yaml_lexeme.specs.Reading.{Found, Read, Offence, found, refuse, ◌>>=◌}
 use Rattle.yaml_lexeme.specs.Block.{block, after_line}
 use Rattle.yaml_lexeme.specs.Plain.{plain}
@@ -141,9 +141,9 @@ angled_gives p = bind_gives (any_gives (some_uri true (skip 1 p))) (λ (r : Foun
 
 handled_gives : (p : Place) → Gives is_tag (handled p)
 unfolding handled
-handled_gives p = if_gives (first (behind is_alpha p) == 0x21)
-    (bind_gives (any_gives (some_uri false (skip 1 (behind is_alpha p)))) (λ (r : Found (List ℕ)) e. found_gives refl))
-    (bind_gives (any_gives (uri false (behind is_alpha p))) (λ (r : Found (List ℕ)) e. found_gives (lone_is (run is_alpha p ++ r.value))))
+handled_gives p = if_gives (first (after_run is_alpha p) == 0x21)
+    (bind_gives (any_gives (some_uri false (skip 1 (after_run is_alpha p)))) (λ (r : Found (List ℕ)) e. found_gives refl))
+    (bind_gives (any_gives (uri false (after_run is_alpha p))) (λ (r : Found (List ℕ)) e. found_gives (lone_is (run is_alpha p ++ r.value))))
 
 pub tag_gives : (flow : Bool) (p : Place) → Gives is_tag (tag flow p)
 unfolding tag
@@ -151,11 +151,11 @@ tag_gives flow p = bind_gives {was = is_tag} (if_gives (first (skip 1 p) == 0x3C
 
 version_gives : (p : Place) → Gives is_directive (version_at p)
 unfolding version_at
-version_gives p = bind_gives (any_gives (number (behind is_blank p))) (λ (a : Found ℕ) e. if_gives (not (first a.end == 0x2E)) refuse_gives (bind_gives (any_gives (number (skip 1 a.end))) (λ (b : Found ℕ) d. found_gives refl)))
+version_gives p = bind_gives (any_gives (number (after_run is_blank p))) (λ (a : Found ℕ) e. if_gives (not (first a.end == 0x2E)) refuse_gives (bind_gives (any_gives (number (skip 1 a.end))) (λ (b : Found ℕ) d. found_gives refl)))
 
 tag_directive_gives : (p : Place) → Gives is_directive (tag_directive_at p)
 unfolding tag_directive_at
-tag_directive_gives p = bind_gives (any_gives (handle_at (behind is_blank p))) (λ (a : Found (List ℕ)) e. if_gives (not (is_blank (first a.end))) refuse_gives (bind_gives (any_gives (some_uri true (behind is_blank a.end))) (λ (b : Found (List ℕ)) d. if_gives (not (ends (first b.end))) refuse_gives (found_gives refl))))
+tag_directive_gives p = bind_gives (any_gives (handle_at (after_run is_blank p))) (λ (a : Found (List ℕ)) e. if_gives (not (is_blank (first a.end))) refuse_gives (bind_gives (any_gives (some_uri true (after_run is_blank a.end))) (λ (b : Found (List ℕ)) d. if_gives (not (ends (first b.end))) refuse_gives (found_gives refl))))
 
 named_gives : (letters : List ℕ) (p : Place) → Gives is_directive (named letters p)
 unfolding named
@@ -169,7 +169,7 @@ pub directive_gives : (p : Place) → GivesIn (directive p) (λ d. d.says)
 unfolding directive
 directive_gives p =
     let letters = run is_alpha (skip 1 p) in
-    let end = behind is_alpha (skip 1 p) in
+    let end = after_run is_alpha (skip 1 p) in
     if_gives (length letters == 0) refuse_gives (if_gives (not (ends (first end))) refuse_gives
     (bind_gives {was = is_directive} (named_gives letters end) (λ (d : Found unnamed_yaml_token_t_data) e. bind_gives (any_gives (after_line d.end)) (λ (next : Place) u. found_gives e))))
 

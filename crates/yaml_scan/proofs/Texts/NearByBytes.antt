@@ -14,7 +14,7 @@ use Rattle.yaml_text.specs.declared.types.yaml_mark_t.{yaml_mark_t}
 use Rattle.yaml_text.proofs.Characters.Utf8Spelling.{two, three, four}
 use Rattle.yaml_text.proofs.Characters.CharRanges.{char_range}
 use Rattle.yaml_text.proofs.Marks.MarkMoves.{AreChars-parts}
-use Rattle.yaml_lexeme.specs.Place.{skip, skip_from, mark_behind, ends_line, width}
+use Rattle.yaml_lexeme.specs.Place.{skip, skip_from, mark_after, ends_line, width}
 use Rattle.yaml_scan.specs.SourceOf.{source_of}
 use Rattle.yaml_scan.specs.Near.{is_near}
 use Rattle.yaml_scan.specs.inside.NearFault.{starts}
@@ -72,8 +72,8 @@ short (c ∷ cs) = let a = length-append (encode c) (utf8 cs) in let b = length-
 width_is : (c : ℕ) → width c ≡ length (encode c)
 width_is c = (grind (arith, nat_tests)) ∙ sym (length-encode c)
 
-index_behind : (m : yaml_mark_t) (c after : ℕ) → (mark_behind m c after).index ≡ m.index + width c
-index_behind m c after = go (ends_line c after)
+index_after : (m : yaml_mark_t) (c after : ℕ) → (mark_after m c after).index ≡ m.index + width c
+index_after m c after = go (ends_line c after)
   where
     go : (b : Bool) → let n : yaml_mark_t = (if b then record { index = m.index + width c; line = m.line + 1; column = 0 } else record { index = m.index + width c; line = m.line; column = m.column + 1 }) in n.index ≡ m.index + width c
     go true = refl
@@ -83,8 +83,8 @@ index_from : (p : ℕ) (m : yaml_mark_t) (cs : List ℕ) → (skip_from p m cs).
 index_from zero m cs = omega arith
 index_from (suc p) m [] = omega arith
 index_from (suc p) m (c ∷ cs) =
-    let r = index_from p (mark_behind m c (slice_index cs 0)) cs in
-    let i = index_behind m c (slice_index cs 0) in
+    let r = index_from p (mark_after m c (slice_index cs 0)) cs in
+    let i = index_after m c (slice_index cs 0) in
     let w = width_is c in
     let a = length-append (encode c) (utf8 (take p cs)) in
     omega arith

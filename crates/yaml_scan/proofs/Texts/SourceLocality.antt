@@ -13,7 +13,7 @@ use Rattle.yaml_lexeme.specs.Locality.{reach, move}
 use Rattle.yaml_lexeme.proofs.Locality.AgreeingPlaces.{Agree, some_same, same_or_long, get_index}
 use Rattle.yaml_lexeme.proofs.Places.PlaceMoves.{length_skip, skip_skip}
 use Rattle.yaml_lexeme.proofs.MarkOrder.SmallReadersAhead.{gap_order}
-use Rattle.yaml_lexeme.proofs.Locality.ComposedReaders.{agree_behind}
+use Rattle.yaml_lexeme.proofs.Locality.ComposedReaders.{agree_after}
 use Rattle.yaml_lexeme.proofs.Locality.LocalReaders.{agree_less}
 use Rattle.yaml_lexeme.proofs.Locality.GapLocality.{gap_local_to}
 use Rattle.yaml_lexeme.proofs.Locality.KindLocality.{kind_local}
@@ -34,7 +34,7 @@ module _ (r : ℕ) (a b : List ℕ) (s : SameBelow (r + 8) a b) (la : r + 8 ≤ 
   starts_agree = record { mark = refl; left = la; right = lb; same = λ i l. some_same (sym (get_index a i (omega arith)) ∙ s i l ∙ get_index b i (omega arith)) }
 
   places_agree : (p : ℕ) → p ≤ r → Agree (r + 8 - p) (place_at a p) (place_at b p)
-  places_agree p l = agree_behind (r + 8) p (start a) (start b) (omega arith) starts_agree
+  places_agree p l = agree_after (r + 8) p (start a) (start b) (omega arith) starts_agree
 
   -- a place that is counted at r at most was not passed by the end
   counted : (n : ℕ) (p : ℕ) (q : Place) → q ≡ skip n (place_at a p) → count_to (length a) q ≤ r → (p + n ≤ r) × (count_to (length a) q ≡ p + n)

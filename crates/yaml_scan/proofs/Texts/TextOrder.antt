@@ -5,7 +5,7 @@ use Rattle.std.proofs.lemmas.Bool.{cases_Bool}
 use Rattle.yaml_text.specs.Chars.{AreChars}
 use Rattle.yaml_text.specs.declared.types.yaml_mark_t.{yaml_mark_t}
 use Rattle.yaml_lexeme.specs.declared.kind.yaml_lexeme_kind_t.TheVariants.{STREAM_END}
-use Rattle.yaml_lexeme.specs.Place.{Place, place_at, start, skip, skip_from, mark_behind, ends_line}
+use Rattle.yaml_lexeme.specs.Place.{Place, place_at, start, skip, skip_from, mark_after, ends_line}
 use Rattle.yaml_lexeme.specs.Lex.{lex}
 use Rattle.yaml_lexeme.specs.StreamEnd.{stream_end}
 use Rattle.yaml_lexeme.proofs.Places.PlaceMoves.{length_skip}
@@ -32,8 +32,8 @@ text_problem cs c k d l p o w h e =
     record { kind = a.0; within = b.1; index = ap (λ (m : yaml_mark_t). m.index) a.1 }
 
 -- lines and columns take characters
-sums_behind : (m : yaml_mark_t) (c next : ℕ) → (mark_behind m c next).line + (mark_behind m c next).column ≤ m.line + m.column + 1
-sums_behind m c next = go (ends_line c next)
+sums_after : (m : yaml_mark_t) (c next : ℕ) → (mark_after m c next).line + (mark_after m c next).column ≤ m.line + m.column + 1
+sums_after m c next = go (ends_line c next)
   where
     go : (b : Bool) → let n : yaml_mark_t = (if b then record { index = m.index + Rattle.yaml_lexeme.specs.Place.width c; line = m.line + 1; column = 0 } else record { index = m.index + Rattle.yaml_lexeme.specs.Place.width c; line = m.line; column = m.column + 1 }) in n.line + n.column ≤ m.line + m.column + 1
     go true = omega arith
@@ -42,7 +42,7 @@ sums_behind m c next = go (ends_line c next)
 sums_from : (n : ℕ) (m : yaml_mark_t) (cs : List ℕ) → (skip_from n m cs).mark.line + (skip_from n m cs).mark.column ≤ m.line + m.column + n
 sums_from zero m cs = omega arith
 sums_from (suc n) m [] = omega arith
-sums_from (suc n) m (c ∷ cs) = let a = sums_from n (mark_behind m c (slice_index cs 0)) cs in let b = sums_behind m c (slice_index cs 0) in omega arith
+sums_from (suc n) m (c ∷ cs) = let a = sums_from n (mark_after m c (slice_index cs 0)) cs in let b = sums_after m c (slice_index cs 0) in omega arith
 
 pub text_sums : (cs : List ℕ) (p : ℕ) → p ≤ length cs → ((source_of cs).mark p).line + ((source_of cs).mark p).column ≤ p
 unfolding source_of skip

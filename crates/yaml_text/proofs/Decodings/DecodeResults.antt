@@ -15,7 +15,7 @@ use Rattle.yaml_text.specs.Utf16.{offence16}
 use Rattle.yaml_text.specs.inside.Units.{Reads16, BeginsWithNone16}
 use Rattle.yaml_text.specs.Fault.{Fault, fault_of, reader_fault}
 use Rattle.yaml_text.specs.Text.{Text}
-use Rattle.yaml_text.specs.Decode.{spelling, spellings, Begins, BeginsWithNone, IsFront, value_in_front, first, and_then_list, first_chars, encoding_of, bom_len, behind_bom, offence, front, front_len, refusal, refusal_of, refusal_seen, unless_refused, decoding, IsLongestFront, Spells, IsRefused}
+use Rattle.yaml_text.specs.Decode.{spelling, spellings, Begins, BeginsWithNone, IsFront, value_in_front, first, and_then_list, first_chars, encoding_of, bom_len, after_bom, offence, front, front_len, refusal, refusal_of, refusal_seen, unless_refused, decoding, IsLongestFront, Spells, IsRefused}
 use Rattle.yaml_text.specs.inside.Fronts.{order, Fronts}
 use Rattle.yaml_text.proofs.Decodings.DecodeReadings.{longest, value_is, some_spelling, spellings-cons, spellings-nil, none_at_end, one_front}
 
@@ -69,8 +69,8 @@ front_by e n bytes (Some c) h le ih =
     let cs = first_chars e n more in
     let rest = drop (length (spellings e cs)) more in
     let whole : bytes ≡ spellings e (c ∷ cs) ++ rest = h.1.1 ∙ ap (λ (x : List ℕ). spelling e c ++ x) f.parts ∙ sym (append_assoc (spelling e c) (spellings e cs) rest) ∙ ap (λ (x : List ℕ). x ++ rest) (sym (spellings-cons e c cs)) in
-    let behind : drop (length (spellings e (c ∷ cs))) bytes ≡ rest = ap (λ (x : List ℕ). drop (length (spellings e (c ∷ cs))) x) whole ∙ drop_at (spellings e (c ∷ cs)) rest (length (spellings e (c ∷ cs))) refl in
-    let made : Parts e bytes (c ∷ cs) = subst (λ (x : List ℕ). IsFront e bytes (c ∷ cs) x) (sym behind) (record { parts = whole; each = (h.0, f.each); longest = f.longest }) in
+    let after : drop (length (spellings e (c ∷ cs))) bytes ≡ rest = ap (λ (x : List ℕ). drop (length (spellings e (c ∷ cs))) x) whole ∙ drop_at (spellings e (c ∷ cs)) rest (length (spellings e (c ∷ cs))) refl in
+    let made : Parts e bytes (c ∷ cs) = subst (λ (x : List ℕ). IsFront e bytes (c ∷ cs) x) (sym after) (record { parts = whole; each = (h.0, f.each); longest = f.longest }) in
     subst (λ (x : List ℕ). Parts e bytes (c ∷ first_chars e n x)) (sym d) made
 
 first_chars_are : (e : yaml_encoding_t) (n : ℕ) (bytes : List ℕ) → length bytes ≤ n → Parts e bytes (first_chars e n bytes)
@@ -82,11 +82,11 @@ first_chars_are e zero bytes le =
 first_chars_are e (suc n) bytes le = front_by e n bytes (first e bytes) (first_is e bytes) le (first_chars_are e n)
 
 -- a front is what the function gives
-pub front_is : (setting : yaml_encoding_t) (input : List ℕ) → IsFront (encoding_of setting input) (behind_bom setting input) (front setting input).chars (drop (front_len setting input) input)
+pub front_is : (setting : yaml_encoding_t) (input : List ℕ) → IsFront (encoding_of setting input) (after_bom setting input) (front setting input).chars (drop (front_len setting input) input)
 unfolding front
 front_is setting input =
     let e = encoding_of setting input in
-    let bytes = behind_bom setting input in
+    let bytes = after_bom setting input in
     let chars = first_chars e (length bytes) bytes in
     subst (λ (x : List ℕ). IsFront e bytes chars x) (drop-drop (length (spellings e chars)) (bom_len setting input) input) (first_chars_are e (length bytes) bytes (omega arith))
 
@@ -94,12 +94,12 @@ front-encoding : (setting : yaml_encoding_t) (input : List ℕ) → (front setti
 unfolding front
 front-encoding setting input = refl
 
-pub fronts_text : (setting : yaml_encoding_t) (input : List ℕ) (text : Text) (fault : Option Fault) → Fronts (encoding_of setting input) (bom_len setting input) (behind_bom setting input) text fault → text ≡ front setting input
+pub fronts_text : (setting : yaml_encoding_t) (input : List ℕ) (text : Text) (fault : Option Fault) → Fronts (encoding_of setting input) (bom_len setting input) (after_bom setting input) text fault → text ≡ front setting input
 fronts_text setting input text fault f =
     let same = one_front _ _ _ _ _ _ f.front (front_is setting input) in
     λ k. record { encoding = (f.encoding ∙ sym (front-encoding setting input)) k; chars = same.0 k }
 
-pub fronts_refusal : (setting : yaml_encoding_t) (input : List ℕ) (text : Text) (fault : Option Fault) → Fronts (encoding_of setting input) (bom_len setting input) (behind_bom setting input) text fault → fault ≡ refusal setting input
+pub fronts_refusal : (setting : yaml_encoding_t) (input : List ℕ) (text : Text) (fault : Option Fault) → Fronts (encoding_of setting input) (bom_len setting input) (after_bom setting input) text fault → fault ≡ refusal setting input
 unfolding refusal
 fronts_refusal setting input text fault f =
     let e = encoding_of setting input in
@@ -110,7 +110,7 @@ fronts_refusal setting input text fault f =
 pub front_longest : (setting : yaml_encoding_t) (input : List ℕ) (text : Text) → text ≡ front setting input → IsLongestFront setting input text
 front_longest setting input text is = subst (λ (x : Text). IsLongestFront setting input x) (sym is) (
     let e = encoding_of setting input in
-    let bytes = behind_bom setting input in
+    let bytes = after_bom setting input in
     let t = front setting input in
     let f = front_is setting input in
     let same = front-encoding setting input in
@@ -180,7 +180,7 @@ pub record Told (setting : yaml_encoding_t) (input : List ℕ) (text : Text) (fa
 pub by_encoding : (setting : yaml_encoding_t) (input : List ℕ) (e f : yaml_encoding_t) (before : ℕ) (bytes : List ℕ) (text : Text) (fault : Option Fault) → f ≡ encoding_of setting input → f ≡ e → before ≡ bom_len setting input → bytes ≡ drop before input
     → Fronts e before bytes text fault → Told setting input text fault
 by_encoding setting input e f before bytes text fault f-is e-is before-is bytes-is found =
-    let at-bytes : bytes ≡ behind_bom setting input = bytes-is ∙ ap (λ n. drop n input) before-is in
+    let at-bytes : bytes ≡ after_bom setting input = bytes-is ∙ ap (λ n. drop n input) before-is in
     let one = subst (λ (x : yaml_encoding_t). Fronts x before bytes text fault) (sym e-is ∙ f-is) found in
     let two = subst (λ (x : ℕ). Fronts (encoding_of setting input) x bytes text fault) before-is one in
     let three = subst (λ (x : List ℕ). Fronts (encoding_of setting input) (bom_len setting input) x text fault) at-bytes two in
@@ -210,7 +210,7 @@ pub spells_is : (setting : yaml_encoding_t) (input : List ℕ) (text : Text) →
 unfolding refusal
 spells_is setting input text s =
     let e = encoding_of setting input in
-    let bytes = behind_bom setting input in
+    let bytes = after_bom setting input in
     let parts : bytes ≡ spellings e text.chars ++ [] = s.bytes ∙ ap (λ x. spellings x text.chars) s.encoding ∙ sym (append-nil (spellings e text.chars)) in
     let f : IsFront e bytes text.chars [] = record { parts = parts; each = s.each; longest = none_at_end e [] (omega arith) } in
     let same = one_front _ _ _ _ _ _ f (front_is setting input) in
@@ -279,7 +279,7 @@ is_refused setting input fault d =
     ]
 
 -- accepted UTF-8 is its own text
-pub own_text : (setting : yaml_encoding_t) (input : List ℕ) (text : Text) → Spells setting input text → text.encoding ≡ YAML_UTF8_ENCODING → utf8 text.chars ≡ behind_bom setting input
+pub own_text : (setting : yaml_encoding_t) (input : List ℕ) (text : Text) → Spells setting input text → text.encoding ≡ YAML_UTF8_ENCODING → utf8 text.chars ≡ after_bom setting input
 own_text setting input text s e = ap (λ x. spellings x text.chars) (sym e) ∙ sym s.bytes
 
 -- ---- what a call returned

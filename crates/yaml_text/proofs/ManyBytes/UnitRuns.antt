@@ -107,9 +107,9 @@ unit_later : (big : Bool) (bytes : List ℕ) (n : ℕ) → unit_at big (drop n b
 unit_later true bytes n = let a = get_or-drop n bytes 0 0 in let b = get_or-drop n bytes 1 0 in let e : n + 0 ≡ n = omega arith in rw (a, b, e) refl
 unit_later false bytes n = let a = get_or-drop n bytes 0 0 in let b = get_or-drop n bytes 1 0 in let e : n + 0 ≡ n = omega arith in rw (a, b, e) refl
 
-unit_behind : (big : Bool) (bytes : List ℕ) (at n : ℕ) → unit_at big (drop at bytes) n ≡ unit_at big bytes (at + n)
-unit_behind true bytes at n = let a = get_or-drop at bytes n 0 in let b = get_or-drop at bytes (n + 1) 0 in let e : at + (n + 1) ≡ at + n + 1 = omega arith in rw (a, b, e) refl
-unit_behind false bytes at n = let a = get_or-drop at bytes n 0 in let b = get_or-drop at bytes (n + 1) 0 in let e : at + (n + 1) ≡ at + n + 1 = omega arith in rw (a, b, e) refl
+unit_after : (big : Bool) (bytes : List ℕ) (at n : ℕ) → unit_at big (drop at bytes) n ≡ unit_at big bytes (at + n)
+unit_after true bytes at n = let a = get_or-drop at bytes n 0 in let b = get_or-drop at bytes (n + 1) 0 in let e : at + (n + 1) ≡ at + n + 1 = omega arith in rw (a, b, e) refl
+unit_after false bytes at n = let a = get_or-drop at bytes n 0 in let b = get_or-drop at bytes (n + 1) 0 in let e : at + (n + 1) ≡ at + n + 1 = omega arith in rw (a, b, e) refl
 
 pub unit_read : (big : Bool) (bytes text : List ℕ) (at u : ℕ) → AreBytes bytes → Reads16 big bytes text at → at + 2 ≤ length bytes → u ≡ unit_at big bytes at → is_char u ≡ true → Reads16 big bytes (text ++ encode u) (at + 2)
 unit_read big bytes text at u fits r room is ok =
@@ -129,7 +129,7 @@ singles_read big bytes text v at (suc n) fits r room long few units =
     let lt : n < 16 = omega (arith, prefix_len-le-length is_single v) in
     let s : is_single c ≡ true = prefix_len_passes is_single v n 0 (omega arith) in
     let place = at + 2 * n in
-    let is : c ≡ unit_at big bytes place = sym (sym (unit_behind big bytes at (2 * n)) ∙ units n lt s) in
+    let is : c ≡ unit_at big bytes place = sym (sym (unit_after big bytes at (2 * n)) ∙ units n lt s) in
     let more = unit_read big bytes (text ++ take n v) place c fits before (omega arith) is (single_char c s) in
     let text-is : (text ++ take n v) ++ encode c ≡ text ++ take (suc n) v =
     ap (λ (x : List ℕ). (text ++ take n v) ++ x) (encode_ascii c (single_low c s)) ∙ append_assoc text (take n v) (c ∷ []) ∙ ap (λ (x : List ℕ). text ++ x) (sym (take-suc v n 0 (omega arith))) in

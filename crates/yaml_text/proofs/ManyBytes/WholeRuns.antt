@@ -317,8 +317,8 @@ whole_front bytes n k s clean-n room before lead =
     ]
 
 pub clean_more : (bytes : List ℕ) (n m : ℕ) → AreClean bytes n → AreClean (drop n bytes) m → AreClean bytes (n + m)
-clean_more bytes n m front behind k lt =
+clean_more bytes n m front after k lt =
     elim (cases_lt k n) [
       | inl l ↦ front k l
-      | inr l ↦ let e : n + (k - n) ≡ k = omega arith in ap is_suspect (ap (λ i. drop i bytes) (sym e) ∙ sym (drop-drop (k - n) n bytes)) ∙ behind (k - n) (omega arith)
+      | inr l ↦ let e : n + (k - n) ≡ k = omega arith in ap is_suspect (ap (λ i. drop i bytes) (sym e) ∙ sym (drop-drop (k - n) n bytes)) ∙ after (k - n) (omega arith)
     ]

@@ -10,7 +10,7 @@ use lib.Utf8.{encode}
 use Rattle.yaml_text.specs.declared.types.yaml_mark_t.{yaml_mark_t}
 use Rattle.yaml_text.specs.Chars.{AreChars, utf8}
 use Rattle.yaml_text.specs.Classes.{is_break, is_crlf}
-use Rattle.yaml_text.specs.Mark.{ends_break, breaks, column, mark_of, cuts_break, mark_behind, mark_on}
+use Rattle.yaml_text.specs.Mark.{ends_break, breaks, column, mark_of, cuts_break, mark_after, mark_on}
 use Rattle.yaml_text.proofs.Decodings.DecodeFronts.{chars-utf8}
 use Rattle.yaml_text.proofs.Marks.MarkMoves.{breaks-append, column-push, last_push, ends_whole, ends_last, two_bytes, AreChars-parts}
 
@@ -27,7 +27,7 @@ breaks_one c false h = rw (ends_last c, h) refl
 line-push : (before : List ℕ) (c : ℕ) (b : Bool) → cuts_break before (c ∷ []) ≡ false → is_break c ≡ b → breaks (before ++ c ∷ []) ≡ breaks before + cond b 1 0
 line-push before c b whole h = breaks-append before (c ∷ []) whole ∙ ap (λ n. breaks before + n) (breaks_one c b h)
 
-pub one_step : (before cs : List ℕ) (c : ℕ) → cuts_break before (c ∷ cs) ≡ false → is_crlf c (get_or cs 0 0) ≡ false → mark_behind (mark_of before) c cs ≡ mark_of (before ++ c ∷ [])
+pub one_step : (before cs : List ℕ) (c : ℕ) → cuts_break before (c ∷ cs) ≡ false → is_crlf c (get_or cs 0 0) ≡ false → mark_after (mark_of before) c cs ≡ mark_of (before ++ c ∷ [])
 one_step before cs c whole single =
     let ends : ends_break c cs ≡ is_break c = ends_whole c cs single in
     elim (cases_Bool (is_break c)) [
@@ -69,8 +69,8 @@ step_two before cs n ih le whole seam =
     let a : (before ++ 13 ∷ 10 ∷ []) ++ take n cs ≡ before ++ 13 ∷ 10 ∷ take n cs = append_assoc before (13 ∷ 10 ∷ []) (take n cs) in
     let b : (before ++ 13 ∷ []) ++ 10 ∷ [] ≡ before ++ 13 ∷ 10 ∷ [] = append_assoc before (13 ∷ []) (10 ∷ []) in
     let seam' : cuts_break ((before ++ 13 ∷ 10 ∷ []) ++ take n cs) (drop n cs) ≡ false = ap (λ (x : List ℕ). cuts_break x (drop n cs)) a ∙ seam in
-    let behind : cuts_break (before ++ 13 ∷ 10 ∷ []) cs ≡ false = ap (λ (x : List ℕ). cuts_break x cs) (sym b) ∙ cuts-push (before ++ 13 ∷ []) cs 10 in
-    ap (λ (m : yaml_mark_t). mark_on n m cs) (two_steps before cs whole) ∙ ih (omega arith) behind seam' ∙ ap mark_of a
+    let after : cuts_break (before ++ 13 ∷ 10 ∷ []) cs ≡ false = ap (λ (x : List ℕ). cuts_break x cs) (sym b) ∙ cuts-push (before ++ 13 ∷ []) cs 10 in
+    ap (λ (m : yaml_mark_t). mark_on n m cs) (two_steps before cs whole) ∙ ih (omega arith) after seam' ∙ ap mark_of a
 
 pub running : (n : ℕ) (before cs : List ℕ) → Runs before n cs
 running zero before cs le whole seam = ap mark_of (sym (append-nil before))
@@ -91,7 +91,7 @@ running (suc (suc n)) before (c ∷ d ∷ cs) le whole seam =
 -- UTF-8 cut between characters
 pub record Cut (front rest : List ℕ) : Type 0 where
   pub before : take (length (utf8 front)) (utf8 (front ++ rest)) ≡ utf8 front
-  pub behind : drop (length (utf8 front)) (utf8 (front ++ rest)) ≡ utf8 rest
+  pub after : drop (length (utf8 front)) (utf8 (front ++ rest)) ≡ utf8 rest
   pub left : chars (drop (length (utf8 front)) (utf8 (front ++ rest))) ≡ rest
 
 pub cut : (front rest : List ℕ) → AreChars (front ++ rest) → Cut front rest
@@ -100,6 +100,6 @@ cut front rest each =
     let b : drop n (utf8 (front ++ rest)) ≡ utf8 rest = ap (λ (x : List ℕ). drop n x) (encodes-append front rest) ∙ drop_at (utf8 front) (utf8 rest) n refl in
     record {
       before = ap (λ (x : List ℕ). take n x) (encodes-append front rest) ∙ take_at (utf8 front) (utf8 rest) n refl;
-      behind = b;
+      after = b;
       left = ap chars b ∙ chars-utf8 rest (AreChars-parts front rest each).1;
     }

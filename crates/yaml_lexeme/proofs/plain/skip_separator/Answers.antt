@@ -1,9 +1,9 @@
 use Rattle.std.proofs.Common.{◌≡◌, ◌||◌, true, false, refl, ap, length, arith}
-use Rattle.yaml_lexeme.proofs.Places.PlaceMoves.{behind_more, length_one, length_skip}
+use Rattle.yaml_lexeme.proofs.Places.PlaceMoves.{after_run_more, length_one, length_skip}
 use Rattle.yaml_lexeme.proofs.Readers.PlainLinks.{Passes, passes_more, passes_spaces, passes_none, passes_all, takes_found}
 use Rattle.yaml_lexeme.specs.Classes.{is_white}
 use Rattle.yaml_lexeme.specs.Fold.{fold}
-use Rattle.yaml_lexeme.specs.Place.{Place, first, run, run_len, behind}
+use Rattle.yaml_lexeme.specs.Place.{Place, first, run, run_len, after_run}
 use Rattle.yaml_lexeme.specs.Plain.{is_bad_tab, separator}
 use Rattle.yaml_text.specs.Classes.{is_break}
 use Rattle.yaml_lexeme.specs.declared.runs.class_t.TheVariants.{SPACE}
@@ -33,11 +33,11 @@ pub run-smaller : goal.run-smaller
 run-smaller c =
     let p = c.run.cursor in
     let space : is_white (first p) ≡ true = cc in
-    omega (arith, length_one p, (behind_more is_white p space refl).0, ap (λ (q : Place). length q.rest) c.advance.ensures, ap (λ (q : Place). length q.rest) c.skip_run.ensures, length_skip (run_len (class_test SPACE) c.advance.new.self) c.advance.new.self)
+    omega (arith, length_one p, (after_run_more is_white p space refl).0, ap (λ (q : Place). length q.rest) c.advance.ensures, ap (λ (q : Place). length q.rest) c.skip_run.ensures, length_skip (run_len (class_test SPACE) c.advance.new.self) c.advance.new.self)
 
 pub returns : goal.returns
 returns c =
     let p = c.run.cursor in
     let other : is_white (first p) ≡ false = cc in
     let start = c.args.cursor.now in
-    takes_found (separator c.args.least start) (fold (run is_white start)) p (behind is_white start) (passes_all c.args.least c.run.broken p start other c.run.invariant)
+    takes_found (separator c.args.least start) (fold (run is_white start)) p (after_run is_white start) (passes_all c.args.least c.run.broken p start other c.run.invariant)

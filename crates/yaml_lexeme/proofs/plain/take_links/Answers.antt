@@ -2,7 +2,7 @@ use Rattle.std.proofs.Common.{◌≡◌, ◌∙◌}
 use Rattle.std.proofs.lemmas.Result.{err_from_is_err_and}
 use Rattle.yaml_text.specs.Classes.{is_blank, is_break}
 use Rattle.yaml_lexeme.specs.Classes.{is_white}
-use Rattle.yaml_lexeme.specs.Place.{first, behind}
+use Rattle.yaml_lexeme.specs.Place.{first, after_run}
 use Rattle.yaml_lexeme.specs.Reading.{with_front}
 use Rattle.yaml_lexeme.specs.inside.Words.{links}
 use Rattle.yaml_lexeme.proofs.Readers.PlainLinks.{scalar_made}
@@ -26,6 +26,6 @@ returns c = λ p whole.
     let out = c.take_link.new.out.items in
     let took = rw c.if-branch.false at c.in_ok-take_link.ensures.value in
     let all = plain_words flow least p q out (whole ∙ c.links.invariant ∙ took) in
-    let b : c.is_break-passed_break.result ≡ is_break (first (behind is_blank q)) = cc in
-    let r : c.skip_run-2.new.self ≡ behind is_white (behind is_blank q) = cc in
+    let b : c.is_break-passed_break.result ≡ is_break (first (after_run is_blank q)) = cc in
+    let r : c.skip_run-2.new.self ≡ after_run is_white (after_run is_blank q) = cc in
     scalar_made flow least p q c.skip_run-2.new.self out c.mark.result c.is_break-passed_break.result all c.mark.ensures.value b r

@@ -5,16 +5,16 @@ use Rattle.yaml_lexeme.proofs.Places.PlaceMoves.{length_skip}
 use Rattle.yaml_lexeme.proofs.ManyBytes.TrimmedLists.{trim_bytes}
 use Rattle.yaml_lexeme.proofs.Readers.LineFronts.{IsFront, run_front, trimmed_front}
 use Rattle.yaml_lexeme.proofs.Readers.QuotedLines.{run_goes_on, trimmed_goes_on}
-use Rattle.yaml_lexeme.specs.Place.{Place, first, behind, run, run_len}
+use Rattle.yaml_lexeme.specs.Place.{Place, first, after_run, run, run_len}
 use Rattle.yaml_lexeme.specs.inside.Runs.{class_test, line_of, trim}
 use Rattle.yaml_lexeme.proofs.quoted.line_piece.Goals as goal
 use Rattle.yaml_lexeme.proofs.quoted.line_piece.Goals.{After-run-piece}
 
-piece : (c : After-run-piece) → let test = class_test (line_of c.args.single) in (c.run-piece.new.self ≡ behind test c.args.cursor.now) × (c.run-piece.result.now ≡ utf8 (run test c.args.cursor.now))
+piece : (c : After-run-piece) → let test = class_test (line_of c.args.single) in (c.run-piece.new.self ≡ after_run test c.args.cursor.now) × (c.run-piece.result.now ≡ utf8 (run test c.args.cursor.now))
 piece c =
     let p = c.args.cursor.now in
     let class = c.line_class.ensures in
-    (c.run-piece.ensures.end ∙ ap (λ l. behind (class_test l) p) class, c.run-piece.ensures.value ∙ ap (λ l. utf8 (run (class_test l) p)) class)
+    (c.run-piece.ensures.end ∙ ap (λ l. after_run (class_test l) p) class, c.run-piece.ensures.value ∙ ap (λ l. utf8 (run (class_test l) p)) class)
 
 shorter : (c : After-run-piece) → length c.run-piece.new.self.rest ≤ length c.args.cursor.now.rest
 shorter c =

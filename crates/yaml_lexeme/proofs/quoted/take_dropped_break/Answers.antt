@@ -2,7 +2,7 @@ use Rattle.std.proofs.Common.{◌≡◌, true, false, not, ◌||◌, ◌==◌, �
 use Rattle.yaml_lexeme.proofs.Readers.QuotedBody.{at_break, takes_unmarked}
 use Rattle.yaml_lexeme.proofs.Readers.FoldSeparators.{breaks_at}
 use Rattle.yaml_lexeme.specs.Classes.{is_white}
-use Rattle.yaml_lexeme.specs.Place.{first, peek, skip, behind, break_len}
+use Rattle.yaml_lexeme.specs.Place.{first, peek, skip, after_run, break_len}
 use Rattle.yaml_lexeme.specs.Quoted.{quote, body_part}
 use Rattle.yaml_text.specs.Classes.{is_z, is_break}
 use Rattle.yaml_lexeme.proofs.quoted.take_dropped_break.Goals as goal
@@ -18,4 +18,4 @@ returns c =
     let break : is_break (peek p 1) ≡ true = c.requires.line_end in
     let at : c.skip.new.self ≡ q = cc in
     let end = rw at at c.in_ok-push_breaks.ensures.end in
-    rw end (takes_unmarked (body_part false p) c.unmarked.result (breaks_at q) _ _ p (behind is_white q) (at_break false p more other inside plain break) (rw (c.again.ensures ∙ end) at c.unmarked.ensures) (rw at at c.in_ok-push_breaks.ensures.value))
+    rw end (takes_unmarked (body_part false p) c.unmarked.result (breaks_at q) _ _ p (after_run is_white q) (at_break false p more other inside plain break) (rw (c.again.ensures ∙ end) at c.unmarked.ensures) (rw at at c.in_ok-push_breaks.ensures.value))

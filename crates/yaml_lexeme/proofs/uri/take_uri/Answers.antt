@@ -1,6 +1,6 @@
 use Rattle.std.proofs.lemmas.Result.{err_from_is_err_and}
 use Rattle.yaml_lexeme.proofs.Parts.PartByPart.{reads_more, reads_all, reads_none}
-use Rattle.yaml_lexeme.proofs.Readers.UriOctets.{uri_shortens, uri_behind, uri_taken, uri_refused}
+use Rattle.yaml_lexeme.proofs.Readers.UriOctets.{uri_shortens, uri_after, uri_taken, uri_refused}
 use Rattle.yaml_lexeme.specs.Uri.{uri_part}
 use Rattle.yaml_lexeme.proofs.uri.take_uri.Goals as goal
 
@@ -8,19 +8,19 @@ pub parts-preserved : goal.parts-preserved
 parts-preserved c =
     let one = uri_part c.args.listed in
     let took = rw c.if-branch.true at c.in_ok-take_uri_part.ensures in
-    (reads_more (λ cs. cs) one (uri_shortens c.args.listed) c.parts.cursor c.take_uri_part.new.cursor _ _ (uri_behind c.args.listed c.args.out.now.items c.args.cursor.now) took c.parts.invariant).1
+    (reads_more (λ cs. cs) one (uri_shortens c.args.listed) c.parts.cursor c.take_uri_part.new.cursor _ _ (uri_after c.args.listed c.args.out.now.items c.args.cursor.now) took c.parts.invariant).1
 
 pub parts-smaller : goal.parts-smaller
 parts-smaller c =
     let one = uri_part c.args.listed in
     let took = rw c.if-branch.true at c.in_ok-take_uri_part.ensures in
-    (reads_more (λ cs. cs) one (uri_shortens c.args.listed) c.parts.cursor c.take_uri_part.new.cursor _ _ (uri_behind c.args.listed c.args.out.now.items c.args.cursor.now) took c.parts.invariant).0
+    (reads_more (λ cs. cs) one (uri_shortens c.args.listed) c.parts.cursor c.take_uri_part.new.cursor _ _ (uri_after c.args.listed c.args.out.now.items c.args.cursor.now) took c.parts.invariant).0
 
 pub returns : goal.returns
 returns c =
     let one = uri_part c.args.listed in
     let took = rw c.if-branch.false at c.in_ok-take_uri_part.ensures in
-    let all = reads_all (λ cs. cs) one (uri_shortens c.args.listed) c.parts.cursor c.take_uri_part.new.cursor _ c.take_uri_part.new.out.items (uri_behind c.args.listed c.args.out.now.items c.args.cursor.now) took c.parts.invariant in
+    let all = reads_all (λ cs. cs) one (uri_shortens c.args.listed) c.parts.cursor c.take_uri_part.new.cursor _ c.take_uri_part.new.out.items (uri_after c.args.listed c.args.out.now.items c.args.cursor.now) took c.parts.invariant in
     uri_taken c.args.listed c.args.cursor.now c.take_uri_part.new.cursor c.args.out.now.items c.take_uri_part.new.out.items all
 
 pub returns-in_err-take_uri_part : goal.returns-in_err-take_uri_part
@@ -28,5 +28,5 @@ returns-in_err-take_uri_part c =
     let one = uri_part c.args.listed in
     let error = c.in_err-take_uri_part.field-0.0 in
     let e = err_from_is_err_and c.from_residual.result c.from_residual.ensures.1 in
-    let none = reads_none (λ cs. cs) one (uri_shortens c.args.listed) error c.parts.cursor c.take_uri_part.new.cursor _ (uri_behind c.args.listed c.args.out.now.items c.args.cursor.now) c.in_err-take_uri_part.ensures c.parts.invariant in
+    let none = reads_none (λ cs. cs) one (uri_shortens c.args.listed) error c.parts.cursor c.take_uri_part.new.cursor _ (uri_after c.args.listed c.args.out.now.items c.args.cursor.now) c.in_err-take_uri_part.ensures c.parts.invariant in
     rw (e.1, e.2) (uri_refused error c.args.listed c.args.cursor.now c.take_uri_part.new.cursor c.args.out.now.items none)

@@ -1,6 +1,6 @@
 use Rattle.std.proofs.Common.{◌∙◌, ap, arith, length}
 use Rattle.std.proofs.lemmas.List.{length-drop}
-use Rattle.yaml_lexeme.specs.Place.{Place, behind}
+use Rattle.yaml_lexeme.specs.Place.{Place, after_run}
 use Rattle.yaml_lexeme.specs.inside.Runs.{class_test, begins}
 use Rattle.yaml_lexeme.proofs.ManyBytes.CharacterCounts.{count_small}
 use Rattle.yaml_lexeme.proofs.Places.CursorMoves.{QuietMove, quiet_moves}
@@ -18,7 +18,7 @@ invariant_of-self c =
     ((moved (goal.at.invariant_of-self c).After-quiet_len-n).text, omega (arith, c.quiet_len-n.ensures.bound, length-drop n s, c.self.invariant.1), omega (arith, c.quiet_len-n.ensures.chars, count_small begins n s, c.self.invariant.2))
 
 pub returns-clause-goes : goal.returns-clause-goes
-returns-clause-goes c = rw c.rest-self-inside.ensures ((moved (goal.at.returns-clause-goes c).After-quiet_len-n).goes ∙ ap (λ (p : Place). behind (class_test c.args.class) p) c.self.view_is)
+returns-clause-goes c = rw c.rest-self-inside.ensures ((moved (goal.at.returns-clause-goes c).After-quiet_len-n).goes ∙ ap (λ (p : Place). after_run (class_test c.args.class) p) c.self.view_is)
 
 pub returns-clause-shorter : goal.returns-clause-shorter
 returns-clause-shorter c = rw c.rest-self-inside.ensures (omega (arith, (moved (goal.at.returns-clause-shorter c).After-quiet_len-n).shorter, ap (λ (p : Place). length p.rest) c.self.view_is))
