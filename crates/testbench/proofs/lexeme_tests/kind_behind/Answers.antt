@@ -1,6 +1,6 @@
 use Rattle.std.proofs.Common.{refl}
 use Rattle.yaml_lexeme.proofs.CountedMarks.CountedPlaces.{marks_counted}
-use Rattle.lexlist.proofs.lexeme_tests.kind_behind.Goals as goal
+use Rattle.testbench.proofs.lexeme_tests.kind_behind.Goals as goal
 
 pub yaml_lexeme_kind-requires : goal.yaml_lexeme_kind-requires
 yaml_lexeme_kind-requires c =

@@ -4,8 +4,8 @@ use Rattle.yaml_lexeme.specs.Lexeme.{lexeme_of}
 use Rattle.yaml_lexeme.specs.Order.{is_stream_end}
 use Rattle.yaml_lexeme.specs.Place.{IsMarkOf}
 use Rattle.yaml_scan.proofs.Texts.TextPlaces.{gap_ends}
-use Rattle.lexlist.proofs.Walks.{reaches}
-use Rattle.lexlist.proofs.measure.read_after.Goals as goal
+use Rattle.testbench.proofs.Walks.{reaches}
+use Rattle.testbench.proofs.measure.read_after.Goals as goal
 
 pub yaml_lexeme_kind-requires : goal.yaml_lexeme_kind-requires
 yaml_lexeme_kind-requires c =

@@ -1,4 +1,6 @@
-//! Lists what is at places of texts, for tests of the lexemes and for measuring them.
+//! Answers test scripts, makes calls in which memory may be refused, and measures; its tests are those of two crates.
+//!
+//! These crates are `yaml_lexeme` and `yaml_scan`: the gate would prove them once more if their tests were theirs.
 //!
 //! Each line of the input is a question about a text in UTF-8, or about an input, and the answer is one line:
 //!

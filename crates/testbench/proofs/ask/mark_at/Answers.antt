@@ -1,6 +1,6 @@
 use Rattle.std.proofs.Common.{refl}
 use Rattle.yaml_lexeme.proofs.CountedMarks.CountedPlaces.{marks_counted}
-use Rattle.lexlist.proofs.ask.mark_at.Goals as goal
+use Rattle.testbench.proofs.ask.mark_at.Goals as goal
 
 pub returns : goal.returns
 returns c =
