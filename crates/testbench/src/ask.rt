@@ -21,16 +21,22 @@ pub fn mark_at(text: &yaml_text_t, index: usize) -> Option<yaml_mark_t>
     Some(yaml_mark_at(text, index))
 }
 
+/// What a gap depends on besides the text: whether it is in flow, and whether a key is allowed before it.
+#[derive(Clone, Copy)]
+struct around_t {
+    in_flow: bool,
+    allowed: bool,
+}
+
 fn ask_gap(
     alloc: Global,
     text: &yaml_text_t,
     at: yaml_mark_t,
-    in_flow: bool,
-    allowed: bool,
+    around: around_t,
 ) -> Result<String, AllocError>
     requires { (n : ℕ) × IsMarkOf text.now.chars at n }
 {
-    let (end, broken) = yaml_gap(text, at, in_flow, allowed);
+    let (end, broken) = yaml_gap(text, at, around.in_flow, around.allowed);
     let mut shown = show_mark(alloc, end)?;
     shown.push_str(if broken { " true" } else { " false" })?;
     Ok(shown)
@@ -86,7 +92,7 @@ fn ask(alloc: Global, words: &[&str], text: &yaml_text_t) -> Result<Option<Strin
                 return Ok(None);
             };
             match mark_of(text, index) {
-                Some(at) => Ok(Some(ask_gap(alloc, text, at, in_flow, allowed)?)),
+                Some(at) => Ok(Some(ask_gap(alloc, text, at, around_t { in_flow, allowed })?)),
                 None => Ok(None),
             }
         }

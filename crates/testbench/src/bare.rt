@@ -34,18 +34,28 @@ fn is_bare(kind: yaml_lexeme_kind_t) -> bool {
     }
 }
 
+/// Where a lexeme is asked for: the mark, and how many flow collections are open there.
+#[derive(Clone, Copy)]
+struct place_t {
+    at: yaml_mark_t,
+    depth: u64,
+}
+
 /// The end of the lexeme at a place if it takes no memory, and else the place.
-fn bare_end(alloc: Global, text: &yaml_text_t, at: yaml_mark_t, depth: u64) -> yaml_mark_t
-    requires { (n : ℕ) × IsMarkOf text.now.chars at n }
+fn bare_end(alloc: Global, text: &yaml_text_t, place: place_t) -> yaml_mark_t
+    requires { (n : ℕ) × IsMarkOf text.now.chars place.at n }
 {
-    let context = yaml_context_t { depth, level: None };
-    let Some(kind) = yaml_lexeme_kind(text, at, context.depth > 0) else {
-        return at;
+    let context = yaml_context_t {
+        depth: place.depth,
+        level: None,
+    };
+    let Some(kind) = yaml_lexeme_kind(text, place.at, context.depth > 0) else {
+        return place.at;
     };
     if !is_bare(kind) {
-        return at;
+        return place.at;
     }
-    match yaml_lexeme_at(alloc, text, at, kind, context) {
+    match yaml_lexeme_at(alloc, text, place.at, kind, context) {
         Ok(lexeme) => lexeme.end_mark,
         Err(fault) => fault.problem_mark,
     }
@@ -63,16 +73,16 @@ fn put_lexeme(
     out: &mut impl Write,
     alloc: Global,
     text: &yaml_text_t,
-    at: yaml_mark_t,
-    depth: u64,
+    place: place_t,
 ) -> io::Result<()>
-    requires { (n : ℕ) × IsMarkOf text.now.chars at n }
+    requires { (n : ℕ) × IsMarkOf text.now.chars place.at n }
 {
-    let (gap, broken) = yaml_gap(text, at, depth > 0, true);
+    let (at, in_flow) = (place.at, place.depth > 0);
+    let (gap, broken) = yaml_gap(text, at, in_flow, true);
     put_mark(out, gap)?;
-    put_mark(out, bare_end(alloc, text, at, depth))?;
-    let kind = name_of(yaml_lexeme_kind(text, at, depth > 0));
-    let decider = name_of(yaml_decider_at(text, at, depth > 0));
+    put_mark(out, bare_end(alloc, text, place))?;
+    let kind = name_of(yaml_lexeme_kind(text, at, in_flow));
+    let decider = name_of(yaml_decider_at(text, at, in_flow));
     write!(out, " {broken} {kind} {decider}")
 }
 
@@ -129,8 +139,8 @@ fn put_place(
     };
     write!(out, "PLACE")?;
     put_mark(out, at)?;
-    put_lexeme(out, alloc, text, at, 0)?;
-    put_lexeme(out, alloc, text, at, 1)?;
+    put_lexeme(out, alloc, text, place_t { at, depth: 0 })?;
+    put_lexeme(out, alloc, text, place_t { at, depth: 1 })?;
     put_classes(out, text.bytes(), index)
 }
 

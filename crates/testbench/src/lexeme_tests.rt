@@ -20,6 +20,12 @@ const FRONT: yaml_mark_t = yaml_mark_t {
     column: 0,
 };
 
+/// Outside of flow, with no level open.
+const OUTSIDE: yaml_context_t = yaml_context_t {
+    depth: 0,
+    level: None,
+};
+
 fn show_mark(alloc: Global, mark: yaml_mark_t) -> Result<String, Fail> {
     let (index, line, column) = (mark.index, mark.line, mark.column);
     Ok(format!(in alloc; "{index}:{line}:{column}")?)
@@ -187,18 +193,16 @@ fn scalar_read(
     alloc: Global,
     bytes: &[u8],
     kind: yaml_lexeme_kind_t,
-    depth: u64,
-    level: Option<u64>,
+    context: yaml_context_t,
 ) -> Result<String, Fail> {
     let Ok(text) = yaml_decode(alloc, bytes, ANY) else {
         return Err("refused".into());
     };
-    if let Some(column) = level
+    if let Some(column) = context.level
         && column > text.bytes().len() as u64
     {
         return Ok(String::from_str(alloc, "no level")?);
     }
-    let context = yaml_context_t { depth, level };
     let mut there = FRONT;
     let read = match kind {
         yaml_lexeme_kind_t::PLAIN => yaml_read_plain(alloc, &text, FRONT, context, &mut there),
@@ -811,8 +815,9 @@ fn plain_scalars_read(rt: HostRuntime) -> Result<(), Fail> {
         ("a:]", 0, None, "plain 613a5d 0:0:0 3:0:3 3:0:3 false"),
     ];
     for (text, depth, level, want) in rows {
+        let context = yaml_context_t { depth, level };
         let plain = yaml_lexeme_kind_t::PLAIN;
-        let shown = scalar_read(alloc, text.as_bytes(), plain, depth, level)?;
+        let shown = scalar_read(alloc, text.as_bytes(), plain, context)?;
         assert_eq!(rt; shown.as_str(), want, "{text}");
     }
     Ok(())
@@ -853,7 +858,7 @@ fn quoted_scalars_read(rt: HostRuntime) -> Result<(), Fail> {
         ),
     ];
     for (text, kind, want) in rows {
-        let shown = scalar_read(alloc, text.as_bytes(), kind, 0, None)?;
+        let shown = scalar_read(alloc, text.as_bytes(), kind, OUTSIDE)?;
         assert_eq!(rt; shown.as_str(), want, "{text}");
     }
     Ok(())
@@ -904,7 +909,8 @@ fn block_scalars_read(rt: HostRuntime) -> Result<(), Fail> {
         ),
     ];
     for (text, kind, level, want) in rows {
-        let shown = scalar_read(alloc, text.as_bytes(), kind, 0, level)?;
+        let context = yaml_context_t { depth: 0, level };
+        let shown = scalar_read(alloc, text.as_bytes(), kind, context)?;
         assert_eq!(rt; shown.as_str(), want, "{text}");
     }
     Ok(())
@@ -924,7 +930,8 @@ fn refusals_of_scalars(rt: HostRuntime) -> Result<(), Fail> {
     ];
     for (text, kind, depth) in rows {
         let want = lexed(alloc, text.as_bytes(), depth, None)?;
-        let shown = scalar_read(alloc, text.as_bytes(), kind, depth, None)?;
+        let context = yaml_context_t { depth, level: None };
+        let shown = scalar_read(alloc, text.as_bytes(), kind, context)?;
         assert!(rt; want.as_str().starts_with("while"), "{text}");
         assert_eq!(rt; shown.as_str(), want.as_str(), "{text}");
     }

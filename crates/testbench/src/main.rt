@@ -47,7 +47,7 @@ mod show;
 mod words;
 
 use ask::answer;
-use measure::{measure, task_of};
+use measure::{measure, task_of, work_t};
 use session::{limit_or_usual, list_session, wrong_words};
 use std::io::{BufRead, BufReader, BufWriter, Read, Write};
 use std::{env, io};
@@ -69,7 +69,7 @@ fn measure_input(rt: &HostRuntime, words: &[String]) -> io::Result<()> {
     let limit = limit_or_usual(word_at(words, 2)).ok_or(wrong_words())?;
     let mut input = Vec::new(rt.alloc());
     rt.reader().read_to_end(&mut input)?;
-    let text = measure(rt, &input, task, limit)??;
+    let text = measure(rt, &input, work_t { task, limit })??;
     io::writer(rt).write_all(text.as_bytes())
 }
 

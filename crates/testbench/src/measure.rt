@@ -43,6 +43,13 @@ pub fn task_of(word: &str) -> task_t {
     }
 }
 
+/// A task, and the key limit of scanning.
+#[derive(Clone, Copy)]
+pub struct work_t {
+    pub task: task_t,
+    pub limit: u32,
+}
+
 /// How many bytes the lexeme at a place reaches over, outside of flow and with no level open.
 fn read_at(alloc: Global, text: &yaml_text_t, at: yaml_mark_t) -> u64
     requires { (n : ℕ) × IsMarkOf text.now.chars at n }
@@ -177,21 +184,21 @@ fn decode(alloc: Global, input: &[u8]) -> u64 {
     }
 }
 
-/// Does the task once, and returns how many bytes were read, tokens scanned or bytes decoded.
-fn done(alloc: Global, task: task_t, limit: u32, input: &[u8], text: &yaml_text_t) -> u64
-    requires least { 1 ≤ limit }
-    requires most { limit ≤ MOST_KEY_LIMIT }
+/// Does the work once, and returns how many bytes were read, tokens scanned or bytes decoded.
+fn done(alloc: Global, work: work_t, input: &[u8], text: &yaml_text_t) -> u64
+    requires least { 1 ≤ work.limit }
+    requires most { work.limit ≤ MOST_KEY_LIMIT }
 {
-    match task {
+    match work.task {
         task_t::FRONT => read_front(alloc, text),
         task_t::WALK => walk(alloc, text),
-        task_t::SCAN => scan(alloc, input, limit),
-        task_t::SINK => give(alloc, input, limit),
+        task_t::SCAN => scan(alloc, input, work.limit),
+        task_t::SINK => give(alloc, input, work.limit),
         task_t::DECODE => decode(alloc, input),
     }
 }
 
-/// Does the task on the input nine times. The key limit is that of scanning.
+/// Does the work on the input nine times.
 ///
 /// Returns a line: how many bytes were read, tokens scanned or bytes decoded, and the best and the median time in
 /// nanoseconds. The text is the longest front of the input that is one. If there is no memory for it, the line says
@@ -199,11 +206,10 @@ fn done(alloc: Global, task: task_t, limit: u32, input: &[u8], text: &yaml_text_
 pub fn measure(
     rt: &HostRuntime,
     input: &[u8],
-    task: task_t,
-    limit: u32,
+    work: work_t,
 ) -> io::Result<Result<String, AllocError>>
-    requires least { 1 ≤ limit }
-    requires most { limit ≤ MOST_KEY_LIMIT }
+    requires least { 1 ≤ work.limit }
+    requires most { work.limit ≤ MOST_KEY_LIMIT }
 {
     let alloc = rt.alloc();
     let any = yaml_encoding_t::YAML_ANY_ENCODING;
@@ -214,7 +220,7 @@ pub fn measure(
     let mut count = 0;
     for _ in 0..9 {
         let start = Instant::now(rt)?;
-        count = done(alloc, task, limit, input, &text);
+        count = done(alloc, work, input, &text);
         times.push(start.elapsed(rt)?.as_nanos())?;
     }
     times.sort()?;
