@@ -13,7 +13,7 @@ import subprocess
 import sys
 import tempfile
 
-from common import HERE, LEXLIST, YAMLTOK, build_libyaml, line
+from common import HERE, TESTBENCH, YAMLTOK, build_libyaml, line
 from decode import DECODING
 from growth import GROWTH
 from instructions import INSTRUCTIONS
@@ -86,7 +86,7 @@ def measured_lines(folder):
 
 
 def main():
-    missing = [name for name in (LEXLIST, YAMLTOK, "cc", "taskset", "valgrind") if not shutil.which(name)]
+    missing = [name for name in (TESTBENCH, YAMLTOK, "cc", "taskset", "valgrind") if not shutil.which(name)]
     if missing:
         raise SystemExit(f"not found: {', '.join(missing)}")
     path = sys.argv[1] if len(sys.argv) > 1 else os.path.join(HERE, "results.md")

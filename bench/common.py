@@ -7,7 +7,7 @@ import tempfile
 
 HERE = os.path.dirname(os.path.abspath(__file__))
 CRATES = os.path.join(HERE, "..", "crates")
-LEXLIST = os.path.join(CRATES, "lexlist", "out", "lexlist")
+TESTBENCH = os.path.join(CRATES, "testbench", "out", "testbench")
 YAMLTOK = os.path.join(CRATES, "yamltok", "out", "yamltok")
 PINNED = ["taskset", "-c", "1"]
 
@@ -36,7 +36,7 @@ def write_file(folder, data):
 
 
 def measure_ours(data, *words):
-    done = subprocess.run([*PINNED, LEXLIST, "measure", *words], input=data, capture_output=True, check=True)
+    done = subprocess.run([*PINNED, TESTBENCH, "measure", *words], input=data, capture_output=True, check=True)
     return Ours(*(int(n) for n in done.stdout.split()))
 
 

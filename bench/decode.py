@@ -1,7 +1,7 @@
 #!/usr/bin/env python3
 """Measures decoding alone, beside a copy of the same bytes, on one core, best of nine: decode.py.
 
-It needs the program lexlist as the gate builds it, a C compiler and libyaml's header (the copy is made by the program
+It needs the program testbench as the gate builds it, a C compiler and libyaml's header (the copy is made by the program
 that also scans with libyaml). Accepted UTF-8 is checked and borrowed, so nothing is written; UTF-16 makes a new text.
 """
 
@@ -19,7 +19,7 @@ def rows(folder):
     for name, text, data in decoded():
         ours = measure_ours(data, "decode")
         if ours.count != len(text.encode()):
-            print("lexlist does not measure decoding", file=sys.stderr)
+            print("testbench does not measure decoding", file=sys.stderr)
             return
         copy = measure_libyaml(folder, data).copy
         speeds = [f"{len(data) / time:.2f}" for time in (ours.best, copy)]

@@ -1,7 +1,7 @@
 #!/usr/bin/env python3
 """Shows that the time of deep inputs grows with their length: growth.py.
 
-It needs the program lexlist as the gate builds it. A key limit of 65,536 bytes is the largest: so many bytes may be read
+It needs the program testbench as the gate builds it. A key limit of 65,536 bytes is the largest: so many bytes may be read
 before it is known whether a key stands there.
 """
 
@@ -41,7 +41,7 @@ def takes_limits():
 def rows(_):
     limits = takes_limits()
     if not limits:
-        print("lexlist takes no key limit for measure scan: those rows are left out", file=sys.stderr)
+        print("testbench takes no key limit for measure scan: those rows are left out", file=sys.stderr)
     for name, text_of, count, limit in inputs():
         if limit is None or limits:
             once, twice = (measure(text_of(n), limit).best for n in (count, 2 * count))

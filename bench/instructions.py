@@ -9,7 +9,7 @@ a run of two. A listing is counted whole, with the start of the program and the 
 import re
 import subprocess
 
-from common import LEXLIST, YAMLTOK, Table, build_libyaml, measure_libyaml, measure_ours, print_table, ratio, write_file
+from common import TESTBENCH, YAMLTOK, Table, build_libyaml, measure_libyaml, measure_ours, print_table, ratio, write_file
 from texts import dense, json_text, realistic
 
 SIZE = 200_000
@@ -29,8 +29,8 @@ def row(folder, name, data):
     if measure_libyaml(folder, data, "1").count != tokens:
         raise SystemExit(f"{name}: libyaml has other tokens")
     libyaml, path = build_libyaml(folder), write_file(folder, data)
-    start = instructions([LEXLIST, "measure"], data)
-    ours = [(instructions([LEXLIST, "measure", word], data) - start) / SCANS for word in ("scan", "sink")]
+    start = instructions([TESTBENCH, "measure"], data)
+    ours = [(instructions([TESTBENCH, "measure", word], data) - start) / SCANS for word in ("scan", "sink")]
     listing = instructions([YAMLTOK, "scan", "any"], data)
     theirs = instructions([libyaml, path, "2"]) - instructions([libyaml, path, "1"])
     figures = [count / tokens for count in (*ours, listing, theirs)]

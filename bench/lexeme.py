@@ -1,7 +1,7 @@
 #!/usr/bin/env python3
 """Compares the speed of the readers of lexemes with libyaml's scanner and a plain copy, on one core, best and median of nine.
 
-lexeme.py needs the program lexlist as the gate builds it (crates/lexlist/out/lexlist), a C compiler and libyaml's header
+lexeme.py needs the program testbench as the gate builds it (crates/testbench/out/testbench), a C compiler and libyaml's header
 (Debian: libyaml-dev). Texts of about 1 MB are made anew each time, from a fixed seed.
 """
 

@@ -1,7 +1,7 @@
 #!/usr/bin/env python3
 """Measures listing the tokens of 10 MB to a file, beside scanning them, and the memory that it takes: listing.py.
 
-It needs the programs yamltok and lexlist as the gate builds them.
+It needs the programs yamltok and testbench as the gate builds them.
 """
 
 import os
@@ -23,7 +23,7 @@ COLUMNS = [
     "Most memory, MB",
 ]
 NOTE = """`yamltok scan any` reads a file and writes its listing to a file, from the start of the program to its end.
-`lexlist measure scan` scans the same bytes from memory and lists nothing. The system alone is what a small program in C
+`testbench measure scan` scans the same bytes from memory and lists nothing. The system alone is what a small program in C
 takes that reads the file, fills as much memory as the listing has, and writes that to a file. The three take turns, nine
 times, and each time is the best of all. The memory is the largest resident size of `yamltok`, in millions of bytes, of
 which the input is about 10."""

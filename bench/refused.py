@@ -1,7 +1,7 @@
 #!/usr/bin/env python3
 """Shows that an input that is refused at its end is scanned as fast as one that is not: refused.py.
 
-It needs the program lexlist as the gate builds it.
+It needs the program testbench as the gate builds it.
 """
 
 import random

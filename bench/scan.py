@@ -1,7 +1,7 @@
 #!/usr/bin/env python3
 """Compares the speed of the proved scanner with libyaml's, on the same bytes and one core, by turns, best of all.
 
-scan.py needs the program lexlist as the gate builds it (crates/lexlist/out/lexlist), a C compiler and libyaml's header
+scan.py needs the program testbench as the gate builds it (crates/testbench/out/testbench), a C compiler and libyaml's header
 (Debian: libyaml-dev). Each scans a text from memory to its end or its fault and throws the tokens away; nothing is listed.
 scan.py FILE.. measures those files instead of its own texts.
 """

@@ -1,5 +1,5 @@
 #!/usr/bin/env python3
-"""Counts the requests for memory that each call makes: counts.py PROGRAM, which runs its neighbour lexlist too.
+"""Counts the requests for memory that each call makes: counts.py PROGRAM, which runs its neighbour testbench too.
 
 No request is made by a call that takes no memory. These are, on every worked row of vectors/rows.txt, a new parser and
 the readers of its state; skip; scan and peek of a peeked token, after a fault, which may be a refused request, and after
@@ -57,11 +57,11 @@ def calls_without_memory(words, data, lines, done, counts):
     return bare, wrong, others
 
 
-def count_each(lexlist, refuser, words, data, lines):
+def count_each(testbench, refuser, words, data, lines):
     """Refuses no request, then each in turn. Sums what was counted, and runs, and those that are wrong."""
     number, more, total = 0, 1, [0, 0, 0, 0, 0]
     while number <= more:
-        done, counts, held = run_counted(lexlist, words, data, refuser, number, behind_read=True)
+        done, counts, held = run_counted(testbench, words, data, refuser, number, after_reading=True)
         found = calls_without_memory(words, data, lines, done, counts)
         more = sum(counts) if number == 0 else more
         is_wrong = bool(found[1] or held or done.returncode or done.stderr)
@@ -72,12 +72,12 @@ def count_each(lexlist, refuser, words, data, lines):
     return total
 
 
-def count_bare(lexlist, refuser):
+def count_bare(testbench, refuser):
     """Counts the requests of decoding of UTF-8 and of the calls at each place of a text: lines, wrong ones, kinds seen."""
     lines, wrong, kinds = 0, 0, set()
     for setting, data in sorted({(words[1], data) for words, data, _ in rows() if is_utf8(words[1], data)}):
         for command in "bare", "decode":
-            done, counts, held = run_counted(lexlist, [command, setting], data, refuser, 0, behind_read=True)
+            done, counts, held = run_counted(testbench, [command, setting], data, refuser, 0, after_reading=True)
             places = [line.split(" ") for line in done.stdout.decode("ascii", "replace").splitlines() if line.startswith("PLACE")]
             kinds |= {words[at] for words in places for at in (5, 10)}
             lines += len(places) if command == "bare" else 1
@@ -94,10 +94,10 @@ def is_freed(command):
     return done.returncode < 2 and NOTHING_HELD.search(done.stderr) is not None
 
 
-def count_blocks(program, lexlist):
+def count_blocks(program, testbench):
     """Runs each worked row, and its session, under valgrind: how many were run, and how many are wrong."""
     commands = [([program, *words], data) for words, data, _ in rows()]
-    commands += [([lexlist, *words], data) for words, data, _ in list(sessions())[::3]]
+    commands += [([testbench, *words], data) for words, data, _ in list(sessions())[::3]]
     with ThreadPoolExecutor(max_workers=os.cpu_count()) as pool:
         wrong = [command for command, freed in zip(commands, pool.map(is_freed, commands)) if not freed]
     for words, data in wrong[:10]:
@@ -106,14 +106,14 @@ def count_blocks(program, lexlist):
 
 
 def main(program):
-    lexlist = os.path.join(os.path.dirname(program), "..", "..", "lexlist", "out", "lexlist")
+    testbench = os.path.join(os.path.dirname(program), "..", "..", "testbench", "out", "testbench")
     every, total = list(sessions()), [0, 0, 0, 0, 0]
     with tempfile.TemporaryDirectory() as room:
         refuser = build_refuser(room)
         with ThreadPoolExecutor(max_workers=os.cpu_count()) as pool:
-            for found in pool.map(lambda one: count_each(lexlist, refuser, *one), every):
+            for found in pool.map(lambda one: count_each(testbench, refuser, *one), every):
                 total = [a + b for a, b in zip(total, found)]
-        places, places_wrong, kinds = count_bare(lexlist, refuser)
+        places, places_wrong, kinds = count_bare(testbench, refuser)
     bare, requests, others, runs, wrong = total
     print(f"counts: {len(every)} lists of calls, {runs} runs, {bare} calls that take no memory made {requests} requests, "
           f"the others {others}, {wrong} runs wrong")
@@ -122,7 +122,7 @@ def main(program):
     if shutil.which("valgrind") is None:
         print("counts: blocks are not counted: no valgrind")
         return 1 if is_wrong else 0
-    commands, held = count_blocks(program, lexlist)
+    commands, held = count_blocks(program, testbench)
     print(f"counts: {commands} runs under valgrind, {held} with blocks that are not freed or a wrong access")
     return 1 if is_wrong or held else 0
 

@@ -1,7 +1,7 @@
 #!/usr/bin/env python3
 """Compares decoding with a plain reading of the rules (lib/reading.py), on inputs near all borders: decodings.py PROGRAM.
 
-The program lexlist, which is beside the given one, answers the questions. The inputs are made from a fixed seed. Each is a
+The program testbench, which is beside the given one, answers the questions. The inputs are made from a fixed seed. Each is a
 run of characters of one kind that is longer than the program looks at at a time, with a few pieces put in at random places:
 characters at the ends of ranges, octets and units that may not stand there, halves of pairs, and characters that are cut.
 Many are cut at the end too. Needs a C compiler for the last part: with every request for memory refused, UTF-8 is decoded.
@@ -118,7 +118,7 @@ def takes_no_memory(program):
 
 
 def main(program):
-    program = os.path.join(os.path.dirname(os.path.abspath(program)), "..", "..", "lexlist", "out", "lexlist")
+    program = os.path.join(os.path.dirname(os.path.abspath(program)), "..", "..", "testbench", "out", "testbench")
     passed = [compare(program), takes_no_memory(program)]
     return 0 if all(passed) else 1
 

@@ -4,7 +4,7 @@
 Depth and levels have no limit but the input's length. Each input gives the lines that are expected, and the time of a scan
 grows with the input: twice the input takes at most three times as long. Where the input outgrows a cache of the machine,
 one doubling may take longer; so it is wrong only if three doublings, one after the other, take longer. The program
-`lexlist`, which is beside the given one, is used for the times.
+`testbench`, which is beside the given one, is used for the times.
 """
 
 import math
@@ -82,40 +82,40 @@ INPUTS = [
 LIMITS = {nested_keys: ["65536"]}
 
 
-def seconds_of(lexlist, text, limit):
+def seconds_of(testbench, text, limit):
     """How long the processor was busy for nine scans of the text; the waiting for a busy machine is not in it."""
     before = resource.getrusage(resource.RUSAGE_CHILDREN).ru_utime
-    words = [lexlist, "measure", "scan", *limit]
+    words = [testbench, "measure", "scan", *limit]
     subprocess.run(words, input=text.encode("ascii"), capture_output=True, check=True, timeout=TIMEOUT)
     return resource.getrusage(resource.RUSAGE_CHILDREN).ru_utime - before
 
 
-def count_to_measure(lexlist, text_of):
+def count_to_measure(testbench, text_of):
     """A count whose input takes long enough to be measured, or a large one if none does."""
     count, limit = MANY, LIMITS.get(text_of, [])
-    while count < 16 * MANY and seconds_of(lexlist, text_of(count), limit) < LEAST:
+    while count < 16 * MANY and seconds_of(testbench, text_of(count), limit) < LEAST:
         count *= 2
     return count
 
 
-def doubling_problem(lexlist, text_of, count):
+def doubling_problem(testbench, text_of, count):
     """Compares the best time of an input with the best time of one twice as long, each the best of several."""
     limit, once, twice = LIMITS.get(text_of, []), text_of(count), text_of(2 * count)
     best_once = best_twice = math.inf
     for pair in range(1, MOST_PAIRS + 1):
-        best_once = min(best_once, max(seconds_of(lexlist, once, limit), LEAST))
-        best_twice = min(best_twice, seconds_of(lexlist, twice, limit))
+        best_once = min(best_once, max(seconds_of(testbench, once, limit), LEAST))
+        best_twice = min(best_twice, seconds_of(testbench, twice, limit))
         if pair >= FEW_PAIRS and best_twice <= GROWTH * best_once:
             return None
     return f"{2 * count} took {best_twice:.2f} seconds, {count} took {best_once:.2f}"
 
 
-def growth_problem(lexlist, text_of):
+def growth_problem(testbench, text_of):
     """What is wrong with the growth of an input's time: each of several doublings takes too long."""
-    count = count_to_measure(lexlist, text_of)
+    count = count_to_measure(testbench, text_of)
     problems = []
     for doubling in range(DOUBLINGS):
-        found = doubling_problem(lexlist, text_of, count << doubling)
+        found = doubling_problem(testbench, text_of, count << doubling)
         if found is None:
             return None
         problems.append(found)
@@ -135,18 +135,18 @@ def listing_problem(program, text, wanted):
     return None if ends else f"ends with {lines[-1]}"
 
 
-def problem(program, lexlist, text_of, wanted):
+def problem(program, testbench, text_of, wanted):
     try:
-        return listing_problem(program, text_of(MANY), wanted) or growth_problem(lexlist, text_of)
+        return listing_problem(program, text_of(MANY), wanted) or growth_problem(testbench, text_of)
     except subprocess.TimeoutExpired:
         return f"took more than {TIMEOUT} seconds"
 
 
 def main(program):
-    lexlist = os.path.join(os.path.dirname(program), "..", "..", "lexlist", "out", "lexlist")
+    testbench = os.path.join(os.path.dirname(program), "..", "..", "testbench", "out", "testbench")
     wrong = 0
     for name, text_of, wanted in INPUTS:
-        found = problem(program, lexlist, text_of, wanted)
+        found = problem(program, testbench, text_of, wanted)
         if found:
             print(f"{name}: {found}")
             wrong += 1

@@ -9,7 +9,7 @@ only at a scan or a peek of a token that was not peeked, never after the stream 
 UTF-8 is decoded, or refused so early that the first step is near. If a request that comes before is refused, the lines
 may also be those with ample memory. All blocks are given back.
 
-Then the program lexlist, which is beside the given one, makes calls one by one on 100 entries, and on small inputs with
+Then the program testbench, which is beside the given one, makes calls one by one on 100 entries, and on small inputs with
 one step of each kind that takes memory, in UTF-8 and UTF-16. Each request that is refused in a call is answered by that
 call's fault, so nothing asks twice for the same memory. The answers before it are those with ample memory; after it come
 empty tokens. Needs a C compiler.
@@ -28,7 +28,7 @@ from worked import MEMORY, build_refuser, is_ended, rows, run_counted, session_o
 HUNDRED = b"- x\n" * 100
 ZERO = "0:0:0"
 WANTED = f"FAULT memory 0 0 {ZERO} {ZERO} -; -"
-# the answers of lexlist to calls after a fault
+# the answers of testbench to calls after a fault
 IDLE = {"s": f"TOKEN YAML_NO_TOKEN {ZERO} {ZERO}", "p": f"PEEKED TOKEN YAML_NO_TOKEN {ZERO} {ZERO}", "k": "NOTHING"}
 
 # Steps of each kind of lexeme that takes memory, outside of flow and in flow, and of those that grow what the scanner keeps.
@@ -85,7 +85,7 @@ def refuse_each(program, refuser, words, data, lines):
     A request that comes before the input's end is read may be made again, and so may the first one after that if calls
     are listed: collecting the words, and the calls, asks for the room of all at once and then for less.
     """
-    after_read = sum(run_counted(program, words, data, refuser, 0, behind_read=True)[1])
+    after_read = sum(run_counted(program, words, data, refuser, 0, after_reading=True)[1])
     seen, number, requests = {}, 0, after_read
     while number <= requests:
         done, counts, held = run_counted(program, words, data, refuser, number)
@@ -110,17 +110,17 @@ def is_refused_at(word, at, whole, found):
     return len(found) == len(whole) and found[: 2 * at] == whole[: 2 * at] and found[2 * at :: 2] == wanted and is_over
 
 
-def faults_of(lexlist, refuser, setting, data, word):
+def faults_of(testbench, refuser, setting, data, word):
     """Refuses each request of a list of calls in turn. Returns how many tokens come before the fault, for each.
 
     None if one is not answered by the fault of the call in which it is made.
     """
     words = ["each", setting, "1024", word]
-    done, counts, held = run_counted(lexlist, words, data, refuser, 0, behind_read=True)
+    done, counts, held = run_counted(testbench, words, data, refuser, 0, after_reading=True)
     whole, before, is_right = done.stdout.decode("ascii").splitlines(), [], not held and not done.stderr
     calls = [at for at, count in enumerate(counts[:-1:2]) for _ in range(count)]
     for number, at in enumerate(calls, 1):
-        done, _, held = run_counted(lexlist, words, data, refuser, number, behind_read=True)
+        done, _, held = run_counted(testbench, words, data, refuser, number, after_reading=True)
         found = done.stdout.decode("ascii").splitlines()
         if held or done.stderr or not is_refused_at(word, at, whole, found):
             print(f"{words}, {data[:80]!r}, {number}, call {at}: {done.stdout[-300:]!r}, {done.stderr!r}, {held} blocks")
@@ -139,7 +139,7 @@ def steps():
 
 def main(program):
     every, small = list(commands(program)), list(steps())
-    lexlist = os.path.join(os.path.dirname(program), "..", "..", "lexlist", "out", "lexlist")
+    testbench = os.path.join(os.path.dirname(program), "..", "..", "testbench", "out", "testbench")
     with tempfile.TemporaryDirectory() as room:
         refuser = build_refuser(room)
         total = {"whole": 0, "beginning": 0, "nothing": 0, None: 0}
@@ -147,8 +147,8 @@ def main(program):
             for seen in pool.map(lambda one: refuse_each(program, refuser, *one), every):
                 for kind, count in seen.items():
                     total[kind] += count
-            hundred = faults_of(lexlist, refuser, "any", HUNDRED, "s" * 310)
-            found = list(pool.map(lambda one: faults_of(lexlist, refuser, *one), small))
+            hundred = faults_of(testbench, refuser, "any", HUNDRED, "s" * 310)
+            found = list(pool.map(lambda one: faults_of(testbench, refuser, *one), small))
     wrong = total.pop(None)
     counts = ", ".join(f"{count} {kind}" for kind, count in total.items())
     print(f"growths: {len(every)} commands, {counts}, {wrong} wrong")

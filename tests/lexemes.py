@@ -1,7 +1,7 @@
 #!/usr/bin/env python3
-"""Compares gaps, kinds and lexemes with tests/lexemes.txt: lexemes.py PROGRAM, which runs lexlist of the neighbouring folder.
+"""Compares gaps, kinds and lexemes with tests/lexemes.txt: lexemes.py PROGRAM, which runs testbench of the neighbouring folder.
 
-A line of the file is a question for lexlist, a tab, and the line that it must return.
+A line of the file is a question for testbench, a tab, and the line that it must return.
 """
 
 import os
@@ -15,7 +15,7 @@ def main(program):
     with open(os.path.join(here, "lexemes.txt"), encoding="utf-8") as lines:
         rows = [line.rstrip("\n").split("\t") for line in lines]
     asked = "".join(ask + "\n" for ask, _ in rows)
-    done = subprocess.run([os.path.join(crates, "lexlist", "out", "lexlist")], input=asked.encode(), capture_output=True, timeout=120)
+    done = subprocess.run([os.path.join(crates, "testbench", "out", "testbench")], input=asked.encode(), capture_output=True, timeout=120)
     answers = done.stdout.decode().splitlines()
     wrong = [(ask, wanted, got) for (ask, wanted), got in zip(rows, answers) if wanted != got]
     for ask, wanted, got in wrong[:20]:

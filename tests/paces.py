@@ -1,5 +1,5 @@
 #!/usr/bin/env python3
-"""Compares how far a session has read after each call: paces.py PROGRAM, which runs its neighbour lexlist.
+"""Compares how far a session has read after each call: paces.py PROGRAM, which runs its neighbour testbench.
 
 A line of paces.txt.gz has three parts, separated by tabs: the encoding, the key limit and the calls; the input in
 hexadecimal; and after each call how many steps have a token in the queue and the mark up to which the last good step
@@ -28,19 +28,19 @@ def is_right(state, wanted, limit):
     return mark == place and (queued == count or count == "-" and int(queued) <= limit + 1)
 
 
-def is_row_right(lexlist, row):
+def is_row_right(testbench, row):
     words, data, wanted = row
-    done = subprocess.run([lexlist, "each", *words], input=data, capture_output=True, timeout=60)
+    done = subprocess.run([testbench, "each", *words], input=data, capture_output=True, timeout=60)
     states = done.stdout.decode("ascii").splitlines()[1::2]
     is_whole = len(states) == len(wanted) and not done.stderr and done.returncode == 0
     return is_whole and all(is_right(state, want, int(words[1])) for state, want in zip(states, wanted))
 
 
 def main(program):
-    lexlist = os.path.join(os.path.dirname(program), "..", "..", "lexlist", "out", "lexlist")
+    testbench = os.path.join(os.path.dirname(program), "..", "..", "testbench", "out", "testbench")
     every = list(rows())
     with ThreadPoolExecutor(max_workers=os.cpu_count()) as pool:
-        found = list(pool.map(lambda row: is_row_right(lexlist, row), every))
+        found = list(pool.map(lambda row: is_row_right(testbench, row), every))
     wrong = [row for row, right in zip(every, found) if not right]
     for words, data, _ in wrong[:10]:
         print(f"{words}, {data[:100]!r}")

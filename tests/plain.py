@@ -1,7 +1,7 @@
 #!/usr/bin/env python3
 """Compares the scanner with a plain program of two passes: plain.py PROGRAM.
 
-The plain program asks the program `lexlist`, which is beside the given one, for gaps, kinds and lexemes, reads all lexemes
+The plain program asks the program `testbench`, which is beside the given one, for gaps, kinds and lexemes, reads all lexemes
 of an input first, and lays the finished list out in a second pass. The inputs are those of vectors/scan.txt.gz that are
 accepted UTF-8 without a byte order mark, and the lines are those that the given program lists.
 """
@@ -156,18 +156,18 @@ class Reading:
         return self.lay_out(None)
 
 
-def ask(lexlist, questions):
+def ask(testbench, questions):
     data = "".join(question + "\n" for question in questions).encode("ascii")
-    done = subprocess.run([lexlist], input=data, capture_output=True, check=True, timeout=60)
+    done = subprocess.run([testbench], input=data, capture_output=True, check=True, timeout=60)
     return done.stdout.decode("ascii").splitlines()
 
 
-def answers(lexlist, scans):
+def answers(testbench, scans):
     """Runs all scans at once: each round asks one question of each that still reads."""
     found, going = {}, {place: next(scan) for place, scan in scans.items()}
     while going:
         places = list(going)
-        replies = ask(lexlist, [going[place] for place in places])
+        replies = ask(testbench, [going[place] for place in places])
         for place, reply in zip(places, replies, strict=True):
             try:
                 going[place] = scans[place].send(reply)
@@ -198,13 +198,13 @@ def is_text(data):
 
 
 def main(program):
-    lexlist = os.path.join(os.path.dirname(program), "..", "..", "lexlist", "out", "lexlist")
+    testbench = os.path.join(os.path.dirname(program), "..", "..", "testbench", "out", "testbench")
     chosen = {}
     for number, words, data in inputs():
         if len(chosen) < MOST:
             chosen[number] = words, data
     scans = {number: Reading(data, int(words[2]) if len(words) > 2 else 1024).scan() for number, (words, data) in chosen.items()}
-    plain = answers(lexlist, scans)
+    plain = answers(testbench, scans)
 
     def listed_at(place):
         words, data = chosen[place]

@@ -1,7 +1,7 @@
 #!/usr/bin/env python3
 """Refuses each request for memory in turn inside the calls of the library: sessions.py PROGRAM.
 
-The program lexlist, which is beside the given one, makes the calls.
+The program testbench, which is beside the given one, makes the calls.
 
 For each worked row of vectors/rows.txt, `yaml_run` is called twice on one parser, `yaml_scan_all_limit` once, and
 scan, peek and skip one by one. After the input is read only these calls take memory. If `yaml_run` is
@@ -27,7 +27,7 @@ WANTED = f"FAULT memory 0 0 {ZERO} {ZERO} -; -"
 
 
 def line_of(line):
-    """A line of the program's listing as lexlist writes it."""
+    """A line of the program's listing as testbench writes it."""
     kind, _, rest = line.partition(" ")
     if line == MEMORY:
         return WANTED
@@ -49,7 +49,7 @@ def line_of(line):
 
 
 def asked(rows_of_scans):
-    """The words for lexlist, the input, the row's lines, the setting and the limit."""
+    """The words for testbench, the input, the row's lines, the setting and the limit."""
     for words, data, lines in rows_of_scans:
         if words[0] == "scan":
             limit = words[2] if len(words) > 2 else "1024"
@@ -142,7 +142,7 @@ def judge(words, data, lines, done):
     return (judge_runs if words[0] == "calls" else judge_each)(lines, words, text, may_refuse)
 
 
-def refuse_each(lexlist, refuser, words, data, lines):
+def refuse_each(testbench, refuser, words, data, lines):
     """Refuses the first request after the input was read, the second, and so on, until none of three in a row is missed.
 
     A refused request is answered, so after a run that is whole no other one is refused.
@@ -150,7 +150,7 @@ def refuse_each(lexlist, refuser, words, data, lines):
     seen, in_a_row, number = {}, 0, 0
     while in_a_row < 3 and number < 5000:
         number += 1
-        done = run(lexlist, words, data, refuser, str(number), behind_read=True)
+        done = run(testbench, words, data, refuser, str(number), after_reading=True)
         kind = judge(words, data, lines, done)
         if kind not in (None, "whole") and in_a_row:
             kind = None
@@ -161,7 +161,7 @@ def refuse_each(lexlist, refuser, words, data, lines):
     return seen
 
 
-def without_memory(lexlist, refuser):
+def without_memory(testbench, refuser):
     """UTF-8 with every request refused: decoding, and a scan and a peek if the reader's fault is early."""
     count = wrong = 0
     for words, data, lines in rows():
@@ -180,7 +180,7 @@ def without_memory(lexlist, refuser):
             wanted.append((["each", words[1], "1024", "ss"], (fault + "\n" + state + idle + state).encode()))
             wanted.append((["each", words[1], "1024", "ps"], (fault + "\n" + state + idle + state).encode()))
         for ask, want in wanted:
-            done = run(lexlist, ask, data, refuser, "1-", behind_read=True)
+            done = run(testbench, ask, data, refuser, "1-", after_reading=True)
             count += 1
             if (done.stdout, done.stderr, done.returncode) != (want, b"", 0):
                 wrong += 1
@@ -189,16 +189,16 @@ def without_memory(lexlist, refuser):
 
 
 def main(program):
-    lexlist = os.path.join(os.path.dirname(program), "..", "..", "lexlist", "out", "lexlist")
+    testbench = os.path.join(os.path.dirname(program), "..", "..", "testbench", "out", "testbench")
     every = list(asked(rows()))
     total = {"whole": 0, "refused": 0, "wanted": 0, None: 0}
     with tempfile.TemporaryDirectory() as room:
         refuser = build_refuser(room)
         with ThreadPoolExecutor(max_workers=os.cpu_count()) as pool:
-            for seen in pool.map(lambda one: refuse_each(lexlist, refuser, *one), every):
+            for seen in pool.map(lambda one: refuse_each(testbench, refuser, *one), every):
                 for kind, count in seen.items():
                     total[kind] += count
-        bare, bare_wrong = without_memory(lexlist, refuser)
+        bare, bare_wrong = without_memory(testbench, refuser)
     wrong = total.pop(None)
     counts = ", ".join(f"{count} {kind}" for kind, count in total.items())
     print(f"sessions: {len(every)} lists of calls, {counts}, {wrong} wrong")

@@ -30,7 +30,7 @@ from queue import SimpleQueue
 TOP = os.path.dirname(os.path.dirname(os.path.dirname(os.path.abspath(__file__))))
 RT = shlex.split(os.environ.get("RT", "rt"))
 BUILD = shlex.split(os.environ.get("BUILD", ""))
-PROGRAMS = ("yamltok", "lexlist")
+PROGRAMS = ("yamltok", "testbench")
 WORKERS = 3
 MOST = 12
 

@@ -77,7 +77,7 @@ def end_of(characters):
 
 
 def reading(setting, data):
-    """What `lexlist` answers to `decode SETTING DATA`."""
+    """What `testbench` answers to `decode SETTING DATA`."""
     encoding, at = encoding_of(setting, data)
     characters = []
     while at < len(data):

@@ -92,22 +92,22 @@ def build_refuser(room):
     return path
 
 
-def run(program, words, data, refuser, number, behind_read=False, counts=None):
+def run(program, words, data, refuser, number, after_reading=False, counts=None):
     """Runs a program in which the request of that number is refused, none for 0, all from N on for `N-`. The counts of
     requests are written to the file `counts`."""
     environment = {**os.environ, "LD_PRELOAD": refuser, "REFUSED_GROWTH": str(number)}
-    if behind_read:
+    if after_reading:
         environment["REFUSED_BEHIND_READ"] = "1"
     if counts:
         environment["COUNTED_GROWTHS"] = counts
     return subprocess.run([program, *words], input=data, capture_output=True, timeout=60, env=environment)
 
 
-def run_counted(program, words, data, refuser, number, behind_read=False):
+def run_counted(program, words, data, refuser, number, after_reading=False):
     """Runs it likewise. Returns what it did, how many requests it made for each line that it wrote and after the last
     one, and how many blocks were not freed."""
     path = os.path.join(os.path.dirname(refuser), f"counts.{threading.get_ident()}")
-    done = run(program, words, data, refuser, number, behind_read, path)
+    done = run(program, words, data, refuser, number, after_reading, path)
     with open(path, encoding="ascii") as lines:
         *counts, held = map(int, lines)
     os.remove(path)

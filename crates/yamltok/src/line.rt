@@ -146,30 +146,32 @@ fn set_scalar(buffer: &mut [u8], at: usize, value: &[u8], style: yaml_scalar_sty
     set_text(buffer, end, value)
 }
 
+/// What the line of a token begins with: its type and its marks.
+#[derive(Clone, Copy)]
+pub struct head_t {
+    pub kind: yaml_token_type_t,
+    pub start_mark: yaml_mark_t,
+    pub end_mark: yaml_mark_t,
+}
+
 /// Writes the type and the marks of a token at a place, and returns where they end; the empty token has no marks.
 ///
 /// The marks are moved here, so that the rest of a token can stay in registers.
 #[inline(never)]
-pub fn set_head(
-    buffer: &mut [u8],
-    at: usize,
-    kept: &mut kept_mark_t,
-    kind: yaml_token_type_t,
-    start_mark: yaml_mark_t,
-    end_mark: yaml_mark_t,
-) -> usize
+pub fn set_head(buffer: &mut [u8], at: usize, kept: &mut kept_mark_t, head: head_t) -> usize
     requires { at + 164 ≤ length buffer.old }
-    ensures text { take result buffer.new ≡ take at buffer.old ++ parts_text (head_parts kind start_mark end_mark) }
+    ensures text { take result buffer.new
+        ≡ take at buffer.old ++ parts_text (head_parts head.kind head.start_mark head.end_mark) }
     ensures low { at ≤ result }
     ensures high { result ≤ at + 164 }
 {
-    let (row, len) = name_row(kind);
+    let (row, len) = name_row(head.kind);
     let end = set_row(buffer, at, row, len);
-    match kind {
+    match head.kind {
         yaml_token_type_t::YAML_NO_TOKEN => end,
         _ => {
-            let next = kept.set(buffer, end, start_mark);
-            kept.set(buffer, next, end_mark)
+            let next = kept.set(buffer, end, head.start_mark);
+            kept.set(buffer, next, head.end_mark)
         }
     }
 }
@@ -296,15 +298,13 @@ pub fn put_line(
     ensures place { at ≤ vec_len bytes.new }
 {
     make_room(bytes, at, 0)?;
-    let head = set_head(
-        bytes,
-        at,
-        kept,
-        token.type_(),
-        token.start_mark,
-        token.end_mark,
-    );
-    let end = put_data(bytes, head, &token.token_data)?;
+    let head = head_t {
+        kind: token.type_(),
+        start_mark: token.start_mark,
+        end_mark: token.end_mark,
+    };
+    let head_end = set_head(bytes, at, kept, head);
+    let end = put_data(bytes, head_end, &token.token_data)?;
     bytes[end] = b'\n';
     Ok(end + 1)
 }

@@ -12,7 +12,7 @@ ghost use Rattle.yamltok.specs.inside.Put.{Puts, more_parts_text};
 ghost use Rattle.yamltok.specs.Listing.{reader_line, scanner_line, fault_line, text_line};
 ghost use Rattle.yamltok.specs.Listing.{token_line, peek_line, answer_line, answer_lines};
 
-use crate::line::{HEAD, encoding_word, put_line, set_head};
+use crate::line::{HEAD, encoding_word, head_t, put_line, set_head};
 use crate::mark::{kept_mark_t, put_mark};
 use crate::put::{cut_back, put_decimal, put_part, put_signed, put_text};
 use std::alloc::{AllocError, Global};
@@ -48,19 +48,26 @@ fn put_texts(out: &mut Vec<u8>, context: &str, problem: &str) -> Result<(), Allo
     put_part(out, problem)
 }
 
+/// The marks of a scanner's fault: those of its context and of its problem.
+#[derive(Clone, Copy)]
+struct marks_t {
+    context: yaml_mark_t,
+    problem: yaml_mark_t,
+}
+
 /// Appends the line of a scanner's fault to `out`.
 fn put_scanner_fault(
     out: &mut Vec<u8>,
-    context_mark: yaml_mark_t,
+    marks: marks_t,
     context: &str,
-    problem_mark: yaml_mark_t,
     problem: &str,
 ) -> Result<(), AllocError>
-    ensures { Puts result out.old.items (scanner_line context_mark context.now problem_mark problem.now) out.new.items }
+    ensures { Puts result out.old.items
+        (scanner_line marks.context context.now marks.problem problem.now) out.new.items }
 {
     put_text(out, "FAULT scanner")?;
-    put_mark(out, context_mark)?;
-    put_mark(out, problem_mark)?;
+    put_mark(out, marks.context)?;
+    put_mark(out, marks.problem)?;
     put_texts(out, context, problem)?;
     put_text(out, "\n")
 }
@@ -77,13 +84,11 @@ fn put_fault(out: &mut Vec<u8>, fault: &yaml_fault_t) -> Result<(), AllocError>
         }
         yaml_error_type_t::YAML_SCANNER_ERROR => {
             let context = fault.context.unwrap_or("-");
-            put_scanner_fault(
-                out,
-                fault.context_mark,
-                context,
-                fault.problem_mark,
-                problem,
-            )
+            let marks = marks_t {
+                context: fault.context_mark,
+                problem: fault.problem_mark,
+            };
+            put_scanner_fault(out, marks, context, problem)
         }
         _ => put_text(out, "FAULT memory\n"),
     }
@@ -154,25 +159,13 @@ pub fn list_token(alloc: Global, token: &yaml_token_t, out: &mut Vec<u8>) -> Res
 }
 
 /// Appends the line of a token that is shown to `out`. If memory is refused, a part of it may stay.
-fn put_peek(
-    out: &mut Vec<u8>,
-    kind: yaml_token_type_t,
-    start_mark: yaml_mark_t,
-    end_mark: yaml_mark_t,
-) -> Result<(), AllocError>
-    ensures { Puts result out.old.items (peek_line kind start_mark end_mark) out.new.items }
+fn put_peek(out: &mut Vec<u8>, head: head_t) -> Result<(), AllocError>
+    ensures { Puts result out.old.items (peek_line head.kind head.start_mark head.end_mark) out.new.items }
 {
-    let mut head = [0u8; HEAD];
-    let end = set_head(
-        &mut head,
-        0,
-        &mut kept_mark_t::new(),
-        kind,
-        start_mark,
-        end_mark,
-    );
+    let mut bytes = [0u8; HEAD];
+    let end = set_head(&mut bytes, 0, &mut kept_mark_t::new(), head);
     put_text(out, "PEEK ")?;
-    out.extend_from_slice(&head[..end])?;
+    out.extend_from_slice(&bytes[..end])?;
     put_text(out, "\n")
 }
 
@@ -190,7 +183,12 @@ pub fn list_peek(
     ensures err { OnErr result (out.new.items ≡ out.old.items) }
 {
     let len = out.len();
-    let outcome = put_peek(out, kind, start_mark, end_mark);
+    let head = head_t {
+        kind,
+        start_mark,
+        end_mark,
+    };
+    let outcome = put_peek(out, head);
     cut_back(out, len, outcome)
 }
 

@@ -1,5 +1,5 @@
 //! Commands, inputs, and the lines that they give.
-use crate::tests::expect;
+use crate::tests::{expect, wanted_t};
 use std::alloc::{AllocError, Global};
 use std::process::Abort;
 use std::test::Fail;
@@ -10,7 +10,11 @@ pub(crate) type row_t = (&'static str, &'static [u8], u8, &'static str);
 /// Asserts what each row says.
 pub(crate) fn expect_rows(rt: &(impl Abort + AllocGlobal), rows: &[row_t]) -> Result<(), Fail> {
     for (command, input, status, lines) in rows {
-        expect(rt, command, input, *status, lines)?;
+        let wanted = wanted_t {
+            status: *status,
+            lines,
+        };
+        expect(rt, command, input, wanted)?;
     }
     Ok(())
 }
@@ -1277,13 +1281,11 @@ fn expect_long(rt: &(impl Abort + AllocGlobal), row: &long_row_t) -> Result<(), 
     let input = repeated(rt.alloc(), &[row.before, row.part, row.after], row.count)?;
     let lines = [row.lines_before, row.lines_part, row.lines_after];
     let lines = repeated(rt.alloc(), &lines, row.count)?;
-    expect(
-        rt,
-        row.command,
-        input.as_bytes(),
-        row.status,
-        lines.as_str(),
-    )
+    let wanted = wanted_t {
+        status: row.status,
+        lines: lines.as_str(),
+    };
+    expect(rt, row.command, input.as_bytes(), wanted)
 }
 
 /// Asserts what each long row says.

@@ -3,7 +3,7 @@ use crate::args::yaml_command_t;
 use crate::devices::{yaml_sink_of_t, yaml_source_of_t, yaml_source_t};
 use crate::outcome::{tool_fault_t, yaml_status};
 use crate::run::run;
-use crate::tests::{expect, expect_wrong, slow_reader_t};
+use crate::tests::{expect, expect_wrong, slow_reader_t, wanted_t};
 use std::process::Abort;
 use std::test::Fail;
 use yaml_text::yaml_encoding_t;
@@ -22,7 +22,8 @@ FLOW-SEQUENCE-END 2:0:2 3:0:3
 STREAM-END 3:1:0 3:1:0
 NO-TOKEN
 ";
-    expect(&rt, "calls any ppkskpssss", b"[a]", 0, lines)
+    let wanted = wanted_t { status: 0, lines };
+    expect(&rt, "calls any ppkskpssss", b"[a]", wanted)
 }
 
 #[test]
@@ -39,7 +40,8 @@ PEEK NO-TOKEN
 SKIP NOTHING
 NO-TOKEN
 ";
-    expect(&rt, "calls any ssssssppks", b"a: b: c", 1, lines)
+    let wanted = wanted_t { status: 1, lines };
+    expect(&rt, "calls any ssssssppks", b"a: b: c", wanted)
 }
 
 /// Words that spell no command that scans.

@@ -69,6 +69,15 @@ impl Write for slow_writer_t {
     }
 }
 
+/// A writer that has taken nothing yet.
+fn slow_writer(alloc: Global, calls: usize, fails: bool) -> slow_writer_t {
+    slow_writer_t {
+        taken: Vec::new(alloc),
+        calls,
+        fails,
+    }
+}
+
 pub(crate) fn words_of(alloc: Global, command: &str) -> Result<Vec<String>, Fail> {
     let mut words = Vec::new(alloc);
     for word in command.split(' ') {
@@ -94,17 +103,23 @@ fn outcome_of<R: Read + Drop, W: Write + Drop>(
     Ok((outcome, sink.inner))
 }
 
+/// What a command is to give: its exit status, and the lines that it writes.
+#[derive(Clone, Copy)]
+pub(crate) struct wanted_t<'a> {
+    pub(crate) status: u8,
+    pub(crate) lines: &'a str,
+}
+
 /// Asserts the status of a command on an input, and what it writes.
 pub(crate) fn expect(
     rt: &(impl Abort + AllocGlobal),
     command: &str,
     input: &[u8],
-    status: u8,
-    lines: &str,
+    wanted: wanted_t<'_>,
 ) -> Result<(), Fail> {
-    let alloc = rt.alloc();
+    let (alloc, lines) = (rt.alloc(), wanted.lines);
     let (outcome, written) = outcome_of(alloc, command, input, Vec::new(alloc))?;
-    assert_eq!(rt; yaml_status(&outcome), status, "{command}: {lines}");
+    assert_eq!(rt; yaml_status(&outcome), wanted.status, "{command}: {lines}");
     assert_eq!(rt; written.as_slice(), lines.as_bytes(), "{command}: {lines}");
     Ok(())
 }
@@ -116,10 +131,14 @@ fn is_command(alloc: Global, command: &str) -> Result<bool, Fail> {
 
 /// Asserts that the words of each command spell none, and that the program says so.
 pub(crate) fn expect_wrong(rt: &(impl Abort + AllocGlobal), commands: &[&str]) -> Result<(), Fail> {
+    let wanted = wanted_t {
+        status: 2,
+        lines: "",
+    };
     for command in commands {
         let is_command = is_command(rt.alloc(), command)?;
         assert!(rt; !is_command, "{command}");
-        expect(rt, command, b"a: 1", 2, "")?;
+        expect(rt, command, b"a: 1", wanted)?;
     }
     Ok(())
 }
@@ -217,23 +236,16 @@ fn reads_fail(rt: HostRuntime) -> Result<(), Fail> {
     Ok(())
 }
 
-/// A write that fails or takes nothing, at any call, and one byte a call.
+/// A write that fails or takes nothing, at the call that this writer sets, and one byte a call.
 fn expect_written(
     rt: &(impl Abort + AllocGlobal),
     command: &str,
     lines: &str,
-    calls: usize,
-    fails: bool,
+    writer: slow_writer_t,
 ) -> Result<(), Fail> {
-    let alloc = rt.alloc();
     let lines = lines.as_bytes();
-    let writer = slow_writer_t {
-        taken: Vec::new(alloc),
-        calls,
-        fails,
-    };
-    let (outcome, writer) = outcome_of(alloc, command, b"a: 1".as_slice(), writer)?;
-    let count = calls.min(lines.len());
+    let count = writer.calls.min(lines.len());
+    let (outcome, writer) = outcome_of(rt.alloc(), command, b"a: 1".as_slice(), writer)?;
     assert_eq!(rt; writer.taken.as_slice(), &lines[..count]);
     if count == lines.len() {
         assert_eq!(rt; outcome, Ok(false));
@@ -248,8 +260,8 @@ fn expect_written(
 fn writes_fail(rt: HostRuntime) -> Result<(), Fail> {
     for (command, lines) in &LISTED {
         for calls in 0..250 {
-            expect_written(&rt, command, lines, calls, true)?;
-            expect_written(&rt, command, lines, calls, false)?;
+            expect_written(&rt, command, lines, slow_writer(rt.alloc(), calls, true))?;
+            expect_written(&rt, command, lines, slow_writer(rt.alloc(), calls, false))?;
         }
     }
     Ok(())
@@ -267,12 +279,7 @@ fn devices_say_that_they_failed(rt: HostRuntime) -> Result<(), Fail> {
     assert!(rt; !source.failed());
     assert_eq!(rt; source.pull(&mut [0u8; 4]), Err(yaml_broken_t));
     assert!(rt; source.failed());
-    let writer = slow_writer_t {
-        taken: Vec::new(rt.alloc()),
-        calls: 0,
-        fails: false,
-    };
-    let mut sink = yaml_sink_of_t::new(writer);
+    let mut sink = yaml_sink_of_t::new(slow_writer(rt.alloc(), 0, false));
     assert!(rt; !sink.failed());
     assert_eq!(rt; sink.put(b"a"), Err(yaml_broken_t));
     assert!(rt; sink.failed());

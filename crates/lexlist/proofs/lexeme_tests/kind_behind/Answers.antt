@@ -1,8 +1,0 @@
-use Rattle.std.proofs.Common.{refl}
-use Rattle.yaml_lexeme.proofs.CountedMarks.CountedPlaces.{marks_counted}
-use Rattle.lexlist.proofs.lexeme_tests.kind_after.Goals as goal
-
-pub yaml_lexeme_kind-requires : goal.yaml_lexeme_kind-requires
-yaml_lexeme_kind-requires c =
-    let place = c.if-not-yaml_is_place.ensures.0 refl in
-    (place.0, (marks_counted c.in-Ok.text.chars c.args.index place.0 c.yaml_mark_at-at.result place.1).0 (c.yaml_mark_at-at.ensures place.0 place.1))

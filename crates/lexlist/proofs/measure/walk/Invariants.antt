@@ -1,6 +1,0 @@
-use Rattle.std.proofs.Common.{ℕ}
-use Rattle.yaml_lexeme.specs.Place.{IsMarkOf}
-use Rattle.lexlist.proofs.measure.walk.Given as goal
-
-abbrev pub invariant-lexemes : goal.invariant-lexemes
-invariant-lexemes l = (n : ℕ) × IsMarkOf l.text.chars l.at n

@@ -1,0 +1,1044 @@
+//! Gaps, kinds and lexemes.
+use std::alloc::Global;
+use std::process::Abort;
+use std::test::Fail;
+use yaml_lexeme::{
+    yaml_context_t, yaml_decider_at, yaml_gap, yaml_lexeme_at, yaml_lexeme_fault, yaml_lexeme_kind,
+    yaml_lexeme_kind_t, yaml_lexeme_t, yaml_read_block, yaml_read_character, yaml_read_lexeme,
+    yaml_read_plain, yaml_read_quoted, yaml_refusal_t,
+};
+use yaml_text::{
+    unnamed_yaml_token_t_data, yaml_decode, yaml_encoding_t, yaml_error_type_t, yaml_fault_t,
+    yaml_is_place, yaml_mark_at, yaml_mark_t, yaml_scalar_style_t,
+};
+
+const ANY: yaml_encoding_t = yaml_encoding_t::YAML_ANY_ENCODING;
+
+const FRONT: yaml_mark_t = yaml_mark_t {
+    index: 0,
+    line: 0,
+    column: 0,
+};
+
+/// Outside of flow, with no level open.
+const OUTSIDE: yaml_context_t = yaml_context_t {
+    depth: 0,
+    level: None,
+};
+
+fn show_mark(alloc: Global, mark: yaml_mark_t) -> Result<String, Fail> {
+    let (index, line, column) = (mark.index, mark.line, mark.column);
+    Ok(format!(in alloc; "{index}:{line}:{column}")?)
+}
+
+fn show_bytes(alloc: Global, bytes: &[u8]) -> Result<String, Fail> {
+    let mut shown = String::new(alloc);
+    for byte in bytes {
+        let pair = format!(in alloc; "{byte:02x}")?;
+        shown.push_str(&pair)?;
+    }
+    if shown.is_empty() {
+        shown.push('-')?;
+    }
+    Ok(shown)
+}
+
+fn show_two(alloc: Global, name: &str, first: &[u8], second: &[u8]) -> Result<String, Fail> {
+    let (first, second) = (show_bytes(alloc, first)?, show_bytes(alloc, second)?);
+    Ok(format!(in alloc; "{name} {first} {second}")?)
+}
+
+fn show_one(alloc: Global, name: &str, value: &[u8]) -> Result<String, Fail> {
+    let value = show_bytes(alloc, value)?;
+    Ok(format!(in alloc; "{name} {value}")?)
+}
+
+fn style_name(style: yaml_scalar_style_t) -> &'static str {
+    match style {
+        yaml_scalar_style_t::YAML_PLAIN_SCALAR_STYLE => "plain",
+        yaml_scalar_style_t::YAML_SINGLE_QUOTED_SCALAR_STYLE => "single",
+        yaml_scalar_style_t::YAML_DOUBLE_QUOTED_SCALAR_STYLE => "double",
+        yaml_scalar_style_t::YAML_LITERAL_SCALAR_STYLE => "literal",
+        yaml_scalar_style_t::YAML_FOLDED_SCALAR_STYLE => "folded",
+        _ => "no style",
+    }
+}
+
+/// The type of a token that says nothing more.
+fn bare_name(data: &unnamed_yaml_token_t_data) -> &'static str {
+    match data {
+        unnamed_yaml_token_t_data::STREAM_END => "end",
+        unnamed_yaml_token_t_data::DOCUMENT_START => "document start",
+        unnamed_yaml_token_t_data::DOCUMENT_END => "document end",
+        unnamed_yaml_token_t_data::FLOW_SEQUENCE_START => "sequence start",
+        unnamed_yaml_token_t_data::FLOW_SEQUENCE_END => "sequence end",
+        unnamed_yaml_token_t_data::FLOW_MAPPING_START => "mapping start",
+        unnamed_yaml_token_t_data::FLOW_MAPPING_END => "mapping end",
+        unnamed_yaml_token_t_data::FLOW_ENTRY => "flow entry",
+        unnamed_yaml_token_t_data::BLOCK_ENTRY => "block entry",
+        unnamed_yaml_token_t_data::KEY => "key",
+        unnamed_yaml_token_t_data::VALUE => "value",
+        _ => "no lexeme",
+    }
+}
+
+fn show_data(alloc: Global, data: &unnamed_yaml_token_t_data) -> Result<String, Fail> {
+    match data {
+        unnamed_yaml_token_t_data::VERSION_DIRECTIVE { major, minor } => {
+            Ok(format!(in alloc; "version {major} {minor}")?)
+        }
+        unnamed_yaml_token_t_data::TAG_DIRECTIVE { handle, prefix } => {
+            show_two(alloc, "handle", handle.as_slice(), prefix.as_slice())
+        }
+        unnamed_yaml_token_t_data::TAG { handle, suffix } => {
+            show_two(alloc, "tag", handle.as_slice(), suffix.as_slice())
+        }
+        unnamed_yaml_token_t_data::ALIAS { value } => show_one(alloc, "alias", value.as_slice()),
+        unnamed_yaml_token_t_data::ANCHOR { value } => show_one(alloc, "anchor", value.as_slice()),
+        unnamed_yaml_token_t_data::SCALAR { value, style } => {
+            show_one(alloc, style_name(*style), value.as_slice())
+        }
+        _ => Ok(String::from_str(alloc, bare_name(data))?),
+    }
+}
+
+/// Data, start, end, reach and flag.
+fn show_lexeme(alloc: Global, lexeme: &yaml_lexeme_t) -> Result<String, Fail> {
+    let data = show_data(alloc, &lexeme.token_data)?;
+    let start = show_mark(alloc, lexeme.start_mark)?;
+    let end = show_mark(alloc, lexeme.end_mark)?;
+    let reach = show_mark(alloc, lexeme.reach)?;
+    let passed = lexeme.passed_break;
+    Ok(format!(in alloc; "{data} {start} {end} {reach} {passed}")?)
+}
+
+/// Context with its mark, problem with its mark.
+fn show_fault(alloc: Global, fault: &yaml_fault_t) -> Result<String, Fail> {
+    let context = fault.context.unwrap_or("-");
+    let at = show_mark(alloc, fault.context_mark)?;
+    let problem = fault.problem.unwrap_or("-");
+    let there = show_mark(alloc, fault.problem_mark)?;
+    Ok(format!(in alloc; "{context} {at}; {problem} {there}")?)
+}
+
+/// The gap at the front of a text, and whether a break is in it.
+fn show_gap(alloc: Global, bytes: &[u8], in_flow: bool, allowed: bool) -> Result<String, Fail> {
+    let Ok(text) = yaml_decode(alloc, bytes, ANY) else {
+        return Err("refused".into());
+    };
+    let (mark, broken) = yaml_gap(&text, FRONT, in_flow, allowed);
+    let mark = show_mark(alloc, mark)?;
+    Ok(format!(in alloc; "{mark} {broken}")?)
+}
+
+/// The kind after so many bytes of a text.
+fn kind_after(
+    alloc: Global,
+    bytes: &[u8],
+    index: usize,
+    in_flow: bool,
+) -> Result<Option<yaml_lexeme_kind_t>, Fail> {
+    let Ok(text) = yaml_decode(alloc, bytes, ANY) else {
+        return Err("refused".into());
+    };
+    if !yaml_is_place(&text, index) {
+        return Err("no place".into());
+    }
+    let at = yaml_mark_at(&text, index);
+    Ok(yaml_lexeme_kind(&text, at, in_flow))
+}
+
+fn kind_of(alloc: Global, bytes: &[u8], in_flow: bool) -> Result<Option<yaml_lexeme_kind_t>, Fail> {
+    let Ok(text) = yaml_decode(alloc, bytes, ANY) else {
+        return Err("refused".into());
+    };
+    Ok(yaml_lexeme_kind(&text, FRONT, in_flow))
+}
+
+/// The lexeme at the front of a text.
+fn lexed(alloc: Global, bytes: &[u8], depth: u64, level: Option<u64>) -> Result<String, Fail> {
+    let Ok(text) = yaml_decode(alloc, bytes, ANY) else {
+        return Err("refused".into());
+    };
+    let Some(kind) = yaml_lexeme_kind(&text, FRONT, depth > 0) else {
+        return Ok(String::from_str(alloc, "no kind")?);
+    };
+    if let Some(column) = level
+        && column > text.bytes().len() as u64
+    {
+        return Ok(String::from_str(alloc, "no level")?);
+    }
+    let context = yaml_context_t { depth, level };
+    match yaml_lexeme_at(alloc, &text, FRONT, kind, context) {
+        Ok(lexeme) => show_lexeme(alloc, &lexeme),
+        Err(fault) => show_fault(alloc, &fault),
+    }
+}
+
+/// What a reader of a kind returned at the front of a text: the lexeme, or the fault of its refusal.
+fn show_read(
+    alloc: Global,
+    read: Result<yaml_lexeme_t, yaml_refusal_t>,
+    kind: yaml_lexeme_kind_t,
+    there: yaml_mark_t,
+) -> Result<String, Fail> {
+    match read {
+        Ok(lexeme) => show_lexeme(alloc, &lexeme),
+        Err(refusal) => show_fault(alloc, &yaml_lexeme_fault(refusal, kind, FRONT, there)),
+    }
+}
+
+/// The scalar at the front of a text, by the reader of its kind.
+fn scalar_read(
+    alloc: Global,
+    bytes: &[u8],
+    kind: yaml_lexeme_kind_t,
+    context: yaml_context_t,
+) -> Result<String, Fail> {
+    let Ok(text) = yaml_decode(alloc, bytes, ANY) else {
+        return Err("refused".into());
+    };
+    if let Some(column) = context.level
+        && column > text.bytes().len() as u64
+    {
+        return Ok(String::from_str(alloc, "no level")?);
+    }
+    let mut there = FRONT;
+    let read = match kind {
+        yaml_lexeme_kind_t::PLAIN => yaml_read_plain(Vec::new(alloc), &text, FRONT, context, &mut there),
+        yaml_lexeme_kind_t::SINGLE_QUOTED => {
+            yaml_read_quoted(Vec::new(alloc), &text, FRONT, true, &mut there)
+        }
+        yaml_lexeme_kind_t::DOUBLE_QUOTED => {
+            yaml_read_quoted(Vec::new(alloc), &text, FRONT, false, &mut there)
+        }
+        yaml_lexeme_kind_t::LITERAL => {
+            yaml_read_block(Vec::new(alloc), &text, FRONT, false, context, &mut there)
+        }
+        yaml_lexeme_kind_t::FOLDED => {
+            yaml_read_block(Vec::new(alloc), &text, FRONT, true, context, &mut there)
+        }
+        _ => return Ok(String::from_str(alloc, "no scalar")?),
+    };
+    show_read(alloc, read, kind, there)
+}
+
+/// The lexeme at the front of a text, by the reader of every kind.
+fn lexeme_read(alloc: Global, bytes: &[u8], depth: u64) -> Result<String, Fail> {
+    let Ok(text) = yaml_decode(alloc, bytes, ANY) else {
+        return Err("refused".into());
+    };
+    let Some(kind) = yaml_lexeme_kind(&text, FRONT, depth > 0) else {
+        return Ok(String::from_str(alloc, "no kind")?);
+    };
+    let context = yaml_context_t { depth, level: None };
+    let mut there = FRONT;
+    let read = yaml_read_lexeme(alloc, &text, FRONT, kind, context, &mut there);
+    show_read(alloc, read, kind, there)
+}
+
+/// The lexeme of one character at the front of a text.
+fn character_read(alloc: Global, bytes: &[u8], in_flow: bool) -> Result<String, Fail> {
+    let Ok(text) = yaml_decode(alloc, bytes, ANY) else {
+        return Err("refused".into());
+    };
+    let Some(kind) = yaml_lexeme_kind(&text, FRONT, in_flow) else {
+        return Ok(String::from_str(alloc, "no kind")?);
+    };
+    match kind {
+        yaml_lexeme_kind_t::FLOW_SEQUENCE_START
+        | yaml_lexeme_kind_t::FLOW_MAPPING_START
+        | yaml_lexeme_kind_t::FLOW_SEQUENCE_END
+        | yaml_lexeme_kind_t::FLOW_MAPPING_END
+        | yaml_lexeme_kind_t::FLOW_ENTRY
+        | yaml_lexeme_kind_t::BLOCK_ENTRY
+        | yaml_lexeme_kind_t::KEY
+        | yaml_lexeme_kind_t::VALUE => {
+            show_lexeme(alloc, &yaml_read_character(&text, FRONT, kind))
+        }
+        _ => Ok(String::from_str(alloc, "no character")?),
+    }
+}
+
+/// The kind at the front of a text, if it may decide there whether a scalar before it is a key.
+fn decider_at(
+    alloc: Global,
+    bytes: &[u8],
+    in_flow: bool,
+) -> Result<Option<yaml_lexeme_kind_t>, Fail> {
+    let Ok(text) = yaml_decode(alloc, bytes, ANY) else {
+        return Err("refused".into());
+    };
+    Ok(yaml_decider_at(&text, FRONT, in_flow))
+}
+
+/// Texts, the flow depth and the greatest open level at their front, and what their first lexeme must be.
+fn expect_rows(
+    rt: &impl Abort,
+    alloc: Global,
+    rows: &[(&str, u64, Option<u64>, &str)],
+) -> Result<(), Fail> {
+    for (text, depth, level, want) in rows {
+        let shown = lexed(alloc, text.as_bytes(), *depth, *level)?;
+        assert_eq!(rt; shown.as_str(), *want, "{text}");
+    }
+    Ok(())
+}
+
+#[test]
+fn gaps(rt: HostRuntime) -> Result<(), Fail> {
+    let alloc = rt.alloc();
+    let gaps: [(&str, bool, bool, &str); 5] = [
+        ("\t#c\n  x", false, false, "6:1:2 true"),
+        ("\t#c\n  x", false, true, "0:0:0 false"),
+        ("\n\tx", false, false, "1:1:0 true"),
+        ("\n\tx", true, false, "2:1:1 true"),
+        ("\n\u{FEFF} x", false, false, "5:1:2 true"),
+    ];
+    for (bytes, in_flow, allowed, want) in gaps {
+        let shown = show_gap(alloc, bytes.as_bytes(), in_flow, allowed)?;
+        assert_eq!(rt; shown.as_str(), want, "{bytes}");
+    }
+    Ok(())
+}
+
+#[test]
+fn kinds(rt: HostRuntime) -> Result<(), Fail> {
+    let alloc = rt.alloc();
+    let rows: [(&str, bool, yaml_lexeme_kind_t); 6] = [
+        ("-x", false, yaml_lexeme_kind_t::PLAIN),
+        ("-", false, yaml_lexeme_kind_t::BLOCK_ENTRY),
+        ("---x", false, yaml_lexeme_kind_t::PLAIN),
+        ("---", false, yaml_lexeme_kind_t::DOCUMENT_START),
+        ("?x", false, yaml_lexeme_kind_t::PLAIN),
+        ("?x", true, yaml_lexeme_kind_t::KEY),
+    ];
+    for (bytes, in_flow, want) in rows {
+        let found = kind_of(alloc, bytes.as_bytes(), in_flow)?;
+        assert!(rt; found == Some(want), "{bytes}");
+    }
+    Ok(())
+}
+
+#[test]
+fn kinds_at_the_start_of_a_line(rt: HostRuntime) -> Result<(), Fail> {
+    let alloc = rt.alloc();
+    let rows: [(&str, usize, Option<yaml_lexeme_kind_t>); 3] = [
+        (" %", 1, None),
+        ("\n%", 1, Some(yaml_lexeme_kind_t::DIRECTIVE)),
+        (" ---", 1, Some(yaml_lexeme_kind_t::PLAIN)),
+    ];
+    for (text, index, want) in rows {
+        let found = kind_after(alloc, text.as_bytes(), index, false)?;
+        assert!(rt; found == want, "{text}");
+    }
+    Ok(())
+}
+
+#[test]
+fn no_kind(rt: HostRuntime) -> Result<(), Fail> {
+    let rows: [(&str, u64, Option<u64>, &str); 2] = [
+        ("@", 0, None, "no kind"),
+        ("|", 1, None, "no kind"),
+    ];
+    expect_rows(&rt, rt.alloc(), &rows)
+}
+
+/// Document markers, and lexemes of one character.
+#[test]
+fn kinds_of_fixed_length(rt: HostRuntime) -> Result<(), Fail> {
+    let rows: [(&str, u64, Option<u64>, &str); 13] = [
+        ("---", 0, None, "document start 0:0:0 3:0:3 3:0:3 false"),
+        ("---\n", 1, None, "document start 0:0:0 3:0:3 3:0:3 false"),
+        ("... x", 0, None, "document end 0:0:0 3:0:3 3:0:3 false"),
+        ("[a", 0, None, "sequence start 0:0:0 1:0:1 1:0:1 false"),
+        ("]", 1, None, "sequence end 0:0:0 1:0:1 1:0:1 false"),
+        ("{a", 1, None, "mapping start 0:0:0 1:0:1 1:0:1 false"),
+        ("}", 0, None, "mapping end 0:0:0 1:0:1 1:0:1 false"),
+        (",", 1, None, "flow entry 0:0:0 1:0:1 1:0:1 false"),
+        ("- a", 0, Some(0), "block entry 0:0:0 1:0:1 1:0:1 false"),
+        ("? a", 0, None, "key 0:0:0 1:0:1 1:0:1 false"),
+        ("?a", 1, None, "key 0:0:0 1:0:1 1:0:1 false"),
+        (": a", 0, None, "value 0:0:0 1:0:1 1:0:1 false"),
+        (":a", 1, None, "value 0:0:0 1:0:1 1:0:1 false"),
+    ];
+    expect_rows(&rt, rt.alloc(), &rows)
+}
+
+#[test]
+fn stream_end(rt: HostRuntime) -> Result<(), Fail> {
+    let rows: [(&str, u64, Option<u64>, &str); 1] = [("", 0, None, "end 0:0:0 0:0:0 0:0:0 false")];
+    assert!(rt; kind_after(rt.alloc(), b"a", 1, false)? == Some(yaml_lexeme_kind_t::STREAM_END));
+    expect_rows(&rt, rt.alloc(), &rows)
+}
+
+/// Separators in plain and quoted scalars.
+#[test]
+fn folded_separators(rt: HostRuntime) -> Result<(), Fail> {
+    let rows: [(&str, u64, Option<u64>, &str); 5] = [
+        ("a\n\nb", 0, None, "plain 610a62 0:0:0 4:2:1 4:2:1 false"),
+        (
+            "a\u{2028}b",
+            0,
+            None,
+            "plain 61e280a862 0:0:0 5:1:1 5:1:1 false",
+        ),
+        ("a\r\nb", 0, None, "plain 612062 0:0:0 4:1:1 4:1:1 false"),
+        (
+            "\"a\u{2028}\nb\"",
+            0,
+            None,
+            "double 61e280a80a62 0:0:0 8:2:2 8:2:2 false",
+        ),
+        (
+            "\"a\n\n  b\"",
+            0,
+            None,
+            "double 610a62 0:0:0 8:2:4 8:2:4 false",
+        ),
+    ];
+    expect_rows(&rt, rt.alloc(), &rows)
+}
+
+#[test]
+fn quoted_scalars(rt: HostRuntime) -> Result<(), Fail> {
+    let rows: [(&str, u64, Option<u64>, &str); 4] = [
+        (
+            "'it''s'",
+            0,
+            None,
+            "single 69742773 0:0:0 7:0:7 7:0:7 false",
+        ),
+        (
+            "\"a  b \t\n c\"",
+            0,
+            None,
+            "double 612020622063 0:0:0 11:1:3 11:1:3 false",
+        ),
+        (
+            "\"a\n--- b\"",
+            0,
+            None,
+            "while scanning a quoted scalar 0:0:0; found unexpected document indicator 3:1:0",
+        ),
+        (
+            "'a",
+            0,
+            None,
+            "while scanning a quoted scalar 0:0:0; found unexpected end of stream 2:0:2",
+        ),
+    ];
+    expect_rows(&rt, rt.alloc(), &rows)
+}
+
+#[test]
+fn escapes(rt: HostRuntime) -> Result<(), Fail> {
+    let rows: [(&str, u64, Option<u64>, &str); 8] = [
+        (
+            "\"a\\\n\n b\"",
+            0,
+            None,
+            "double 610a62 0:0:0 8:2:3 8:2:3 false",
+        ),
+        (
+            "\"a\\\n  b\"",
+            0,
+            None,
+            "double 6162 0:0:0 8:1:4 8:1:4 false",
+        ),
+        (
+            "\"a\\x41\\u00e9\"",
+            0,
+            None,
+            "double 6141c3a9 0:0:0 13:0:13 13:0:13 false",
+        ),
+        (
+            "\"\\q\"",
+            0,
+            None,
+            "while parsing a quoted scalar 0:0:0; found unknown escape character 1:0:1",
+        ),
+        (
+            "\"\\",
+            0,
+            None,
+            "while parsing a quoted scalar 0:0:0; found unknown escape character 1:0:1",
+        ),
+        (
+            "\"\\uD800\"",
+            0,
+            None,
+            "while parsing a quoted scalar 0:0:0; found invalid Unicode character escape code 3:0:3",
+        ),
+        (
+            "\"\\U00110000\"",
+            0,
+            None,
+            "while parsing a quoted scalar 0:0:0; found invalid Unicode character escape code 3:0:3",
+        ),
+        (
+            "\"\\x4g\"",
+            0,
+            None,
+            "while parsing a quoted scalar 0:0:0; did not find expected hexadecimal number 3:0:3",
+        ),
+    ];
+    expect_rows(&rt, rt.alloc(), &rows)
+}
+
+#[test]
+fn plain_scalars(rt: HostRuntime) -> Result<(), Fail> {
+    let rows: [(&str, u64, Option<u64>, &str); 7] = [
+        ("a b # c", 0, None, "plain 612062 0:0:0 3:0:3 4:0:4 false"),
+        ("a#b", 0, None, "plain 612362 0:0:0 3:0:3 3:0:3 false"),
+        ("a\nb", 0, Some(0), "plain 61 0:0:0 1:0:1 2:1:0 true"),
+        ("a\n--- b", 0, None, "plain 61 0:0:0 1:0:1 2:1:0 true"),
+        ("a:b", 1, None, "plain 613a62 0:0:0 3:0:3 3:0:3 false"),
+        (
+            "a :]",
+            1,
+            None,
+            "while scanning a plain scalar 0:0:0; found unexpected ':' 2:0:2",
+        ),
+        (
+            "a\n\tb",
+            1,
+            Some(0),
+            "while scanning a plain scalar 0:0:0; found a tab character that violates indentation 2:1:0",
+        ),
+    ];
+    expect_rows(&rt, rt.alloc(), &rows)
+}
+
+#[test]
+fn block_headers(rt: HostRuntime) -> Result<(), Fail> {
+    let rows: [(&str, u64, Option<u64>, &str); 5] = [
+        ("|", 0, None, "literal - 0:0:0 1:0:1 1:0:1 false"),
+        ("|#c\n a\n", 0, None, "literal 610a 0:0:0 7:2:0 7:2:0 false"),
+        (
+            "|0",
+            0,
+            None,
+            "while scanning a block scalar 0:0:0; found an indentation indicator equal to 0 1:0:1",
+        ),
+        (
+            "|+0",
+            0,
+            None,
+            "while scanning a block scalar 0:0:0; found an indentation indicator equal to 0 2:0:2",
+        ),
+        (
+            "|2x",
+            0,
+            None,
+            "while scanning a block scalar 0:0:0; did not find expected comment or line break 2:0:2",
+        ),
+    ];
+    expect_rows(&rt, rt.alloc(), &rows)
+}
+
+#[test]
+fn block_indentation(rt: HostRuntime) -> Result<(), Fail> {
+    let rows: [(&str, u64, Option<u64>, &str); 5] = [
+        ("|2\n  a", 0, Some(1), "literal - 0:0:0 3:1:0 5:1:2 false"),
+        ("|\n a\n ", 0, None, "literal 610a 0:0:0 5:2:0 6:2:1 false"),
+        (
+            "|\n a\n   \n b\n",
+            0,
+            None,
+            "literal 610a20200a620a 0:0:0 12:4:0 12:4:0 false",
+        ),
+        (
+            "|\n\ta",
+            0,
+            None,
+            "while scanning a block scalar 0:0:0; found a tab character where an indentation space is expected 2:1:0",
+        ),
+        ("|\n   \n a", 0, None, "literal - 0:0:0 6:2:0 7:2:1 false"),
+    ];
+    expect_rows(&rt, rt.alloc(), &rows)
+}
+
+#[test]
+fn block_values(rt: HostRuntime) -> Result<(), Fail> {
+    let rows: [(&str, u64, Option<u64>, &str); 6] = [
+        (
+            "|-\n a\n\n b\n\n",
+            0,
+            None,
+            "literal 610a0a62 0:0:0 11:5:0 11:5:0 false",
+        ),
+        (
+            ">\n a\n b\n",
+            0,
+            None,
+            "folded 6120620a 0:0:0 8:3:0 8:3:0 false",
+        ),
+        (
+            ">\n a\n  b\n c\n",
+            0,
+            None,
+            "folded 610a20620a630a 0:0:0 12:4:0 12:4:0 false",
+        ),
+        (
+            ">\n\n a\n",
+            0,
+            None,
+            "folded 0a610a 0:0:0 6:3:0 6:3:0 false",
+        ),
+        (
+            ">-\n a\n\n b\n",
+            0,
+            None,
+            "folded 610a62 0:0:0 10:4:0 10:4:0 false",
+        ),
+        (
+            "|+\n a\n\n",
+            0,
+            None,
+            "literal 610a0a 0:0:0 7:3:0 7:3:0 false",
+        ),
+    ];
+    expect_rows(&rt, rt.alloc(), &rows)
+}
+
+/// Anchors and aliases.
+#[test]
+fn names(rt: HostRuntime) -> Result<(), Fail> {
+    let rows: [(&str, u64, Option<u64>, &str); 4] = [
+        ("&a]", 0, None, "anchor 61 0:0:0 2:0:2 2:0:2 false"),
+        ("*a]", 0, None, "alias 61 0:0:0 2:0:2 2:0:2 false"),
+        (
+            "&",
+            0,
+            None,
+            "while scanning an anchor 0:0:0; did not find expected alphabetic or numeric character 1:0:1",
+        ),
+        (
+            "*a.b",
+            0,
+            None,
+            "while scanning an alias 0:0:0; did not find expected alphabetic or numeric character 2:0:2",
+        ),
+    ];
+    expect_rows(&rt, rt.alloc(), &rows)
+}
+
+#[test]
+fn uris(rt: HostRuntime) -> Result<(), Fail> {
+    let rows: [(&str, u64, Option<u64>, &str); 6] = [
+        ("!%00 x", 0, None, "tag 21 00 0:0:0 4:0:4 4:0:4 false"),
+        ("!%C0%80 x", 0, None, "tag 21 c080 0:0:0 7:0:7 7:0:7 false"),
+        (
+            "!a%4",
+            0,
+            None,
+            "while parsing a tag 0:0:0; did not find URI escaped octet 2:0:2",
+        ),
+        (
+            "!%80",
+            0,
+            None,
+            "while parsing a tag 0:0:0; found an incorrect leading UTF-8 octet 1:0:1",
+        ),
+        (
+            "!%C3%41",
+            0,
+            None,
+            "while parsing a tag 0:0:0; found an incorrect trailing UTF-8 octet 4:0:4",
+        ),
+        (
+            "!%C3x",
+            0,
+            None,
+            "while parsing a tag 0:0:0; did not find URI escaped octet 4:0:4",
+        ),
+    ];
+    expect_rows(&rt, rt.alloc(), &rows)
+}
+
+#[test]
+fn tags(rt: HostRuntime) -> Result<(), Fail> {
+    let rows: [(&str, u64, Option<u64>, &str); 7] = [
+        ("! x", 0, None, "tag - 21 0:0:0 1:0:1 1:0:1 false"),
+        (
+            "!!str x",
+            0,
+            None,
+            "tag 2121 737472 0:0:0 5:0:5 5:0:5 false",
+        ),
+        (
+            "!<tag:x,2000:y> z",
+            0,
+            None,
+            "tag - 7461673a782c323030303a79 0:0:0 15:0:15 15:0:15 false",
+        ),
+        (
+            "!<x",
+            0,
+            None,
+            "while scanning a tag 0:0:0; did not find the expected '>' 3:0:3",
+        ),
+        (
+            "!<>",
+            0,
+            None,
+            "while parsing a tag 0:0:0; did not find expected tag URI 2:0:2",
+        ),
+        (
+            "!!",
+            0,
+            None,
+            "while parsing a tag 0:0:0; did not find expected tag URI 2:0:2",
+        ),
+        (
+            "!!str]",
+            1,
+            None,
+            "while scanning a tag 0:0:0; did not find expected whitespace or line break 5:0:5",
+        ),
+    ];
+    expect_rows(&rt, rt.alloc(), &rows)
+}
+
+#[test]
+fn directives(rt: HostRuntime) -> Result<(), Fail> {
+    let rows: [(&str, u64, Option<u64>, &str); 2] = [
+        (
+            "%YAML 1.1 # c\n",
+            0,
+            None,
+            "version 1 1 0:0:0 9:0:9 14:1:0 false",
+        ),
+        ("%TAG ! x", 0, None, "handle 21 78 0:0:0 8:0:8 8:0:8 false"),
+    ];
+    expect_rows(&rt, rt.alloc(), &rows)
+}
+
+#[test]
+fn directives_refused(rt: HostRuntime) -> Result<(), Fail> {
+    let rows: [(&str, u64, Option<u64>, &str); 12] = [
+        (
+            "%",
+            0,
+            None,
+            "while scanning a directive 0:0:0; could not find expected directive name 1:0:1",
+        ),
+        (
+            "%A!",
+            0,
+            None,
+            "while scanning a directive 0:0:0; found unexpected non-alphabetical character 2:0:2",
+        ),
+        (
+            "%FOO x",
+            0,
+            None,
+            "while scanning a directive 0:0:0; found unknown directive name 4:0:4",
+        ),
+        (
+            "%YAML x",
+            0,
+            None,
+            "while scanning a %YAML directive 0:0:0; did not find expected version number 6:0:6",
+        ),
+        (
+            "%YAML 1 .1",
+            0,
+            None,
+            "while scanning a %YAML directive 0:0:0; did not find expected digit or '.' character 7:0:7",
+        ),
+        (
+            "%YAML 1234567890.1",
+            0,
+            None,
+            "while scanning a %YAML directive 0:0:0; found extremely long version number 15:0:15",
+        ),
+        (
+            "%YAML 1.1x",
+            0,
+            None,
+            "while scanning a directive 0:0:0; did not find expected comment or line break 9:0:9",
+        ),
+        (
+            "%TAG x",
+            0,
+            None,
+            "while scanning a tag directive 0:0:0; did not find expected '!' 5:0:5",
+        ),
+        (
+            "%TAG !a b",
+            0,
+            None,
+            "while parsing a tag directive 0:0:0; did not find expected '!' 7:0:7",
+        ),
+        (
+            "%TAG !a!x",
+            0,
+            None,
+            "while scanning a %TAG directive 0:0:0; did not find expected whitespace 8:0:8",
+        ),
+        (
+            "%TAG !a! ",
+            0,
+            None,
+            "while parsing a %TAG directive 0:0:0; did not find expected tag URI 9:0:9",
+        ),
+        (
+            "%TAG !a! x\"",
+            0,
+            None,
+            "while scanning a %TAG directive 0:0:0; did not find expected whitespace or line break 10:0:10",
+        ),
+    ];
+    expect_rows(&rt, rt.alloc(), &rows)
+}
+
+/// Plain scalars of one line and of two, and one that has an offence.
+#[test]
+fn plain_scalars_read(rt: HostRuntime) -> Result<(), Fail> {
+    let alloc = rt.alloc();
+    let rows: [(&str, u64, Option<u64>, &str); 9] = [
+        ("ab: c", 0, None, "plain 6162 0:0:0 2:0:2 2:0:2 false"),
+        ("a b]", 1, None, "plain 612062 0:0:0 3:0:3 3:0:3 false"),
+        ("a b\n", 0, Some(0), "plain 612062 0:0:0 3:0:3 4:1:0 true"),
+        ("a\n b", 0, Some(1), "plain 61 0:0:0 1:0:1 3:1:1 true"),
+        ("a\n b", 0, Some(0), "plain 612062 0:0:0 4:1:2 4:1:2 false"),
+        ("a\nb", 0, None, "plain 612062 0:0:0 3:1:1 3:1:1 false"),
+        ("a # c", 0, None, "plain 61 0:0:0 1:0:1 2:0:2 false"),
+        (
+            "a:]",
+            1,
+            None,
+            "while scanning a plain scalar 0:0:0; found unexpected ':' 1:0:1",
+        ),
+        ("a:]", 0, None, "plain 613a5d 0:0:0 3:0:3 3:0:3 false"),
+    ];
+    for (text, depth, level, want) in rows {
+        let context = yaml_context_t { depth, level };
+        let plain = yaml_lexeme_kind_t::PLAIN;
+        let shown = scalar_read(alloc, text.as_bytes(), plain, context)?;
+        assert_eq!(rt; shown.as_str(), want, "{text}");
+    }
+    Ok(())
+}
+
+/// Quoted scalars whose value is what is between the quotes, some that have an escape or a break, and one with no end.
+#[test]
+fn quoted_scalars_read(rt: HostRuntime) -> Result<(), Fail> {
+    let alloc = rt.alloc();
+    let (single, double) = (
+        yaml_lexeme_kind_t::SINGLE_QUOTED,
+        yaml_lexeme_kind_t::DOUBLE_QUOTED,
+    );
+    let rows: [(&str, yaml_lexeme_kind_t, &str); 8] = [
+        (
+            "\"a b\": c",
+            double,
+            "double 612062 0:0:0 5:0:5 5:0:5 false",
+        ),
+        ("''", single, "single - 0:0:0 2:0:2 2:0:2 false"),
+        (
+            "'a\\n\"'\n",
+            single,
+            "single 615c6e22 0:0:0 6:0:6 6:0:6 false",
+        ),
+        ("'a''b'", single, "single 612762 0:0:0 6:0:6 6:0:6 false"),
+        ("\"a\\n\"", double, "double 610a 0:0:0 5:0:5 5:0:5 false"),
+        ("\"a\n b\"", double, "double 612062 0:0:0 6:1:3 6:1:3 false"),
+        (
+            "\"a",
+            double,
+            "while scanning a quoted scalar 0:0:0; found unexpected end of stream 2:0:2",
+        ),
+        (
+            "'\u{2028}'",
+            single,
+            "single e280a8 0:0:0 5:1:1 5:1:1 false",
+        ),
+    ];
+    for (text, kind, want) in rows {
+        let shown = scalar_read(alloc, text.as_bytes(), kind, OUTSIDE)?;
+        assert_eq!(rt; shown.as_str(), want, "{text}");
+    }
+    Ok(())
+}
+
+/// Literal and folded scalars, and some that have an offence.
+#[test]
+fn block_scalars_read(rt: HostRuntime) -> Result<(), Fail> {
+    let alloc = rt.alloc();
+    let (literal, folded) = (yaml_lexeme_kind_t::LITERAL, yaml_lexeme_kind_t::FOLDED);
+    let rows: [(&str, yaml_lexeme_kind_t, Option<u64>, &str); 7] = [
+        (
+            "|\n a\n b\n",
+            literal,
+            None,
+            "literal 610a620a 0:0:0 8:3:0 8:3:0 false",
+        ),
+        (
+            ">\n a\n b\n",
+            folded,
+            None,
+            "folded 6120620a 0:0:0 8:3:0 8:3:0 false",
+        ),
+        (
+            "|+\n a\n\n",
+            literal,
+            None,
+            "literal 610a0a 0:0:0 7:3:0 7:3:0 false",
+        ),
+        (
+            ">-\n  a\n\n  b\nc",
+            folded,
+            Some(1),
+            "folded 610a62 0:0:0 12:4:0 12:4:0 false",
+        ),
+        ("|", literal, None, "literal - 0:0:0 1:0:1 1:0:1 false"),
+        (
+            "| a",
+            literal,
+            None,
+            "while scanning a block scalar 0:0:0; did not find expected comment or line break 2:0:2",
+        ),
+        (
+            "|\n\ta",
+            literal,
+            Some(0),
+            "while scanning a block scalar 0:0:0; found a tab character where an indentation space is expected 2:1:0",
+        ),
+    ];
+    for (text, kind, level, want) in rows {
+        let context = yaml_context_t { depth: 0, level };
+        let shown = scalar_read(alloc, text.as_bytes(), kind, context)?;
+        assert_eq!(rt; shown.as_str(), want, "{text}");
+    }
+    Ok(())
+}
+
+/// The fault of a scalar's refusal is the one that `yaml_lexeme_at` returns.
+#[test]
+fn refusals_of_scalars(rt: HostRuntime) -> Result<(), Fail> {
+    let alloc = rt.alloc();
+    let rows: [(&str, yaml_lexeme_kind_t, u64); 6] = [
+        ("ab:]", yaml_lexeme_kind_t::PLAIN, 1),
+        ("a\n :?", yaml_lexeme_kind_t::PLAIN, 1),
+        ("'a\n--- b'", yaml_lexeme_kind_t::SINGLE_QUOTED, 0),
+        ("\"a\\q\"", yaml_lexeme_kind_t::DOUBLE_QUOTED, 0),
+        ("|0\n", yaml_lexeme_kind_t::LITERAL, 0),
+        (">- a\n", yaml_lexeme_kind_t::FOLDED, 0),
+    ];
+    for (text, kind, depth) in rows {
+        let want = lexed(alloc, text.as_bytes(), depth, None)?;
+        let context = yaml_context_t { depth, level: None };
+        let shown = scalar_read(alloc, text.as_bytes(), kind, context)?;
+        assert!(rt; want.as_str().starts_with("while"), "{text}");
+        assert_eq!(rt; shown.as_str(), want.as_str(), "{text}");
+    }
+    Ok(())
+}
+
+/// Lexemes of every kind, and their offences, by one reader.
+#[test]
+fn lexemes_read(rt: HostRuntime) -> Result<(), Fail> {
+    let alloc = rt.alloc();
+    let rows: [(&str, u64, &str); 12] = [
+        ("", 0, "end 0:0:0 0:0:0 0:0:0 false"),
+        ("%YAML 1.1", 0, "version 1 1 0:0:0 9:0:9 9:0:9 false"),
+        (
+            "%FOO x",
+            0,
+            "while scanning a directive 0:0:0; found unknown directive name 4:0:4",
+        ),
+        ("---", 0, "document start 0:0:0 3:0:3 3:0:3 false"),
+        ("]", 1, "sequence end 0:0:0 1:0:1 1:0:1 false"),
+        ("&a]", 0, "anchor 61 0:0:0 2:0:2 2:0:2 false"),
+        (
+            "*",
+            0,
+            "while scanning an alias 0:0:0; did not find expected alphabetic or numeric character 1:0:1",
+        ),
+        ("! x", 0, "tag - 21 0:0:0 1:0:1 1:0:1 false"),
+        (
+            "!<x",
+            0,
+            "while scanning a tag 0:0:0; did not find the expected '>' 3:0:3",
+        ),
+        ("|", 0, "literal - 0:0:0 1:0:1 1:0:1 false"),
+        ("'a'", 0, "single 61 0:0:0 3:0:3 3:0:3 false"),
+        (
+            "a:]",
+            1,
+            "while scanning a plain scalar 0:0:0; found unexpected ':' 1:0:1",
+        ),
+    ];
+    for (text, depth, want) in rows {
+        let shown = lexeme_read(alloc, text.as_bytes(), depth)?;
+        assert_eq!(rt; shown.as_str(), want, "{text}");
+    }
+    Ok(())
+}
+
+#[test]
+fn refusal_of_memory(rt: HostRuntime) -> Result<(), Fail> {
+    let memory = yaml_refusal_t::MEMORY;
+    let fault = yaml_lexeme_fault(memory, yaml_lexeme_kind_t::PLAIN, FRONT, FRONT);
+    assert!(rt; fault.error == yaml_error_type_t::YAML_MEMORY_ERROR);
+    Ok(())
+}
+
+/// Lexemes of one character, each kind of them, and kinds of more than one.
+#[test]
+fn characters_read(rt: HostRuntime) -> Result<(), Fail> {
+    let alloc = rt.alloc();
+    let rows: [(&str, bool, &str); 12] = [
+        ("--- a", false, "no character"),
+        ("...", false, "no character"),
+        ("[a", false, "sequence start 0:0:0 1:0:1 1:0:1 false"),
+        ("{a", true, "mapping start 0:0:0 1:0:1 1:0:1 false"),
+        ("]", true, "sequence end 0:0:0 1:0:1 1:0:1 false"),
+        ("}", true, "mapping end 0:0:0 1:0:1 1:0:1 false"),
+        (",", true, "flow entry 0:0:0 1:0:1 1:0:1 false"),
+        ("- a", false, "block entry 0:0:0 1:0:1 1:0:1 false"),
+        ("?", false, "key 0:0:0 1:0:1 1:0:1 false"),
+        (": a", false, "value 0:0:0 1:0:1 1:0:1 false"),
+        (":a", true, "value 0:0:0 1:0:1 1:0:1 false"),
+        ("a", false, "no character"),
+    ];
+    for (text, in_flow, want) in rows {
+        let shown = character_read(alloc, text.as_bytes(), in_flow)?;
+        assert_eq!(rt; shown.as_str(), want, "{text}");
+    }
+    Ok(())
+}
+
+/// A `:` is found outside of flow if a blank, a break or the end follows it, and in flow always; a `,`, `]` or `}` in
+/// flow alone; and nothing after a gap, or of another kind.
+#[test]
+fn deciders(rt: HostRuntime) -> Result<(), Fail> {
+    let alloc = rt.alloc();
+    let rows: [(&str, bool, Option<yaml_lexeme_kind_t>); 17] = [
+        (": a", false, Some(yaml_lexeme_kind_t::VALUE)),
+        (":\na", false, Some(yaml_lexeme_kind_t::VALUE)),
+        (":", false, Some(yaml_lexeme_kind_t::VALUE)),
+        (":a b", false, None),
+        (":a", true, Some(yaml_lexeme_kind_t::VALUE)),
+        (",", true, Some(yaml_lexeme_kind_t::FLOW_ENTRY)),
+        ("]", true, Some(yaml_lexeme_kind_t::FLOW_SEQUENCE_END)),
+        ("}", true, Some(yaml_lexeme_kind_t::FLOW_MAPPING_END)),
+        (",", false, None),
+        ("]", false, None),
+        ("}", false, None),
+        (" : a", false, None),
+        (" ,", true, None),
+        ("- a", false, None),
+        ("[", true, None),
+        ("? a", true, None),
+        ("", true, None),
+    ];
+    for (text, in_flow, want) in rows {
+        let found = decider_at(alloc, text.as_bytes(), in_flow)?;
+        assert!(rt; found == want, "{text}");
+    }
+    Ok(())
+}
