@@ -205,7 +205,13 @@ fn scalar_read(
     }
     let mut there = FRONT;
     let read = match kind {
-        yaml_lexeme_kind_t::PLAIN => yaml_read_plain(Vec::new(alloc), &text, FRONT, context, &mut there),
+        yaml_lexeme_kind_t::PLAIN => yaml_read_plain(
+            Vec::new(alloc),
+            &text,
+            FRONT,
+            context,
+            &mut there,
+        ),
         yaml_lexeme_kind_t::SINGLE_QUOTED => {
             yaml_read_quoted(Vec::new(alloc), &text, FRONT, true, &mut there)
         }

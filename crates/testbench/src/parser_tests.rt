@@ -6,7 +6,8 @@ use yaml_scan::{
     yaml_parser_queued, yaml_parser_reuse, yaml_parser_scan, yaml_parser_skip, yaml_parser_t,
 };
 use yaml_text::{
-    unnamed_yaml_token_t_data, yaml_encoding_t, yaml_error_type_t, yaml_fault_t, yaml_mark_t, yaml_token_t, yaml_token_type_t,
+    unnamed_yaml_token_t_data, yaml_encoding_t, yaml_error_type_t, yaml_fault_t, yaml_mark_t,
+    yaml_token_t, yaml_token_type_t,
 };
 
 fn scanned(parser: &mut yaml_parser_t) -> Result<yaml_token_t, Fail> {
@@ -252,7 +253,8 @@ fn session_ends_with_one_fault(rt: HostRuntime) -> Result<(), Fail> {
 /// A parser that is given the room of each text reads the same texts.
 #[test]
 fn room_is_used_again(rt: HostRuntime) -> Result<(), Fail> {
-    let input = b"- one and only\n- 'two'\n- \"\"\n- |\n  three\n- a scalar of more than sixteen bytes\n- 6\n";
+    let input =
+        b"- one and only\n- 'two'\n- \"\"\n- |\n  three\n- a scalar of more than sixteen bytes\n- 6\n";
     let texts: [&[u8]; 6] = [
         b"one and only",
         b"two",
@@ -267,7 +269,11 @@ fn room_is_used_again(rt: HostRuntime) -> Result<(), Fail> {
     'tokens: for _ in 0..16 {
         let token = scanned(&mut parser)?;
         if let unnamed_yaml_token_t_data::SCALAR { value, style: _ } = token.token_data {
-            assert!(rt; texts.get(found).is_some_and(|text| value.as_slice() == *text));
+            assert!(rt;
+                texts
+                    .get(found)
+                    .is_some_and(|text| value.as_slice() == *text)
+            );
             yaml_parser_reuse(&mut parser, value);
             found = found.wrapping_add(1);
         }

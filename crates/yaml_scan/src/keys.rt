@@ -12,7 +12,7 @@ ghost use Rattle.yaml_scan.specs.inside.Slots.{AreNested};
 use crate::depth::{is_flow_start, nest, nests};
 use crate::kind::{is_candidate, is_colon};
 use crate::met::step_t;
-use crate::slots::{held_t, slots_t};
+use crate::slots::{candidate_t, slots_t};
 use yaml_lexeme::yaml_lexeme_kind_t;
 use yaml_text::yaml_mark_t;
 
@@ -21,7 +21,7 @@ pub(crate) const KEY_LIMIT: u32 = 1024;
 
 /// Whether a candidate is live at a mark: on its line, and at most `limit` bytes from its start.
 #[inline(always)]
-pub(crate) fn is_still_live(limit: u64, mark: yaml_mark_t, held: held_t) -> bool
+pub(crate) fn is_still_live(limit: u64, mark: yaml_mark_t, held: candidate_t) -> bool
     ensures { result ≡ is_live limit mark held }
 {
     mark.line == held.start.line && mark.index.saturating_sub(held.start.index) <= limit
@@ -29,7 +29,7 @@ pub(crate) fn is_still_live(limit: u64, mark: yaml_mark_t, held: held_t) -> bool
 
 /// A candidate, unless it is stale at a mark.
 #[inline(always)]
-pub(crate) fn kept(slot: Option<held_t>, limit: u64, mark: yaml_mark_t) -> Option<held_t>
+pub(crate) fn kept(slot: Option<candidate_t>, limit: u64, mark: yaml_mark_t) -> Option<candidate_t>
     ensures { result ≡ still_held limit mark slot }
 {
     match slot {
@@ -44,7 +44,11 @@ pub(crate) fn kept(slot: Option<held_t>, limit: u64, mark: yaml_mark_t) -> Optio
 
 /// A required candidate that is stale at a mark.
 #[inline(always)]
-pub(crate) fn lost_at(slot: Option<held_t>, limit: u64, mark: yaml_mark_t) -> Option<held_t>
+pub(crate) fn lost_at(
+    slot: Option<candidate_t>,
+    limit: u64,
+    mark: yaml_mark_t,
+) -> Option<candidate_t>
     ensures { result ≡ lost_held limit mark slot }
 {
     match slot {
@@ -59,7 +63,7 @@ pub(crate) fn lost_at(slot: Option<held_t>, limit: u64, mark: yaml_mark_t) -> Op
 
 /// Whether a required candidate is stale at a mark.
 #[inline(always)]
-pub(crate) fn is_lost(slot: Option<held_t>, limit: u64, mark: yaml_mark_t) -> bool
+pub(crate) fn is_lost(slot: Option<candidate_t>, limit: u64, mark: yaml_mark_t) -> bool
     ensures { result ≡ is_some (lost_held limit mark slot) }
 {
     match slot {
@@ -70,7 +74,11 @@ pub(crate) fn is_lost(slot: Option<held_t>, limit: u64, mark: yaml_mark_t) -> bo
 
 /// A required candidate that is live at a mark.
 #[inline(always)]
-pub(crate) fn needed_at(slot: Option<held_t>, limit: u64, mark: yaml_mark_t) -> Option<held_t>
+pub(crate) fn needed_at(
+    slot: Option<candidate_t>,
+    limit: u64,
+    mark: yaml_mark_t,
+) -> Option<candidate_t>
     ensures { result ≡ needed limit mark slot }
 {
     match slot {
@@ -88,7 +96,7 @@ pub(crate) fn needed_at(slot: Option<held_t>, limit: u64, mark: yaml_mark_t) -> 
 /// An inner candidate starts no earlier, so after the first live one all are live.
 #[inline(always)]
 fn give_up_stale(
-    slots: &mut Vec<Option<held_t>>,
+    slots: &mut Vec<Option<candidate_t>>,
     empty: usize,
     limit: u64,
     mark: yaml_mark_t,
@@ -112,7 +120,7 @@ fn give_up_stale(
 }
 
 /// How many of the lowest slots are empty, of which the first `empty` are known to be.
-fn count_empty(slots: &[Option<held_t>], empty: usize) -> usize
+fn count_empty(slots: &[Option<candidate_t>], empty: usize) -> usize
     requires { AreEmptyBelow empty slots.now }
     ensures { result ≡ empty_slots slots.now }
 {
@@ -128,7 +136,7 @@ fn count_empty(slots: &[Option<held_t>], empty: usize) -> usize
 
 /// The candidate of depth 0.
 #[inline(always)]
-pub(crate) fn root(outer: &[Option<held_t>], top: Option<held_t>) -> Option<held_t>
+pub(crate) fn root(outer: &[Option<candidate_t>], top: Option<candidate_t>) -> Option<candidate_t>
     ensures { result ≡ root_of outer.now top }
 {
     match outer.first() {
@@ -141,10 +149,10 @@ pub(crate) fn root(outer: &[Option<held_t>], top: Option<held_t>) -> Option<held
 /// it knows `in_flow`.
 #[inline(always)]
 pub(crate) fn root_at(
-    outer: &[Option<held_t>],
-    top: Option<held_t>,
+    outer: &[Option<candidate_t>],
+    top: Option<candidate_t>,
     in_flow: bool,
-) -> Option<held_t>
+) -> Option<candidate_t>
     requires { in_flow ≡ nat_lt 0 (length outer.now) }
     ensures { result ≡ root_of outer.now top }
 {
@@ -154,10 +162,10 @@ pub(crate) fn root_at(
 /// Changes the slot of a depth after a lexeme was read at it.
 #[inline(always)]
 pub(crate) fn settle(
-    slot: &mut Option<held_t>,
+    slot: &mut Option<candidate_t>,
     kind: yaml_lexeme_kind_t,
     allowed: bool,
-    new: held_t,
+    new: candidate_t,
 )
     ensures { slot.new ≡ slot_after kind allowed new slot.old }
 {
@@ -172,10 +180,10 @@ pub(crate) fn settle(
 #[inline(always)]
 pub(crate) fn completed_by(
     kind: yaml_lexeme_kind_t,
-    top: Option<held_t>,
+    top: Option<candidate_t>,
     limit: u64,
     start: yaml_mark_t,
-) -> Option<held_t>
+) -> Option<candidate_t>
     ensures { result ≡ completed_held kind limit start top }
 {
     if is_colon(kind) {
@@ -187,7 +195,7 @@ pub(crate) fn completed_by(
 
 /// Gives up a candidate that is stale at a mark.
 #[inline(always)]
-fn give_up(slot: &mut Option<held_t>, limit: u64, mark: yaml_mark_t)
+fn give_up(slot: &mut Option<candidate_t>, limit: u64, mark: yaml_mark_t)
     ensures { slot.new ≡ still_held limit mark slot.old }
 {
     if let Some(held) = *slot {
@@ -199,7 +207,7 @@ fn give_up(slot: &mut Option<held_t>, limit: u64, mark: yaml_mark_t)
 
 /// The candidate of the least depth.
 #[inline(always)]
-fn lowest(slots: &slots_t) -> Option<held_t>
+fn lowest(slots: &slots_t) -> Option<candidate_t>
     requires { slots.now.not_simple_keys ≡ empty_slots slots.now.outer.items }
     ensures { result ≡ lowest (slots.now.outer.items ++ slots.now.top ∷ []) }
 {
@@ -211,7 +219,7 @@ fn lowest(slots: &slots_t) -> Option<held_t>
 
 /// The number of a candidate's step, or 0.
 #[inline(always)]
-fn step_of(held: Option<held_t>) -> u64
+fn step_of(held: Option<candidate_t>) -> u64
     ensures { result ≡ step_of held }
 {
     match held {

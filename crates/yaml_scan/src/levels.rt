@@ -16,7 +16,7 @@ ghost use Rattle.yaml_scan.specs.inside.Slots.{is_level};
 use crate::groups::{block_t, mark_key, queue_t};
 use crate::kind::{is_last, is_opener, stays_open};
 use crate::met::step_t;
-use crate::slots::held_t;
+use crate::slots::candidate_t;
 use yaml_lexeme::yaml_lexeme_kind_t;
 use yaml_text::yaml_mark_t;
 
@@ -166,7 +166,7 @@ pub(crate) struct layout_t {
 
 /// Completes a candidate. There is room for a level.
 #[inline(always)]
-fn complete(layout: &mut layout_t, in_flow: bool, held: held_t)
+fn complete(layout: &mut layout_t, in_flow: bool, held: candidate_t)
     requires falls { IsFalling (reverse layout.old.levels.items) }
     requires fits { Fitting (Some held) layout.old.queue.done layout.old.queue.groups.items }
     requires room { vec_len layout.old.levels < vec_capacity layout.old.levels }
@@ -215,7 +215,11 @@ fn begin(levels: &mut Vec<u64>, step: step_t) -> block_t
 
 /// Completes a candidate, or opens a level at the lexeme of a step. There is room for one.
 #[inline(always)]
-pub(crate) fn put_key(layout: &mut layout_t, step: step_t, completed: Option<held_t>) -> block_t
+pub(crate) fn put_key(
+    layout: &mut layout_t,
+    step: step_t,
+    completed: Option<candidate_t>,
+) -> block_t
     requires falls { IsFalling (reverse layout.old.levels.items) }
     requires fits { Fitting completed layout.old.queue.done layout.old.queue.groups.items }
     requires room { vec_len layout.old.levels < vec_capacity layout.old.levels }

@@ -11,7 +11,7 @@ use crate::kind::{is_candidate, is_colon, start_after};
 use crate::levels::{is_level, level_at};
 use crate::met::step_t;
 use crate::scanner::scanner_t;
-use crate::slots::{held_t, slots_t};
+use crate::slots::{candidate_t, slots_t};
 use yaml_lexeme::{yaml_context_t, yaml_lexeme_kind_t};
 use yaml_text::yaml_mark_t;
 
@@ -56,7 +56,7 @@ pub(crate) fn cleared_by(
     in_flow: bool,
     kind: yaml_lexeme_kind_t,
     allowed: bool,
-) -> Option<held_t>
+) -> Option<candidate_t>
     ensures { result ≡ cleared_in scanner.now in_flow kind allowed }
 {
     if !is_colon(kind) && (!is_candidate(kind) || allowed) && !in_flow {
@@ -81,10 +81,10 @@ fn depth_at(slots: &slots_t, in_flow: bool) -> u64
 
 /// What is kept of a lexeme of this step that starts at a mark, if it is a candidate.
 #[inline(always)]
-fn new_candidate(step: u64, start: yaml_mark_t, in_flow: bool, level: Option<u64>) -> held_t
+fn new_candidate(step: u64, start: yaml_mark_t, in_flow: bool, level: Option<u64>) -> candidate_t
     ensures { result ≡ record { step = step; start = start; required = is_level in_flow level start.column } }
 {
-    held_t {
+    candidate_t {
         step,
         start,
         required: is_level(in_flow, level, start.column),
@@ -125,7 +125,7 @@ pub(crate) fn step_of(
 
 /// The candidate of depth 0 after the lexeme of a step.
 #[inline(always)]
-pub(crate) fn root_after(scanner: &scanner_t, step: step_t) -> Option<held_t>
+pub(crate) fn root_after(scanner: &scanner_t, step: step_t) -> Option<candidate_t>
     requires { step.in_flow ≡ nat_lt 0 (vec_len scanner.now.slots.outer) }
     ensures { result ≡ root_of scanner.now.slots.outer.items
         (slot_after step.kind step.allowed step.new scanner.now.slots.top) }

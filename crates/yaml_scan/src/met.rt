@@ -1,6 +1,6 @@
 //! What a step has met: what its lexeme is read and laid with.
 
-use crate::slots::held_t;
+use crate::slots::candidate_t;
 use yaml_lexeme::{yaml_context_t, yaml_lexeme_kind_t};
 
 /// What a lexeme is read and laid with.
@@ -12,6 +12,6 @@ pub(crate) struct step_t {
     /// Whether a key is allowed there.
     pub allowed: bool,
     /// What is kept of the lexeme, if it is a candidate.
-    pub new: held_t,
+    pub new: candidate_t,
     pub context: yaml_context_t,
 }

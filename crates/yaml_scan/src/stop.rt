@@ -21,7 +21,7 @@ use crate::keys::{lost_at, root};
 use crate::kind::start_after;
 use crate::look::{cleared_by, refused_by, root_after, step_of};
 use crate::scanner::scanner_t;
-use crate::slots::held_t;
+use crate::slots::candidate_t;
 use yaml_lexeme::{yaml_lexeme_fault, yaml_lexeme_kind_t, yaml_refusal_t};
 use yaml_text::{yaml_fault_t, yaml_mark_t};
 
@@ -69,7 +69,7 @@ fn stop_near(scanner: &mut scanner_t) -> stop_t
 }
 
 /// Stops at a mark, since a candidate is lost.
-fn stop_without(scanner: &mut scanner_t, held: held_t, mark: yaml_mark_t) -> stop_t
+fn stop_without(scanner: &mut scanner_t, held: candidate_t, mark: yaml_mark_t) -> stop_t
     ghost before: { List Laid }
     requires can { CanStep before scanner.old }
     requires offends { Offends before scanner.old (scanner_fault no_colon mark (Some in_simple_key) held.start) }

@@ -13,14 +13,14 @@ use crate::types::yaml_mark_t;
 use crate::utf8::continues;
 use std::marker::Model;
 
-/// A place that moves through a text.
+/// A place that moves through a text, with the mark that is counted on the way.
 #[derive(Drop)]
-struct cursor_t<'a> {
+struct mark_counter_t<'a> {
     bytes: &'a [u8],
     mark: yaml_mark_t,
 }
 
-impl<'a> Model for cursor_t<'a> {
+impl<'a> Model for mark_counter_t<'a> {
     ghost use Rattle.yaml_text.specs.inside.Cursor.{At, IsAt, at_of};
 
     ghost Value = { At };
@@ -37,12 +37,12 @@ fn break_width(s: &[u8], at: usize) -> usize
     if IS_CRLF(s, at) { 2 } else { WIDTH(s, at) }
 }
 
-impl<'a> cursor_t<'a> {
+impl<'a> mark_counter_t<'a> {
     /// The front of a text.
-    fn new(text: &'a yaml_text_t<'_>) -> cursor_t<'a>
+    fn new(text: &'a yaml_text_t<'_>) -> mark_counter_t<'a>
         ensures { result ≡ record { before = []; left = text.now.chars } }
     {
-        cursor_t {
+        mark_counter_t {
             bytes: text.bytes(),
             mark: yaml_mark_t {
                 index: 0,
@@ -142,7 +142,7 @@ pub fn yaml_mark_at(text: &yaml_text_t, index: usize) -> yaml_mark_t
     requires { IsPlace text.now.chars index }
     ensures { (p : ℕ) → IsPlaceAt text.now.chars index p → result ≡ mark_at text.now.chars p }
 {
-    let mut cursor = cursor_t::new(text);
+    let mut cursor = mark_counter_t::new(text);
     while (cursor.mark().index as usize) < index {
         cursor.advance();
     }

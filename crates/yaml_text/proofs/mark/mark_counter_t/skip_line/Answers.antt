@@ -1,6 +1,6 @@
 use Rattle.std.proofs.Common.{arith}
 use Rattle.yaml_text.proofs.Marks.MarkMoves.{line_lands, at_bounds}
-use Rattle.yaml_text.proofs.mark.cursor_t.skip_line.Goals as goal
+use Rattle.yaml_text.proofs.mark.mark_counter_t.skip_line.Goals as goal
 
 pub overflow_add-self-2 : goal.overflow_add-self-2
 overflow_add-self-2 c = omega (arith, at_bounds _ _ c.self.invariant)
