@@ -1,11 +1,11 @@
 //! What comes after a lexeme was read: the step may have to stop, or the lexeme is laid.
-ghost use Rattle.std.specs.Prelude.{ℕ, ◌≡◌, false, not, List, [], MatchResult};
+ghost use Rattle.std.specs.Prelude.{ℕ, ◌≡◌, false, List, [], MatchResult};
 ghost use Rattle.yaml_lexeme.specs.Lexeme.{lexeme_of};
 ghost use Rattle.yaml_lexeme.specs.Place.{IsMarkOf};
 ghost use Rattle.yaml_scan.specs.Laid.{Laid};
 ghost use Rattle.yaml_scan.specs.Kind.{is_stream_end};
 ghost use Rattle.yaml_scan.specs.inside.Handed.{LaysTo, StepsTo, made_by};
-ghost use Rattle.yaml_scan.specs.inside.Scanning.{CanLayAll, CanRead, IsDecided, IsReadIn, IsStep, Refuses};
+ghost use Rattle.yaml_scan.specs.inside.Scanning.{CanLayAll, CanRead, IsReadIn, IsStep, Refuses};
 ghost use Rattle.yaml_scan.specs.inside.TextReads.{IsRead};
 
 use crate::decided::{decided_by, lay_decided};
@@ -16,7 +16,6 @@ use crate::lay::lay_lexeme;
 use crate::look::root_after;
 use crate::met::step_t;
 use crate::scanner::scanner_t;
-use crate::source::decider_t;
 use crate::stop::{stop_after, stop_in_lexeme};
 use crate::target::{hand_on, hand_token, no_sink_t, yaml_token_sink_t};
 use yaml_lexeme::{yaml_lexeme_kind_t, yaml_lexeme_t, yaml_refusal_t};
@@ -50,34 +49,6 @@ fn put_lexeme<const DIRECT: bool, S: yaml_token_sink_t>(
     hand_on::<DIRECT, S>(scanner, sink, waits, group)
 }
 
-/// The lexeme of a step, which was read, and what comes right after it and decides whether it is a key.
-struct decided_t {
-    pub lexeme: yaml_lexeme_t,
-    pub decider: decider_t,
-}
-
-/// Lays the lexeme of a step and what decides whether it is a key, and hands on their groups.
-#[inline(always)]
-fn put_decided<const DIRECT: bool, S: yaml_token_sink_t>(
-    scanner: &mut scanner_t,
-    sink: &mut S,
-    step: step_t,
-    both: decided_t,
-) -> Result<(), stop_t>
-    ghost before: { List Laid }
-    requires { CanLayAll before scanner.old step (lexeme_of both.lexeme) × IsDecided scanner.old (not DIRECT)
-        step both.lexeme.reach both.decider.kind (lexeme_of both.decider.lexeme) }
-    ensures { LaysTo before scanner.old scanner.new DIRECT (λ tokens. S.took sink.old tokens sink.new) S.may_refuse
-        (made_by 2 result) }
-{
-    let decided_t { lexeme, decider } = both;
-    let (first, second) = lay_decided(scanner, step, lexeme, decider);
-    match hand_on::<DIRECT, S>(scanner, sink, false, first) {
-        Ok(_) => hand_token::<DIRECT, S>(scanner, sink, second),
-        Err(stop) => Err(stopped(stop)),
-    }
-}
-
 /// Lays the lexeme of a step, and with it what decides whether it is a key, if the next token needs both. Returns how
 /// many steps that makes.
 #[inline(always)]
@@ -94,8 +65,12 @@ fn lay_all<const DIRECT: bool, S: yaml_token_sink_t>(
 {
     match decided_by(scanner, !DIRECT, step, lexeme.reach) {
         Some(decider) => {
-            match put_decided::<DIRECT, S>(scanner, sink, step, decided_t { lexeme, decider }) {
-                Ok(_) => Ok(2),
+            let (first, second) = lay_decided(scanner, step, lexeme, decider);
+            match hand_on::<DIRECT, S>(scanner, sink, false, first) {
+                Ok(_) => match hand_token::<DIRECT, S>(scanner, sink, second) {
+                    Ok(_) => Ok(2),
+                    Err(stop) => Err(stopped(stop)),
+                },
                 Err(stop) => Err(stopped(stop)),
             }
         }
