@@ -21,7 +21,7 @@ pub record Follows (so_far : yaml_mark_t) (x : Lexeme) : Type 0 where
   pub reach : IsNotBefore x.end x.reach
   pub takes_a_byte : is_stream_end x.kind ≡ false → x.start.index < x.end.index
   pub takes_a_column : is_stream_end x.kind ≡ false → x.start.line ≡ x.end.line → x.start.column < x.end.column
-  pub ends_at_margin : is_stream_end x.kind ≡ true → x.start.column ≡ 0
+  pub ends_at_column_0 : is_stream_end x.kind ≡ true → x.start.column ≡ 0
 
 -- the stream end was read
 abbrev pub ended : List Laid → Bool

@@ -88,7 +88,7 @@ module _ (S : Source) (k : KeepsOrder S) (limit : ℕ) where
       let f = r.follows in
       let w : IsNext (reach H) (place_after H) S.size (lexeme_of s.kind (S.mark (front_of S H)) s.reading) × (is_stream_end s.kind ≡ false → s.reading.reach ≡ S.mark s.reading.place) = (
         record {
-          follows = record { front = rw a.mark m; start = f.start; at_once = f.at_once; end = f.end; reach = f.reach; takes_a_byte = f.takes_a_byte; takes_a_column = f.takes_a_column; ends_at_margin = f.ends_at_margin };
+          follows = record { front = rw a.mark m; start = f.start; at_once = f.at_once; end = f.end; reach = f.reach; takes_a_byte = f.takes_a_byte; takes_a_column = f.takes_a_column; ends_at_column_0 = f.ends_at_column_0 };
           says = r.says;
           within = r.within;
           takes_a_character = λ n. let t = r.takes_a_character n in let l = g.0 in omega arith;

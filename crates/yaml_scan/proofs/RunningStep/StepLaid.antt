@@ -243,7 +243,7 @@ module _ (H : List Laid) (N : ℕ) (s : scanner_t) {ys : List group_t} (r : Hold
 
         follows : Follows (reach H) X
         follows = let q : Follows (S.mark P) X = subst (λ (z : Lexeme). Follows (S.mark P) z) (sym x_is) in_order.follows in
-            record { front = later H N s r running in_flow FLOW m.front w.front; start = q.start; at_once = q.at_once; end = q.end; reach = q.reach; takes_a_byte = q.takes_a_byte; takes_a_column = q.takes_a_column; ends_at_margin = q.ends_at_margin }
+            record { front = later H N s r running in_flow FLOW m.front w.front; start = q.start; at_once = q.at_once; end = q.end; reach = q.reach; takes_a_byte = q.takes_a_byte; takes_a_column = q.takes_a_column; ends_at_column_0 = q.ends_at_column_0 }
 
         pub history : IsHistory s.limit (laid s.limit H X ∷ H)
         unfolding laid

@@ -240,7 +240,7 @@ module _ (cs : List ℕ) where
             reach = not_before 0 f.value.end_mark f.value.reach o.1;
             takes_a_byte = λ x. rw n (omega arith);
             takes_a_column = λ x. rw n (λ y. let j = b.column y in omega arith);
-            ends_at_margin = λ x. absurd (false≢true (sym n ∙ x));
+            ends_at_column_0 = λ x. absurd (false≢true (sym n ∙ x));
           };
           says = says_kind k context here f q;
           within = rw a.counts a.within;
@@ -266,7 +266,7 @@ module _ (cs : List ℕ) where
             reach = IsNotBefore-refl (end_of here.mark);
             takes_a_byte = λ y. absurd (false≢true (sym y));
             takes_a_column = λ y. absurd (false≢true (sym y));
-            ends_at_margin = λ y. end_column here.mark;
+            ends_at_column_0 = λ y. end_column here.mark;
           };
           says = record { key = refl; value = refl; last = refl; no_start = refl; no_end = refl };
           within = rw a w;

@@ -86,7 +86,7 @@ waiting-ended limit i H h e = ap last_of (none_passes (is_live_candidate limit (
             let w = IsNotBefore-trans _ _ _ (start_to_reach limit A c B g) v in
             let x : c.lexeme.start.line ≡ i.lexeme.start.line = omega (arith, w.line, (to_reach h.1).line) in
             let y = reach_right limit A c B i.lexeme.start g u v x in
-            let z = h.1.ends_at_margin e in
+            let z = h.1.ends_at_column_0 e in
             omega arith
 
 pub before-ended : (limit : ℕ) (i : Laid) (H : List Laid) → IsHistory limit (i ∷ H) → is_stream_end i.lexeme.kind ≡ true → before limit (i ∷ H) ≡ offline (i ∷ H)
