@@ -250,6 +250,14 @@ fn session_ends_with_one_fault(rt: HostRuntime) -> Result<(), Fail> {
     Ok(())
 }
 
+/// The text of a scalar.
+fn scalar_text(token: yaml_token_t) -> Option<Vec<u8>> {
+    match token.token_data {
+        unnamed_yaml_token_t_data::SCALAR { value, style: _ } => Some(value),
+        _ => None,
+    }
+}
+
 /// A parser that is given the room of each text reads the same texts.
 #[test]
 fn room_is_used_again(rt: HostRuntime) -> Result<(), Fail> {
@@ -268,13 +276,13 @@ fn room_is_used_again(rt: HostRuntime) -> Result<(), Fail> {
     let mut found: usize = 0;
     'tokens: for _ in 0..16 {
         let token = scanned(&mut parser)?;
-        if let unnamed_yaml_token_t_data::SCALAR { value, style: _ } = token.token_data {
+        if let Some(text) = scalar_text(token) {
             assert!(rt;
                 texts
                     .get(found)
-                    .is_some_and(|text| value.as_slice() == *text)
+                    .is_some_and(|wanted| text.as_slice() == *wanted)
             );
-            yaml_parser_reuse(&mut parser, value);
+            yaml_parser_reuse(&mut parser, text);
             found = found.wrapping_add(1);
         }
     }
