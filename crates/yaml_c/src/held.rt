@@ -74,6 +74,20 @@ fn text_len(token: &yaml_token_t) -> u64
     first.saturating_add(second_text(&token.token_data).len() as u64)
 }
 
+/// A text's room of more bytes is freed, and not kept for another text.
+const MOST_SPARE: usize = 4096;
+
+/// Gives the parser the room of a text that was given. If it is large it is freed.
+#[inline(always)]
+fn reuse(parser: &mut yaml_parser_t, text: Vec<u8>)
+    ensures { parser.new ≡ parser.old }
+{
+    if text.capacity() > MOST_SPARE {
+        return;
+    }
+    yaml_parser_reuse(parser, text);
+}
+
 /// Gives back what a token that was given holds, and says what is ahead if no more are to be given: nothing after the
 /// stream end. The parser gets the room of a scalar's text.
 #[inline(always)]
@@ -84,7 +98,7 @@ fn spend(parser: &mut yaml_parser_t, token: yaml_token_t) -> Option<ahead_t>
     match token.token_data {
         unnamed_yaml_token_t_data::STREAM_END => Some(ahead_t::OVER),
         unnamed_yaml_token_t_data::SCALAR { value, style: _ } => {
-            yaml_parser_reuse(parser, value);
+            reuse(parser, value);
             None
         }
         _ => None,
