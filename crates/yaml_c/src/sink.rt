@@ -94,7 +94,7 @@ impl<'a> token_rooms_t<'a> {
         self.count_token(second_at.saturating_add(second.len() as u64));
     }
 
-    /// Puts a token's record and its texts. Scalars are the most of those that have a text.
+    /// Puts a token's record and its texts. Most tokens with a text are scalars.
     #[inline(always)]
     pub(crate) fn put_token(&mut self, token: &yaml_token_t)
         ensures { IsPut self.old (token_of token.now) self.new }
