@@ -154,15 +154,29 @@ impl yaml_token_sink_t for counter_t {
 
     ghost may_refuse = { ⊥ };
 
+    ghost within = { λ _. Unit {0} };
+
     #[inline(always)]
     fn put(&mut self, _token: yaml_token_t) -> Result<(), AllocError> {
         self.tokens = self.tokens.wrapping_add(1);
         Ok(())
     }
 
+    #[inline(always)]
+    fn room(&mut self, alloc: Global) -> Vec<u8> {
+        Vec::new(alloc)
+    }
+
+    #[inline(always)]
+    fn has_room(&self, _count: u128, _bytes: u128) -> bool {
+        true
+    }
+
     ghost took_none = { λ _. tt };
 
     ghost took_more = { λ _ _ _ _ _ _ _. tt };
+
+    ghost within_none = { λ _ _ _ _. tt };
 }
 
 /// How many tokens of an input a sink is given with a key limit, up to its end or a fault.

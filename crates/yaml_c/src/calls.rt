@@ -112,6 +112,7 @@ pub extern "C" fn bogzhami_next(
         texts,
         token_count: 0,
         text_len: 0,
+        spare: Vec::new(alloc),
     };
     let (told, status) = next_batch(alloc, &mut held, input, &mut rooms);
     *handle = handle_of(held);

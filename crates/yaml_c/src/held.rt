@@ -24,7 +24,7 @@ use crate::status::{DONE, FAULT, NO_ROOM, OVER};
 use std::alloc::{AllocError, Global};
 use yaml_scan::{
     unnamed_yaml_token_t_data, yaml_decode_front, yaml_encoding_t, yaml_fault_t,
-    yaml_kept_parser_t, yaml_parser_reuse, yaml_parser_t, yaml_scan_next, yaml_token_t,
+    yaml_kept_parser_t, yaml_parser_t, yaml_scan_next, yaml_scan_next_to, yaml_token_t,
 };
 
 /// What was read ahead of the tokens that were given.
@@ -74,47 +74,24 @@ fn text_len(token: &yaml_token_t) -> u64
     first.saturating_add(second_text(&token.token_data).len() as u64)
 }
 
-/// A text's room of more bytes is freed, and not kept for another text.
-const MOST_SPARE: usize = 4096;
-
-/// Gives the parser the room of a text that was given. If it is large it is freed.
-#[inline(always)]
-fn reuse(parser: &mut yaml_parser_t, text: Vec<u8>)
-    ensures { parser.new ≡ parser.old }
-{
-    if text.capacity() > MOST_SPARE {
-        return;
-    }
-    yaml_parser_reuse(parser, text);
-}
-
 /// Gives back what a token that was given holds, and says what is ahead if no more are to be given: nothing after the
-/// stream end. The parser gets the room of a scalar's text.
+/// stream end.
 #[inline(always)]
-fn spend(parser: &mut yaml_parser_t, token: yaml_token_t) -> Option<ahead_t>
-    ensures same { parser.new ≡ parser.old }
-    ensures after { option_map ahead_of result ≡ after_token (token_of token) }
+fn after_token(token: &yaml_token_t) -> Option<ahead_t>
+    ensures { option_map ahead_of result ≡ after_token (token_of token.now) }
 {
-    match token.token_data {
-        unnamed_yaml_token_t_data::STREAM_END => Some(ahead_t::OVER),
-        unnamed_yaml_token_t_data::SCALAR { value, style: _ } => {
-            reuse(parser, value);
-            None
-        }
-        _ => None,
+    if matches!(token.token_data, unnamed_yaml_token_t_data::STREAM_END) {
+        Some(ahead_t::OVER)
+    } else {
+        None
     }
 }
 
 /// Gives a token, and says what is ahead if no more are to be given: the token, if its texts find no room, or nothing
-/// after the stream end. The parser gets the room of a scalar's text that was given.
+/// after the stream end.
 #[inline(always)]
-fn give_token(
-    parser: &mut yaml_parser_t,
-    rooms: &mut token_rooms_t,
-    token: yaml_token_t,
-) -> Option<ahead_t>
+fn give_token(rooms: &mut token_rooms_t, token: yaml_token_t) -> Option<ahead_t>
     requires { rooms.old.text_len ≤ length rooms.old.texts.now }
-    ensures same { parser.new ≡ parser.old }
     ensures put { rooms.old.text_len + length (texts_of (token_of token)) ≤ length rooms.old.texts.now
         → IsPut rooms.old (token_of token) rooms.new × (option_map ahead_of result ≡ after_token (token_of token)) }
     ensures kept { length rooms.old.texts.now < rooms.old.text_len + length (texts_of (token_of token))
@@ -124,11 +101,13 @@ fn give_token(
         rooms.put_bare(&token);
         return None;
     }
-    if !rooms.has_room(text_len(&token)) {
+    if !rooms.has_text_room(text_len(&token)) {
         return Some(ahead_t::TOKEN(token));
     }
     rooms.put_token(&token);
-    spend(parser, token)
+    let after = after_token(&token);
+    rooms.spend(token);
+    after
 }
 
 /// Gives the next tokens, whole ones, until a room is full, or the stream end was given, or the fault comes next.
@@ -141,12 +120,14 @@ fn give_rest(parser: &mut yaml_parser_t, rooms: &mut token_rooms_t) -> ahead_t
         → GivesNext limit e input given first parser.new rooms.new (ahead_of result) }
 {
     'tokens: while rooms.token_count < rooms.tokens.len() as u64 {
-        let token = match look(parser, ahead_t::NONE) {
-            ahead_t::TOKEN(token) => token,
-            other => return other,
-        };
-        if let Some(stop) = give_token(parser, rooms, token) {
-            return stop;
+        match yaml_scan_next_to(parser, rooms) {
+            Ok(None) => {}
+            Ok(Some(token)) => {
+                if let Some(stop) = give_token(rooms, token) {
+                    return stop;
+                }
+            }
+            Err(fault) => return ahead_t::FAULT(fault),
         }
     }
     ahead_t::NONE
@@ -165,7 +146,7 @@ pub(crate) fn give(parser: &mut yaml_parser_t, ahead: ahead_t, rooms: &mut token
 {
     match ahead {
         ahead_t::NONE => give_rest(parser, rooms),
-        ahead_t::TOKEN(token) => match give_token(parser, rooms, token) {
+        ahead_t::TOKEN(token) => match give_token(rooms, token) {
             Some(stop) => stop,
             None => give_rest(parser, rooms),
         },
@@ -194,7 +175,7 @@ pub(crate) fn end_batch(
     let need = need(&ahead);
     if let ahead_t::FAULT(fault) = &ahead {
         let fault = *fault;
-        if rooms.has_room(need) {
+        if rooms.has_text_room(need) {
             rooms.put_fault(fault);
             let answer = counts_and_fault(rooms.token_count, rooms.text_len, fault);
             return (ahead_t::OVER, answer, FAULT);

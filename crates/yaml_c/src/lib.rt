@@ -89,6 +89,7 @@ pub extern "C" fn bogzhami_scan_all(
         texts,
         token_count: 0,
         text_len: 0,
+        spare: Vec::new(alloc),
     };
     let Some(fault) = scan(alloc, input, encoding, limit, &mut rooms) else {
         *out = counts(rooms.token_count, rooms.text_len);

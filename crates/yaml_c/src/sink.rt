@@ -4,7 +4,8 @@ use crate::record::{
     bare_record, bogzhami_token, first_text, record_of, scalar_record, second_text,
 };
 use crate::room::{put_bytes, put_record};
-use std::alloc::AllocError;
+use std::alloc::{AllocError, Global};
+use std::mem::replace;
 use yaml_scan::{
     unnamed_yaml_token_t_data, yaml_fault_t, yaml_scalar_style_t, yaml_token_sink_t, yaml_token_t,
 };
@@ -20,7 +21,12 @@ pub(crate) struct token_rooms_t<'a> {
     pub(crate) token_count: u64,
     /// How many bytes their texts have.
     pub(crate) text_len: u64,
+    /// The list of a text that was put, whose room is used again.
+    pub(crate) spare: Vec<u8>,
 }
+
+/// A text's room of more bytes is freed, and not kept for another text.
+const MOST_SPARE: usize = 4096;
 
 impl<'a> token_rooms_t<'a> {
     ghost use Rattle.std.specs.Prelude.{◌≡◌, ◌↔◌, ◌+◌, ◌≤◌, IsTrue, Some, length};
@@ -35,7 +41,7 @@ impl<'a> token_rooms_t<'a> {
 
     /// Whether so many bytes find room after the texts that were put.
     #[inline(always)]
-    pub(crate) fn has_room(&self, len: u64) -> bool
+    pub(crate) fn has_text_room(&self, len: u64) -> bool
         ensures { IsTrue result ↔ (self.now.text_len + len ≤ length self.now.texts.now) }
     {
         self.text_len.saturating_add(len) <= self.texts.len() as u64
@@ -107,6 +113,18 @@ impl<'a> token_rooms_t<'a> {
         }
     }
 
+    /// Keeps the room of a scalar's text, which was put. If it is large it is freed.
+    #[inline(always)]
+    pub(crate) fn spend(&mut self, token: yaml_token_t)
+        ensures { IsBeside self.old self.new }
+    {
+        if let unnamed_yaml_token_t_data::SCALAR { value, style: _ } = token.token_data {
+            if value.capacity() <= MOST_SPARE {
+                self.spare = value;
+            }
+        }
+    }
+
     /// Puts the texts of a fault after those of the tokens.
     pub(crate) fn put_fault(&mut self, fault: yaml_fault_t)
         ensures tokens { self.new.tokens ≡ self.old.tokens }
@@ -129,12 +147,29 @@ impl yaml_token_sink_t for token_rooms_t<'_> {
 
     ghost may_refuse = { ⊥ };
 
+    ghost within = { IsWithin };
+
+    #[inline(always)]
     fn put(&mut self, token: yaml_token_t) -> Result<(), AllocError> {
         self.put_token(&token);
+        self.spend(token);
         Ok(())
     }
 
-    ghost took_none = { λ s. refl };
+    #[inline(always)]
+    fn room(&mut self, alloc: Global) -> Vec<u8> {
+        replace(&mut self.spare, Vec::new(alloc))
+    }
+
+    #[inline(always)]
+    fn has_room(&self, count: u128, bytes: u128) -> bool {
+        self.token_count as u128 + count <= self.tokens.len() as u128
+            && self.text_len as u128 + bytes <= self.texts.len() as u128
+    }
+
+    ghost took_none = { none_put };
 
     ghost took_more = { more_put };
+
+    ghost within_none = { within_none };
 }

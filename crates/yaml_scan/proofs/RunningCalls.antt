@@ -21,3 +21,5 @@ pub mod ScansToTheEnd
 pub mod GivenToEnd
 -- A parser that was kept without its input goes on as if it had kept it.
 pub mod KeptParser
+-- What goes straight to a sink that has room for it leaves the scanner that scans of these tokens leave.
+pub mod SentTokens

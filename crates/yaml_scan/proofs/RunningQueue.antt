@@ -21,3 +21,5 @@ pub mod StepsInQueue
 pub mod StepsWaiting
 -- What a group hands out, and that a sink was given it token by token.
 pub mod GroupTokens
+-- How many bytes the texts of a group have: only its own token has any.
+pub mod GroupTexts

@@ -1,7 +1,10 @@
 -- A parser of which only tokens were taken.
-use Rattle.std.specs.Prelude.{◌≡◌, ℕ, ◌≤◌, Bool, true, false, List, map, take, length, None}
+use Rattle.std.specs.Prelude.{◌≡◌, ℕ, ◌≤◌, ◌<◌, Bool, true, false, List, [], ◌∷◌, ◌++◌, map, take, length, Option, None}
+use Rattle.std.specs.Prelude.{Some}
 use Rattle.std.specs.List.{list_any}
 use Rattle.yaml_text.specs.declared.types.yaml_encoding_t.{yaml_encoding_t}
+use Rattle.yaml_text.specs.declared.token.yaml_token_t.{yaml_token_t as code_token_t}
+use Rattle.yaml_text.specs.Token.{token_of}
 use Rattle.yaml_scan.specs.Token.{yaml_token_t, is_last_type, type_of}
 use Rattle.yaml_scan.specs.Groups.{handed_out}
 use Rattle.yaml_scan.specs.Answers.{tokens_of}
@@ -29,3 +32,14 @@ pub record Scanned
   pub no_end : last ≡ false → list_any (λ t. is_last_type (type_of t.token_data)) tokens ≡ false
   pub whole : last ≡ true → (q.session.taken ≡ length (tokens_of limit (course_to limit setting input)))
       × ((course_to limit setting input).fault ≡ None)
+
+-- It has gone on by these tokens. The last flag says whether the stream end is among them.
+abbrev pub GoesOnBy : Parser → List yaml_token_t → Parser → Bool → Type 0
+GoesOnBy p tokens q last = (given : List yaml_token_t) → Scanned p.limit p.setting p.input p given false
+    → Scanned p.limit p.setting p.input q (given ++ tokens) last
+
+-- The next tokens went to a sink, which took them, or the next one was returned and the sink took none.
+abbrev pub ReadsNext : Parser → Parser → (List yaml_token_t → Type 0) → Option code_token_t → Type 0
+ReadsNext p q took None = (tokens : List yaml_token_t) × (0 < length tokens) × took tokens × GoesOnBy p tokens q false
+ReadsNext p q took (Some t) = took []
+    × GoesOnBy p (token_of t ∷ []) q (is_last_type (type_of (token_of t).token_data))

@@ -12,3 +12,4 @@ pub mod Given
 pub mod Ready
 pub mod Shown
 pub mod Kept
+pub mod Sent

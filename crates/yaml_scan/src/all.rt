@@ -32,15 +32,29 @@ impl yaml_token_sink_t for token_list_t {
 
     ghost may_refuse = { Unit {0} };
 
+    ghost within = { λ s. Unit {0} };
+
     fn put(&mut self, token: yaml_token_t) -> Result<(), AllocError> {
         self.tokens.push(token)?;
         Ok(())
+    }
+
+    #[inline(always)]
+    fn room(&mut self, alloc: Global) -> Vec<u8> {
+        Vec::new(alloc)
+    }
+
+    #[inline(always)]
+    fn has_room(&self, _count: u128, _bytes: u128) -> bool {
+        true
     }
 
     ghost took_none = { λ s. list_none (map token_of s.tokens.items) };
 
     ghost took_more = { λ a b c xs ys e f.
         list_more (map token_of a.tokens.items) (map token_of b.tokens.items) (map token_of c.tokens.items) xs ys e f };
+
+    ghost within_none = { λ a b e w. tt };
 }
 
 /// All tokens of an input, to STREAM-END, or those before its fault, and the fault. The key limit is 1,024 bytes.

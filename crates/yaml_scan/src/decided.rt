@@ -1,5 +1,5 @@
 //! A candidate for a key, and what comes right after it and decides whether it is one: two steps that are made at once.
-ghost use Rattle.std.specs.Prelude.{ℕ, Bool, ◌≡◌, ◌<◌, ◌++◌, ◌∷◌, ◌&&◌, [], List, None, true, false, not, length};
+ghost use Rattle.std.specs.Prelude.{ℕ, Bool, ◌≡◌, ◌<◌, ◌≤◌, ◌++◌, ◌∷◌, ◌&&◌, [], List, None, true, false, not, length};
 ghost use Rattle.std.specs.Prelude.{reverse};
 ghost use Rattle.std.specs.Prelude.{filter, map};
 ghost use Rattle.std.specs.Prelude.{if◌then◌else◌, IfSome, vec_len};
@@ -123,6 +123,7 @@ fn lay_candidate(levels: &mut Vec<u64>, step: step_t, key: bool) -> (usize, bloc
         × (result.1 ≡ (if key && is_new step.in_flow step.new.start.column (reverse kept) then MAPPING else NONE)) }
     ensures ends { ends_at result.0 step.new.start ≡ map (λ c. BlockEnd step.new.start) (filter (λ c.
         not (stays step.in_flow step.kind step.new.start c)) (reverse levels.old.items)) }
+    ensures few { result.0 ≤ length levels.old.items }
 {
     let start = step.new.start;
     let closed = close_levels(levels, step, start);
@@ -166,6 +167,7 @@ pub(crate) fn lay_decided(
     ensures awaited { scanner.new.slots.awaited ≡ 0 }
     ensures first { (token_of result.0.token).token_data ≡ (lexeme_of lexeme).token_data }
     ensures second { (token_of result.1).token_data ≡ (lexeme_of decider.lexeme).token_data }
+    ensures few { result.0.ends ≤ length scanner.old.layout.levels.items }
 {
     let kind = decider.kind;
     let key = is_colon(kind);

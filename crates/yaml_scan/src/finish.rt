@@ -1,15 +1,16 @@
 //! What comes after a lexeme was read: the step may have to stop, or the lexeme is laid.
-ghost use Rattle.std.specs.Prelude.{ℕ, ◌≡◌, false, List, [], MatchResult};
+ghost use Rattle.std.specs.Prelude.{ℕ, ◌≡◌, false, List, [], MatchResult, OnOk};
 ghost use Rattle.yaml_lexeme.specs.Lexeme.{lexeme_of};
 ghost use Rattle.yaml_lexeme.specs.Place.{IsMarkOf};
 ghost use Rattle.yaml_scan.specs.Laid.{Laid};
 ghost use Rattle.yaml_scan.specs.Kind.{is_stream_end};
-ghost use Rattle.yaml_scan.specs.inside.Handed.{LaysTo, StepsTo, made_by};
+ghost use Rattle.yaml_scan.specs.inside.Handed.{LaysTo, StepsTo, group_tokens, made_by};
 ghost use Rattle.yaml_scan.specs.inside.Scanning.{CanLayAll, CanRead, IsReadIn, IsStep, Refuses};
 ghost use Rattle.yaml_scan.specs.inside.TextReads.{IsRead};
 
 use crate::decided::{decided_by, lay_decided};
 use crate::fault::{stop_t, stopped};
+use crate::groups::group_t;
 use crate::keys::is_lost;
 use crate::kind::is_last;
 use crate::lay::lay_lexeme;
@@ -17,18 +18,30 @@ use crate::look::root_after;
 use crate::met::step_t;
 use crate::scanner::scanner_t;
 use crate::stop::{stop_after, stop_in_lexeme};
-use crate::target::{hand_on, hand_token, no_sink_t, yaml_token_sink_t};
+use crate::target::{
+    hand_on, hand_token, has_room_for, has_room_for_both, no_sink_t, yaml_token_sink_t,
+};
 use yaml_lexeme::{yaml_lexeme_kind_t, yaml_lexeme_t, yaml_refusal_t};
 
 /// Whether the group of a lexeme of a kind that was laid has to wait: the stream end always does, and any other if
-/// groups before it do, or if a candidate may yet become a key.
+/// groups before it do, if a candidate may yet become a key, or if the sink has no room for it.
 #[inline(always)]
-fn has_to_wait(scanner: &scanner_t, kind: yaml_lexeme_kind_t) -> bool
+fn has_to_wait<S: yaml_token_sink_t>(
+    scanner: &scanner_t,
+    sink: &S,
+    kind: yaml_lexeme_kind_t,
+    group: &group_t,
+) -> bool
     ensures last { result ≡ false → is_stream_end kind ≡ false }
     ensures awaited { result ≡ false → scanner.now.slots.awaited ≡ 0 }
     ensures lone { result ≡ false → scanner.now.layout.queue.groups.items ≡ [] }
+    ensures room { result ≡ false → S.within sink.now → (after : S) → S.took sink.now (group_tokens group.now) after
+        → S.within after }
 {
-    is_last(kind) || scanner.slots.awaited > 0 || !scanner.layout.queue.groups.is_empty()
+    is_last(kind)
+        || scanner.slots.awaited > 0
+        || !scanner.layout.queue.groups.is_empty()
+        || !has_room_for(sink, group)
 }
 
 /// Lays the lexeme of a step, and hands on its group.
@@ -41,11 +54,12 @@ fn put_lexeme<const DIRECT: bool, S: yaml_token_sink_t>(
 ) -> Result<(), stop_t>
     ghost before: { List Laid }
     requires { CanLayAll before scanner.old step (lexeme_of lexeme) }
-    ensures { LaysTo before scanner.old scanner.new DIRECT (λ tokens. S.took sink.old tokens sink.new) S.may_refuse
+    ensures steps { LaysTo before scanner.old scanner.new DIRECT (λ tokens. S.took sink.old tokens sink.new) S.may_refuse
         (made_by 1 result) }
+    ensures within { OnOk result (S.within sink.old → S.within sink.new) }
 {
     let group = lay_lexeme(scanner, step, lexeme);
-    let waits = has_to_wait(scanner, step.kind);
+    let waits = has_to_wait(scanner, sink, step.kind, &group);
     hand_on::<DIRECT, S>(scanner, sink, waits, group)
 }
 
@@ -60,14 +74,16 @@ fn lay_all<const DIRECT: bool, S: yaml_token_sink_t>(
 ) -> Result<u64, stop_t>
     ghost before: { List Laid }
     requires { CanLayAll before scanner.old step (lexeme_of lexeme) }
-    ensures { LaysTo before scanner.old scanner.new DIRECT (λ tokens. S.took sink.old tokens sink.new) S.may_refuse
+    ensures steps { LaysTo before scanner.old scanner.new DIRECT (λ tokens. S.took sink.old tokens sink.new) S.may_refuse
         result }
+    ensures within { OnOk result (S.within sink.old → S.within sink.new) }
 {
-    match decided_by(scanner, !DIRECT, step, lexeme.reach) {
+    let direct = has_room_for_both::<DIRECT, S>(sink, &scanner.layout.levels, &lexeme);
+    match decided_by(scanner, !direct, step, lexeme.reach) {
         Some(decider) => {
             let (first, second) = lay_decided(scanner, step, lexeme, decider);
-            match hand_on::<DIRECT, S>(scanner, sink, false, first) {
-                Ok(_) => match hand_token::<DIRECT, S>(scanner, sink, second) {
+            match hand_on::<DIRECT, S>(scanner, sink, !direct, first) {
+                Ok(_) => match hand_token::<DIRECT, S>(scanner, sink, !direct, second) {
                     Ok(_) => Ok(2),
                     Err(stop) => Err(stopped(stop)),
                 },
@@ -112,8 +128,9 @@ pub(crate) fn end_character<const DIRECT: bool, S: yaml_token_sink_t>(
     ghost before: { List Laid }
     requires { CanRead before scanner.old step × ((p : ℕ) → IsMarkOf scanner.old.text.chars scanner.old.front p
         → IsRead scanner.old.text.chars step.kind step.context.depth step.context.level p (lexeme_of lexeme)) }
-    ensures { StepsTo before scanner.old scanner.new DIRECT (λ tokens. S.took sink.old tokens sink.new) S.may_refuse
+    ensures steps { StepsTo before scanner.old scanner.new DIRECT (λ tokens. S.took sink.old tokens sink.new) S.may_refuse
         result }
+    ensures within { OnOk result (S.within sink.old → S.within sink.new) }
 {
     match check_reach(scanner, step, &lexeme) {
         Ok(_) => match put_lexeme::<DIRECT, S>(scanner, sink, step, lexeme) {
@@ -138,8 +155,9 @@ fn end_step<const DIRECT: bool, S: yaml_token_sink_t>(
     ghost before: { List Laid }
     requires { CanRead before scanner.old step × ((p : ℕ) → IsMarkOf scanner.old.text.chars scanner.old.front p
         → IsRead scanner.old.text.chars step.kind step.context.depth step.context.level p (lexeme_of lexeme)) }
-    ensures { StepsTo before scanner.old scanner.new DIRECT (λ tokens. S.took sink.old tokens sink.new) S.may_refuse
+    ensures steps { StepsTo before scanner.old scanner.new DIRECT (λ tokens. S.took sink.old tokens sink.new) S.may_refuse
         result }
+    ensures within { OnOk result (S.within sink.old → S.within sink.new) }
 {
     match check_reach(scanner, step, &lexeme) {
         Ok(_) => match lay_all::<DIRECT, S>(scanner, sink, step, lexeme) {
@@ -164,8 +182,9 @@ pub(crate) fn end_read<const DIRECT: bool, S: yaml_token_sink_t>(
     ghost before: { List Laid }
     requires { CanRead before scanner.old step
         × IsReadIn scanner.old step.kind step.context scanner.old.there read }
-    ensures { StepsTo before scanner.old scanner.new DIRECT (λ tokens. S.took sink.old tokens sink.new) S.may_refuse
+    ensures steps { StepsTo before scanner.old scanner.new DIRECT (λ tokens. S.took sink.old tokens sink.new) S.may_refuse
         result }
+    ensures within { OnOk result (S.within sink.old → S.within sink.new) }
 {
     match read {
         Ok(lexeme) => end_step::<DIRECT, S>(scanner, sink, step, lexeme),

@@ -33,7 +33,6 @@ pub struct yaml_kept_parser_t {
     allowed: bool,
     layout: layout_t,
     reach: yaml_mark_t,
-    spare: Vec<u8>,
     taken: u128,
     made: u64,
     session: session_t,
@@ -95,7 +94,6 @@ impl yaml_kept_parser_t {
             allowed: false,
             layout: no_layout(alloc, mark),
             reach: mark,
-            spare: Vec::new(alloc),
             taken: 0,
             made: 0,
             session: session_t {
@@ -143,7 +141,6 @@ impl yaml_kept_parser_t {
                 front: kept.reach,
                 there: kept.reach,
                 kept: make_memory_fault(),
-                spare: replace(&mut kept.spare, Vec::new(alloc)),
                 taken: kept.taken,
                 made: kept.made,
             },
@@ -184,7 +181,6 @@ impl yaml_kept_parser_t {
             front: _,
             there: _,
             kept: _,
-            spare,
             taken,
             made,
         } = scanner;
@@ -197,7 +193,6 @@ impl yaml_kept_parser_t {
         kept.allowed = allowed;
         kept.layout = layout;
         kept.reach = reach;
-        kept.spare = spare;
         kept.taken = taken;
         kept.made = made;
         kept.session = session;

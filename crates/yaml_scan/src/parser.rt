@@ -102,7 +102,6 @@ pub(crate) fn new_scanner<'a>(alloc: Global, limit: u64) -> scanner_t<'a>
         front: zero,
         there: zero,
         kept: make_memory_fault(),
-        spare: Vec::new(alloc),
         taken: 0,
         made: 0,
     }
@@ -144,7 +143,7 @@ pub(crate) fn begin<'a>(
 
 /// Makes the first step, if it was not made.
 #[inline(always)]
-fn start<'a>(
+pub(crate) fn start<'a>(
     scanner: &mut scanner_t<'a>,
     input: &'a [u8],
     setting: yaml_encoding_t,
@@ -371,15 +370,6 @@ pub fn yaml_parser_fault<'s>(parser: &'s yaml_parser_t<'_>) -> Option<&'s yaml_f
     ensures { option_map (λ f. fault_of f.now) result ≡ parser.now.session.fault }
 {
     parser.session.fault.as_ref()
-}
-
-/// Gives a parser the room of a text that is no longer needed, for the text of a scalar to come. What is in it is
-/// thrown away. Then the parser asks for less memory, and nothing else changes.
-#[inline(always)]
-pub fn yaml_parser_reuse(parser: &mut yaml_parser_t, text: Vec<u8>)
-    ensures { parser.new ≡ parser.old }
-{
-    parser.scanner.spare = text;
 }
 
 /// How many steps have a token that was made and not taken: at most one more than the key limit. STREAM-START is a

@@ -28,8 +28,6 @@ pub(crate) struct scanner_t<'a> {
     pub there: yaml_mark_t,
     /// The fault of a step that stopped.
     pub kept: yaml_fault_t,
-    /// Room for the text of a scalar to come, in place of what is in it.
-    pub spare: Vec<u8>,
     /// How many tokens were taken.
     pub taken: u128,
     /// How many steps were made.

@@ -9,7 +9,6 @@ ghost use Rattle.yaml_scan.specs.inside.Scanning.{HasRead};
 ghost use Rattle.yaml_scan.specs.inside.TextReads.{IsDecider, IsRead};
 
 use crate::scanner::scanner_t;
-use std::mem::replace;
 use yaml_lexeme::{
     yaml_context_t, yaml_decider_at, yaml_gap, yaml_lexeme_kind, yaml_lexeme_kind_t, yaml_lexeme_t,
     yaml_read_block, yaml_read_character, yaml_read_lexeme, yaml_read_plain, yaml_read_quoted,
@@ -69,9 +68,10 @@ pub(crate) fn decider_at(text: &yaml_text_t, at: yaml_mark_t, in_flow: bool) -> 
     }
 }
 
-/// The plain scalar after the gap, or why it is refused. Its value is put into the spare room if it fits.
+/// The plain scalar after the gap, or why it is refused. Its value is put into `room` if it fits.
 #[inline(always)]
 pub(crate) fn read_plain(
+    room: Vec<u8>,
     scanner: &mut scanner_t,
     context: yaml_context_t,
 ) -> Result<yaml_lexeme_t, yaml_refusal_t>
@@ -79,7 +79,6 @@ pub(crate) fn read_plain(
     requires level { IfSome context.level (λ l. l ≤ length scanner.old.text.chars) }
     ensures { HasRead scanner.old scanner.new PLAIN context result }
 {
-    let room = replace(&mut scanner.spare, Vec::new(scanner.alloc));
     yaml_read_plain(
         room,
         &scanner.text,
@@ -89,9 +88,10 @@ pub(crate) fn read_plain(
     )
 }
 
-/// The quoted scalar after the gap, or why it is refused. Its value is put into the spare room if it fits.
+/// The quoted scalar after the gap, or why it is refused. Its value is put into `room` if it fits.
 #[inline(always)]
 pub(crate) fn read_quoted(
+    room: Vec<u8>,
     scanner: &mut scanner_t,
     single: bool,
     context: yaml_context_t,
@@ -99,7 +99,6 @@ pub(crate) fn read_quoted(
     requires { (p : ℕ) × IsMarkOf scanner.old.text.chars scanner.old.front p }
     ensures { HasRead scanner.old scanner.new (quoted_kind single) context result }
 {
-    let room = replace(&mut scanner.spare, Vec::new(scanner.alloc));
     yaml_read_quoted(
         room,
         &scanner.text,
@@ -109,9 +108,10 @@ pub(crate) fn read_quoted(
     )
 }
 
-/// The literal or folded scalar after the gap, or why it is refused. Its value is put into the spare room if it fits.
+/// The literal or folded scalar after the gap, or why it is refused. Its value is put into `room` if it fits.
 #[inline(always)]
 pub(crate) fn read_block(
+    room: Vec<u8>,
     scanner: &mut scanner_t,
     folded: bool,
     context: yaml_context_t,
@@ -120,7 +120,6 @@ pub(crate) fn read_block(
     requires level { IfSome context.level (λ l. l ≤ length scanner.old.text.chars) }
     ensures { HasRead scanner.old scanner.new (block_kind folded) context result }
 {
-    let room = replace(&mut scanner.spare, Vec::new(scanner.alloc));
     yaml_read_block(
         room,
         &scanner.text,

@@ -1,5 +1,5 @@
 //! A step: the gap, the kind of the next lexeme, the lexeme, and what the layout makes of it.
-ghost use Rattle.std.specs.Prelude.{List, ◌≡◌, ◌<◌, true, false, nat_lt, vec_len};
+ghost use Rattle.std.specs.Prelude.{List, ◌≡◌, ◌<◌, true, false, nat_lt, vec_len, OnOk};
 ghost use Rattle.yaml_lexeme.specs.Lex.{block_kind, is_character, quoted_kind};
 ghost use Rattle.yaml_lexeme.specs.declared.kind.yaml_lexeme_kind_t.TheVariants.{PLAIN};
 ghost use Rattle.yaml_scan.specs.Laid.{Laid};
@@ -38,12 +38,14 @@ fn step_plain<const IN_FLOW: bool, const DIRECT: bool, S: yaml_token_sink_t>(
 ) -> Result<(), stop_t>
     ghost before: { List Laid }
     requires { Comes before scanner.old IN_FLOW PLAIN }
-    ensures { StepsTo before scanner.old scanner.new DIRECT (λ tokens. S.took sink.old tokens sink.new) S.may_refuse
+    ensures steps { StepsTo before scanner.old scanner.new DIRECT (λ tokens. S.took sink.old tokens sink.new) S.may_refuse
         result }
+    ensures within { OnOk result (S.within sink.old → S.within sink.new) }
 {
     match begin_step(scanner, IN_FLOW, yaml_lexeme_kind_t::PLAIN) {
         Ok(step) => {
-            let read = read_plain(scanner, step.context);
+            let room = sink.room(scanner.alloc);
+            let read = read_plain(room, scanner, step.context);
             end_read::<DIRECT, S>(scanner, sink, step, read)
         }
         Err(stop) => Err(stopped(stop)),
@@ -58,12 +60,14 @@ fn step_quoted<const IN_FLOW: bool, const SINGLE: bool, const DIRECT: bool, S: y
 ) -> Result<(), stop_t>
     ghost before: { List Laid }
     requires { Comes before scanner.old IN_FLOW (quoted_kind SINGLE) }
-    ensures { StepsTo before scanner.old scanner.new DIRECT (λ tokens. S.took sink.old tokens sink.new) S.may_refuse
+    ensures steps { StepsTo before scanner.old scanner.new DIRECT (λ tokens. S.took sink.old tokens sink.new) S.may_refuse
         result }
+    ensures within { OnOk result (S.within sink.old → S.within sink.new) }
 {
     match begin_step(scanner, IN_FLOW, quoted_kind(SINGLE)) {
         Ok(step) => {
-            let read = read_quoted(scanner, SINGLE, step.context);
+            let room = sink.room(scanner.alloc);
+            let read = read_quoted(room, scanner, SINGLE, step.context);
             end_read::<DIRECT, S>(scanner, sink, step, read)
         }
         Err(stop) => Err(stopped(stop)),
@@ -78,12 +82,14 @@ fn step_literal<const IN_FLOW: bool, const DIRECT: bool, S: yaml_token_sink_t>(
 ) -> Result<(), stop_t>
     ghost before: { List Laid }
     requires { Comes before scanner.old IN_FLOW (block_kind false) }
-    ensures { StepsTo before scanner.old scanner.new DIRECT (λ tokens. S.took sink.old tokens sink.new) S.may_refuse
+    ensures steps { StepsTo before scanner.old scanner.new DIRECT (λ tokens. S.took sink.old tokens sink.new) S.may_refuse
         result }
+    ensures within { OnOk result (S.within sink.old → S.within sink.new) }
 {
     match begin_step(scanner, IN_FLOW, yaml_lexeme_kind_t::LITERAL) {
         Ok(step) => {
-            let read = read_block(scanner, false, step.context);
+            let room = sink.room(scanner.alloc);
+            let read = read_block(room, scanner, false, step.context);
             end_read::<DIRECT, S>(scanner, sink, step, read)
         }
         Err(stop) => Err(stopped(stop)),
@@ -101,8 +107,9 @@ fn step_character<const DIRECT: bool, S: yaml_token_sink_t>(
     ghost before: { List Laid }
     requires comes { Comes before scanner.old in_flow kind }
     requires kind { is_character kind ≡ true }
-    ensures { StepsTo before scanner.old scanner.new DIRECT (λ tokens. S.took sink.old tokens sink.new) S.may_refuse
+    ensures steps { StepsTo before scanner.old scanner.new DIRECT (λ tokens. S.took sink.old tokens sink.new) S.may_refuse
         result }
+    ensures within { OnOk result (S.within sink.old → S.within sink.new) }
 {
     match begin_step(scanner, in_flow, kind) {
         Ok(step) => {
@@ -143,8 +150,9 @@ fn step_kind<const IN_FLOW: bool, const DIRECT: bool, S: yaml_token_sink_t>(
 ) -> Result<(), stop_t>
     ghost before: { List Laid }
     requires { Comes before scanner.old IN_FLOW kind }
-    ensures { StepsTo before scanner.old scanner.new DIRECT (λ tokens. S.took sink.old tokens sink.new) S.may_refuse
+    ensures steps { StepsTo before scanner.old scanner.new DIRECT (λ tokens. S.took sink.old tokens sink.new) S.may_refuse
         result }
+    ensures within { OnOk result (S.within sink.old → S.within sink.new) }
 {
     match kind {
         yaml_lexeme_kind_t::PLAIN => step_plain::<IN_FLOW, DIRECT, S>(scanner, sink),
@@ -217,8 +225,9 @@ fn step_any<const DIRECT: bool, S: yaml_token_sink_t>(
 ) -> Result<(), stop_t>
     ghost before: { List Laid }
     requires { Comes before scanner.old in_flow kind }
-    ensures { StepsTo before scanner.old scanner.new DIRECT (λ tokens. S.took sink.old tokens sink.new) S.may_refuse
+    ensures steps { StepsTo before scanner.old scanner.new DIRECT (λ tokens. S.took sink.old tokens sink.new) S.may_refuse
         result }
+    ensures within { OnOk result (S.within sink.old → S.within sink.new) }
 {
     if in_flow {
         step_kind::<true, DIRECT, S>(scanner, sink, kind)
@@ -237,8 +246,9 @@ fn step_at<const DIRECT: bool, S: yaml_token_sink_t>(
     ghost before: { List Laid }
     requires can { CanStep before scanner.old }
     requires flow { in_flow ≡ nat_lt 0 (vec_len scanner.old.slots.outer) }
-    ensures { StepsTo before scanner.old scanner.new DIRECT (λ tokens. S.took sink.old tokens sink.new) S.may_refuse
+    ensures steps { StepsTo before scanner.old scanner.new DIRECT (λ tokens. S.took sink.old tokens sink.new) S.may_refuse
         result }
+    ensures within { OnOk result (S.within sink.old → S.within sink.new) }
 {
     let front = gap_end(&scanner.text, scanner.reach, in_flow, scanner.allowed);
     scanner.front = front;
@@ -261,8 +271,9 @@ fn step_in_block<const DIRECT: bool, S: yaml_token_sink_t>(
     ghost before: { List Laid }
     requires can { CanStep before scanner.old }
     requires block { vec_len scanner.old.slots.outer ≡ 0 }
-    ensures { StepsTo before scanner.old scanner.new DIRECT (λ tokens. S.took sink.old tokens sink.new) S.may_refuse
+    ensures steps { StepsTo before scanner.old scanner.new DIRECT (λ tokens. S.took sink.old tokens sink.new) S.may_refuse
         result }
+    ensures within { OnOk result (S.within sink.old → S.within sink.new) }
 {
     step_at::<DIRECT, S>(scanner, sink, false)
 }
@@ -276,8 +287,9 @@ fn step_in_flow<const DIRECT: bool, S: yaml_token_sink_t>(
     ghost before: { List Laid }
     requires can { CanStep before scanner.old }
     requires flow { 0 < vec_len scanner.old.slots.outer }
-    ensures { StepsTo before scanner.old scanner.new DIRECT (λ tokens. S.took sink.old tokens sink.new) S.may_refuse
+    ensures steps { StepsTo before scanner.old scanner.new DIRECT (λ tokens. S.took sink.old tokens sink.new) S.may_refuse
         result }
+    ensures within { OnOk result (S.within sink.old → S.within sink.new) }
 {
     step_at::<DIRECT, S>(scanner, sink, true)
 }
@@ -291,8 +303,9 @@ pub(crate) fn step_to<const DIRECT: bool, S: yaml_token_sink_t>(
 ) -> Result<(), stop_t>
     ghost before: { List Laid }
     requires { CanStep before scanner.old }
-    ensures { StepsTo before scanner.old scanner.new DIRECT (λ tokens. S.took sink.old tokens sink.new) S.may_refuse
+    ensures steps { StepsTo before scanner.old scanner.new DIRECT (λ tokens. S.took sink.old tokens sink.new) S.may_refuse
         result }
+    ensures within { OnOk result (S.within sink.old → S.within sink.new) }
 {
     if scanner.slots.outer.is_empty() {
         step_in_block::<DIRECT, S>(scanner, sink)

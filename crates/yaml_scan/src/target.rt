@@ -1,8 +1,10 @@
 //! Where the group of a step goes: into the queue, or straight to a sink if nothing of it has to wait.
-ghost use Rattle.std.specs.Prelude.{◌≡◌, ◌+◌, ◌<◌, ◌^◌, List, [], ◌∷◌, ◌++◌, ◌⊎◌, true, false, length, MatchResult};
+ghost use Rattle.std.specs.Prelude.{◌≡◌, ◌+◌, ◌<◌, ◌≤◌, ◌^◌, List, [], ◌∷◌, ◌++◌, ◌⊎◌, true, false, length, MatchResult};
 ghost use Rattle.std.specs.Prelude.{if◌then◌else◌, OnErr, OnOk};
 ghost use Rattle.std.specs.VecDeque.{deque_capacity};
-ghost use Rattle.yaml_text.specs.Token.{Token, token_of};
+ghost use Rattle.yaml_text.specs.Token.{Token, data_of, token_of};
+ghost use Rattle.yaml_scan.specs.Sink.{said_len, texts_len};
+ghost use Rattle.yaml_lexeme.specs.Lexeme.{lexeme_of};
 ghost use Rattle.yaml_scan.specs.Words.{HasWords};
 ghost use Rattle.yaml_scan.specs.declared.fault.stop_t.TheVariants.{SINK};
 ghost use Rattle.yaml_scan.specs.inside.Queue.{ends_at, leads, start_at};
@@ -12,7 +14,8 @@ ghost use Rattle.yaml_scan.specs.inside.Handed.{Gives, IsHandedOn, group_tokens,
 use crate::fault::{stop_by_sink, stop_t, stopped};
 use crate::groups::{block_t, group_t, token_at};
 use crate::scanner::scanner_t;
-use std::alloc::AllocError;
+use std::alloc::{AllocError, Global};
+use yaml_lexeme::yaml_lexeme_t;
 use yaml_text::{unnamed_yaml_token_t_data, yaml_mark_t, yaml_token_t};
 
 /// Takes the tokens of an input, one after the other.
@@ -23,6 +26,9 @@ pub trait yaml_token_sink_t {
     // What is known if it found no memory for a token: nothing, or that this does not happen.
     ghost may_refuse: { Type 0 };
 
+    // It has taken no more than it has room for.
+    ghost within: { Self → Type 0 };
+
     /// Takes a token. `AllocError` if it found no memory; then nothing was taken.
     fn put(&mut self, token: yaml_token_t) -> Result<(), AllocError>
         requires { HasWords (token_of token).token_data }
@@ -30,9 +36,20 @@ pub trait yaml_token_sink_t {
         ensures kept { OnErr result (took self.old [] self.new) }
         ensures refused { OnErr result may_refuse };
 
+    /// A list in whose room the text of a token to come may be put. What is in it is thrown away.
+    fn room(&mut self, alloc: Global) -> Vec<u8>
+        ensures { took self.old [] self.new };
+
+    /// Whether so many more tokens find room, whose texts have so many bytes.
+    fn has_room(&self, count: u128, bytes: u128) -> bool
+        ensures { result ≡ true → within self.now → (tokens : List Token) (after : Self) → length tokens ≤ count
+            → texts_len tokens ≤ bytes → took self.now tokens after → within after };
+
     ghost took_none: { (s : Self) → took s [] s };
 
     ghost took_more: { (a b c : Self) (xs ys : List Token) → took a xs b → took b ys c → took a (xs ++ ys) c };
+
+    ghost within_none: { (a b : Self) → took a [] b → within a → within b };
 }
 
 /// The sink of a scanner whose tokens all go through the queue. It is given none.
@@ -44,13 +61,27 @@ impl yaml_token_sink_t for no_sink_t {
 
     ghost may_refuse = { Unit {0} };
 
+    ghost within = { λ s. Unit {0} };
+
     fn put(&mut self, _token: yaml_token_t) -> Result<(), AllocError> {
         Ok(())
+    }
+
+    #[inline(always)]
+    fn room(&mut self, alloc: Global) -> Vec<u8> {
+        Vec::new(alloc)
+    }
+
+    #[inline(always)]
+    fn has_room(&self, _count: u128, _bytes: u128) -> bool {
+        true
     }
 
     ghost took_none = { λ s. tt };
 
     ghost took_more = { λ a b c xs ys e f. tt };
+
+    ghost within_none = { λ a b e w. tt };
 }
 
 /// Gives a token to a sink.
@@ -198,11 +229,55 @@ fn keys_of(key: bool) -> u128
 }
 
 /// How many tokens a group hands out.
-#[inline]
+#[inline(always)]
 fn count_of(group: &group_t) -> u128
     ensures { result ≡ length (group_tokens group.now) }
 {
     group.ends as u128 + starts_of(group.opens) + keys_of(group.key) + 1
+}
+
+/// How many bytes the texts of a token have.
+#[inline(always)]
+fn said_len(said: &unnamed_yaml_token_t_data) -> u128
+    ensures { result ≡ said_len (data_of said.now) }
+{
+    match said {
+        unnamed_yaml_token_t_data::TAG_DIRECTIVE { handle, prefix } => {
+            handle.len() as u128 + prefix.len() as u128
+        }
+        unnamed_yaml_token_t_data::TAG { handle, suffix } => {
+            handle.len() as u128 + suffix.len() as u128
+        }
+        unnamed_yaml_token_t_data::ALIAS { value }
+        | unnamed_yaml_token_t_data::ANCHOR { value }
+        | unnamed_yaml_token_t_data::SCALAR { value, style: _ } => value.len() as u128,
+        _ => 0,
+    }
+}
+
+/// Whether a sink has room for all that a group hands out.
+#[inline(always)]
+pub(crate) fn has_room_for<S: yaml_token_sink_t>(sink: &S, group: &group_t) -> bool
+    ensures { result ≡ true → S.within sink.now → (after : S) → S.took sink.now (group_tokens group.now) after
+        → S.within after }
+{
+    sink.has_room(count_of(group), said_len(&group.token.token_data))
+}
+
+/// Whether a sink that takes groups straight has room for that of a lexeme, which may close all levels, and for a token
+/// without texts after it.
+#[inline(always)]
+pub(crate) fn has_room_for_both<const DIRECT: bool, S: yaml_token_sink_t>(
+    sink: &S,
+    levels: &[u64],
+    lexeme: &yaml_lexeme_t,
+) -> bool
+    ensures direct { result ≡ true → DIRECT ≡ true }
+    ensures room { result ≡ true → S.within sink.now → (tokens : List Token) (after : S)
+        → length tokens ≤ length levels.now + 4 → texts_len tokens ≤ said_len (lexeme_of lexeme.now).token_data
+        → S.took sink.now tokens after → S.within after }
+{
+    DIRECT && sink.has_room(levels.len() as u128 + 4, said_len(&lexeme.token_data))
 }
 
 /// Hands on the group of a step: straight to the sink if it need not wait, and else into the queue, which has room.
@@ -235,22 +310,23 @@ pub(crate) fn hand_on<const DIRECT: bool, S: yaml_token_sink_t>(
     }
 }
 
-/// Hands on the group of a step that is a token alone and need not wait: straight to the sink, or into the queue, which
-/// has room.
+/// Hands on the group of a step that is a token alone: straight to the sink if it need not wait, and else into the
+/// queue, which has room.
 #[inline(always)]
 pub(crate) fn hand_token<const DIRECT: bool, S: yaml_token_sink_t>(
     scanner: &mut scanner_t,
     sink: &mut S,
+    waits: bool,
     token: yaml_token_t,
 ) -> Result<(), stop_t>
     requires room { length scanner.old.layout.queue.groups.items < deque_capacity scanner.old.layout.queue.groups }
     requires words { HasWords (token_of token).token_data }
     requires done { scanner.old.layout.queue.done + 1 < 2 ^ 64 }
     requires taken { scanner.old.taken + length (group_tokens (lone token)) < 2 ^ 128 }
-    ensures { IsHandedOn DIRECT false scanner.old scanner.new (lone token) (λ tokens. S.took sink.old tokens sink.new)
+    ensures { IsHandedOn DIRECT waits scanner.old scanner.new (lone token) (λ tokens. S.took sink.old tokens sink.new)
         S.may_refuse result }
 {
-    if !DIRECT {
+    if !DIRECT || waits {
         scanner.layout.queue.groups.push_back_reserved(group_t {
             ends: 0,
             opens: block_t::NONE,

@@ -76,15 +76,29 @@ impl yaml_token_sink_t for token_lines_t {
 
     ghost may_refuse = { Unit {0} };
 
+    ghost within = { λ s. Unit {0} };
+
     fn put(&mut self, token: yaml_token_t) -> Result<(), AllocError> {
         self.len = put_line(&mut self.bytes, self.len, &mut self.kept, &token)?;
         Ok(())
+    }
+
+    #[inline(always)]
+    fn room(&mut self, alloc: Global) -> Vec<u8> {
+        Vec::new(alloc)
+    }
+
+    #[inline(always)]
+    fn has_room(&self, _count: u128, _bytes: u128) -> bool {
+        true
     }
 
     ghost took_none = { λ s. lines_none (take s.len s.bytes.items) };
 
     ghost took_more = { λ a b c xs ys e f.
         lines_more (take a.len a.bytes.items) (take b.len b.bytes.items) (take c.len c.bytes.items) xs ys e f };
+
+    ghost within_none = { λ a b e w. tt };
 }
 
 /// The lines of the tokens of the input and of its fault, and whether it has one. The key limit is in bytes.

@@ -152,7 +152,7 @@ length_with : (s : scanner_t) (ys : List group_t) → RunsWith s ys → length (
 unfolding history
 length_with s ys r = oldest_length (course_of s).read (s.made - 1) (inside_with s ys r)
 
-open_same : (s t : scanner_t) → Same s t → IsOpen s → IsOpen t
+pub open_same : (s t : scanner_t) → Same s t → IsOpen s → IsOpen t
 open_same s t q o e =
     let k = course_as s t q.text q.refusal q.limit in
     let a = o (sym (ap (λ (c : Course). ended c.read) k) ∙ e) in
@@ -162,10 +162,10 @@ open_same s t q o e =
 
 -- a scanner for which no candidate is awaited, and the tokens that the groups of its queue hand out
 module _ (m : scanner_t) (zs : List group_t) (r : RunsWith m zs) (o : IsOpen m) (tokens : List yaml_token_t) (a : AllSettled m zs tokens) where
-  abbrev made_all : List Token
+  abbrev pub made_all : List Token
   made_all = offline (history m)
 
-  whole : before m.limit (history m) ≡ made_all
+  pub whole : before m.limit (history m) ≡ made_all
   whole = all_are_settled (history m) (m.made + 1) m zs r.holds a.awaited
 
   begins_all : Begins made_all (all_in m)
@@ -240,11 +240,11 @@ module _ (m : scanner_t) (zs : List group_t) (r : RunsWith m zs) (o : IsOpen m) 
     course_then : course_of t ≡ course_of m
     course_then = course_as m t e.text e.refusal e.limit
 
-    history_then : history t ≡ history m
+    pub history_then : history t ≡ history m
     unfolding history
     history_then = rw (course_then, e.made) refl
 
-    taken_then : t.taken ≡ length made_all
+    pub taken_then : t.taken ≡ length made_all
     taken_then = e.taken ∙ tokens_long
 
     held : Holds (history m) (t.made + 1) t
@@ -314,9 +314,9 @@ module _ (s : scanner_t) (r : Runs s) (o : IsOpen s) (l : length (before s.limit
   can_step = record { holds = r.holds; running = running; small = r.small; few_steps = few_made s r; near = r.near }
 
   -- one was made, or two
-  module _ (m : scanner_t) (zs : List group_t) (k : Makes false (history s) s m zs) where
+  module _ (m : scanner_t) (zs : List group_t) (b : Bool) (k : Makes b (history s) s m zs) where
     laid_then : RunsWith m zs × (s.made < m.made) × Same s m
-    laid_then = some_steps false s m zs r running k
+    laid_then = some_steps b s m zs r running k
 
     open_then : IsOpen m
     open_then = let p = laid_then in open_same s m p.2 o
@@ -332,12 +332,12 @@ module _ (s : scanner_t) (r : Runs s) (o : IsOpen s) (l : length (before s.limit
       given = taken_is s m q.text q.refusal q.limit s.taken q.taken ∙ sym (append-nil (told_taken s));
     }
 
-    handed : (t : scanner_t) (tokens : List yaml_token_t) → HandsOut true m zs t tokens → HasGiven s t tokens × (s.made < t.made)
-    handed t tokens (inl w) = let p = laid_then in (
-      subst (λ (u : scanner_t). HasGiven s u tokens) (sym w.1) (subst (λ (z : List yaml_token_t). HasGiven s m z) (sym w.0) (queued_then w.2)),
-      rw w.1 p.1,
+    handed : (sparing : Bool) (t : scanner_t) (tokens : List yaml_token_t) → HandsOut true sparing m zs t tokens → HasGiven s t tokens × (s.made < t.made)
+    handed sparing t tokens (inl w) = let p = laid_then in (
+      subst (λ (u : scanner_t). HasGiven s u tokens) (sym w.2) (subst (λ (z : List yaml_token_t). HasGiven s m z) (sym w.1) (queued_then w.3)),
+      rw w.2 p.1,
     )
-    handed t tokens (inr w) = let p = laid_then in let e = w.1 in let z = e.made in let n = p.1 in (
+    handed sparing t tokens (inr w) = let p = laid_then in let e = w.1 in let z = e.made in let n = p.1 in (
       emptied m zs p.0 open_then tokens e.all t e s p.2,
       omega arith,
     )
@@ -355,7 +355,7 @@ module _ (s : scanner_t) (r : Runs s) (o : IsOpen s) (l : length (before s.limit
   -- so it goes on, or stops
   pub steps_to : (t : scanner_t) (took : List yaml_token_t → Type 0) (refuses : Type 0) (out : Result (Unit {0}) stop_t) → StepsTo (history s) s t true took refuses out
       → MatchResult out (λ _. (tokens : List yaml_token_t) × HasGiven s t tokens × (s.made < t.made) × took tokens) (λ stop. StopsGiving s t.kept stop took refuses)
-  steps_to t took refuses (Ok x) w = let p = handed w.1 w.2 w.3 t w.0 w.4 in (w.0, p.0, p.1, w.5)
+  steps_to t took refuses (Ok x) w = let p = handed w.1 w.2 w.3 w.4 w.3 t w.0 w.5 in (w.0, p.0, p.1, w.6)
   steps_to t took refuses (Err stop) (inl w) = inl (
     [],
     s,
@@ -366,4 +366,4 @@ module _ (s : scanner_t) (r : Runs s) (o : IsOpen s) (l : length (before s.limit
     },
     w.1,
   )
-  steps_to t took refuses (Err stop) (inr w) = inr (w.0, cut_then w.1.1 w.1.2 w.1.3 w.1.0 took w.1.5 w.1.6, w.2)
+  steps_to t took refuses (Err stop) (inr w) = inr (w.0, cut_then w.1.1 w.1.2 false w.1.3 w.1.0 took w.1.5 w.1.6, w.2)

@@ -34,7 +34,6 @@ with_text s x q = record {
   front = q.front;
   there = q.there;
   kept = q.kept;
-  spare = q.spare;
   taken = s.taken;
   made = s.made;
 }

@@ -34,7 +34,7 @@ told_append [] ys = refl
 told_append (x ∷ xs) ys = ap (λ (zs : List yaml_token_t). Rattle.yaml_scan.specs.Groups.handed_out Rattle.yaml_text.specs.declared.types.yaml_encoding_t.TheVariants.YAML_UTF8_ENCODING x ∷ zs) (told_append xs ys)
 
 -- HOW MANY
-ends_count : (n : ℕ) (m : yaml_mark_t) → length (ends_at n m) ≡ n
+pub ends_count : (n : ℕ) (m : yaml_mark_t) → length (ends_at n m) ≡ n
 ends_count zero m = refl
 ends_count (suc n) m = ap suc (ends_count n m)
 

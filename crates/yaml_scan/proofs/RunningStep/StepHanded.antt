@@ -1,6 +1,6 @@
 -- What was laid is handed on: into the queue, or straight to a sink.
 use Rattle.std.proofs.Common.{◌≡◌, ℕ, ◌+◌, ◌^◌, ◌≤◌, ◌<◌, not, Bool, true, false, List, [], ◌∷◌, ◌++◌, drop, length, length-append, length-drop, append-nil, append_assoc, None, Ok, Err, refl, ap, sym, ◌∙◌, subst, arith, inl, inr}
-use Rattle.std.specs.Prelude.{Result}
+use Rattle.std.specs.Prelude.{◌⊎◌, OnOk, Result}
 use Rattle.std.specs.List.{list_any}
 use Rattle.std.specs.VecDeque.{deque_capacity}
 use Rattle.std.proofs.lemmas.Bool.{false≢true}
@@ -31,13 +31,17 @@ use Rattle.yaml_scan.proofs.RunningStep.DecidedLaid.{read_place}
 use Rattle.yaml_lexeme.specs.Lexeme.{Lexeme as yaml_lexeme_t}
 use Rattle.yaml_scan.specs.declared.met.step_t.{step_t}
 use Rattle.yaml_scan.proofs.SessionCalls.AnswerWords.{read_has_words}
-use Rattle.yaml_scan.proofs.Texts.LexemeReads.{read_says}
-use Rattle.yaml_scan.specs.inside.Handed.{AllSettled, Empties, IsCut, IsHanded, IsHandedOn, IsLaidAs, IsPushed, LaysTo, group_tokens, groups_tokens, is_end, made_by, one_done, set_queue, told_leads, with_queue}
+use Rattle.yaml_scan.proofs.Texts.LexemeReads.{decider_silent, read_says}
+use Rattle.yaml_scan.specs.inside.Handed.{AllSettled, Empties, IsCut, IsHanded, IsHandedOn, IsLaidAs, IsPushed, LaysTo, group_tokens, groups_tokens, is_end, keys_of, made_by, one_done, set_queue, starts_of, told_leads, with_queue}
 use Rattle.yaml_scan.specs.inside.Queue.{IsQueue, early_before, leads, pending}
 use Rattle.yaml_scan.specs.inside.Scanning.{AdvancesTwice, AdvancesWith, CanLayAll, HoldsWith, IsDecided, IsLaidBy, LaysTwo, counted, groups_in}
 use Rattle.yaml_scan.proofs.History.KindTests.{candidate_not_end, decider_not_end}
 use Rattle.yaml_scan.proofs.RunningQueue.CandidateGroup.{AreMade, leads_made}
-use Rattle.yaml_scan.proofs.RunningQueue.GroupTokens.{cut_after, cut_longer, told_count}
+use Rattle.yaml_scan.specs.Sink.{said_len, texts_len}
+use Rattle.yaml_scan.specs.declared.groups.block_t.{block_t}
+use Rattle.yaml_scan.specs.declared.groups.block_t.TheVariants.{NONE, SEQUENCE, MAPPING}
+use Rattle.yaml_scan.proofs.RunningQueue.GroupTexts.{group_len, texts_append}
+use Rattle.yaml_scan.proofs.RunningQueue.GroupTokens.{count_is, cut_after, cut_longer, told_count}
 use Rattle.yaml_scan.proofs.TokenList.GroupSizes.{four_tokens_a_step}
 
 -- TOKENS OF GROUPS
@@ -158,10 +162,10 @@ module _ (H : List Laid) (s u : scanner_t) (k : Kind) (y : group_t) (A : IsLaidA
       no_end = group_no_end y (SAYS ∙ LAST w);
     }
 
-    queued : IsPushed u.layout.queue y t.layout.queue → t ≡ with_queue u t.layout.queue → IsLaidBy (not direct) H s t (groups_in t) 1
+    queued : IsPushed u.layout.queue y t.layout.queue → t ≡ with_queue u t.layout.queue → IsLaidBy true H s t (groups_in t) 1
     queued p e =
         let a : AdvancesWith H s (with_queue u t.layout.queue) (groups_in t) = subst (λ (zs : List group_t). AdvancesWith H s (with_queue u t.layout.queue) zs) (sym p.groups) (queue_advances H s u (groups_in u ++ y ∷ []) t.layout.queue p.done p.early p.front A.advances) in
-        subst (λ (z : scanner_t). IsLaidBy (not direct) H s z (groups_in t) 1) (sym e) (inl (refl, a, FAR))
+        subst (λ (z : scanner_t). IsLaidBy true H s z (groups_in t) 1) (sym e) (inl (refl, a, FAR))
 
     emptied : waits ≡ false → (tokens : List yaml_token_t) → tokens ≡ group_tokens y → t ≡ set_queue u (one_done u.layout.queue) (u.taken + length tokens) → Empties u (groups_in u ++ y ∷ []) t tokens
     emptied w tokens T e =
@@ -185,8 +189,8 @@ module _ (H : List Laid) (s u : scanner_t) (k : Kind) (y : group_t) (A : IsLaidA
 
     pub one_handed : (o : Result (Unit {0}) stop_t) → IsHandedOn direct waits u t y took refuses o → LaysTo H s t direct took refuses (made_by 1 o)
     one_handed (Ok x) g = elim g.1 [
-      | inl p ↦ (g.0, t, groups_in t, queued p.2 p.3, inl (p.1, refl, refl), g.2)
-      | inr p ↦ (g.0, u, groups_in u ++ y ∷ [], inl (refl, A.advances, FAR), inr (p.0, emptied p.1 g.0 p.2 p.3), g.2)
+      | inl p ↦ (g.0, t, groups_in t, true, queued p.2 p.3, inl (refl, p.1, refl, refl), g.2)
+      | inr p ↦ (g.0, u, groups_in u ++ y ∷ [], false, inl (refl, A.advances, FAR), inr (p.0, emptied p.1 g.0 p.2 p.3), g.2)
     ]
     one_handed (Err stop) g = (g.2, (1, group_tokens y, u, groups_in u ++ y ∷ [], inl (refl, A.advances, FAR), g.0, settled_all g.1, g.3), g.4)
 
@@ -205,6 +209,11 @@ module _ (H : List Laid) (s : scanner_t) (r : step_t) (x : yaml_lexeme_t) (c : C
   far_there m e = subst (λ (z : yaml_mark_t). z.index < s.near) (sym e) c.far
 
 -- A LEXEME AND WHAT DECIDES IT
+-- groups that go into the queue though they need not wait are of steps that the next token needs
+is_sparing : (direct : Bool) → (direct ≡ true → false ≡ true) → not direct ≡ true
+is_sparing false f = refl
+is_sparing true f = absurd (false≢true (f refl))
+
 module _ (direct : Bool) (H : List Laid) (s u : scanner_t) (y z : group_t) (L : LaysTwo (not direct) H s u (groups_in u ++ y ∷ (z ∷ []))) (FEW : s.made + 2 < 2 ^ 64) (ALONE : groups_in u ≡ []) where
   abbrev both : List group_t
   both = groups_in u ++ y ∷ (z ∷ [])
@@ -248,6 +257,9 @@ module _ (direct : Bool) (H : List Laid) (s u : scanner_t) (y z : group_t) (L : 
     both_laid : IsLaidBy (not direct) H s u both 2
     both_laid = inr (refl, L)
 
+    laid_all : direct ≡ true → IsLaidBy false H s u both 2
+    laid_all d = subst (λ (b : Bool). IsLaidBy (not b) H s u both 2) d both_laid
+
     module _ (t v : scanner_t) (took : List yaml_token_t → Type 0) (refuses : Type 0) where
       both_queued : IsPushed u.layout.queue y t.layout.queue → t ≡ with_queue u t.layout.queue → IsPushed t.layout.queue z v.layout.queue → v ≡ with_queue t v.layout.queue → IsLaidBy (not direct) H s v (groups_in v) 2
       both_queued p e q f =
@@ -279,16 +291,16 @@ module _ (direct : Bool) (H : List Laid) (s u : scanner_t) (y z : group_t) (L : 
           } in subst (λ (x : scanner_t). Empties u both x (k ++ l)) (sym F) w
 
       pub both_handed : (k l : List yaml_token_t) → IsHanded direct false u t y k → IsHanded direct false t v z l → took (k ++ l) → LaysTo H s v direct took refuses (Ok 2)
-      both_handed k l (inl p) (inl q) g = ([], v, groups_in v, both_queued p.2 p.3 q.2 q.3, inl (refl, refl, refl), subst took (ap (λ (ts : List yaml_token_t). ts ++ l) p.1 ∙ q.1) g)
+      both_handed k l (inl p) (inl q) g = ([], v, groups_in v, not direct, both_queued p.2 p.3 q.2 q.3, inl (is_sparing direct p.0, refl, refl, refl), subst took (ap (λ (ts : List yaml_token_t). ts ++ l) p.1 ∙ q.1) g)
       both_handed k l (inl p) (inr q) g = absurd (false≢true (p.0 q.0))
       both_handed k l (inr p) (inl q) g = absurd (false≢true (q.0 p.0))
-      both_handed k l (inr p) (inr q) g = (k ++ l, u, both, both_laid, inr (p.0, both_emptied k l p.2 q.2 p.3 q.3), g)
+      both_handed k l (inr p) (inr q) g = (k ++ l, u, both, not direct, both_laid, inr (p.0, both_emptied k l p.2 q.2 p.3 q.3), g)
 
       pub first_cut : (stop : stop_t) → direct ≡ true → stop ≡ SINK → IsCut took (group_tokens y) → refuses → LaysTo H s v direct took refuses (Err stop)
-      first_cut stop d e c r = (e, (2, group_tokens y ++ group_tokens z, u, both, both_laid, d, both_settled, cut_longer took (group_tokens y) (group_tokens z) c), r)
+      first_cut stop d e c r = (e, (2, group_tokens y ++ group_tokens z, u, both, laid_all d, d, both_settled, cut_longer took (group_tokens y) (group_tokens z) c), r)
 
       pub second_cut : (stop : stop_t) → direct ≡ true → stop ≡ SINK → IsCut took (group_tokens y ++ group_tokens z) → refuses → LaysTo H s v direct took refuses (Err stop)
-      second_cut stop d e c r = (e, (2, group_tokens y ++ group_tokens z, u, both, both_laid, d, both_settled, c), r)
+      second_cut stop d e c r = (e, (2, group_tokens y ++ group_tokens z, u, both, laid_all d, d, both_settled, c), r)
 
 -- what was given of the first
 first_given : (direct : Bool) (u t : scanner_t) (y : group_t) (k : List yaml_token_t) → direct ≡ true → IsHanded direct false u t y k → k ≡ group_tokens y
@@ -354,3 +366,68 @@ module _ (direct : Bool) (H : List Laid) (s : scanner_t) (r : step_t) (x : yaml_
 
   pub room_there : (q : queue_t) → q ≡ s.layout.queue → 1 < deque_capacity q.groups
   room_there q e = let u = d.undecided in let l = u.room in let m = ap (λ (z : queue_t). deque_capacity z.groups) e in omega arith
+
+-- GROUPS THAT GO TO A SINK IF IT HAS ROOM
+-- whether they go straight is known when they are laid
+pub handed_as : (D d : Bool) → (d ≡ true → D ≡ true) → (u t : scanner_t) (y : group_t) (k : List yaml_token_t) → IsHanded D (not d) u t y k → IsHanded d false u t y k
+handed_as D true f u t y k (inl p) = absurd (false≢true (p.0 (f refl)))
+handed_as D true f u t y k (inr p) = inr (refl, refl, p.2, p.3)
+handed_as D false f u t y k (inl p) = inl (λ z. absurd (false≢true z), p.1, p.2, p.3)
+handed_as D false f u t y k (inr p) = absurd (false≢true (sym p.1))
+
+pub handed_on_as : (D d : Bool) → (d ≡ true → D ≡ true) → (u t : scanner_t) (y : group_t) (took : List yaml_token_t → Type 0) (refuses : Type 0) (o : Result (Unit {0}) stop_t) → IsHandedOn D (not d) u t y took refuses o → IsHandedOn d false u t y took refuses o
+handed_on_as D d f u t y took refuses (Ok x) w = (w.0, handed_as D d f u t y w.0 w.1, w.2)
+handed_on_as D true f u t y took refuses (Err stop) w = (refl, refl, w.2, w.3, w.4)
+handed_on_as D false f u t y took refuses (Err stop) w = absurd (false≢true (sym w.1))
+
+pub lays_as : (D d : Bool) → (d ≡ true → D ≡ true) → (H : List Laid) (s t : scanner_t) (took : List yaml_token_t → Type 0) (refuses : Type 0) (o : Result ℕ stop_t) → LaysTo H s t d took refuses o → LaysTo H s t D took refuses o
+lays_as D d f H s t took refuses (Ok n) w = (w.0, w.1, w.2, w.3, w.4, elim w.5 [ inl p ↦ inl p | inr p ↦ inr (f p.0, p.1) ], w.6)
+lays_as D d f H s t took refuses (Err stop) w = let c = w.1 in (w.0, (c.0, c.1, c.2, c.3, c.4, f c.5, c.6, c.7), w.2)
+
+-- what was given of both: nothing, or all, for which there was room
+pub both_given : (d : Bool) (u t v : scanner_t) (y z : group_t) (k l : List yaml_token_t) → IsHanded d false u t y k → IsHanded d false t v z l → ((k ≡ []) × (l ≡ [])) ⊎ ((d ≡ true) × (k ≡ group_tokens y) × (l ≡ group_tokens z))
+both_given d u t v y z k l (inl p) (inl q) = inl (p.1, q.1)
+both_given d u t v y z k l (inl p) (inr q) = absurd (false≢true (p.0 q.0))
+both_given d u t v y z k l (inr p) (inl q) = absurd (false≢true (q.0 p.0))
+both_given d u t v y z k l (inr p) (inr q) = inr (p.0, p.2, q.2)
+
+module _ (direct : Bool) (H : List Laid) (s : scanner_t) (r : step_t) (x : yaml_lexeme_t) (c : CanLayAll H s r x) (k : Kind) (w : yaml_lexeme_t) (d : IsDecided s (not direct) r x.reach k w) where
+  -- what decides has no text
+  pub decider_len : (t : unnamed_yaml_token_t_data) → t ≡ w.token_data → said_len t ≡ 0
+  decider_len t e =
+      let p = read_place H s r x c (let u = d.undecided in u.candidate) in
+      let q = d.decider p.0 p.1 in
+      ap said_len e ∙ decider_silent s.text.chars r.in_flow k 0 None p.0 w q.decides (q.read 0 None)
+
+-- as many tokens as are counted on, with no more texts
+pub few_given : (y z : group_t) (n m : ℕ) → z.ends ≡ 0 → z.opens ≡ NONE → z.key ≡ false → y.ends ≤ n → said_len (token_of y.token).token_data ≡ m → said_len (token_of z.token).token_data ≡ 0
+    → (length (group_tokens y ++ group_tokens z) ≤ n + 4) × (texts_len (group_tokens y ++ group_tokens z) ≤ m)
+few_given y z n m E O K f a b =
+    let p = count_is y in
+    let q = count_is z in
+    let l = length-append (group_tokens y) (group_tokens z) in
+    let v = texts_append (group_tokens y) (group_tokens z) in
+    let g = group_len y in
+    let h = group_len z in
+    let i = starts_few y.opens in
+    let j = keys_few y.key in
+    let o = ap starts_of O in
+    let k = ap keys_of K in
+    (omega arith, omega arith)
+  where
+    starts_few : (b : block_t) → starts_of b ≤ 1
+    starts_few NONE = omega arith
+    starts_few SEQUENCE = omega arith
+    starts_few MAPPING = omega arith
+
+    keys_few : (b : Bool) → keys_of b ≤ 1
+    keys_few true = omega arith
+    keys_few false = omega arith
+
+-- what is known if a group went into the queue, and if it went to the sink
+pub known_after : (D waits : Bool) (u t : scanner_t) (y : group_t) (took : List yaml_token_t → Type 0) (refuses W : Type 0) → (took [] → W) → (waits ≡ false → took (group_tokens y) → W) → (o : Result (Unit {0}) stop_t) → IsHandedOn D waits u t y took refuses o → OnOk o W
+known_after D waits u t y took refuses W none all (Ok x) w = elim w.1 [
+  | inl p ↦ none (subst took p.1 w.2)
+  | inr p ↦ all p.1 (subst took p.2 w.2)
+]
+known_after D waits u t y took refuses W none all (Err stop) w = tt

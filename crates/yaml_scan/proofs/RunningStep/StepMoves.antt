@@ -1,6 +1,6 @@
 -- What changes in a scanner within a step, and what stays.
 use Rattle.std.proofs.Common.{◌≡◌, ℕ, ◌+◌, ◌≤◌, not, Bool, true, false, List, [], ◌∷◌, length, reverse, filter, Option, Ok, Err, refl, ap, sym, ◌∙◌, subst, arith, inl, inr, vec_len}
-use Rattle.std.specs.Prelude.{Result}
+use Rattle.std.specs.Prelude.{OnOk, Result}
 use Rattle.yaml_text.specs.Fault.{Fault}
 use Rattle.yaml_lexeme.specs.Lexeme.{Lexeme as yaml_lexeme_t}
 use Rattle.yaml_lexeme.specs.Place.{IsMarkOf}
@@ -114,24 +114,31 @@ step_from H s t u (Ok x) e w = makes_from true H s t u (groups_in u) e w
 step_from H s t u (Err stop) e w = refuses_from H s t u stop e w
 
 pub step_to_from : (H : List Laid) (s t u : scanner_t) (direct : Bool) (took : List yaml_token_t → Type 0) (refuses : Type 0) (o : Result (Unit {0}) stop_t) → Stays s t → StepsTo H t u direct took refuses o → StepsTo H s u direct took refuses o
-step_to_from H s t u direct took refuses (Ok x) e w = (w.0, w.1, w.2, makes_from (not direct) H s t w.1 w.2 e w.3, w.4, w.5)
+step_to_from H s t u direct took refuses (Ok x) e w = (w.0, w.1, w.2, w.3, makes_from w.3 H s t w.1 w.2 e w.4, w.5, w.6)
 step_to_from H s t u direct took refuses (Err stop) e (inl w) = inl (refuses_from H s t u stop e w.0, w.1)
-step_to_from H s t u direct took refuses (Err stop) e (inr w) = let c = w.1 in inr (w.0, (c.0, c.1, c.2, makes_from (not direct) H s t c.1 c.2 e c.3, c.4, c.5, c.6), w.2)
+step_to_from H s t u direct took refuses (Err stop) e (inr w) = let c = w.1 in inr (w.0, (c.0, c.1, c.2, makes_from false H s t c.1 c.2 e c.3, c.4, c.5, c.6), w.2)
+
+-- what a sink was given after it was asked for room
+pub step_given : (H : List Laid) (s t : scanner_t) (direct : Bool) (took took' : List yaml_token_t → Type 0) → ((ys : List yaml_token_t) → took' ys → took ys) → (refuses : Type 0) (o : Result (Unit {0}) stop_t) → StepsTo H s t direct took' refuses o → StepsTo H s t direct took refuses o
+step_given H s t direct took took' f refuses (Ok x) w = (w.0, w.1, w.2, w.3, w.4, w.5, f w.0 w.6)
+step_given H s t direct took took' f refuses (Err stop) (inl w) = inl (w.0, f [] w.1)
+step_given H s t direct took took' f refuses (Err stop) (inr w) = let c = w.1 in let k = c.6 in
+    inr (w.0, (c.0, c.1, c.2, c.3, c.4, c.5, record { front = k.front; next = k.next; begins = k.begins; given = f k.front k.given }), w.2)
+
+-- what follows if it succeeded
+pub on_ok_then : {A B : Type 0} → (A → B) → (o : Result (Unit {0}) stop_t) → OnOk o A → OnOk o B
+on_ok_then f (Ok x) a = f a
+on_ok_then f (Err stop) a = tt
 
 -- a step whose groups went into the queue, to a sink that was given nothing
 pub queued_step : (H : List Laid) (s t : scanner_t) (direct : Bool) (took : List yaml_token_t → Type 0) (refuses : Type 0) (o : Result (Unit {0}) stop_t) → took [] → IsStep H s t o → StepsTo H s t direct took refuses o
-queued_step H s t direct took refuses (Ok x) n w = ([], t, groups_in t, loosen direct w, inl (refl, refl, refl), n)
-  where
-    loosen : (direct : Bool) → Makes true H s t (groups_in t) → Makes (not direct) H s t (groups_in t)
-    loosen false m = m
-    loosen true (inl m) = inl m
-    loosen true (inr m) = let w = m.1 in inr (m.0, ((w.0.0, λ z. absurd (false≢true z)), w.1), m.2)
+queued_step H s t direct took refuses (Ok x) n w = ([], t, groups_in t, true, w, inl (refl, refl, refl, refl), n)
 queued_step H s t direct took refuses (Err stop) n w = inl (w, n)
 
 -- a step all of whose groups have to go into the queue
 pub only_queued : (H : List Laid) (s t : scanner_t) (took : List yaml_token_t → Type 0) (refuses : Type 0) (o : Result (Unit {0}) stop_t) → StepsTo H s t false took refuses o → IsStep H s t o
-only_queued H s t took refuses (Ok x) w = elim w.4 [
-  | inl e ↦ subst (λ (z : scanner_t). Makes true H s z (groups_in z)) (sym e.1) (subst (λ (zs : List group_t). Makes true H s w.1 zs) e.2 w.3)
+only_queued H s t took refuses (Ok x) w = elim w.5 [
+  | inl e ↦ subst (λ (z : scanner_t). Makes true H s z (groups_in z)) (sym e.2) (subst (λ (zs : List group_t). Makes true H s w.1 zs) e.3 (subst (λ (b : Bool). Makes b H s w.1 w.2) e.0 w.4))
   | inr e ↦ absurd (false≢true e.0)
 ]
 only_queued H s t took refuses (Err stop) (inl w) = w.0
@@ -185,7 +192,6 @@ made_to s m = record {
   front = s.front;
   there = s.there;
   kept = s.kept;
-  spare = s.spare;
   taken = s.taken;
   made = m;
 }
@@ -202,9 +208,9 @@ made_all sparing H s t zs n (inr w) = inr (t, w.1, ap (counted_by t) w.0 ∙ twi
     twice t = let e : t.made + 2 ≡ t.made + 1 + 1 = omega arith in ap (λ (m : ℕ). made_to t m) e
 
 -- what was handed out of it
-hands_all : (direct : Bool) (m : scanner_t) (zs : List group_t) (t : scanner_t) (tokens : List yaml_token_t) (n : ℕ) → HandsOut direct m zs t tokens → HandsOut direct (counted_by m n) zs (counted_by t n) tokens
-hands_all direct m zs t tokens n (inl w) = inl (w.0, ap (λ (z : scanner_t). counted_by z n) w.1, w.2)
-hands_all direct m zs t tokens n (inr w) = let e = w.1 in inr (
+hands_all : (direct sparing : Bool) (m : scanner_t) (zs : List group_t) (t : scanner_t) (tokens : List yaml_token_t) (n : ℕ) → HandsOut direct sparing m zs t tokens → HandsOut direct sparing (counted_by m n) zs (counted_by t n) tokens
+hands_all direct sparing m zs t tokens n (inl w) = inl (w.0, w.1, ap (λ (z : scanner_t). counted_by z n) w.2, w.3)
+hands_all direct sparing m zs t tokens n (inr w) = let e = w.1 in inr (
   w.0,
   record {
     all = (let a = e.all in record { awaited = a.awaited; early = a.early; tokens_are = a.tokens_are; no_end = a.no_end });
@@ -224,10 +230,10 @@ hands_all direct m zs t tokens n (inr w) = let e = w.1 in inr (
   },
 )
 
-pub steps_all : (H : List Laid) (s t : scanner_t) (direct : Bool) (took : List yaml_token_t → Type 0) (n : ℕ) → (tokens : List yaml_token_t) × (m : scanner_t) × (zs : List group_t) × IsLaidBy (not direct) H s m zs n × HandsOut direct m zs t tokens × took tokens
-    → (tokens : List yaml_token_t) × (m : scanner_t) × (zs : List group_t) × Makes (not direct) H s m zs × HandsOut direct m zs (counted_by t n) tokens × took tokens
-steps_all H s t direct took n w = (w.0, counted_by w.1 n, w.2, made_all (not direct) H s w.1 w.2 n w.3, hands_all direct w.1 w.2 t w.0 n w.4, w.5)
+pub steps_all : (H : List Laid) (s t : scanner_t) (direct : Bool) (took : List yaml_token_t → Type 0) (n : ℕ) → (tokens : List yaml_token_t) × (m : scanner_t) × (zs : List group_t) × (sparing : Bool) × IsLaidBy sparing H s m zs n × HandsOut direct sparing m zs t tokens × took tokens
+    → (tokens : List yaml_token_t) × (m : scanner_t) × (zs : List group_t) × (sparing : Bool) × Makes sparing H s m zs × HandsOut direct sparing m zs (counted_by t n) tokens × took tokens
+steps_all H s t direct took n w = (w.0, counted_by w.1 n, w.2, w.3, made_all w.3 H s w.1 w.2 n w.4, hands_all direct w.3 w.1 w.2 t w.0 n w.5, w.6)
 
 -- or a token of it was refused
 pub cut_all : (H : List Laid) (s t : scanner_t) (direct : Bool) (took : List yaml_token_t → Type 0) (refuses : Type 0) (stop : stop_t) → LaysTo H s t direct took refuses (Err stop) → StepsTo H s t direct took refuses (Err stop)
-cut_all H s t direct took refuses stop w = let c = w.1 in inr (w.0, (c.1, counted_by c.2 c.0, c.3, made_all (not direct) H s c.2 c.3 c.0 c.4, c.5, (let a = c.6 in record { awaited = a.awaited; early = a.early; tokens_are = a.tokens_are; no_end = a.no_end }), c.7), w.2)
+cut_all H s t direct took refuses stop w = let c = w.1 in inr (w.0, (c.1, counted_by c.2 c.0, c.3, made_all false H s c.2 c.3 c.0 c.4, c.5, (let a = c.6 in record { awaited = a.awaited; early = a.early; tokens_are = a.tokens_are; no_end = a.no_end }), c.7), w.2)

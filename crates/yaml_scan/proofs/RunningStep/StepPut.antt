@@ -40,7 +40,6 @@ put_in s S a L reach = record {
   front = s.front;
   there = s.there;
   kept = s.kept;
-  spare = s.spare;
   taken = s.taken;
   made = s.made;
 }

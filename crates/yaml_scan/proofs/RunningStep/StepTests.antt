@@ -152,7 +152,6 @@ at_front s m = record {
   front = m;
   there = s.there;
   kept = s.kept;
-  spare = s.spare;
   taken = s.taken;
   made = s.made;
 }

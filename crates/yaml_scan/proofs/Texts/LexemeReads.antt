@@ -21,7 +21,8 @@ use Rattle.yaml_lexeme.specs.Name.{name}
 use Rattle.yaml_lexeme.specs.Uri.{uri, some_uri}
 use Rattle.yaml_lexeme.specs.Tag.{tag, angled, handled, lone}
 use Rattle.yaml_lexeme.specs.Directive.{directive, named, version_at, tag_directive_at, number, handle_at}
-use Rattle.yaml_lexeme.specs.Lex.{lex, in_flow, least, quoted_as}
+use Rattle.std.proofs.lemmas.Bool.{false≢true}
+use Rattle.yaml_lexeme.specs.Lex.{decides, lex, in_flow, least, quoted_as}
 use Rattle.yaml_lexeme.specs.Lexeme.{whole_of, scalar_to, directive_to}
 use Rattle.yaml_lexeme.specs.StreamEnd.{stream_end}
 use Rattle.yaml_lexeme.specs.Locality.{reach}
@@ -39,6 +40,7 @@ use Rattle.yaml_scan.specs.Token.{type_of, is_end_type, is_start_type, is_key_ty
 use Rattle.yaml_scan.specs.Cut.{SaysKind}
 use Rattle.yaml_scan.specs.Source.{Reading, Offence as told_offence}
 use Rattle.yaml_scan.specs.SourceOf.{count_to, reading, reading_of, source_of}
+use Rattle.yaml_scan.specs.Sink.{said_len}
 use Rattle.yaml_scan.specs.inside.TextReads.{IsRead}
 
 -- WHERE IT ENDS
@@ -228,6 +230,29 @@ read_says cs k d l p x r = go (lex k (record { depth = d; level = l }) (place_at
   where
     go : (o : Read yaml_lexeme_t) → lex k (record { depth = d; level = l }) (place_at cs p) ≡ o → reading_of (length cs) k (place_at cs p) o ≡ Ok (reading x r.0) → SaysKind k x.token_data
     go (Ok f) e q = let w : f.value.token_data ≡ x.token_data = same q in subst (λ (z : unnamed_yaml_token_t_data). SaysKind k z) w (says_kind k (record { depth = d; level = l }) (place_at cs p) f e)
+      where
+        same : reading_of (length cs) k (place_at cs p) (Ok f) ≡ Ok (reading x r.0) → f.value.token_data ≡ x.token_data
+        same q = ap (λ (z : Reading). z.token_data) (one_reading (reading f.value (count_to (length cs) f.end)) (reading x r.0) q)
+    go (Err e) w q = absurd (cc)
+
+-- what decides whether a candidate is a key has no text
+found_silent : (l : yaml_lexeme_t) (q : Place) (f : Found yaml_lexeme_t) → said_len l.token_data ≡ 0 → found l q ≡ Ok f → said_len f.value.token_data ≡ 0
+found_silent l q f s e = subst (λ (x : Found yaml_lexeme_t). said_len x.value.token_data ≡ 0) (ok_same (record { value = l; end = q }) f (found l q) refl e) s
+
+decider_found : (flow : Bool) (k : Kind) (c : yaml_context_t) (p : Place) (f : Found yaml_lexeme_t) → decides flow k ≡ true → lex k c p ≡ Ok f → said_len f.value.token_data ≡ 0
+unfolding lex
+decider_found flow kind.VALUE c p f d e = found_silent (whole_of token.VALUE p.mark (skip 1 p).mark) (skip 1 p) f refl e
+decider_found flow kind.FLOW_ENTRY c p f d e = found_silent (whole_of token.FLOW_ENTRY p.mark (skip 1 p).mark) (skip 1 p) f refl e
+decider_found flow kind.FLOW_SEQUENCE_END c p f d e = found_silent (whole_of token.FLOW_SEQUENCE_END p.mark (skip 1 p).mark) (skip 1 p) f refl e
+decider_found flow kind.FLOW_MAPPING_END c p f d e = found_silent (whole_of token.FLOW_MAPPING_END p.mark (skip 1 p).mark) (skip 1 p) f refl e
+decider_found flow k c p f d e = absurd (false≢true d)
+
+pub decider_silent : (cs : List ℕ) (flow : Bool) (k : Kind) (d : ℕ) (l : Option ℕ) (p : ℕ) (x : yaml_lexeme_t) → decides flow k ≡ true → IsRead cs k d l p x → said_len x.token_data ≡ 0
+unfolding source_of
+decider_silent cs flow k d l p x D r = go (lex k (record { depth = d; level = l }) (place_at cs p)) refl r.1
+  where
+    go : (o : Read yaml_lexeme_t) → lex k (record { depth = d; level = l }) (place_at cs p) ≡ o → reading_of (length cs) k (place_at cs p) o ≡ Ok (reading x r.0) → said_len x.token_data ≡ 0
+    go (Ok f) e q = let w : f.value.token_data ≡ x.token_data = same q in subst (λ (z : unnamed_yaml_token_t_data). said_len z ≡ 0) w (decider_found flow k (record { depth = d; level = l }) (place_at cs p) f D e)
       where
         same : reading_of (length cs) k (place_at cs p) (Ok f) ≡ Ok (reading x r.0) → f.value.token_data ≡ x.token_data
         same q = ap (λ (z : Reading). z.token_data) (one_reading (reading f.value (count_to (length cs) f.end)) (reading x r.0) q)

@@ -1,5 +1,5 @@
 -- Where the groups of a step go: into the queue, or straight to a sink.
-use Rattle.std.specs.Prelude.{◌≡◌, ◌⊎◌, ℕ, ◌+◌, Bool, true, false, not, List, [], ◌∷◌, ◌++◌, map, length}
+use Rattle.std.specs.Prelude.{◌≡◌, ◌⊎◌, ℕ, ◌+◌, Bool, true, false, List, [], ◌∷◌, ◌++◌, map, length}
 use Rattle.std.specs.Prelude.{Result, Ok, Err, MatchResult}
 use Rattle.std.specs.List.{list_any}
 use Rattle.std.specs.VecDeque.{deque_capacity}
@@ -86,7 +86,6 @@ set_queue s q n = record {
   front = s.front;
   there = s.there;
   kept = s.kept;
-  spare = s.spare;
   taken = n;
   made = s.made;
 }
@@ -138,9 +137,10 @@ pub record Empties (s : scanner_t) (zs : List group_t) (t : scanner_t) (tokens :
   pub done : t.layout.queue.done ≡ s.layout.queue.done + length zs
   pub taken : t.taken ≡ s.taken + length tokens
 
--- a scanner that has queued the groups zs, or has handed out all of them
-abbrev pub HandsOut : Bool → scanner_t → List group_t → scanner_t → List yaml_token_t → Type 0
-HandsOut direct s zs t tokens = ((tokens ≡ []) × (t ≡ s) × (zs ≡ groups_in s))
+-- A scanner that has queued the groups zs, or has handed out all of them. If they are queued, no more steps were made
+-- than the next token needs.
+abbrev pub HandsOut : Bool → Bool → scanner_t → List group_t → scanner_t → List yaml_token_t → Type 0
+HandsOut direct sparing s zs t tokens = ((sparing ≡ true) × (tokens ≡ []) × (t ≡ s) × (zs ≡ groups_in s))
     ⊎ ((direct ≡ true) × Empties s zs t tokens)
 
 -- a lexeme of kind k was laid, if the groups zs are queued then
@@ -157,18 +157,18 @@ made_by n (Err stop) = Err stop
 abbrev pub LaysTo
     : List Laid → scanner_t → scanner_t → Bool → (List yaml_token_t → Type 0) → Type 0 → Result ℕ stop_t → Type 0
 LaysTo H s t direct took refuses o = MatchResult o
-    (λ n. (tokens : List yaml_token_t) × (m : scanner_t) × (zs : List group_t) × IsLaidBy (not direct) H s m zs n
-    × HandsOut direct m zs t tokens × took tokens)
+    (λ n. (tokens : List yaml_token_t) × (m : scanner_t) × (zs : List group_t) × (sparing : Bool)
+    × IsLaidBy sparing H s m zs n × HandsOut direct sparing m zs t tokens × took tokens)
     (λ stop. (stop ≡ SINK) × ((n : ℕ) × (tokens : List yaml_token_t) × (m : scanner_t) × (zs : List group_t)
-    × IsLaidBy (not direct) H s m zs n × (direct ≡ true) × AllSettled m zs tokens × IsCut took tokens) × refuses)
+    × IsLaidBy false H s m zs n × (direct ≡ true) × AllSettled m zs tokens × IsCut took tokens) × refuses)
 
 -- A step was made, or two, and handed on; or it stopped; or the sink refused a token of it.
 abbrev pub StepsTo
     : List Laid → scanner_t → scanner_t → Bool → (List yaml_token_t → Type 0) → Type 0 → Result (Unit {0}) stop_t
     → Type 0
 StepsTo H s t direct took refuses o = MatchResult o
-    (λ _. (tokens : List yaml_token_t) × (m : scanner_t) × (zs : List group_t) × Makes (not direct) H s m zs
-    × HandsOut direct m zs t tokens × took tokens)
+    (λ _. (tokens : List yaml_token_t) × (m : scanner_t) × (zs : List group_t) × (sparing : Bool)
+    × Makes sparing H s m zs × HandsOut direct sparing m zs t tokens × took tokens)
     (λ stop. (Refuses H s t stop × took []) ⊎ ((stop ≡ SINK) × ((tokens : List yaml_token_t) × (m : scanner_t)
-    × (zs : List group_t) × Makes (not direct) H s m zs × (direct ≡ true) × AllSettled m zs tokens
+    × (zs : List group_t) × Makes false H s m zs × (direct ≡ true) × AllSettled m zs tokens
     × IsCut took tokens) × refuses))

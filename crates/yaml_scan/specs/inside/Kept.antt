@@ -18,7 +18,6 @@ kept_of p text = record {
   allowed = p.scanner.allowed;
   layout = p.scanner.layout;
   reach = p.scanner.reach;
-  spare = p.scanner.spare;
   taken = p.scanner.taken;
   made = p.scanner.made;
   session = p.session;

@@ -223,7 +223,7 @@ pub record StopsAfter (H : List Laid) (s : scanner_t) (r : step_t) (x : yaml_lex
   pub there : s.there ≡ x.reach
   pub stops : (s.near ≤ x.reach.index) ⊎ (is_some (lost_after s.limit s.slots (met_in s r) r.new x.reach) ≡ true)
 
--- the same scanner, with the place of an offence and the spare room of another
+-- the same scanner, with the place of an offence of another
 abbrev pub at_there : scanner_t → scanner_t → scanner_t
 at_there s t = record {
   alloc = s.alloc;
@@ -238,12 +238,11 @@ at_there s t = record {
   front = s.front;
   there = t.there;
   kept = s.kept;
-  spare = t.spare;
   taken = s.taken;
   made = s.made;
 }
 
--- what a reader does: it reads, and changes only the place of an offence and the spare room
+-- what a reader does: it reads, and changes only the place of an offence
 pub record HasRead (s t : scanner_t) (k : Kind) (x : yaml_context_t) (o : Result code_lexeme_t yaml_refusal_t)
     : Type 0 where
   pub read : IsReadIn s k x t.there o
@@ -310,7 +309,6 @@ counted s = record {
   front = s.front;
   there = s.there;
   kept = s.kept;
-  spare = s.spare;
   taken = s.taken;
   made = s.made + 1;
 }

@@ -33,5 +33,5 @@ stop_without_kind-requires g c = let s = c.args.scanner.now in let can = c.requi
   sym (c.kind_at.ensures (front_of (source_of s.text.chars) g.before) (gap_front g.before s can c.args.in_flow c.requires.1.1.1 c.gap_end-front.result c.gap_end-front.ensures)) ∙ c.in-None.is,
 )
 
-pub returns-in-Some : goal.returns-in-Some
-returns-in-Some g c = let s = c.args.scanner.now in step_to_from g.before s (at_front s c.gap_end-front.result) c.step_any.new.scanner _ _ _ c.step_any.result (front_stays s c.gap_end-front.result) c.step_any.ensures
+pub returns-in-Some-clause-steps : goal.returns-in-Some-clause-steps
+returns-in-Some-clause-steps g c = let s = c.args.scanner.now in step_to_from g.before s (at_front s c.gap_end-front.result) c.step_any.new.scanner _ _ _ c.step_any.result (front_stays s c.gap_end-front.result) c.step_any.ensures.steps

@@ -7,5 +7,5 @@ pub end_character-requires : goal.end_character-requires
 end_character-requires g c = λ κs w. let b = c.in-Ok.ensures in
     (search rules, (w, (b.0, read_as_met c.begin_step.new.scanner c.args.kind c.in-Ok.step.kind c.in-Ok.step.context (lexeme_of c.read_character-lexeme.result) b.1 c.read_character-lexeme.ensures)))
 
-pub returns-in-Ok : goal.returns-in-Ok
-returns-in-Ok g c = let b = c.in-Ok.ensures in step_to_from g.before c.args.scanner.now c.begin_step.new.scanner c.end_character.new.scanner _ _ _ c.end_character.result b.2 c.end_character.ensures
+pub returns-in-Ok-clause-steps : goal.returns-in-Ok-clause-steps
+returns-in-Ok-clause-steps g c = let b = c.in-Ok.ensures in step_to_from g.before c.args.scanner.now c.begin_step.new.scanner c.end_character.new.scanner _ _ _ c.end_character.result b.2 c.end_character.ensures.steps

@@ -46,7 +46,6 @@ invariant_of-result c = let k = c.requires.2 in let P = k.parser in
         front = c.args.self.now.reach;
         there = c.args.self.now.reach;
         kept = c.make_memory_fault.result;
-        spare = z.spare;
         taken = z.taken;
         made = z.made;
       };
@@ -64,5 +63,5 @@ invariant_of-result c = let k = c.requires.2 in let P = k.parser in
     let same : P.session.over ≡ false → 0 < P.scanner.made → c.text_again-text.result ≡ P.scanner.text =
     λ o m. c.text_again-text.ensures (going (over_is ∙ o) (omega (arith, made_is, m))) P.scanner.text k.left text_is
     (subst (λ (z : List ℕ). IsKeptOf P.scanner.text z k.left) c.requires.1 (k.text o m)) in
-    rw (c.replace.ensures.value, c.replace-2.ensures.value, c.replace-3.ensures.value, c.replace-4.ensures.value) (subst (λ (z : yaml_kept_parser_t). Sound (F z)) (sym k.kept)
+    rw (c.replace.ensures.value, c.replace-2.ensures.value, c.replace-3.ensures.value) (subst (λ (z : yaml_kept_parser_t). Sound (F z)) (sym k.kept)
     (goes_on P k.sound c.text_again-text.result same (F (kept_of P k.left)) (sym c.requires.1 ∙ sym (ap (λ (z : Parser). z.input) k.seen_as)) c.empty.ensures))

@@ -1,0 +1,62 @@
+-- What a running scanner has given to a sink that is asked whether it has room, as calls would have returned it.
+use Rattle.std.specs.Prelude.{◌≡◌, ◌⊎◌, ℕ, ◌+◌, ◌-◌, ◌≤◌, ◌<◌, Bool, true, false, List, [], ◌++◌, map, take, length}
+use Rattle.std.specs.Prelude.{Result, Ok, Err}
+use Rattle.yaml_text.specs.Fault.{memory_fault}
+use Rattle.yaml_text.specs.declared.fault.yaml_fault_t.{yaml_fault_t}
+use Rattle.yaml_text.specs.declared.types.yaml_encoding_t.{yaml_encoding_t}
+use Rattle.yaml_scan.specs.declared.fault.stop_t.{stop_t}
+use Rattle.yaml_scan.specs.declared.fault.stop_t.TheVariants.{SINK}
+use Rattle.yaml_scan.specs.declared.scanner.scanner_t.{scanner_t}
+use Rattle.yaml_scan.specs.Groups.{handed_out}
+use Rattle.yaml_scan.specs.Settled.{pace}
+use Rattle.yaml_scan.specs.Token.{yaml_token_t}
+use Rattle.yaml_scan.specs.inside.Given.{all_in, told_taken}
+use Rattle.yaml_scan.specs.inside.Ready.{IsEnded, IsIn, IsSettled, IsShort, IsStopped, course_in}
+use Rattle.yaml_scan.specs.inside.Scanning.{Fails, IsOpen, Runs, Settles, Stops, course_of}
+use Rattle.yaml_scan.specs.inside.Stop.{fault_at}
+
+-- These tokens, some, were given, the stream end not among them. As many steps were made as the last of them needs, and
+-- nothing is queued.
+pub record Sends (s t : scanner_t) (tokens : List yaml_token_t) : Type 0 where
+  pub runs : Runs t
+  pub still_open : IsOpen t
+  pub text : t.text ≡ s.text
+  pub refusal : t.refusal ≡ s.refusal
+  pub limit : t.limit ≡ s.limit
+  pub some : 0 < length tokens
+  pub taken : t.taken ≡ s.taken + length tokens
+  pub told : told_taken t ≡ told_taken s ++ tokens
+  pub least : s.made ≤ t.made
+  pub made : t.made ≡ pace s.limit (course_of s).read (t.taken - 1) s.made
+  pub done : t.layout.queue.done ≡ t.made
+
+-- The head of the queue is the next token, and a sink was given nothing; or it was given some tokens; or no more steps
+-- are made, or it refused a token.
+abbrev pub SendsOrSettles
+    : scanner_t → scanner_t → (List yaml_token_t → Type 0) → Type 0 → Result Bool stop_t → Type 0
+SendsOrSettles s t took refuses (Ok true) = Settles s t × took []
+SendsOrSettles s t took refuses (Ok false) = (tokens : List yaml_token_t) × Sends s t tokens × took tokens
+SendsOrSettles s t took refuses (Err stop) = (((fault_at stop t.kept ≡ memory_fault)
+    ⊎ Fails s t (fault_at stop t.kept)) × Stops s t × took []) ⊎ refuses
+
+-- The same in an input, before whose first step or after it s is.
+pub record HasSent (setting : yaml_encoding_t) (input : List ℕ) (s t : scanner_t) (tokens : List yaml_token_t) : Type 0
+  where
+    pub stands : IsIn setting input t
+    pub still_open : IsOpen t
+    pub limit : t.limit ≡ s.limit
+    pub some : 0 < length tokens
+    pub taken : t.taken ≡ s.taken + length tokens
+    pub told : told_taken t ≡ map (handed_out t.text.encoding) (take s.taken (all_in t)) ++ tokens
+    pub least : s.made ≤ t.made
+    pub made : t.made ≡ pace s.limit (course_in s.limit setting input).read (t.taken - 1) s.made
+    pub done : t.layout.queue.done ≡ t.made
+
+abbrev pub HasSentOrSettled
+    : yaml_encoding_t → List ℕ → scanner_t → scanner_t → (List yaml_token_t → Type 0) → Type 0 → Result Bool stop_t
+    → Type 0
+HasSentOrSettled setting input s t took refuses (Ok true) = IsSettled setting input s t × took []
+HasSentOrSettled setting input s t took refuses (Ok false) = (tokens : List yaml_token_t)
+    × HasSent setting input s t tokens × took tokens
+HasSentOrSettled setting input s t took refuses (Err stop) = ((IsShort setting input s (fault_at stop t.kept)
+    ⊎ IsEnded setting input s t (fault_at stop t.kept)) × IsStopped setting input s t × took []) ⊎ refuses
