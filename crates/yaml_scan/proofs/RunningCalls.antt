@@ -23,3 +23,5 @@ pub mod GivenToEnd
 pub mod KeptParser
 -- What goes straight to a sink that has room for it leaves the scanner that scans of these tokens leave.
 pub mod SentTokens
+-- Several scans at once: the tokens that a sink was given are those that as many scans return.
+pub mod SeveralScans

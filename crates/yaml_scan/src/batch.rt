@@ -86,17 +86,18 @@ pub fn yaml_scan_next_to<S: yaml_token_sink_t>(
             Err(fault) => Err(fault),
         };
     }
-    match send(&mut parser.scanner, parser.input, parser.setting, sink) {
-        Ok(true) => {
-            let token = take_head(&mut parser.scanner);
-            pass(&mut parser.session, &token);
-            Ok(Some(token))
-        }
-        Ok(false) => Ok(None),
+    let settled = match send(&mut parser.scanner, parser.input, parser.setting, sink) {
+        Ok(settled) => settled,
         Err(stop) => {
             let fault = fault_at(stop, &parser.scanner.kept);
             end(&mut parser.session, fault);
-            Err(fault)
+            return Err(fault);
         }
+    };
+    if !settled {
+        return Ok(None);
     }
+    let token = take_head(&mut parser.scanner);
+    pass(&mut parser.session, &token);
+    Ok(Some(token))
 }

@@ -94,3 +94,12 @@ module _ (setting : yaml_encoding_t) (input : List ℕ) (s : scanner_t) where
       let f = k.few in
       let l = p.limit in
       record { queued = omega arith; few = omega arith }
+
+  -- what was made was all given to a sink
+  pub keeps_sent : (u : scanner_t) → IsIn setting input u → u.layout.queue.done ≡ u.made → queued (history u) u.taken (history u) + u.layout.queue.done ≡ u.made → Keeps u.limit (course_in u.limit setting input).read u.made u.taken u.layout.queue.done
+  unfolding history
+  keeps_sent u i z q =
+      let c = course_is setting input u i.reads in
+      let a = ap (λ (y : Course). queued (first_steps u.made y.read) u.taken (first_steps u.made y.read)) c in
+      let b = some_made (course_in u.limit setting input).read u.made u.taken i.runs.begun in
+      record { queued = omega arith; few = omega arith }

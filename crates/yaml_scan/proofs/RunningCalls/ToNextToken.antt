@@ -1,5 +1,5 @@
 -- From a scanner that is ready to its next token.
-use Rattle.std.proofs.Common.{◌≡◌, ℕ, ◌+◌, ◌≤◌, ◌<◌, ◌&&◌, Bool, true, false, List, [], ◌∷◌, length, refl, ap, sym, ◌∙◌, arith, inl, inr, ltb, le-ltb}
+use Rattle.std.proofs.Common.{◌≡◌, ℕ, ◌+◌, ◌-◌, ◌≤◌, ◌<◌, ◌&&◌, Bool, true, false, List, [], ◌∷◌, ◌++◌, length, refl, ap, sym, ◌∙◌, arith, inl, inr, ltb, le-ltb}
 use Rattle.std.proofs.lemmas.Bool.{cases_Bool}
 use Rattle.yaml_text.specs.declared.types.yaml_encoding_t.{yaml_encoding_t}
 use Rattle.yaml_text.specs.Fault.{Fault}
@@ -12,6 +12,9 @@ use Rattle.yaml_scan.specs.Session.{all_steps}
 use Rattle.yaml_scan.specs.Inputs.{decoded_input}
 use Rattle.yaml_scan.specs.inside.Scanning.{Settles, Fails, Stops, Same, history, course_of, input_of}
 use Rattle.yaml_scan.specs.inside.Ready.{IsNew, IsReady, Begins, IsStarted, IsSettled, IsStopped, IsEnded, course_in}
+use Rattle.yaml_scan.specs.Token.{yaml_token_t}
+use Rattle.yaml_scan.specs.inside.Sent.{HasSent, Sends}
+use Rattle.yaml_scan.proofs.RunningCalls.GivenTokens.{taken_is}
 use Rattle.yaml_scan.proofs.RunningCalls.StepsMade.{open_too}
 
 one_step : (limit : ℕ) (H : List Laid) (t : ℕ) → 1 ≤ steps_for limit H t
@@ -97,4 +100,24 @@ module _ (setting : yaml_encoding_t) (input : List ℕ) (s t u : scanner_t) (b :
     none = (let a = ap (λ (x : List Rattle.yaml_scan.specs.Groups.Token). length x) (tokens_is (course_in s.limit setting input) begun_is) in let c = ap (λ (x : Course). length (before s.limit x.read)) course_t in let d = ap (λ (n : ℕ). length (before n (course_of t).read)) b.limit in let e = b.taken in let n = k.none in omega arith);
     fault = sym (ap (λ (c : Course). c.fault) course_t) ∙ k.fault;
     made = (let m = k.made in let c = ap (λ (x : Course). length x.read) course_t in let a = steps_is (course_in s.limit setting input) begun_is in omega arith);
+  }
+
+  -- what went to a sink
+  pub sent_in : (tokens : List yaml_token_t) → Sends t u tokens → HasSent setting input s u tokens
+  unfolding pace
+  sent_in tokens k = record {
+    stands = record { runs = k.runs; reads = (rw (k.text, k.refusal) refl) ∙ b.stands.reads; text = k.text ∙ b.stands.text };
+    still_open = k.still_open;
+    limit = k.limit ∙ b.limit;
+    some = k.some;
+    taken = (let n = k.taken in let m = b.taken in omega arith);
+    told = k.told ∙ ap (λ (z : List yaml_token_t). z ++ tokens) (taken_is u t (sym k.text) (sym k.refusal) (sym k.limit) s.taken b.taken);
+    least = (let n = k.least in let m = b.made in omega arith);
+    made = (let e : steps_for t.limit (course_of t).read (u.taken - 1) ≡ steps_for s.limit (course_in s.limit setting input).read (u.taken - 1) = rw (course_t, b.limit) refl in
+        let o = one_step s.limit (course_in s.limit setting input).read (u.taken - 1) in
+        let m = b.made in
+        let n = k.made in
+        omega arith);
+    done = k.done;
+    no_end = k.no_end;
   }

@@ -1,6 +1,7 @@
 -- What a running scanner has given to a sink that is asked whether it has room, as calls would have returned it.
 use Rattle.std.specs.Prelude.{◌≡◌, ◌⊎◌, ℕ, ◌+◌, ◌-◌, ◌≤◌, ◌<◌, Bool, true, false, List, [], ◌++◌, map, take, length}
 use Rattle.std.specs.Prelude.{Result, Ok, Err}
+use Rattle.std.specs.List.{list_any}
 use Rattle.yaml_text.specs.Fault.{memory_fault}
 use Rattle.yaml_text.specs.declared.fault.yaml_fault_t.{yaml_fault_t}
 use Rattle.yaml_text.specs.declared.types.yaml_encoding_t.{yaml_encoding_t}
@@ -11,6 +12,7 @@ use Rattle.yaml_scan.specs.Groups.{handed_out}
 use Rattle.yaml_scan.specs.Settled.{pace}
 use Rattle.yaml_scan.specs.Token.{yaml_token_t}
 use Rattle.yaml_scan.specs.inside.Given.{all_in, told_taken}
+use Rattle.yaml_scan.specs.inside.Handed.{is_end}
 use Rattle.yaml_scan.specs.inside.Ready.{IsEnded, IsIn, IsSettled, IsShort, IsStopped, course_in}
 use Rattle.yaml_scan.specs.inside.Scanning.{Fails, IsOpen, Runs, Settles, Stops, course_of}
 use Rattle.yaml_scan.specs.inside.Stop.{fault_at}
@@ -29,6 +31,7 @@ pub record Sends (s t : scanner_t) (tokens : List yaml_token_t) : Type 0 where
   pub least : s.made ≤ t.made
   pub made : t.made ≡ pace s.limit (course_of s).read (t.taken - 1) s.made
   pub done : t.layout.queue.done ≡ t.made
+  pub no_end : list_any is_end tokens ≡ false
 
 -- The head of the queue is the next token, and a sink was given nothing; or it was given some tokens; or no more steps
 -- are made, or it refused a token.
@@ -51,6 +54,7 @@ pub record HasSent (setting : yaml_encoding_t) (input : List ℕ) (s t : scanner
     pub least : s.made ≤ t.made
     pub made : t.made ≡ pace s.limit (course_in s.limit setting input).read (t.taken - 1) s.made
     pub done : t.layout.queue.done ≡ t.made
+    pub no_end : list_any is_end tokens ≡ false
 
 abbrev pub HasSentOrSettled
     : yaml_encoding_t → List ℕ → scanner_t → scanner_t → (List yaml_token_t → Type 0) → Type 0 → Result Bool stop_t
