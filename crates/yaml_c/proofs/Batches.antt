@@ -12,12 +12,13 @@ use Rattle.yaml_c.specs.Ahead.Ahead.{NONE, TOKEN, OVER}
 use Rattle.yaml_c.specs.Held.{Stands}
 use Rattle.yaml_c.specs.inside.Batch.{Stops, GivesNext, GoesOn, KeepsSizes}
 use Rattle.yaml_c.specs.Record.{record_of, texts_of, all_texts}
-use Rattle.yaml_c.specs.inside.Sink.{IsPut}
-use Rattle.yaml_c.specs.inside.MorePut.{more_put}
+use Rattle.yaml_c.specs.inside.Sink.{ArePut, IsBeside, IsPut, IsWithin}
+use Rattle.yaml_c.specs.inside.MorePut.{more_put, none_put}
 use Rattle.yaml_c.specs.declared.held.ahead_t.{ahead_t}
 use Rattle.yaml_c.specs.declared.held.ahead_t.TheVariants as code
 use Rattle.yaml_c.specs.declared.sink.token_rooms_t.{token_rooms_t}
 use Rattle.yaml_c.proofs.Rooms.{length-covered_from}
+use Rattle.yaml_c.proofs.TokensPut.{Fits, HavePut, have_put, same_sizes}
 
 -- before the first token
 pub no_token_yet : (r : token_rooms_t) → r.token_count ≡ 0 → r.text_len ≡ 0 → KeepsSizes r r
@@ -27,7 +28,7 @@ pub goes_from : (limit : ℕ) (setting : yaml_encoding_t) (input : List ℕ) (gi
     → r.token_count ≡ 0 → r.text_len ≡ 0 → Stands limit setting input p given a → GoesOn limit setting input given r p r a
 goes_from limit setting input given r p a n t s = record {
   list = [];
-  put = refl;
+  put = none_put r;
   count = sym n;
   text = sym t;
   stands = subst (λ (z : List Token). Stands limit setting input p z a) (sym (append-nil given)) s;
@@ -86,7 +87,7 @@ module _ (limit : ℕ) (setting : yaml_encoding_t) (input : List ℕ) (given : L
     given_more : (b : Ahead) → Stands limit setting input q (given ++ (g.list ++ t ∷ [])) b → GoesOn limit setting input given old q next b
     given_more b s = record {
       list = g.list ++ t ∷ [];
-      put = more_put old new next g.list (t ∷ []) g.put (next, put, refl);
+      put = more_put old new next g.list (t ∷ []) g.put (next, put, none_put next);
       count = (let l = length_push g.list t in omega (arith, l, g.count, put.token_count));
       text = (let l = length-all_texts g.list t in omega (arith, l, g.text, put.text_len));
       stands = s;
@@ -131,3 +132,66 @@ stands_in limit setting input p given code.NONE n o s = s.input_is
 stands_in limit setting input p given (code.TOKEN t) n o s = s.input_is
 stands_in limit setting input p given (code.FAULT f) n o s = absurd (n f refl)
 stands_in limit setting input p given code.OVER n o s = absurd (o refl)
+
+-- what holds of a parser's own input holds of the input that it was opened with
+pub of_input : (limit : ℕ) (setting : yaml_encoding_t) (input : List ℕ) (p : Parser) (given : List Token) → Scanned limit setting input p given false → (P : ℕ → yaml_encoding_t → List ℕ → Type 0)
+    → P p.limit p.setting p.input → P limit setting input
+of_input limit setting input p given s P x = subst (λ (z : List ℕ). P limit setting z) s.input_is (subst (λ (z : yaml_encoding_t). P limit z p.input) s.setting_is (subst (λ (z : ℕ). P z p.setting p.input) s.limit_is x))
+
+pub own : (limit : ℕ) (setting : yaml_encoding_t) (input : List ℕ) (p : Parser) (given : List Token) → Scanned limit setting input p given false → Scanned p.limit p.setting p.input p given false
+own limit setting input p given s = subst (λ (z : List ℕ). Scanned p.limit p.setting z p given false) (sym s.input_is) (subst (λ (z : yaml_encoding_t). Scanned p.limit z input p given false) (sym s.setting_is) (subst (λ (z : ℕ). Scanned z setting input p given false) (sym s.limit_is) s))
+
+-- TOKENS THAT WENT STRAIGHT INTO THE ROOMS
+-- a room that is another one only by its spare list
+pub beside_sizes : (old new next : token_rooms_t) → KeepsSizes old new → IsBeside new next → KeepsSizes old next
+beside_sizes old new next k e = record { tokens = rw e.tokens k.tokens; texts = rw e.texts k.texts; few = rw (e.token_count, e.tokens) k.few; fit = rw (e.text_len, e.texts) k.fit }
+
+-- the rooms after some tokens
+module _ (new next : token_rooms_t) (fits : Fits new) (tokens : List Token) (put : ArePut new tokens next) (within : IsWithin next) where
+  have : HavePut new tokens next
+  have = have_put new next tokens fits put
+
+  size : (length next.tokens.now ≡ length new.tokens.now) × (length next.texts.now ≡ length new.texts.now)
+  size = same_sizes new next tokens have
+
+  counted : next.token_count ≡ new.token_count + length tokens
+  counted = let q = size in let a = have.token_count in let b = within.few in let c = fits.tokens in omega arith
+
+  measured : next.text_len ≡ new.text_len + length (all_texts tokens)
+  measured = let q = size in let a = have.text_len in let b = within.fit in let c = fits.texts in omega arith
+
+  pub sizes_then : (old : token_rooms_t) → KeepsSizes old new → KeepsSizes old next
+  sizes_then old k = let q = size in record { tokens = q.0 ∙ k.tokens; texts = q.1 ∙ k.texts; few = within.few; fit = within.fit }
+
+  pub fewer_there : 0 < length tokens → length next.tokens.now - next.token_count < length new.tokens.now - new.token_count
+  fewer_there s = let q = size in let a = counted in let b = within.few in omega arith
+
+pub tokens_sizes : (old new next : token_rooms_t) (fits : Fits new) (tokens : List Token) → ArePut new tokens next → IsWithin next → KeepsSizes old new → KeepsSizes old next
+tokens_sizes old new next fits tokens put within k = sizes_then new next fits tokens put within old k
+
+all_texts_append : (xs ys : List Token) → length (all_texts (xs ++ ys)) ≡ length (all_texts xs) + length (all_texts ys)
+all_texts_append [] ys = omega arith
+all_texts_append (x ∷ xs) ys =
+    let a = length-append (texts_of x) (all_texts (xs ++ ys)) in
+    let b = length-append (texts_of x) (all_texts xs) in
+    let c = all_texts_append xs ys in
+    omega arith
+
+module _ (limit : ℕ) (setting : yaml_encoding_t) (input : List ℕ) (given : List Token) (old : token_rooms_t) (p : Parser) (new : token_rooms_t) (g : GoesOn limit setting input given old p new NONE) (next : token_rooms_t) where
+  abbrev pub beside_goes : IsBeside new next → GoesOn limit setting input given old p next NONE
+  beside_goes e = record {
+    list = g.list;
+    put = subst (λ (z : List Token). ArePut old z next) (append-nil g.list) (more_put old new next g.list [] g.put e);
+    count = g.count ∙ sym e.token_count;
+    text = g.text ∙ sym e.text_len;
+    stands = g.stands;
+  }
+
+  pub tokens_go : (fits : Fits new) (tokens : List Token) → ArePut new tokens next → IsWithin next → (q : Parser) → Scanned limit setting input q ((given ++ g.list) ++ tokens) false → GoesOn limit setting input given old q next NONE
+  tokens_go fits tokens put within q s = record {
+    list = g.list ++ tokens;
+    put = more_put old new next g.list tokens g.put put;
+    count = (let l = length-append g.list tokens in let n = counted new next fits tokens put within in omega (arith, g.count));
+    text = (let l = all_texts_append g.list tokens in let n = measured new next fits tokens put within in omega (arith, g.text));
+    stands = subst (λ (z : List Token). Scanned limit setting input q z false) (append_assoc given g.list tokens) s;
+  }

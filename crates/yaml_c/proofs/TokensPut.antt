@@ -1,11 +1,13 @@
 -- Tokens that are put one by one leave their records in the one room and their texts in the other, and are counted.
-use Rattle.std.proofs.Common.{◌≡◌, ◌<◌, ◌^◌, ◌+◌, ◌∷◌, [], ℕ, List, length}
+use Rattle.std.proofs.Common.{◌≡◌, ◌<◌, ◌^◌, ◌+◌, ◌∷◌, ◌++◌, [], ℕ, List, length}
 use Rattle.std.proofs.Common.{arith, refl, sym, ap, ◌∙◌, subst, length-append}
-use Rattle.yaml_text.specs.Token.{Token}
+use Rattle.yaml_text.specs.Token.{Token, TokenData}
+use Rattle.yaml_text.specs.Token.TokenData.{TAG_DIRECTIVE, ALIAS, ANCHOR, TAG, SCALAR}
+use Rattle.yaml_scan.specs.Sink.{said_len, texts_len}
 use Rattle.yaml_c.specs.declared.record.bogzhami_token.{bogzhami_token}
 use Rattle.yaml_c.specs.declared.sink.token_rooms_t.{token_rooms_t}
 use Rattle.yaml_c.specs.Room.{covered_from}
-use Rattle.yaml_c.specs.Record.{held, record_of, records_of, texts_of, all_texts}
+use Rattle.yaml_c.specs.Record.{held, record_of, records_of, texts_of, all_texts, first_text, second_text}
 use Rattle.yaml_c.specs.inside.Sink.{IsPut, ArePut}
 use Rattle.yaml_c.proofs.Rooms.{covered_from_by_none, covered_held, length-covered_from, more_covered_from}
 
@@ -87,6 +89,38 @@ one_more a m b t ts fits put more =
 
 -- tokens that are put one by one leave it
 pub have_put : (a b : token_rooms_t) (list : List Token) → Fits a → ArePut a list b → HavePut a list b
-have_put a b [] fits put = subst (λ (z : token_rooms_t). HavePut a [] z) (sym put) (none_put a fits)
+have_put a b [] fits put = let n = none_put a fits in record {
+  same_tokens = rw put.tokens n.same_tokens;
+  same_texts = rw put.texts n.same_texts;
+  token_count = rw put.token_count n.token_count;
+  text_len = rw put.text_len n.text_len;
+  records = rw put.tokens n.records;
+  texts = rw put.texts n.texts;
+}
 have_put a b (t ∷ ts) fits put =
     one_more a put.0 b t ts fits put.1 (have_put put.0 b ts (fits_on a put.0 t fits put.1) put.2)
+
+-- HOW MUCH WAS PUT
+silent_or_not : (d : TokenData) → said_len d ≡ length (first_text d ++ second_text d)
+silent_or_not (TAG_DIRECTIVE handle prefix) = sym (length-append handle prefix)
+silent_or_not (TAG handle suffix) = sym (length-append handle suffix)
+silent_or_not (ALIAS value) = let e = length-append value [] in omega arith
+silent_or_not (ANCHOR value) = let e = length-append value [] in omega arith
+silent_or_not (SCALAR value style) = let e = length-append value [] in omega arith
+silent_or_not _ = refl
+
+pub texts_are : (list : List Token) → texts_len list ≡ length (all_texts list)
+texts_are [] = refl
+texts_are (t ∷ ts) = let a = silent_or_not t.token_data in let b = texts_are ts in let c = length-append (texts_of t) (all_texts ts) in omega arith
+
+-- the rooms keep their sizes
+pub same_sizes : (a b : token_rooms_t) (list : List Token) → HavePut a list b → (length b.tokens.now ≡ length a.tokens.now) × (length b.texts.now ≡ length a.texts.now)
+same_sizes a b list p = (
+  ap (λ (z : List bogzhami_token). length z) p.records ∙ length-covered_from a.token_count (records_of a.text_len list) a.tokens.now,
+  ap (λ (z : List ℕ). length z) p.texts ∙ length-covered_from a.text_len (all_texts list) a.texts.now,
+)
+
+-- and stay the same rooms
+pub same_names : (a b : token_rooms_t) (list : List Token) → ArePut a list b → (b.tokens.ghost_name ≡ a.tokens.ghost_name) × (b.texts.ghost_name ≡ a.texts.ghost_name)
+same_names a b [] put = (rw put.tokens refl, rw put.texts refl)
+same_names a b (t ∷ ts) put = let p = put.1 in let n = same_names put.0 b ts put.2 in (n.0 ∙ p.same_tokens, n.1 ∙ p.same_texts)

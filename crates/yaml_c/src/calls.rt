@@ -114,7 +114,14 @@ pub extern "C" fn bogzhami_next(
         text_len: 0,
         spare: Vec::new(alloc),
     };
-    let (told, status) = next_batch(alloc, &mut held, input, &mut rooms);
+    let (told, status) = next_batch(&mut held, input, &mut rooms);
+    let token_rooms_t {
+        tokens: _tokens,
+        texts: _texts,
+        token_count: _,
+        text_len: _,
+        spare: _spare,
+    } = rooms;
     *handle = handle_of(held);
     *answer = told;
     status

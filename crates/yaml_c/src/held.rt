@@ -198,7 +198,6 @@ pub(crate) fn nothing_held() -> held_t {
 
 /// Reads on, and gives the next tokens, if it is not the fault that comes next. Returns what is ahead then.
 fn read_on(
-    alloc: Global,
     kept: &mut Option<yaml_kept_parser_t>,
     ahead: ahead_t,
     input: &[u8],
@@ -220,6 +219,7 @@ fn read_on(
     let Some(held) = kept else {
         unreachable!();
     };
+    let alloc = *rooms.spare.allocator();
     let mut parser = held.take(alloc, input);
     let ahead = give(&mut parser, ahead, rooms);
     held.keep(parser);
@@ -228,7 +228,6 @@ fn read_on(
 
 /// Gives the next tokens, whole ones, and perhaps the fault after them. Returns the answer and the status.
 pub(crate) fn next_batch(
-    alloc: Global,
     held: &mut held_t,
     input: &[u8],
     rooms: &mut token_rooms_t,
@@ -248,7 +247,7 @@ pub(crate) fn next_batch(
         return (counts(0, 0), DONE);
     }
     let ahead = std::mem::replace(&mut held.ahead, ahead_t::OVER);
-    let ahead = read_on(alloc, &mut held.parser, ahead, input, rooms);
+    let ahead = read_on(&mut held.parser, ahead, input, rooms);
     let (ahead, answer, status) = end_batch(rooms, ahead);
     held.ahead = ahead;
     (answer, status)

@@ -1,11 +1,9 @@
 //! The scanner for C and Rust: the tokens of an input as plain records, in room that the caller gives.
 #![tactic(auto)]
 
-ghost use Rattle.std.specs.Prelude.{◌≤◌, option_map};
-ghost use Rattle.yaml_text.specs.Fault.{fault_of};
-ghost use Rattle.yaml_scan.specs.Sink.{IsGivenAll};
-ghost use Rattle.yaml_c.specs.Answer.{RefusesWrong, ScansRight, most_key_limit, rooms};
-ghost use Rattle.yaml_c.specs.inside.Sink.{ArePut};
+ghost use Rattle.std.specs.Prelude.{◌≡◌, ◌≤◌};
+ghost use Rattle.yaml_c.specs.Answer.{IsScanned, RefusesWrong, ScansRight, most_key_limit, rooms};
+ghost use Rattle.yaml_c.specs.inside.Batch.{rooms_of};
 
 mod answer;
 mod calls;
@@ -20,7 +18,7 @@ mod status;
 #[cfg(test)]
 mod tests;
 
-use crate::answer::{counts, counts_and_fault, put_fault_texts};
+use crate::answer::{counts, counts_and_fault};
 use crate::calls::MOST_KEY_LIMIT;
 use crate::numbers::encoding_of;
 use crate::sink::token_rooms_t;
@@ -31,25 +29,36 @@ pub use calls::{
 pub use handle::bogzhami_handle;
 pub use record::{bogzhami_mark, bogzhami_token};
 use std::alloc::Global;
-use yaml_scan::{yaml_encoding_t, yaml_fault_t, yaml_scan_to};
+use yaml_scan::{yaml_encoding_t, yaml_scan_to};
 
-/// Puts all tokens of an input into two rooms, and returns the fault after them.
+/// Puts all tokens of an input into two rooms, in which there are none, and the texts of the fault after them. Returns the
+/// answer and the status.
 fn scan(
-    alloc: Global,
     input: &[u8],
     setting: yaml_encoding_t,
     limit: u32,
     rooms: &mut token_rooms_t,
-) -> Option<yaml_fault_t>
+) -> (bogzhami_answer, u32)
     requires least { 1 ≤ limit }
     requires most { limit ≤ most_key_limit }
-    ensures { IsGivenAll (λ list. ArePut rooms.old list rooms.new)
-        limit setting input.now (option_map fault_of result) }
+    requires none { rooms.old.token_count ≡ 0 }
+    requires no_text { rooms.old.text_len ≡ 0 }
+    ensures scanned { IsScanned setting limit input.now (rooms_of rooms.old) (rooms_of rooms.new) result.0 result.1 }
+    ensures same_tokens { rooms.new.tokens.ghost_name ≡ rooms.old.tokens.ghost_name }
+    ensures same_texts { rooms.new.texts.ghost_name ≡ rooms.old.texts.ghost_name }
 {
-    match yaml_scan_to(alloc, input, setting, limit, rooms) {
-        Ok(fault) => fault,
-        Err(_) => unreachable!(),
-    }
+    let alloc = *rooms.spare.allocator();
+    let Ok(fault) = yaml_scan_to(alloc, input, setting, limit, rooms) else {
+        unreachable!();
+    };
+    let Some(fault) = fault else {
+        return (counts(rooms.token_count, rooms.text_len), 0);
+    };
+    rooms.put_fault(fault);
+    (
+        counts_and_fault(rooms.token_count, rooms.text_len, fault),
+        1,
+    )
 }
 
 /// Scans all tokens of an input into the room that the caller gives.
@@ -91,12 +100,14 @@ pub extern "C" fn bogzhami_scan_all(
         text_len: 0,
         spare: Vec::new(alloc),
     };
-    let Some(fault) = scan(alloc, input, encoding, limit, &mut rooms) else {
-        *out = counts(rooms.token_count, rooms.text_len);
-        return 0;
-    };
-    let text_len = rooms.text_len;
-    put_fault_texts(rooms.texts, text_len, fault);
-    *out = counts_and_fault(rooms.token_count, text_len, fault);
-    1
+    let (told, status) = scan(input, encoding, limit, &mut rooms);
+    let token_rooms_t {
+        tokens: _tokens,
+        texts: _texts,
+        token_count: _,
+        text_len: _,
+        spare: _spare,
+    } = rooms;
+    *out = told;
+    status
 }

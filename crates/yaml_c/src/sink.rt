@@ -37,7 +37,7 @@ impl<'a> token_rooms_t<'a> {
     ghost use Rattle.yaml_text.specs.Token.TokenData.{SCALAR};
     ghost use Rattle.yaml_c.specs.Record.{held};
     ghost use Rattle.yaml_c.specs.inside.Bare.{IsBare};
-    ghost use Rattle.yaml_c.specs.inside.Sink.{IsPut};
+    ghost use Rattle.yaml_c.specs.inside.Sink.{IsBeside, IsPut};
 
     /// Whether so many bytes find room after the texts that were put.
     #[inline(always)]
@@ -139,9 +139,8 @@ impl<'a> token_rooms_t<'a> {
 }
 
 impl yaml_token_sink_t for token_rooms_t<'_> {
-    ghost use Rattle.std.specs.Prelude.{refl};
-    ghost use Rattle.yaml_c.specs.inside.Sink.{ArePut};
-    ghost use Rattle.yaml_c.specs.inside.MorePut.{more_put};
+    ghost use Rattle.yaml_c.specs.inside.Sink.{ArePut, IsWithin};
+    ghost use Rattle.yaml_c.specs.inside.MorePut.{more_put, none_put, within_none};
 
     ghost took = { ArePut };
 
@@ -163,8 +162,9 @@ impl yaml_token_sink_t for token_rooms_t<'_> {
 
     #[inline(always)]
     fn has_room(&self, count: u128, bytes: u128) -> bool {
-        self.token_count as u128 + count <= self.tokens.len() as u128
-            && self.text_len as u128 + bytes <= self.texts.len() as u128
+        let tokens = (self.tokens.len() as u64).saturating_sub(self.token_count);
+        let texts = (self.texts.len() as u64).saturating_sub(self.text_len);
+        count <= tokens as u128 && bytes <= texts as u128
     }
 
     ghost took_none = { none_put };

@@ -1,10 +1,33 @@
--- If some tokens are put, and others after them, all are put: what a sink has to show of what it took. It is a proof,
--- and stands here since a member of a trait can cite only what is in specs.
-use Rattle.std.proofs.Common.{◌++◌, [], ◌∷◌, List, subst}
+-- If some tokens are put, and others after them, all are put: what a sink has to show of what it took. These are proofs,
+-- and stand here since a member of a trait can cite only what is in specs.
+use Rattle.std.proofs.Common.{◌≡◌, ℕ, ◌+◌, ◌++◌, [], ◌∷◌, List, length, refl, ap, ◌∙◌, MutBor, arith}
 use Rattle.yaml_text.specs.Token.{Token}
-use Rattle.yaml_c.specs.inside.Sink.{ArePut}
+use Rattle.yaml_c.specs.Record.{held, record_of, texts_of}
+use Rattle.yaml_c.specs.Room.{covered_from}
+use Rattle.yaml_c.specs.inside.Sink.{ArePut, IsBeside, IsPut, IsWithin}
+use Rattle.yaml_c.specs.declared.record.bogzhami_token.{bogzhami_token}
 use Rattle.yaml_c.specs.declared.sink.token_rooms_t.{token_rooms_t}
 
+pub none_put : (a : token_rooms_t) → IsBeside a a
+none_put a = record { tokens = refl; texts = refl; token_count = refl; text_len = refl }
+
+put_beside : (a b c : token_rooms_t) (t : Token) → IsBeside a b → IsPut b t c → IsPut a t c
+put_beside a b c t e p = record {
+  same_tokens = rw (← e.tokens) p.same_tokens;
+  same_texts = rw (← e.texts) p.same_texts;
+  token_count = rw (← e.token_count) p.token_count;
+  text_len = rw (← e.text_len) p.text_len;
+  records = rw (← e.tokens, ← e.token_count, ← e.text_len) p.records;
+  texts = rw (← e.texts, ← e.text_len) p.texts;
+}
+
+more_beside : (a b c : token_rooms_t) (ys : List Token) → IsBeside a b → ArePut b ys c → ArePut a ys c
+more_beside a b c [] e f = record { tokens = f.tokens ∙ e.tokens; texts = f.texts ∙ e.texts; token_count = f.token_count ∙ e.token_count; text_len = f.text_len ∙ e.text_len }
+more_beside a b c (y ∷ ys) e f = (f.0, put_beside a b f.0 y e f.1, f.2)
+
 pub more_put : (a b c : token_rooms_t) (xs ys : List Token) → ArePut a xs b → ArePut b ys c → ArePut a (xs ++ ys) c
-more_put a b c [] ys e f = subst (λ (z : token_rooms_t). ArePut z ys c) e f
+more_put a b c [] ys e f = more_beside a b c ys e f
 more_put a b c (x ∷ xs) ys e f = (e.0, e.1, more_put e.0 b c xs ys e.2 f)
+
+pub within_none : (a b : token_rooms_t) → IsBeside a b → IsWithin a → IsWithin b
+within_none a b e w = record { few = rw (e.token_count, e.tokens) w.few; fit = rw (e.text_len, e.texts) w.fit }

@@ -1,5 +1,5 @@
 -- Tokens that are put into a caller's two rooms.
-use Rattle.std.specs.Prelude.{◌≡◌, ◌+◌, [], ◌∷◌, List, length}
+use Rattle.std.specs.Prelude.{◌≡◌, ◌+◌, ◌≤◌, [], ◌∷◌, List, length}
 use Rattle.yaml_text.specs.Token.{Token}
 use Rattle.yaml_c.specs.Room.{covered_from}
 use Rattle.yaml_c.specs.Record.{held, record_of, texts_of}
@@ -15,7 +15,19 @@ pub record IsPut (a : token_rooms_t) (token : Token) (b : token_rooms_t) : Type 
   pub records : b.tokens.now ≡ covered_from a.token_count (record_of a.text_len token ∷ []) a.tokens.now
   pub texts : b.texts.now ≡ covered_from a.text_len (texts_of token) a.texts.now
 
+-- nothing is put, but the spare list may be another
+pub record IsBeside (a b : token_rooms_t) : Type 0 where
+  pub tokens : b.tokens ≡ a.tokens
+  pub texts : b.texts ≡ a.texts
+  pub token_count : b.token_count ≡ a.token_count
+  pub text_len : b.text_len ≡ a.text_len
+
 -- tokens are put, one after the other
 abbrev pub ArePut : token_rooms_t → List Token → token_rooms_t → Type 0
-ArePut a [] b = b ≡ a
+ArePut a [] b = IsBeside a b
 ArePut a (token ∷ more) b = (between : token_rooms_t) × IsPut a token between × ArePut between more b
+
+-- no more was put than there is room for
+pub record IsWithin (a : token_rooms_t) : Type 0 where
+  pub few : a.token_count ≤ length a.tokens.now
+  pub fit : a.text_len ≤ length a.texts.now

@@ -5,7 +5,6 @@ use Rattle.yaml_text.specs.Token.{token_of}
 use Rattle.yaml_c.specs.Ahead.{Ahead, ahead_of, is_end}
 use Rattle.yaml_c.specs.Ahead.Ahead.{NONE, TOKEN, OVER}
 use Rattle.yaml_c.specs.Held.{Stands}
-use Rattle.yaml_scan.specs.Parser.{Parser}
 use Rattle.yaml_c.specs.inside.Batch.{GivesNext, GoesOn}
 use Rattle.yaml_c.specs.Record.{texts_of}
 use Rattle.yaml_c.specs.declared.held.ahead_t.{ahead_t}
@@ -29,18 +28,16 @@ returns-in-Some c = λ e limit input given s.
     elim (cases_lt (length old.texts.now) (old.text_len + length (texts_of t))) [
       | inl low ↦ (let w = c.give_token.ensures.kept low in
           let a : ahead_of c.in-Some.stop ≡ TOKEN t = cc in
-          subst (λ (q : Parser). GivesNext limit e input given old q c.give_token.new.rooms (ahead_of c.in-Some.stop)) (sym c.give_token.ensures.same)
-          (subst (λ (z : token_rooms_t). GivesNext limit e input given old p z (ahead_of c.in-Some.stop)) (sym w.0)
+          subst (λ (z : token_rooms_t). GivesNext limit e input given old p z (ahead_of c.in-Some.stop)) (sym w.0)
           (subst (λ (z : Ahead). GivesNext limit e input given old p old z) (sym a)
           (batch_ends limit e input given old p old (ahead_of c.args.ahead) g (TOKEN t) p k here
-          (omega (arith, low, g.text, k.texts))))))
+          (omega (arith, low, g.text, k.texts)))))
       | inr high ↦ (let w = c.give_token.ensures.put high in
           let u = ends_there (is_end t) (ahead_of c.in-Some.stop) (sym w.1 ∙ stop) in
           let more = goes_end limit e input given old p old (ahead_of c.args.ahead) g p t c.give_token.new.rooms here w.0 one high few short u.0 in
           let kept = keeps_more old old c.give_token.new.rooms t k w.0 one high few short in
-          subst (λ (q : Parser). GivesNext limit e input given old q c.give_token.new.rooms (ahead_of c.in-Some.stop)) (sym c.give_token.ensures.same)
-          (subst (λ (z : Ahead). GivesNext limit e input given old p c.give_token.new.rooms z) u.1
-          (batch_ends limit e input given old p c.give_token.new.rooms OVER more OVER p kept more.stands (omega (arith, more.count, w.0.token_count, few)))))
+          subst (λ (z : Ahead). GivesNext limit e input given old p c.give_token.new.rooms z) u.1
+          (batch_ends limit e input given old p c.give_token.new.rooms OVER more OVER p kept more.stands (omega (arith, more.count, w.0.token_count, few))))
     ]
 
 pub returns-in-None : goal.returns-in-None
@@ -61,6 +58,5 @@ returns-in-None c = λ e limit input given s.
       | inr high ↦ (let w = c.give_token.ensures.put high in
           c.give_rest-in-None.ensures old e limit input given
           (keeps_more old old c.give_token.new.rooms t k w.0 one high few short)
-          (subst (λ (q : Parser). GoesOn limit e input given old q c.give_token.new.rooms NONE) (sym c.give_token.ensures.same)
-          (goes_more limit e input given old p old (ahead_of c.args.ahead) g p t c.give_token.new.rooms here w.0 one high few short (goes_on (is_end t) (sym w.1 ∙ none)))))
+          (goes_more limit e input given old p old (ahead_of c.args.ahead) g p t c.give_token.new.rooms here w.0 one high few short (goes_on (is_end t) (sym w.1 ∙ none))))
     ]

@@ -1,86 +1,139 @@
-use Rattle.std.proofs.Common.{rules, ◌≡◌, ◌++◌, false, ◌+◌, ◌≤◌, ◌<◌, ◌^◌, Option, length, refl, sym, ap, ◌∙◌, subst, arith, inl, inr}
+use Rattle.std.proofs.Common.{rules, ◌≡◌, ◌++◌, ◌∷◌, [], ◌+◌, ◌-◌, ◌≤◌, ◌<◌, ◌^◌, ℕ, Option, Some, false, List, length, refl, sym, ap, ◌∙◌, subst, arith, inl, inr}
 use Rattle.std.specs.Prelude.{option_map}
 use Rattle.std.proofs.lemmas.Bool.{cases_lt}
-use Rattle.yaml_text.specs.Token.{token_of}
+use Rattle.yaml_text.specs.Fault.{fault_of}
+use Rattle.yaml_text.specs.Token.{Token, token_of}
+use Rattle.yaml_text.specs.declared.types.yaml_encoding_t.{yaml_encoding_t}
+use Rattle.yaml_scan.specs.All.{ReadsAll}
+use Rattle.yaml_scan.specs.Scanned.{ReadsNext, Scanned}
 use Rattle.yaml_c.specs.Ahead.{Ahead, ahead_of, is_end}
-use Rattle.yaml_c.specs.Ahead.Ahead.{NONE, TOKEN, OVER}
+use Rattle.yaml_c.specs.Ahead.Ahead.{NONE, TOKEN, FAULT, OVER}
 use Rattle.yaml_c.specs.Held.{Stands}
-use Rattle.yaml_scan.specs.Parser.{Parser}
-use Rattle.yaml_c.specs.inside.Batch.{GivesNext, GoesOn}
 use Rattle.yaml_c.specs.Record.{texts_of}
-use Rattle.yaml_c.specs.inside.Sink.{IsPut}
+use Rattle.yaml_c.specs.inside.Batch.{GivesNext}
+use Rattle.yaml_text.specs.declared.token.yaml_token_t.{yaml_token_t as code_token_t}
+use Rattle.yaml_c.specs.inside.Sink.{ArePut, IsPut}
 use Rattle.yaml_c.specs.declared.held.ahead_t.{ahead_t}
 use Rattle.yaml_c.specs.declared.sink.token_rooms_t.{token_rooms_t}
-use Rattle.yaml_c.proofs.Batches.{goes_on, ends_there, keeps_more, fewer_records, goes_more, goes_end, batch_ends, stops_rest, none_is_open, sizes_to}
+use Rattle.yaml_c.proofs.TokensPut.{Fits}
+use Rattle.yaml_c.proofs.Batches.{batch_ends, beside_goes, beside_sizes, ends_there, fewer_there, fewer_records, goes_end, goes_more, goes_on, keeps_more, of_input, own, sizes_to, tokens_go, tokens_sizes}
 use Rattle.yaml_c.proofs.held.give_rest.Goals as goal
 
 pub tokens-init : goal.tokens-init
 tokens-init c = (record { tokens = refl; texts = refl; few = c.requires.few; fit = c.requires.fit }, λ first e limit input given g. g)
 
-pub returns-in_default : goal.returns-in_default
-returns-in_default c = λ first e limit input given k h. let g = c.tokens.invariant.1 first e limit input given h in
-    batch_ends limit e input given first c.tokens.parser c.tokens.rooms NONE g (ahead_of c.look.result) c.look.new.parser (sizes_to first c.args.rooms.now c.tokens.rooms k c.tokens.invariant.0)
-    (c.look.ensures.stands e limit input (given ++ g.list) g.stands)
-    (stops_rest _ _ g.list c.look.result c.in_default.not-TOKEN c.look.ensures.next (λ o. none_is_open (c.look.ensures.over o)))
-
-pub returns-in-Some : goal.returns-in-Some
-returns-in-Some c = λ first e limit input given l h. let g = c.tokens.invariant.1 first e limit input given h in
+pub returns-in-Err : goal.returns-in-Err
+returns-in-Err c = λ first e limit input given l h.
+    let g = c.tokens.invariant.1 first e limit input given h in
     let k = sizes_to first c.args.rooms.now c.tokens.rooms l c.tokens.invariant.0 in
-    let t = token_of c.in-TOKEN.token in
-    let few : length c.tokens.rooms.tokens.now < 2 ^ 63 = search rules in
-    let short : length c.tokens.rooms.texts.now < 2 ^ 63 = search rules in
-    let here : Stands limit e input c.look.new.parser (given ++ g.list) (TOKEN t) =
-    subst (λ (z : ahead_t). Stands limit e input c.look.new.parser (given ++ g.list) (ahead_of z)) c.in-TOKEN.is (c.look.ensures.stands e limit input (given ++ g.list) g.stands) in
+    let f = fault_of c.in-Err.fault in
+    let s = of_input limit e input c.tokens.parser (given ++ g.list) g.stands (λ n x i. ReadsAll n x i (given ++ g.list) (Some f)) (c.in-Err.ensures.fault (given ++ g.list) (own limit e input c.tokens.parser (given ++ g.list) g.stands)) in
+    batch_ends limit e input given first c.tokens.parser c.yaml_scan_next_to.new.sink NONE (beside_goes limit e input given first c.tokens.parser c.tokens.rooms g c.yaml_scan_next_to.new.sink c.in-Err.ensures.none)
+    (FAULT f) c.yaml_scan_next_to.new.parser (beside_sizes first c.tokens.rooms c.yaml_scan_next_to.new.sink k c.in-Err.ensures.none) s tt
+
+-- tokens went straight into the rooms
+pub tokens-smaller-in-Ok-None : goal.tokens-smaller-in-Ok-None
+tokens-smaller-in-Ok-None c =
+    let a = c.tokens.rooms in
+    let b = c.yaml_scan_next_to.new.sink in
+    let few : length a.tokens.now < 2 ^ 63 = search rules in
+    let short : length a.texts.now < 2 ^ 63 = search rules in
+    let k = c.tokens.invariant.0 in
+    let fits : Fits a = record { tokens = few; texts = short; token_count = omega (arith, k.few, few); text_len = omega (arith, k.fit, short) } in
+    let r = subst (λ (o : Option code_token_t). ReadsNext c.tokens.parser c.yaml_scan_next_to.new.parser (λ ts. ArePut a ts b) o) c.in-Ok-None.field-0-is c.in-Ok-None.ensures.next in
+    fewer_there a b fits r.0 r.2 (c.in-Ok-None.ensures.within (record { few = k.few; fit = k.fit })) r.1
+
+pub tokens-preserved-in-Ok-None : goal.tokens-preserved-in-Ok-None
+tokens-preserved-in-Ok-None c =
+    let a = c.tokens.rooms in
+    let b = c.yaml_scan_next_to.new.sink in
+    let few : length a.tokens.now < 2 ^ 63 = search rules in
+    let short : length a.texts.now < 2 ^ 63 = search rules in
+    let k = c.tokens.invariant.0 in
+    let fits : Fits a = record { tokens = few; texts = short; token_count = omega (arith, k.few, few); text_len = omega (arith, k.fit, short) } in
+    let r = subst (λ (o : Option code_token_t). ReadsNext c.tokens.parser c.yaml_scan_next_to.new.parser (λ ts. ArePut a ts b) o) c.in-Ok-None.field-0-is c.in-Ok-None.ensures.next in
+    let w = c.in-Ok-None.ensures.within (record { few = k.few; fit = k.fit }) in (
+      tokens_sizes c.args.rooms.now a b fits r.0 r.2 w k,
+      λ first e limit input given h. let g = c.tokens.invariant.1 first e limit input given h in
+          tokens_go limit e input given first c.tokens.parser a g b fits r.0 r.2 w c.yaml_scan_next_to.new.parser
+          (of_input limit e input c.tokens.parser (given ++ g.list) g.stands (λ n x i. Scanned n x i c.yaml_scan_next_to.new.parser ((given ++ g.list) ++ r.0) false) (r.3 (given ++ g.list) (own limit e input c.tokens.parser (given ++ g.list) g.stands))),
+    )
+
+-- a token was returned
+pub returns-in-Some : goal.returns-in-Some
+returns-in-Some c = λ first e limit input given l h.
+    let a = c.tokens.rooms in
+    let b = c.yaml_scan_next_to.new.sink in
+    let p = c.tokens.parser in
+    let q = c.yaml_scan_next_to.new.parser in
+    let t = token_of c.in-Ok-Some.token in
+    let r = subst (λ (o : Option code_token_t). ReadsNext p q (λ ts. ArePut a ts b) o) c.in-Ok-Some.field-0-is c.in-Ok-Some.ensures.next in
+    let f = c.tokens.invariant.1 first e limit input given h in
+    let g = beside_goes limit e input given first p a f b r.0 in
+    let k = beside_sizes first a b (sizes_to first c.args.rooms.now a l c.tokens.invariant.0) r.0 in
+    let few : length b.tokens.now < 2 ^ 63 = search rules in
+    let short : length b.texts.now < 2 ^ 63 = search rules in
+    let one : b.token_count < length b.tokens.now = rw (r.0.token_count, r.0.tokens) c.tokens-test.true in
+    let here : Stands limit e input q (given ++ f.list) (TOKEN t) = of_input limit e input p (given ++ f.list) f.stands (λ n x i. Scanned n x i q ((given ++ f.list) ++ t ∷ []) (is_end t)) (r.1 (given ++ f.list) (own limit e input p (given ++ f.list) f.stands)) in
     let stop = ap (λ (z : Option ahead_t). option_map ahead_of z) c.in-Some.is in
-    elim (cases_lt (length c.tokens.rooms.texts.now) (c.tokens.rooms.text_len + length (texts_of t))) [
+    elim (cases_lt (length b.texts.now) (b.text_len + length (texts_of t))) [
       | inl low ↦ (let w = c.give_token.ensures.kept low in
-          let a : ahead_of c.in-Some.stop ≡ TOKEN t = cc in
-          subst (λ (q : Parser). GivesNext limit e input given first q c.give_token.new.rooms (ahead_of c.in-Some.stop)) (sym c.give_token.ensures.same)
-          (subst (λ (z : token_rooms_t). GivesNext limit e input given first c.look.new.parser z (ahead_of c.in-Some.stop)) (sym w.0)
-          (subst (λ (z : Ahead). GivesNext limit e input given first c.look.new.parser c.tokens.rooms z) (sym a)
-          (batch_ends limit e input given first c.tokens.parser c.tokens.rooms NONE g (TOKEN t) c.look.new.parser k here
-          (omega (arith, low, g.text, k.texts))))))
+          let n : ahead_of c.in-Some.stop ≡ TOKEN t = cc in
+          subst (λ (z : token_rooms_t). GivesNext limit e input given first q z (ahead_of c.in-Some.stop)) (sym w.0)
+          (subst (λ (z : Ahead). GivesNext limit e input given first q b z) (sym n)
+          (batch_ends limit e input given first p b NONE g (TOKEN t) q k here
+          (omega (arith, low, g.text, k.texts)))))
       | inr high ↦ (let w = c.give_token.ensures.put high in
-          let r = ends_there (is_end t) (ahead_of c.in-Some.stop) (sym w.1 ∙ stop) in
-          let more = goes_end limit e input given first c.tokens.parser c.tokens.rooms NONE g c.look.new.parser t c.give_token.new.rooms here w.0 c.tokens-test.true high few short r.0 in
-          let kept = keeps_more first c.tokens.rooms c.give_token.new.rooms t k w.0 c.tokens-test.true high few short in
-          subst (λ (q : Parser). GivesNext limit e input given first q c.give_token.new.rooms (ahead_of c.in-Some.stop)) (sym c.give_token.ensures.same)
-          (subst (λ (z : Ahead). GivesNext limit e input given first c.look.new.parser c.give_token.new.rooms z) r.1
-          (batch_ends limit e input given first c.look.new.parser c.give_token.new.rooms OVER more OVER c.look.new.parser kept more.stands (omega (arith, more.count, w.0.token_count, few)))))
+          let u = ends_there (is_end t) (ahead_of c.in-Some.stop) (sym w.1 ∙ stop) in
+          let more = goes_end limit e input given first p b NONE g q t c.give_token.new.rooms here w.0 one high few short u.0 in
+          let kept = keeps_more first b c.give_token.new.rooms t k w.0 one high few short in
+          subst (λ (z : Ahead). GivesNext limit e input given first q c.give_token.new.rooms z) u.1
+          (batch_ends limit e input given first q c.give_token.new.rooms OVER more OVER q kept more.stands (omega (arith, more.count, w.0.token_count, few))))
     ]
 
--- the token was put
-record IsGiven (c : goal.In_default-give_token) : Type 0 where
-  put : IsPut c.tokens.rooms (token_of c.in-TOKEN.token) c.give_token.new.rooms
-  fits : c.tokens.rooms.text_len + length (texts_of (token_of c.in-TOKEN.token)) ≤ length c.tokens.rooms.texts.now
-  more : is_end (token_of c.in-TOKEN.token) ≡ false
+-- and put
+record IsGiven (c : goal.In_default) : Type 0 where
+  put : IsPut c.yaml_scan_next_to.new.sink (token_of c.in-Ok-Some.token) c.give_token.new.rooms
+  fits : c.yaml_scan_next_to.new.sink.text_len + length (texts_of (token_of c.in-Ok-Some.token)) ≤ length c.yaml_scan_next_to.new.sink.texts.now
+  more : is_end (token_of c.in-Ok-Some.token) ≡ false
 
-is_given : (c : goal.In_default-give_token) → IsGiven c
+is_given : (c : goal.In_default) → IsGiven c
 is_given c =
-    let t = token_of c.in-TOKEN.token in
-    let none = ap (λ (z : Option ahead_t). option_map ahead_of z) c.in_default-give_token.is in
-    elim (cases_lt (length c.tokens.rooms.texts.now) (c.tokens.rooms.text_len + length (texts_of t))) [
+    let b = c.yaml_scan_next_to.new.sink in
+    let t = token_of c.in-Ok-Some.token in
+    let none = ap (λ (z : Option ahead_t). option_map ahead_of z) c.in_default.is in
+    elim (cases_lt (length b.texts.now) (b.text_len + length (texts_of t))) [
       | inl low ↦ absurd (let w = c.give_token.ensures.kept low in let e = sym w.1 ∙ none in cc)
       | inr high ↦ (let w = c.give_token.ensures.put high in record { put = w.0; fits = high; more = goes_on (is_end t) (sym w.1 ∙ none) })
     ]
 
 pub tokens-smaller : goal.tokens-smaller
 tokens-smaller c =
-    let few : length c.tokens.rooms.tokens.now < 2 ^ 63 = search rules in
-    fewer_records c.tokens.rooms c.give_token.new.rooms (token_of c.in-TOKEN.token) (is_given c).put c.tokens-test.true few
+    let a = c.tokens.rooms in
+    let b = c.yaml_scan_next_to.new.sink in
+    let r = subst (λ (o : Option code_token_t). ReadsNext c.tokens.parser c.yaml_scan_next_to.new.parser (λ ts. ArePut a ts b) o) c.in-Ok-Some.field-0-is c.in-Ok-Some.ensures.next in
+    let few : length b.tokens.now < 2 ^ 63 = search rules in
+    let one : b.token_count < length b.tokens.now = rw (r.0.token_count, r.0.tokens) c.tokens-test.true in
+    let n = fewer_records b c.give_token.new.rooms (token_of c.in-Ok-Some.token) (is_given c).put one few in
+    rw (r.0.token_count, r.0.tokens) at n
 
 pub tokens-preserved : goal.tokens-preserved
 tokens-preserved c =
-    let few : length c.tokens.rooms.tokens.now < 2 ^ 63 = search rules in
-    let short : length c.tokens.rooms.texts.now < 2 ^ 63 = search rules in
-    let t = token_of c.in-TOKEN.token in
-    let w = is_given c in (
-      keeps_more c.args.rooms.now c.tokens.rooms c.give_token.new.rooms t c.tokens.invariant.0 w.put c.tokens-test.true w.fits few short,
-      λ first e limit input given h. let g = c.tokens.invariant.1 first e limit input given h in
-          let here : Stands limit e input c.look.new.parser (given ++ g.list) (TOKEN t) =
-          subst (λ (z : ahead_t). Stands limit e input c.look.new.parser (given ++ g.list) (ahead_of z)) c.in-TOKEN.is (c.look.ensures.stands e limit input (given ++ g.list) g.stands) in
-          subst (λ (q : Parser). GoesOn limit e input given first q c.give_token.new.rooms NONE) (sym c.give_token.ensures.same)
-          (goes_more limit e input given first c.tokens.parser c.tokens.rooms NONE g c.look.new.parser t c.give_token.new.rooms here w.put c.tokens-test.true w.fits few short w.more),
+    let a = c.tokens.rooms in
+    let b = c.yaml_scan_next_to.new.sink in
+    let p = c.tokens.parser in
+    let q = c.yaml_scan_next_to.new.parser in
+    let t = token_of c.in-Ok-Some.token in
+    let r = subst (λ (o : Option code_token_t). ReadsNext p q (λ ts. ArePut a ts b) o) c.in-Ok-Some.field-0-is c.in-Ok-Some.ensures.next in
+    let few : length b.tokens.now < 2 ^ 63 = search rules in
+    let short : length b.texts.now < 2 ^ 63 = search rules in
+    let one : b.token_count < length b.tokens.now = rw (r.0.token_count, r.0.tokens) c.tokens-test.true in
+    let w = is_given c in
+    let k = beside_sizes c.args.rooms.now a b c.tokens.invariant.0 r.0 in (
+      keeps_more c.args.rooms.now b c.give_token.new.rooms t k w.put one w.fits few short,
+      λ first e limit input given h. let f = c.tokens.invariant.1 first e limit input given h in
+          let here : Stands limit e input q (given ++ f.list) (TOKEN t) = of_input limit e input p (given ++ f.list) f.stands (λ n x i. Scanned n x i q ((given ++ f.list) ++ t ∷ []) (is_end t)) (r.1 (given ++ f.list) (own limit e input p (given ++ f.list) f.stands)) in
+          goes_more limit e input given first p b NONE (beside_goes limit e input given first p a f b r.0) q t c.give_token.new.rooms here w.put one w.fits few short w.more,
     )
 
 pub returns : goal.returns
