@@ -1,9 +1,11 @@
 //! Calls of a parser.
+use std::alloc::{AllocError, Global};
 use std::process::Abort;
 use std::test::Fail;
 use yaml_scan::{
     yaml_parser_fault, yaml_parser_has_token, yaml_parser_mark, yaml_parser_peek,
-    yaml_parser_queued, yaml_parser_reuse, yaml_parser_scan, yaml_parser_skip, yaml_parser_t,
+    yaml_parser_queued, yaml_parser_scan, yaml_parser_skip, yaml_parser_t, yaml_scan_next_to,
+    yaml_token_sink_t,
 };
 use yaml_text::{
     unnamed_yaml_token_t_data, yaml_encoding_t, yaml_error_type_t, yaml_fault_t, yaml_mark_t,
@@ -250,42 +252,89 @@ fn session_ends_with_one_fault(rt: HostRuntime) -> Result<(), Fail> {
     Ok(())
 }
 
-/// The text of a scalar.
-fn scalar_text(token: yaml_token_t) -> Option<Vec<u8>> {
-    match token.token_data {
-        unnamed_yaml_token_t_data::SCALAR { value, style: _ } => Some(value),
-        _ => None,
+/// Takes so many tokens at once, and counts them and the bytes of their texts.
+#[derive(Drop)]
+struct shelf_t {
+    room: u128,
+    tokens: usize,
+    bytes: usize,
+}
+
+impl yaml_token_sink_t for shelf_t {
+    ghost took = { λ _ _ _. Unit {0} };
+
+    ghost may_refuse = { ⊥ };
+
+    ghost within = { λ _. Unit {0} };
+
+    fn put(&mut self, token: yaml_token_t) -> Result<(), AllocError> {
+        self.tokens = self.tokens.wrapping_add(1);
+        self.bytes = self.bytes.wrapping_add(text_len(&token));
+        Ok(())
+    }
+
+    fn room(&mut self, alloc: Global) -> Vec<u8> {
+        Vec::new(alloc)
+    }
+
+    fn has_room(&self, count: u128, _bytes: u128) -> bool {
+        count <= self.room
+    }
+
+    ghost took_none = { λ _. tt };
+
+    ghost took_more = { λ _ _ _ _ _ _ _. tt };
+
+    ghost within_none = { λ _ _ _ _. tt };
+}
+
+/// How many bytes a scalar's text has, and 0 for another token.
+fn text_len(token: &yaml_token_t) -> usize {
+    match &token.token_data {
+        unnamed_yaml_token_t_data::SCALAR { value, style: _ } => value.len(),
+        _ => 0,
     }
 }
 
-/// A parser that is given the room of each text reads the same texts.
-#[test]
-fn room_is_used_again(rt: HostRuntime) -> Result<(), Fail> {
-    let input =
-        b"- one and only\n- 'two'\n- \"\"\n- |\n  three\n- a scalar of more than sixteen bytes\n- 6\n";
-    let texts: [&[u8]; 6] = [
-        b"one and only",
-        b"two",
-        b"",
-        b"three\n",
-        b"a scalar of more than sixteen bytes",
-        b"6",
-    ];
+/// A block mapping with a sequence in it, whose end closes levels, a flow mapping as a key, and all styles of scalars.
+const MANY: &[u8] = b"a:\n  - [b, c]: dd\n  - 'e'\nf: |\n  gg\n{h: \"i\"}: j\n";
+
+/// The tokens that went to a sink and those that were returned, until the stream end, which is returned.
+fn shelved(alloc: Global, room: u128) -> Result<(shelf_t, usize, usize), Fail> {
     let any = yaml_encoding_t::YAML_ANY_ENCODING;
-    let mut parser = yaml_parser_t::new(rt.alloc(), input, any);
-    let mut found: usize = 0;
-    'tokens: for _ in 0..16 {
-        let token = scanned(&mut parser)?;
-        if let Some(text) = scalar_text(token) {
-            assert!(rt;
-                texts
-                    .get(found)
-                    .is_some_and(|wanted| text.as_slice() == *wanted)
-            );
-            yaml_parser_reuse(&mut parser, text);
-            found = found.wrapping_add(1);
+    let mut parser = yaml_parser_t::new(alloc, MANY, any);
+    let mut shelf = shelf_t {
+        room,
+        tokens: 0,
+        bytes: 0,
+    };
+    let mut returned: usize = 0;
+    let mut bytes: usize = 0;
+    'calls: for _ in 0..100 {
+        match yaml_scan_next_to(&mut parser, &mut shelf) {
+            Ok(None) => {}
+            Ok(Some(token)) => {
+                returned = returned.wrapping_add(1);
+                bytes = bytes.wrapping_add(text_len(&token));
+                if matches!(token.token_data, unnamed_yaml_token_t_data::STREAM_END) {
+                    return Ok((shelf, returned, bytes));
+                }
+            }
+            Err(_) => return Err("a fault".into()),
         }
     }
-    assert_eq!(rt; found, 6);
+    Err("no stream end".into())
+}
+
+/// A sink with little room gets fewer tokens, and the others are returned.
+#[test]
+fn tokens_go_to_a_sink_with_room(rt: HostRuntime) -> Result<(), Fail> {
+    for (room, least) in [(0, 0), (1, 3), (2, 7), (1000, 11)] {
+        let (shelf, returned, bytes) = shelved(rt.alloc(), room)?;
+        assert_eq!(rt; shelf.tokens.wrapping_add(returned), 35, "{room}");
+        assert_eq!(rt; shelf.bytes.wrapping_add(bytes), 13, "{room}");
+        assert!(rt; shelf.tokens >= least, "{room}: {}", shelf.tokens);
+        assert!(rt; room > 0 || shelf.tokens == 0);
+    }
     Ok(())
 }
