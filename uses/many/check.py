@@ -133,7 +133,7 @@ class Cut:
 
     def job(self, entries, weight):
         self.given += weight
-        return Job(entries, weight, min(self.most, round(TOO_MUCH * weight)))
+        return Job(entries, weight, round(TOO_MUCH * weight))
 
     def shares(self, processors):
         """What each part may weigh, which is the same in all of a round."""
