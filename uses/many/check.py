@@ -39,9 +39,9 @@ LIBRARY = os.path.join(HERE, "..", "..", "ffi", "out", "libbogzhami.so")
 ARCHIVES = (b".tar", b".tar.gz", b".tgz", b".tar.bz2", b".tbz2", b".tar.xz", b".txz")
 MEGABYTE = 1_000_000
 SAMPLE = 256  # the system is asked for the size of about so many files, to guess how long all are
-SHARES = 2  # a part is what is left for a processor, divided by this,
-MOST_SHARES = 8  # but not less than all of what a processor gets, divided by this
-TOO_MUCH = 2  # a worker gives back the rest of a part that weighs so many times what was guessed
+ROUND_SHARE = 0.75  # a round of parts, one for each processor, is so much of what is left,
+LEAST_SHARE = 0.1  # but not less than so much of all
+TOO_MUCH = 1.25  # a worker gives back the rest of a part that weighs so many times what was guessed
 WAITING_EACH = 2  # how many parts a processor may have at a time: one that it scans, and one that waits
 BAR = 30
 # What dask.distributed does for its charts: look up the source of who hands out work, and look every 10 ms at what a worker does.
@@ -108,8 +108,8 @@ class Job:
 
 
 class Cut:
-    """Cuts what a list names into parts. Each is a share of what is left: the first ones are large, so that there are few, and
-    the last ones are small, so that all processors end at about the same time.
+    """Cuts what a list names into parts, in rounds: one part for each processor. The first round is large, so that there are few
+    parts, and the last ones are small, so that all processors end at about the same time.
 
     A file is not looked at before a worker reads it. Each counts as the mean of some that are spread over the list."""
 
@@ -133,20 +133,23 @@ class Cut:
 
     def job(self, entries, weight):
         self.given += weight
-        return Job(entries, weight, min(self.most, TOO_MUCH * weight))
+        return Job(entries, weight, round(TOO_MUCH * weight))
 
-    def share(self, processors):
-        """What the next part may weigh."""
-        return min(self.most, max((self.total - self.given) / SHARES, self.total / MOST_SHARES) / processors)
+    def shares(self, processors):
+        """What each part may weigh, which is the same in all of a round."""
+        while True:
+            share = max((self.total - self.given) * ROUND_SHARE, self.total * LEAST_SHARE)
+            files = math.ceil(share / processors / self.usual)
+            yield from [min(self.most, files * self.usual)] * processors
 
     def jobs(self, processors):
         """All parts, for so many processors."""
-        entries, full, share = [], 0, 0
+        entries, full, share, shares = [], 0, 0, self.shares(processors)
         for run, weight in self.runs():
             at = 0
             while at < len(run):
-                share = share if entries else self.share(processors)
-                fit = max(0 if entries else 1, int((share - full) / weight))
+                share = share if entries else next(shares)
+                fit = max(0 if entries else 1, (share - full) // weight)
                 more = run[at : at + fit]
                 entries += more
                 full, at = full + weight * len(more), at + len(more)
@@ -224,8 +227,9 @@ class Scan:
         return joined(pieces)
 
     def give_back(self, job, done):
-        """Makes parts of what a worker left of a part. They have as many entries as it scanned."""
-        rest = [job.entries[at : at + done] for at in range(done, len(job.entries), done)]
+        """Makes parts of what a worker left of a part. If they are like what it scanned, they weigh what was guessed."""
+        size = math.ceil(done / TOO_MUCH)
+        rest = [job.entries[at : at + size] for at in range(done, len(job.entries), size)]
         job.weight //= len(rest) + 1
         pieces = [Job(entries, job.weight, job.most) for entries in rest]
         at = self.order.index(job) + 1
