@@ -8,7 +8,7 @@ ghost use Rattle.yaml_lexeme.specs.Classes as sets;
 ghost use Rattle.yaml_lexeme.specs.Place.{Place, first, peek, run, after_run};
 ghost use Rattle.yaml_lexeme.specs.Plain as spec;
 ghost use Rattle.yaml_lexeme.specs.inside.Gives.{Gives, Appends};
-ghost use Rattle.yaml_lexeme.specs.Lexeme.{scalar_of, scalar_with};
+ghost use Rattle.yaml_lexeme.specs.Lexeme.{scalar_of};
 ghost use Rattle.yaml_lexeme.specs.Reading.{with_front, over};
 ghost use Rattle.yaml_lexeme.specs.inside.Words.{links, words, plain_of, Goes, LeadsTo, Leaves, LeavesMore};
 
@@ -239,26 +239,28 @@ fn ends_at_once(cursor: &mut cursor_t, in_flow: bool, least: u64) -> Option<bool
     Some(true)
 }
 
-/// Takes the separators and words after those of the first line, and the separator after all. Appends the words with
-/// what is between them to `out`, and sets the mark after the last word. Returns whether a break is in the last
-/// separator.
+/// Takes the separators and words after those of the first line, which are in `value`, and the separator after all.
 #[cold]
 fn take_links(
     cursor: &mut cursor_t,
     in_flow: bool,
     least: u64,
-    out: &mut Vec<u8>,
-    end: &mut yaml_mark_t,
-) -> Result<bool, yaml_refusal_t>
-    ensures { (p : Place) → LeadsTo in_flow least p out.old.items cursor.old
-        → Gives (scalar_with out.new.items end.new) result cursor.new (spec.plain in_flow least p) }
+    value: Vec<u8>,
+) -> Result<scalar_t, yaml_refusal_t>
+    ensures { (p : Place) → LeadsTo in_flow least p value.items cursor.old
+        → Gives scalar_of result cursor.new (spec.plain in_flow least p) }
 {
-    'links: while take_link(cursor, in_flow, least, out)? {}
-    *end = cursor.mark();
+    let mut out = value;
+    'links: while take_link(cursor, in_flow, least, &mut out)? {}
+    let end = cursor.mark();
     cursor.skip_run(class_t::BLANK);
     let passed_break = is_at!(cursor, is_break, 0);
     cursor.skip_run(class_t::BLANK_OR_BREAK);
-    Ok(passed_break)
+    Ok(scalar_t {
+        value: out,
+        end,
+        passed_break,
+    })
 }
 
 /// Takes what is left of a plain scalar after its first line.
@@ -272,18 +274,12 @@ fn take_lines(
     ensures { (p : Place) → LeadsTo in_flow least p value.items cursor.old
         → Gives scalar_of result cursor.new (spec.plain in_flow least p) }
 {
-    // copies, so that the cursor and the value themselves stay in registers
+    // a copy, so that the cursor itself stays in registers
     let mut here = cursor.again();
-    let mut out = value;
-    let mut end = cursor.mark();
-    let taken = take_links(&mut here, in_flow, least, &mut out, &mut end);
+    let taken = take_links(&mut here, in_flow, least, value);
     *cursor = here;
     match taken {
-        Ok(passed_break) => Ok(scalar_t {
-            value: out,
-            end,
-            passed_break,
-        }),
+        Ok(scalar) => Ok(scalar),
         Err(refusal) => Err(refused(refusal)),
     }
 }

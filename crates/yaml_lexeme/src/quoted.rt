@@ -195,23 +195,21 @@ fn take_parts(
     Ok(out)
 }
 
-/// Takes what is left of a quoted scalar after its first line, of which `len` bytes of `left` are kept. Its value is
-/// put into `room` if it fits.
+/// Takes what is left of a quoted scalar after its first line, of which `kept` is kept. Its value is put into `room` if
+/// it fits.
 #[inline(never)]
 fn take_rest(
     room: Vec<u8>,
     cursor: &mut cursor_t,
     single: bool,
-    left: &[u8],
-    len: usize,
+    kept: &[u8],
 ) -> Result<Vec<u8>, yaml_refusal_t>
-    requires { len ≤ length left.now }
-    ensures { (p : Place) → LeadsOn single p (take len left.now) cursor.old
+    ensures { (p : Place) → LeadsOn single p kept.now cursor.old
         → Gives (λ v. v.items) result cursor.new (spec.quoted single p) }
 {
     let mut here = cursor.again();
-    let mut out = emptied(room, len + room_after(cursor, single))?;
-    out.extend_from_slice(&left[..len])?;
+    let mut out = emptied(room, kept.len() + room_after(cursor, single))?;
+    out.extend_from_slice(kept)?;
     let taken = take_parts(&mut here, single, out);
     *cursor = here;
     taken
@@ -239,7 +237,7 @@ pub(crate) fn take_quoted(
     }
     // a copy, so that the cursor itself stays in registers
     let mut here = cursor.again();
-    let taken = take_rest(room, &mut here, single, left, len);
+    let taken = take_rest(room, &mut here, single, &left[..len]);
     *cursor = here;
     taken
 }

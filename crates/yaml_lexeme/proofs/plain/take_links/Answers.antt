@@ -28,4 +28,4 @@ returns c = λ p whole.
     let all = plain_words flow least p q out (whole ∙ c.links.invariant ∙ took) in
     let b : c.is_break-passed_break.result ≡ is_break (first (after_run is_blank q)) = cc in
     let r : c.skip_run-2.new.self ≡ after_run is_white (after_run is_blank q) = cc in
-    scalar_made flow least p q c.skip_run-2.new.self out c.mark.result c.is_break-passed_break.result all c.mark.ensures.value b r
+    scalar_made flow least p q c.skip_run-2.new.self out c.mark-end.result c.is_break-passed_break.result all c.mark-end.ensures.value b r
