@@ -239,28 +239,23 @@ fn ends_at_once(cursor: &mut cursor_t, in_flow: bool, least: u64) -> Option<bool
     Some(true)
 }
 
-/// Takes the separators and words after those of the first line, which are in `value`, and the separator after all.
+/// Takes the separators and words after those of the first line, which are in `scalar`, and the separator after all.
 #[cold]
 fn take_links(
     cursor: &mut cursor_t,
     in_flow: bool,
     least: u64,
-    value: Vec<u8>,
-) -> Result<scalar_t, yaml_refusal_t>
-    ensures { (p : Place) → LeadsTo in_flow least p value.items cursor.old
-        → Gives scalar_of result cursor.new (spec.plain in_flow least p) }
+    scalar: &mut scalar_t,
+) -> Result<(), yaml_refusal_t>
+    ensures { (p : Place) → LeadsTo in_flow least p scalar.old.value.items cursor.old
+        → Gives (λ done. scalar_of scalar.new) result cursor.new (spec.plain in_flow least p) }
 {
-    let mut out = value;
-    'links: while take_link(cursor, in_flow, least, &mut out)? {}
-    let end = cursor.mark();
+    'links: while take_link(cursor, in_flow, least, &mut scalar.value)? {}
+    scalar.end = cursor.mark();
     cursor.skip_run(class_t::BLANK);
-    let passed_break = is_at!(cursor, is_break, 0);
+    scalar.passed_break = is_at!(cursor, is_break, 0);
     cursor.skip_run(class_t::BLANK_OR_BREAK);
-    Ok(scalar_t {
-        value: out,
-        end,
-        passed_break,
-    })
+    Ok(())
 }
 
 /// Takes what is left of a plain scalar after its first line.
@@ -274,12 +269,17 @@ fn take_lines(
     ensures { (p : Place) → LeadsTo in_flow least p value.items cursor.old
         → Gives scalar_of result cursor.new (spec.plain in_flow least p) }
 {
-    // a copy, so that the cursor itself stays in registers
+    // copies, so that the cursor and the value themselves stay in registers
     let mut here = cursor.again();
-    let taken = take_links(&mut here, in_flow, least, value);
+    let mut scalar = scalar_t {
+        value,
+        end: cursor.mark(),
+        passed_break: false,
+    };
+    let taken = take_links(&mut here, in_flow, least, &mut scalar);
     *cursor = here;
     match taken {
-        Ok(scalar) => Ok(scalar),
+        Ok(()) => Ok(scalar),
         Err(refusal) => Err(refused(refusal)),
     }
 }

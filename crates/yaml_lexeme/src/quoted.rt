@@ -143,7 +143,7 @@ fn line_piece<'a>(cursor: &mut cursor_t<'a>, single: bool) -> &'a [u8]
     ensures within { length result.now ≤ length (utf8 cursor.old.rest) }
     ensures shorter { length cursor.new.rest ≤ length cursor.old.rest }
 {
-    let piece = cursor.run(line_class(single));
+    let piece = cursor.quick_run(line_class(single));
     if is_at!(cursor, is_break, 0) {
         return trimmed(piece);
     }
