@@ -62,12 +62,13 @@ fn take_dropped_break(cursor: &mut cursor_t, out: &mut Vec<u8>) -> Result<bool, 
     requires line_end { is_break (peek cursor.old 1) ≡ true }
     ensures { Takes utf8 result out.old.items out.new.items cursor.old cursor.new (spec.body_part false cursor.old) }
 {
-    let mut here = cursor.again();
-    here.pass();
-    here.skip(here.break_len());
-    push_breaks(&mut here, out)?;
-    *cursor = here;
-    unmarked(&cursor.again())
+    let mut after = cursor.again();
+    after.pass();
+    after.skip(after.break_len());
+    push_breaks(&mut after, out)?;
+    let more = unmarked(&after);
+    *cursor = after;
+    more
 }
 
 /// Takes what a backslash begins, and appends its bytes to `out`: an escape, or a break that is dropped.
