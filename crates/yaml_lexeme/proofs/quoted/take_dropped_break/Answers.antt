@@ -1,4 +1,4 @@
-use Rattle.std.proofs.Common.{◌≡◌, true, false, not, ◌||◌, ◌==◌, ◌∙◌, refl}
+use Rattle.std.proofs.Common.{◌≡◌, true, false, not, ◌||◌, ◌==◌, refl}
 use Rattle.yaml_lexeme.proofs.Readers.QuotedBody.{at_break, takes_unmarked}
 use Rattle.yaml_lexeme.proofs.Readers.FoldSeparators.{breaks_at}
 use Rattle.yaml_lexeme.specs.Classes.{is_white}
