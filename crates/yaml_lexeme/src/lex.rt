@@ -340,6 +340,7 @@ fn read_to(
     ensures value { (k : Kind) (p : Place) (read : Read Lexeme) → Gives lexeme_of taken cursor.now read
         → ReadsAs lexeme_of k p.mark there.new result (spec.answer k p read) }
     ensures taken { IsOk taken → IsOk result }
+    ensures stays { IsOk result → there.new ≡ there.old }
 {
     match taken {
         Ok(lexeme) => Ok(lexeme),
@@ -350,7 +351,8 @@ fn read_to(
     }
 }
 
-/// The plain scalar at a spot, or why there is none; then `spot.at` is set to the mark of the offence.
+/// The plain scalar at a spot, or why there is none; then `spot.at` is set to the mark of the offence. With a scalar the
+/// spot stays as it is.
 ///
 /// The place and the context are as for [`yaml_lexeme_at`], and so is the lexeme. [`yaml_lexeme_fault`] makes the fault
 /// of a refusal. Memory may be refused too. The value is put into `room`, in place of what that holds, if it fits.
@@ -363,9 +365,11 @@ pub fn yaml_read_plain(
 ) -> Result<yaml_lexeme_t, yaml_refusal_t>
     requires place { (n : ℕ) × IsMarkOf spot.old.text.now.chars spot.old.at n }
     requires level { IfSome context.level (λ l. l ≤ length (utf8 spot.old.text.now.chars)) }
-    ensures { (n : ℕ) → IsMarkOf spot.old.text.now.chars spot.old.at n
+    ensures value { (n : ℕ) → IsMarkOf spot.old.text.now.chars spot.old.at n
         → ReadsAs lexeme_of PLAIN spot.old.at spot.new.at result
         (spec.lexeme_at PLAIN context (place_at spot.old.text.now.chars n)) }
+    ensures text { spot.new.text ≡ spot.old.text }
+    ensures stays { IsOk result → spot.new.at ≡ spot.old.at }
 {
     let mut cursor = cursor_t::at(spot.text, spot.at);
     let taken = take_plain_scalar(room, &mut cursor, context);
@@ -382,9 +386,11 @@ pub fn yaml_read_quoted(
     single: bool,
 ) -> Result<yaml_lexeme_t, yaml_refusal_t>
     requires { (n : ℕ) × IsMarkOf spot.old.text.now.chars spot.old.at n }
-    ensures { (n : ℕ) (context : yaml_context_t) → IsMarkOf spot.old.text.now.chars spot.old.at n
+    ensures value { (n : ℕ) (context : yaml_context_t) → IsMarkOf spot.old.text.now.chars spot.old.at n
         → ReadsAs lexeme_of (spec.quoted_kind single) spot.old.at spot.new.at result
         (spec.lexeme_at (spec.quoted_kind single) context (place_at spot.old.text.now.chars n)) }
+    ensures text { spot.new.text ≡ spot.old.text }
+    ensures stays { IsOk result → spot.new.at ≡ spot.old.at }
 {
     let mut cursor = cursor_t::at(spot.text, spot.at);
     let taken = take_quoted_scalar(room, &mut cursor, single);
@@ -402,9 +408,11 @@ pub fn yaml_read_block(
 ) -> Result<yaml_lexeme_t, yaml_refusal_t>
     requires place { (n : ℕ) × IsMarkOf spot.old.text.now.chars spot.old.at n }
     requires level { IfSome context.level (λ l. l ≤ length (utf8 spot.old.text.now.chars)) }
-    ensures { (n : ℕ) → IsMarkOf spot.old.text.now.chars spot.old.at n
+    ensures value { (n : ℕ) → IsMarkOf spot.old.text.now.chars spot.old.at n
         → ReadsAs lexeme_of (spec.block_kind folded) spot.old.at spot.new.at result
         (spec.lexeme_at (spec.block_kind folded) context (place_at spot.old.text.now.chars n)) }
+    ensures text { spot.new.text ≡ spot.old.text }
+    ensures stays { IsOk result → spot.new.at ≡ spot.old.at }
 {
     let mut cursor = cursor_t::at(spot.text, spot.at);
     let taken = take_block_scalar(room, &mut cursor, folded, context);
@@ -446,6 +454,8 @@ pub fn yaml_read_lexeme(
         → ReadsAs lexeme_of kind spot.old.at spot.new.at result
         (spec.lexeme_at kind context (place_at spot.old.text.now.chars n)) }
     ensures bare { spec.is_bare kind ≡ true → IsOk result }
+    ensures text { spot.new.text ≡ spot.old.text }
+    ensures stays { IsOk result → spot.new.at ≡ spot.old.at }
 {
     let mut cursor = cursor_t::at(spot.text, spot.at);
     let taken = take_lexeme(alloc, &mut cursor, kind, context);

@@ -8,11 +8,11 @@ yaml_read_block-read-requires-clause-level c = level_bytes c.args.scanner.now.te
 
 pub returns-then-is_err : goal.returns-then-is_err
 returns-then-is_err c =
-    let read = reads_in c.args.scanner.now (block_kind c.args.folded) c.args.context c.yaml_read_block-read.new.spot.at c.yaml_read_block-read.result c.yaml_read_block-read.ensures in
+    let read = reads_in c.args.scanner.now (block_kind c.args.folded) c.args.context c.yaml_read_block-read.new.spot.at c.yaml_read_block-read.result c.yaml_read_block-read.ensures.value in
     record { read = read; same = refl }
 
 pub returns-else-is_err : goal.returns-else-is_err
 returns-else-is_err c =
     let fine = sym c.is_err.ensures.value ∙ c.if-is_err.false in
-    let read = reads_well c.args.scanner.now (block_kind c.args.folded) c.args.context c.yaml_read_block-read.new.spot.at c.args.scanner.now.there c.yaml_read_block-read.result fine c.yaml_read_block-read.ensures in
+    let read = reads_well c.args.scanner.now (block_kind c.args.folded) c.args.context c.yaml_read_block-read.new.spot.at c.args.scanner.now.there c.yaml_read_block-read.result fine c.yaml_read_block-read.ensures.value in
     record { read = read; same = refl }
