@@ -351,8 +351,8 @@ fn read_to(
     }
 }
 
-/// The plain scalar at a spot, or why there is none; then `spot.at` is set to the mark of the offence. The spot stays as
-/// it is if there is one.
+/// The plain scalar at a spot, or why there is none; then `spot.at` is set to the mark of the offence. With a scalar,
+/// the spot stays as it is.
 ///
 /// The place and the context are as for [`yaml_lexeme_at`], and so is the lexeme. [`yaml_lexeme_fault`] makes the fault
 /// of a refusal. Memory may be refused too. The value is put into `room`, in place of what that holds, if it fits.
