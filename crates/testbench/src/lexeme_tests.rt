@@ -5,7 +5,7 @@ use std::test::Fail;
 use yaml_lexeme::{
     yaml_context_t, yaml_decider_at, yaml_gap, yaml_lexeme_at, yaml_lexeme_fault, yaml_lexeme_kind,
     yaml_lexeme_kind_t, yaml_lexeme_t, yaml_read_block, yaml_read_character, yaml_read_lexeme,
-    yaml_read_plain, yaml_read_quoted, yaml_refusal_t,
+    yaml_read_plain, yaml_read_quoted, yaml_refusal_t, yaml_spot_t,
 };
 use yaml_text::{
     unnamed_yaml_token_t_data, yaml_decode, yaml_encoding_t, yaml_error_type_t, yaml_fault_t,
@@ -203,30 +203,20 @@ fn scalar_read(
     {
         return Ok(String::from_str(alloc, "no level")?);
     }
-    let mut there = FRONT;
+    let room = Vec::new(alloc);
+    let mut spot = yaml_spot_t {
+        text: &text,
+        at: FRONT,
+    };
     let read = match kind {
-        yaml_lexeme_kind_t::PLAIN => yaml_read_plain(
-            Vec::new(alloc),
-            &text,
-            FRONT,
-            context,
-            &mut there,
-        ),
-        yaml_lexeme_kind_t::SINGLE_QUOTED => {
-            yaml_read_quoted(Vec::new(alloc), &text, FRONT, true, &mut there)
-        }
-        yaml_lexeme_kind_t::DOUBLE_QUOTED => {
-            yaml_read_quoted(Vec::new(alloc), &text, FRONT, false, &mut there)
-        }
-        yaml_lexeme_kind_t::LITERAL => {
-            yaml_read_block(Vec::new(alloc), &text, FRONT, false, context, &mut there)
-        }
-        yaml_lexeme_kind_t::FOLDED => {
-            yaml_read_block(Vec::new(alloc), &text, FRONT, true, context, &mut there)
-        }
+        yaml_lexeme_kind_t::PLAIN => yaml_read_plain(room, &mut spot, context),
+        yaml_lexeme_kind_t::SINGLE_QUOTED => yaml_read_quoted(room, &mut spot, true),
+        yaml_lexeme_kind_t::DOUBLE_QUOTED => yaml_read_quoted(room, &mut spot, false),
+        yaml_lexeme_kind_t::LITERAL => yaml_read_block(room, &mut spot, false, context),
+        yaml_lexeme_kind_t::FOLDED => yaml_read_block(room, &mut spot, true, context),
         _ => return Ok(String::from_str(alloc, "no scalar")?),
     };
-    show_read(alloc, read, kind, there)
+    show_read(alloc, read, kind, spot.at)
 }
 
 /// The lexeme at the front of a text, by the reader of every kind.
@@ -238,9 +228,12 @@ fn lexeme_read(alloc: Global, bytes: &[u8], depth: u64) -> Result<String, Fail> 
         return Ok(String::from_str(alloc, "no kind")?);
     };
     let context = yaml_context_t { depth, level: None };
-    let mut there = FRONT;
-    let read = yaml_read_lexeme(alloc, &text, FRONT, kind, context, &mut there);
-    show_read(alloc, read, kind, there)
+    let mut spot = yaml_spot_t {
+        text: &text,
+        at: FRONT,
+    };
+    let read = yaml_read_lexeme(alloc, &mut spot, kind, context);
+    show_read(alloc, read, kind, spot.at)
 }
 
 /// The lexeme of one character at the front of a text.

@@ -88,10 +88,6 @@ lexeme_of l = record {
 abbrev pub scalar_of : scalar_t → Scalar
 scalar_of s = record { value = s.value.items; end = s.end; passed_break = s.passed_break }
 
--- A scalar of a value that ends at a mark, and whether a break is in the separator after it.
-abbrev pub scalar_with : List ℕ → yaml_mark_t → Bool → Scalar
-scalar_with value end passed_break = record { value = value; end = end; passed_break = passed_break }
-
 -- A directive of the code.
 abbrev pub directive_of : directive_t → Directive
 directive_of d = record { says = data_of d.says; end = d.end }

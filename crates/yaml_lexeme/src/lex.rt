@@ -48,6 +48,13 @@ pub struct yaml_context_t {
     pub level: Option<u64>,
 }
 
+/// A text, and the mark in it at which a lexeme is read. A reader that refuses sets `at` to the mark of the offence.
+#[derive(Clone, Copy)]
+pub struct yaml_spot_t<'a> {
+    pub text: &'a yaml_text_t<'a>,
+    pub at: yaml_mark_t,
+}
+
 /// What a lexeme of one character, or a document marker, says.
 #[inline(always)]
 fn says_of(kind: yaml_lexeme_kind_t) -> unnamed_yaml_token_t_data
@@ -333,6 +340,7 @@ fn read_to(
     ensures value { (k : Kind) (p : Place) (read : Read Lexeme) → Gives lexeme_of taken cursor.now read
         → ReadsAs lexeme_of k p.mark there.new result (spec.answer k p read) }
     ensures taken { IsOk taken → IsOk result }
+    ensures stays { IsOk result → there.new ≡ there.old }
 {
     match taken {
         Ok(lexeme) => Ok(lexeme),
@@ -343,7 +351,8 @@ fn read_to(
     }
 }
 
-/// The plain scalar at a place, or why there is none; then `there` is the mark of the offence.
+/// The plain scalar at a spot, or why there is none; then `spot.at` is set to the mark of the offence. With a scalar,
+/// the spot stays as it is.
 ///
 /// The place and the context are as for [`yaml_lexeme_at`], and so is the lexeme. [`yaml_lexeme_fault`] makes the fault
 /// of a refusal. Memory may be refused too. The value is put into `room`, in place of what that holds, if it fits.
@@ -351,19 +360,20 @@ fn read_to(
 #[inline(always)]
 pub fn yaml_read_plain(
     room: Vec<u8>,
-    text: &yaml_text_t,
-    at: yaml_mark_t,
+    spot: &mut yaml_spot_t,
     context: yaml_context_t,
-    there: &mut yaml_mark_t,
 ) -> Result<yaml_lexeme_t, yaml_refusal_t>
-    requires place { (n : ℕ) × IsMarkOf text.now.chars at n }
-    requires level { IfSome context.level (λ l. l ≤ length (utf8 text.now.chars)) }
-    ensures { (n : ℕ) → IsMarkOf text.now.chars at n
-        → ReadsAs lexeme_of PLAIN at there.new result (spec.lexeme_at PLAIN context (place_at text.now.chars n)) }
+    requires place { (n : ℕ) × IsMarkOf spot.old.text.now.chars spot.old.at n }
+    requires level { IfSome context.level (λ l. l ≤ length (utf8 spot.old.text.now.chars)) }
+    ensures value { (n : ℕ) → IsMarkOf spot.old.text.now.chars spot.old.at n
+        → ReadsAs lexeme_of PLAIN spot.old.at spot.new.at result
+        (spec.lexeme_at PLAIN context (place_at spot.old.text.now.chars n)) }
+    ensures text { spot.new.text ≡ spot.old.text }
+    ensures stays { IsOk result → spot.new.at ≡ spot.old.at }
 {
-    let mut cursor = cursor_t::at(text, at);
+    let mut cursor = cursor_t::at(spot.text, spot.at);
     let taken = take_plain_scalar(room, &mut cursor, context);
-    read_to(taken, &cursor, there)
+    read_to(taken, &cursor, &mut spot.at)
 }
 
 /// The quoted scalar at a place, or why there is none, as [`yaml_read_plain`] returns a plain one. `single`: it is in
@@ -372,19 +382,19 @@ pub fn yaml_read_plain(
 #[inline(always)]
 pub fn yaml_read_quoted(
     room: Vec<u8>,
-    text: &yaml_text_t,
-    at: yaml_mark_t,
+    spot: &mut yaml_spot_t,
     single: bool,
-    there: &mut yaml_mark_t,
 ) -> Result<yaml_lexeme_t, yaml_refusal_t>
-    requires { (n : ℕ) × IsMarkOf text.now.chars at n }
-    ensures { (n : ℕ) (context : yaml_context_t) → IsMarkOf text.now.chars at n
-        → ReadsAs lexeme_of (spec.quoted_kind single) at there.new result
-        (spec.lexeme_at (spec.quoted_kind single) context (place_at text.now.chars n)) }
+    requires { (n : ℕ) × IsMarkOf spot.old.text.now.chars spot.old.at n }
+    ensures value { (n : ℕ) (context : yaml_context_t) → IsMarkOf spot.old.text.now.chars spot.old.at n
+        → ReadsAs lexeme_of (spec.quoted_kind single) spot.old.at spot.new.at result
+        (spec.lexeme_at (spec.quoted_kind single) context (place_at spot.old.text.now.chars n)) }
+    ensures text { spot.new.text ≡ spot.old.text }
+    ensures stays { IsOk result → spot.new.at ≡ spot.old.at }
 {
-    let mut cursor = cursor_t::at(text, at);
+    let mut cursor = cursor_t::at(spot.text, spot.at);
     let taken = take_quoted_scalar(room, &mut cursor, single);
-    read_to(taken, &cursor, there)
+    read_to(taken, &cursor, &mut spot.at)
 }
 
 /// The literal or folded scalar at a place, or why there is none, as [`yaml_read_plain`] returns a plain one.
@@ -392,21 +402,21 @@ pub fn yaml_read_quoted(
 #[inline(always)]
 pub fn yaml_read_block(
     room: Vec<u8>,
-    text: &yaml_text_t,
-    at: yaml_mark_t,
+    spot: &mut yaml_spot_t,
     folded: bool,
     context: yaml_context_t,
-    there: &mut yaml_mark_t,
 ) -> Result<yaml_lexeme_t, yaml_refusal_t>
-    requires place { (n : ℕ) × IsMarkOf text.now.chars at n }
-    requires level { IfSome context.level (λ l. l ≤ length (utf8 text.now.chars)) }
-    ensures { (n : ℕ) → IsMarkOf text.now.chars at n
-        → ReadsAs lexeme_of (spec.block_kind folded) at there.new result
-        (spec.lexeme_at (spec.block_kind folded) context (place_at text.now.chars n)) }
+    requires place { (n : ℕ) × IsMarkOf spot.old.text.now.chars spot.old.at n }
+    requires level { IfSome context.level (λ l. l ≤ length (utf8 spot.old.text.now.chars)) }
+    ensures value { (n : ℕ) → IsMarkOf spot.old.text.now.chars spot.old.at n
+        → ReadsAs lexeme_of (spec.block_kind folded) spot.old.at spot.new.at result
+        (spec.lexeme_at (spec.block_kind folded) context (place_at spot.old.text.now.chars n)) }
+    ensures text { spot.new.text ≡ spot.old.text }
+    ensures stays { IsOk result → spot.new.at ≡ spot.old.at }
 {
-    let mut cursor = cursor_t::at(text, at);
+    let mut cursor = cursor_t::at(spot.text, spot.at);
     let taken = take_block_scalar(room, &mut cursor, folded, context);
-    read_to(taken, &cursor, there)
+    read_to(taken, &cursor, &mut spot.at)
 }
 
 /// The lexeme of one character at a place. No memory is taken.
@@ -433,22 +443,23 @@ pub fn yaml_read_character(
 #[inline(never)]
 pub fn yaml_read_lexeme(
     alloc: Global,
-    text: &yaml_text_t,
-    at: yaml_mark_t,
+    spot: &mut yaml_spot_t,
     kind: yaml_lexeme_kind_t,
     context: yaml_context_t,
-    there: &mut yaml_mark_t,
 ) -> Result<yaml_lexeme_t, yaml_refusal_t>
-    requires place { (n : ℕ) × IsMarkOf text.now.chars at n
-        × ((flow : Bool) × (kinds.kind_at flow (place_at text.now.chars n) ≡ Some kind)) }
-    requires level { IfSome context.level (λ l. l ≤ length (utf8 text.now.chars)) }
-    ensures value { (n : ℕ) → IsMarkOf text.now.chars at n
-        → ReadsAs lexeme_of kind at there.new result (spec.lexeme_at kind context (place_at text.now.chars n)) }
+    requires place { (n : ℕ) × IsMarkOf spot.old.text.now.chars spot.old.at n
+        × ((flow : Bool) × (kinds.kind_at flow (place_at spot.old.text.now.chars n) ≡ Some kind)) }
+    requires level { IfSome context.level (λ l. l ≤ length (utf8 spot.old.text.now.chars)) }
+    ensures value { (n : ℕ) → IsMarkOf spot.old.text.now.chars spot.old.at n
+        → ReadsAs lexeme_of kind spot.old.at spot.new.at result
+        (spec.lexeme_at kind context (place_at spot.old.text.now.chars n)) }
     ensures bare { spec.is_bare kind ≡ true → IsOk result }
+    ensures text { spot.new.text ≡ spot.old.text }
+    ensures stays { IsOk result → spot.new.at ≡ spot.old.at }
 {
-    let mut cursor = cursor_t::at(text, at);
+    let mut cursor = cursor_t::at(spot.text, spot.at);
     let taken = take_lexeme(alloc, &mut cursor, kind, context);
-    read_to(taken, &cursor, there)
+    read_to(taken, &cursor, &mut spot.at)
 }
 
 /// The fault of a refusal: of a lexeme of a kind that starts at `at`, for an offence at `there`.

@@ -348,6 +348,40 @@ impl<'a> cursor_t<'a> {
         front(start, start.len() - left.len())
     }
 
+    /// The place after the run of the class that is here.
+    #[inline(never)]
+    fn past_run(&self, class: class_t) -> cursor_t<'a>
+        ensures { result ≡ after_run (class_test class) self.now }
+    {
+        let mut here = self.again();
+        here.skip_run(class);
+        here
+    }
+
+    /// Takes the run of the class that is here, if there is one.
+    #[inline(always)]
+    fn skip_rest(&mut self, class: class_t)
+        ensures { self.new ≡ after_run (class_test class) self.old }
+    {
+        if is_in(class, self.peek(0)) {
+            *self = self.again().past_run(class);
+        }
+    }
+
+    /// Takes the longest run of characters of the class, and returns its bytes, as `run` does. A function of its own
+    /// takes what comes after a byte that needs a closer look. That is rare, so this one is small.
+    #[inline(always)]
+    pub fn quick_run(&mut self, class: class_t) -> &'a [u8]
+        ensures value { result.now ≡ utf8 (run (class_test class) self.old) }
+        ensures end { self.new ≡ after_run (class_test class) self.old }
+    {
+        let start = self.left();
+        self.skip_quiet(class);
+        self.skip_rest(class);
+        let left = self.left();
+        front(start, start.len() - left.len())
+    }
+
     /// Takes characters of a class of a line, up to a byte at which their run may end, except the blanks
     /// before that byte.
     #[inline(always)]

@@ -8,7 +8,7 @@ ghost use Rattle.yaml_lexeme.specs.Classes as sets;
 ghost use Rattle.yaml_lexeme.specs.Place.{Place, first, peek, run, after_run};
 ghost use Rattle.yaml_lexeme.specs.Plain as spec;
 ghost use Rattle.yaml_lexeme.specs.inside.Gives.{Gives, Appends};
-ghost use Rattle.yaml_lexeme.specs.Lexeme.{scalar_of, scalar_with};
+ghost use Rattle.yaml_lexeme.specs.Lexeme.{scalar_of};
 ghost use Rattle.yaml_lexeme.specs.Reading.{with_front, over};
 ghost use Rattle.yaml_lexeme.specs.inside.Words.{links, words, plain_of, Goes, LeadsTo, Leaves, LeavesMore};
 
@@ -239,26 +239,23 @@ fn ends_at_once(cursor: &mut cursor_t, in_flow: bool, least: u64) -> Option<bool
     Some(true)
 }
 
-/// Takes the separators and words after those of the first line, and the separator after all. Appends the words with
-/// what is between them to `out`, and sets the mark after the last word. Returns whether a break is in the last
-/// separator.
+/// Takes the separators and words after those of the first line, which are in `scalar`, and the separator after all.
 #[cold]
 fn take_links(
     cursor: &mut cursor_t,
     in_flow: bool,
     least: u64,
-    out: &mut Vec<u8>,
-    end: &mut yaml_mark_t,
-) -> Result<bool, yaml_refusal_t>
-    ensures { (p : Place) → LeadsTo in_flow least p out.old.items cursor.old
-        → Gives (scalar_with out.new.items end.new) result cursor.new (spec.plain in_flow least p) }
+    scalar: &mut scalar_t,
+) -> Result<(), yaml_refusal_t>
+    ensures { (p : Place) → LeadsTo in_flow least p scalar.old.value.items cursor.old
+        → Gives (λ done. scalar_of scalar.new) result cursor.new (spec.plain in_flow least p) }
 {
-    'links: while take_link(cursor, in_flow, least, out)? {}
-    *end = cursor.mark();
+    'links: while take_link(cursor, in_flow, least, &mut scalar.value)? {}
+    scalar.end = cursor.mark();
     cursor.skip_run(class_t::BLANK);
-    let passed_break = is_at!(cursor, is_break, 0);
+    scalar.passed_break = is_at!(cursor, is_break, 0);
     cursor.skip_run(class_t::BLANK_OR_BREAK);
-    Ok(passed_break)
+    Ok(())
 }
 
 /// Takes what is left of a plain scalar after its first line.
@@ -274,16 +271,15 @@ fn take_lines(
 {
     // copies, so that the cursor and the value themselves stay in registers
     let mut here = cursor.again();
-    let mut out = value;
-    let mut end = cursor.mark();
-    let taken = take_links(&mut here, in_flow, least, &mut out, &mut end);
+    let mut scalar = scalar_t {
+        value,
+        end: cursor.mark(),
+        passed_break: false,
+    };
+    let taken = take_links(&mut here, in_flow, least, &mut scalar);
     *cursor = here;
     match taken {
-        Ok(passed_break) => Ok(scalar_t {
-            value: out,
-            end,
-            passed_break,
-        }),
+        Ok(()) => Ok(scalar),
         Err(refusal) => Err(refused(refusal)),
     }
 }

@@ -62,12 +62,13 @@ fn take_dropped_break(cursor: &mut cursor_t, out: &mut Vec<u8>) -> Result<bool, 
     requires line_end { is_break (peek cursor.old 1) ≡ true }
     ensures { Takes utf8 result out.old.items out.new.items cursor.old cursor.new (spec.body_part false cursor.old) }
 {
-    let mut here = cursor.again();
-    here.pass();
-    here.skip(here.break_len());
-    push_breaks(&mut here, out)?;
-    *cursor = here;
-    unmarked(&cursor.again())
+    let mut after = cursor.again();
+    after.pass();
+    after.skip(after.break_len());
+    push_breaks(&mut after, out)?;
+    let more = unmarked(&after);
+    *cursor = after;
+    more
 }
 
 /// Takes what a backslash begins, and appends its bytes to `out`: an escape, or a break that is dropped.
@@ -143,7 +144,7 @@ fn line_piece<'a>(cursor: &mut cursor_t<'a>, single: bool) -> &'a [u8]
     ensures within { length result.now ≤ length (utf8 cursor.old.rest) }
     ensures shorter { length cursor.new.rest ≤ length cursor.old.rest }
 {
-    let piece = cursor.run(line_class(single));
+    let piece = cursor.quick_run(line_class(single));
     if is_at!(cursor, is_break, 0) {
         return trimmed(piece);
     }
@@ -195,23 +196,21 @@ fn take_parts(
     Ok(out)
 }
 
-/// Takes what is left of a quoted scalar after its first line, of which `len` bytes of `left` are kept. Its value is
-/// put into `room` if it fits.
+/// Takes what is left of a quoted scalar after its first line, of which `kept` is kept. Its value is put into `room` if
+/// it fits.
 #[inline(never)]
 fn take_rest(
     room: Vec<u8>,
     cursor: &mut cursor_t,
     single: bool,
-    left: &[u8],
-    len: usize,
+    kept: &[u8],
 ) -> Result<Vec<u8>, yaml_refusal_t>
-    requires { len ≤ length left.now }
-    ensures { (p : Place) → LeadsOn single p (take len left.now) cursor.old
+    ensures { (p : Place) → LeadsOn single p kept.now cursor.old
         → Gives (λ v. v.items) result cursor.new (spec.quoted single p) }
 {
     let mut here = cursor.again();
-    let mut out = emptied(room, len + room_after(cursor, single))?;
-    out.extend_from_slice(&left[..len])?;
+    let mut out = emptied(room, kept.len() + room_after(cursor, single))?;
+    out.extend_from_slice(kept)?;
     let taken = take_parts(&mut here, single, out);
     *cursor = here;
     taken
@@ -239,7 +238,7 @@ pub(crate) fn take_quoted(
     }
     // a copy, so that the cursor itself stays in registers
     let mut here = cursor.again();
-    let taken = take_rest(room, &mut here, single, left, len);
+    let taken = take_rest(room, &mut here, single, &left[..len]);
     *cursor = here;
     taken
 }

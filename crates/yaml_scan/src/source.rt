@@ -12,7 +12,7 @@ use crate::scanner::scanner_t;
 use yaml_lexeme::{
     yaml_context_t, yaml_decider_at, yaml_gap, yaml_lexeme_kind, yaml_lexeme_kind_t, yaml_lexeme_t,
     yaml_read_block, yaml_read_character, yaml_read_lexeme, yaml_read_plain, yaml_read_quoted,
-    yaml_refusal_t,
+    yaml_refusal_t, yaml_spot_t,
 };
 use yaml_text::{yaml_mark_t, yaml_text_t};
 
@@ -79,13 +79,15 @@ pub(crate) fn read_plain(
     requires level { IfSome context.level (λ l. l ≤ length scanner.old.text.chars) }
     ensures { HasRead scanner.old scanner.new PLAIN context result }
 {
-    yaml_read_plain(
-        room,
-        &scanner.text,
-        scanner.front,
-        context,
-        &mut scanner.there,
-    )
+    let mut spot = yaml_spot_t {
+        text: &scanner.text,
+        at: scanner.front,
+    };
+    let read = yaml_read_plain(room, &mut spot, context);
+    if read.is_err() {
+        scanner.there = spot.at;
+    }
+    read
 }
 
 /// The quoted scalar after the gap, or why it is refused. Its value is put into `room` if it fits.
@@ -99,13 +101,15 @@ pub(crate) fn read_quoted(
     requires { (p : ℕ) × IsMarkOf scanner.old.text.chars scanner.old.front p }
     ensures { HasRead scanner.old scanner.new (quoted_kind single) context result }
 {
-    yaml_read_quoted(
-        room,
-        &scanner.text,
-        scanner.front,
-        single,
-        &mut scanner.there,
-    )
+    let mut spot = yaml_spot_t {
+        text: &scanner.text,
+        at: scanner.front,
+    };
+    let read = yaml_read_quoted(room, &mut spot, single);
+    if read.is_err() {
+        scanner.there = spot.at;
+    }
+    read
 }
 
 /// The literal or folded scalar after the gap, or why it is refused. Its value is put into `room` if it fits.
@@ -120,14 +124,15 @@ pub(crate) fn read_block(
     requires level { IfSome context.level (λ l. l ≤ length scanner.old.text.chars) }
     ensures { HasRead scanner.old scanner.new (block_kind folded) context result }
 {
-    yaml_read_block(
-        room,
-        &scanner.text,
-        scanner.front,
-        folded,
-        context,
-        &mut scanner.there,
-    )
+    let mut spot = yaml_spot_t {
+        text: &scanner.text,
+        at: scanner.front,
+    };
+    let read = yaml_read_block(room, &mut spot, folded, context);
+    if read.is_err() {
+        scanner.there = spot.at;
+    }
+    read
 }
 
 /// The lexeme of one character after the gap.
@@ -154,12 +159,13 @@ pub(crate) fn read_other(
     requires level { IfSome context.level (λ l. l ≤ length scanner.old.text.chars) }
     ensures { HasRead scanner.old scanner.new kind context result }
 {
-    yaml_read_lexeme(
-        scanner.alloc,
-        &scanner.text,
-        scanner.front,
-        kind,
-        context,
-        &mut scanner.there,
-    )
+    let mut spot = yaml_spot_t {
+        text: &scanner.text,
+        at: scanner.front,
+    };
+    let read = yaml_read_lexeme(scanner.alloc, &mut spot, kind, context);
+    if read.is_err() {
+        scanner.there = spot.at;
+    }
+    read
 }

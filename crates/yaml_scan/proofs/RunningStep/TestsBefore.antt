@@ -1,5 +1,5 @@
 -- The tests of a step before its lexeme are those of the definition, from what the scanner computes.
-use Rattle.std.proofs.Common.{◌≡◌, ℕ, ◌+◌, ◌≤◌, not, ◌&&◌, ◌||◌, Bool, true, false, List, length, Option, Some, None, refl, ap, sym, ◌∙◌, subst, arith, eqb, vec_len, eqb-true}
+use Rattle.std.proofs.Common.{◌≡◌, ℕ, ◌+◌, ◌≤◌, not, ◌&&◌, ◌||◌, Bool, true, false, List, length, Option, Some, None, refl, ap, sym, ◌∙◌, subst, arith, vec_len, eqb-true}
 use Rattle.std.specs.Option.{is_some}
 use Rattle.std.specs.Prelude.{if◌then◌else◌, option_map, nat_eq, nat_lt}
 use Rattle.yaml_text.specs.declared.types.yaml_mark_t.{yaml_mark_t}

@@ -12,8 +12,8 @@ unfolding lex
 quoted_is true context p = refl
 quoted_is false context p = refl
 
-pub returns : goal.returns
-returns c = λ n context i.
+pub returns-clause-value : goal.returns-clause-value
+returns-clause-value c = λ n context i.
     let k = quoted_kind c.args.single in
     let here = c.at-cursor.result in
     let read = c.read_to.ensures.value k here (lex k context here) (rw (quoted_is c.args.single context here) c.take_quoted_scalar-taken.ensures) in

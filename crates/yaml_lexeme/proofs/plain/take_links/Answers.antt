@@ -15,7 +15,7 @@ returns-in_err-take_link c = λ p whole.
     let least = c.args.least in
     let error = c.in_err-take_link.field-0.0 in
     let e = err_from_is_err_and c.from_residual.result c.from_residual.ensures.1 in
-    let none = links_go_wrong error _ (with_front c.links.out.items (links flow least c.links.cursor)) c.take_link.new.cursor (whole ∙ c.links.invariant) c.in_err-take_link.ensures.value in
+    let none = links_go_wrong error _ (with_front c.links.scalar.value.items (links flow least c.links.cursor)) c.take_link.new.cursor (whole ∙ c.links.invariant) c.in_err-take_link.ensures.value in
     rw (e.1, e.2) (plain_none error flow least p c.take_link.new.cursor none)
 
 pub returns : goal.returns
@@ -26,6 +26,6 @@ returns c = λ p whole.
     let out = c.take_link.new.out.items in
     let took = rw c.if-branch.false at c.in_ok-take_link.ensures.value in
     let all = plain_words flow least p q out (whole ∙ c.links.invariant ∙ took) in
-    let b : c.is_break-passed_break.result ≡ is_break (first (after_run is_blank q)) = cc in
+    let b : c.is_break-scalar.result ≡ is_break (first (after_run is_blank q)) = cc in
     let r : c.skip_run-2.new.self ≡ after_run is_white (after_run is_blank q) = cc in
-    scalar_made flow least p q c.skip_run-2.new.self out c.mark.result c.is_break-passed_break.result all c.mark.ensures.value b r
+    scalar_made flow least p q c.skip_run-2.new.self out c.mark-scalar.result c.is_break-scalar.result all c.mark-scalar.ensures.value b r

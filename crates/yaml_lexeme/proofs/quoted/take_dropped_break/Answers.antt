@@ -1,4 +1,4 @@
-use Rattle.std.proofs.Common.{◌≡◌, true, false, not, ◌||◌, ◌==◌, ◌∙◌, refl}
+use Rattle.std.proofs.Common.{◌≡◌, true, false, not, ◌||◌, ◌==◌, refl}
 use Rattle.yaml_lexeme.proofs.Readers.QuotedBody.{at_break, takes_unmarked}
 use Rattle.yaml_lexeme.proofs.Readers.FoldSeparators.{breaks_at}
 use Rattle.yaml_lexeme.specs.Classes.{is_white}
@@ -18,4 +18,4 @@ returns c =
     let break : is_break (peek p 1) ≡ true = c.requires.line_end in
     let at : c.skip.new.self ≡ q = cc in
     let end = rw at at c.in_ok-push_breaks.ensures.end in
-    rw end (takes_unmarked (body_part false p) c.unmarked.result (breaks_at q) _ _ p (after_run is_white q) (at_break false p more other inside plain break) (rw (c.again.ensures ∙ end) at c.unmarked.ensures) (rw at at c.in_ok-push_breaks.ensures.value))
+    rw end (takes_unmarked (body_part false p) c.unmarked-more.result (breaks_at q) _ _ p (after_run is_white q) (at_break false p more other inside plain break) (rw end at c.unmarked-more.ensures) (rw at at c.in_ok-push_breaks.ensures.value))
