@@ -101,17 +101,17 @@ have_put a b (t ∷ ts) fits put =
     one_more a put.0 b t ts fits put.1 (have_put put.0 b ts (fits_on a put.0 t fits put.1) put.2)
 
 -- HOW MUCH WAS PUT
-silent_or_not : (d : TokenData) → said_len d ≡ length (first_text d ++ second_text d)
-silent_or_not (TAG_DIRECTIVE handle prefix) = sym (length-append handle prefix)
-silent_or_not (TAG handle suffix) = sym (length-append handle suffix)
-silent_or_not (ALIAS value) = let e = length-append value [] in omega arith
-silent_or_not (ANCHOR value) = let e = length-append value [] in omega arith
-silent_or_not (SCALAR value style) = let e = length-append value [] in omega arith
-silent_or_not _ = refl
+pub said_is : (d : TokenData) → said_len d ≡ length (first_text d ++ second_text d)
+said_is (TAG_DIRECTIVE handle prefix) = sym (length-append handle prefix)
+said_is (TAG handle suffix) = sym (length-append handle suffix)
+said_is (ALIAS value) = let e = length-append value [] in omega arith
+said_is (ANCHOR value) = let e = length-append value [] in omega arith
+said_is (SCALAR value style) = let e = length-append value [] in omega arith
+said_is _ = refl
 
 pub texts_are : (list : List Token) → texts_len list ≡ length (all_texts list)
 texts_are [] = refl
-texts_are (t ∷ ts) = let a = silent_or_not t.token_data in let b = texts_are ts in let c = length-append (texts_of t) (all_texts ts) in omega arith
+texts_are (t ∷ ts) = let a = said_is t.token_data in let b = texts_are ts in let c = length-append (texts_of t) (all_texts ts) in omega arith
 
 -- the rooms keep their sizes
 pub same_sizes : (a b : token_rooms_t) (list : List Token) → HavePut a list b → (length b.tokens.now ≡ length a.tokens.now) × (length b.texts.now ≡ length a.texts.now)

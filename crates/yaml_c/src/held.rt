@@ -19,7 +19,7 @@ use crate::answer::{bogzhami_answer, counts, counts_and_fault, fault_len, put_fa
 use crate::numbers::encoding_number;
 use crate::record::{bogzhami_token, first_text, is_bare, record_of, second_text};
 use crate::room::put_bytes;
-use crate::sink::token_rooms_t;
+use crate::sink::{texts_len, token_rooms_t};
 use crate::status::{DONE, FAULT, NO_ROOM, OVER};
 use std::alloc::{AllocError, Global};
 use yaml_scan::{
@@ -70,8 +70,7 @@ pub(crate) fn look(parser: &mut yaml_parser_t, ahead: ahead_t) -> ahead_t
 fn text_len(token: &yaml_token_t) -> u64
     ensures { result ≡ held (length (texts_of (token_of token.now))) }
 {
-    let first = first_text(&token.token_data).len() as u64;
-    first.saturating_add(second_text(&token.token_data).len() as u64)
+    texts_len(&token.token_data)
 }
 
 /// Gives back what a token that was given holds, and says what is ahead if no more are to be given: nothing after the

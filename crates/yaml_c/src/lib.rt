@@ -31,8 +31,8 @@ pub use record::{bogzhami_mark, bogzhami_token};
 use std::alloc::Global;
 use yaml_scan::{yaml_encoding_t, yaml_scan_to};
 
-/// Puts all tokens of an input into two rooms, in which there are none, and the texts of the fault after them. Returns the
-/// answer and the status.
+/// Puts all tokens of an input into two rooms, in which there are none, and the texts of the fault after them. Returns
+/// the answer and the status.
 fn scan(
     input: &[u8],
     setting: yaml_encoding_t,

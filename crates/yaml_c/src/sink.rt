@@ -1,7 +1,11 @@
 //! A caller's two rooms, as the sink of the tokens of an input.
+ghost use Rattle.std.specs.Prelude.{◌≡◌, ◌++◌, length};
+ghost use Rattle.yaml_text.specs.Token.{data_of};
+ghost use Rattle.yaml_c.specs.Record.{first_text, held, second_text};
+
 use crate::answer::put_fault_texts;
 use crate::record::{
-    bare_record, bogzhami_token, first_text, record_of, scalar_record, second_text,
+    bare_record, bogzhami_token, first_text, is_bare, record_of, scalar_record, second_text,
 };
 use crate::room::{put_bytes, put_record};
 use std::alloc::{AllocError, Global};
@@ -23,6 +27,15 @@ pub(crate) struct token_rooms_t<'a> {
     pub(crate) text_len: u64,
     /// The list of a text that was put, whose room is used again.
     pub(crate) spare: Vec<u8>,
+}
+
+/// How many bytes the texts have of what a token says.
+#[inline(always)]
+pub(crate) fn texts_len(said: &unnamed_yaml_token_t_data) -> u64
+    ensures { result ≡ held (length (first_text (data_of said.now) ++ second_text (data_of said.now))) }
+{
+    let first = first_text(said).len() as u64;
+    first.saturating_add(second_text(said).len() as u64)
 }
 
 /// A text's room of more bytes is freed, and not kept for another text.
@@ -82,8 +95,9 @@ impl<'a> token_rooms_t<'a> {
         self.count_token(self.text_len.saturating_add(value.len() as u64));
     }
 
-    /// Puts a token's record and its texts, whatever it says.
-    #[inline(always)]
+    /// Puts a token's record and its texts, whatever it says. It is called and not inlined, so that a scalar does not
+    /// pay for the room on the stack that this needs.
+    #[inline(never)]
     fn put_any(&mut self, token: &yaml_token_t)
         ensures { IsPut self.old (token_of token.now) self.new }
     {
@@ -105,6 +119,10 @@ impl<'a> token_rooms_t<'a> {
     pub(crate) fn put_token(&mut self, token: &yaml_token_t)
         ensures { IsPut self.old (token_of token.now) self.new }
     {
+        if is_bare(&token.token_data) {
+            self.put_bare(token);
+            return;
+        }
         match &token.token_data {
             unnamed_yaml_token_t_data::SCALAR { value, style } => {
                 self.put_scalar(token, value.as_slice(), *style);
@@ -148,7 +166,6 @@ impl yaml_token_sink_t for token_rooms_t<'_> {
 
     ghost within = { IsWithin };
 
-    #[inline(always)]
     fn put(&mut self, token: yaml_token_t) -> Result<(), AllocError> {
         self.put_token(&token);
         self.spend(token);
@@ -161,10 +178,10 @@ impl yaml_token_sink_t for token_rooms_t<'_> {
     }
 
     #[inline(always)]
-    fn has_room(&self, count: u128, bytes: u128) -> bool {
+    fn has_room(&self, count: u128, said: &unnamed_yaml_token_t_data) -> bool {
         let tokens = (self.tokens.len() as u64).saturating_sub(self.token_count);
         let texts = (self.texts.len() as u64).saturating_sub(self.text_len);
-        count <= tokens as u128 && bytes <= texts as u128
+        count <= tokens as u128 && texts_len(said) <= texts
     }
 
     ghost took_none = { none_put };

@@ -15,7 +15,7 @@ use crate::keys::KEY_LIMIT;
 use crate::sink::yaml_scan_to;
 use crate::target::yaml_token_sink_t;
 use std::alloc::{AllocError, Global};
-use yaml_text::{yaml_encoding_t, yaml_fault_t, yaml_token_t};
+use yaml_text::{unnamed_yaml_token_t_data, yaml_encoding_t, yaml_fault_t, yaml_token_t};
 
 /// The tokens that were given, in a list.
 #[derive(Drop)]
@@ -45,7 +45,7 @@ impl yaml_token_sink_t for token_list_t {
     }
 
     #[inline(always)]
-    fn has_room(&self, _count: u128, _bytes: u128) -> bool {
+    fn has_room(&self, _count: u128, _said: &unnamed_yaml_token_t_data) -> bool {
         true
     }
 

@@ -59,8 +59,8 @@ fn send<'a, S: yaml_token_sink_t>(
     send_or_settle(scanner, sink)
 }
 
-/// Takes the next tokens. Those of a step go to the sink, at least one, if they need not wait and it has room for all of
-/// them, and then nothing is returned. Else the next token is returned, and the sink was given none.
+/// Takes the next tokens. Those of a step go to the sink, at least one, if they need not wait and it has room for all
+/// of them, and then nothing is returned. Else the next token is returned, and the sink was given none.
 ///
 /// If a new parser is asked so again and again, the tokens that the sink got and those that were returned are together
 /// those that [`yaml_scan_to`](crate::yaml_scan_to) gives, in order, to the stream end or before the fault. The stream

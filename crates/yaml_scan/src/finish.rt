@@ -54,8 +54,8 @@ fn put_lexeme<const DIRECT: bool, S: yaml_token_sink_t>(
 ) -> Result<(), stop_t>
     ghost before: { List Laid }
     requires { CanLayAll before scanner.old step (lexeme_of lexeme) }
-    ensures steps { LaysTo before scanner.old scanner.new DIRECT (λ tokens. S.took sink.old tokens sink.new) S.may_refuse
-        (made_by 1 result) }
+    ensures steps { LaysTo before scanner.old scanner.new DIRECT (λ tokens. S.took sink.old tokens sink.new)
+        S.may_refuse (made_by 1 result) }
     ensures within { OnOk result (S.within sink.old → S.within sink.new) }
 {
     let group = lay_lexeme(scanner, step, lexeme);
@@ -74,8 +74,8 @@ fn lay_all<const DIRECT: bool, S: yaml_token_sink_t>(
 ) -> Result<u64, stop_t>
     ghost before: { List Laid }
     requires { CanLayAll before scanner.old step (lexeme_of lexeme) }
-    ensures steps { LaysTo before scanner.old scanner.new DIRECT (λ tokens. S.took sink.old tokens sink.new) S.may_refuse
-        result }
+    ensures steps { LaysTo before scanner.old scanner.new DIRECT (λ tokens. S.took sink.old tokens sink.new)
+        S.may_refuse result }
     ensures within { OnOk result (S.within sink.old → S.within sink.new) }
 {
     let direct = has_room_for_both::<DIRECT, S>(sink, &scanner.layout.levels, &lexeme);
@@ -128,8 +128,8 @@ pub(crate) fn end_character<const DIRECT: bool, S: yaml_token_sink_t>(
     ghost before: { List Laid }
     requires { CanRead before scanner.old step × ((p : ℕ) → IsMarkOf scanner.old.text.chars scanner.old.front p
         → IsRead scanner.old.text.chars step.kind step.context.depth step.context.level p (lexeme_of lexeme)) }
-    ensures steps { StepsTo before scanner.old scanner.new DIRECT (λ tokens. S.took sink.old tokens sink.new) S.may_refuse
-        result }
+    ensures steps { StepsTo before scanner.old scanner.new DIRECT (λ tokens. S.took sink.old tokens sink.new)
+        S.may_refuse result }
     ensures within { OnOk result (S.within sink.old → S.within sink.new) }
 {
     match check_reach(scanner, step, &lexeme) {
@@ -155,8 +155,8 @@ fn end_step<const DIRECT: bool, S: yaml_token_sink_t>(
     ghost before: { List Laid }
     requires { CanRead before scanner.old step × ((p : ℕ) → IsMarkOf scanner.old.text.chars scanner.old.front p
         → IsRead scanner.old.text.chars step.kind step.context.depth step.context.level p (lexeme_of lexeme)) }
-    ensures steps { StepsTo before scanner.old scanner.new DIRECT (λ tokens. S.took sink.old tokens sink.new) S.may_refuse
-        result }
+    ensures steps { StepsTo before scanner.old scanner.new DIRECT (λ tokens. S.took sink.old tokens sink.new)
+        S.may_refuse result }
     ensures within { OnOk result (S.within sink.old → S.within sink.new) }
 {
     match check_reach(scanner, step, &lexeme) {
@@ -182,8 +182,8 @@ pub(crate) fn end_read<const DIRECT: bool, S: yaml_token_sink_t>(
     ghost before: { List Laid }
     requires { CanRead before scanner.old step
         × IsReadIn scanner.old step.kind step.context scanner.old.there read }
-    ensures steps { StepsTo before scanner.old scanner.new DIRECT (λ tokens. S.took sink.old tokens sink.new) S.may_refuse
-        result }
+    ensures steps { StepsTo before scanner.old scanner.new DIRECT (λ tokens. S.took sink.old tokens sink.new)
+        S.may_refuse result }
     ensures within { OnOk result (S.within sink.old → S.within sink.new) }
 {
     match read {

@@ -38,8 +38,8 @@ fn step_plain<const IN_FLOW: bool, const DIRECT: bool, S: yaml_token_sink_t>(
 ) -> Result<(), stop_t>
     ghost before: { List Laid }
     requires { Comes before scanner.old IN_FLOW PLAIN }
-    ensures steps { StepsTo before scanner.old scanner.new DIRECT (λ tokens. S.took sink.old tokens sink.new) S.may_refuse
-        result }
+    ensures steps { StepsTo before scanner.old scanner.new DIRECT (λ tokens. S.took sink.old tokens sink.new)
+        S.may_refuse result }
     ensures within { OnOk result (S.within sink.old → S.within sink.new) }
 {
     match begin_step(scanner, IN_FLOW, yaml_lexeme_kind_t::PLAIN) {
@@ -60,8 +60,8 @@ fn step_quoted<const IN_FLOW: bool, const SINGLE: bool, const DIRECT: bool, S: y
 ) -> Result<(), stop_t>
     ghost before: { List Laid }
     requires { Comes before scanner.old IN_FLOW (quoted_kind SINGLE) }
-    ensures steps { StepsTo before scanner.old scanner.new DIRECT (λ tokens. S.took sink.old tokens sink.new) S.may_refuse
-        result }
+    ensures steps { StepsTo before scanner.old scanner.new DIRECT (λ tokens. S.took sink.old tokens sink.new)
+        S.may_refuse result }
     ensures within { OnOk result (S.within sink.old → S.within sink.new) }
 {
     match begin_step(scanner, IN_FLOW, quoted_kind(SINGLE)) {
@@ -82,8 +82,8 @@ fn step_literal<const IN_FLOW: bool, const DIRECT: bool, S: yaml_token_sink_t>(
 ) -> Result<(), stop_t>
     ghost before: { List Laid }
     requires { Comes before scanner.old IN_FLOW (block_kind false) }
-    ensures steps { StepsTo before scanner.old scanner.new DIRECT (λ tokens. S.took sink.old tokens sink.new) S.may_refuse
-        result }
+    ensures steps { StepsTo before scanner.old scanner.new DIRECT (λ tokens. S.took sink.old tokens sink.new)
+        S.may_refuse result }
     ensures within { OnOk result (S.within sink.old → S.within sink.new) }
 {
     match begin_step(scanner, IN_FLOW, yaml_lexeme_kind_t::LITERAL) {
@@ -107,8 +107,8 @@ fn step_character<const DIRECT: bool, S: yaml_token_sink_t>(
     ghost before: { List Laid }
     requires comes { Comes before scanner.old in_flow kind }
     requires kind { is_character kind ≡ true }
-    ensures steps { StepsTo before scanner.old scanner.new DIRECT (λ tokens. S.took sink.old tokens sink.new) S.may_refuse
-        result }
+    ensures steps { StepsTo before scanner.old scanner.new DIRECT (λ tokens. S.took sink.old tokens sink.new)
+        S.may_refuse result }
     ensures within { OnOk result (S.within sink.old → S.within sink.new) }
 {
     match begin_step(scanner, in_flow, kind) {
@@ -150,8 +150,8 @@ fn step_kind<const IN_FLOW: bool, const DIRECT: bool, S: yaml_token_sink_t>(
 ) -> Result<(), stop_t>
     ghost before: { List Laid }
     requires { Comes before scanner.old IN_FLOW kind }
-    ensures steps { StepsTo before scanner.old scanner.new DIRECT (λ tokens. S.took sink.old tokens sink.new) S.may_refuse
-        result }
+    ensures steps { StepsTo before scanner.old scanner.new DIRECT (λ tokens. S.took sink.old tokens sink.new)
+        S.may_refuse result }
     ensures within { OnOk result (S.within sink.old → S.within sink.new) }
 {
     match kind {
@@ -225,8 +225,8 @@ fn step_any<const DIRECT: bool, S: yaml_token_sink_t>(
 ) -> Result<(), stop_t>
     ghost before: { List Laid }
     requires { Comes before scanner.old in_flow kind }
-    ensures steps { StepsTo before scanner.old scanner.new DIRECT (λ tokens. S.took sink.old tokens sink.new) S.may_refuse
-        result }
+    ensures steps { StepsTo before scanner.old scanner.new DIRECT (λ tokens. S.took sink.old tokens sink.new)
+        S.may_refuse result }
     ensures within { OnOk result (S.within sink.old → S.within sink.new) }
 {
     if in_flow {
@@ -246,8 +246,8 @@ fn step_at<const DIRECT: bool, S: yaml_token_sink_t>(
     ghost before: { List Laid }
     requires can { CanStep before scanner.old }
     requires flow { in_flow ≡ nat_lt 0 (vec_len scanner.old.slots.outer) }
-    ensures steps { StepsTo before scanner.old scanner.new DIRECT (λ tokens. S.took sink.old tokens sink.new) S.may_refuse
-        result }
+    ensures steps { StepsTo before scanner.old scanner.new DIRECT (λ tokens. S.took sink.old tokens sink.new)
+        S.may_refuse result }
     ensures within { OnOk result (S.within sink.old → S.within sink.new) }
 {
     let front = gap_end(&scanner.text, scanner.reach, in_flow, scanner.allowed);
@@ -271,8 +271,8 @@ fn step_in_block<const DIRECT: bool, S: yaml_token_sink_t>(
     ghost before: { List Laid }
     requires can { CanStep before scanner.old }
     requires block { vec_len scanner.old.slots.outer ≡ 0 }
-    ensures steps { StepsTo before scanner.old scanner.new DIRECT (λ tokens. S.took sink.old tokens sink.new) S.may_refuse
-        result }
+    ensures steps { StepsTo before scanner.old scanner.new DIRECT (λ tokens. S.took sink.old tokens sink.new)
+        S.may_refuse result }
     ensures within { OnOk result (S.within sink.old → S.within sink.new) }
 {
     step_at::<DIRECT, S>(scanner, sink, false)
@@ -287,8 +287,8 @@ fn step_in_flow<const DIRECT: bool, S: yaml_token_sink_t>(
     ghost before: { List Laid }
     requires can { CanStep before scanner.old }
     requires flow { 0 < vec_len scanner.old.slots.outer }
-    ensures steps { StepsTo before scanner.old scanner.new DIRECT (λ tokens. S.took sink.old tokens sink.new) S.may_refuse
-        result }
+    ensures steps { StepsTo before scanner.old scanner.new DIRECT (λ tokens. S.took sink.old tokens sink.new)
+        S.may_refuse result }
     ensures within { OnOk result (S.within sink.old → S.within sink.new) }
 {
     step_at::<DIRECT, S>(scanner, sink, true)
@@ -303,8 +303,8 @@ pub(crate) fn step_to<const DIRECT: bool, S: yaml_token_sink_t>(
 ) -> Result<(), stop_t>
     ghost before: { List Laid }
     requires { CanStep before scanner.old }
-    ensures steps { StepsTo before scanner.old scanner.new DIRECT (λ tokens. S.took sink.old tokens sink.new) S.may_refuse
-        result }
+    ensures steps { StepsTo before scanner.old scanner.new DIRECT (λ tokens. S.took sink.old tokens sink.new)
+        S.may_refuse result }
     ensures within { OnOk result (S.within sink.old → S.within sink.new) }
 {
     if scanner.slots.outer.is_empty() {

@@ -1,5 +1,6 @@
 //! Where the group of a step goes: into the queue, or straight to a sink if nothing of it has to wait.
-ghost use Rattle.std.specs.Prelude.{◌≡◌, ◌+◌, ◌<◌, ◌≤◌, ◌^◌, List, [], ◌∷◌, ◌++◌, ◌⊎◌, true, false, length, MatchResult};
+ghost use Rattle.std.specs.Prelude.{◌≡◌, ◌+◌, ◌<◌, ◌≤◌, ◌^◌, List, [], ◌∷◌, ◌++◌, ◌⊎◌, true, false, length};
+ghost use Rattle.std.specs.Prelude.{MatchResult};
 ghost use Rattle.std.specs.Prelude.{if◌then◌else◌, OnErr, OnOk};
 ghost use Rattle.std.specs.VecDeque.{deque_capacity};
 ghost use Rattle.yaml_text.specs.Token.{Token, data_of, token_of};
@@ -40,10 +41,10 @@ pub trait yaml_token_sink_t {
     fn room(&mut self, alloc: Global) -> Vec<u8>
         ensures { took self.old [] self.new };
 
-    /// Whether so many more tokens find room, whose texts have so many bytes.
-    fn has_room(&self, count: u128, bytes: u128) -> bool
+    /// Whether so many more tokens find room, if only one of them has texts, which says this.
+    fn has_room(&self, count: u128, said: &unnamed_yaml_token_t_data) -> bool
         ensures { result ≡ true → within self.now → (tokens : List Token) (after : Self) → length tokens ≤ count
-            → texts_len tokens ≤ bytes → took self.now tokens after → within after };
+            → texts_len tokens ≤ said_len (data_of said.now) → took self.now tokens after → within after };
 
     ghost took_none: { (s : Self) → took s [] s };
 
@@ -73,7 +74,7 @@ impl yaml_token_sink_t for no_sink_t {
     }
 
     #[inline(always)]
-    fn has_room(&self, _count: u128, _bytes: u128) -> bool {
+    fn has_room(&self, _count: u128, _said: &unnamed_yaml_token_t_data) -> bool {
         true
     }
 
@@ -236,32 +237,13 @@ fn count_of(group: &group_t) -> u128
     group.ends as u128 + starts_of(group.opens) + keys_of(group.key) + 1
 }
 
-/// How many bytes the texts of a token have.
-#[inline(always)]
-fn said_len(said: &unnamed_yaml_token_t_data) -> u128
-    ensures { result ≡ said_len (data_of said.now) }
-{
-    match said {
-        unnamed_yaml_token_t_data::TAG_DIRECTIVE { handle, prefix } => {
-            handle.len() as u128 + prefix.len() as u128
-        }
-        unnamed_yaml_token_t_data::TAG { handle, suffix } => {
-            handle.len() as u128 + suffix.len() as u128
-        }
-        unnamed_yaml_token_t_data::ALIAS { value }
-        | unnamed_yaml_token_t_data::ANCHOR { value }
-        | unnamed_yaml_token_t_data::SCALAR { value, style: _ } => value.len() as u128,
-        _ => 0,
-    }
-}
-
 /// Whether a sink has room for all that a group hands out.
 #[inline(always)]
 pub(crate) fn has_room_for<S: yaml_token_sink_t>(sink: &S, group: &group_t) -> bool
     ensures { result ≡ true → S.within sink.now → (after : S) → S.took sink.now (group_tokens group.now) after
         → S.within after }
 {
-    sink.has_room(count_of(group), said_len(&group.token.token_data))
+    sink.has_room(group.ends as u128 + 3, &group.token.token_data)
 }
 
 /// Whether a sink that takes groups straight has room for that of a lexeme, which may close all levels, and for a token
@@ -277,7 +259,7 @@ pub(crate) fn has_room_for_both<const DIRECT: bool, S: yaml_token_sink_t>(
         → length tokens ≤ length levels.now + 4 → texts_len tokens ≤ said_len (lexeme_of lexeme.now).token_data
         → S.took sink.now tokens after → S.within after }
 {
-    DIRECT && sink.has_room(levels.len() as u128 + 4, said_len(&lexeme.token_data))
+    DIRECT && sink.has_room(levels.len() as u128 + 4, &lexeme.token_data)
 }
 
 /// Hands on the group of a step: straight to the sink if it need not wait, and else into the queue, which has room.

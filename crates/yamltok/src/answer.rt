@@ -15,7 +15,7 @@ use std::alloc::{AllocError, Global};
 use yaml_scan::{
     yaml_answer_t, yaml_call_t, yaml_parser_t, yaml_run, yaml_scan_to, yaml_token_sink_t,
 };
-use yaml_text::{yaml_decode, yaml_encoding_t, yaml_token_t};
+use yaml_text::{unnamed_yaml_token_t_data, yaml_decode, yaml_encoding_t, yaml_token_t};
 
 /// The usual key limit, in bytes.
 const KEY_LIMIT: u32 = 1024;
@@ -89,7 +89,7 @@ impl yaml_token_sink_t for token_lines_t {
     }
 
     #[inline(always)]
-    fn has_room(&self, _count: u128, _bytes: u128) -> bool {
+    fn has_room(&self, _count: u128, _said: &unnamed_yaml_token_t_data) -> bool {
         true
     }
 

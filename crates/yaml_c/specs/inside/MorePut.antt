@@ -1,5 +1,5 @@
--- If some tokens are put, and others after them, all are put: what a sink has to show of what it took. These are proofs,
--- and stand here since a member of a trait can cite only what is in specs.
+-- If some tokens are put, and others after them, all are put: what a sink has to show of what it took. These are
+-- proofs, and stand here since a member of a trait can cite only what is in specs.
 use Rattle.std.proofs.Common.{◌≡◌, ℕ, ◌+◌, ◌++◌, [], ◌∷◌, List, length, refl, ap, ◌∙◌, MutBor, arith}
 use Rattle.yaml_text.specs.Token.{Token}
 use Rattle.yaml_c.specs.Record.{held, record_of, texts_of}
@@ -22,7 +22,12 @@ put_beside a b c t e p = record {
 }
 
 more_beside : (a b c : token_rooms_t) (ys : List Token) → IsBeside a b → ArePut b ys c → ArePut a ys c
-more_beside a b c [] e f = record { tokens = f.tokens ∙ e.tokens; texts = f.texts ∙ e.texts; token_count = f.token_count ∙ e.token_count; text_len = f.text_len ∙ e.text_len }
+more_beside a b c [] e f = record {
+  tokens = f.tokens ∙ e.tokens;
+  texts = f.texts ∙ e.texts;
+  token_count = f.token_count ∙ e.token_count;
+  text_len = f.text_len ∙ e.text_len;
+}
 more_beside a b c (y ∷ ys) e f = (f.0, put_beside a b f.0 y e f.1, f.2)
 
 pub more_put : (a b c : token_rooms_t) (xs ys : List Token) → ArePut a xs b → ArePut b ys c → ArePut a (xs ++ ys) c

@@ -100,8 +100,7 @@ module _ (limit : ℕ) (c : Course) (N : ℕ) (e : yaml_encoding_t) (f : TokensF
   are_next front (x ∷ xs) rest q n s =
       let a : slice_get (tokens_of limit c) (length front) ≡ Some x = ap (λ (z : List Token). slice_get z (length front)) q ∙ get_mid front x (xs ++ rest) in
       let b = length-append front (x ∷ []) in
-      let r = are_next (front ++ x ∷ []) xs rest (q ∙ sym (append_assoc front (x ∷ []) (xs ++ rest))) (rest_false (is_end (handed_out e x)) (list_any is_end (map (handed_out e) xs)) n) (λ i l. s i (omega arith)) in
-      (
+      let r = are_next (front ++ x ∷ []) xs rest (q ∙ sym (append_assoc front (x ∷ []) (xs ++ rest))) (rest_false (is_end (handed_out e x)) (list_any is_end (map (handed_out e) xs)) n) (λ i l. s i (omega arith)) in (
         a,
         sym (last_told e x (get_fits (tokens_of limit c) (length front) x f a)) ∙ first_false (is_end (handed_out e x)) (list_any is_end (map (handed_out e) xs)) n,
         s (length front) (omega arith),

@@ -1,5 +1,5 @@
 -- What a group hands out, and that a sink was given it token by token.
-use Rattle.std.proofs.Common.{◌≡◌, ℕ, zero, suc, ◌+◌, ◌<◌, Bool, true, false, List, [], ◌∷◌, ◌++◌, length, length-append, append_assoc, Ok, Err, refl, ap, sym, ◌∙◌, subst, arith}
+use Rattle.std.proofs.Common.{◌≡◌, ℕ, zero, suc, ◌+◌, ◌≤◌, ◌<◌, Bool, true, false, List, [], ◌∷◌, ◌++◌, length, length-append, append_assoc, Ok, Err, refl, ap, sym, ◌∙◌, subst, arith}
 use Rattle.std.specs.Prelude.{Result, if◌then◌else◌}
 use Rattle.yaml_text.specs.declared.types.yaml_mark_t.{yaml_mark_t}
 use Rattle.yaml_text.specs.Token.{token_of}
@@ -46,6 +46,15 @@ starts_count MAPPING m = refl
 keys_count : (b : Bool) (m : yaml_mark_t) → length (if b then InsertedKey m ∷ [] else []) ≡ keys_of b
 keys_count true m = refl
 keys_count false m = refl
+
+pub starts_few : (b : block_t) → starts_of b ≤ 1
+starts_few NONE = omega arith
+starts_few SEQUENCE = omega arith
+starts_few MAPPING = omega arith
+
+pub keys_few : (b : Bool) → keys_of b ≤ 1
+keys_few true = omega arith
+keys_few false = omega arith
 
 pub told_count : (xs : List Token) → length (told_leads xs) ≡ length xs
 told_count [] = refl

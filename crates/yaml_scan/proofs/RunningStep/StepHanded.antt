@@ -41,7 +41,7 @@ use Rattle.yaml_scan.specs.Sink.{said_len, texts_len}
 use Rattle.yaml_scan.specs.declared.groups.block_t.{block_t}
 use Rattle.yaml_scan.specs.declared.groups.block_t.TheVariants.{NONE, SEQUENCE, MAPPING}
 use Rattle.yaml_scan.proofs.RunningQueue.GroupTexts.{group_len, texts_append}
-use Rattle.yaml_scan.proofs.RunningQueue.GroupTokens.{count_is, cut_after, cut_longer, told_count}
+use Rattle.yaml_scan.proofs.RunningQueue.GroupTokens.{count_is, keys_few, starts_few, cut_after, cut_longer, told_count}
 use Rattle.yaml_scan.proofs.TokenList.GroupSizes.{four_tokens_a_step}
 
 -- TOKENS OF GROUPS
@@ -414,15 +414,6 @@ few_given y z n m E O K f a b =
     let o = ap starts_of O in
     let k = ap keys_of K in
     (omega arith, omega arith)
-  where
-    starts_few : (b : block_t) → starts_of b ≤ 1
-    starts_few NONE = omega arith
-    starts_few SEQUENCE = omega arith
-    starts_few MAPPING = omega arith
-
-    keys_few : (b : Bool) → keys_of b ≤ 1
-    keys_few true = omega arith
-    keys_few false = omega arith
 
 -- what is known if a group went into the queue, and if it went to the sink
 pub known_after : (D waits : Bool) (u t : scanner_t) (y : group_t) (took : List yaml_token_t → Type 0) (refuses W : Type 0) → (took [] → W) → (waits ≡ false → took (group_tokens y) → W) → (o : Result (Unit {0}) stop_t) → IsHandedOn D waits u t y took refuses o → OnOk o W

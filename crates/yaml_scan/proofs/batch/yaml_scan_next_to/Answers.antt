@@ -25,7 +25,6 @@ invariant_of-parser-then-not-settled g c =
     let both = c.parser-2.view_is ∙ sym c.parser.view_is in
     let over : i.session.over ≡ false = ap (λ (p : Parser). p.session.over) both ∙ c.if-parser.false in
     let peeked : i.session.peeked ≡ false = ap (λ (p : Parser). p.session.peeked) both ∙ c.if-parser-2.false in
-   
     let v = c.parser-2.invariant in
     let t = c.send.new.scanner in
     let w = subst (λ (b : Bool). HasSentOrSettled i.setting i.input.now i.scanner t (λ ts. g.S.yaml_token_sink_t.took c.args.sink.now ts c.send.new.sink) g.S.yaml_token_sink_t.may_refuse (Ok b)) c.if-not-settled.true c.in-Ok-send.ensures.sends in
@@ -48,7 +47,6 @@ returns-then-not-settled-clause-next g c =
     let both = c.parser-2.view_is ∙ sym c.parser.view_is in
     let over : i.session.over ≡ false = ap (λ (p : Parser). p.session.over) both ∙ c.if-parser.false in
     let peeked : i.session.peeked ≡ false = ap (λ (p : Parser). p.session.peeked) both ∙ c.if-parser-2.false in
-   
     let t = c.send.new.scanner in
     let w = subst (λ (b : Bool). HasSentOrSettled i.setting i.input.now i.scanner t (λ ts. g.S.yaml_token_sink_t.took c.args.sink.now ts c.send.new.sink) g.S.yaml_token_sink_t.may_refuse (Ok b)) c.if-not-settled.true c.in-Ok-send.ensures.sends in
     let k = w.1 in
@@ -56,13 +54,12 @@ returns-then-not-settled-clause-next g c =
     let fault = option_map fault_of i.session.fault in
     let q : Parser = record { input = i.input.now; setting = i.setting; limit = i.scanner.limit; session = record { taken = t.taken; steps = t.made; peeked = false; over = false; fault = fault } } in
     let r : Parser = record { input = i.input.now; setting = i.setting; limit = t.limit; session = record { taken = t.taken; steps = t.made; peeked = i.session.peeked; over = i.session.over; fault = fault } } in
-    let same : q ≡ r = λ j. record { input = i.input.now; setting = i.setting; limit = (sym k.limit) j; session = record { taken = t.taken; steps = t.made; peeked = (sym peeked) j; over = (sym over) j; fault = fault } } in
-    (
+    let same : q ≡ r = λ j. record { input = i.input.now; setting = i.setting; limit = (sym k.limit) j; session = record { taken = t.taken; steps = t.made; peeked = (sym peeked) j; over = (sym over) j; fault = fault } } in (
       w.0,
       k.some,
       w.2,
       subst (λ (z : Parser). GoesOnBy z w.0 r false) (sym e) (subst (λ (z : Parser). GoesOnBy (parser_of i) w.0 z false) same
-      (λ given h. several_scans i.scanner.limit i.setting i.input.now i.scanner t w.0 k refl (parser_of i) given h refl refl)),
+          (λ given h. several_scans i.scanner.limit i.setting i.input.now i.scanner t w.0 k refl (parser_of i) given h refl refl)),
     )
 
 -- THE NEXT TOKEN IS RETURNED
@@ -96,7 +93,6 @@ returns-clause-next g c = let i = c.parser-2.inside in
     let both = c.parser-2.view_is ∙ sym c.parser.view_is in
     let over : i.session.over ≡ false = ap (λ (p : Parser). p.session.over) both ∙ c.if-parser.false in
     let peeked : i.session.peeked ≡ false = ap (λ (p : Parser). p.session.peeked) both ∙ c.if-parser-2.false in
-   
     let t = c.send.new.scanner in let u = c.take_head-token.new.scanner in let x = token_of c.take_head-token.result in let p = c.take_head-token.ensures in
     let z = subst (λ (b : Bool). HasSentOrSettled i.setting i.input.now i.scanner t (λ ts. g.S.yaml_token_sink_t.took c.args.sink.now ts c.send.new.sink) g.S.yaml_token_sink_t.may_refuse (Ok b)) c.if-not-settled.false c.in-Ok-send.ensures.sends in
     let n = z.0 in

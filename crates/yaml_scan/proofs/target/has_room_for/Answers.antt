@@ -1,14 +1,16 @@
-use Rattle.std.proofs.Common.{arith, ◌≤◌, length}
-use Rattle.yaml_text.specs.Token.{token_of}
-use Rattle.yaml_scan.specs.Sink.{texts_len}
-use Rattle.yaml_scan.specs.inside.Handed.{group_tokens}
+use Rattle.std.proofs.Common.{arith, ◌≤◌, ◌+◌, ℕ, Bool, true, false, length}
+use Rattle.yaml_scan.specs.declared.groups.block_t.{block_t}
+use Rattle.yaml_scan.specs.declared.groups.block_t.TheVariants.{NONE, SEQUENCE, MAPPING}
+use Rattle.yaml_scan.specs.inside.Handed.{group_tokens, keys_of, starts_of}
 use Rattle.yaml_scan.proofs.RunningQueue.GroupTexts.{group_len}
+use Rattle.yaml_scan.proofs.RunningQueue.GroupTokens.{count_is, keys_few, starts_few}
 use Rattle.yaml_scan.proofs.target.has_room_for.Goals as goal
 
 pub returns : goal.returns
 returns g c = λ e w after t.
     let y = c.args.group.now in
-    let n = c.count_of.ensures in
-    let m = c.said_len.ensures in
+    let n = count_is y in
+    let i = starts_few y.opens in
+    let j = keys_few y.key in
     let l = group_len y in
     c.has_room.ensures e w (group_tokens y) after (omega arith) (omega arith) t
