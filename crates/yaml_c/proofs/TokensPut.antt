@@ -1,6 +1,6 @@
 -- Tokens that are put one by one leave their records in the one room and their texts in the other, and are counted.
 use Rattle.std.proofs.Common.{◌≡◌, ◌<◌, ◌^◌, ◌+◌, ◌∷◌, ◌++◌, [], ℕ, List, length}
-use Rattle.std.proofs.Common.{arith, refl, sym, ap, ◌∙◌, subst, length-append}
+use Rattle.std.proofs.Common.{arith, refl, sym, ap, ◌∙◌, length-append}
 use Rattle.yaml_text.specs.Token.{Token, TokenData}
 use Rattle.yaml_text.specs.Token.TokenData.{TAG_DIRECTIVE, ALIAS, ANCHOR, TAG, SCALAR}
 use Rattle.yaml_scan.specs.Sink.{said_len, texts_len}

@@ -1,4 +1,4 @@
-use Rattle.std.proofs.Common.{rules, ◌≡◌, ◌<◌, ◌^◌, Option, None, Some, refl, sym, ap, ◌∙◌, arith, subst, length}
+use Rattle.std.proofs.Common.{rules, ◌<◌, ◌^◌, Option, None, Some, refl, sym, ap, ◌∙◌, arith, subst, length}
 use Rattle.std.specs.Prelude.{option_map}
 use Rattle.yaml_text.specs.Fault.{Fault, fault_of}
 use Rattle.yaml_text.specs.declared.fault.yaml_fault_t.{yaml_fault_t}

@@ -1,11 +1,8 @@
 -- If some tokens are put, and others after them, all are put: what a sink has to show of what it took. These are
 -- proofs, and stand here since a member of a trait can cite only what is in specs.
-use Rattle.std.proofs.Common.{◌≡◌, ℕ, ◌+◌, ◌++◌, [], ◌∷◌, List, length, refl, ap, ◌∙◌, MutBor, arith}
+use Rattle.std.proofs.Common.{◌++◌, [], ◌∷◌, List, refl, ◌∙◌}
 use Rattle.yaml_text.specs.Token.{Token}
-use Rattle.yaml_c.specs.Record.{held, record_of, texts_of}
-use Rattle.yaml_c.specs.Room.{covered_from}
 use Rattle.yaml_c.specs.inside.Sink.{ArePut, IsBeside, IsPut, IsWithin}
-use Rattle.yaml_c.specs.declared.record.bogzhami_token.{bogzhami_token}
 use Rattle.yaml_c.specs.declared.sink.token_rooms_t.{token_rooms_t}
 
 pub none_put : (a : token_rooms_t) → IsBeside a a

@@ -1,9 +1,8 @@
 -- What goes straight to a sink that has room for it leaves the scanner that scans of these tokens leave.
-use Rattle.std.proofs.Common.{◌≡◌, ℕ, ◌+◌, ◌-◌, ◌≤◌, ◌<◌, Bool, true, false, List, [], ◌∷◌, ◌++◌, length, length-append, refl, ap, sym, ◌∙◌, subst, arith, inl, inr}
-use Rattle.std.specs.Prelude.{◌⊎◌, Result, Ok, Err}
+use Rattle.std.proofs.Common.{◌≡◌, ℕ, ◌-◌, ◌≤◌, ◌<◌, Bool, true, false, List, [], ◌++◌, length, length-append, ap, sym, ◌∙◌, subst, arith, inl, inr}
+use Rattle.std.specs.Prelude.{◌⊎◌, Ok, Err}
 use Rattle.std.proofs.lemmas.Bool.{cases_lt}
-use Rattle.yaml_text.specs.Fault.{Fault, memory_fault}
-use Rattle.yaml_text.specs.declared.fault.yaml_fault_t.{yaml_fault_t}
+use Rattle.yaml_text.specs.Fault.{memory_fault}
 use Rattle.yaml_scan.specs.declared.fault.stop_t.{stop_t}
 use Rattle.yaml_scan.specs.declared.groups.group_t.{group_t}
 use Rattle.yaml_scan.specs.declared.scanner.scanner_t.{scanner_t}
@@ -15,9 +14,9 @@ use Rattle.yaml_scan.specs.Laid.{Laid}
 use Rattle.yaml_scan.specs.Order.{IsHistory, ended}
 use Rattle.yaml_scan.specs.Settled.{before, pace, steps_for}
 use Rattle.yaml_scan.specs.Token.{yaml_token_t}
-use Rattle.yaml_scan.specs.inside.Given.{HasGiven, told_taken}
-use Rattle.yaml_scan.specs.inside.Handed.{Empties, HandsOut, StepsTo}
-use Rattle.yaml_scan.specs.inside.Scanning.{CanStep, Fails, IsOpen, Makes, Refuses, Runs, Same, StepsOn, Stops, course_of, groups_in, history}
+use Rattle.yaml_scan.specs.inside.Given.{HasGiven}
+use Rattle.yaml_scan.specs.inside.Handed.{Empties, StepsTo}
+use Rattle.yaml_scan.specs.inside.Scanning.{CanStep, Fails, IsOpen, Makes, Refuses, Same, Stops, course_of, groups_in, history}
 use Rattle.yaml_scan.specs.inside.Sent.{Sends}
 use Rattle.yaml_scan.specs.inside.Stop.{fault_at}
 use Rattle.yaml_scan.proofs.Course.StepsNeeded.{enough, needs_more, older, oldest_length, oldest_twice, split}
@@ -25,7 +24,7 @@ use Rattle.yaml_scan.proofs.RunningQueue.CandidateGroup.{count, count-append, co
 use Rattle.yaml_scan.proofs.RunningQueue.WholeQueue.{whole_front}
 use Rattle.yaml_scan.proofs.TokenList.SettledStays.{before-before, before-offline}
 use Rattle.yaml_scan.proofs.RunningCalls.GivenTokens as given
-use Rattle.yaml_scan.proofs.RunningCalls.NextOfInput.{RunsWith, course_same, ends_last, history_length, inside, read_history, runs_on, same_trans, some_steps, steps_on}
+use Rattle.yaml_scan.proofs.RunningCalls.NextOfInput.{RunsWith, course_same, ends_last, history_length, inside, read_history, some_steps, steps_on}
 use Rattle.yaml_scan.proofs.RunningCalls.StepsMade.{Goes, fails, goes_on, open_too, still_running, stops}
 
 -- HOW MANY TOKENS ARE SETTLED

@@ -1,5 +1,5 @@
 -- Several scans at once: the tokens that a sink was given are those that as many scans return.
-use Rattle.std.proofs.Common.{◌≡◌, ℕ, zero, suc, ◌+◌, ◌-◌, ◌≤◌, ◌<◌, ◌||◌, max, Bool, true, false, List, [], ◌∷◌, ◌++◌, map, take, drop, length, length-append, length-drop, take-append-drop, slice_get, Option, Some, append_assoc, refl, ap, sym, ◌∙◌, subst, arith, lt-ltb}
+use Rattle.std.proofs.Common.{◌≡◌, ℕ, zero, suc, ◌+◌, ◌-◌, ◌≤◌, ◌<◌, ◌||◌, max, Bool, true, false, List, [], ◌∷◌, ◌++◌, map, take, drop, length, length-append, take-append-drop, slice_get, Option, Some, append_assoc, refl, ap, sym, ◌∙◌, subst, arith, lt-ltb}
 use Rattle.std.specs.List.{list_any}
 use Rattle.std.specs.Prelude.{if◌then◌else◌}
 use Rattle.std.proofs.lemmas.Bool.{false≢true}
@@ -11,20 +11,19 @@ use Rattle.yaml_scan.specs.Answers.{Course, Input, course, tokens_of}
 use Rattle.yaml_scan.specs.Cut.{oldest}
 use Rattle.yaml_scan.specs.Groups.{Token, handed_out}
 use Rattle.yaml_scan.specs.Inputs.{decoded_input}
-use Rattle.yaml_scan.specs.Laid.{Laid}
 use Rattle.yaml_scan.specs.Order.{IsHistory}
 use Rattle.yaml_scan.specs.Parser.{Parser}
 use Rattle.yaml_scan.specs.Scanned.{Scanned}
-use Rattle.yaml_scan.specs.Session.{Call, Session, after, after_all, after_scan, all_steps, is_last, new_session, next_token, paced, settled_tokens, took}
+use Rattle.yaml_scan.specs.Session.{Call, Session, after, after_all, after_scan, all_steps, is_last, new_session, next_token, paced, took}
 use Rattle.yaml_scan.specs.Session.Call.{SCAN}
-use Rattle.yaml_scan.specs.Settled.{before, first_steps, pace, steps_for}
-use Rattle.yaml_scan.specs.Token.{yaml_token_t, is_last_type, type_of}
-use Rattle.yaml_scan.specs.inside.Given.{all_in, told_taken}
+use Rattle.yaml_scan.specs.Settled.{before, pace, steps_for}
+use Rattle.yaml_scan.specs.Token.{yaml_token_t}
+use Rattle.yaml_scan.specs.inside.Given.{all_in}
 use Rattle.yaml_scan.specs.inside.Handed.{is_end}
 use Rattle.yaml_scan.specs.inside.Ready.{course_in}
-use Rattle.yaml_scan.specs.inside.Scanning.{Runs, course_of, history}
+use Rattle.yaml_scan.specs.inside.Scanning.{course_of, history}
 use Rattle.yaml_scan.specs.inside.Sent.{HasSent}
-use Rattle.yaml_scan.proofs.Course.AnswerOrder.{TokenFits, TokensFit, fit_course}
+use Rattle.yaml_scan.proofs.Course.AnswerOrder.{TokensFit, fit_course}
 use Rattle.yaml_scan.proofs.Course.InputLaws.{inputs_keep_order}
 use Rattle.yaml_scan.proofs.Course.StepsNeeded.{enough, grows}
 use Rattle.yaml_scan.proofs.RunningCalls.CallAnswers.{get_fits, last_told}

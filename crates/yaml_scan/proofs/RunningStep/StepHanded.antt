@@ -38,8 +38,7 @@ use Rattle.yaml_scan.specs.inside.Scanning.{AdvancesTwice, AdvancesWith, CanLayA
 use Rattle.yaml_scan.proofs.History.KindTests.{candidate_not_end, decider_not_end}
 use Rattle.yaml_scan.proofs.RunningQueue.CandidateGroup.{AreMade, leads_made}
 use Rattle.yaml_scan.specs.Sink.{said_len, texts_len}
-use Rattle.yaml_scan.specs.declared.groups.block_t.{block_t}
-use Rattle.yaml_scan.specs.declared.groups.block_t.TheVariants.{NONE, SEQUENCE, MAPPING}
+use Rattle.yaml_scan.specs.declared.groups.block_t.TheVariants.{NONE}
 use Rattle.yaml_scan.proofs.RunningQueue.GroupTexts.{group_len, texts_append}
 use Rattle.yaml_scan.proofs.RunningQueue.GroupTokens.{count_is, keys_few, starts_few, cut_after, cut_longer, told_count}
 use Rattle.yaml_scan.proofs.TokenList.GroupSizes.{four_tokens_a_step}

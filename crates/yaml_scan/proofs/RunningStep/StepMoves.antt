@@ -1,5 +1,5 @@
 -- What changes in a scanner within a step, and what stays.
-use Rattle.std.proofs.Common.{◌≡◌, ℕ, ◌+◌, ◌≤◌, not, Bool, true, false, List, [], ◌∷◌, length, reverse, filter, Option, Ok, Err, refl, ap, sym, ◌∙◌, subst, arith, inl, inr, vec_len}
+use Rattle.std.proofs.Common.{◌≡◌, ℕ, ◌+◌, ◌≤◌, Bool, true, false, List, [], ◌∷◌, length, reverse, filter, Option, Ok, Err, refl, ap, sym, ◌∙◌, subst, arith, inl, inr, vec_len}
 use Rattle.std.specs.Prelude.{OnOk, Result}
 use Rattle.yaml_text.specs.Fault.{Fault}
 use Rattle.yaml_lexeme.specs.Lexeme.{Lexeme as yaml_lexeme_t}

@@ -3,9 +3,9 @@ use Rattle.std.specs.Prelude.{option_map}
 use Rattle.std.proofs.lemmas.Bool.{cases_lt}
 use Rattle.yaml_text.specs.Token.{token_of}
 use Rattle.yaml_c.specs.Ahead.{Ahead, ahead_of, is_end}
-use Rattle.yaml_c.specs.Ahead.Ahead.{NONE, TOKEN, OVER}
+use Rattle.yaml_c.specs.Ahead.Ahead.{TOKEN, OVER}
 use Rattle.yaml_c.specs.Held.{Stands}
-use Rattle.yaml_c.specs.inside.Batch.{GivesNext, GoesOn}
+use Rattle.yaml_c.specs.inside.Batch.{GivesNext}
 use Rattle.yaml_c.specs.Record.{texts_of}
 use Rattle.yaml_c.specs.declared.held.ahead_t.{ahead_t}
 use Rattle.yaml_c.specs.declared.sink.token_rooms_t.{token_rooms_t}

@@ -1,9 +1,8 @@
-use Rattle.std.proofs.Common.{rules, ◌≡◌, ◌++◌, ◌∷◌, [], ◌+◌, ◌-◌, ◌≤◌, ◌<◌, ◌^◌, ℕ, Option, Some, false, List, length, refl, sym, ap, ◌∙◌, subst, arith, inl, inr}
+use Rattle.std.proofs.Common.{rules, ◌≡◌, ◌++◌, ◌∷◌, [], ◌+◌, ◌≤◌, ◌<◌, ◌^◌, Option, Some, false, length, refl, sym, ap, ◌∙◌, subst, arith, inl, inr}
 use Rattle.std.specs.Prelude.{option_map}
 use Rattle.std.proofs.lemmas.Bool.{cases_lt}
 use Rattle.yaml_text.specs.Fault.{fault_of}
-use Rattle.yaml_text.specs.Token.{Token, token_of}
-use Rattle.yaml_text.specs.declared.types.yaml_encoding_t.{yaml_encoding_t}
+use Rattle.yaml_text.specs.Token.{token_of}
 use Rattle.yaml_scan.specs.All.{ReadsAll}
 use Rattle.yaml_scan.specs.Scanned.{ReadsNext, Scanned}
 use Rattle.yaml_c.specs.Ahead.{Ahead, ahead_of, is_end}

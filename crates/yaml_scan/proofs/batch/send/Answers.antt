@@ -1,7 +1,6 @@
-use Rattle.std.proofs.Common.{Bool, true, false, List, [], Ok, Err, inl, inr}
+use Rattle.std.proofs.Common.{Bool, true, false, Ok, Err, inl, inr}
 use Rattle.std.specs.Prelude.{Result}
 use Rattle.std.proofs.lemmas.Result.{err_from_is_err_and}
-use Rattle.yaml_scan.specs.Token.{yaml_token_t}
 use Rattle.yaml_scan.specs.declared.fault.stop_t.{stop_t}
 use Rattle.yaml_scan.specs.inside.Sent.{HasSentOrSettled, SendsOrSettles}
 use Rattle.yaml_scan.proofs.RunningCalls.ToNextToken.{begun_is, ended_in, sent_in, settled_in, stopped_in}

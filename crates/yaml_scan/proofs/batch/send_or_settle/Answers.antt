@@ -1,9 +1,8 @@
-use Rattle.std.proofs.Common.{rules, ◌≡◌, ◌+◌, ◌<◌, ◌≤◌, ◌∙◌, [], ◌∷◌, List, Ok, Err, refl, sym, ap, arith, inl, inr, ltb-true, ltb-false, length}
+use Rattle.std.proofs.Common.{rules, ◌<◌, ◌∙◌, [], refl, sym, ap, arith, inl, inr, ltb-true, ltb-false, length}
 use Rattle.std.proofs.lemmas.Result.{err_from_is_err_and}
 use Rattle.yaml_scan.specs.Answers.{Course}
 use Rattle.yaml_scan.specs.Settled.{before}
-use Rattle.yaml_scan.specs.Token.{yaml_token_t}
-use Rattle.yaml_scan.specs.inside.Scanning.{course_of, history}
+use Rattle.yaml_scan.specs.inside.Scanning.{history}
 use Rattle.yaml_scan.proofs.RunningCalls.NextOfInput.{course_same}
 use Rattle.yaml_scan.proofs.RunningCalls.SentTokens.{can, goes, halts}
 use Rattle.yaml_scan.proofs.RunningCalls.StepsMade.{least_pace, made_is}

@@ -1,4 +1,4 @@
-use Rattle.std.proofs.Common.{◌≡◌, ◌+◌, ◌-◌, List, [], length}
+use Rattle.std.proofs.Common.{◌+◌, ◌-◌, [], length}
 use Rattle.yaml_scan.specs.inside.Scanning.{course_of, history}
 use Rattle.yaml_scan.proofs.RunningCalls.StepsMade.{Goes}
 use Rattle.yaml_scan.proofs.batch.send_or_settle.Given as goal

@@ -1,15 +1,15 @@
-use Rattle.std.proofs.Common.{◌≡◌, Bool, Err, Ok, List, [], ◌∷◌, Some, true, false, refl, sym, ap, ◌∙◌, inl, inr, subst, arith}
+use Rattle.std.proofs.Common.{◌≡◌, Bool, Err, Ok, Some, true, false, refl, sym, ap, ◌∙◌, inl, inr, subst, arith}
 use Rattle.std.specs.Prelude.{◌⊎◌, option_map}
 use Rattle.std.proofs.lemmas.Bool.{false≢true}
 use Rattle.yaml_text.specs.Fault.{Fault, fault_of}
 use Rattle.yaml_text.specs.Token.{token_of}
 use Rattle.yaml_scan.specs.Scanned.{GoesOnBy}
-use Rattle.yaml_scan.specs.Token.{yaml_token_t, is_last_type, type_of}
+use Rattle.yaml_scan.specs.Token.{is_last_type, type_of}
 use Rattle.yaml_scan.specs.Session.Answer.{TOKEN}
 use Rattle.yaml_scan.specs.Parser.{Parser, told}
 use Rattle.yaml_scan.specs.Headline.{Calls}
-use Rattle.yaml_scan.specs.inside.Ready.{parser_of, IsEnded, IsSettled, IsShort, IsShown, IsStopped}
-use Rattle.yaml_scan.specs.inside.Sent.{HasSent, HasSentOrSettled}
+use Rattle.yaml_scan.specs.inside.Ready.{parser_of, IsEnded, IsShort, IsShown}
+use Rattle.yaml_scan.specs.inside.Sent.{HasSentOrSettled}
 use Rattle.yaml_scan.specs.Session.Call.{SCAN}
 use Rattle.yaml_scan.proofs.RunningCalls.CallAnswers.{show_token, show_fault_on, open_session, shown_settled, stands_u, open_u, last_is, take_told_of, take_left_of, scan_shown, scan_not_shown}
 use Rattle.yaml_scan.proofs.RunningCalls.ParserInvariant.{stands_ready, keeps_sent, keeps_settled, keeps_stopped, keeps_taken, reach_in, reach_stopped}

@@ -1,7 +1,5 @@
-use Rattle.std.proofs.Common.{arith, ◌≤◌, ◌+◌, ℕ, Bool, true, false, length}
-use Rattle.yaml_scan.specs.declared.groups.block_t.{block_t}
-use Rattle.yaml_scan.specs.declared.groups.block_t.TheVariants.{NONE, SEQUENCE, MAPPING}
-use Rattle.yaml_scan.specs.inside.Handed.{group_tokens, keys_of, starts_of}
+use Rattle.std.proofs.Common.{arith}
+use Rattle.yaml_scan.specs.inside.Handed.{group_tokens}
 use Rattle.yaml_scan.proofs.RunningQueue.GroupTexts.{group_len}
 use Rattle.yaml_scan.proofs.RunningQueue.GroupTokens.{count_is, keys_few, starts_few}
 use Rattle.yaml_scan.proofs.target.has_room_for.Goals as goal

@@ -1,4 +1,4 @@
-use Rattle.std.proofs.Common.{rules, ◌<◌, ◌≤◌, ◌^◌, length, leb-true, arith}
+use Rattle.std.proofs.Common.{rules, ◌<◌, ◌^◌, length, leb-true, arith}
 use Rattle.yaml_text.specs.Token.{data_of}
 use Rattle.yaml_c.proofs.TokensPut.{Fits, have_put, said_is, same_sizes, texts_are}
 use Rattle.yaml_c.proofs.sink.Token_rooms_tyaml_token_sink_t.has_room.Goals as goal
