@@ -17,7 +17,7 @@ ghost use Rattle.yaml_c.specs.inside.Sink.{IsPut};
 
 use crate::answer::{bogzhami_answer, counts, counts_and_fault, fault_len, put_fault_texts};
 use crate::numbers::encoding_number;
-use crate::record::{bogzhami_token, first_text, is_bare, record_of, second_text};
+use crate::record::{bogzhami_token, first_text, record_of, second_text};
 use crate::room::put_bytes;
 use crate::sink::{texts_len, token_rooms_t};
 use crate::status::{DONE, FAULT, NO_ROOM, OVER};
@@ -73,8 +73,7 @@ fn text_len(token: &yaml_token_t) -> u64
     texts_len(&token.token_data)
 }
 
-/// Gives back what a token that was given holds, and says what is ahead if no more are to be given: nothing after the
-/// stream end.
+/// What is ahead after a token that was given, if no more are to be given: nothing after the stream end.
 #[inline(always)]
 fn after_token(token: &yaml_token_t) -> Option<ahead_t>
     ensures { option_map ahead_of result ≡ after_token (token_of token.now) }
@@ -96,16 +95,11 @@ fn give_token(rooms: &mut token_rooms_t, token: yaml_token_t) -> Option<ahead_t>
     ensures kept { length rooms.old.texts.now < rooms.old.text_len + length (texts_of (token_of token))
         → (rooms.new ≡ rooms.old) × (option_map ahead_of result ≡ Some (TOKEN (token_of token))) }
 {
-    if is_bare(&token.token_data) {
-        rooms.put_bare(&token);
-        return None;
-    }
     if !rooms.has_text_room(text_len(&token)) {
         return Some(ahead_t::TOKEN(token));
     }
-    rooms.put_token(&token);
     let after = after_token(&token);
-    rooms.spend(token);
+    rooms.put_token(token);
     after
 }
 

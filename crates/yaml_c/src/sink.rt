@@ -74,7 +74,7 @@ impl<'a> token_rooms_t<'a> {
 
     /// Puts the record of a token that says nothing besides its type.
     #[inline(always)]
-    pub(crate) fn put_bare(&mut self, token: &yaml_token_t)
+    fn put_bare(&mut self, token: &yaml_token_t)
         requires { IsBare (token_of token.now).token_data }
         ensures { IsPut self.old (token_of token.now) self.new }
     {
@@ -95,11 +95,11 @@ impl<'a> token_rooms_t<'a> {
         self.count_token(self.text_len.saturating_add(value.len() as u64));
     }
 
-    /// Puts a token's record and its texts, whatever it says. It is called and not inlined, so that a scalar does not
-    /// pay for the room on the stack that this needs.
+    /// Puts a token's record and its texts, whatever it says. It is called and not inlined, so that only such a token
+    /// has to stand in memory.
     #[inline(never)]
-    fn put_any(&mut self, token: &yaml_token_t)
-        ensures { IsPut self.old (token_of token.now) self.new }
+    fn put_any(&mut self, token: yaml_token_t)
+        ensures { IsPut self.old (token_of token) self.new }
     {
         let first = first_text(&token.token_data);
         let second = second_text(&token.token_data);
@@ -107,33 +107,16 @@ impl<'a> token_rooms_t<'a> {
         put_record(
             self.tokens,
             self.token_count,
-            record_of(self.text_len, token),
+            record_of(self.text_len, &token),
         );
         put_bytes(self.texts, self.text_len, first);
         put_bytes(self.texts, second_at, second);
         self.count_token(second_at.saturating_add(second.len() as u64));
     }
 
-    /// Puts a token's record and its texts. Most tokens with a text are scalars.
-    #[inline(always)]
-    pub(crate) fn put_token(&mut self, token: &yaml_token_t)
-        ensures { IsPut self.old (token_of token.now) self.new }
-    {
-        if is_bare(&token.token_data) {
-            self.put_bare(token);
-            return;
-        }
-        match &token.token_data {
-            unnamed_yaml_token_t_data::SCALAR { value, style } => {
-                self.put_scalar(token, value.as_slice(), *style);
-            }
-            _ => self.put_any(token),
-        }
-    }
-
     /// Keeps the room of a scalar's text, which was put. If it is large it is freed.
     #[inline(always)]
-    pub(crate) fn spend(&mut self, token: yaml_token_t)
+    fn spend(&mut self, token: yaml_token_t)
         ensures { IsBeside self.old self.new }
     {
         if let unnamed_yaml_token_t_data::SCALAR { value, style: _ } = token.token_data {
@@ -141,6 +124,24 @@ impl<'a> token_rooms_t<'a> {
                 self.spare = value;
             }
         }
+    }
+
+    /// Puts a token's record and its texts, and keeps the room of a scalar's text. Most tokens say nothing besides
+    /// their type, or are scalars.
+    #[inline(always)]
+    pub(crate) fn put_token(&mut self, token: yaml_token_t)
+        ensures { IsPut self.old (token_of token) self.new }
+    {
+        if is_bare(&token.token_data) {
+            self.put_bare(&token);
+            return;
+        }
+        if let unnamed_yaml_token_t_data::SCALAR { value, style } = &token.token_data {
+            self.put_scalar(&token, value.as_slice(), *style);
+            self.spend(token);
+            return;
+        }
+        self.put_any(token);
     }
 
     /// Puts the texts of a fault after those of the tokens.
@@ -166,9 +167,9 @@ impl yaml_token_sink_t for token_rooms_t<'_> {
 
     ghost within = { IsWithin };
 
+    #[inline(always)]
     fn put(&mut self, token: yaml_token_t) -> Result<(), AllocError> {
-        self.put_token(&token);
-        self.spend(token);
+        self.put_token(token);
         Ok(())
     }
 
