@@ -126,8 +126,21 @@ impl<'a> token_rooms_t<'a> {
         }
     }
 
-    /// Puts a token's record and its texts, and keeps the room of a scalar's text. Most tokens say nothing besides
-    /// their type, or are scalars.
+    /// Puts the record of a token with a text, and its texts, and keeps the room of a scalar's text. It is called and
+    /// not inlined, so that what puts a token stays small.
+    #[inline(never)]
+    fn put_with_text(&mut self, token: yaml_token_t)
+        ensures { IsPut self.old (token_of token) self.new }
+    {
+        if let unnamed_yaml_token_t_data::SCALAR { value, style } = &token.token_data {
+            self.put_scalar(&token, value.as_slice(), *style);
+            self.spend(token);
+            return;
+        }
+        self.put_any(token);
+    }
+
+    /// Puts a token's record and its texts. Most tokens say nothing besides their type, or are scalars.
     #[inline(always)]
     pub(crate) fn put_token(&mut self, token: yaml_token_t)
         ensures { IsPut self.old (token_of token) self.new }
@@ -136,12 +149,7 @@ impl<'a> token_rooms_t<'a> {
             self.put_bare(&token);
             return;
         }
-        if let unnamed_yaml_token_t_data::SCALAR { value, style } = &token.token_data {
-            self.put_scalar(&token, value.as_slice(), *style);
-            self.spend(token);
-            return;
-        }
-        self.put_any(token);
+        self.put_with_text(token);
     }
 
     /// Puts the texts of a fault after those of the tokens.
@@ -167,7 +175,6 @@ impl yaml_token_sink_t for token_rooms_t<'_> {
 
     ghost within = { IsWithin };
 
-    #[inline(always)]
     fn put(&mut self, token: yaml_token_t) -> Result<(), AllocError> {
         self.put_token(token);
         Ok(())
