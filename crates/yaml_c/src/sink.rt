@@ -95,8 +95,8 @@ impl<'a> token_rooms_t<'a> {
         self.count_token(self.text_len.saturating_add(value.len() as u64));
     }
 
-    /// Puts a token's record and its texts, whatever it says. It is called and not inlined, so that only such a token
-    /// has to stand in memory.
+    /// Puts a token's record and its texts, whatever it says. It is called and not inlined, so that a scalar does not
+    /// pay for the room on the stack that this needs.
     #[inline(never)]
     fn put_any(&mut self, token: yaml_token_t)
         ensures { IsPut self.old (token_of token) self.new }
