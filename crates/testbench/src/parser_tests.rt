@@ -329,7 +329,7 @@ fn shelved(alloc: Global, room: u128) -> Result<(shelf_t, usize, usize), Fail> {
 /// A sink with little room gets fewer tokens, and the others are returned.
 #[test]
 fn tokens_go_to_a_sink_with_room(rt: HostRuntime) -> Result<(), Fail> {
-    for (room, least) in [(0, 0), (1, 3), (2, 7), (1000, 11)] {
+    for (room, least) in [(0, 0), (2, 0), (3, 1), (1000, 11)] {
         let (shelf, returned, bytes) = shelved(rt.alloc(), room)?;
         assert_eq!(rt; shelf.tokens.wrapping_add(returned), 35, "{room}");
         assert_eq!(rt; shelf.bytes.wrapping_add(bytes), 13, "{room}");

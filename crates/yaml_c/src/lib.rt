@@ -22,6 +22,7 @@ use crate::answer::{counts, counts_and_fault};
 use crate::calls::MOST_KEY_LIMIT;
 use crate::numbers::encoding_of;
 use crate::sink::token_rooms_t;
+use crate::status::{DONE, FAULT, WRONG};
 pub use answer::bogzhami_answer;
 pub use calls::{
     bogzhami_close, bogzhami_encoding, bogzhami_next, bogzhami_open, bogzhami_peek, bogzhami_reach,
@@ -52,12 +53,12 @@ fn scan(
         unreachable!();
     };
     let Some(fault) = fault else {
-        return (counts(rooms.token_count, rooms.text_len), 0);
+        return (counts(rooms.token_count, rooms.text_len), DONE);
     };
     rooms.put_fault(fault);
     (
         counts_and_fault(rooms.token_count, rooms.text_len, fault),
-        1,
+        FAULT,
     )
 }
 
@@ -88,10 +89,10 @@ pub extern "C" fn bogzhami_scan_all(
 {
     *out = counts(0, 0);
     let Some(encoding) = encoding_of(setting) else {
-        return 2;
+        return WRONG;
     };
     if limit < 1 || limit > MOST_KEY_LIMIT {
-        return 2;
+        return WRONG;
     }
     let mut rooms = token_rooms_t {
         tokens,
