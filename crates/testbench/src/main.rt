@@ -1,6 +1,4 @@
-//! Answers test scripts, makes calls in which memory may be refused, and measures; its tests are those of two crates.
-//!
-//! These crates are `yaml_lexeme` and `yaml_scan`: the gate would prove them once more if their tests were theirs.
+//! Answers test scripts, makes calls in which memory may be refused, and measures.
 //!
 //! Each line of the input is a question about a text in UTF-8, or about an input, and the answer is one line:
 //!
@@ -33,15 +31,9 @@
 //! ENC is `any`, `utf8`, `utf16le` or `utf16be`, LIMIT a key limit of 1 to 65536 bytes.
 #![tactic(auto)]
 
-#[cfg(test)]
-mod all_tests;
 mod ask;
 mod bare;
-#[cfg(test)]
-mod lexeme_tests;
 mod measure;
-#[cfg(test)]
-mod parser_tests;
 mod session;
 mod show;
 mod words;

@@ -1,0 +1,12 @@
+//! The tests of `yaml_lexeme` and `yaml_scan`.
+//!
+//! They are a crate of their own: the gate would prove those crates, or the program `testbench`, once more if the tests
+//! were theirs.
+#![tactic(auto)]
+
+#[cfg(test)]
+mod all_tests;
+#[cfg(test)]
+mod lexeme_tests;
+#[cfg(test)]
+mod parser_tests;
