@@ -7,7 +7,9 @@ pub mod OneFault
 pub mod ReadingOn
 -- What the answers to calls say of the tokens that were taken.
 pub mod TokensTaken
--- The answers to calls that are made one after the other are those of the session.
+-- Calls, one after the other, are answered by the session, up to a refused growth.
+pub mod CallByCall
+-- The answers of the code, appended one by one, are those to a list of calls.
 pub mod CallsInTurn
 -- Every token and every fault that is returned can be put in words.
 pub mod AnswerWords

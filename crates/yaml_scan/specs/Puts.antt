@@ -1,6 +1,6 @@
 -- What the answers that a list of calls appends say, and which of them other inputs get as well.
-use Rattle.std.specs.Prelude.{◌≡◌, ◌⊎◌, ℕ, ◌+◌, ◌<◌, true, false, Option, None, Some, IfSome, List, [], ◌∷◌, ◌++◌, map}
-use Rattle.std.specs.Prelude.{take, drop, replicate, length}
+use Rattle.std.specs.Prelude.{◌≡◌, ◌≢◌, ◌⊎◌, ℕ, ◌+◌, ◌<◌, true, false, Option, None, Some, IfSome, List, [], ◌∷◌}
+use Rattle.std.specs.Prelude.{◌++◌, map, take, drop, replicate, length, slice_get}
 use Rattle.yaml_text.specs.declared.types.yaml_encoding_t.{yaml_encoding_t}
 use Rattle.yaml_scan.specs.declared.calls.yaml_answer_t.{yaml_answer_t}
 use Rattle.yaml_scan.specs.Token.{yaml_token_t, empty}
@@ -8,11 +8,12 @@ use Rattle.yaml_scan.specs.Fault.{Fault, memory_fault}
 use Rattle.yaml_scan.specs.Groups.{Token}
 use Rattle.yaml_scan.specs.Begins.{Begins}
 use Rattle.yaml_scan.specs.Inputs.{answers_to, GoesOn}
-use Rattle.yaml_scan.specs.Session.{Call, Answer, next_token}
-use Rattle.yaml_scan.specs.Parser.{Parser, answered, course_read}
+use Rattle.yaml_scan.specs.Session.{Call, Answer, next_token, session, after_all}
+use Rattle.yaml_scan.specs.Session.Call.{SKIP}
+use Rattle.yaml_scan.specs.Parser.{Parser, answered, course_read, input_read}
 use Rattle.yaml_scan.specs.Session.Answer.{FAULT}
 use Rattle.yaml_scan.specs.Seen.{Seen, seen, seen_of, idle, Seen as sight}
-use Rattle.yaml_scan.specs.Headline.{answered_all}
+use Rattle.yaml_scan.specs.Headline.{WantsMemory}
 use Rattle.yaml_scan.specs.Seen.Seen.{TOKEN, PEEKED, SKIPPED, NOTHING}
 
 -- `Holds` is true of the answers that were appended to the old ones
@@ -20,6 +21,38 @@ pub record Puts (Holds : List Seen → Type 0) (old new : List yaml_answer_t) : 
   pub more : List yaml_answer_t
   pub is : new ≡ old ++ more
   pub holds : Holds (map seen_of more)
+
+-- THE SESSION'S ANSWERS
+-- the session's answers to a list of calls
+abbrev pub answered_all : Parser → List Call → List Answer
+answered_all p calls = session (input_read p).encoding p.limit (course_read p) calls p.session
+
+-- the parser after a list of calls in which no memory was refused
+abbrev pub after_calls : Parser → List Call → Parser
+after_calls p calls = record {
+  input = p.input;
+  setting = p.setting;
+  limit = p.limit;
+  session = after_all p.limit (course_read p) calls p.session;
+}
+
+-- the session's answers to a list of calls are appended to others
+pub record PutsSession (p : Parser) (calls : List Call) (old new : List yaml_answer_t) (q : Parser) : Type 0 where
+  pub more : List yaml_answer_t
+  pub is : new ≡ old ++ more
+  pub answers : map seen_of more ≡ map seen (answered_all p calls)
+  pub left : q ≡ after_calls p calls
+
+-- memory was refused in the call after the first n: the answers to these are the session's, that to this call is the
+-- one fault, and the others are as if the session is over
+pub record RunsOut (p : Parser) (calls : List Call) (all : List Seen) (q : Parser) : Type 0 where
+  pub n : ℕ
+  pub within : n < length calls
+  -- a skip needs no memory
+  pub asks : slice_get calls n ≢ Some SKIP
+  pub wants : WantsMemory (after_calls p (take n calls)) q
+  pub answers : all
+      ≡ map seen (answered_all p (take n calls)) ++ (sight.FAULT memory_fault ∷ map idle (drop (n + 1) calls))
 
 -- THE TOKENS THAT WERE TAKEN
 -- the tokens that answers say were taken, in order: a scan its token, a skip that there was one

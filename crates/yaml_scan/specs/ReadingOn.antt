@@ -13,7 +13,8 @@ use Rattle.yaml_scan.specs.Session.{Session, Call, Answer, new_session, session}
 use Rattle.yaml_scan.specs.Session.Call.{SCAN}
 use Rattle.yaml_scan.specs.Session.Answer.{TOKEN, FAULT}
 use Rattle.yaml_scan.specs.Parser.{Parser, told}
-use Rattle.yaml_scan.specs.Headline.{Calls, Runs, RunsOut}
+use Rattle.yaml_scan.specs.Headline.{Runs}
+use Rattle.yaml_scan.specs.Puts.{RunsOut}
 use Rattle.yaml_scan.specs.Seen.{Seen, seen, seen_of, Seen as sight}
 
 -- n scans
@@ -69,15 +70,12 @@ pub record PutsRest (p : Parser) (n : ℕ) (old new : List yaml_answer_t) (q : P
 abbrev pub ReadsOn : Parser → List Call → List yaml_answer_t → List yaml_answer_t → Parser → Type 0
 ReadsOn p calls old new q = (n : ℕ) → calls ≡ scans n → length (left_to p).tokens < n → PutsRest p n old new q
 
--- scans one after the other, each of the parser that the one before it left
-abbrev pub ScansInTurn : Parser → List (Result code_token_t yaml_fault_t) → Parser → Type 0
-ScansInTurn p [] q = q ≡ p
-ScansInTurn p (result ∷ more) q = (r : Parser) × Calls SCAN p (told result) r × ScansInTurn r more q
-
--- more of them than there are tokens left return all that is left, or a growth was refused in one of them
+-- scans that are made one by one, more than there are tokens left, return all that is left, or a growth was refused in
+-- one of them
 abbrev pub ScansReadOn : Type 0
 ScansReadOn = (p : Parser) (results : List (Result code_token_t yaml_fault_t)) (q : Parser)
-    → ScansInTurn p results q → length (left_to p).tokens < length results
+    → Runs p (scans (length results)) (map seen (map told results)) q
+    → length (left_to p).tokens < length results
     → (map told results ≡ all_told (left_to p) (length results))
     ⊎ RunsOut p (scans (length results)) (map seen (map told results)) q
 

@@ -7,11 +7,11 @@ ghost use Rattle.yaml_scan.specs.Session.Call.{SCAN, PEEK, SKIP};
 ghost use Rattle.yaml_scan.specs.Parser.{course_read, input_read, IsRefusedEarly};
 ghost use Rattle.yaml_scan.specs.CallWords.{SeenHaveLines};
 ghost use Rattle.yaml_scan.specs.ReadingOn.{ReadsOn, HaveOneFault};
-ghost use Rattle.yaml_scan.specs.Puts.{Puts, TakesNext, HasNext, AreAnsweredAlike};
+ghost use Rattle.yaml_scan.specs.Puts.{Puts, PutsSession, TakesNext, HasNext, AreAnsweredAlike};
 ghost use Rattle.yaml_scan.specs.CallMarks.{text_read, SeenAreCounted};
 ghost use Rattle.yaml_scan.specs.inside.Shown.{IsSeen};
 ghost use Rattle.yaml_scan.specs.Seen.{seen_of, call_of, seen};
-ghost use Rattle.yaml_scan.specs.Headline.{PutsAnswers, PutsSession};
+ghost use Rattle.yaml_scan.specs.Headline.{PutsAnswers};
 ghost use Rattle.yaml_scan.specs.Session.Answer.{PEEKED};
 
 use crate::parser::{

@@ -9,7 +9,8 @@ use Rattle.yaml_scan.specs.Session.{Call, Answer, session}
 use Rattle.yaml_scan.specs.Session.Call.{SCAN, PEEK, SKIP}
 use Rattle.yaml_scan.specs.Session.{Answer as says}
 use Rattle.yaml_scan.specs.Parser.{Parser, course_read}
-use Rattle.yaml_scan.specs.Headline.{Calls, answered_all, Runs}
+use Rattle.yaml_scan.specs.Headline.{Calls, Runs}
+use Rattle.yaml_scan.specs.Puts.{answered_all}
 use Rattle.yaml_scan.specs.Seen.{Seen, seen, idle}
 use Rattle.yaml_scan.specs.Seen.Seen.{FAULT}
 use Rattle.yaml_scan.specs.CountedMarks.{TokensAreCounted, FaultIsCounted, AnswerIsCounted, AllAreCounted}
@@ -18,6 +19,7 @@ use Rattle.yaml_scan.specs.CallMarks.{text_read, IsCountedIn, ReachesTo, SeenIsC
 use Rattle.yaml_scan.specs.Session.{session_reach}
 use Rattle.yaml_scan.proofs.CountedMarks.ReadMarks.{start_counted}
 use Rattle.yaml_scan.proofs.CountedMarks.TokenMarks.{answers_are_counted, sessions_are_counted, reach_is_counted}
+use Rattle.yaml_scan.proofs.SessionCalls.CallByCall.{OfSession, of_session}
 
 -- A CALL
 pub call_is_counted : (call : Call) (p : Parser) (a : Answer) (q : Parser) → Calls call p a q → IsCountedIn p a
@@ -59,10 +61,13 @@ unfolding course_read
 answered_counted p calls = all_seen_counted (text_read p) (answered_all p calls) (sessions_are_counted p.limit p.setting p.input calls p.session)
 
 pub runs_are_counted : (p : Parser) (calls : List Call) (answers : List Seen) (q : Parser) → Runs p calls answers q → SeenAreCounted (text_read p) answers
-runs_are_counted p calls answers q (inl r) = subst (λ (z : List Seen). SeenAreCounted (text_read p) z) (sym r.0) (answered_counted p calls)
-runs_are_counted p calls answers q (inr r) = subst (λ (z : List Seen). SeenAreCounted (text_read p) z) (sym r.answers)
-    (joined_counted (text_read p) (map seen (answered_all p (take r.n calls))) (FAULT memory_fault ∷ map idle (drop (r.n + 1) calls)) (answered_counted p (take r.n calls))
-    ((inl (start_counted (text_read p)), start_counted (text_read p)), all_idle_counted (text_read p) (drop (r.n + 1) calls)))
+runs_are_counted p calls answers q w = go (of_session p calls answers q w)
+  where
+    go : OfSession p calls answers q → SeenAreCounted (text_read p) answers
+    go (inl r) = subst (λ (z : List Seen). SeenAreCounted (text_read p) z) (sym r.0) (answered_counted p calls)
+    go (inr r) = subst (λ (z : List Seen). SeenAreCounted (text_read p) z) (sym r.answers)
+        (joined_counted (text_read p) (map seen (answered_all p (take r.n calls))) (FAULT memory_fault ∷ map idle (drop (r.n + 1) calls)) (answered_counted p (take r.n calls))
+        ((inl (start_counted (text_read p)), start_counted (text_read p)), all_idle_counted (text_read p) (drop (r.n + 1) calls)))
 
 -- ALL TOKENS
 counted_front : (text : List ℕ) (a b : List yaml_token_t) → TokensAreCounted text (a ++ b) → TokensAreCounted text a

@@ -5,13 +5,15 @@ use Rattle.yaml_scan.specs.Session.{Call, Answer, session}
 use Rattle.yaml_scan.specs.Session.Call.{SCAN, PEEK, SKIP}
 use Rattle.yaml_scan.specs.Session.{Answer as says}
 use Rattle.yaml_scan.specs.Parser.{Parser, course_read}
-use Rattle.yaml_scan.specs.Headline.{Calls, answered_all, Runs}
+use Rattle.yaml_scan.specs.Headline.{Calls, Runs}
+use Rattle.yaml_scan.specs.Puts.{answered_all}
 use Rattle.yaml_scan.specs.Token.{yaml_token_t}
 use Rattle.yaml_scan.specs.Words.{HasWords, AnswerHasLine, AnswersHaveLines}
 use Rattle.yaml_scan.specs.Seen.{Seen, seen, idle}
 use Rattle.yaml_scan.specs.Seen.Seen.{FAULT}
 use Rattle.yaml_scan.specs.CallWords.{SeenHasLine, SeenHaveLines}
 use Rattle.yaml_scan.proofs.SessionCalls.AnswerWords.{sessions_have_lines}
+use Rattle.yaml_scan.proofs.SessionCalls.CallByCall.{OfSession, of_session}
 
 seen_told : (a : Answer) → AnswerHasLine a → SeenHasLine (seen a)
 seen_told (says.TOKEN x) t = t
@@ -43,9 +45,12 @@ answered_told p calls = all_seen_told (answered_all p calls) (sessions_have_line
 
 -- the answers to any calls of a parser
 pub run_has_lines : (p : Parser) (calls : List Call) (answers : List Seen) (q : Parser) → Runs p calls answers q → SeenHaveLines answers
-run_has_lines p calls answers q (inl r) = subst (λ (z : List Seen). SeenHaveLines z) (sym r.0) (answered_told p calls)
-run_has_lines p calls answers q (inr r) = subst (λ (z : List Seen). SeenHaveLines z) (sym r.answers)
-    (joined_told (map seen (answered_all p (take r.n calls))) (FAULT memory_fault ∷ map idle (drop (r.n + 1) calls)) (answered_told p (take r.n calls)) (tt, all_idle_told (drop (r.n + 1) calls)))
+run_has_lines p calls answers q w = go (of_session p calls answers q w)
+  where
+    go : OfSession p calls answers q → SeenHaveLines answers
+    go (inl r) = subst (λ (z : List Seen). SeenHaveLines z) (sym r.0) (answered_told p calls)
+    go (inr r) = subst (λ (z : List Seen). SeenHaveLines z) (sym r.answers)
+        (joined_told (map seen (answered_all p (take r.n calls))) (FAULT memory_fault ∷ map idle (drop (r.n + 1) calls)) (answered_told p (take r.n calls)) (tt, all_idle_told (drop (r.n + 1) calls)))
 
 -- a token that a scan returns
 no_fault : (t : yaml_token_t) (f : Fault) → says.TOKEN t ≡ says.FAULT f → ⊥

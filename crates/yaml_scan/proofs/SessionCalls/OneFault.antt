@@ -14,8 +14,9 @@ use Rattle.yaml_scan.specs.Session.Call.{SCAN, PEEK, SKIP}
 use Rattle.yaml_scan.specs.Session.Answer.{TOKEN, PEEKED, SKIPPED, NOTHING}
 use Rattle.yaml_scan.specs.Parser.{course_read, input_read}
 use Rattle.yaml_scan.specs.Seen.{Seen, seen, idle, Seen as sight}
-use Rattle.yaml_scan.specs.Headline.{answered_all, Runs}
+use Rattle.yaml_scan.specs.Puts.{answered_all}
 use Rattle.yaml_scan.specs.ReadingOn.{is_fault, HaveOneFault, FaultIsToldOnce, RunsFaultOnce}
+use Rattle.yaml_scan.proofs.SessionCalls.CallByCall.{OfSession, of_session}
 
 abbrev faults_in : List Seen → ℕ
 faults_in answers = length (filter is_fault answers)
@@ -117,9 +118,9 @@ pub fault_is_told_once : FaultIsToldOnce
 fault_is_told_once limit setting input calls s = once (decoded_input setting input).encoding limit (course limit (decoded_input setting input)) calls s
 
 pub runs_fault_once : RunsFaultOnce
-runs_fault_once p calls answers q r = go r
+runs_fault_once p calls answers q r = go (of_session p calls answers q r)
   where
-    go : Runs p calls answers q → HaveOneFault answers
+    go : OfSession p calls answers q → HaveOneFault answers
     go (inl g) = subst HaveOneFault (sym g.0) (once (input_read p).encoding p.limit (course_read p) calls p.session)
     go (inr o) =
         let a : List Seen = map seen (answered_all p (take o.n calls)) in

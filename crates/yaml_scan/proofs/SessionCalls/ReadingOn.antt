@@ -1,28 +1,28 @@
 -- More scans than there are tokens left return all that is left.
-use Rattle.std.proofs.Common.{◌≡◌, ℕ, zero, suc, ◌+◌, ◌-◌, ◌<◌, ◌≤◌, Bool, true, false, List, [], ◌∷◌, ◌++◌, map, take, drop, replicate, length, slice_get, Option, Some, None, ◌≢◌, refl, ap, sym, ◌∙◌, subst, arith, inl, inr}
-use Rattle.std.specs.Prelude.{◌⊎◌, Result, if◌then◌else◌}
-use Rattle.std.proofs.lemmas.Bool.{false≢true}
+use Rattle.std.proofs.Common.{◌≡◌, ℕ, zero, suc, ◌+◌, ◌-◌, ◌<◌, ◌≤◌, Bool, true, false, List, [], ◌∷◌, ◌++◌, map, drop, replicate, length, slice_get, Option, Some, None, refl, ap, sym, ◌∙◌, subst, arith, inl, inr}
+use Rattle.std.specs.Prelude.{◌⊎◌, Result, Ok, Err, if◌then◌else◌}
 use Rattle.yaml_text.specs.declared.types.yaml_encoding_t.{yaml_encoding_t}
 use Rattle.yaml_text.specs.declared.fault.yaml_fault_t.{yaml_fault_t}
 use Rattle.yaml_text.specs.declared.token.yaml_token_t.{yaml_token_t as code_token_t}
 use Rattle.yaml_scan.specs.declared.calls.yaml_answer_t.{yaml_answer_t}
 use Rattle.yaml_scan.specs.Token.{yaml_token_t, empty}
-use Rattle.yaml_scan.specs.Fault.{Fault, memory_fault}
+use Rattle.yaml_scan.specs.Fault.{Fault}
 use Rattle.yaml_scan.specs.Groups.{Token, handed_out}
 use Rattle.yaml_scan.specs.Cut.{KeepsOrder}
 use Rattle.yaml_scan.specs.Answers.{Input, Course, Answers, course, tokens_of, answers}
 use Rattle.yaml_scan.specs.Inputs.{decoded_input, answers_to}
-use Rattle.yaml_scan.specs.Session.{Session, Call, Answer, new_session, session, after_all, after, next_token, is_last}
+use Rattle.yaml_scan.specs.Session.{Session, Call, Answer, new_session, session, after, next_token, is_last}
 use Rattle.yaml_scan.specs.Session.{took, paced, finished, why, scan_answer, after_scan}
-use Rattle.yaml_scan.specs.Session.Call.{SCAN, SKIP}
-use Rattle.yaml_scan.specs.Session.Answer.{TOKEN, FAULT}
-use Rattle.yaml_scan.specs.Parser.{Parser, told, answered, after_call, course_read, input_read}
-use Rattle.yaml_scan.specs.Headline.{WantsMemory, Calls, answered_all, Runs, RunsOut, PutsAnswers}
-use Rattle.yaml_scan.specs.Seen.{Seen, seen, seen_of, idle, Seen as sight}
-use Rattle.yaml_scan.specs.ReadingOn.{scans, fault_told, all_told, left_to, AllIsTold, RestIsTold, ReadsOn, ScansInTurn}
-use Rattle.yaml_scan.specs.ReadingOn.{ScansReadOn}
+use Rattle.yaml_scan.specs.Session.Call.{SCAN}
+use Rattle.yaml_scan.specs.Session.Answer.{TOKEN, PEEKED, SKIPPED, NOTHING, FAULT}
+use Rattle.yaml_scan.specs.Parser.{Parser, told, course_read}
+use Rattle.yaml_scan.specs.Headline.{Runs, PutsAnswers}
+use Rattle.yaml_scan.specs.Puts.{answered_all, RunsOut}
+use Rattle.yaml_scan.specs.Seen.{Seen, seen, seen_of}
+use Rattle.yaml_scan.specs.ReadingOn.{scans, fault_told, all_told, left_to, AllIsTold, RestIsTold, ReadsOn, ScansReadOn}
 use Rattle.yaml_scan.proofs.Course.InputLaws.{inputs_keep_order}
 use Rattle.yaml_scan.proofs.Course.LastToken.{stream_end_is_last}
+use Rattle.yaml_scan.proofs.SessionCalls.CallByCall.{OfSession, of_session}
 
 if_true : {A : Type 0} (b : Bool) (x y : A) → b ≡ true → (if b then x else y) ≡ x
 if_true b x y e = rw e refl
@@ -146,93 +146,44 @@ unfolding course_read
 rest_of p n l = rest_is_told p.limit p.setting p.input p.session n l
 
 pub reads_on : (p : Parser) (calls : List Call) (old new : List yaml_answer_t) (q : Parser) → PutsAnswers p calls old new q → ReadsOn p calls old new q
-reads_on p calls old new q g n e l = record { more = g.more; is = g.is; told = go (subst (λ (z : List Call). Runs p z (map seen_of g.more) q) e g.runs) }
+reads_on p calls old new q g n e l = record { more = g.more; is = g.is; told = go (of_session p (scans n) (map seen_of g.more) q (subst (λ (z : List Call). Runs p z (map seen_of g.more) q) e g.runs)) }
   where
-    go : Runs p (scans n) (map seen_of g.more) q → (map seen_of g.more ≡ map seen (all_told (left_to p) n)) ⊎ RunsOut p (scans n) (map seen_of g.more) q
+    go : OfSession p (scans n) (map seen_of g.more) q → (map seen_of g.more ≡ map seen (all_told (left_to p) n)) ⊎ RunsOut p (scans n) (map seen_of g.more) q
     go (inl r) = inl (r.0 ∙ ap (λ (z : List Answer). map seen z) (rest_of p n l))
     go (inr o) = inr o
 
--- SCANS ONE AFTER THE OTHER
-idle_scans : (n : ℕ) → map seen (replicate n (TOKEN empty)) ≡ map idle (scans n)
-idle_scans zero = refl
-idle_scans (suc n) = ap (λ (z : List Seen). sight.TOKEN empty ∷ z) (idle_scans n)
+-- SCANS ONE BY ONE
+-- a token or a fault is seen whole
+seen_whole : (result : Result code_token_t yaml_fault_t) (a : Answer) → seen (told result) ≡ seen a → told result ≡ a
+seen_whole (Ok t) (TOKEN x) e = cc
+seen_whole (Ok t) (PEEKED x) e = absurd (cc)
+seen_whole (Ok t) SKIPPED e = absurd (cc)
+seen_whole (Ok t) NOTHING e = absurd (cc)
+seen_whole (Ok t) (FAULT f) e = absurd (cc)
+seen_whole (Err k) (TOKEN x) e = absurd (cc)
+seen_whole (Err k) (PEEKED x) e = absurd (cc)
+seen_whole (Err k) SKIPPED e = absurd (cc)
+seen_whole (Err k) NOTHING e = absurd (cc)
+seen_whole (Err k) (FAULT f) e = cc
 
-over_answer : (p : Parser) → p.session.over ≡ true → answered p SCAN ≡ TOKEN empty
-over_answer p o = if_true p.session.over (TOKEN empty) (scan_answer (input_read p).encoding (course_read p) (next_token p.limit (course_read p) p.session)) o
+one_seen : (x y : Seen) (xs ys : List Seen) → x ∷ xs ≡ y ∷ ys → (x ≡ y) × (xs ≡ ys)
+one_seen x y xs ys e = (cc, cc)
 
-over_left : (p : Parser) → p.session.over ≡ true → after_call p SCAN ≡ p
-over_left p o = ap (λ (z : Session). record { input = p.input; setting = p.setting; limit = p.limit; session = z }) (if_true p.session.over p.session (after_scan p.limit (course_read p) p.session (next_token p.limit (course_read p) p.session)) o)
+no_seen : (x : Seen) (xs : List Seen) → x ∷ xs ≡ [] → ⊥
+no_seen x xs e = cc
 
--- if the session is over
-idle_chain : (results : List (Result code_token_t yaml_fault_t)) (p q : Parser) → p.session.over ≡ true → ScansInTurn p results q → (map told results ≡ replicate (length results) (TOKEN empty)) × (q ≡ p)
-idle_chain [] p q o e = (refl, e)
-idle_chain (a ∷ more) p q o (r, s, w) = go (λ e. idle_chain more r q e w) s
-  where
-    go : (r.session.over ≡ true → (map told more ≡ replicate (length more) (TOKEN empty)) × (q ≡ r)) → Calls SCAN p (told a) r → (told a ∷ map told more ≡ TOKEN empty ∷ replicate (length more) (TOKEN empty)) × (q ≡ p)
-    go ih (inr m) = absurd (false≢true (sym m.1.was_open ∙ o))
-    go ih (inl m) = (let e : r ≡ p = m.1 ∙ over_left p o in
-        let z = ih (ap (λ (x : Parser). x.session.over) e ∙ o) in
-        (ap (λ (x : Answer). x ∷ map told more) (m.0 ∙ over_answer p o) ∙ ap (λ (x : List Answer). TOKEN empty ∷ x) z.0, z.1 ∙ e))
-
--- a growth was refused further on
-out_later : (p : Parser) (calls : List Call) (all : List Seen) (q : Parser) → RunsOut (after_call p SCAN) calls all q → RunsOut p (SCAN ∷ calls) (seen (answered p SCAN) ∷ all) q
-unfolding course_read session after_all
-out_later p calls all q o =
-    let m : suc o.n + 1 ≡ suc (o.n + 1) = omega arith in record {
-      n = suc o.n;
-      within = (let w = o.within in omega arith);
-      asks = o.asks;
-      wants = o.wants;
-      answers = ap (λ (z : List Seen). seen (answered p SCAN) ∷ z) o.answers
-          ∙ ap (λ (z : ℕ). seen (answered p SCAN) ∷ (map seen (answered_all (after_call p SCAN) (take o.n calls)) ++ (sight.FAULT memory_fault ∷ map idle (drop z (SCAN ∷ calls))))) (sym m);
-    }
-
--- or in the first
-out_first : (p : Parser) (calls : List Call) (all : List Seen) (q : Parser) → WantsMemory p q → all ≡ map idle calls → RunsOut p (SCAN ∷ calls) (sight.FAULT memory_fault ∷ all) q
-unfolding session after_all
-out_first p calls all q w e = record {
-  n = 0;
-  within = omega arith;
-  asks = λ k. no_skip k;
-  wants = w;
-  answers = ap (λ (z : List Seen). sight.FAULT memory_fault ∷ z) e;
-}
-  where
-    no_skip : Some SCAN ≢ Some SKIP
-    no_skip k = cc
-
-answered_later : (p : Parser) (n : ℕ) → answered p SCAN ∷ answered_all (after_call p SCAN) (scans n) ≡ answered_all p (scans (suc n))
-unfolding course_read session
-answered_later p n = refl
-
-none_answered : (p : Parser) → [] ≡ answered_all p (scans 0)
-unfolding session
-none_answered p = refl
-
-abbrev Told : List (Result code_token_t yaml_fault_t) → Parser → Parser → Type 0
-Told more z q = (map told more ≡ answered_all z (scans (length more))) ⊎ RunsOut z (scans (length more)) (map seen (map told more)) q
-
-chain : (results : List (Result code_token_t yaml_fault_t)) (p q : Parser) → ScansInTurn p results q
-    → (map told results ≡ answered_all p (scans (length results))) ⊎ RunsOut p (scans (length results)) (map seen (map told results)) q
-chain [] p q e = inl (none_answered p)
-chain (a ∷ more) p q (r, s, w) = go (chain more r q w) s
-  where
-    on : told a ≡ answered p SCAN → Told more (after_call p SCAN) q
-        → (told a ∷ map told more ≡ answered_all p (scans (suc (length more)))) ⊎ RunsOut p (scans (suc (length more))) (seen (told a) ∷ map seen (map told more)) q
-    on e (inl f) = inl (ap (λ (x : Answer). x ∷ map told more) e ∙ ap (λ (x : List Answer). answered p SCAN ∷ x) f ∙ answered_later p (length more))
-    on e (inr o) = inr (subst (λ (x : Answer). RunsOut p (scans (suc (length more))) (seen x ∷ map seen (map told more)) q) (sym e) (out_later p (scans (length more)) (map seen (map told more)) q o))
-
-    go : Told more r q → Calls SCAN p (told a) r → (told a ∷ map told more ≡ answered_all p (scans (suc (length more)))) ⊎ RunsOut p (scans (suc (length more))) (seen (told a) ∷ map seen (map told more)) q
-    go t (inl m) = on m.0 (subst (λ (x : Parser). Told more x q) m.1 t)
-    go t (inr m) = (let z = idle_chain more r q m.1.over w in
-        let e = ap (λ (x : List Answer). map seen x) z.0 ∙ idle_scans (length more) in
-        inr (subst (λ (x : Answer). RunsOut p (scans (suc (length more))) (seen x ∷ map seen (map told more)) q) (sym m.0)
-        (out_first p (scans (length more)) (map seen (map told more)) q (subst (λ (x : Parser). WantsMemory p x) (sym z.1) m.1) e)))
+all_whole : (results : List (Result code_token_t yaml_fault_t)) (answers : List Answer) → map seen (map told results) ≡ map seen answers → map told results ≡ answers
+all_whole [] [] e = refl
+all_whole [] (a ∷ answers) e = absurd (no_seen (seen a) (map seen answers) (sym e))
+all_whole (x ∷ results) [] e = absurd (no_seen (seen (told x)) (map seen (map told results)) e)
+all_whole (x ∷ results) (a ∷ answers) e =
+    let z = one_seen (seen (told x)) (seen a) (map seen (map told results)) (map seen answers) e in
+    ap (λ (y : Answer). y ∷ map told results) (seen_whole x a z.0) ∙ ap (λ (y : List Answer). a ∷ y) (all_whole results answers z.1)
 
 pub scans_read_on : ScansReadOn
-scans_read_on p results q w l = go (chain results p q w)
+scans_read_on p results q w l = go (of_session p (scans (length results)) (map seen (map told results)) q w)
   where
-    go : (map told results ≡ answered_all p (scans (length results))) ⊎ RunsOut p (scans (length results)) (map seen (map told results)) q
+    go : OfSession p (scans (length results)) (map seen (map told results)) q
         → (map told results ≡ all_told (left_to p) (length results)) ⊎ RunsOut p (scans (length results)) (map seen (map told results)) q
-    go (inl e) = inl (e ∙ rest_of p (length results) l)
+    go (inl r) = inl (all_whole results (answered_all p (scans (length results))) r.0 ∙ rest_of p (length results) l)
     go (inr o) = inr o

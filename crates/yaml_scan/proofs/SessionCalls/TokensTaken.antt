@@ -15,10 +15,11 @@ use Rattle.yaml_scan.specs.Session.Call.{SCAN, PEEK, SKIP}
 use Rattle.yaml_scan.specs.Session.{Answer as says}
 use Rattle.yaml_scan.specs.Parser.{Parser, course_read, input_read}
 use Rattle.yaml_scan.specs.Seen.{Seen, seen, seen_of, idle}
-use Rattle.yaml_scan.specs.Headline.{answered_all, after_calls, Runs, PutsAnswers}
+use Rattle.yaml_scan.specs.Headline.{Runs, PutsAnswers}
 use Rattle.yaml_scan.specs.Seen.Seen.{TOKEN, PEEKED, SKIPPED, NOTHING, FAULT}
-use Rattle.yaml_scan.specs.Puts.{Puts, taken_told, AreTold, TakesOn, TakesNext, HasNext}
+use Rattle.yaml_scan.specs.Puts.{Puts, answered_all, after_calls, taken_told, AreTold, TakesOn, TakesNext, HasNext}
 use Rattle.yaml_scan.proofs.SessionCalls.ReadingOn.{drop_next}
+use Rattle.yaml_scan.proofs.SessionCalls.CallByCall.{OfSession, of_session}
 
 -- IF A SESSION IS OVER
 abbrev pub IsQuiet : Session → Type 0
@@ -205,13 +206,15 @@ unfolding answers_to answers course_read
 session_takes p calls h = takes (input_read p).encoding p.limit (course_read p) calls p.session h
 
 pub takes_next : (p : Parser) (calls : List Call) (answers : List Seen) (q : Parser) → HasNext p → Runs p calls answers q → TakesNext p answers q
-takes_next p calls answers q h (inl r) =
-    subst (λ (z : List Seen). TakesNext p z q) (sym r.0) (subst (λ (z : Parser). TakesNext p (map seen (answered_all p calls)) z) (sym r.1) (session_takes p calls h))
-takes_next p calls answers q h (inr o) =
-    let k = idle_told (drop (o.n + 1) calls) in
-    let g = takes_no_more (answers_to p.limit p.setting p.input).tokens p.session.taken (after_calls p (take o.n calls)).session.taken (map seen (answered_all p (take o.n calls))) (FAULT memory_fault ∷ map idle (drop (o.n + 1) calls)) k.0 (session_takes p (take o.n calls) h) k.1 in
-    subst (λ (z : List Seen). TakesNext p z q) (sym o.answers)
-    (subst (λ (z : ℕ). TakesOn (answers_to p.limit p.setting p.input).tokens p.session.taken (map seen (answered_all p (take o.n calls)) ++ (FAULT memory_fault ∷ map idle (drop (o.n + 1) calls))) z) (sym o.wants.taken) g)
+takes_next p calls answers q h w = go (of_session p calls answers q w)
+  where
+    go : OfSession p calls answers q → TakesNext p answers q
+    go (inl r) = subst (λ (z : List Seen). TakesNext p z q) (sym r.0) (subst (λ (z : Parser). TakesNext p (map seen (answered_all p calls)) z) (sym r.1) (session_takes p calls h))
+    go (inr o) =
+        let k = idle_told (drop (o.n + 1) calls) in
+        let g = takes_no_more (answers_to p.limit p.setting p.input).tokens p.session.taken (after_calls p (take o.n calls)).session.taken (map seen (answered_all p (take o.n calls))) (FAULT memory_fault ∷ map idle (drop (o.n + 1) calls)) k.0 (session_takes p (take o.n calls) h) k.1 in
+        subst (λ (z : List Seen). TakesNext p z q) (sym o.answers)
+        (subst (λ (z : ℕ). TakesOn (answers_to p.limit p.setting p.input).tokens p.session.taken (map seen (answered_all p (take o.n calls)) ++ (FAULT memory_fault ∷ map idle (drop (o.n + 1) calls))) z) (sym o.wants.taken) g)
 
 -- what holds of all answers of a run holds of those that were appended
 pub puts : (Holds : List Seen → Type 0) (p : Parser) (calls : List Call) (old new : List yaml_answer_t) (q : Parser) → PutsAnswers p calls old new q → ((answers : List Seen) → Runs p calls answers q → Holds answers) → Puts Holds old new

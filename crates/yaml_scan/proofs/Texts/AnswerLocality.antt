@@ -16,14 +16,15 @@ use Rattle.yaml_scan.specs.Session.Answer.{TOKEN, PEEKED, SKIPPED, NOTHING, FAUL
 use Rattle.yaml_scan.specs.SessionLaws.{FaultOfRefused}
 use Rattle.yaml_scan.specs.SessionLaws.FaultOfRefused.{at_once, near, far}
 use Rattle.yaml_scan.specs.Parser.{Parser, answered, course_read}
-use Rattle.yaml_scan.specs.Headline.{Calls, answered_all, Runs}
+use Rattle.yaml_scan.specs.Headline.{Calls, Runs}
 use Rattle.yaml_scan.specs.Seen.{Seen, seen, idle, Seen as sight}
 use Rattle.yaml_scan.specs.All.{ReadsAll}
-use Rattle.yaml_scan.specs.Puts.{HasNext, of_input, IsAnsweredAlike, StopsWith, AreAnsweredAlike, AreReadAlike}
+use Rattle.yaml_scan.specs.Puts.{answered_all, HasNext, of_input, IsAnsweredAlike, StopsWith, AreAnsweredAlike, AreReadAlike}
 use Rattle.yaml_scan.proofs.Course.CourseSteps.{refused_has_fault}
 use Rattle.yaml_scan.proofs.Course.InputLaws.{inputs_keep_order, agree, encoding_is, late_faults}
 use Rattle.yaml_scan.proofs.Texts.StepLocality.{tokens_before_refusal, fault_before_refusal}
 use Rattle.yaml_scan.proofs.SessionCalls.TokensTaken.{IsQuiet, quiet_calls, IsShowing, showing_after}
+use Rattle.yaml_scan.proofs.SessionCalls.CallByCall.{OfSession, of_session}
 
 get_front : (xs ys : List Token) (n : ℕ) (x : Token) → Begins xs ys → slice_get xs n ≡ Some x → slice_get ys n ≡ Some x
 get_front xs ys n x g e = ap (λ (z : List Token). slice_get z n) g.is ∙ go xs n e
@@ -226,20 +227,23 @@ run_alike : (p : Parser) (calls : List Call) (t : yaml_encoding_t) (b : List ℕ
 unfolding course_read
 run_alike p calls t b fault g h = alike p.limit p.setting p.input t b fault g calls p.session p.session (like_self p.limit p.setting p.input t b fault g p.session) h
 
-pub runs_alike : (p : Parser) (calls : List Call) (answers : List Seen) (q : Parser) → HasNext p → Runs p calls answers q → AreAnsweredAlike p calls answers
+runs_of_session : (p : Parser) (calls : List Call) (answers : List Seen) (q : Parser) → HasNext p → OfSession p calls answers q → AreAnsweredAlike p calls answers
 unfolding course_read
-runs_alike p calls answers q h (inl r) t b fault g = go (run_alike p calls t b fault g h)
+runs_of_session p calls answers q h (inl r) t b fault g = go (run_alike p calls t b fault g h)
   where
     go : Alike p.limit p.setting p.input t b fault g calls p.session p.session
         → (answers ≡ map seen (answered_all (of_input p t b) calls)) ⊎ (StopsWith fault (of_input p t b) calls answers ⊎ StopsWith memory_fault (of_input p t b) calls answers)
     go (inl e) = inl (r.0 ∙ e)
     go (inr k) = inr (inl (record { n = k.n; within = k.within; answers_are = r.0 ∙ k.is }))
-runs_alike p calls answers q h (inr o) t b fault g = go (run_alike p (take o.n calls) t b fault g h)
+runs_of_session p calls answers q h (inr o) t b fault g = go (run_alike p (take o.n calls) t b fault g h)
   where
     go : Alike p.limit p.setting p.input t b fault g (take o.n calls) p.session p.session
         → (answers ≡ map seen (answered_all (of_input p t b) calls)) ⊎ (StopsWith fault (of_input p t b) calls answers ⊎ StopsWith memory_fault (of_input p t b) calls answers)
     go (inl e) = inr (inr (record { n = o.n; within = o.within; answers_are = o.answers ∙ ap (λ (z : List Seen). z ++ (sight.FAULT memory_fault ∷ map idle (drop (o.n + 1) calls))) e }))
     go (inr k) = absurd (false≢true (sym o.wants.was_open ∙ k.over))
+
+pub runs_alike : (p : Parser) (calls : List Call) (answers : List Seen) (q : Parser) → HasNext p → Runs p calls answers q → AreAnsweredAlike p calls answers
+runs_alike p calls answers q h w = runs_of_session p calls answers q h (of_session p calls answers q w)
 
 -- ALL TOKENS
 begins_on : {A : Type 0} (xs ys zs : List A) → Begins xs ys → Begins ys zs → Begins xs zs
