@@ -9,6 +9,7 @@ ghost use Rattle.yaml_scan.specs.Laws.{StepsBeginCut, CutIsOnly};
 ghost use Rattle.yaml_scan.specs.TokenLaws.{TokensStandInOrder, KeysAreFollowed, FourTokensAStep};
 ghost use Rattle.yaml_scan.specs.SessionLaws.{CourseIsHistory, EndsOrFaults, RefusedHasFault, AcceptedIsCut};
 ghost use Rattle.yaml_scan.specs.SessionLaws.{FrontIsCut, TakenAreBeginning, PeeksChangeNothing, NoneIsStuck};
+ghost use Rattle.yaml_scan.specs.SessionLaws.{PeekShowsNext, SkipTakesPeeked};
 ghost use Rattle.yaml_scan.specs.SessionLaws.{PaceSettles, PaceIsLeast, FewStepsQueued, NearStepIsRefused};
 ghost use Rattle.yaml_scan.specs.SessionLaws.{FarStepIsItself, CourseIsRun};
 ghost use Rattle.yaml_scan.specs.AnswerLaws.{AnswersStandInOrder, AnswersEndFewer, AnswersEndAll, AnswersFollowKeys};
@@ -123,6 +124,13 @@ pub fn taken_tokens_begin_the_list()
 /// Peeks change nothing: the same calls without them, with a scan for each skip, take the same tokens.
 pub fn peeks_change_nothing()
     ensures { PeeksChangeNothing }
+{}
+
+/// The token that a peek shows is returned by the next scan. If the session is not over, a skip after a peek leaves what
+/// a scan leaves.
+pub fn peek_shows_what_scan_returns()
+    ensures shows { PeekShowsNext }
+    ensures skips { SkipTakesPeeked }
 {}
 
 /// No more steps are made than the next token needs.
