@@ -1,6 +1,8 @@
 -- Sessions: what lists of calls take and return.
 -- What calls take of the list, and how many steps are queued after them.
 pub mod SessionTokens
+-- What a peek shows is what the next scan returns.
+pub mod PeekThenScan
 -- A fault is returned once.
 pub mod OneFault
 -- More scans than there are tokens left return all that is left.

@@ -13,5 +13,7 @@ pub mod TextOrder
 pub mod SourceLocality
 -- So is a step, and what is handed out before a reader's fault.
 pub mod StepLocality
+-- A step is the same in two texts that agree a little past its end.
+pub mod TextSteps
 -- The answers to a refused input are those to every accepted one that agrees with it up to the refused character.
 pub mod AnswerLocality

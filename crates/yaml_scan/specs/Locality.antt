@@ -1,5 +1,6 @@
 -- What depends on no character eight or more past the place where a step ends.
-use Rattle.std.specs.Prelude.{◌≡◌, ◌⊎◌, ℕ, ◌+◌, ◌<◌, ◌≤◌, slice_get, Bool, List, Option, Some, None, Result, Ok, Err}
+use Rattle.std.specs.Prelude.{◌≡◌, ◌⊎◌, ℕ, ◌+◌, ◌<◌, ◌≤◌, length, slice_get, Bool, List}
+use Rattle.std.specs.Prelude.{Option, Some, None, Result, Ok, Err}
 use Rattle.yaml_text.specs.Chars.{AreChars}
 use Rattle.yaml_scan.specs.Kind.{Kind}
 use Rattle.yaml_scan.specs.Laid.{Laid}
@@ -58,6 +59,13 @@ SameBelow m a b = (i : ℕ) → i < m → slice_get a i ≡ slice_get b i
 -- what is read up to place r depends on no character eight or more past it
 abbrev pub TextsAreLocal : Type 0
 TextsAreLocal = (r : ℕ) (a b : List ℕ) → SameBelow (r + 8) a b → ReadsSame r (source_of a) (source_of b)
+
+-- two texts agree on all characters below r + 8, and the step after the same lexemes has its reach or its problem at
+-- place r at most in one of them: it is the same in both
+abbrev pub TextStepIsLocal : Type 0
+TextStepIsLocal = (a b : List ℕ) (limit : ℕ) (H : List Laid) (r : ℕ) → AreChars a → place_after H ≤ length a
+    → SameBelow (r + 8) a b → place_of (step (source_of a) limit H) ≤ r
+    → step (source_of b) limit H ≡ step (source_of a) limit H
 
 -- What is read of a decoded text is in its order.
 abbrev pub TextsKeepOrder : Type 0

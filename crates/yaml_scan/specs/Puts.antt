@@ -88,10 +88,10 @@ abbrev pub TakesNext : Parser → List Seen → Parser → Type 0
 TakesNext p answers q =
     TakesOn (answers_to p.limit p.setting p.input).tokens p.session.taken answers q.session.taken
 
--- if a token was peeked, the session is not over, and there is a next token
+-- the session is not over, and there is a next token
 abbrev pub HasNext : Parser → Type 0
-HasNext p = p.session.peeked ≡ true
-    → (p.session.over ≡ false) × ((token : Token) × (next_token p.limit (course_read p) p.session ≡ Some token))
+HasNext p = (p.session.over ≡ false)
+    × ((token : Token) × (next_token p.limit (course_read p) p.session ≡ Some token))
 
 -- OTHER INPUTS
 -- a parser in the same session of another input

@@ -2,6 +2,8 @@
 use Rattle.std.specs.Prelude.{◌≡◌, ℕ, ◌+◌, ◌≤◌, ◌<◌, Bool, true, false, ◌&&◌, List, [], ◌∷◌, ◌++◌, length, Option, Some}
 use Rattle.std.specs.Prelude.{None, option_map, if◌then◌else◌}
 use Rattle.std.specs.Option.{option_to_list}
+use Rattle.yaml_text.specs.declared.types.yaml_encoding_t.{yaml_encoding_t}
+use Rattle.yaml_scan.specs.Token.{yaml_token_t}
 use Rattle.yaml_scan.specs.Laid.{Laid}
 use Rattle.yaml_scan.specs.Groups.{Token, offline}
 use Rattle.yaml_scan.specs.Settled.{before, settled, pace}
@@ -14,8 +16,9 @@ use Rattle.yaml_scan.specs.Step.Outcome.{Faults}
 use Rattle.yaml_scan.specs.Cut.{cut, IsRun, KeepsOrder}
 use Rattle.yaml_scan.specs.Answers.{Input, Course, next, course, tokens_of}
 use Rattle.yaml_scan.specs.Near.{place_of}
-use Rattle.yaml_scan.specs.Session.{Call, Session, new_session, next_token, after, after_all, session_queued}
+use Rattle.yaml_scan.specs.Session.{Call, Session, new_session, next_token, after, after_all, answer, session_queued}
 use Rattle.yaml_scan.specs.Session.Call.{SCAN, PEEK, SKIP}
+use Rattle.yaml_scan.specs.Session.Answer.{TOKEN, PEEKED}
 
 -- THE COURSE OF AN INPUT
 abbrev pub CourseIsHistory : Type 0
@@ -114,6 +117,16 @@ skips_peeked limit c (SKIP ∷ calls) s = s.peeked && skips_peeked limit c calls
 abbrev pub PeeksChangeNothing : Type 0
 PeeksChangeNothing = (limit : ℕ) (c : Course) (calls : List Call) → skips_peeked limit c calls new_session ≡ true
     → taken_by limit c calls new_session ≡ taken_by limit c (without_peeks calls) new_session
+
+-- the token that a peek shows is returned by the next scan
+abbrev pub PeekShowsNext : Type 0
+PeekShowsNext = (e : yaml_encoding_t) (limit : ℕ) (c : Course) (s : Session) (token : yaml_token_t)
+    → answer e limit c PEEK s ≡ PEEKED token → answer e limit c SCAN (after limit c PEEK s) ≡ TOKEN token
+
+-- if a session is not over, a skip after a peek leaves what a scan leaves
+abbrev pub SkipTakesPeeked : Type 0
+SkipTakesPeeked = (limit : ℕ) (c : Course) (s : Session) → s.over ≡ false
+    → after limit c SKIP (after limit c PEEK s) ≡ after limit c SCAN s
 
 -- if a session of an input is not over and has no next token, there is a fault to return
 abbrev pub NoneIsStuck : Type 0

@@ -1,5 +1,5 @@
 //! Lists of calls, and the answer to each.
-ghost use Rattle.std.specs.Prelude.{◌≡◌, ◌+◌, ◌≤◌, length, map, OnOk, OnErr, vec_len};
+ghost use Rattle.std.specs.Prelude.{◌≡◌, ◌+◌, ◌≤◌, length, map, OnOk, OnErr, vec_len, true};
 ghost use Rattle.std.specs.Vec.{vec_capacity};
 ghost use Rattle.yaml_text.specs.Token.{token_of};
 ghost use Rattle.yaml_scan.specs.Session.{session_queued};
@@ -109,7 +109,7 @@ fn answer_all(parser: &mut yaml_parser_t, calls: &[yaml_call_t], out: &mut Vec<y
 /// Few steps are queued in a parser after any calls, and if a token was peeked there is one.
 fn few_wait(parser: &yaml_parser_t)
     ensures few { session_queued (course_read parser.now) parser.now.session ≤ parser.now.limit + 1 }
-    ensures next { HasNext parser.now }
+    ensures next { parser.now.session.peeked ≡ true → HasNext parser.now }
 {
     let _ = yaml_parser_queued(parser);
     let _ = yaml_parser_has_token(parser);

@@ -9,11 +9,12 @@ ghost use Rattle.yaml_scan.specs.Laws.{StepsBeginCut, CutIsOnly};
 ghost use Rattle.yaml_scan.specs.TokenLaws.{TokensStandInOrder, KeysAreFollowed, FourTokensAStep};
 ghost use Rattle.yaml_scan.specs.SessionLaws.{CourseIsHistory, EndsOrFaults, RefusedHasFault, AcceptedIsCut};
 ghost use Rattle.yaml_scan.specs.SessionLaws.{FrontIsCut, TakenAreBeginning, PeeksChangeNothing, NoneIsStuck};
+ghost use Rattle.yaml_scan.specs.SessionLaws.{PeekShowsNext, SkipTakesPeeked};
 ghost use Rattle.yaml_scan.specs.SessionLaws.{PaceSettles, PaceIsLeast, FewStepsQueued, NearStepIsRefused};
 ghost use Rattle.yaml_scan.specs.SessionLaws.{FarStepIsItself, CourseIsRun};
 ghost use Rattle.yaml_scan.specs.AnswerLaws.{AnswersStandInOrder, AnswersEndFewer, AnswersEndAll, AnswersFollowKeys};
 ghost use Rattle.yaml_scan.specs.Locality.{StepIsLocal, TokensBeforeRefusal, FaultBeforeRefusal, TextsAreLocal};
-ghost use Rattle.yaml_scan.specs.Locality.{TextsKeepOrder};
+ghost use Rattle.yaml_scan.specs.Locality.{TextsKeepOrder, TextStepIsLocal};
 ghost use Rattle.yaml_scan.specs.Inputs.{InputsKeepOrder, AllStandInOrder, AllEndFewer, AllEndAll, AllFollowKeys};
 ghost use Rattle.yaml_scan.specs.Inputs.{LateFaults};
 ghost use Rattle.yaml_scan.specs.Words.{AllHaveLines, SessionsHaveLines};
@@ -125,6 +126,13 @@ pub fn peeks_change_nothing()
     ensures { PeeksChangeNothing }
 {}
 
+/// The token that a peek shows is returned by the next scan. If the session is not over, a skip after a peek leaves
+/// what a scan leaves.
+pub fn peek_shows_what_scan_returns()
+    ensures shows { PeekShowsNext }
+    ensures skips { SkipTakesPeeked }
+{}
+
 /// No more steps are made than the next token needs.
 pub fn pace_is_least()
     ensures settles { PaceSettles }
@@ -143,6 +151,7 @@ pub fn step_is_local()
     ensures tokens { TokensBeforeRefusal }
     ensures fault { FaultBeforeRefusal }
     ensures texts { TextsAreLocal }
+    ensures text { TextStepIsLocal }
 {}
 
 /// What is read of a decoded text is in order, so the laws that require it hold of every decoded text.

@@ -360,7 +360,7 @@ pub fn yaml_parser_peek<'s>(
 /// token, and the session is not over.
 pub fn yaml_parser_has_token(parser: &yaml_parser_t) -> bool
     ensures peeked { result ≡ parser.now.session.peeked }
-    ensures next { HasNext parser.now }
+    ensures next { result ≡ true → HasNext parser.now }
 {
     parser.session.peeked
 }

@@ -201,11 +201,11 @@ takes_no_more tokens n m a b k g f = record {
       ∙ assoc g.says (replicate g.idle (Some empty)) (replicate k (Some empty)) ∙ ap (λ (z : List (Option yaml_token_t)). g.says ++ z) (replicates g.idle k);
 }
 
-session_takes : (p : Parser) (calls : List Call) → HasNext p → TakesOn (answers_to p.limit p.setting p.input).tokens p.session.taken (map seen (answered_all p calls)) (after_calls p calls).session.taken
+session_takes : (p : Parser) (calls : List Call) → (p.session.peeked ≡ true → HasNext p) → TakesOn (answers_to p.limit p.setting p.input).tokens p.session.taken (map seen (answered_all p calls)) (after_calls p calls).session.taken
 unfolding answers_to answers course_read
 session_takes p calls h = takes (input_read p).encoding p.limit (course_read p) calls p.session h
 
-pub takes_next : (p : Parser) (calls : List Call) (answers : List Seen) (q : Parser) → HasNext p → Runs p calls answers q → TakesNext p answers q
+pub takes_next : (p : Parser) (calls : List Call) (answers : List Seen) (q : Parser) → (p.session.peeked ≡ true → HasNext p) → Runs p calls answers q → TakesNext p answers q
 takes_next p calls answers q h w = go (of_session p calls answers q w)
   where
     go : OfSession p calls answers q → TakesNext p answers q

@@ -223,11 +223,11 @@ peeked_alike p a q (inl w) t b fault g =
     (peek_both p.limit p.setting p.input t b fault g u u (like_self p.limit p.setting p.input t b fault g u) u.over (next_token p.limit (course p.limit (decoded_input p.setting p.input)) u) refl refl)
 
 -- LISTS OF CALLS
-run_alike : (p : Parser) (calls : List Call) (t : yaml_encoding_t) (b : List ℕ) (fault : Fault) (g : GoesOn p.setting p.input t b fault) → HasNext p → Alike p.limit p.setting p.input t b fault g calls p.session p.session
+run_alike : (p : Parser) (calls : List Call) (t : yaml_encoding_t) (b : List ℕ) (fault : Fault) (g : GoesOn p.setting p.input t b fault) → (p.session.peeked ≡ true → HasNext p) → Alike p.limit p.setting p.input t b fault g calls p.session p.session
 unfolding course_read
 run_alike p calls t b fault g h = alike p.limit p.setting p.input t b fault g calls p.session p.session (like_self p.limit p.setting p.input t b fault g p.session) h
 
-runs_of_session : (p : Parser) (calls : List Call) (answers : List Seen) (q : Parser) → HasNext p → OfSession p calls answers q → AreAnsweredAlike p calls answers
+runs_of_session : (p : Parser) (calls : List Call) (answers : List Seen) (q : Parser) → (p.session.peeked ≡ true → HasNext p) → OfSession p calls answers q → AreAnsweredAlike p calls answers
 unfolding course_read
 runs_of_session p calls answers q h (inl r) t b fault g = go (run_alike p calls t b fault g h)
   where
@@ -242,7 +242,7 @@ runs_of_session p calls answers q h (inr o) t b fault g = go (run_alike p (take 
     go (inl e) = inr (inr (record { n = o.n; within = o.within; answers_are = o.answers ∙ ap (λ (z : List Seen). z ++ (sight.FAULT memory_fault ∷ map idle (drop (o.n + 1) calls))) e }))
     go (inr k) = absurd (false≢true (sym o.wants.was_open ∙ k.over))
 
-pub runs_alike : (p : Parser) (calls : List Call) (answers : List Seen) (q : Parser) → HasNext p → Runs p calls answers q → AreAnsweredAlike p calls answers
+pub runs_alike : (p : Parser) (calls : List Call) (answers : List Seen) (q : Parser) → (p.session.peeked ≡ true → HasNext p) → Runs p calls answers q → AreAnsweredAlike p calls answers
 runs_alike p calls answers q h w = runs_of_session p calls answers q h (of_session p calls answers q w)
 
 -- ALL TOKENS

@@ -1,6 +1,7 @@
 use Rattle.yaml_scan.proofs.Texts.StepLocality as laws
 use Rattle.yaml_scan.proofs.Texts.SourceLocality as texts
+use Rattle.yaml_scan.proofs.Texts.TextSteps as both
 use Rattle.yaml_scan.proofs.laws.step_is_local.Goals as goal
 
 pub returns : goal.returns
-returns c = record { step = laws.step_is_local; tokens = laws.tokens_before_refusal; fault = laws.fault_before_refusal; texts = texts.texts_are_local }
+returns c = record { step = laws.step_is_local; tokens = laws.tokens_before_refusal; fault = laws.fault_before_refusal; texts = texts.texts_are_local; text = both.text_step_is_local }
