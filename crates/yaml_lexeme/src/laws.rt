@@ -3,7 +3,7 @@ ghost use Rattle.std.specs.Prelude.{◌≡◌, ◌↔◌, IsTrue};
 ghost use Rattle.yaml_lexeme.specs.Lexeme.{lexeme_of};
 ghost use Rattle.yaml_lexeme.specs.Counted.{PlacesAreCounted, MarksAreCounted};
 ghost use Rattle.yaml_lexeme.specs.Whole.{GapIsWhole, ReachIsWhole, EndIsWhole, GapIsCounted, LexemeIsCounted};
-ghost use Rattle.yaml_lexeme.specs.Whole.{ProblemIsCounted};
+ghost use Rattle.yaml_lexeme.specs.Whole.{ProblemIsCounted, StreamEndIsLast, StreamEndIsCounted};
 ghost use Rattle.yaml_lexeme.specs.GapText.{GapIsLongest, RunIsLongest};
 ghost use Rattle.yaml_lexeme.specs.Locality.{GapIsLocal, KindIsLocal, LexIsLocal};
 ghost use Rattle.yaml_lexeme.specs.Parts.{QuotedIsParts, QuotedIsRefused, PlainIsParts, PlainIsRefused};
@@ -91,6 +91,14 @@ pub fn ends_are_counted()
     ensures gaps { GapIsCounted }
     ensures lexemes { LexemeIsCounted }
     ensures problems { ProblemIsCounted }
+{}
+
+/// At a place that is not between CR and LF is a stream end exactly if all characters of the text are before it. The
+/// marks of the stream end are then the one that is counted from the front of the text, moved to the start of the next
+/// line if its column is not 0.
+pub fn stream_end_is_at_the_end()
+    ensures last { StreamEndIsLast }
+    ensures marks { StreamEndIsCounted }
 {}
 
 /// The text between the quotes of a scalar is its parts, one after the other and as many as possible, and its value is
