@@ -8,7 +8,7 @@ ghost use Rattle.yaml_lexeme.specs.GapText.{GapIsLongest, RunIsLongest};
 ghost use Rattle.yaml_lexeme.specs.Locality.{GapIsLocal, KindIsLocal, LexIsLocal};
 ghost use Rattle.yaml_lexeme.specs.Parts.{QuotedIsParts, QuotedIsRefused, PlainIsParts, PlainIsRefused};
 ghost use Rattle.yaml_lexeme.specs.Parts.{ChunkIsLongest, LinkIsLongest, LinkIsOver, UriIsParts, UriIsRefused};
-ghost use Rattle.yaml_lexeme.specs.Parts.{BlanksAreLines, BlockIsLines};
+ghost use Rattle.yaml_lexeme.specs.Parts.{BlanksAreLines, BlanksAreRefused, BlockIsLines, BlockIsRefused};
 ghost use Rattle.yaml_lexeme.specs.Order.{GapOrder, LexemeSpans, LexemeOrder, StreamEndOrder, OffenceIsAhead};
 ghost use Rattle.yaml_lexeme.specs.Order.{LexemeFollows};
 
@@ -131,10 +131,14 @@ pub fn uri_is_its_parts()
 {}
 
 /// The empty lines of a literal or folded scalar, before its text lines and between them, are as many as possible;
-/// so are its text lines, and its value is that of these lines.
+/// so are its text lines, and its value is that of these lines. If it is refused, the offence is that of the first part
+/// that the text does not give: the header, the rest of its line, the leading empty lines, or the text lines. In the
+/// last two it comes after as many lines as possible.
 pub fn block_is_its_lines()
     ensures empty { BlanksAreLines }
+    ensures empty_refused { BlanksAreRefused }
     ensures text { BlockIsLines }
+    ensures refused { BlockIsRefused }
 {}
 
 /// Lexemes are equal exactly if what they say, their marks and whether a break was passed are.
