@@ -9,6 +9,7 @@ ghost use Rattle.yaml_lexeme.specs.Locality.{GapIsLocal, KindIsLocal, LexIsLocal
 ghost use Rattle.yaml_lexeme.specs.Parts.{QuotedIsParts, QuotedIsRefused, PlainIsParts, PlainIsRefused};
 ghost use Rattle.yaml_lexeme.specs.Parts.{ChunkIsLongest, LinkIsLongest, LinkIsOver, UriIsParts, UriIsRefused};
 ghost use Rattle.yaml_lexeme.specs.Parts.{BlanksAreLines, BlanksAreRefused, BlockIsLines, BlockIsRefused};
+ghost use Rattle.yaml_lexeme.specs.Grammar.{NameIsParts, NameIsRefused};
 ghost use Rattle.yaml_lexeme.specs.Order.{GapOrder, LexemeSpans, LexemeOrder, StreamEndOrder, OffenceIsAhead};
 ghost use Rattle.yaml_lexeme.specs.Order.{LexemeFollows};
 
@@ -139,6 +140,13 @@ pub fn block_is_its_lines()
     ensures empty_refused { BlanksAreRefused }
     ensures text { BlockIsLines }
     ensures refused { BlockIsRefused }
+{}
+
+/// An anchor or alias is `&` or `*` and as many letters as possible, at least one, before a character that may follow a
+/// name. If it is refused, the offence comes after the letters: there is none, or another character follows.
+pub fn name_is_its_parts()
+    ensures parts { NameIsParts }
+    ensures refused { NameIsRefused }
 {}
 
 /// Lexemes are equal exactly if what they say, their marks and whether a break was passed are.
