@@ -9,7 +9,7 @@ ghost use Rattle.yaml_lexeme.specs.Locality.{GapIsLocal, KindIsLocal, LexIsLocal
 ghost use Rattle.yaml_lexeme.specs.Parts.{QuotedIsParts, QuotedIsRefused, PlainIsParts, PlainIsRefused};
 ghost use Rattle.yaml_lexeme.specs.Parts.{ChunkIsLongest, LinkIsLongest, LinkIsOver, UriIsParts, UriIsRefused};
 ghost use Rattle.yaml_lexeme.specs.Parts.{BlanksAreLines, BlanksAreRefused, BlockIsLines, BlockIsRefused};
-ghost use Rattle.yaml_lexeme.specs.Grammar.{NameIsParts, NameIsRefused};
+ghost use Rattle.yaml_lexeme.specs.Grammar.{NameIsParts, NameIsRefused, TagIsParts, TagIsRefused};
 ghost use Rattle.yaml_lexeme.specs.Order.{GapOrder, LexemeSpans, LexemeOrder, StreamEndOrder, OffenceIsAhead};
 ghost use Rattle.yaml_lexeme.specs.Order.{LexemeFollows};
 
@@ -147,6 +147,13 @@ pub fn block_is_its_lines()
 pub fn name_is_its_parts()
     ensures parts { NameIsParts }
     ensures refused { NameIsRefused }
+{}
+
+/// A tag is `!<`, a uri and `>`, or a handle and a uri, before what may follow a tag; the texts of these, joined, are
+/// the text of the tag. If it is refused, the offence is that of the first of them that the text does not give.
+pub fn tag_is_its_parts()
+    ensures parts { TagIsParts }
+    ensures refused { TagIsRefused }
 {}
 
 /// Lexemes are equal exactly if what they say, their marks and whether a break was passed are.

@@ -8,7 +8,8 @@ use Rattle.yaml_lexeme.specs.Grammar.{LongestRun, NameParts, NameIsParts, NameRe
 use Rattle.yaml_lexeme.specs.Name.{is_after_name, name}
 use Rattle.yaml_lexeme.specs.Place.{Place, first, skip, run, after_run}
 use Rattle.yaml_lexeme.specs.Reading.{Offence, Found, found, refuse}
-use Rattle.yaml_lexeme.proofs.Grammars.RunTexts.{of_run, run_of, front_is, passed, failed, taken, left}
+use Rattle.yaml_lexeme.proofs.Grammars.RunTexts.{of_run, run_of, front_is}
+use Rattle.yaml_lexeme.proofs.Grammars.ReadingSteps.{passed, failed, taken, left, offence_is}
 use Rattle.yaml_lexeme.proofs.Parts.ReadResults.{both}
 use Rattle.yaml_lexeme.proofs.Places.PlaceMoves.{length_one}
 
@@ -72,17 +73,13 @@ refused_from p e is test = record {
   problem = ap (λ (o : Offence). o.problem) is;
 }
 
-offence_is : (e o : Offence) → e.problem ≡ o.problem → e.at ≡ o.at → e ≡ o
-offence_is e o h a = rw (h, a) refl
-
 refused_to : (p : Place) (e : Offence) → NameRefused p e → name p ≡ Err e
 unfolding name
 refused_to p e n =
     let r = run_of is_alpha (skip 1 p) n.text e.at n.letters in
     let g = letters_at p in
     let bad : is_name g ≡ false = rw (sym r.0, sym r.1) (bad_of n.text (is_after_name (first e.at)) n.lacks) in
-    let same : no_name_at g.end ≡ e = sym (offence_is e (no_name_at g.end) n.problem r.1) in
-    left (is_name g) (found g.value g.end) (refuse NO_NAME g.end) bad ∙ ap (λ (o : Offence). Err o) same
+    left (is_name g) (found g.value g.end) (refuse NO_NAME g.end) bad ∙ offence_is e NO_NAME g.end n.problem r.1
 
 pub name_refused : NameIsRefused
 unfolding name

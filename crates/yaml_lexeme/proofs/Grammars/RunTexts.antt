@@ -1,5 +1,5 @@
--- A run is the longest text of characters that pass, and tests decide what is read.
-use Rattle.std.proofs.Common.{◌≡◌, ℕ, suc, ◌<◌, Bool, true, false, if◌then◌else◌, inl, inr, List, [], ◌∷◌, ◌++◌, length, take, drop, slice_index, Ok, Err, refl, sym, ap, ◌∙◌, arith}
+-- A run is the longest text of characters that pass.
+use Rattle.std.proofs.Common.{◌≡◌, ℕ, suc, ◌<◌, Bool, true, false, inl, inr, List, [], ◌∷◌, ◌++◌, length, take, drop, slice_index, refl, sym, ap, ◌∙◌, arith}
 use Rattle.std.specs.List.{list_all, prefix_len}
 use Rattle.std.proofs.Math.Seq.{take-append_seam}
 use Rattle.std.proofs.lemmas.Bool.{cases_Bool, and_parts}
@@ -57,18 +57,3 @@ pub sign_is : (c : ℕ) (p : Place) → 0 < c → first p ≡ c → p.rest ≡ c
 sign_is c p some e =
     let there : 0 < first p = omega (arith, e) in
     front_is p (is_there p 0 there) ∙ ap (λ (d : ℕ). d ∷ (skip 1 p).rest) e
-
--- a test, of whose two cases the first reads, and the second refuses
-pub passed : {A B : Type 0} → (b : Bool) (x y : A) (o : B) → (if b then Ok x else Err o) ≡ Ok y → (b ≡ true) × (y ≡ x)
-passed true x y o h = (refl, cc)
-passed false x y o h = absurd cc
-
-pub failed : {A B : Type 0} → (b : Bool) (x : A) (o e : B) → (if b then Ok x else Err o) ≡ Err e → (b ≡ false) × (e ≡ o)
-failed true x o e h = absurd cc
-failed false x o e h = (refl, cc)
-
-pub taken : {A : Type 0} → (b : Bool) (x y : A) → b ≡ true → (if b then x else y) ≡ x
-taken b x y h = rw h refl
-
-pub left : {A : Type 0} → (b : Bool) (x y : A) → b ≡ false → (if b then x else y) ≡ y
-left b x y h = rw h refl
