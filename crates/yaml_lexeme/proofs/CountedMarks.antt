@@ -2,6 +2,8 @@
 
 -- The mark of a place is the one that is counted from the front.
 pub mod CountedPlaces
+-- A stream end is at the end of a text, and nowhere else.
+pub mod LastPlaces
 -- Reading ahead from a place that is not between CR and LF to another such place.
 pub mod WholePlaces
 -- Gaps, names, tags, what a directive says and the rest of its line end, or are refused, at places that are not between CR and LF.

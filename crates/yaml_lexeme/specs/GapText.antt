@@ -1,5 +1,6 @@
 -- A gap is the longest text that is gap lines joined by breaks (YAML 1.1, 6.2 Comments).
 use Rattle.std.specs.Prelude.{ℕ, zero, suc, ◌≡◌, ◌⊎◌, ◌<◌, ◌≤◌, Bool, true, false, not, ◌||◌, nat_lt, length}
+use Rattle.yaml_text.specs.declared.types.yaml_mark_t.{yaml_mark_t}
 use Rattle.yaml_lexeme.specs.Classes.{is_in_line}
 use Rattle.yaml_lexeme.specs.Gap.{byte_order_mark, is_gap_blank, gap}
 use Rattle.yaml_lexeme.specs.Place.{Place, peek, first, skip, distance, after_run, break_len}
@@ -39,6 +40,12 @@ pub record LongestGap (flow tabs : Bool) (p q : Place) (broken : Bool) : Type 0 
   pub text : GapLines breaks flow tabs p q
   pub broken_is : broken ≡ nat_lt 0 breaks
   pub longest : (n : ℕ) (x : Place) → GapLines n flow tabs p x → distance p x ≤ distance p q
+
+-- from p up to a place with the mark is the longest such text, if a key is allowed at p or is not
+pub record EndsLongestGap (flow allowed : Bool) (p : Place) (mark : yaml_mark_t) (broken : Bool) : Type 0 where
+  pub end : Place
+  pub mark_is : mark ≡ end.mark
+  pub longest : LongestGap flow (flow || not allowed) p end broken
 
 abbrev pub GapIsLongest : Type 0
 GapIsLongest = (flow allowed : Bool) (p : Place) →

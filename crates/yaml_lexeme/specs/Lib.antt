@@ -23,4 +23,5 @@ pub mod Locality
 pub mod Counted
 pub mod Whole
 pub mod Parts
+pub mod Grammar
 pub mod inside

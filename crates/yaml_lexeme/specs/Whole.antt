@@ -1,11 +1,14 @@
 -- Places where reading ends are not between CR and LF, so that their marks are the counted ones.
-use Rattle.std.specs.Prelude.{ℕ, ◌≡◌, ◌≤◌, Bool, List, Some, Ok, Err}
-use Rattle.yaml_text.specs.Mark.{IsPlaceAt, IsMarkAt}
+use Rattle.std.specs.Prelude.{ℕ, ◌≡◌, ◌≤◌, ◌↔◌, Bool, List, length, Some, Ok, Err}
+use Rattle.yaml_text.specs.Chars.{AreChars}
+use Rattle.yaml_text.specs.Mark.{IsPlaceAt, IsMarkAt, mark_at}
+use Rattle.yaml_text.specs.Token.{TokenData as token}
 use Rattle.yaml_text.specs.declared.types.yaml_mark_t.{yaml_mark_t}
 use Rattle.yaml_lexeme.specs.declared.kind.yaml_lexeme_kind_t.{yaml_lexeme_kind_t}
 use Rattle.yaml_lexeme.specs.declared.kind.yaml_lexeme_kind_t.TheVariants as kind
 use Rattle.yaml_lexeme.specs.declared.lex.yaml_context_t.{yaml_context_t}
-use Rattle.yaml_lexeme.specs.Lexeme.{Lexeme as yaml_lexeme_t}
+use Rattle.yaml_lexeme.specs.Lexeme.{Lexeme as yaml_lexeme_t, whole_of}
+use Rattle.yaml_lexeme.specs.StreamEnd.{stream_end}
 use Rattle.yaml_lexeme.specs.Gap.{gap}
 use Rattle.yaml_lexeme.specs.Kind.{kind_at}
 use Rattle.yaml_lexeme.specs.Lex.{lex, in_flow}
@@ -70,3 +73,14 @@ ProblemIsCounted = (k : yaml_lexeme_kind_t) (c : yaml_context_t) (text : List �
     → IsPlaceAt text index n → kind_at (in_flow c) (place_at text n) ≡ Some k
     → lex k c (place_at text n) ≡ Err e
     → IsCounted text n e.at.mark
+
+-- A stream end is at a place of a text exactly if that is the text's end,
+abbrev pub StreamEndIsLast : Type 0
+StreamEndIsLast = (flow : Bool) (text : List ℕ) (index n : ℕ) → AreChars text → IsPlaceAt text index n →
+    (kind_at flow (place_at text n) ≡ Some kind.STREAM_END) ↔ (n ≡ length text)
+
+-- and its three marks are then that of the text's end, or of the next line's start if the column there is not 0.
+abbrev pub StreamEndIsCounted : Type 0
+StreamEndIsCounted = (c : yaml_context_t) (text : List ℕ) (index : ℕ) (f : Found yaml_lexeme_t)
+    → IsPlaceAt text index (length text) → lex kind.STREAM_END c (place_at text (length text)) ≡ Ok f
+    → (let end = stream_end (mark_at text (length text)) in f.value ≡ whole_of token.STREAM_END end end)

@@ -3,6 +3,7 @@ ghost use Rattle.std.specs.Prelude.{ℕ, ◌≡◌, true, IfSome};
 ghost use Rattle.yaml_lexeme.specs.Place.{IsMarkOf, place_at, after_run, peek};
 ghost use Rattle.yaml_lexeme.specs.Classes.{is_in_line};
 ghost use Rattle.yaml_lexeme.specs.Gap as spec;
+ghost use Rattle.yaml_lexeme.specs.GapText.{EndsLongestGap};
 
 use crate::place::{check_at, cursor_t};
 use crate::runs::class_t;
@@ -135,6 +136,8 @@ pub fn yaml_gap(
         → result.0 ≡ (spec.gap in_flow allowed (place_at text.now.chars n)).0.mark }
     ensures broken { (n : ℕ) → IsMarkOf text.now.chars at n
         → result.1 ≡ (spec.gap in_flow allowed (place_at text.now.chars n)).1 }
+    ensures longest { (n : ℕ) → IsMarkOf text.now.chars at n
+        → EndsLongestGap in_flow allowed (place_at text.now.chars n) result.0 result.1 }
 {
     let cursor = cursor_t::at(text, at);
     match short_gap(&cursor) {

@@ -3,12 +3,13 @@ ghost use Rattle.std.specs.Prelude.{◌≡◌, ◌↔◌, IsTrue};
 ghost use Rattle.yaml_lexeme.specs.Lexeme.{lexeme_of};
 ghost use Rattle.yaml_lexeme.specs.Counted.{PlacesAreCounted, MarksAreCounted};
 ghost use Rattle.yaml_lexeme.specs.Whole.{GapIsWhole, ReachIsWhole, EndIsWhole, GapIsCounted, LexemeIsCounted};
-ghost use Rattle.yaml_lexeme.specs.Whole.{ProblemIsCounted};
+ghost use Rattle.yaml_lexeme.specs.Whole.{ProblemIsCounted, StreamEndIsLast, StreamEndIsCounted};
 ghost use Rattle.yaml_lexeme.specs.GapText.{GapIsLongest, RunIsLongest};
 ghost use Rattle.yaml_lexeme.specs.Locality.{GapIsLocal, KindIsLocal, LexIsLocal};
 ghost use Rattle.yaml_lexeme.specs.Parts.{QuotedIsParts, QuotedIsRefused, PlainIsParts, PlainIsRefused};
 ghost use Rattle.yaml_lexeme.specs.Parts.{ChunkIsLongest, LinkIsLongest, LinkIsOver, UriIsParts, UriIsRefused};
-ghost use Rattle.yaml_lexeme.specs.Parts.{BlanksAreLines, BlockIsLines};
+ghost use Rattle.yaml_lexeme.specs.Parts.{BlanksAreLines, BlanksAreRefused, BlockIsLines, BlockIsRefused};
+ghost use Rattle.yaml_lexeme.specs.Grammar.{NameIsParts, NameIsRefused, TagIsParts, TagIsRefused};
 ghost use Rattle.yaml_lexeme.specs.Order.{GapOrder, LexemeSpans, LexemeOrder, StreamEndOrder, OffenceIsAhead};
 ghost use Rattle.yaml_lexeme.specs.Order.{LexemeFollows};
 
@@ -93,6 +94,14 @@ pub fn ends_are_counted()
     ensures problems { ProblemIsCounted }
 {}
 
+/// At a place that is not between CR and LF is a stream end exactly if all characters of the text are before it. The
+/// marks of the stream end are then the one that is counted from the front of the text, moved to the start of the next
+/// line if its column is not 0.
+pub fn stream_end_is_at_the_end()
+    ensures last { StreamEndIsLast }
+    ensures marks { StreamEndIsCounted }
+{}
+
 /// The text between the quotes of a scalar is its parts, one after the other and as many as possible, and its value is
 /// theirs. If it is refused, the offence comes after as many parts as possible.
 pub fn quoted_is_its_parts()
@@ -123,10 +132,28 @@ pub fn uri_is_its_parts()
 {}
 
 /// The empty lines of a literal or folded scalar, before its text lines and between them, are as many as possible;
-/// so are its text lines, and its value is that of these lines.
+/// so are its text lines, and its value is that of these lines. If it is refused, the offence is that of the first part
+/// that the text does not give: the header, the rest of its line, the leading empty lines, or the text lines. In the
+/// last two it comes after as many lines as possible.
 pub fn block_is_its_lines()
     ensures empty { BlanksAreLines }
+    ensures empty_refused { BlanksAreRefused }
     ensures text { BlockIsLines }
+    ensures refused { BlockIsRefused }
+{}
+
+/// An anchor or alias is `&` or `*` and as many letters as possible, at least one, before a character that may follow a
+/// name. If it is refused, the offence comes after the letters: there is none, or another character follows.
+pub fn name_is_its_parts()
+    ensures parts { NameIsParts }
+    ensures refused { NameIsRefused }
+{}
+
+/// A tag is `!<`, a uri and `>`, or a handle and a uri, before what may follow a tag; the texts of these, joined, are
+/// the text of the tag. If it is refused, the offence is that of the first of them that the text does not give.
+pub fn tag_is_its_parts()
+    ensures parts { TagIsParts }
+    ensures refused { TagIsRefused }
 {}
 
 /// Lexemes are equal exactly if what they say, their marks and whether a break was passed are.

@@ -8,7 +8,8 @@ use Rattle.yaml_lexeme.proofs.Places.PlaceMoves.{skip_none, length_skip, within_
 use Rattle.yaml_lexeme.proofs.Readers.FoldSeparators.{stopped}
 use Rattle.yaml_lexeme.specs.Classes.{is_in_line}
 use Rattle.yaml_lexeme.specs.Gap.{byte_order_mark, is_gap_blank, after_mark, after_comment, after_gap_line, after_gap_lines, gap}
-use Rattle.yaml_lexeme.specs.GapText.{Passes, MayBeMark, MayBeComment, GapLine, GapLines, GapIsLongest, RunIsLongest}
+use Rattle.yaml_lexeme.specs.GapText.{Passes, MayBeMark, MayBeComment, GapLine, GapLines, LongestGap, EndsLongestGap, GapIsLongest, RunIsLongest}
+use Rattle.yaml_text.specs.declared.types.yaml_mark_t.{yaml_mark_t}
 use Rattle.yaml_lexeme.specs.Place.{Place, first, skip, run_len, after_run, break_len}
 
 -- runs
@@ -247,3 +248,16 @@ gap_longest flow allowed p =
     let line = after_gap_line (flow || not allowed) p in
     let r = reaches (length line.rest) flow (flow || not allowed) p (omega arith) in
     record { breaks = r.breaks; text = r.text; broken_is = r.broken; longest = λ n x g. (let l = r.longest n x g in omega arith) }
+
+-- so a mark and a flag that are those of the gap are those of the longest
+pub ends_longest : (flow allowed : Bool) (p : Place) (mark : yaml_mark_t) (broken : Bool) → mark ≡ (gap flow allowed p).0.mark → broken ≡ (gap flow allowed p).1 → EndsLongestGap flow allowed p mark broken
+ends_longest flow allowed p mark broken mark_is broken_is = record {
+  end = (gap flow allowed p).0;
+  mark_is = mark_is;
+  longest = subst (λ (b : Bool). LongestGap flow (flow || not allowed) p (gap flow allowed p).0 b) (sym broken_is) (gap_longest flow allowed p);
+}
+
+-- the same of a place and a flag
+pub gap_ends_longest : (flow allowed : Bool) (p q : Place) (mark : yaml_mark_t) (broken : Bool) → mark ≡ q.mark → gap flow allowed p ≡ (q, broken) → EndsLongestGap flow allowed p mark broken
+gap_ends_longest flow allowed p q mark broken mark_is e =
+    ends_longest flow allowed p mark broken (mark_is ∙ ap (λ (r : Place × Bool). r.0.mark) (sym e)) (ap (λ (r : Place × Bool). r.1) (sym e))
