@@ -124,6 +124,33 @@ pub(crate) fn expect(
     Ok(())
 }
 
+/// A part of an input, how many times it comes, and how many lines are written.
+const DEEP: [(&str, usize, u64); 2] = [("[", 100_000, 100_002), ("- ", 50_000, 150_002)];
+
+/// Depth and levels have no limit of their own.
+#[test]
+fn deep_inputs(rt: HostRuntime) -> Result<(), Fail> {
+    let alloc = rt.alloc();
+    for (part, count, lines) in DEEP {
+        let mut input = String::new(alloc);
+        for _ in 0..count {
+            input.push_str(part)?;
+        }
+        let (outcome, written) = outcome_of(alloc, "scan any", input.as_bytes(), Vec::new(alloc))?;
+        assert_eq!(rt; yaml_status(&outcome), 0, "{part}");
+        let mut seen: u64 = 0;
+        for byte in &written {
+            if *byte == b'\n' {
+                seen = seen.wrapping_add(1);
+            }
+        }
+        assert_eq!(rt; seen, lines, "{part}");
+        let last = b"STREAM-END 100000:1:0 100000:1:0\n";
+        assert!(rt; written.as_slice().ends_with(last), "{part}");
+    }
+    Ok(())
+}
+
 fn is_command(alloc: Global, command: &str) -> Result<bool, Fail> {
     let words = words_of(alloc, command)?;
     Ok(parse_args(&words).is_some())
