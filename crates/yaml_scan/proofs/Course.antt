@@ -11,5 +11,7 @@ pub mod StepsNeeded
 pub mod LastToken
 -- The laws of tokens hold of the tokens that are returned.
 pub mod AnswerOrder
+-- Without what the layout inserted, the tokens that are returned are those of the lexemes.
+pub mod LexemeTokens
 -- They hold for any bytes and setting.
 pub mod InputLaws

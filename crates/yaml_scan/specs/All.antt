@@ -11,7 +11,7 @@ use Rattle.yaml_scan.specs.Groups.{handed_out}
 use Rattle.yaml_scan.specs.Answers.{Answers, Course, course}
 use Rattle.yaml_scan.specs.Session.{all_steps, settled_tokens}
 use Rattle.yaml_scan.specs.Inputs.{decoded_input, answers_to}
-use Rattle.yaml_scan.specs.AnswerLaws.{ends_among, starts_among}
+use Rattle.yaml_scan.specs.AnswerLaws.{ends_among, starts_among, of_text_among, tokens_of_cut}
 
 -- these are all tokens of the answers, and their fault
 abbrev pub AllOf : Answers → List yaml_token_t → Option Fault → Type 0
@@ -51,3 +51,10 @@ depth_of limit setting input = depth (course_to limit setting input).read
 -- if the stream ended outside flow collections there are as many block ends as block starts
 abbrev pub EndAll : ℕ → List yaml_token_t → Option Fault → Type 0
 EndAll depth tokens fault = fault ≡ None → depth ≡ 0 → ends_among tokens ≡ starts_among tokens
+
+-- without what the layout inserted, these are in order the tokens of STREAM-START and of the first lexemes of the
+-- input, and of all its lexemes if there is no fault
+abbrev pub TellLexemes : ℕ → yaml_encoding_t → List ℕ → List yaml_token_t → Option Fault → Type 0
+TellLexemes limit setting input tokens fault =
+    Begins (of_text_among tokens) (tokens_of_cut limit (decoded_input setting input))
+    × (fault ≡ None → of_text_among tokens ≡ tokens_of_cut limit (decoded_input setting input))

@@ -1,11 +1,14 @@
 -- What holds of the tokens that are returned.
-use Rattle.std.specs.Prelude.{◌≡◌, ℕ, ◌+◌, ◌≤◌, Bool, true, ◌&&◌, List, [], ◌∷◌, take, filter, length, nat_eq, nat_le}
-use Rattle.std.specs.Prelude.{None}
+use Rattle.std.specs.Prelude.{◌≡◌, ℕ, ◌+◌, ◌≤◌, Bool, true, not, ◌&&◌, ◌||◌, List, [], ◌∷◌, map, reverse, take, filter}
+use Rattle.std.specs.Prelude.{length, nat_eq, nat_le, None}
 use Rattle.std.specs.List.{list_any}
 use Rattle.yaml_text.specs.declared.types.yaml_mark_t.{yaml_mark_t}
 use Rattle.yaml_scan.specs.Token.{yaml_token_t, type_of, is_end_type, is_start_type, is_key_type, is_value_type}
+use Rattle.yaml_scan.specs.Groups.{handed_out}
+use Rattle.yaml_scan.specs.Groups.Token.{StreamStart, OfLexeme}
 use Rattle.yaml_scan.specs.Depth.{depth}
-use Rattle.yaml_scan.specs.Cut.{KeepsOrder}
+use Rattle.yaml_scan.specs.Begins.{Begins}
+use Rattle.yaml_scan.specs.Cut.{KeepsOrder, cut}
 use Rattle.yaml_scan.specs.Answers.{Input, course, answers}
 
 -- from index n on none starts after its end, or ends after the start of the next
@@ -55,3 +58,27 @@ AreFollowed limit (t ∷ ts) = (is_put_in t ≡ true → list_any (is_near_value
 abbrev pub AnswersFollowKeys : Type 0
 AnswersFollowKeys = (limit : ℕ) (input : Input) → KeepsOrder input.source
     → AreFollowed limit (answers limit input).tokens
+
+-- STREAM-START, or the token of a lexeme: all but block ends, block starts and the keys that the layout inserted
+abbrev pub is_of_text : yaml_token_t → Bool
+is_of_text t = not (is_end_type (type_of t.token_data) || (is_start_type (type_of t.token_data) || is_put_in t))
+
+-- those among some tokens, in order
+unfoldable pub of_text_among : List yaml_token_t → List yaml_token_t
+of_text_among ts = filter is_of_text ts
+
+-- the tokens of STREAM-START and of the lexemes of an input's text, in order
+unfoldable pub tokens_of_cut : ℕ → Input → List yaml_token_t
+tokens_of_cut limit input = map (handed_out input.encoding)
+    (StreamStart ∷ map (λ i. OfLexeme i.lexeme) (reverse (cut input.source limit).read))
+
+-- without what the layout inserted, the tokens are in order those of STREAM-START and of the first lexemes of the text,
+-- or of the front of a refused input
+abbrev pub AnswersTellLexemes : Type 0
+AnswersTellLexemes = (limit : ℕ) (input : Input) → KeepsOrder input.source
+    → Begins (of_text_among (answers limit input).tokens) (tokens_of_cut limit input)
+
+-- if there is no fault, they are those of STREAM-START and of all lexemes
+abbrev pub AnswersTellAll : Type 0
+AnswersTellAll = (limit : ℕ) (input : Input) → KeepsOrder input.source → (answers limit input).fault ≡ None
+    → of_text_among (answers limit input).tokens ≡ tokens_of_cut limit input

@@ -13,6 +13,7 @@ ghost use Rattle.yaml_scan.specs.SessionLaws.{PeekShowsNext, SkipTakesPeeked};
 ghost use Rattle.yaml_scan.specs.SessionLaws.{PaceSettles, PaceIsLeast, FewStepsQueued, NearStepIsRefused};
 ghost use Rattle.yaml_scan.specs.SessionLaws.{FarStepIsItself, CourseIsRun};
 ghost use Rattle.yaml_scan.specs.AnswerLaws.{AnswersStandInOrder, AnswersEndFewer, AnswersEndAll, AnswersFollowKeys};
+ghost use Rattle.yaml_scan.specs.AnswerLaws.{AnswersTellLexemes, AnswersTellAll};
 ghost use Rattle.yaml_scan.specs.Locality.{StepIsLocal, TokensBeforeRefusal, FaultBeforeRefusal, TextsAreLocal};
 ghost use Rattle.yaml_scan.specs.Locality.{TextsKeepOrder, TextStepIsLocal};
 ghost use Rattle.yaml_scan.specs.Inputs.{InputsKeepOrder, AllStandInOrder, AllEndFewer, AllEndAll, AllFollowKeys};
@@ -72,6 +73,14 @@ pub fn cut_is_longest()
 /// The tokens of the lexemes themselves come in the order of the text.
 pub fn lexemes_come_in_order()
     ensures { LexemesComeInOrder }
+{}
+
+/// Of the tokens that are returned, all but block ends, block starts and keys whose two marks are equal are, in order,
+/// those of STREAM-START and of the first lexemes of the text, or of the front of a refused input. If there is no fault
+/// they are those of all its lexemes.
+pub fn lexemes_are_returned_in_order()
+    ensures answered { AnswersTellLexemes }
+    ensures whole { AnswersTellAll }
 {}
 
 /// Block ends never outnumber block starts, and at the end of a text whose depth is 0 there are equally many.

@@ -4,11 +4,14 @@ use Rattle.std.proofs.lemmas.Bool.{false≢true}
 use Rattle.yaml_text.specs.declared.types.yaml_encoding_t.{yaml_encoding_t}
 use Rattle.yaml_scan.specs.Fault.{Fault, memory_fault}
 use Rattle.yaml_scan.specs.Token.{yaml_token_t}
+use Rattle.yaml_scan.specs.Begins.{Begins}
 use Rattle.yaml_scan.specs.Inputs.{decoded_input, answers_to}
-use Rattle.yaml_scan.specs.AnswerLaws.{StandInOrder, ends_among, starts_among, AreFollowed}
+use Rattle.yaml_scan.specs.AnswerLaws.{StandInOrder, ends_among, starts_among, AreFollowed, of_text_among, tokens_of_cut}
 use Rattle.yaml_scan.specs.Parser.{IsRefusedEarly}
-use Rattle.yaml_scan.specs.All.{AllOf, ReadsAll, EndNoMore, EndAll, depth_of}
+use Rattle.yaml_scan.specs.All.{AllOf, ReadsAll, EndNoMore, EndAll, TellLexemes, depth_of}
+use Rattle.yaml_scan.proofs.TokenList.NeverRevised.{Begins-trans}
 use Rattle.yaml_scan.proofs.Course.InputLaws.{inputs_keep_order, all_stand_in_order, all_end_fewer, all_end_all, all_follow_keys}
+use Rattle.yaml_scan.proofs.Course.LexemeTokens.{of_text_begins, answers_tell_lexemes, answers_tell_all}
 use Rattle.yaml_scan.proofs.RunningCalls.CallAnswers.{not_begun}
 use Rattle.yaml_scan.proofs.RunningCalls.MemoryRefused.{settled_followed}
 
@@ -49,6 +52,24 @@ module _ (limit : ℕ) (setting : yaml_encoding_t) (input : List ℕ) (tokens : 
   pub reads_keys : ReadsAll limit setting input tokens fault → AreFollowed limit tokens
   reads_keys (inl r) = subst (λ (z : List yaml_token_t). AreFollowed limit z) (sym r.0) (all_follow_keys limit setting input)
   reads_keys (inr r) = let s = r.0 in subst (λ (z : List yaml_token_t). AreFollowed limit z) (sym s.tokens_are) (settled_followed limit (decoded_input setting input) (inputs_keep_order setting input) (decoded_input setting input).encoding s.steps s.within)
+
+  input_tells : Begins (of_text_among All) (tokens_of_cut limit (decoded_input setting input))
+  unfolding answers_to
+  input_tells = answers_tell_lexemes limit (decoded_input setting input) (inputs_keep_order setting input)
+
+  input_tells_all : (answers_to limit setting input).fault ≡ None → of_text_among All ≡ tokens_of_cut limit (decoded_input setting input)
+  unfolding answers_to
+  input_tells_all e = answers_tell_all limit (decoded_input setting input) (inputs_keep_order setting input) e
+
+  pub reads_lexemes : ReadsAll limit setting input tokens fault → TellLexemes limit setting input tokens fault
+  reads_lexemes (inl r) = (
+    subst (λ (z : List yaml_token_t). Begins (of_text_among z) (tokens_of_cut limit (decoded_input setting input))) (sym r.0) input_tells,
+    λ e. ap (λ (z : List yaml_token_t). of_text_among z) r.0 ∙ input_tells_all (sym r.1 ∙ e),
+  )
+  reads_lexemes (inr r) = (
+    Begins-trans _ _ _ (of_text_begins tokens All r.0.beginning) input_tells,
+    λ e. absurd (no_memory memory_fault (sym e ∙ r.1)),
+  )
 
   -- no memory is refused if the input is refused so early
   pub reads_early : ReadsAll limit setting input tokens fault → IsRefusedEarly (decoded_input setting input) → AllOf (answers_to limit setting input) tokens fault
