@@ -24,4 +24,5 @@ pub mod Counted
 pub mod Whole
 pub mod Parts
 pub mod Grammar
+pub mod DirectiveGrammar
 pub mod inside
