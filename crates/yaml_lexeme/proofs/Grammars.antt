@@ -16,3 +16,5 @@ pub mod VersionGrammar
 pub mod HandleGrammar
 -- Directives are their names and what they say.
 pub mod DirectiveGrammar
+-- Escapes are a character, or the hex digits of one.
+pub mod EscapeGrammar

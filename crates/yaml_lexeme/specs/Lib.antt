@@ -25,4 +25,5 @@ pub mod Whole
 pub mod Parts
 pub mod Grammar
 pub mod DirectiveGrammar
+pub mod EscapeGrammar
 pub mod inside
