@@ -10,3 +10,11 @@ pub mod NameGrammar
 pub mod UriGrammar
 -- Tags are their handles and suffixes.
 pub mod TagGrammar
+-- Numbers and versions of directives are their digits.
+pub mod VersionGrammar
+-- Handles and prefixes of tag directives are their texts.
+pub mod HandleGrammar
+-- Directives are their names and what they say.
+pub mod DirectiveGrammar
+-- Escapes are a character, or the hex digits of one.
+pub mod EscapeGrammar

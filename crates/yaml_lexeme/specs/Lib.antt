@@ -24,4 +24,6 @@ pub mod Counted
 pub mod Whole
 pub mod Parts
 pub mod Grammar
+pub mod DirectiveGrammar
+pub mod EscapeGrammar
 pub mod inside

@@ -10,6 +10,8 @@ ghost use Rattle.yaml_lexeme.specs.Parts.{QuotedIsParts, QuotedIsRefused, PlainI
 ghost use Rattle.yaml_lexeme.specs.Parts.{ChunkIsLongest, LinkIsLongest, LinkIsOver, UriIsParts, UriIsRefused};
 ghost use Rattle.yaml_lexeme.specs.Parts.{BlanksAreLines, BlanksAreRefused, BlockIsLines, BlockIsRefused};
 ghost use Rattle.yaml_lexeme.specs.Grammar.{NameIsParts, NameIsRefused, TagIsParts, TagIsRefused};
+ghost use Rattle.yaml_lexeme.specs.DirectiveGrammar.{DirectiveIsParts, DirectiveIsRefused};
+ghost use Rattle.yaml_lexeme.specs.EscapeGrammar.{EscapeIsParts, EscapeIsRefused};
 ghost use Rattle.yaml_lexeme.specs.Order.{GapOrder, LexemeSpans, LexemeOrder, StreamEndOrder, OffenceIsAhead};
 ghost use Rattle.yaml_lexeme.specs.Order.{LexemeFollows};
 
@@ -154,6 +156,21 @@ pub fn name_is_its_parts()
 pub fn tag_is_its_parts()
     ensures parts { TagIsParts }
     ensures refused { TagIsRefused }
+{}
+
+/// A directive is its name, a version or a handle and a prefix, and the rest of its line; the texts of what it says,
+/// joined, are the text after its name. If it is refused, the offence is that of the first of them that the text does
+/// not give.
+pub fn directive_is_its_parts()
+    ensures parts { DirectiveIsParts }
+    ensures refused { DirectiveIsRefused }
+{}
+
+/// An escape is a backslash and a character that stands for one, or a backslash, `x`, `u` or `U`, and the hex digits of
+/// one. If it is refused, the offence is that of the first of these that the text does not give.
+pub fn escape_is_its_parts()
+    ensures parts { EscapeIsParts }
+    ensures refused { EscapeIsRefused }
 {}
 
 /// Lexemes are equal exactly if what they say, their marks and whether a break was passed are.

@@ -1,5 +1,5 @@
 -- Names are their letters.
-use Rattle.std.proofs.Common.{◌≡◌, ℕ, ◌<◌, ◌⊎◌, Bool, true, false, ◌&&◌, nat_lt, inl, inr, List, [], ◌∷◌, ◌++◌, length, Ok, Err, refl, sym, ap, ◌∙◌, subst, arith}
+use Rattle.std.proofs.Common.{◌≡◌, ℕ, ◌<◌, ◌⊎◌, Bool, true, false, ◌&&◌, nat_lt, inl, inr, List, [], ◌∷◌, length, Ok, Err, refl, sym, ap, ◌∙◌, subst, arith}
 use Rattle.std.proofs.lemmas.Bool.{cases_Bool, and_parts}
 use Rattle.std.proofs.lemmas.Bool.Decides.{nat_tests}
 use Rattle.yaml_text.specs.Classes.{is_alpha}
@@ -8,10 +8,9 @@ use Rattle.yaml_lexeme.specs.Grammar.{LongestRun, NameParts, NameIsParts, NameRe
 use Rattle.yaml_lexeme.specs.Name.{is_after_name, name}
 use Rattle.yaml_lexeme.specs.Place.{Place, first, skip, run, after_run}
 use Rattle.yaml_lexeme.specs.Reading.{Offence, Found, found, refuse}
-use Rattle.yaml_lexeme.proofs.Grammars.RunTexts.{of_run, run_of, front_is}
+use Rattle.yaml_lexeme.proofs.Grammars.RunTexts.{of_run, run_of, after_sign}
 use Rattle.yaml_lexeme.proofs.Grammars.ReadingSteps.{passed, failed, taken, left, offence_is}
 use Rattle.yaml_lexeme.proofs.Parts.ReadResults.{both}
-use Rattle.yaml_lexeme.proofs.Places.PlaceMoves.{length_one}
 
 -- the letters at p, and the place after them
 abbrev letters_at : Place → Found (List ℕ)
@@ -20,19 +19,13 @@ letters_at p = record { value = run is_alpha (skip 1 p); end = after_run is_alph
 abbrev is_name : Found (List ℕ) → Bool
 is_name f = nat_lt 0 (length f.value) && is_after_name (first f.end)
 
-some_text : (cs more : List ℕ) → 0 < length cs → 0 < length (cs ++ more)
-some_text [] more h = absurd (omega arith)
-some_text (c ∷ cs) more h = omega arith
-
 name_from : (p : Place) (f : Found (List ℕ)) → f ≡ letters_at p → is_name f ≡ true → NameParts p f
 name_from p f is test =
     let t = and_parts (nat_lt 0 (length f.value)) (is_after_name (first f.end)) test in
     let some : 0 < length f.value = (let s = t.0 in grind (arith, nat_tests)) in
     let letters = subst (λ (g : Found (List ℕ)). LongestRun is_alpha (skip 1 p) g.value g.end) (sym is) (of_run is_alpha (skip 1 p) refl) in
-    let rest : 0 < length (skip 1 p).rest = subst (λ (cs : List ℕ). 0 < length cs) (sym letters.joined) (some_text f.value f.end.rest some) in
-    let there : 0 < length p.rest = omega (arith, length_one p, rest) in
     record {
-      text = front_is p there ∙ ap (λ (cs : List ℕ). first p ∷ cs) letters.joined;
+      text = after_sign is_alpha p f.value f.end letters some;
       letters = letters;
       some = some;
       follows = t.1;

@@ -1,5 +1,5 @@
 -- What is read or refused in steps and by tests.
-use Rattle.std.proofs.Common.{◌≡◌, Bool, true, false, ◌⊎◌, inl, inr, if◌then◌else◌, Result, Ok, Err, refl, sym, ap, ◌∙◌}
+use Rattle.std.proofs.Common.{◌≡◌, Bool, true, false, not, ◌⊎◌, inl, inr, if◌then◌else◌, Result, Ok, Err, refl, sym, ap, ◌∙◌}
 use Rattle.yaml_lexeme.specs.declared.problem.yaml_problem_t.{yaml_problem_t}
 use Rattle.yaml_lexeme.specs.Place.{Place}
 use Rattle.yaml_lexeme.specs.Reading.{Offence, refuse, ◌>>=◌}
@@ -21,6 +21,19 @@ unless_passed false x y o h = (refl, cc)
 pub unless_failed : {A B : Type 0} → (b : Bool) (x : A) (o e : B) → (if b then Err o else Ok x) ≡ Err e → (b ≡ true) × (e ≡ o)
 unless_failed true x o e h = (refl, cc)
 unless_failed false x o e h = absurd cc
+
+-- a test before what is read, which refuses if it holds
+pub unless_ok : {A B : Type 0} → (b : Bool) (r : Result A B) (o : B) (y : A) → (if b then Err o else r) ≡ Ok y → (b ≡ false) × (r ≡ Ok y)
+unless_ok true r o y h = absurd cc
+unless_ok false r o y h = (refl, h)
+
+pub unless_err : {A B : Type 0} → (b : Bool) (r : Result A B) (o e : B) → (if b then Err o else r) ≡ Err e → ((b ≡ true) × (e ≡ o)) ⊎ ((b ≡ false) × (r ≡ Err e))
+unless_err true r o e h = inl (refl, cc)
+unless_err false r o e h = inr (refl, h)
+
+pub not_so : (b : Bool) → not b ≡ true → b ≡ false
+not_so true h = absurd cc
+not_so false h = refl
 
 pub taken : {A : Type 0} → (b : Bool) (x y : A) → b ≡ true → (if b then x else y) ≡ x
 taken b x y h = rw h refl
