@@ -6,23 +6,23 @@ use Rattle.yaml_text.specs.declared.types.yaml_token_type_t.TheVariants.{YAML_BL
 use Rattle.yaml_text.specs.declared.types.yaml_token_type_t.TheVariants.{YAML_BLOCK_END_TOKEN, YAML_KEY_TOKEN}
 use Rattle.yaml_text.specs.declared.types.yaml_token_type_t.TheVariants.{YAML_VALUE_TOKEN}
 
--- the end of a block
+-- of a BLOCK-END
 abbrev pub is_end_type : yaml_token_type_t → Bool
 is_end_type YAML_BLOCK_END_TOKEN = true
 is_end_type _ = false
 
--- the start of a block
+-- of a start of a block
 abbrev pub is_start_type : yaml_token_type_t → Bool
 is_start_type YAML_BLOCK_SEQUENCE_START_TOKEN = true
 is_start_type YAML_BLOCK_MAPPING_START_TOKEN = true
 is_start_type _ = false
 
--- a key
+-- of a KEY
 abbrev pub is_key_type : yaml_token_type_t → Bool
 is_key_type YAML_KEY_TOKEN = true
 is_key_type _ = false
 
--- a value
+-- of a VALUE
 abbrev pub is_value_type : yaml_token_type_t → Bool
 is_value_type YAML_VALUE_TOKEN = true
 is_value_type _ = false
