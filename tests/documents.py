@@ -25,6 +25,7 @@ One line of output for each check; what is wrong is printed before it. The check
 - folders: a folder with more than eight files has a README.md, but for proofs. That of a folder of code or of definitions is
   the one that `./dev folders` writes, from the first sentence of each file.
 - picture: that of docs/ARCHITECTURE.md is the one that `./dev folders` draws, and each module that it is to show is in it.
+- headline: the list in docs/ARCHITECTURE.md has the files that Headline.antt stands on, and no others, with their lines.
 - scripts: the table of tests/README.md has a line for each script of tests/, and no others.
 """
 
@@ -368,6 +369,18 @@ def check_picture():
     return drawn().count("\n"), wrong
 
 
+# HEADLINE
+
+def check_headline():
+    said = dict(re.findall(r"^\d+\. `(\w+)\.antt`, (\d+) lines", read("docs/ARCHITECTURE.md"), re.M))
+    texts = {name: read(f"crates/yaml_scan/specs/{name}.antt") for name in said}
+    lines = {name: text.count("\n") for name, text in texts.items()}
+    used = re.findall(r"^(?:pub )?use Rattle\.yaml_scan\.specs\.([A-Z]\w*)", "".join(texts.values()), re.M)
+    wrong = [f"ARCHITECTURE.md: what the headline stands on: {name}" for name in sorted({"Headline", *used} ^ set(said))]
+    wrong += [f"ARCHITECTURE.md: {name}.antt has {lines[name]} lines" for name in said if int(said[name]) != lines[name]]
+    return len(said), wrong
+
+
 # SCRIPTS
 
 def check_scripts():
@@ -380,7 +393,8 @@ def check_scripts():
 CHECKS = {"paths": check_paths, "rules": check_rules, "topics": check_topics,
           "laws, functions and lemma files": check_proofs, "lemma files": check_lemmas, "edits": check_edits,
           "lines": check_lines, "kits": check_kits, "versions": check_versions, "folders": check_folders,
-          "lines of the picture": check_picture, "scripts": check_scripts}
+          "lines of the picture": check_picture, "files that the headline stands on": check_headline,
+          "scripts": check_scripts}
 
 
 def main():

@@ -10,7 +10,8 @@ use Rattle.yaml_scan.specs.Depth.{depth}
 use Rattle.yaml_scan.specs.Groups.{handed_out}
 use Rattle.yaml_scan.specs.Answers.{Answers, Course, course}
 use Rattle.yaml_scan.specs.Session.{all_steps, settled_tokens}
-use Rattle.yaml_scan.specs.Inputs.{decoded_input, answers_to}
+use Rattle.yaml_scan.specs.Inputs.{answers_to}
+use Rattle.yaml_scan.specs.Decoded.{decoded_input}
 use Rattle.yaml_scan.specs.AnswerLaws.{ends_among, starts_among, of_text_among, tokens_of_cut}
 
 -- these are all tokens of the answers, and their fault

@@ -3,7 +3,8 @@ use Rattle.std.specs.Prelude.{◌≡◌, ℕ, ◌+◌, ◌≤◌, Bool, true, no
 use Rattle.std.specs.Prelude.{length, nat_eq, nat_le, None}
 use Rattle.std.specs.List.{list_any}
 use Rattle.yaml_text.specs.declared.types.yaml_mark_t.{yaml_mark_t}
-use Rattle.yaml_scan.specs.Token.{yaml_token_t, type_of, is_end_type, is_start_type, is_key_type, is_value_type}
+use Rattle.yaml_scan.specs.Token.{yaml_token_t, type_of}
+use Rattle.yaml_scan.specs.TokenTypes.{is_end_type, is_start_type, is_key_type, is_value_type}
 use Rattle.yaml_scan.specs.Groups.{handed_out}
 use Rattle.yaml_scan.specs.Groups.Token.{StreamStart, OfLexeme}
 use Rattle.yaml_scan.specs.Depth.{depth}

@@ -8,7 +8,7 @@ use Rattle.yaml_scan.specs.Settled.{before}
 use Rattle.yaml_scan.specs.Fault.{Fault}
 use Rattle.yaml_scan.specs.Source.{Source}
 use Rattle.yaml_scan.specs.Step.{Outcome, step}
-use Rattle.yaml_scan.specs.Cut.{Cut, cut_from}
+use Rattle.yaml_scan.specs.Steps.{Cut, cut_from}
 use Rattle.yaml_scan.specs.Near.{unless_near, starts_near}
 
 -- the text that the input spells, or its longest front that is text, and then the reader's fault after it

@@ -9,7 +9,8 @@ use Rattle.yaml_text.specs.declared.types.yaml_token_type_t.{yaml_token_type_t}
 use Rattle.yaml_text.specs.declared.types.yaml_token_type_t.TheVariants.{YAML_STREAM_END_TOKEN, YAML_BLOCK_END_TOKEN}
 use Rattle.yaml_scan.specs.Answers.{course}
 use Rattle.yaml_scan.specs.Fault.{Fault, no_colon}
-use Rattle.yaml_scan.specs.Inputs.{decoded_input, answers_to}
+use Rattle.yaml_scan.specs.Inputs.{answers_to}
+use Rattle.yaml_scan.specs.Decoded.{decoded_input}
 use Rattle.yaml_scan.specs.Session.{Session, Call, Answer, session, session_reach}
 use Rattle.yaml_scan.specs.Session.Answer.{TOKEN, PEEKED, SKIPPED, NOTHING, FAULT}
 use Rattle.yaml_scan.specs.Step.{end_of}

@@ -1,30 +1,16 @@
--- The longest list of steps.
-use Rattle.std.specs.Prelude.{◌≡◌, ℕ, zero, suc, ◌+◌, ◌-◌, ◌≤◌, ◌<◌, Bool, true, false, List, [], ◌∷◌, length, drop}
-use Rattle.std.specs.Prelude.{Option, Some, None, Ok, Err, nat_lt, if◌then◌else◌}
+-- The longest list of steps of a text, and what is read of a text that is in its order.
+use Rattle.std.specs.Prelude.{◌≡◌, ℕ, ◌+◌, ◌≤◌, ◌<◌, Bool, true, false, List, [], ◌∷◌, Option, Some, None, Ok, Err}
+use Rattle.std.specs.Prelude.{nat_lt}
 use Rattle.yaml_scan.specs.Kind.{Kind, is_stream_end, is_key, is_value}
-use Rattle.yaml_scan.specs.Token.{unnamed_yaml_token_t_data, type_of, is_end_type, is_start_type, is_key_type}
-use Rattle.yaml_scan.specs.Token.{is_value_type, is_last_type, zero_mark}
+use Rattle.yaml_scan.specs.Token.{unnamed_yaml_token_t_data, type_of, is_last_type, zero_mark}
+use Rattle.yaml_scan.specs.TokenTypes.{is_end_type, is_start_type, is_key_type, is_value_type}
 use Rattle.yaml_scan.specs.Laid.{Laid}
 use Rattle.yaml_scan.specs.Levels.{laid}
-use Rattle.yaml_scan.specs.Order.{IsNotBefore, Follows, ended}
+use Rattle.yaml_scan.specs.Order.{IsNotBefore, Follows}
 use Rattle.yaml_scan.specs.Source.{Source, Reading, Offence}
 use Rattle.yaml_scan.specs.Step.{Outcome, step, lexeme_of}
 use Rattle.yaml_scan.specs.Step.Outcome.{Reads, Faults}
-
--- lexemes, and the fault of the step after them, or none if they end with the stream end
-pub record Cut : Type 0 where
-  pub read : List Laid
-  pub fault : Option Offence
-
-abbrev pub cut_on : (ℕ → List Laid → Cut) → ℕ → List Laid → Outcome → Cut
-cut_on next limit H (Faults o) = record { read = H; fault = Some o }
-cut_on next limit H (Reads x) = next limit (laid limit H x ∷ H)
-
--- at most n steps more, by what the step after a list is
-abbrev pub cut_from : (List Laid → Outcome) → ℕ → ℕ → List Laid → Cut
-cut_from step zero limit H = record { read = H; fault = None }
-cut_from step (suc n) limit H = if ended H then record { read = H; fault = None }
-    else cut_on (cut_from step n) limit H (step H)
+use Rattle.yaml_scan.specs.Steps.{Cut, cut_from, ended}
 
 -- each lexeme but the stream end takes a character, so a text of n characters has n + 1 of them at most
 unfoldable pub cut : Source → ℕ → Cut
@@ -40,10 +26,6 @@ IsRun step limit (i ∷ H) = (i ≡ laid limit H i.lexeme) × (step H ≡ Reads 
 abbrev pub EndsWith : (List Laid → Outcome) → List Laid → Option Offence → Type 0
 EndsWith step H None = ended H ≡ true
 EndsWith step H (Some o) = (ended H ≡ false) × (step H ≡ Faults o)
-
--- the first n lexemes
-abbrev pub oldest : ℕ → List Laid → List Laid
-oldest n H = drop (length H - n) H
 
 -- the token of a lexeme is a KEY, a VALUE or the end of the stream if the lexeme is one, and none that the layout
 -- inserts

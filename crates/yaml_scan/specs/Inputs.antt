@@ -5,18 +5,10 @@ use Rattle.yaml_text.specs.Decode.{front, refusal}
 use Rattle.yaml_scan.specs.Fault.{Fault}
 use Rattle.yaml_scan.specs.Depth.{depth}
 use Rattle.yaml_scan.specs.Begins.{Begins}
-use Rattle.yaml_scan.specs.SourceOf.{source_of}
 use Rattle.yaml_scan.specs.Cut.{KeepsOrder}
-use Rattle.yaml_scan.specs.Answers.{Input, Answers, course, answers}
+pub use Rattle.yaml_scan.specs.Decoded.{decoded_input}
+use Rattle.yaml_scan.specs.Answers.{Answers, course, answers}
 use Rattle.yaml_scan.specs.AnswerLaws.{StandInOrder, ends_among, starts_among, AreFollowed}
-
--- the front of an input, decoded, and the fault of what follows it
-unfoldable pub decoded_input : yaml_encoding_t → List ℕ → Input
-decoded_input setting input = record {
-  encoding = (front setting input).encoding;
-  source = source_of (front setting input).chars;
-  refusal = refusal setting input;
-}
 
 -- the answers to an input
 unfoldable pub answers_to : ℕ → yaml_encoding_t → List ℕ → Answers

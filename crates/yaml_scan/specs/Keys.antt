@@ -6,14 +6,6 @@ use Rattle.yaml_scan.specs.Kind.{Kind, is_flow_start, is_value, is_candidate_kin
 use Rattle.yaml_scan.specs.Laid.{Laid}
 use Rattle.yaml_scan.specs.Depth.{depth}
 
--- how many bytes after its start a candidate is live, if no other limit is set
-abbrev pub key_limit : ℕ
-key_limit = 1024
-
--- the greatest limit that can be set
-abbrev pub most_key_limit : ℕ
-most_key_limit = 65536
-
 abbrev pub is_candidate : Laid → Bool
 is_candidate i = is_candidate_kind i.lexeme.kind
 

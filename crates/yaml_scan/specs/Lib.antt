@@ -1,10 +1,12 @@
 pub mod Kind
 pub mod Token
+pub mod TokenTypes
 pub mod Lexeme
 pub mod Laid
 pub mod Depth
 pub mod Allowed
 pub mod Keys
+pub mod KeyLimits
 pub mod Levels
 pub mod Begins
 pub mod Groups
@@ -13,6 +15,7 @@ pub mod Fault
 pub mod Source
 pub mod SourceOf
 pub mod Step
+pub mod Steps
 pub mod Cut
 pub mod Settled
 pub mod Near
@@ -21,7 +24,9 @@ pub mod Session
 pub mod Laws
 pub mod TokenLaws
 pub mod SessionLaws
+pub mod Decoded
 pub mod Parser
+pub mod ParserCalls
 pub mod AnswerLaws
 pub mod Locality
 pub mod Inputs

@@ -1,10 +1,11 @@
 -- How lexemes follow one another.
-use Rattle.std.specs.Prelude.{◌≡◌, ℕ, ◌≤◌, ◌<◌, Bool, true, false, List, [], ◌∷◌}
+use Rattle.std.specs.Prelude.{◌≡◌, ℕ, ◌≤◌, ◌<◌, true, false, List, [], ◌∷◌}
 use Rattle.yaml_text.specs.declared.types.yaml_mark_t.{yaml_mark_t}
 use Rattle.yaml_scan.specs.Kind.{is_stream_end}
 use Rattle.yaml_scan.specs.Lexeme.{Lexeme}
 use Rattle.yaml_scan.specs.Laid.{Laid, reach}
 use Rattle.yaml_scan.specs.Levels.{laid}
+pub use Rattle.yaml_scan.specs.Steps.{ended}
 
 -- b is not before a
 pub record IsNotBefore (a b : yaml_mark_t) : Type 0 where
@@ -22,11 +23,6 @@ pub record Follows (so_far : yaml_mark_t) (x : Lexeme) : Type 0 where
   pub takes_a_byte : is_stream_end x.kind ≡ false → x.start.index < x.end.index
   pub takes_a_column : is_stream_end x.kind ≡ false → x.start.line ≡ x.end.line → x.start.column < x.end.column
   pub ends_at_column_0 : is_stream_end x.kind ≡ true → x.start.column ≡ 0
-
--- the stream end was read
-abbrev pub ended : List Laid → Bool
-ended [] = false
-ended (i ∷ H) = is_stream_end i.lexeme.kind
 
 -- each lexeme is laid by those before it, they follow one another, and none comes after a stream end
 abbrev pub IsHistory : ℕ → List Laid → Type 0

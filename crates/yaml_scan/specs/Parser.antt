@@ -1,19 +1,9 @@
 -- A parser, as its calls see it.
-use Rattle.std.specs.Prelude.{◌≡◌, ◌⊎◌, ℕ, true, List, Option, None, Some, Result, Ok, Err, if◌then◌else◌}
-use denote.Ref.{Bor}
+use Rattle.std.specs.Prelude.{ℕ, List}
 use Rattle.yaml_text.specs.declared.types.yaml_encoding_t.{yaml_encoding_t}
-use Rattle.yaml_text.specs.declared.types.yaml_encoding_t.TheVariants.{YAML_UTF8_ENCODING}
-use Rattle.yaml_text.specs.declared.fault.yaml_fault_t.{yaml_fault_t}
-use Rattle.yaml_text.specs.declared.token.yaml_token_t.{yaml_token_t as code_token_t}
-use Rattle.yaml_text.specs.Fault.{fault_of}
-use Rattle.yaml_text.specs.Token.{token_of}
-use Rattle.yaml_scan.specs.Token.{yaml_token_t, empty}
-use Rattle.yaml_scan.specs.Groups.{Token, handed_out}
 use Rattle.yaml_scan.specs.Answers.{Input, Course, course}
-use Rattle.yaml_scan.specs.Near.{starts_near}
-use Rattle.yaml_scan.specs.Inputs.{decoded_input}
-use Rattle.yaml_scan.specs.Session.{Session, Call, Answer, next_token, after, answer}
-use Rattle.yaml_scan.specs.Session.Answer.{TOKEN, PEEKED, FAULT}
+use Rattle.yaml_scan.specs.Decoded.{decoded_input}
+use Rattle.yaml_scan.specs.Session.{Session, Call, Answer, after, answer}
 
 pub record Parser : Type 0 where
   -- the bytes of its input
@@ -43,36 +33,3 @@ after_call p call = record {
 -- the answer to a call
 abbrev pub answered : Parser → Call → Answer
 answered p call = answer (input_read p).encoding p.limit (course_read p) call p.session
-
--- a token or a fault of the code, as an answer
-abbrev pub told : Result code_token_t yaml_fault_t → Answer
-told (Ok token) = TOKEN (token_of token)
-told (Err fault) = FAULT (fault_of fault)
-
--- the next token is there already: it was peeked, or the session is over and there is none
-abbrev pub IsThere : Parser → Type 0
-IsThere p = (p.session.peeked ≡ true) ⊎ (p.session.over ≡ true)
-
--- the input is in UTF-8 and refused so early that its reader's fault comes instead of the first step
-abbrev pub IsRefusedEarly : Input → Type 0
-IsRefusedEarly input = (input.encoding ≡ YAML_UTF8_ENCODING) × (starts_near input.source.size input.refusal ≡ true)
-
--- a token that is shown or a fault, as an answer
-abbrev pub shown : Result code_token_t yaml_fault_t → Answer
-shown (Ok token) = PEEKED (token_of token)
-shown (Err fault) = FAULT (fault_of fault)
-
--- the token after the reference, or the fault
-abbrev pub told_copied : Result (Bor code_token_t) yaml_fault_t → Result code_token_t yaml_fault_t
-told_copied (Ok token) = Ok token.now
-told_copied (Err fault) = Err fault
-
--- WHAT A PARSER SHOWS
-abbrev pub token_or_empty : yaml_encoding_t → Option Token → yaml_token_t
-token_or_empty e None = empty
-token_or_empty e (Some x) = handed_out e x
-
--- the token that a parser shows: its next one if that was peeked, and else the empty one
-abbrev pub token_shown : Parser → yaml_token_t
-token_shown p = if p.session.peeked
-    then token_or_empty (input_read p).encoding (next_token p.limit (course_read p) p.session) else empty

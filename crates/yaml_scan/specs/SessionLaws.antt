@@ -7,7 +7,8 @@ use Rattle.yaml_scan.specs.Token.{yaml_token_t}
 use Rattle.yaml_scan.specs.Laid.{Laid}
 use Rattle.yaml_scan.specs.Groups.{Token, offline}
 use Rattle.yaml_scan.specs.Settled.{before, settled, pace}
-use Rattle.yaml_scan.specs.Order.{IsHistory, ended}
+use Rattle.yaml_scan.specs.Order.{IsHistory}
+use Rattle.yaml_scan.specs.Steps.{ended}
 use Rattle.yaml_scan.specs.Fault.{Fault}
 use Rattle.yaml_scan.specs.Begins.{Begins}
 use Rattle.yaml_scan.specs.Source.{Offence}

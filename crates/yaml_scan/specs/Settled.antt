@@ -5,7 +5,7 @@ use Rattle.std.specs.Prelude.{None, option_map, if◌then◌else◌}
 use Rattle.yaml_scan.specs.Laid.{Laid, names, reach}
 use Rattle.yaml_scan.specs.Keys.{candidate, live}
 use Rattle.yaml_scan.specs.Groups.{Token, block_ends, groups, offline}
-use Rattle.yaml_scan.specs.Cut.{oldest}
+use Rattle.yaml_scan.specs.Steps.{oldest}
 
 -- i is the candidate of its depth in H
 unfoldable pub is_current : List Laid → Laid → Bool

@@ -2,13 +2,14 @@
 ghost use Rattle.std.specs.Prelude.{◌≡◌, ◌≤◌, IfOk, map, option_map};
 ghost use Rattle.yaml_text.specs.Fault.{fault_of};
 ghost use Rattle.yaml_text.specs.Token.{token_of};
-ghost use Rattle.yaml_scan.specs.Keys.{key_limit, most_key_limit};
+ghost use Rattle.yaml_scan.specs.KeyLimits.{key_limit, most_key_limit};
 ghost use Rattle.yaml_scan.specs.AnswerLaws.{StandInOrder, AreFollowed};
-ghost use Rattle.yaml_scan.specs.Inputs.{decoded_input, answers_to};
+ghost use Rattle.yaml_scan.specs.Inputs.{answers_to};
+ghost use Rattle.yaml_scan.specs.Decoded.{decoded_input};
 ghost use Rattle.yaml_scan.specs.Puts.{AreReadAlike};
 ghost use Rattle.yaml_scan.specs.CallMarks.{AllIsCounted};
 ghost use Rattle.yaml_scan.specs.Words.{HaveLines};
-ghost use Rattle.yaml_scan.specs.Parser.{IsRefusedEarly};
+ghost use Rattle.yaml_scan.specs.ParserCalls.{IsRefusedEarly};
 ghost use Rattle.yaml_scan.specs.All.{AllOf, ReadsAll, EndNoMore, EndAll, TellLexemes, depth_of};
 
 use crate::keys::KEY_LIMIT;

@@ -4,7 +4,7 @@ ghost use Rattle.std.specs.Prelude.{false, MatchResult};
 ghost use Rattle.yaml_text.specs.Fault.{memory_fault};
 ghost use Rattle.yaml_scan.specs.inside.Queue.{begins_with_end, pending};
 ghost use Rattle.yaml_scan.specs.Settled.{before};
-ghost use Rattle.yaml_scan.specs.Order.{ended};
+ghost use Rattle.yaml_scan.specs.Steps.{ended};
 ghost use Rattle.yaml_scan.specs.inside.Stop.{fault_at};
 ghost use Rattle.yaml_scan.specs.inside.Scanning.{Runs, StepsOn, IsLast, Stays, IsOpen};
 ghost use Rattle.yaml_scan.specs.inside.Scanning.{Fails, Settles};

@@ -1,7 +1,7 @@
 //! Scanning to a sink, which takes the tokens of an input, one after the other.
 ghost use Rattle.std.specs.Prelude.{◌≤◌, IfOk, MatchResult, OnErr, option_map};
 ghost use Rattle.yaml_text.specs.Fault.{fault_of};
-ghost use Rattle.yaml_scan.specs.Keys.{most_key_limit};
+ghost use Rattle.yaml_scan.specs.KeyLimits.{most_key_limit};
 ghost use Rattle.yaml_scan.specs.Sink.{IsGivenAll, IsGivenFront};
 ghost use Rattle.yaml_scan.specs.Words.{HaveWords};
 ghost use Rattle.yaml_scan.specs.inside.Given.{GaveRest, GivesAll, IsSettledTo, StopsGiving, told_all};

@@ -14,8 +14,10 @@ use Rattle.yaml_scan.specs.declared.calls.yaml_call_t.{yaml_call_t}
 use Rattle.yaml_scan.specs.declared.calls.yaml_call_t.TheVariants.{SCAN, PEEK, SKIP}
 use Rattle.yaml_text.specs.Token.{Token}
 use Rattle.yaml_scan.specs.Session.{Call, new_session}
-use Rattle.yaml_scan.specs.Inputs.{decoded_input, answers_to}
-use Rattle.yaml_scan.specs.Parser.{Parser, IsRefusedEarly}
+use Rattle.yaml_scan.specs.Inputs.{answers_to}
+use Rattle.yaml_scan.specs.Decoded.{decoded_input}
+use Rattle.yaml_scan.specs.Parser.{Parser}
+use Rattle.yaml_scan.specs.ParserCalls.{IsRefusedEarly}
 use Rattle.yaml_scan.specs.All.{AllOf, ReadsAll}
 use Rattle.yaml_scan.specs.Seen.{Seen, call_of}
 use Rattle.yaml_scan.specs.Headline.{Runs}

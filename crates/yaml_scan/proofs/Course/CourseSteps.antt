@@ -8,13 +8,15 @@ use Rattle.yaml_scan.specs.Levels.{laid}
 use Rattle.yaml_scan.specs.Groups.{Token, group, groups, offline, block_ends, inserted}
 use Rattle.yaml_scan.specs.Settled.{before}
 use Rattle.yaml_scan.specs.Groups.Token.{OfLexeme}
-use Rattle.yaml_scan.specs.Order.{IsHistory, ended}
+use Rattle.yaml_scan.specs.Order.{IsHistory}
+use Rattle.yaml_scan.specs.Steps.{ended}
 use Rattle.yaml_scan.specs.Fault.{Fault}
 use Rattle.yaml_scan.specs.Begins.{Begins}
 use Rattle.yaml_scan.specs.Source.{Offence}
 use Rattle.yaml_scan.specs.Step.{Outcome, step}
 use Rattle.yaml_scan.specs.Step.Outcome.{Reads, Faults}
-use Rattle.yaml_scan.specs.Cut.{Cut, cut, cut_from, cut_on, oldest, IsRun, EndsWith, KeepsOrder}
+use Rattle.yaml_scan.specs.Cut.{cut, IsRun, EndsWith, KeepsOrder}
+use Rattle.yaml_scan.specs.Steps.{Cut, cut_from, cut_on, oldest}
 use Rattle.yaml_scan.specs.Answers.{Input, Course, next, course, course_from, tokens_of}
 use Rattle.yaml_scan.specs.Near.{unless_near, is_near, place_of, starts_near}
 use Rattle.yaml_scan.specs.Session.{Call, Session, new_session, next_token, is_last, after_scan, after_peek, after_skip}

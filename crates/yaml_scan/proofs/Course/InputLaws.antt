@@ -12,7 +12,8 @@ use Rattle.yaml_scan.specs.Begins.{Begins}
 use Rattle.yaml_scan.specs.SourceOf.{source_of}
 use Rattle.yaml_scan.specs.Answers.{Input, course, answers, tokens_of}
 use Rattle.yaml_scan.specs.Locality.{SameBelow, AgreesWith}
-use Rattle.yaml_scan.specs.Inputs.{decoded_input, answers_to, InputsKeepOrder, AllStandInOrder, AllEndFewer, AllEndAll}
+use Rattle.yaml_scan.specs.Inputs.{answers_to, InputsKeepOrder, AllStandInOrder, AllEndFewer, AllEndAll}
+use Rattle.yaml_scan.specs.Decoded.{decoded_input}
 use Rattle.yaml_scan.specs.Inputs.{AllFollowKeys, GoesOn, LateFaults}
 use Rattle.yaml_scan.proofs.Texts.SourceOrder.{texts_keep_order}
 use Rattle.yaml_scan.proofs.Texts.SourceLocality.{texts_are_local}

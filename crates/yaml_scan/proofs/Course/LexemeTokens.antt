@@ -7,7 +7,8 @@ use Rattle.yaml_text.specs.declared.types.yaml_mark_t.{yaml_mark_t}
 use Rattle.yaml_text.specs.declared.types.yaml_encoding_t.{yaml_encoding_t}
 use Rattle.yaml_scan.specs.Kind.{is_key}
 use Rattle.yaml_scan.specs.Lexeme.{Lexeme}
-use Rattle.yaml_scan.specs.Token.{yaml_token_t, type_of, is_key_type}
+use Rattle.yaml_scan.specs.Token.{yaml_token_t, type_of}
+use Rattle.yaml_scan.specs.TokenTypes.{is_key_type}
 use Rattle.yaml_scan.specs.Fault.{Fault}
 use Rattle.yaml_scan.specs.Laid.{Laid}
 use Rattle.yaml_scan.specs.Groups.{Token, handed_out, offline}

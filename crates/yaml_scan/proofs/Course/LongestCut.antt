@@ -9,13 +9,15 @@ use Rattle.yaml_scan.specs.Laid.{Laid, reach}
 use Rattle.yaml_scan.specs.Depth.{depth}
 use Rattle.yaml_scan.specs.Allowed.{allowed_after}
 use Rattle.yaml_scan.specs.Levels.{laid, level}
-use Rattle.yaml_scan.specs.Order.{Follows, ended, IsHistory}
+use Rattle.yaml_scan.specs.Order.{Follows, IsHistory}
+use Rattle.yaml_scan.specs.Steps.{ended}
 use Rattle.yaml_scan.specs.Source.{Source, Reading, Offence}
 use Rattle.yaml_scan.specs.Step.{Outcome, place_after, step, kind_step, read_step, after_read, unless, refuse, stale}
 use Rattle.yaml_scan.specs.Step.{refused, clears, start_at, lexeme_of, front_of}
 use Rattle.yaml_scan.specs.Laws.{CutIsLongest, CutIsHistory, CutIsShort}
 use Rattle.yaml_scan.specs.Step.Outcome.{Reads, Faults}
-use Rattle.yaml_scan.specs.Cut.{SaysKind, Cut, cut, cut_from, cut_on, IsRun, EndsWith, KeepsOrder}
+use Rattle.yaml_scan.specs.Cut.{SaysKind, cut, IsRun, EndsWith, KeepsOrder}
+use Rattle.yaml_scan.specs.Steps.{Cut, cut_from, cut_on}
 
 -- WHAT A STEP READS
 unless_reads : (o : Option Laid) (m : yaml_mark_t) (p : ℕ) (y : Outcome) (x : Lexeme) → unless o m p y ≡ Reads x → y ≡ Reads x

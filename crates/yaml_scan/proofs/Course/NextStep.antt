@@ -4,8 +4,9 @@ use Rattle.std.proofs.lemmas.Bool.{cases_eq, false≢true}
 use Rattle.yaml_scan.specs.Lexeme.{Lexeme}
 use Rattle.yaml_scan.specs.Laid.{Laid}
 use Rattle.yaml_scan.specs.Levels.{laid}
-use Rattle.yaml_scan.specs.Order.{ended}
-use Rattle.yaml_scan.specs.Cut.{oldest, IsRun, EndsWith}
+use Rattle.yaml_scan.specs.Steps.{ended}
+use Rattle.yaml_scan.specs.Cut.{IsRun, EndsWith}
+use Rattle.yaml_scan.specs.Steps.{oldest}
 use Rattle.yaml_scan.specs.Source.{Offence}
 use Rattle.yaml_scan.specs.Step.{Outcome}
 use Rattle.yaml_scan.specs.Step.Outcome.{Reads, Faults}

@@ -6,7 +6,7 @@ use Rattle.std.proofs.lemmas.List.{drop_at}
 use Rattle.yaml_scan.specs.Laid.{Laid}
 use Rattle.yaml_scan.specs.Settled.{before}
 use Rattle.yaml_scan.specs.Order.{IsHistory}
-use Rattle.yaml_scan.specs.Cut.{oldest}
+use Rattle.yaml_scan.specs.Steps.{oldest}
 use Rattle.yaml_scan.specs.Settled.{settled, steps_for, pace, first_steps}
 use Rattle.yaml_scan.specs.SessionLaws.{PaceSettles, PaceIsLeast}
 use Rattle.yaml_scan.proofs.TokenList.QueueBound.{length-begins}

@@ -8,7 +8,7 @@ use Rattle.yaml_text.specs.Fault.{Fault, fault_of}
 use Rattle.yaml_scan.specs.declared.scanner.scanner_t.{scanner_t}
 use Rattle.yaml_scan.specs.Token.{yaml_token_t, empty, is_last_type, type_of}
 use Rattle.yaml_scan.specs.Laid.{Laid, reach}
-use Rattle.yaml_scan.specs.Order.{ended}
+use Rattle.yaml_scan.specs.Steps.{ended}
 use Rattle.yaml_scan.specs.Groups.{Token, offline, groups, group, block_ends, inserted, handed_out}
 use Rattle.yaml_scan.specs.Settled.{before}
 use Rattle.yaml_scan.specs.Groups.Token.{StreamStart, BlockEnd, BlockSequenceStart, BlockMappingStart, InsertedKey, OfLexeme}
@@ -19,13 +19,15 @@ use Rattle.yaml_scan.specs.Session.{looked, why, scan_answer, peek_answer, after
 use Rattle.yaml_scan.specs.Settled.{pace, first_steps}
 use Rattle.yaml_scan.specs.Session.Call.{SCAN, PEEK, SKIP}
 use Rattle.yaml_scan.specs.Session.Answer.{TOKEN, PEEKED, FAULT}
-use Rattle.yaml_scan.specs.Inputs.{decoded_input}
+use Rattle.yaml_scan.specs.Decoded.{decoded_input}
 use Rattle.yaml_scan.specs.inside.Scanning.{IsOpen, history, course_of, input_of}
 use Rattle.yaml_scan.specs.inside.Ready.{IsIn, IsShown, IsSettled, IsStopped, IsShort, IsEnded, Pops, course_in}
-use Rattle.yaml_scan.specs.Parser.{Parser, told, IsThere, IsRefusedEarly, answered, after_call}
+use Rattle.yaml_scan.specs.Parser.{Parser, answered, after_call}
+use Rattle.yaml_scan.specs.ParserCalls.{told, IsThere, IsRefusedEarly}
 use Rattle.yaml_scan.specs.Headline.{Calls, WantsMemory}
 use Rattle.yaml_scan.specs.inside.Shown.{Shows}
-use Rattle.yaml_scan.specs.Parser.{course_read, input_read, token_shown, token_or_empty}
+use Rattle.yaml_scan.specs.Parser.{course_read, input_read}
+use Rattle.yaml_scan.specs.ParserCalls.{token_shown, token_or_empty}
 use Rattle.yaml_scan.proofs.Course.AnswerOrder.{TokenFits, TokensFit, AllFit, course_fits, fit_before}
 use Rattle.yaml_scan.proofs.TokenList.OneLexemeMore.{all_is_handed_out}
 use Rattle.yaml_scan.proofs.RunningCalls.StepsMade.{enough_made}

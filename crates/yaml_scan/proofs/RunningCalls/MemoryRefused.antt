@@ -8,7 +8,8 @@ use Rattle.yaml_scan.specs.Order.{IsHistory}
 use Rattle.yaml_scan.specs.Begins.{Begins}
 use Rattle.yaml_scan.specs.Groups.{Token, handed_out}
 use Rattle.yaml_scan.specs.Settled.{before}
-use Rattle.yaml_scan.specs.Cut.{oldest, KeepsOrder}
+use Rattle.yaml_scan.specs.Cut.{KeepsOrder}
+use Rattle.yaml_scan.specs.Steps.{oldest}
 use Rattle.yaml_scan.specs.Answers.{Input, Course, course, tokens_of}
 use Rattle.yaml_scan.specs.AnswerLaws.{AreFollowed}
 use Rattle.yaml_scan.specs.TokenLaws.{KeysHaveValues}

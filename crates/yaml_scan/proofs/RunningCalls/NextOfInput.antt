@@ -13,10 +13,12 @@ use Rattle.yaml_scan.specs.Source.{Offence}
 use Rattle.yaml_scan.specs.SourceOf.{source_of}
 use Rattle.yaml_scan.specs.Laid.{Laid}
 use Rattle.yaml_scan.specs.Levels.{laid}
-use Rattle.yaml_scan.specs.Order.{IsHistory, ended}
+use Rattle.yaml_scan.specs.Order.{IsHistory}
+use Rattle.yaml_scan.specs.Steps.{ended}
 use Rattle.yaml_scan.specs.Step.{Outcome, step}
 use Rattle.yaml_scan.specs.Step.Outcome.{Reads, Faults}
-use Rattle.yaml_scan.specs.Cut.{Cut, cut_from, oldest, IsRun, EndsWith}
+use Rattle.yaml_scan.specs.Cut.{IsRun, EndsWith}
+use Rattle.yaml_scan.specs.Steps.{Cut, cut_from, oldest}
 use Rattle.yaml_scan.specs.Answers.{Course, course, course_from, next}
 use Rattle.yaml_scan.specs.Near.{unless_near, is_near, place_of, starts_near}
 use Rattle.yaml_scan.specs.Settled.{before}

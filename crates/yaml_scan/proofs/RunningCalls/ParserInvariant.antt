@@ -9,7 +9,7 @@ use Rattle.yaml_scan.specs.Order.{IsHistory}
 use Rattle.yaml_scan.specs.Settled.{before, queued}
 use Rattle.yaml_scan.specs.Answers.{Course}
 use Rattle.yaml_scan.specs.Settled.{pace, first_steps}
-use Rattle.yaml_scan.specs.Inputs.{decoded_input}
+use Rattle.yaml_scan.specs.Decoded.{decoded_input}
 use Rattle.yaml_scan.specs.inside.Scanning.{history}
 use Rattle.yaml_scan.specs.inside.Ready.{IsIn, IsReady, IsSettled, IsStopped, Pops, course_in}
 use Rattle.yaml_scan.proofs.Course.CourseSteps.{course_is_history}

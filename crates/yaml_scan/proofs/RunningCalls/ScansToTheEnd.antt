@@ -12,13 +12,15 @@ use Rattle.yaml_scan.specs.Token.{yaml_token_t, is_last_type, type_of}
 use Rattle.yaml_scan.specs.Begins.{Begins}
 use Rattle.yaml_scan.specs.Groups.{Token, handed_out}
 use Rattle.yaml_scan.specs.Answers.{Input, Course, course, tokens_of, answers}
-use Rattle.yaml_scan.specs.Inputs.{decoded_input, answers_to}
+use Rattle.yaml_scan.specs.Inputs.{answers_to}
+use Rattle.yaml_scan.specs.Decoded.{decoded_input}
 use Rattle.yaml_scan.specs.Session.{Session, Call, Answer, settled_tokens, all_steps, new_session, is_last, next_token}
 use Rattle.yaml_scan.specs.Session.{why, scan_answer, after_scan, paced, took, after, after_all}
 use Rattle.yaml_scan.specs.Settled.{settled, pace}
 use Rattle.yaml_scan.specs.Session.Call.{SCAN}
 use Rattle.yaml_scan.specs.Session.Answer.{TOKEN, FAULT}
-use Rattle.yaml_scan.specs.Parser.{Parser, told, answered, after_call, course_read, input_read}
+use Rattle.yaml_scan.specs.Parser.{Parser, answered, after_call, course_read, input_read}
+use Rattle.yaml_scan.specs.ParserCalls.{told}
 use Rattle.yaml_scan.specs.Headline.{WantsMemory, Calls}
 use Rattle.yaml_scan.specs.Scanned.{Scanned}
 use Rattle.yaml_scan.specs.All.{AllOf, AreSettled, ReadsAll}

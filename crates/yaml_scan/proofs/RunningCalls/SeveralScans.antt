@@ -8,9 +8,9 @@ use Rattle.std.proofs.lemmas.List.Folds.{list_any-append}
 use Rattle.yaml_text.specs.declared.types.yaml_encoding_t.{yaml_encoding_t}
 use Rattle.yaml_scan.specs.declared.scanner.scanner_t.{scanner_t}
 use Rattle.yaml_scan.specs.Answers.{Course, Input, course, tokens_of}
-use Rattle.yaml_scan.specs.Cut.{oldest}
+use Rattle.yaml_scan.specs.Steps.{oldest}
 use Rattle.yaml_scan.specs.Groups.{Token, handed_out}
-use Rattle.yaml_scan.specs.Inputs.{decoded_input}
+use Rattle.yaml_scan.specs.Decoded.{decoded_input}
 use Rattle.yaml_scan.specs.Order.{IsHistory}
 use Rattle.yaml_scan.specs.Parser.{Parser}
 use Rattle.yaml_scan.specs.Scanned.{Scanned}

@@ -12,7 +12,7 @@ use Rattle.yaml_scan.specs.Order.{IsHistory}
 use Rattle.yaml_scan.specs.Groups.{Token, offline, groups}
 use Rattle.yaml_scan.specs.Settled.{before, queued}
 use Rattle.yaml_scan.specs.Groups.Token.{OfLexeme}
-use Rattle.yaml_scan.specs.Cut.{oldest}
+use Rattle.yaml_scan.specs.Steps.{oldest}
 use Rattle.yaml_scan.specs.Settled.{steps_for, pace, first_steps}
 use Rattle.yaml_scan.specs.inside.Scanning.{Runs, history}
 use Rattle.yaml_scan.proofs.TokenList.QueueBound.{queued_few}

@@ -24,7 +24,8 @@ use Rattle.yaml_scan.specs.Depth.{depth}
 use Rattle.yaml_scan.specs.Kind.{Kind, is_candidate_kind, is_plain, is_stream_end, is_value}
 use Rattle.yaml_scan.specs.Laid.{Laid}
 use Rattle.yaml_scan.specs.Levels.{IsFalling, greatest_level, laid, stays}
-use Rattle.yaml_scan.specs.Order.{IsNotBefore, ended}
+use Rattle.yaml_scan.specs.Order.{IsNotBefore}
+use Rattle.yaml_scan.specs.Steps.{ended}
 use Rattle.yaml_scan.specs.Settled.{before}
 use Rattle.yaml_scan.specs.SourceOf.{source_of}
 use Rattle.yaml_scan.specs.Step.{front_of, place_after, problem_of, replaces}

@@ -19,13 +19,13 @@ use Rattle.yaml_scan.specs.inside.Slots.{held, outer_to}
 use Rattle.yaml_scan.specs.Step.{stale, required}
 use Rattle.yaml_scan.specs.Groups.{Token, offline, groups}
 use Rattle.yaml_scan.specs.Groups.Token.{StreamStart}
-use Rattle.yaml_scan.specs.Cut.{oldest}
+use Rattle.yaml_scan.specs.Steps.{oldest}
 use Rattle.yaml_scan.specs.Answers.{course}
 use Rattle.yaml_scan.specs.Near.{starts_near}
 use Rattle.yaml_scan.specs.inside.NearFault.{near_fault}
 use Rattle.yaml_scan.specs.inside.Queue.{IsQueue}
 use Rattle.yaml_scan.specs.Settled.{first_steps, pace}
-use Rattle.yaml_scan.specs.Inputs.{decoded_input}
+use Rattle.yaml_scan.specs.Decoded.{decoded_input}
 use Rattle.yaml_scan.specs.inside.Scanning.{Holds, Runs, IsNearOf, history, course_of, input_of}
 use Rattle.yaml_scan.specs.inside.Ready.{IsNew, Begins, IsStopped, IsEnded, course_in}
 

@@ -22,7 +22,8 @@ use Rattle.yaml_scan.specs.Depth.{depth}
 use Rattle.yaml_scan.specs.Allowed.{allowed, allowed_after, allows}
 use Rattle.yaml_scan.specs.Levels.{AllLess, IsFalling, laid, is_required, stays, open_columns, kept_columns, level}
 use Rattle.yaml_scan.specs.Levels.{greatest_level, greater_of}
-use Rattle.yaml_scan.specs.Order.{IsHistory, IsNotBefore, Follows, ended}
+use Rattle.yaml_scan.specs.Order.{IsHistory, IsNotBefore, Follows}
+use Rattle.yaml_scan.specs.Steps.{ended}
 use Rattle.yaml_scan.specs.Groups.{end_at, offline}
 use Rattle.yaml_scan.specs.Settled.{before}
 use Rattle.yaml_scan.specs.Groups.Token.{BlockEnd}

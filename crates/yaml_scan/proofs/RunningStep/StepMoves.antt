@@ -14,7 +14,7 @@ use Rattle.yaml_scan.specs.declared.scanner.scanner_t.{scanner_t}
 use Rattle.yaml_scan.specs.Kind.{Kind}
 use Rattle.yaml_scan.specs.Laid.{Laid}
 use Rattle.yaml_scan.specs.Levels.{greatest_level, laid, stays}
-use Rattle.yaml_scan.specs.Order.{ended}
+use Rattle.yaml_scan.specs.Steps.{ended}
 use Rattle.yaml_scan.specs.Settled.{before}
 use Rattle.yaml_scan.specs.inside.TextReads.{IsRead}
 use Rattle.yaml_scan.specs.inside.Scanning.{AdvancesTwice, AdvancesWith, Beside, CanRead, CanStep, Comes, Ends, HasRead, HasRoom, Holds, IsLaidBy, IsMet, IsNewHeld, IsReadIn, IsStep, Makes, Needs, Refuses, Same, Stays}

@@ -16,7 +16,8 @@ use Rattle.yaml_scan.specs.Laid.{Laid, reach, is_none}
 use Rattle.yaml_scan.specs.Depth.{depth}
 use Rattle.yaml_scan.specs.Keys.{only_live, completed_by}
 use Rattle.yaml_scan.specs.Allowed.{allowed, allowed_after}
-use Rattle.yaml_scan.specs.Order.{IsNotBefore, ended}
+use Rattle.yaml_scan.specs.Order.{IsNotBefore}
+use Rattle.yaml_scan.specs.Steps.{ended}
 use Rattle.yaml_scan.specs.Step.{Outcome, step, kind_step, read_step, unless, refuse, stale, required, refused, clears}
 use Rattle.yaml_scan.specs.Step.{lost, no_kind, not_allowed, problem_of, replaces, start_at, front_of, place_after}
 use Rattle.yaml_scan.specs.Step.Outcome.{Faults}

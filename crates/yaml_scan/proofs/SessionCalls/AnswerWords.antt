@@ -35,7 +35,7 @@ use Rattle.yaml_scan.specs.Fault.{Fault}
 use Rattle.yaml_scan.specs.Laid.{Laid}
 use Rattle.yaml_scan.specs.Depth.{depth}
 use Rattle.yaml_scan.specs.Levels.{laid, level}
-use Rattle.yaml_scan.specs.Order.{ended}
+use Rattle.yaml_scan.specs.Steps.{ended}
 use Rattle.yaml_scan.specs.Groups.{Token, handed_out, block_ends, group, groups, offline}
 use Rattle.yaml_scan.specs.Settled.{up_to, waiting, before}
 use Rattle.yaml_scan.specs.Groups.Token.{StreamStart, BlockEnd, BlockSequenceStart, BlockMappingStart, InsertedKey}
@@ -45,10 +45,11 @@ use Rattle.yaml_scan.specs.SourceOf.{source_of, reading_of}
 use Rattle.yaml_scan.specs.Step.{Outcome, step, kind_step, read_step, after_read, unless, refuse, stale, refused}
 use Rattle.yaml_scan.specs.Step.{clears, start_at, front_of, lexeme_of}
 use Rattle.yaml_scan.specs.Step.Outcome.{Reads, Faults}
-use Rattle.yaml_scan.specs.Cut.{Cut, cut_from, cut_on}
+use Rattle.yaml_scan.specs.Steps.{Cut, cut_from, cut_on}
 use Rattle.yaml_scan.specs.Answers.{Input, Course, course, course_from, tokens_of, next, answers}
 use Rattle.yaml_scan.specs.Near.{starts_near, is_near, place_of, unless_near}
-use Rattle.yaml_scan.specs.Inputs.{decoded_input, answers_to}
+use Rattle.yaml_scan.specs.Inputs.{answers_to}
+use Rattle.yaml_scan.specs.Decoded.{decoded_input}
 use Rattle.yaml_scan.specs.Session.{Session, Call, session, answer, scan_answer, peek_answer, after, next_token, why}
 use Rattle.yaml_scan.specs.Session.Call.{SCAN, PEEK, SKIP}
 use Rattle.yaml_scan.specs.Session.Answer.{TOKEN, PEEKED, SKIPPED, NOTHING}

@@ -1,7 +1,8 @@
 -- The answers of the code, appended one by one, are those to a list of calls.
 use Rattle.std.proofs.Common.{◌≡◌, ℕ, zero, suc, ◌+◌, ◌<◌, List, [], ◌∷◌, ◌++◌, map, take, length, get_or, refl, ap, sym, ◌∙◌, subst, arith, inl, inr, append_assoc}
 use Rattle.yaml_scan.specs.Session.{Call}
-use Rattle.yaml_scan.specs.Parser.{Parser, IsRefusedEarly, input_read}
+use Rattle.yaml_scan.specs.Parser.{Parser, input_read}
+use Rattle.yaml_scan.specs.ParserCalls.{IsRefusedEarly}
 use Rattle.yaml_scan.specs.Headline.{Calls, Runs, PutsAnswers}
 use Rattle.yaml_scan.specs.Puts.{after_calls, PutsSession}
 use Rattle.yaml_scan.specs.declared.calls.yaml_call_t.{yaml_call_t}

@@ -5,9 +5,10 @@ use Rattle.yaml_text.specs.declared.types.yaml_encoding_t.{yaml_encoding_t}
 use Rattle.yaml_scan.specs.Fault.{Fault, memory_fault}
 use Rattle.yaml_scan.specs.Token.{yaml_token_t}
 use Rattle.yaml_scan.specs.Begins.{Begins}
-use Rattle.yaml_scan.specs.Inputs.{decoded_input, answers_to}
+use Rattle.yaml_scan.specs.Inputs.{answers_to}
+use Rattle.yaml_scan.specs.Decoded.{decoded_input}
 use Rattle.yaml_scan.specs.AnswerLaws.{StandInOrder, ends_among, starts_among, AreFollowed, of_text_among, tokens_of_cut}
-use Rattle.yaml_scan.specs.Parser.{IsRefusedEarly}
+use Rattle.yaml_scan.specs.ParserCalls.{IsRefusedEarly}
 use Rattle.yaml_scan.specs.All.{AllOf, ReadsAll, EndNoMore, EndAll, TellLexemes, depth_of}
 use Rattle.yaml_scan.proofs.TokenList.NeverRevised.{Begins-trans}
 use Rattle.yaml_scan.proofs.Course.InputLaws.{inputs_keep_order, all_stand_in_order, all_end_fewer, all_end_all, all_follow_keys}

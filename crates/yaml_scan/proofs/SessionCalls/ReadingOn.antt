@@ -10,12 +10,14 @@ use Rattle.yaml_scan.specs.Fault.{Fault}
 use Rattle.yaml_scan.specs.Groups.{Token, handed_out}
 use Rattle.yaml_scan.specs.Cut.{KeepsOrder}
 use Rattle.yaml_scan.specs.Answers.{Input, Course, Answers, course, tokens_of, answers}
-use Rattle.yaml_scan.specs.Inputs.{decoded_input, answers_to}
+use Rattle.yaml_scan.specs.Inputs.{answers_to}
+use Rattle.yaml_scan.specs.Decoded.{decoded_input}
 use Rattle.yaml_scan.specs.Session.{Session, Call, Answer, new_session, session, after, next_token, is_last}
 use Rattle.yaml_scan.specs.Session.{took, paced, finished, why, scan_answer, after_scan}
 use Rattle.yaml_scan.specs.Session.Call.{SCAN}
 use Rattle.yaml_scan.specs.Session.Answer.{TOKEN, PEEKED, SKIPPED, NOTHING, FAULT}
-use Rattle.yaml_scan.specs.Parser.{Parser, told, course_read}
+use Rattle.yaml_scan.specs.Parser.{Parser, course_read}
+use Rattle.yaml_scan.specs.ParserCalls.{told}
 use Rattle.yaml_scan.specs.Headline.{Runs, PutsAnswers}
 use Rattle.yaml_scan.specs.Puts.{answered_all, RunsOut}
 use Rattle.yaml_scan.specs.Seen.{Seen, seen, seen_of}

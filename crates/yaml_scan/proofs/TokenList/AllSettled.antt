@@ -7,7 +7,8 @@ use Rattle.yaml_text.specs.declared.types.yaml_mark_t.{yaml_mark_t}
 use Rattle.yaml_scan.specs.Laid.{Laid, reach}
 use Rattle.yaml_scan.specs.Keys.{candidate, live, enters, is_candidate}
 use Rattle.yaml_scan.specs.Depth.{depth}
-use Rattle.yaml_scan.specs.Order.{ended, IsHistory, IsNotBefore}
+use Rattle.yaml_scan.specs.Order.{IsHistory, IsNotBefore}
+use Rattle.yaml_scan.specs.Steps.{ended}
 use Rattle.yaml_scan.specs.Groups.{offline}
 use Rattle.yaml_scan.specs.Settled.{waiting, before, is_current, last_of}
 use Rattle.yaml_scan.proofs.History.DepthOneOn.{depth-start, depth-end, depth-same}

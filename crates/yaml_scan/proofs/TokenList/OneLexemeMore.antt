@@ -11,7 +11,8 @@ use Rattle.yaml_scan.specs.Levels.{open_columns, kept_columns, level, greatest_l
 use Rattle.yaml_scan.specs.Groups.{Token, group, groups, offline, block_ends, put_in}
 use Rattle.yaml_scan.specs.Settled.{up_to}
 use Rattle.yaml_scan.specs.Groups.Token.{OfLexeme}
-use Rattle.yaml_scan.specs.Order.{IsHistory, ended}
+use Rattle.yaml_scan.specs.Order.{IsHistory}
+use Rattle.yaml_scan.specs.Steps.{ended}
 use Rattle.yaml_scan.specs.Laws.{CandidatesGoOn, CandidatesAreNested, new_column, ColumnsGoOn, ColumnsFall, first_of}
 use Rattle.yaml_scan.specs.Laws.{LevelIsFirst, LevelStays, key_tokens, with_key, OfflineGoesOn, CandidateStandsThere}
 use Rattle.yaml_scan.specs.Laws.{NeverRevised, FewWait, FewWaitOneStepOn, AllIsHandedOut, LexemesComeInOrder}

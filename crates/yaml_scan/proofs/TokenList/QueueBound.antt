@@ -6,7 +6,8 @@ use Rattle.yaml_scan.specs.Settled.{is_current, queued, waiting, before}
 use Rattle.yaml_scan.specs.Groups.{Token, groups, block_ends}
 use Rattle.yaml_scan.specs.Laid.{Laid, reach}
 use Rattle.yaml_scan.specs.Keys.{live}
-use Rattle.yaml_scan.specs.Order.{ended, IsHistory}
+use Rattle.yaml_scan.specs.Order.{IsHistory}
+use Rattle.yaml_scan.specs.Steps.{ended}
 use Rattle.yaml_scan.proofs.History.HistoryOrder.{to_start, byte_taken}
 use Rattle.yaml_scan.specs.Begins.{Begins}
 use Rattle.yaml_scan.proofs.TokenList.NeverRevised.{groups-append, is_live_candidate, IsEarliest}

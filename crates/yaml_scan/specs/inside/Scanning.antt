@@ -32,7 +32,8 @@ use Rattle.yaml_scan.specs.Laid.{Laid, reach}
 use Rattle.yaml_scan.specs.Depth.{depth}
 use Rattle.yaml_scan.specs.Allowed.{allowed, allowed_after}
 use Rattle.yaml_scan.specs.Levels.{AllLess, laid, open_columns, greatest_level, stays}
-use Rattle.yaml_scan.specs.Order.{IsHistory, ended}
+use Rattle.yaml_scan.specs.Order.{IsHistory}
+use Rattle.yaml_scan.specs.Steps.{ended}
 use Rattle.yaml_scan.specs.Groups.{offline}
 use Rattle.yaml_scan.specs.Settled.{before, pace}
 use Rattle.yaml_scan.specs.inside.Slots.{Held, held, outer_to, empty_slots, lowest, step_of}
@@ -41,7 +42,7 @@ use Rattle.yaml_scan.specs.inside.Slots.{root_of, slot_after}
 use Rattle.yaml_scan.specs.inside.Queue.{IsQueue, closing}
 use Rattle.yaml_scan.specs.Step.{step, read_step, stale, place_after, front_of, start_at, problem_of, replaces}
 use Rattle.yaml_scan.specs.Step.Outcome.{Reads, Faults}
-use Rattle.yaml_scan.specs.Cut.{oldest}
+use Rattle.yaml_scan.specs.Steps.{oldest}
 use Rattle.yaml_scan.specs.Answers.{Input, Course, course, next}
 use Rattle.yaml_scan.specs.Near.{is_near}
 
