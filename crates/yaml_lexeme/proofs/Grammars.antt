@@ -1,4 +1,4 @@
--- What the texts of names, tags, directives and escapes are made of.
+-- What the texts of names, tags, directives, escapes and headers are made of.
 
 -- A run is the longest text of characters that pass.
 pub mod RunTexts
@@ -12,9 +12,15 @@ pub mod UriGrammar
 pub mod TagGrammar
 -- Numbers and versions of directives are their digits.
 pub mod VersionGrammar
+-- The rest of a line is blanks, a comment, and a break or the end.
+pub mod LineGrammar
 -- Handles and prefixes of tag directives are their texts.
 pub mod HandleGrammar
 -- Directives are their names and what they say.
 pub mod DirectiveGrammar
 -- Escapes are a character, or the hex digits of one.
 pub mod EscapeGrammar
+-- The header of a block scalar is a sign and a digit.
+pub mod HeaderGrammar
+-- A literal or folded scalar is refused at the first of its parts that the text does not give.
+pub mod BlockGrammar

@@ -5,7 +5,7 @@ ghost use Rattle.yaml_text.specs.Token.{Token};
 ghost use Rattle.yaml_scan.specs.All.{ReadsAll};
 ghost use Rattle.yaml_scan.specs.Scanned.{ReadsNext, Scanned};
 ghost use Rattle.yaml_scan.specs.inside.Ready.{IsReady};
-ghost use Rattle.yaml_scan.specs.inside.Scanning.{IsOpen, Runs};
+ghost use Rattle.yaml_scan.specs.inside.Scanning.{IsOpen, IsRunning};
 ghost use Rattle.yaml_scan.specs.inside.Sent.{HasSentOrSettled, SendsOrSettles};
 
 use crate::fault::{fault_at, stop_t};
@@ -25,7 +25,7 @@ fn send_or_settle<S: yaml_token_sink_t>(
     scanner: &mut scanner_t,
     sink: &mut S,
 ) -> Result<bool, stop_t>
-    requires runs { Runs scanner.old }
+    requires runs { IsRunning scanner.old }
     requires still_open { IsOpen scanner.old }
     ensures sends { SendsOrSettles scanner.old scanner.new (λ tokens. S.took sink.old tokens sink.new) S.may_refuse
         result }

@@ -7,7 +7,7 @@ ghost use Rattle.yaml_text.specs.declared.types.yaml_encoding_t.TheVariants.{YAM
 ghost use Rattle.yaml_scan.specs.KeyLimits.{key_limit, most_key_limit};
 ghost use Rattle.yaml_scan.specs.Settled.{before};
 ghost use Rattle.yaml_scan.specs.Session.{new_session, session_queued, session_reach};
-ghost use Rattle.yaml_scan.specs.inside.Scanning.{Runs, history};
+ghost use Rattle.yaml_scan.specs.inside.Scanning.{IsRunning, history};
 ghost use Rattle.yaml_scan.specs.inside.Ready.{IsNew, IsReady, IsSettled, IsStopped, IsShort, IsEnded, Pops, Begins};
 ghost use Rattle.yaml_scan.specs.inside.Ready.{IsStarted, IsShown};
 ghost use Rattle.yaml_scan.specs.Headline.{Calls};
@@ -187,7 +187,7 @@ fn settle<'a>(
 /// Takes the head of the queue.
 #[inline(always)]
 pub(crate) fn take_head(scanner: &mut scanner_t) -> yaml_token_t
-    requires runs { Runs scanner.old }
+    requires runs { IsRunning scanner.old }
     requires settled { scanner.old.taken < length (before scanner.old.limit (history scanner.old)) }
     ensures { Pops scanner.old scanner.new (token_of result) }
 {

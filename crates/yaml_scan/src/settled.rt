@@ -6,7 +6,7 @@ ghost use Rattle.yaml_scan.specs.inside.Queue.{begins_with_end, pending};
 ghost use Rattle.yaml_scan.specs.Settled.{before};
 ghost use Rattle.yaml_scan.specs.Steps.{ended};
 ghost use Rattle.yaml_scan.specs.inside.Stop.{fault_at};
-ghost use Rattle.yaml_scan.specs.inside.Scanning.{Runs, StepsOn, IsLast, Stays, IsOpen};
+ghost use Rattle.yaml_scan.specs.inside.Scanning.{IsRunning, StepsOn, IsLast, Stays, IsOpen};
 ghost use Rattle.yaml_scan.specs.inside.Scanning.{Fails, Settles};
 ghost use Rattle.yaml_scan.specs.inside.Scanning.{Stops, history};
 
@@ -29,7 +29,7 @@ fn is_awaited(scanner: &scanner_t) -> bool
 /// Whether the head of the queue is the next token.
 #[inline(always)]
 pub(crate) fn is_settled(scanner: &scanner_t) -> bool
-    requires { Runs scanner.now }
+    requires { IsRunning scanner.now }
     ensures { result ≡ nat_lt scanner.now.taken (length (before scanner.now.limit (history scanner.now))) }
 {
     !scanner.layout.queue.groups.is_empty() && !is_awaited(scanner)
@@ -38,7 +38,7 @@ pub(crate) fn is_settled(scanner: &scanner_t) -> bool
 /// Makes a step, or two if the next token needs both, unless the scanner has to stop there.
 #[inline(always)]
 fn advance(scanner: &mut scanner_t) -> Result<(), stop_t>
-    requires runs { Runs scanner.old }
+    requires runs { IsRunning scanner.old }
     requires running { ended (history scanner.old) ≡ false }
     ensures { MatchResult result (λ _. StepsOn scanner.old scanner.new) (λ s.
         ((fault_at s scanner.new.kept ≡ memory_fault) ⊎ IsLast scanner.old (fault_at s scanner.new.kept))
@@ -50,7 +50,7 @@ fn advance(scanner: &mut scanner_t) -> Result<(), stop_t>
 /// Makes steps until the head of the queue is the next token.
 #[inline(always)]
 pub(crate) fn settle_head(scanner: &mut scanner_t) -> Result<(), stop_t>
-    requires runs { Runs scanner.old }
+    requires runs { IsRunning scanner.old }
     requires not_ended { IsOpen scanner.old }
     ensures { MatchResult result (λ _. Settles scanner.old scanner.new) (λ s.
         ((fault_at s scanner.new.kept ≡ memory_fault)

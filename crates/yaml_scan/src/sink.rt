@@ -6,7 +6,7 @@ ghost use Rattle.yaml_scan.specs.Sink.{IsGivenAll, IsGivenFront};
 ghost use Rattle.yaml_scan.specs.Words.{HaveWords};
 ghost use Rattle.yaml_scan.specs.inside.Given.{GaveRest, GivesAll, IsSettledTo, StopsGiving, told_all};
 ghost use Rattle.yaml_scan.specs.inside.Ready.{IsNew};
-ghost use Rattle.yaml_scan.specs.inside.Scanning.{IsOpen, Runs};
+ghost use Rattle.yaml_scan.specs.inside.Scanning.{IsOpen, IsRunning};
 
 use crate::fault::{fault_at, stop_t};
 use crate::parser::{begin, new_scanner, take_head};
@@ -20,7 +20,7 @@ use yaml_text::{yaml_encoding_t, yaml_fault_t, yaml_token_t};
 
 /// Makes steps until the head of the queue is the next token. The groups of steps that need not wait go to the sink.
 fn settle_to<S: yaml_token_sink_t>(scanner: &mut scanner_t, sink: &mut S) -> Result<(), stop_t>
-    requires runs { Runs scanner.old }
+    requires runs { IsRunning scanner.old }
     requires still_open { IsOpen scanner.old }
     ensures { MatchResult result
         (λ _. IsSettledTo scanner.old scanner.new (λ tokens. S.took sink.old tokens sink.new))
@@ -35,7 +35,7 @@ fn settle_to<S: yaml_token_sink_t>(scanner: &mut scanner_t, sink: &mut S) -> Res
 
 /// Gives the tokens of a scanner that has made the first step to a sink, up to the stream end.
 fn give_rest<S: yaml_token_sink_t>(scanner: &mut scanner_t, sink: &mut S) -> Result<(), stop_t>
-    requires runs { Runs scanner.old }
+    requires runs { IsRunning scanner.old }
     requires still_open { IsOpen scanner.old }
     requires words { HaveWords (told_all scanner.old) }
     ensures { MatchResult result (λ _. GaveRest scanner.old (λ tokens. S.took sink.old tokens sink.new))

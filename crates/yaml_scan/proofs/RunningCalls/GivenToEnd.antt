@@ -27,7 +27,7 @@ use Rattle.yaml_scan.specs.Words.{HasWords, HaveWords}
 use Rattle.yaml_scan.specs.inside.Given.{GaveRest, GivesAll, HasGiven, IsCutOff, StopsGiving, all_in, told_all, told_taken}
 use Rattle.yaml_scan.specs.inside.Handed.{IsCut, is_end}
 use Rattle.yaml_scan.specs.inside.Ready.{IsEnded, IsIn, IsShort, Pops, course_in}
-use Rattle.yaml_scan.specs.inside.Scanning.{IsLast, IsOpen, Runs, course_of, history, input_of}
+use Rattle.yaml_scan.specs.inside.Scanning.{IsLast, IsOpen, IsRunning, course_of, history, input_of}
 use Rattle.yaml_scan.specs.inside.Stop.{fault_at, no_fault}
 use Rattle.yaml_scan.proofs.Course.AnswerOrder.{TokensFit, fit_before, fit_front}
 use Rattle.yaml_scan.proofs.Course.CourseSteps.{not_last}
@@ -53,7 +53,7 @@ words_at e (y ∷ xs) zero x w q = let p : y ≡ x = cc in subst (λ (z : Token)
 words_at e (y ∷ xs) (suc n) x w q = words_at e xs n x w.1 q
 
 -- THE HEAD OF THE QUEUE IS GIVEN
-module _ (s t : scanner_t) (x : yaml_token_t) (r : Runs s) (p : Pops s t x) where
+module _ (s t : scanner_t) (x : yaml_token_t) (r : IsRunning s) (p : Pops s t x) where
   abbrev h : Token → yaml_token_t
   h y = handed_out s.text.encoding y
 
@@ -149,7 +149,7 @@ none_is_end e (x ∷ xs) a f = neither (is_end (handed_out e x)) (list_any is_en
     neither a b p q = rw (p, q) refl
 
 -- a scanner that is stuck has handed out what its steps settle
-module _ (m : scanner_t) (r : Runs m) (o : IsOpen m) (l : length (before m.limit (history m)) ≤ m.taken) where
+module _ (m : scanner_t) (r : IsRunning m) (o : IsOpen m) (l : length (before m.limit (history m)) ≤ m.taken) where
   stuck_at : take m.taken (all_in m) ≡ before m.limit (history m)
   stuck_at =
       let b = settled_begins m r in

@@ -23,7 +23,7 @@ use Rattle.yaml_scan.specs.Token.{yaml_token_t}
 use Rattle.yaml_scan.specs.inside.Given.{HasGiven, IsCutOff, StopsGiving, all_in, told_all, told_taken}
 use Rattle.yaml_scan.specs.inside.Handed.{AllSettled, Empties, HandsOut, IsCut, StepsTo, is_end}
 use Rattle.yaml_scan.specs.inside.Queue.{IsQueue}
-use Rattle.yaml_scan.specs.inside.Scanning.{CanStep, Holds, groups_in, IsOpen, Makes, Runs, Same, course_of, history, input_of}
+use Rattle.yaml_scan.specs.inside.Scanning.{CanStep, Holds, groups_in, IsOpen, Makes, IsRunning, Same, course_of, history, input_of}
 use Rattle.yaml_scan.proofs.Course.AnswerOrder.{AllFit, course_fits}
 use Rattle.yaml_scan.proofs.Course.CourseSteps.{last_token}
 use Rattle.yaml_scan.proofs.Course.NextStep.{oldest_all}
@@ -54,7 +54,7 @@ module _ (s t : scanner_t) (H : t.text ≡ s.text) (J : t.refusal ≡ s.refusal)
       ∙ ap (λ (z : List Token). map (handed_out s.text.encoding) (take t.taken z)) all_as
       ∙ ap (λ (k : ℕ). map (handed_out s.text.encoding) (take k (all_in s))) e
 
-pub none_given : (s : scanner_t) → Runs s → IsOpen s → HasGiven s s []
+pub none_given : (s : scanner_t) → IsRunning s → IsOpen s → HasGiven s s []
 none_given s r o = record { runs = r; still_open = o; text = refl; refusal = refl; limit = refl; grows = omega arith; given = sym (append-nil (told_taken s)) }
 
 pub more_given : (s t u : scanner_t) (xs ys : List yaml_token_t) → HasGiven s t xs → HasGiven t u ys → HasGiven s u (xs ++ ys)
@@ -127,10 +127,10 @@ module _ (s : scanner_t) (ys : List group_t) (r : RunsWith s ys) where
   unfolding history
   all_read e = sym (oldest_all (course_of s).read (s.made - 1) (ended_all (next (input_of s) s.limit) s.limit (course_of s).read (s.made - 1) (is_run_with s ys r) (inside_with s ys r) e))
 
-pub settled_begins : (s : scanner_t) → Runs s → Begins (before s.limit (history s)) (all_in s)
+pub settled_begins : (s : scanner_t) → IsRunning s → Begins (before s.limit (history s)) (all_in s)
 settled_begins s r = settled_begins_with s (groups_in s) (runs_with s r)
 
-pub all_fit : (s : scanner_t) → Runs s → AllFit (course_of s).read
+pub all_fit : (s : scanner_t) → IsRunning s → AllFit (course_of s).read
 all_fit s r = all_fit_with s (groups_in s) (runs_with s r)
 
 -- the token of the stream end is the last one
@@ -269,7 +269,7 @@ module _ (m : scanner_t) (zs : List group_t) (r : RunsWith m zs) (o : IsOpen m) 
       place = rw (e.text, e.reach) g.place;
     }
 
-    runs_then : Runs t
+    runs_then : IsRunning t
     runs_then = record {
       small = rw e.text r.small;
       near = rw (e.text, e.refusal, e.near) r.near;
@@ -307,7 +307,7 @@ module _ (m : scanner_t) (zs : List group_t) (r : RunsWith m zs) (o : IsOpen m) 
     }
 
 -- A STEP
-module _ (s : scanner_t) (r : Runs s) (o : IsOpen s) (l : length (before s.limit (history s)) ≤ s.taken) where
+module _ (s : scanner_t) (r : IsRunning s) (o : IsOpen s) (l : length (before s.limit (history s)) ≤ s.taken) where
   running : ended (history s) ≡ false
   running = still_running s r o l
 

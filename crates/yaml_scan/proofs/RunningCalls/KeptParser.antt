@@ -13,7 +13,7 @@ use Rattle.yaml_scan.specs.Session.{session_queued}
 use Rattle.yaml_scan.specs.inside.Queue.{IsLead}
 use Rattle.yaml_text.specs.declared.types.yaml_encoding_t.{yaml_encoding_t}
 use Rattle.yaml_scan.specs.inside.Ready.{IsIn, IsReady, IsShown, Sound, parser_of, course_in}
-use Rattle.yaml_scan.specs.inside.Scanning.{IsOpen, Runs, course_of, history}
+use Rattle.yaml_scan.specs.inside.Scanning.{IsOpen, IsRunning, course_of, history}
 
 some_or_none : (n : ℕ) → (n ≡ 0) ⊎ (0 < n)
 some_or_none zero = inl refl
@@ -39,7 +39,7 @@ with_text s x q = record {
 }
 
 -- what a step has found is not what a scanner goes on with
-goes_runs : (s : scanner_t) (x : Text) (p q : scanner_t) → Runs (with_text s x p) → Runs (with_text s x q)
+goes_runs : (s : scanner_t) (x : Text) (p q : scanner_t) → IsRunning (with_text s x p) → IsRunning (with_text s x q)
 unfolding history course_of
 goes_runs s x p q r = let h = r.holds in record {
   small = r.small;

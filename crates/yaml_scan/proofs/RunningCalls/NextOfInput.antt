@@ -22,7 +22,7 @@ use Rattle.yaml_scan.specs.Steps.{Cut, cut_from, oldest}
 use Rattle.yaml_scan.specs.Answers.{Course, course, course_from, next}
 use Rattle.yaml_scan.specs.Near.{unless_near, is_near, place_of, starts_near}
 use Rattle.yaml_scan.specs.Settled.{before}
-use Rattle.yaml_scan.specs.inside.Scanning.{HoldsWith, AdvancesWith, AdvancesTwice, Ends, Makes, Needs, Offends, Runs, Steps, StepsOn, IsLast, groups_in, Same, IsNearFrom, IsNearOf, IsStep, Stays, counted, history}
+use Rattle.yaml_scan.specs.inside.Scanning.{HoldsWith, AdvancesWith, AdvancesTwice, Ends, Makes, Needs, Offends, IsRunning, Steps, StepsOn, IsLast, groups_in, Same, IsNearFrom, IsNearOf, IsStep, Stays, counted, history}
 use Rattle.yaml_scan.specs.inside.Scanning.{course_of, input_of}
 use Rattle.yaml_scan.proofs.Course.LongestCut.{IsHistory-from_run, run_short}
 use Rattle.yaml_scan.proofs.Course.CourseSteps.{next_orderly, steps_are}
@@ -99,10 +99,10 @@ pub record RunsWith (s : scanner_t) (ys : List group_t) : Type 0 where
   pub start : (course_of s).begun ≡ true
   pub within : s.made ≤ length (course_of s).read + 1
 
-pub runs_with : (s : scanner_t) → Runs s → RunsWith s (groups_in s)
+pub runs_with : (s : scanner_t) → IsRunning s → RunsWith s (groups_in s)
 runs_with s r = record { small = r.small; near = r.near; holds = r.holds; begun = r.begun; start = r.start; within = r.within }
 
-pub runs_on : (s : scanner_t) (ys : List group_t) → ys ≡ groups_in s → RunsWith s ys → Runs s
+pub runs_on : (s : scanner_t) (ys : List group_t) → ys ≡ groups_in s → RunsWith s ys → IsRunning s
 runs_on s ys e r = record { small = r.small; near = r.near; holds = subst (λ (z : List group_t). HoldsWith (history s) (s.made + 1) s z) e r.holds; begun = r.begun; start = r.start; within = r.within }
 
 -- one step more
@@ -242,7 +242,7 @@ module _ (s : scanner_t) (ys : List group_t) (r : RunsWith s ys) where
     ends_last_with f w = subst (λ (g : Fault). IsLast s g) w.2 (last_is w.0 w.1)
 
 -- of a scanner that runs
-module _ (s : scanner_t) (r : Runs s) where
+module _ (s : scanner_t) (r : IsRunning s) where
   pub is_run : IsRun (next (input_of s) s.limit) s.limit (course_of s).read
   is_run = is_run_with s (groups_in s) (runs_with s r)
 
@@ -292,7 +292,7 @@ one_step : (s u : scanner_t) (ys : List group_t) → RunsWith s ys → ended (hi
 one_step s u ys r e t zs a far q = rw q (stepped_with s ys r e t zs a (counted t) refl refl refl refl refl refl refl refl refl refl t.reach.index refl far)
 
 -- one step was made, or two, whether the next token needs both or not
-pub some_steps : (sparing : Bool) (s u : scanner_t) (zs : List group_t) → Runs s → ended (history s) ≡ false → Makes sparing (history s) s u zs → RunsWith u zs × (s.made < u.made) × Same s u
+pub some_steps : (sparing : Bool) (s u : scanner_t) (zs : List group_t) → IsRunning s → ended (history s) ≡ false → Makes sparing (history s) s u zs → RunsWith u zs × (s.made < u.made) × Same s u
 some_steps sparing s u zs r e (inl m) = let k = one_step s u (groups_in s) (runs_with s r) e m.0 zs m.1 m.2 m.3 in let n = k.made in (k.runs, omega arith, k.same)
 some_steps sparing s u zs r e (inr m) =
     let t : scanner_t = m.0 in
@@ -304,7 +304,7 @@ some_steps sparing s u zs r e (inr m) =
     (k.runs, omega arith, same_trans s (counted a.between) u j.same k.same)
 
 -- a step of the scanner is the next one of its input
-pub steps_on : (s u : scanner_t) → Runs s → ended (history s) ≡ false → Makes true (history s) s u (groups_in u) → StepsOn s u
+pub steps_on : (s u : scanner_t) → IsRunning s → ended (history s) ≡ false → Makes true (history s) s u (groups_in u) → StepsOn s u
 steps_on s u r e (inl m) = inl (steps_of s u (one_step s u (groups_in s) (runs_with s r) e m.0 (groups_in u) m.1 m.2 m.3))
 steps_on s u r e (inr m) =
     let t : scanner_t = m.0 in
@@ -321,23 +321,23 @@ steps_on s u r e (inr m) =
     })
 
 -- or the last one of its input
-pub step_on : (s t : scanner_t) (o : Result (Unit {0}) stop_t) → Runs s → ended (history s) ≡ false → IsStep (history s) s t o
+pub step_on : (s t : scanner_t) (o : Result (Unit {0}) stop_t) → IsRunning s → ended (history s) ≡ false → IsStep (history s) s t o
     → MatchResult o (λ _. StepsOn s t) (λ stop. ((fault_at stop t.kept ≡ memory_fault) ⊎ IsLast s (fault_at stop t.kept)) × Stays s t)
 step_on s t (Ok x) r e w = steps_on s t r e w
 step_on s t (Err stop) r e w = (elim w.0 [ inl m ↦ inl m | inr f ↦ inr (ends_last s r e (fault_at stop t.kept) f) ], w.1)
 
 -- FEW TOKENS, AND FEW STEPS
-pub few_made : (s : scanner_t) → Runs s → s.made + 2 < 2 ^ 64
+pub few_made : (s : scanner_t) → IsRunning s → s.made + 2 < 2 ^ 64
 few_made s r = let a = r.within in let b = read_short s r in let c = r.small in omega arith
 
-pub history_length : (s : scanner_t) → Runs s → length (history s) ≡ s.made - 1
+pub history_length : (s : scanner_t) → IsRunning s → length (history s) ≡ s.made - 1
 unfolding history
 history_length s r = oldest_length (course_of s).read (s.made - 1) (inside s r)
 
 few_are_few : (t n : ℕ) → t ≤ 4 * (n + 3) → n < 9223372036854775808 → t + 4 ≤ 2 ^ 100
 few_are_few t n l m = omega arith
 
-pub few_taken : (s : scanner_t) → Runs s → s.taken + 4 ≤ 2 ^ 100
+pub few_taken : (s : scanner_t) → IsRunning s → s.taken + 4 ≤ 2 ^ 100
 few_taken s r =
     let a = r.holds.taken in
     let b = length-begins _ _ (before-offline s.limit (history s) r.holds.is_history) in

@@ -12,7 +12,7 @@ use Rattle.yaml_scan.specs.Cut.{IsRun}
 use Rattle.yaml_scan.specs.Steps.{oldest}
 use Rattle.yaml_scan.specs.Answers.{Course, next}
 use Rattle.yaml_scan.specs.Settled.{steps_for, pace}
-use Rattle.yaml_scan.specs.inside.Scanning.{Runs, Steps, StepsOn, StepsTwice, IsLast, Stays, Same, IsOpen, Fails, Stops, history, course_of}
+use Rattle.yaml_scan.specs.inside.Scanning.{IsRunning, Steps, StepsOn, StepsTwice, IsLast, Stays, Same, IsOpen, Fails, Stops, history, course_of}
 use Rattle.yaml_scan.specs.inside.Scanning.{input_of}
 use Rattle.yaml_scan.proofs.TokenList.OneLexemeMore.{all_is_handed_out}
 use Rattle.yaml_scan.proofs.Course.NextStep.{oldest_all, oldest_tail}
@@ -30,7 +30,7 @@ ended_all p limit (i ∷ H) k r l e = elim (cases_eq k (length (i ∷ H))) [
       let w : ended H ≡ true = subst (λ (X : List Laid). ended X ≡ true) (oldest_all H k n) u in absurd (false≢true (sym r.3 ∙ w)))
 ]
 
-module _ (s : scanner_t) (r : Runs s) where
+module _ (s : scanner_t) (r : IsRunning s) where
   -- while the head is not settled, there is a step to make
   pub still_running : IsOpen s → length (before s.limit (history s)) ≤ s.taken → ended (history s) ≡ false
   unfolding history
@@ -59,7 +59,7 @@ module _ (s : scanner_t) (r : Runs s) where
       let b = r.begun in
       let m = needs_more s.limit (course_of s).read s.taken (s.made - 1) (omega arith) l in omega arith
 
-module _ (s t : scanner_t) (r : Runs t) (S : Same s t) where
+module _ (s t : scanner_t) (r : IsRunning t) (S : Same s t) where
   course_is : course_of t ≡ course_of s
   course_is = course_same s t S
 
@@ -112,13 +112,13 @@ least_pace s = omega arith
 
 -- t is s after steps that its next token needs
 pub record Goes (s t : scanner_t) : Type 0 where
-  pub runs : Runs t
+  pub runs : IsRunning t
   pub same : Same s t
   pub least : s.made ≤ t.made
   pub most : t.made ≤ pace s.limit (course_of s).read s.taken s.made
 
 -- after one step, or two that were needed
-pub goes_on : (s t u : scanner_t) → Runs t → Same s t → s.made ≤ t.made → length (before t.limit (history t)) ≤ t.taken → StepsOn t u → Goes s u
+pub goes_on : (s t u : scanner_t) → IsRunning t → Same s t → s.made ≤ t.made → length (before t.limit (history t)) ≤ t.taken → StepsOn t u → Goes s u
 goes_on s t u r S l n (inl k) = record {
   runs = k.runs;
   same = same_trans s t u S k.same;
@@ -132,6 +132,6 @@ goes_on s t u r S l n (inr k) = record {
   most = two_more s t r S u k;
 }
 
-pub fewer_left : (t u : scanner_t) → Runs t → StepsOn t u → length (course_of u).read + 2 - u.made < length (course_of t).read + 2 - t.made
+pub fewer_left : (t u : scanner_t) → IsRunning t → StepsOn t u → length (course_of u).read + 2 - u.made < length (course_of t).read + 2 - t.made
 fewer_left t u r (inl k) = let m = k.made in let e = ap (λ (x : Course). length x.read) (course_same t u k.same) in let w = r.within in omega arith
 fewer_left t u r (inr k) = let m = k.made in let e = ap (λ (x : Course). length x.read) (course_same t u k.same) in let w = r.within in omega arith

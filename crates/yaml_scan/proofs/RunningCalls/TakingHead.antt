@@ -7,7 +7,7 @@ use Rattle.yaml_scan.specs.Order.{IsHistory}
 use Rattle.yaml_scan.specs.Groups.{Token, offline}
 use Rattle.yaml_scan.specs.Settled.{before}
 use Rattle.yaml_scan.specs.inside.Queue.{IsQueue, Takes}
-use Rattle.yaml_scan.specs.inside.Scanning.{Holds, Runs, history, course_of}
+use Rattle.yaml_scan.specs.inside.Scanning.{Holds, IsRunning, history, course_of}
 use Rattle.yaml_scan.specs.Answers.{Course}
 use Rattle.yaml_scan.specs.inside.Ready.{Pops}
 use Rattle.yaml_scan.proofs.TokenList.QueueBound.{length-begins}
@@ -36,7 +36,7 @@ head_same limit W P Y t e h g l =
     let y : slice_get (before limit (Y ++ P)) t ≡ slice_get (before limit P) t = rw a.is (get-append (before limit P) a.rest t l) in
     x ∙ sym y ∙ ap (λ (X : List Laid). slice_get (before limit X) t) (sym e)
 
-module _ (s : scanner_t) (r : Runs s) (l : s.taken < length (before s.limit (history s))) where
+module _ (s : scanner_t) (r : IsRunning s) (l : s.taken < length (before s.limit (history s))) where
   pub groups_some : 0 < length s.layout.queue.groups.items
   groups_some =
       let b = length-begins _ _ (before-offline s.limit (history s) r.holds.is_history) in

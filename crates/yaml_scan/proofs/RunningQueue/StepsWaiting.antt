@@ -14,7 +14,7 @@ use Rattle.yaml_scan.specs.Settled.{before, queued}
 use Rattle.yaml_scan.specs.Groups.Token.{OfLexeme}
 use Rattle.yaml_scan.specs.Steps.{oldest}
 use Rattle.yaml_scan.specs.Settled.{steps_for, pace, first_steps}
-use Rattle.yaml_scan.specs.inside.Scanning.{Runs, history}
+use Rattle.yaml_scan.specs.inside.Scanning.{IsRunning, history}
 use Rattle.yaml_scan.proofs.TokenList.QueueBound.{queued_few}
 use Rattle.yaml_scan.proofs.RunningQueue.StepsInQueue.{queued-count}
 use Rattle.yaml_scan.proofs.TokenList.SettledStays.{before-before, before-offline}
@@ -153,7 +153,7 @@ module _ (limit : ℕ) (H : List Laid) (h : IsHistory limit H) where
 
 -- OF A SCANNER
 -- those that wait have a group, and those that do not are counted
-pub done_is : (s : scanner_t) → Runs s → queued (history s) s.taken (history s) + s.layout.queue.done ≡ s.made
+pub done_is : (s : scanner_t) → IsRunning s → queued (history s) s.taken (history s) + s.layout.queue.done ≡ s.made
 unfolding offline
 done_is s r =
     let g = r.holds in

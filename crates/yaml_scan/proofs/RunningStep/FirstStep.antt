@@ -26,7 +26,7 @@ use Rattle.yaml_scan.specs.inside.NearFault.{near_fault}
 use Rattle.yaml_scan.specs.inside.Queue.{IsQueue}
 use Rattle.yaml_scan.specs.Settled.{first_steps, pace}
 use Rattle.yaml_scan.specs.Decoded.{decoded_input}
-use Rattle.yaml_scan.specs.inside.Scanning.{Holds, Runs, IsNearOf, history, course_of, input_of}
+use Rattle.yaml_scan.specs.inside.Scanning.{Holds, IsRunning, IsNearOf, history, course_of, input_of}
 use Rattle.yaml_scan.specs.inside.Ready.{IsNew, Begins, IsStopped, IsEnded, course_in}
 
 oldest_none : (H : List Laid) → oldest 0 H ≡ []
@@ -163,7 +163,7 @@ module _ (setting : yaml_encoding_t) (input : List ℕ) (s t : scanner_t) (n : I
     place = λ z. rw (J, n.reach) (start_mark t.text.chars);
   }
 
-  runs : Runs t
+  runs : IsRunning t
   runs = record { small = small; near = N; holds = subst (λ (Z : List Laid). Holds Z (t.made + 1) t) (sym history_none) holds; begun = omega (arith, M); start = begun; within = omega (arith, M) }
 
   pub begins : Begins setting input s t

@@ -12,7 +12,7 @@ use Rattle.yaml_scan.specs.Groups.{Token, handed_out}
 use Rattle.yaml_scan.specs.Settled.{before}
 use Rattle.yaml_scan.specs.Sink.{IsGivenAll, IsGivenFront}
 use Rattle.yaml_scan.specs.Token.{yaml_token_t}
-use Rattle.yaml_scan.specs.inside.Scanning.{Runs, IsLast, IsOpen, course_of, history}
+use Rattle.yaml_scan.specs.inside.Scanning.{IsRunning, IsLast, IsOpen, course_of, history}
 use Rattle.yaml_scan.specs.inside.Stop.{fault_at}
 
 -- the tokens of its input, and as they are handed out
@@ -28,7 +28,7 @@ told_taken s = map (handed_out s.text.encoding) (take s.taken (all_in s))
 
 -- the scanner t is s after it gave these tokens, and the stream end is not among those that were taken
 pub record HasGiven (s t : scanner_t) (tokens : List yaml_token_t) : Type 0 where
-  pub runs : Runs t
+  pub runs : IsRunning t
   pub still_open : IsOpen t
   pub text : t.text ≡ s.text
   pub refusal : t.refusal ≡ s.refusal

@@ -16,7 +16,7 @@ use Rattle.yaml_scan.specs.Settled.{before, settled, pace, first_steps}
 use Rattle.yaml_scan.specs.Answers.{Course, course, tokens_of}
 use Rattle.yaml_scan.specs.Session.{all_steps, session_queued}
 use Rattle.yaml_scan.specs.Decoded.{decoded_input}
-use Rattle.yaml_scan.specs.inside.Scanning.{Runs, IsOpen, history, course_of, input_of}
+use Rattle.yaml_scan.specs.inside.Scanning.{IsRunning, IsOpen, history, course_of, input_of}
 use Rattle.yaml_scan.specs.Parser.{Parser}
 use Rattle.yaml_scan.specs.inside.Queue.{IsLead}
 
@@ -37,7 +37,7 @@ pub record IsNew (s : scanner_t) : Type 0 where
 
 -- a scanner is in an input
 pub record IsIn (setting : yaml_encoding_t) (input : List ℕ) (s : scanner_t) : Type 0 where
-  pub runs : Runs s
+  pub runs : IsRunning s
   pub reads : input_of s ≡ decoded_input setting input
   pub text : s.text ≡ front setting input
 
@@ -92,7 +92,7 @@ pub record Pops (s t : scanner_t) (x : yaml_token_t) : Type 0 where
   pub token : Token
   pub is : slice_get (before s.limit (course_of s).read) s.taken ≡ Some token
   pub answer : x ≡ handed_out s.text.encoding token
-  pub runs : Runs t
+  pub runs : IsRunning t
   pub text : t.text ≡ s.text
   pub refusal : t.refusal ≡ s.refusal
   pub limit : t.limit ≡ s.limit

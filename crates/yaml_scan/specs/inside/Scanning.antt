@@ -377,7 +377,7 @@ unfoldable pub history : scanner_t → List Laid
 history s = oldest (s.made - 1) (course_of s).read
 
 -- STREAM-START was made, and the session is not over
-pub record Runs (s : scanner_t) : Type 0 where
+pub record IsRunning (s : scanner_t) : Type 0 where
   pub small : length s.text.chars < 2 ^ 63
   pub near : IsNearOf (refusal_seen s.refusal) s.text.chars s.near
   pub holds : Holds (history s) (s.made + 1) s
@@ -387,13 +387,13 @@ pub record Runs (s : scanner_t) : Type 0 where
 
 -- one step more
 pub record Steps (s t : scanner_t) : Type 0 where
-  pub runs : Runs t
+  pub runs : IsRunning t
   pub made : t.made ≡ s.made + 1
   pub same : Same s t
 
 -- two steps more, and the next token needs both
 pub record StepsTwice (s t : scanner_t) : Type 0 where
-  pub runs : Runs t
+  pub runs : IsRunning t
   pub made : t.made ≡ s.made + 1 + 1
   pub same : Same s t
   pub needed : length (before s.limit (oldest s.made (course_of s).read)) ≤ s.taken
@@ -413,7 +413,7 @@ IsOpen s = ended (course_of s).read ≡ true → s.taken < length (offline (cour
 
 -- the steps that a look at the next token makes
 pub record Settles (s t : scanner_t) : Type 0 where
-  pub runs : Runs t
+  pub runs : IsRunning t
   pub settled : t.taken < length (before t.limit (history t))
   pub made : t.made ≡ pace s.limit (course_of s).read s.taken s.made
   pub same : Same s t

@@ -12,13 +12,13 @@ use Rattle.yaml_scan.specs.Token.{yaml_token_t}
 use Rattle.yaml_scan.specs.inside.Given.{all_in, told_taken}
 use Rattle.yaml_scan.specs.inside.Handed.{is_end}
 use Rattle.yaml_scan.specs.inside.Ready.{IsEnded, IsIn, IsSettled, IsShort, IsStopped, course_in}
-use Rattle.yaml_scan.specs.inside.Scanning.{Fails, IsOpen, Runs, Settles, Stops, course_of}
+use Rattle.yaml_scan.specs.inside.Scanning.{Fails, IsOpen, IsRunning, Settles, Stops, course_of}
 use Rattle.yaml_scan.specs.inside.Stop.{fault_at}
 
 -- These tokens, some, were given, the stream end not among them. As many steps were made as the last of them needs, and
 -- nothing is queued.
 pub record Sends (s t : scanner_t) (tokens : List yaml_token_t) : Type 0 where
-  pub runs : Runs t
+  pub runs : IsRunning t
   pub still_open : IsOpen t
   pub text : t.text ≡ s.text
   pub refusal : t.refusal ≡ s.refusal
