@@ -1,6 +1,6 @@
 -- What holds of the tokens that are returned.
-use Rattle.std.specs.Prelude.{◌≡◌, ℕ, ◌+◌, ◌≤◌, Bool, true, not, ◌&&◌, ◌||◌, List, [], ◌∷◌, map, reverse, take, filter}
-use Rattle.std.specs.Prelude.{length, nat_eq, nat_le, None}
+use Rattle.std.specs.Prelude.{◌≡◌, ◌⊎◌, ℕ, ◌+◌, ◌≤◌, Bool, true, false, not, ◌&&◌, ◌||◌, List, [], ◌∷◌, map, reverse}
+use Rattle.std.specs.Prelude.{take, filter, length, nat_eq, nat_le, Option, Some, None}
 use Rattle.std.specs.List.{list_any}
 use Rattle.yaml_text.specs.declared.types.yaml_mark_t.{yaml_mark_t}
 use Rattle.yaml_scan.specs.Token.{yaml_token_t, type_of, is_end_type, is_start_type, is_key_type, is_value_type}
@@ -8,6 +8,11 @@ use Rattle.yaml_scan.specs.Groups.{handed_out}
 use Rattle.yaml_scan.specs.Groups.Token.{StreamStart, OfLexeme}
 use Rattle.yaml_scan.specs.Depth.{depth}
 use Rattle.yaml_scan.specs.Begins.{Begins}
+use Rattle.yaml_scan.specs.Fault.{Fault}
+use Rattle.yaml_scan.specs.Order.{ended}
+use Rattle.yaml_scan.specs.Source.{Offence}
+use Rattle.yaml_scan.specs.Step.{step}
+use Rattle.yaml_scan.specs.Step.Outcome.{Faults}
 use Rattle.yaml_scan.specs.Cut.{KeepsOrder, cut}
 use Rattle.yaml_scan.specs.Answers.{Input, course, answers}
 
@@ -82,3 +87,18 @@ AnswersTellLexemes = (limit : ℕ) (input : Input) → KeepsOrder input.source
 abbrev pub AnswersTellAll : Type 0
 AnswersTellAll = (limit : ℕ) (input : Input) → KeepsOrder input.source → (answers limit input).fault ≡ None
     → of_text_among (answers limit input).tokens ≡ tokens_of_cut limit input
+
+-- the steps of the cut do not end with the stream end, and f is the fault of the step after them
+abbrev pub IsFaultAfterCut : ℕ → Input → Fault → Type 0
+IsFaultAfterCut limit input f = (ended (cut input.source limit).read ≡ false)
+    × (o : Offence) × (step input.source limit (cut input.source limit).read ≡ Faults o) × (f ≡ o.fault)
+
+-- an input with no fault is accepted, and its cut ends with the stream end; a fault is the reader's, or that of the
+-- step after the cut of the text, or of the front of a refused input
+abbrev pub EndsAs : ℕ → Input → Option Fault → Type 0
+EndsAs limit input None = (input.refusal ≡ None) × (ended (cut input.source limit).read ≡ true)
+EndsAs limit input (Some f) = (input.refusal ≡ Some f) ⊎ IsFaultAfterCut limit input f
+
+abbrev pub AnswersTellFault : Type 0
+AnswersTellFault = (limit : ℕ) (input : Input) → KeepsOrder input.source
+    → EndsAs limit input (answers limit input).fault

@@ -13,7 +13,7 @@ ghost use Rattle.yaml_scan.specs.SessionLaws.{PeekShowsNext, SkipTakesPeeked};
 ghost use Rattle.yaml_scan.specs.SessionLaws.{PaceSettles, PaceIsLeast, FewStepsQueued, NearStepIsRefused};
 ghost use Rattle.yaml_scan.specs.SessionLaws.{FarStepIsItself, CourseIsRun};
 ghost use Rattle.yaml_scan.specs.AnswerLaws.{AnswersStandInOrder, AnswersEndFewer, AnswersEndAll, AnswersFollowKeys};
-ghost use Rattle.yaml_scan.specs.AnswerLaws.{AnswersTellLexemes, AnswersTellAll};
+ghost use Rattle.yaml_scan.specs.AnswerLaws.{AnswersTellLexemes, AnswersTellAll, AnswersTellFault};
 ghost use Rattle.yaml_scan.specs.Locality.{StepIsLocal, TokensBeforeRefusal, FaultBeforeRefusal, TextsAreLocal};
 ghost use Rattle.yaml_scan.specs.Locality.{TextsKeepOrder, TextStepIsLocal};
 ghost use Rattle.yaml_scan.specs.Inputs.{InputsKeepOrder, AllStandInOrder, AllEndFewer, AllEndAll, AllFollowKeys};
@@ -81,6 +81,12 @@ pub fn lexemes_come_in_order()
 pub fn lexemes_are_returned_in_order()
     ensures answered { AnswersTellLexemes }
     ensures whole { AnswersTellAll }
+{}
+
+/// There is no fault exactly if the input is accepted and its cut ends with the stream end. A fault is the reader's,
+/// or that of the step after the cut; the cut of a refused input is that of its front.
+pub fn fault_comes_after_the_cut()
+    ensures { AnswersTellFault }
 {}
 
 /// Block ends never outnumber block starts, and at the end of a text whose depth is 0 there are equally many.

@@ -85,7 +85,7 @@ ends_or_faults limit input k e = go (starts_near input.source.size input.refusal
         (refl, w, (all_is_handed_out limit (steps_of limit input k).read h w).1)
 
 -- the stream end of a refused text is near
-refused_not_ended : (limit : ℕ) (input : Input) (f : Fault) → KeepsOrder input.source → input.refusal ≡ Some f → (H : List Laid) → IsRun (next input limit) limit H → ended H ≡ true → ⊥
+pub refused_not_ended : (limit : ℕ) (input : Input) (f : Fault) → KeepsOrder input.source → input.refusal ≡ Some f → (H : List Laid) → IsRun (next input limit) limit H → ended H ≡ true → ⊥
 unfolding next
 refused_not_ended limit input f k e [] r w = false≢true w
 refused_not_ended limit input f k e (i ∷ H) r w =
