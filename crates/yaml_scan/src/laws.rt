@@ -20,6 +20,7 @@ ghost use Rattle.yaml_scan.specs.Inputs.{InputsKeepOrder, AllStandInOrder, AllEn
 ghost use Rattle.yaml_scan.specs.Inputs.{LateFaults};
 ghost use Rattle.yaml_scan.specs.Words.{AllHaveLines, SessionsHaveLines};
 ghost use Rattle.yaml_scan.specs.CountedMarks.{AnswersAreCounted, SessionsAreCounted, ReachIsCounted};
+ghost use Rattle.yaml_scan.specs.Puts.{CallsAreSession};
 ghost use Rattle.yaml_scan.specs.ReadingOn.{AllIsTold, RestIsTold, ScansReadOn, FaultIsToldOnce, RunsFaultOnce};
 
 use crate::calls::{yaml_answer_t, yaml_call_t};
@@ -213,6 +214,13 @@ pub fn reading_on()
 pub fn fault_is_told_once()
     ensures sessions { FaultIsToldOnce }
     ensures runs { RunsFaultOnce }
+{}
+
+/// A list of calls, each answered on the parser that the one before it left, is answered as the session answers the
+/// list; or memory was refused in one of them. Then the answers before it are the session's, its answer is the one
+/// fault, and those after it are idle: empty tokens and NOTHING. Each of the two follows from the other.
+pub fn calls_in_turn()
+    ensures session { CallsAreSession }
 {}
 
 /// Calls are equal exactly if they are one call.
