@@ -1,6 +1,6 @@
 -- What holds of the tokens that are returned.
 use Rattle.std.specs.Prelude.{◌≡◌, ◌⊎◌, ℕ, ◌+◌, ◌≤◌, Bool, true, false, not, ◌&&◌, ◌||◌, List, [], ◌∷◌, map, reverse}
-use Rattle.std.specs.Prelude.{take, filter, length, nat_eq, nat_le, Option, Some, None}
+use Rattle.std.specs.Prelude.{take, filter, length, nat_eq, nat_le, Option, Some, None, if◌then◌else◌}
 use Rattle.std.specs.List.{list_any}
 use Rattle.yaml_text.specs.declared.types.yaml_mark_t.{yaml_mark_t}
 use Rattle.yaml_scan.specs.Token.{yaml_token_t, type_of, is_end_type, is_start_type, is_key_type, is_value_type}
@@ -14,6 +14,7 @@ use Rattle.yaml_scan.specs.Source.{Offence}
 use Rattle.yaml_scan.specs.Step.{step}
 use Rattle.yaml_scan.specs.Step.Outcome.{Faults}
 use Rattle.yaml_scan.specs.Cut.{KeepsOrder, cut}
+use Rattle.yaml_scan.specs.Near.{is_near}
 use Rattle.yaml_scan.specs.Answers.{Input, course, answers}
 
 -- from index n on none starts after its end, or ends after the start of the next
@@ -102,3 +103,18 @@ EndsAs limit input (Some f) = (input.refusal ≡ Some f) ⊎ IsFaultAfterCut lim
 abbrev pub AnswersTellFault : Type 0
 AnswersTellFault = (limit : ℕ) (input : Input) → KeepsOrder input.source
     → EndsAs limit input (answers limit input).fault
+
+-- the fault after the cut of a refused front, if its place is eight or more characters before the front's end; else the
+-- reader's
+abbrev pub fault_of_front : ℕ → Fault → Option Offence → Fault
+fault_of_front size f None = f
+fault_of_front size f (Some o) = if is_near size o.place then f else o.fault
+
+-- if the input is refused, this is its fault
+abbrev pub EndsAsFront : ℕ → Input → Option Fault → Type 0
+EndsAsFront limit input fault = (f : Fault) → input.refusal ≡ Some f
+    → fault ≡ Some (fault_of_front input.source.size f (cut input.source limit).fault)
+
+abbrev pub RefusedTellFault : Type 0
+RefusedTellFault = (limit : ℕ) (input : Input) → KeepsOrder input.source
+    → EndsAsFront limit input (answers limit input).fault

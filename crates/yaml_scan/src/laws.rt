@@ -13,7 +13,7 @@ ghost use Rattle.yaml_scan.specs.SessionLaws.{PeekShowsNext, SkipTakesPeeked};
 ghost use Rattle.yaml_scan.specs.SessionLaws.{PaceSettles, PaceIsLeast, FewStepsQueued, NearStepIsRefused};
 ghost use Rattle.yaml_scan.specs.SessionLaws.{FarStepIsItself, CourseIsRun};
 ghost use Rattle.yaml_scan.specs.AnswerLaws.{AnswersStandInOrder, AnswersEndFewer, AnswersEndAll, AnswersFollowKeys};
-ghost use Rattle.yaml_scan.specs.AnswerLaws.{AnswersTellLexemes, AnswersTellAll, AnswersTellFault};
+ghost use Rattle.yaml_scan.specs.AnswerLaws.{AnswersTellLexemes, AnswersTellAll, AnswersTellFault, RefusedTellFault};
 ghost use Rattle.yaml_scan.specs.Locality.{StepIsLocal, TokensBeforeRefusal, FaultBeforeRefusal, TextsAreLocal};
 ghost use Rattle.yaml_scan.specs.Locality.{TextsKeepOrder, TextStepIsLocal};
 ghost use Rattle.yaml_scan.specs.Inputs.{InputsKeepOrder, AllStandInOrder, AllEndFewer, AllEndAll, AllFollowKeys};
@@ -86,8 +86,12 @@ pub fn lexemes_are_returned_in_order()
 
 /// There is no fault exactly if the input is accepted and its cut ends with the stream end. A fault is the reader's,
 /// or that of the step after the cut; the cut of a refused input is that of its front.
+///
+/// A refused input has the fault after the cut of its front, if the place of this is eight or more characters before
+/// the front's end, and else the reader's.
 pub fn fault_comes_after_the_cut()
-    ensures { AnswersTellFault }
+    ensures answered { AnswersTellFault }
+    ensures refused { RefusedTellFault }
 {}
 
 /// Block ends never outnumber block starts, and at the end of a text whose depth is 0 there are equally many.

@@ -100,7 +100,7 @@ refused_not_ended limit input f k e (i ∷ H) r w =
     faults_reads : (o : Offence) (x : Lexeme) → Faults o ≡ Reads x → ⊥
     faults_reads o x v = cc
 
-is_within : (size : ℕ) (p : ℕ) → is_near size p ≡ true → size < p + 8
+pub is_within : (size : ℕ) (p : ℕ) → is_near size p ≡ true → size < p + 8
 is_within size p e = ltb-true size (p + 8) e
 
 is_far : (size : ℕ) (p : ℕ) → is_near size p ≡ false → p + 8 ≤ size
