@@ -13,5 +13,9 @@ pub mod LastToken
 pub mod AnswerOrder
 -- Without what the layout inserted, the tokens that are returned are those of the lexemes.
 pub mod LexemeTokens
+-- No step of a text comes before the end of the one before it.
+pub mod StepPlaces
+-- The fault of an input is the reader's, or that of the step after the cut.
+pub mod FaultAfterCut
 -- They hold for any bytes and setting.
 pub mod InputLaws

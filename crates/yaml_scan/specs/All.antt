@@ -12,7 +12,7 @@ use Rattle.yaml_scan.specs.Answers.{Answers, Course, course}
 use Rattle.yaml_scan.specs.Session.{all_steps, settled_tokens}
 use Rattle.yaml_scan.specs.Inputs.{answers_to}
 use Rattle.yaml_scan.specs.Decoded.{decoded_input}
-use Rattle.yaml_scan.specs.AnswerLaws.{ends_among, starts_among, of_text_among, tokens_of_cut}
+use Rattle.yaml_scan.specs.AnswerLaws.{ends_among, starts_among, of_text_among, tokens_of_cut, EndsAs, EndsAsFront}
 
 -- these are all tokens of the answers, and their fault
 abbrev pub AllOf : Answers → List yaml_token_t → Option Fault → Type 0
@@ -59,3 +59,10 @@ abbrev pub TellLexemes : ℕ → yaml_encoding_t → List ℕ → List yaml_toke
 TellLexemes limit setting input tokens fault =
     Begins (of_text_among tokens) (tokens_of_cut limit (decoded_input setting input))
     × (fault ≡ None → of_text_among tokens ≡ tokens_of_cut limit (decoded_input setting input))
+
+-- if no growth was refused, there is no fault exactly if the input is accepted and its cut ends with the stream end,
+-- and a fault is the reader's or that of the step after the cut, as its place in a refused front decides
+abbrev pub TellFault : ℕ → yaml_encoding_t → List ℕ → Option Fault → Type 0
+TellFault limit setting input fault =
+    (EndsAs limit (decoded_input setting input) fault × EndsAsFront limit (decoded_input setting input) fault)
+    ⊎ (fault ≡ Some memory_fault)

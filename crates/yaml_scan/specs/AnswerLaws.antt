@@ -1,6 +1,6 @@
 -- What holds of the tokens that are returned.
-use Rattle.std.specs.Prelude.{◌≡◌, ℕ, ◌+◌, ◌≤◌, Bool, true, not, ◌&&◌, ◌||◌, List, [], ◌∷◌, map, reverse, take, filter}
-use Rattle.std.specs.Prelude.{length, nat_eq, nat_le, None}
+use Rattle.std.specs.Prelude.{◌≡◌, ◌⊎◌, ℕ, ◌+◌, ◌≤◌, Bool, true, false, not, ◌&&◌, ◌||◌, List, [], ◌∷◌, map, reverse}
+use Rattle.std.specs.Prelude.{take, filter, length, nat_eq, nat_le, Option, Some, None, if◌then◌else◌}
 use Rattle.std.specs.List.{list_any}
 use Rattle.yaml_text.specs.declared.types.yaml_mark_t.{yaml_mark_t}
 use Rattle.yaml_scan.specs.Token.{yaml_token_t, type_of}
@@ -9,7 +9,13 @@ use Rattle.yaml_scan.specs.Groups.{handed_out}
 use Rattle.yaml_scan.specs.Groups.Token.{StreamStart, OfLexeme}
 use Rattle.yaml_scan.specs.Depth.{depth}
 use Rattle.yaml_scan.specs.Begins.{Begins}
+use Rattle.yaml_scan.specs.Fault.{Fault}
+use Rattle.yaml_scan.specs.Steps.{ended}
+use Rattle.yaml_scan.specs.Source.{Offence}
+use Rattle.yaml_scan.specs.Step.{step}
+use Rattle.yaml_scan.specs.Step.Outcome.{Faults}
 use Rattle.yaml_scan.specs.Cut.{KeepsOrder, cut}
+use Rattle.yaml_scan.specs.Near.{is_near}
 use Rattle.yaml_scan.specs.Answers.{Input, course, answers}
 
 -- from index n on none starts after its end, or ends after the start of the next
@@ -83,3 +89,33 @@ AnswersTellLexemes = (limit : ℕ) (input : Input) → KeepsOrder input.source
 abbrev pub AnswersTellAll : Type 0
 AnswersTellAll = (limit : ℕ) (input : Input) → KeepsOrder input.source → (answers limit input).fault ≡ None
     → of_text_among (answers limit input).tokens ≡ tokens_of_cut limit input
+
+-- the steps of the cut do not end with the stream end, and f is the fault of the step after them
+abbrev pub IsFaultAfterCut : ℕ → Input → Fault → Type 0
+IsFaultAfterCut limit input f = (ended (cut input.source limit).read ≡ false)
+    × (o : Offence) × (step input.source limit (cut input.source limit).read ≡ Faults o) × (f ≡ o.fault)
+
+-- an input with no fault is accepted, and its cut ends with the stream end; a fault is the reader's, or that of the
+-- step after the cut of the text, or of the front of a refused input
+abbrev pub EndsAs : ℕ → Input → Option Fault → Type 0
+EndsAs limit input None = (input.refusal ≡ None) × (ended (cut input.source limit).read ≡ true)
+EndsAs limit input (Some f) = (input.refusal ≡ Some f) ⊎ IsFaultAfterCut limit input f
+
+abbrev pub AnswersTellFault : Type 0
+AnswersTellFault = (limit : ℕ) (input : Input) → KeepsOrder input.source
+    → EndsAs limit input (answers limit input).fault
+
+-- the fault after the cut of a refused front, if its place is eight or more characters before the front's end; else the
+-- reader's
+abbrev pub fault_of_front : ℕ → Fault → Option Offence → Fault
+fault_of_front size f None = f
+fault_of_front size f (Some o) = if is_near size o.place then f else o.fault
+
+-- if the input is refused, this is its fault
+abbrev pub EndsAsFront : ℕ → Input → Option Fault → Type 0
+EndsAsFront limit input fault = (f : Fault) → input.refusal ≡ Some f
+    → fault ≡ Some (fault_of_front input.source.size f (cut input.source limit).fault)
+
+abbrev pub RefusedTellFault : Type 0
+RefusedTellFault = (limit : ℕ) (input : Input) → KeepsOrder input.source
+    → EndsAsFront limit input (answers limit input).fault

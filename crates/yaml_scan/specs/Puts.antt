@@ -1,6 +1,6 @@
 -- What the answers that a list of calls appends say, and which of them other inputs get as well.
-use Rattle.std.specs.Prelude.{◌≡◌, ◌≢◌, ◌⊎◌, ℕ, ◌+◌, ◌<◌, true, false, Option, None, Some, IfSome, List, [], ◌∷◌}
-use Rattle.std.specs.Prelude.{◌++◌, map, take, drop, replicate, length, slice_get}
+use Rattle.std.specs.Prelude.{◌≡◌, ◌≢◌, ◌⊎◌, ◌↔◌, ℕ, ◌+◌, ◌<◌, true, false, Option, None, Some, IfSome, List, []}
+use Rattle.std.specs.Prelude.{◌∷◌, ◌++◌, map, take, drop, replicate, length, slice_get}
 use Rattle.yaml_text.specs.declared.types.yaml_encoding_t.{yaml_encoding_t}
 use Rattle.yaml_scan.specs.declared.calls.yaml_answer_t.{yaml_answer_t}
 use Rattle.yaml_scan.specs.Token.{yaml_token_t, empty}
@@ -13,7 +13,7 @@ use Rattle.yaml_scan.specs.Session.Call.{SKIP}
 use Rattle.yaml_scan.specs.Parser.{Parser, answered, course_read, input_read}
 use Rattle.yaml_scan.specs.Session.Answer.{FAULT}
 use Rattle.yaml_scan.specs.Seen.{Seen, seen, seen_of, idle, Seen as sight}
-use Rattle.yaml_scan.specs.Headline.{WantsMemory}
+use Rattle.yaml_scan.specs.Headline.{WantsMemory, Runs}
 use Rattle.yaml_scan.specs.Seen.Seen.{TOKEN, PEEKED, SKIPPED, NOTHING}
 
 -- `Holds` is true of the answers that were appended to the old ones
@@ -129,3 +129,15 @@ AreReadAlike limit s a tokens fault = (t : yaml_encoding_t) (b : List ℕ) (refu
     → Begins tokens (answers_to limit t b).tokens
     × (((tokens ≡ (answers_to limit t b).tokens) × (fault ≡ (answers_to limit t b).fault))
     ⊎ ((fault ≡ Some refused) ⊎ (fault ≡ Some memory_fault)))
+
+-- CALLS IN TURN
+-- the answers to a list of calls are the session's, and the last call leaves what the session leaves; or memory was
+-- refused in one of the calls
+abbrev pub OfSession : Parser → List Call → List Seen → Parser → Type 0
+OfSession p calls answers q =
+    ((answers ≡ map seen (answered_all p calls)) × (q ≡ after_calls p calls)) ⊎ RunsOut p calls answers q
+
+-- calls that are answered one after the other, each on the parser that the one before it left, are answered just so
+abbrev pub CallsAreSession : Type 0
+CallsAreSession = (p : Parser) (calls : List Call) (answers : List Seen) (q : Parser)
+    → Runs p calls answers q ↔ OfSession p calls answers q

@@ -10,7 +10,7 @@ ghost use Rattle.yaml_scan.specs.Puts.{AreReadAlike};
 ghost use Rattle.yaml_scan.specs.CallMarks.{AllIsCounted};
 ghost use Rattle.yaml_scan.specs.Words.{HaveLines};
 ghost use Rattle.yaml_scan.specs.ParserCalls.{IsRefusedEarly};
-ghost use Rattle.yaml_scan.specs.All.{AllOf, ReadsAll, EndNoMore, EndAll, TellLexemes, depth_of};
+ghost use Rattle.yaml_scan.specs.All.{AllOf, ReadsAll, EndNoMore, EndAll, TellLexemes, TellFault, depth_of};
 
 use crate::keys::KEY_LIMIT;
 use crate::sink::yaml_scan_to;
@@ -81,6 +81,7 @@ pub fn yaml_scan_all(
     ensures keys { IfOk result (λ r. AreFollowed key_limit (map token_of r.0.items)) }
     ensures lexemes { IfOk result (λ r.
         TellLexemes key_limit setting input.now (map token_of r.0.items) (option_map fault_of r.1)) }
+    ensures fault { IfOk result (λ r. TellFault key_limit setting input.now (option_map fault_of r.1)) }
     ensures lines { IfOk result (λ r. HaveLines (map token_of r.0.items) (option_map fault_of r.1)) }
     ensures local { IfOk result (λ r.
         AreReadAlike key_limit setting input.now (map token_of r.0.items) (option_map fault_of r.1)) }
@@ -113,6 +114,7 @@ pub fn yaml_scan_all_limit(
     ensures keys { IfOk result (λ r. AreFollowed limit (map token_of r.0.items)) }
     ensures lexemes { IfOk result (λ r.
         TellLexemes limit setting input.now (map token_of r.0.items) (option_map fault_of r.1)) }
+    ensures fault { IfOk result (λ r. TellFault limit setting input.now (option_map fault_of r.1)) }
     ensures lines { IfOk result (λ r. HaveLines (map token_of r.0.items) (option_map fault_of r.1)) }
     ensures local { IfOk result (λ r.
         AreReadAlike limit setting input.now (map token_of r.0.items) (option_map fault_of r.1)) }

@@ -13,13 +13,14 @@ ghost use Rattle.yaml_scan.specs.SessionLaws.{PeekShowsNext, SkipTakesPeeked};
 ghost use Rattle.yaml_scan.specs.SessionLaws.{PaceSettles, PaceIsLeast, FewStepsQueued, NearStepIsRefused};
 ghost use Rattle.yaml_scan.specs.SessionLaws.{FarStepIsItself, CourseIsRun};
 ghost use Rattle.yaml_scan.specs.AnswerLaws.{AnswersStandInOrder, AnswersEndFewer, AnswersEndAll, AnswersFollowKeys};
-ghost use Rattle.yaml_scan.specs.AnswerLaws.{AnswersTellLexemes, AnswersTellAll};
+ghost use Rattle.yaml_scan.specs.AnswerLaws.{AnswersTellLexemes, AnswersTellAll, AnswersTellFault, RefusedTellFault};
 ghost use Rattle.yaml_scan.specs.Locality.{StepIsLocal, TokensBeforeRefusal, FaultBeforeRefusal, TextsAreLocal};
 ghost use Rattle.yaml_scan.specs.Locality.{TextsKeepOrder, TextStepIsLocal};
 ghost use Rattle.yaml_scan.specs.Inputs.{InputsKeepOrder, AllStandInOrder, AllEndFewer, AllEndAll, AllFollowKeys};
 ghost use Rattle.yaml_scan.specs.Inputs.{LateFaults};
 ghost use Rattle.yaml_scan.specs.Words.{AllHaveLines, SessionsHaveLines};
 ghost use Rattle.yaml_scan.specs.CountedMarks.{AnswersAreCounted, SessionsAreCounted, ReachIsCounted};
+ghost use Rattle.yaml_scan.specs.Puts.{CallsAreSession};
 ghost use Rattle.yaml_scan.specs.ReadingOn.{AllIsTold, RestIsTold, ScansReadOn, FaultIsToldOnce, RunsFaultOnce};
 
 use crate::calls::{yaml_answer_t, yaml_call_t};
@@ -81,6 +82,16 @@ pub fn lexemes_come_in_order()
 pub fn lexemes_are_returned_in_order()
     ensures answered { AnswersTellLexemes }
     ensures whole { AnswersTellAll }
+{}
+
+/// There is no fault exactly if the input is accepted and its cut ends with the stream end. A fault is the reader's,
+/// or that of the step after the cut; the cut of a refused input is that of its front.
+///
+/// A refused input has the fault after the cut of its front, if the place of this is eight or more characters before
+/// the front's end, and else the reader's.
+pub fn fault_comes_after_the_cut()
+    ensures answered { AnswersTellFault }
+    ensures refused { RefusedTellFault }
 {}
 
 /// Block ends never outnumber block starts, and at the end of a text whose depth is 0 there are equally many.
@@ -207,6 +218,13 @@ pub fn reading_on()
 pub fn fault_is_told_once()
     ensures sessions { FaultIsToldOnce }
     ensures runs { RunsFaultOnce }
+{}
+
+/// A list of calls, each answered on the parser that the one before it left, is answered as the session answers the
+/// list; or memory was refused in one of them. Then the answers before it are the session's, its answer is the one
+/// fault, and those after it are idle: empty tokens and NOTHING. Each of the two follows from the other.
+pub fn calls_in_turn()
+    ensures session { CallsAreSession }
 {}
 
 /// Calls are equal exactly if they are one call.

@@ -10,7 +10,7 @@ use Rattle.yaml_scan.specs.Session.Call.{SCAN, PEEK, SKIP}
 use Rattle.yaml_scan.specs.Session.{Answer as says}
 use Rattle.yaml_scan.specs.Parser.{Parser, course_read}
 use Rattle.yaml_scan.specs.Headline.{Calls, Runs}
-use Rattle.yaml_scan.specs.Puts.{answered_all}
+use Rattle.yaml_scan.specs.Puts.{answered_all, OfSession}
 use Rattle.yaml_scan.specs.Seen.{Seen, seen, idle}
 use Rattle.yaml_scan.specs.Seen.Seen.{FAULT}
 use Rattle.yaml_scan.specs.CountedMarks.{TokensAreCounted, FaultIsCounted, AnswerIsCounted, AllAreCounted}
@@ -19,7 +19,7 @@ use Rattle.yaml_scan.specs.CallMarks.{text_read, IsCountedIn, ReachesTo, SeenIsC
 use Rattle.yaml_scan.specs.Session.{session_reach}
 use Rattle.yaml_scan.proofs.CountedMarks.ReadMarks.{start_counted}
 use Rattle.yaml_scan.proofs.CountedMarks.TokenMarks.{answers_are_counted, sessions_are_counted, reach_is_counted}
-use Rattle.yaml_scan.proofs.SessionCalls.CallByCall.{OfSession, of_session}
+use Rattle.yaml_scan.proofs.SessionCalls.CallByCall.{of_session}
 
 -- A CALL
 pub call_is_counted : (call : Call) (p : Parser) (a : Answer) (q : Parser) → Calls call p a q → IsCountedIn p a

@@ -87,7 +87,7 @@ ends_or_faults limit input k e = go (starts_near input.source.size input.refusal
         (refl, w, (all_is_handed_out limit (steps_of limit input k).read h w).1)
 
 -- the stream end of a refused text is near
-refused_not_ended : (limit : ℕ) (input : Input) (f : Fault) → KeepsOrder input.source → input.refusal ≡ Some f → (H : List Laid) → IsRun (next input limit) limit H → ended H ≡ true → ⊥
+pub refused_not_ended : (limit : ℕ) (input : Input) (f : Fault) → KeepsOrder input.source → input.refusal ≡ Some f → (H : List Laid) → IsRun (next input limit) limit H → ended H ≡ true → ⊥
 unfolding next
 refused_not_ended limit input f k e [] r w = false≢true w
 refused_not_ended limit input f k e (i ∷ H) r w =
@@ -102,7 +102,7 @@ refused_not_ended limit input f k e (i ∷ H) r w =
     faults_reads : (o : Offence) (x : Lexeme) → Faults o ≡ Reads x → ⊥
     faults_reads o x v = cc
 
-is_within : (size : ℕ) (p : ℕ) → is_near size p ≡ true → size < p + 8
+pub is_within : (size : ℕ) (p : ℕ) → is_near size p ≡ true → size < p + 8
 is_within size p e = ltb-true size (p + 8) e
 
 is_far : (size : ℕ) (p : ℕ) → is_near size p ≡ false → p + 8 ≤ size

@@ -76,9 +76,9 @@ abbrev pub IsOrderly : (List Laid → Outcome) → ℕ → ℕ → Type 0
 IsOrderly step limit size = (H : List Laid) (x : Lexeme) → IsRun step limit H → ended H ≡ false → step H ≡ Reads x → IsNext (reach H) (place_after H) size x
 
 -- where a text was read to
-record IsReadTo (S : Source) (H : List Laid) : Type 0 where
-  mark : reach H ≡ S.mark (place_after H)
-  within : place_after H ≤ S.size
+pub record IsReadTo (S : Source) (H : List Laid) : Type 0 where
+  pub mark : reach H ≡ S.mark (place_after H)
+  pub within : place_after H ≤ S.size
 
 module _ (S : Source) (k : KeepsOrder S) (limit : ℕ) where
   orderly_at : (H : List Laid) (x : Lexeme) → IsReadTo S H → step S limit H ≡ Reads x → IsNext (reach H) (place_after H) S.size x × (is_stream_end x.kind ≡ false → x.reach ≡ S.mark x.place)
@@ -100,7 +100,7 @@ module _ (S : Source) (k : KeepsOrder S) (limit : ℕ) where
       ) in
       subst (λ (y : Lexeme). IsNext (reach H) (place_after H) S.size y × (is_stream_end y.kind ≡ false → y.reach ≡ S.mark y.place)) (sym s.lexeme_is) w
 
-  read_to : (H : List Laid) → IsRun (step S limit) limit H → ended H ≡ false → IsReadTo S H
+  pub read_to : (H : List Laid) → IsRun (step S limit) limit H → ended H ≡ false → IsReadTo S H
   read_to [] r e = record { mark = sym k.begins; within = omega arith }
   read_to (i ∷ H) r e =
       let a = orderly_at H i.lexeme (read_to H r.2 r.3) r.1 in

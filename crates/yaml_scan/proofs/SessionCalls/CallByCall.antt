@@ -6,13 +6,9 @@ use Rattle.yaml_scan.specs.Session.{Call, session, after_all, Answer as says}
 use Rattle.yaml_scan.specs.Session.Call.{SCAN, PEEK, SKIP}
 use Rattle.yaml_scan.specs.Parser.{Parser, answered, after_call, course_read}
 use Rattle.yaml_scan.specs.Headline.{WantsMemory, Calls, Runs}
-use Rattle.yaml_scan.specs.Puts.{answered_all, after_calls, RunsOut}
+use Rattle.yaml_scan.specs.Puts.{answered_all, after_calls, RunsOut, OfSession, CallsAreSession}
 use Rattle.yaml_scan.specs.Seen.{Seen, seen, idle}
 use Rattle.yaml_scan.specs.Seen.Seen.{FAULT}
-
--- the answers to a list of calls are the session's, or memory was refused in one of them
-abbrev pub OfSession : Parser → List Call → List Seen → Parser → Type 0
-OfSession p calls answers q = ((answers ≡ map seen (answered_all p calls)) × (q ≡ after_calls p calls)) ⊎ RunsOut p calls answers q
 
 -- IF THE SESSION IS OVER
 -- the answer to a call is idle, and the call changes nothing
@@ -106,3 +102,6 @@ out_runs (call ∷ calls) (suc n) p q l k w =
 pub runs_of : (p : Parser) (calls : List Call) (answers : List Seen) (q : Parser) → OfSession p calls answers q → Runs p calls answers q
 runs_of p calls answers q (inl s) = subst (λ (z : List Seen). Runs p calls z q) (sym s.0) (subst (λ (z : Parser). Runs p calls (map seen (answered_all p calls)) z) (sym s.1) (session_runs calls p))
 runs_of p calls answers q (inr o) = subst (λ (z : List Seen). Runs p calls z q) (sym o.answers) (out_runs calls o.n p q o.within o.asks o.wants)
+
+pub calls_are_session : CallsAreSession
+calls_are_session p calls answers q = (of_session p calls answers q, runs_of p calls answers q)

@@ -4,13 +4,13 @@ use Rattle.yaml_scan.specs.Session.{Call}
 use Rattle.yaml_scan.specs.Parser.{Parser, input_read}
 use Rattle.yaml_scan.specs.ParserCalls.{IsRefusedEarly}
 use Rattle.yaml_scan.specs.Headline.{Calls, Runs, PutsAnswers}
-use Rattle.yaml_scan.specs.Puts.{after_calls, PutsSession}
+use Rattle.yaml_scan.specs.Puts.{after_calls, PutsSession, OfSession}
 use Rattle.yaml_scan.specs.declared.calls.yaml_call_t.{yaml_call_t}
 use Rattle.yaml_scan.specs.declared.calls.yaml_answer_t.{yaml_answer_t}
 use Rattle.yaml_scan.specs.Seen.{call_of, Seen, seen_of}
 use Rattle.yaml_scan.specs.inside.Shown.{IsSeen}
 use Rattle.yaml_scan.proofs.RunningCalls.CallAnswers.{wants_late}
-use Rattle.yaml_scan.proofs.SessionCalls.CallByCall.{OfSession, of_session}
+use Rattle.yaml_scan.proofs.SessionCalls.CallByCall.{of_session}
 
 -- ONE CALL MORE
 one_more : (p : Parser) (calls : List Call) (call : Call) (answers : List Seen) (q : Parser) (s : Seen) (r : Parser) → Runs p calls answers q → IsSeen call q s r → Runs p (calls ++ call ∷ []) (answers ++ s ∷ []) r

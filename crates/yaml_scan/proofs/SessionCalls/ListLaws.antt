@@ -7,12 +7,13 @@ use Rattle.yaml_scan.specs.Token.{yaml_token_t}
 use Rattle.yaml_scan.specs.Begins.{Begins}
 use Rattle.yaml_scan.specs.Inputs.{answers_to}
 use Rattle.yaml_scan.specs.Decoded.{decoded_input}
-use Rattle.yaml_scan.specs.AnswerLaws.{StandInOrder, ends_among, starts_among, AreFollowed, of_text_among, tokens_of_cut}
+use Rattle.yaml_scan.specs.AnswerLaws.{StandInOrder, ends_among, starts_among, AreFollowed, of_text_among, tokens_of_cut, EndsAs, EndsAsFront}
 use Rattle.yaml_scan.specs.ParserCalls.{IsRefusedEarly}
-use Rattle.yaml_scan.specs.All.{AllOf, ReadsAll, EndNoMore, EndAll, TellLexemes, depth_of}
+use Rattle.yaml_scan.specs.All.{AllOf, ReadsAll, EndNoMore, EndAll, TellLexemes, TellFault, depth_of}
 use Rattle.yaml_scan.proofs.TokenList.NeverRevised.{Begins-trans}
 use Rattle.yaml_scan.proofs.Course.InputLaws.{inputs_keep_order, all_stand_in_order, all_end_fewer, all_end_all, all_follow_keys}
 use Rattle.yaml_scan.proofs.Course.LexemeTokens.{of_text_begins, answers_tell_lexemes, answers_tell_all}
+use Rattle.yaml_scan.proofs.Course.FaultAfterCut.{answers_tell_fault, refused_tell_fault}
 use Rattle.yaml_scan.proofs.RunningCalls.CallAnswers.{not_begun}
 use Rattle.yaml_scan.proofs.RunningCalls.MemoryRefused.{settled_followed}
 
@@ -71,6 +72,21 @@ module _ (limit : ℕ) (setting : yaml_encoding_t) (input : List ℕ) (tokens : 
     Begins-trans _ _ _ (of_text_begins tokens All r.0.beginning) input_tells,
     λ e. absurd (no_memory memory_fault (sym e ∙ r.1)),
   )
+
+  input_ends : EndsAs limit (decoded_input setting input) (answers_to limit setting input).fault
+  unfolding answers_to
+  input_ends = answers_tell_fault limit (decoded_input setting input) (inputs_keep_order setting input)
+
+  front_ends : EndsAsFront limit (decoded_input setting input) (answers_to limit setting input).fault
+  unfolding answers_to
+  front_ends = refused_tell_fault limit (decoded_input setting input) (inputs_keep_order setting input)
+
+  pub reads_fault : ReadsAll limit setting input tokens fault → TellFault limit setting input fault
+  reads_fault (inl r) = inl (
+    subst (λ (z : Option Fault). EndsAs limit (decoded_input setting input) z) (sym r.1) input_ends,
+    subst (λ (z : Option Fault). EndsAsFront limit (decoded_input setting input) z) (sym r.1) front_ends,
+  )
+  reads_fault (inr r) = inr r.1
 
   -- no memory is refused if the input is refused so early
   pub reads_early : ReadsAll limit setting input tokens fault → IsRefusedEarly (decoded_input setting input) → AllOf (answers_to limit setting input) tokens fault

@@ -14,9 +14,9 @@ use Rattle.yaml_scan.specs.Session.Call.{SCAN, PEEK, SKIP}
 use Rattle.yaml_scan.specs.Session.Answer.{TOKEN, PEEKED, SKIPPED, NOTHING}
 use Rattle.yaml_scan.specs.Parser.{course_read, input_read}
 use Rattle.yaml_scan.specs.Seen.{Seen, seen, idle, Seen as sight}
-use Rattle.yaml_scan.specs.Puts.{answered_all}
+use Rattle.yaml_scan.specs.Puts.{answered_all, OfSession}
 use Rattle.yaml_scan.specs.ReadingOn.{is_fault, HaveOneFault, FaultIsToldOnce, RunsFaultOnce}
-use Rattle.yaml_scan.proofs.SessionCalls.CallByCall.{OfSession, of_session}
+use Rattle.yaml_scan.proofs.SessionCalls.CallByCall.{of_session}
 
 abbrev faults_in : List Seen → ℕ
 faults_in answers = length (filter is_fault answers)

@@ -19,12 +19,12 @@ use Rattle.yaml_scan.specs.Session.Answer.{TOKEN, PEEKED, SKIPPED, NOTHING, FAUL
 use Rattle.yaml_scan.specs.Parser.{Parser, course_read}
 use Rattle.yaml_scan.specs.ParserCalls.{told}
 use Rattle.yaml_scan.specs.Headline.{Runs, PutsAnswers}
-use Rattle.yaml_scan.specs.Puts.{answered_all, RunsOut}
+use Rattle.yaml_scan.specs.Puts.{answered_all, RunsOut, OfSession}
 use Rattle.yaml_scan.specs.Seen.{Seen, seen, seen_of}
 use Rattle.yaml_scan.specs.ReadingOn.{scans, fault_told, all_told, left_to, AllIsTold, RestIsTold, ReadsOn, ScansReadOn}
 use Rattle.yaml_scan.proofs.Course.InputLaws.{inputs_keep_order}
 use Rattle.yaml_scan.proofs.Course.LastToken.{stream_end_is_last}
-use Rattle.yaml_scan.proofs.SessionCalls.CallByCall.{OfSession, of_session}
+use Rattle.yaml_scan.proofs.SessionCalls.CallByCall.{of_session}
 
 if_true : {A : Type 0} (b : Bool) (x y : A) → b ≡ true → (if b then x else y) ≡ x
 if_true b x y e = rw e refl

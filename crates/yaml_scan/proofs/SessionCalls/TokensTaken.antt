@@ -17,9 +17,9 @@ use Rattle.yaml_scan.specs.Parser.{Parser, course_read, input_read}
 use Rattle.yaml_scan.specs.Seen.{Seen, seen, seen_of, idle}
 use Rattle.yaml_scan.specs.Headline.{Runs, PutsAnswers}
 use Rattle.yaml_scan.specs.Seen.Seen.{TOKEN, PEEKED, SKIPPED, NOTHING, FAULT}
-use Rattle.yaml_scan.specs.Puts.{Puts, answered_all, after_calls, taken_told, AreTold, TakesOn, TakesNext, HasNext}
+use Rattle.yaml_scan.specs.Puts.{Puts, answered_all, after_calls, taken_told, AreTold, TakesOn, TakesNext, HasNext, OfSession}
 use Rattle.yaml_scan.proofs.SessionCalls.ReadingOn.{drop_next}
-use Rattle.yaml_scan.proofs.SessionCalls.CallByCall.{OfSession, of_session}
+use Rattle.yaml_scan.proofs.SessionCalls.CallByCall.{of_session}
 
 -- IF A SESSION IS OVER
 abbrev pub IsQuiet : Session → Type 0

@@ -20,12 +20,12 @@ use Rattle.yaml_scan.specs.Parser.{Parser, answered, course_read}
 use Rattle.yaml_scan.specs.Headline.{Calls, Runs}
 use Rattle.yaml_scan.specs.Seen.{Seen, seen, idle, Seen as sight}
 use Rattle.yaml_scan.specs.All.{ReadsAll}
-use Rattle.yaml_scan.specs.Puts.{answered_all, HasNext, of_input, IsAnsweredAlike, StopsWith, AreAnsweredAlike, AreReadAlike}
+use Rattle.yaml_scan.specs.Puts.{answered_all, HasNext, of_input, IsAnsweredAlike, StopsWith, AreAnsweredAlike, AreReadAlike, OfSession}
 use Rattle.yaml_scan.proofs.Course.CourseSteps.{refused_has_fault}
 use Rattle.yaml_scan.proofs.Course.InputLaws.{inputs_keep_order, agree, encoding_is, late_faults}
 use Rattle.yaml_scan.proofs.Texts.StepLocality.{tokens_before_refusal, fault_before_refusal}
 use Rattle.yaml_scan.proofs.SessionCalls.TokensTaken.{IsQuiet, quiet_calls, IsShowing, showing_after}
-use Rattle.yaml_scan.proofs.SessionCalls.CallByCall.{OfSession, of_session}
+use Rattle.yaml_scan.proofs.SessionCalls.CallByCall.{of_session}
 
 get_front : (xs ys : List Token) (n : ℕ) (x : Token) → Begins xs ys → slice_get xs n ≡ Some x → slice_get ys n ≡ Some x
 get_front xs ys n x g e = ap (λ (z : List Token). slice_get z n) g.is ∙ go xs n e

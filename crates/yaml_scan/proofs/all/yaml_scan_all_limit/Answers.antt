@@ -5,7 +5,7 @@ use Rattle.yaml_text.specs.Fault.{fault_of}
 use Rattle.yaml_scan.specs.Token.{yaml_token_t}
 use Rattle.yaml_scan.specs.All.{ReadsAll}
 use Rattle.yaml_scan.proofs.Texts.AnswerLocality.{reads_alike}
-use Rattle.yaml_scan.proofs.SessionCalls.ListLaws.{reads_in_order, reads_ends, reads_all_ends, reads_keys, reads_lexemes, reads_early}
+use Rattle.yaml_scan.proofs.SessionCalls.ListLaws.{reads_in_order, reads_ends, reads_all_ends, reads_keys, reads_lexemes, reads_fault, reads_early}
 use Rattle.yaml_scan.proofs.SessionCalls.ListWords.{reads_have_lines}
 use Rattle.yaml_scan.proofs.CountedMarks.CallMarks.{reads_are_counted}
 use Rattle.yaml_scan.proofs.all.yaml_scan_all_limit.Goals as goal
@@ -34,6 +34,9 @@ returns-clause-keys c = reads_keys c.args.limit c.args.setting c.args.input.now 
 
 pub returns-clause-lexemes : goal.returns-clause-lexemes
 returns-clause-lexemes c = reads_lexemes c.args.limit c.args.setting c.args.input.now (map token_of c.yaml_scan_to.new.sink.tokens.items) (option_map fault_of c.in_ok-fault.fault) (returns-clause-answers c)
+
+pub returns-clause-fault : goal.returns-clause-fault
+returns-clause-fault c = reads_fault c.args.limit c.args.setting c.args.input.now (map token_of c.yaml_scan_to.new.sink.tokens.items) (option_map fault_of c.in_ok-fault.fault) (returns-clause-answers c)
 
 pub returns-clause-lines : goal.returns-clause-lines
 returns-clause-lines c = reads_have_lines c.args.limit c.args.setting c.args.input.now (map token_of c.yaml_scan_to.new.sink.tokens.items) (option_map fault_of c.in_ok-fault.fault) (returns-clause-answers c)
