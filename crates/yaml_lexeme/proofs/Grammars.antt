@@ -1,4 +1,4 @@
--- What the texts of names, tags, directives and escapes are made of.
+-- What the texts of names, tags, directives, escapes and headers are made of.
 
 -- A run is the longest text of characters that pass.
 pub mod RunTexts
@@ -18,3 +18,7 @@ pub mod HandleGrammar
 pub mod DirectiveGrammar
 -- Escapes are a character, or the hex digits of one.
 pub mod EscapeGrammar
+-- The rest of a line is blanks, a comment, and a break or the end.
+pub mod LineGrammar
+-- The header of a block scalar is a sign and a digit.
+pub mod HeaderGrammar

@@ -14,7 +14,7 @@ pub mod Locality
 pub mod CountedMarks
 -- What is read is as long as possible.
 pub mod LongestLists
--- What the texts of names, tags, directives and escapes are made of.
+-- What the texts of names, tags, directives, escapes and headers are made of.
 pub mod Grammars
 -- Worked examples, which are computed.
 mod Examples

@@ -26,4 +26,5 @@ pub mod Parts
 pub mod Grammar
 pub mod DirectiveGrammar
 pub mod EscapeGrammar
+pub mod HeaderGrammar
 pub mod inside

@@ -12,6 +12,7 @@ ghost use Rattle.yaml_lexeme.specs.Parts.{BlanksAreLines, BlanksAreRefused, Bloc
 ghost use Rattle.yaml_lexeme.specs.Grammar.{NameIsParts, NameIsRefused, TagIsParts, TagIsRefused};
 ghost use Rattle.yaml_lexeme.specs.DirectiveGrammar.{DirectiveIsParts, DirectiveIsRefused};
 ghost use Rattle.yaml_lexeme.specs.EscapeGrammar.{EscapeIsParts, EscapeIsRefused};
+ghost use Rattle.yaml_lexeme.specs.HeaderGrammar.{HeaderIsParts, HeaderIsRefused, LineEndIsParts, LineEndIsRefused};
 ghost use Rattle.yaml_lexeme.specs.Order.{GapOrder, LexemeSpans, LexemeOrder, StreamEndOrder, OffenceIsAhead};
 ghost use Rattle.yaml_lexeme.specs.Order.{LexemeFollows};
 
@@ -171,6 +172,16 @@ pub fn directive_is_its_parts()
 pub fn escape_is_its_parts()
     ensures parts { EscapeIsParts }
     ensures refused { EscapeIsRefused }
+{}
+
+/// The header of a literal or folded scalar is a sign and a digit from 1 to 9 in either order, one of them, or neither.
+/// The rest of its line, or of a directive's, is blanks, a comment, and a break or the end of the text. If they are
+/// refused, the digit is 0, or something else comes after the blanks.
+pub fn header_is_its_parts()
+    ensures parts { HeaderIsParts }
+    ensures refused { HeaderIsRefused }
+    ensures line { LineEndIsParts }
+    ensures line_refused { LineEndIsRefused }
 {}
 
 /// Lexemes are equal exactly if what they say, their marks and whether a break was passed are.
