@@ -12,13 +12,13 @@ pub mod UriGrammar
 pub mod TagGrammar
 -- Numbers and versions of directives are their digits.
 pub mod VersionGrammar
+-- The rest of a line is blanks, a comment, and a break or the end.
+pub mod LineGrammar
 -- Handles and prefixes of tag directives are their texts.
 pub mod HandleGrammar
 -- Directives are their names and what they say.
 pub mod DirectiveGrammar
 -- Escapes are a character, or the hex digits of one.
 pub mod EscapeGrammar
--- The rest of a line is blanks, a comment, and a break or the end.
-pub mod LineGrammar
 -- The header of a block scalar is a sign and a digit.
 pub mod HeaderGrammar

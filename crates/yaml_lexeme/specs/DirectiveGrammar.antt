@@ -9,10 +9,10 @@ use Rattle.yaml_lexeme.specs.declared.problem.yaml_problem_t.TheVariants.{NO_BLA
 use Rattle.yaml_lexeme.specs.declared.problem.yaml_problem_t.TheVariants.{NO_NUMBER, LONG_NUMBER, NO_DOT, OPEN_HANDLE}
 use Rattle.yaml_lexeme.specs.declared.problem.yaml_problem_t.TheVariants.{NO_DIRECTIVE_NAME, UNKNOWN_DIRECTIVE}
 use Rattle.yaml_lexeme.specs.declared.problem.yaml_problem_t.TheVariants.{DIRECTIVE_NAME_GOES_ON}
-use Rattle.yaml_lexeme.specs.Block.{after_line}
 use Rattle.yaml_lexeme.specs.Classes.{ends}
 use Rattle.yaml_lexeme.specs.Directive.{directive}
 use Rattle.yaml_lexeme.specs.Grammar.{LongestRun, SomeUriRefused}
+use Rattle.yaml_lexeme.specs.HeaderGrammar.{LineEnd, LineEndRefused}
 use Rattle.yaml_lexeme.specs.Lexeme.{Directive as directive_t}
 use Rattle.yaml_lexeme.specs.Parts.{texts, UriParts}
 use Rattle.yaml_lexeme.specs.Place.{Place, first, skip}
@@ -149,7 +149,7 @@ pub record DirectiveParts (p : Place) (f : Found directive_t) : Type 0 where
   pub said : Found unnamed_yaml_token_t_data
   pub name_is : DirectiveName p name
   pub said_is : Named name.value name.end said
-  pub line : after_line said.end ≡ Ok f.end
+  pub line : LineEnd said.end f.end
   pub value : f.value ≡ record { says = said.value; end = said.end.mark }
 
 abbrev pub DirectiveIsParts : Type 0
@@ -168,7 +168,7 @@ pub data DirectiveRefused (p : Place) (e : Offence) : Type 0 where
   bad_tag : (name : Found (List ℕ)) → DirectiveName p name → name.value ≡ codes "TAG"
       → TagDirectiveRefused name.end e → DirectiveRefused p e
   bad_line : (name : Found (List ℕ)) (said : Found unnamed_yaml_token_t_data) → DirectiveName p name
-      → Named name.value name.end said → after_line said.end ≡ Err e → DirectiveRefused p e
+      → Named name.value name.end said → LineEndRefused said.end e → DirectiveRefused p e
 
 abbrev pub DirectiveIsRefused : Type 0
 DirectiveIsRefused = (p : Place) (e : Offence) → (directive p ≡ Err e) ↔ DirectiveRefused p e

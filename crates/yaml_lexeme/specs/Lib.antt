@@ -24,7 +24,7 @@ pub mod Counted
 pub mod Whole
 pub mod Parts
 pub mod Grammar
+pub mod HeaderGrammar
 pub mod DirectiveGrammar
 pub mod EscapeGrammar
-pub mod HeaderGrammar
 pub mod inside

@@ -19,6 +19,7 @@ use Rattle.yaml_lexeme.specs.Reading.{Offence, Found, Read, found, refuse, ◌>>
 use Rattle.yaml_lexeme.proofs.Grammars.RunTexts.{of_run, run_at, run_is, after_sign}
 use Rattle.yaml_lexeme.proofs.Grammars.ReadingSteps.{unless_ok, unless_err, taken, left, not_so, steps, stops, then_second, first_refused, offence_is}
 use Rattle.yaml_lexeme.proofs.Grammars.VersionGrammar.{version_from, version_to, version_refused_from, version_refused_to}
+use Rattle.yaml_lexeme.proofs.Grammars.LineGrammar.{line_parts, line_refused}
 use Rattle.yaml_lexeme.proofs.Grammars.HandleGrammar.{tag_from, tag_to, tag_refused_from, tag_refused_to}
 use Rattle.yaml_lexeme.proofs.Parts.ReadResults.{both}
 
@@ -133,7 +134,7 @@ parts_from p f h =
       said = u.0;
       name_is = name_of p s.0 t.0;
       said_is = named_from g.value g.end u.0 u.1;
-      line = v.1 ∙ ap (λ (x : Found directive_t). Ok x.end) (sym is);
+      line = (line_parts u.0.end f.end).0 (v.1 ∙ ap (λ (x : Found directive_t). Ok x.end) (sym is));
       value = ap (λ (x : Found directive_t). x.value) is;
     }
 
@@ -141,7 +142,7 @@ parts_to : (p : Place) (f : Found directive_t) → DirectiveParts p f → direct
 parts_to p f d =
     let value : directive_t = record { says = d.said.value; end = d.said.end.mark } in
     after_name p d.name d.name_is ∙ then_second (named d.name.value d.name.end) line_of d.said (Ok f) (named_to d.name.value d.name.end d.said d.said_is)
-    (then_second (after_line d.said.end) (said_as d.said) f.end (Ok f) d.line (both f value f.end d.value refl))
+    (then_second (after_line d.said.end) (said_as d.said) f.end (Ok f) ((line_parts d.said.end f.end).1 d.line) (both f value f.end d.value refl))
 
 pub directive_parts : DirectiveIsParts
 directive_parts p f = (parts_from p f, parts_to p f)
@@ -178,7 +179,7 @@ refused_from p e h =
         | inr t ↦ (let n = name_of p s.0 t.0 in elim (stops (named g.value g.end) line_of e t.1) [
           | inl bad ↦ said_refused p e g n bad
           | inr u ↦ (let d = u.0 in elim (stops (after_line d.end) (said_as d) e u.2) [
-            | inl bad ↦ bad_line g d n (named_from g.value g.end d u.1) bad
+            | inl bad ↦ bad_line g d n (named_from g.value g.end d u.1) ((line_refused d.end e).0 bad)
             | inr v ↦ absurd (let never = v.2 in cc)
           ])
         ])
@@ -196,7 +197,7 @@ refused_to p e (unknown g n yaml tag problem at) =
 refused_to p e (bad_version g n is bad) = after_name p g n ∙ first_refused (named g.value g.end) line_of e (at_yaml g.value g.end is ∙ version_refused_to g.end e bad)
 refused_to p e (bad_tag g n is bad) = after_name p g n ∙ first_refused (named g.value g.end) line_of e (at_tag g.value g.end is ∙ tag_refused_to g.end e bad)
 refused_to p e (bad_line g d n is bad) =
-    after_name p g n ∙ then_second (named g.value g.end) line_of d (Err e) (named_to g.value g.end d is) (first_refused (after_line d.end) (said_as d) e bad)
+    after_name p g n ∙ then_second (named g.value g.end) line_of d (Err e) (named_to g.value g.end d is) (first_refused (after_line d.end) (said_as d) e ((line_refused d.end e).1 bad))
 
 pub directive_refused : DirectiveIsRefused
 directive_refused p e = (refused_from p e, refused_to p e)
