@@ -22,3 +22,5 @@ pub mod DirectiveGrammar
 pub mod EscapeGrammar
 -- The header of a block scalar is a sign and a digit.
 pub mod HeaderGrammar
+-- A literal or folded scalar is refused at the first of its parts that the text does not give.
+pub mod BlockGrammar

@@ -25,6 +25,7 @@ pub mod Whole
 pub mod Parts
 pub mod Grammar
 pub mod HeaderGrammar
+pub mod BlockGrammar
 pub mod DirectiveGrammar
 pub mod EscapeGrammar
 pub mod inside

@@ -211,22 +211,3 @@ BlanksRefused limit p e = (lines : List (Piece Blank)) × (q : Place) × IsLonge
 abbrev pub BlanksAreRefused : Type 0
 BlanksAreRefused = (limit : Option ℕ) (p : Place) (e : Offence) →
     (blank_lines limit p ≡ Err e) ↔ BlanksRefused limit p e
-
--- the first of these that the text does not give at p: the header, the rest of its line, the leading empty lines, and
--- text lines, of which there are as many as possible before the offence
-pub data BlockRefused (level : Option ℕ) (p : Place) (e : Offence) : Type 0 where
-  no_header : header_at (skip 1 p) ≡ Err e → BlockRefused level p e
-  no_line_end : (header : Found header_t) → header_at (skip 1 p) ≡ Ok header → after_line header.end ≡ Err e
-      → BlockRefused level p e
-  no_leading : (header : Found header_t) (start : Place) → header_at (skip 1 p) ≡ Ok header
-      → after_line header.end ≡ Ok start → BlanksRefused (set_indent level header.value.digit) start e
-      → BlockRefused level p e
-  no_text : (header : Found header_t) (start : Place) (leading : Found Blanks) (lines : List (Piece Line)) (q : Place)
-      → header_at (skip 1 p) ≡ Ok header → after_line header.end ≡ Ok start
-      → blank_lines (set_indent level header.value.digit) start ≡ Ok leading
-      → IsLongest (text_line (indent_of level header.value leading)) leading.end lines q (Err e)
-      → BlockRefused level p e
-
-abbrev pub BlockIsRefused : Type 0
-BlockIsRefused = (folded : Bool) (level : Option ℕ) (p : Place) (e : Offence) →
-    (block folded level p ≡ Err e) ↔ BlockRefused level p e

@@ -7,8 +7,7 @@ use Rattle.yaml_lexeme.proofs.MarkOrder.ScalarsAhead.{blank_goes, line_spans, li
 use Rattle.yaml_lexeme.proofs.Parts.ReadResults.{value_or, end_or, both}
 use Rattle.yaml_lexeme.proofs.Readers.BlockLines.{blank_refused, after_blanks, blanks_is, tail_of, after_leading, after_start, after_header, block_is}
 use Rattle.yaml_lexeme.specs.Block.{Blank, Blanks, Line, header_at, after_line, after_indent, blank_line, blank_lines, blanks_of, set_indent, text_line, block}
-use Rattle.yaml_lexeme.specs.Parts.{values, IsLongest, BlankParts, BlanksAreLines, BlanksRefused, BlanksAreRefused, BlockParts, BlockIsLines, BlockRefused, BlockIsRefused, indent_of, block_scalar}
-use Rattle.yaml_lexeme.specs.Parts.BlockRefused.{no_header, no_line_end, no_leading, no_text}
+use Rattle.yaml_lexeme.specs.Parts.{values, IsLongest, BlankParts, BlanksAreLines, BlanksRefused, BlanksAreRefused, BlockParts, BlockIsLines, indent_of, block_scalar}
 use Rattle.yaml_lexeme.specs.Place.{Place, skip}
 use Rattle.yaml_lexeme.specs.Reading.{Offence, Found, Read, found, ◌>>=◌, over, many}
 
@@ -45,7 +44,7 @@ pub blanks_lines : BlanksAreLines
 blanks_lines limit p f = (λ h. blanks_from limit p f (many (blank_line limit) p) refl (sym (blanks_is limit p) ∙ h), blanks_to limit p f)
 
 -- text lines
-line_advances : (indent : ℕ) → Advances (text_line indent)
+pub line_advances : (indent : ℕ) → Advances (text_line indent)
 line_advances indent p = (line_goes_of p (text_line indent p) (line_spans indent p)).goes
 
 module _ (folded : Bool) (level : Option ℕ) (p : Place) (f : Found scalar_t) where
@@ -108,41 +107,3 @@ blanks_refused_to limit p e r =
 
 pub blanks_refused : BlanksAreRefused
 blanks_refused limit p e = (λ h. blanks_refused_from limit p e (many (blank_line limit) p) refl (sym (blanks_is limit p) ∙ h), blanks_refused_to limit p e)
-
--- a block scalar that is refused
-module _ (folded : Bool) (level : Option ℕ) (p : Place) (e : Offence) where
-  lines_refused : (header : Found header_t) (start : Place) (leading : Found Blanks) → header_at (skip 1 p) ≡ Ok header → after_line header.end ≡ Ok start → blank_lines (set_indent level header.value.digit) start ≡ Ok leading
-      → (r : Read (List Line)) → many (text_line (indent_of level header.value leading)) leading.end ≡ r → tail_of folded header.value.chomp leading.value r ≡ Err e → BlockRefused level p e
-  lines_refused header start leading eh es el (Ok b) is h = absurd cc
-  lines_refused header start leading eh es el (Err o) is h =
-      let same : o ≡ e = cc in
-      let l = many_refused (text_line (indent_of level header.value leading)) (line_advances (indent_of level header.value leading)) leading.end e (is ∙ ap (λ (x : Offence). Err x) same) in
-      no_text header start leading l.0 l.1 eh es el l.2
-
-  leading_refused : (header : Found header_t) (start : Place) → header_at (skip 1 p) ≡ Ok header → after_line header.end ≡ Ok start → (r : Read Blanks) → blank_lines (set_indent level header.value.digit) start ≡ r
-      → after_leading folded level header.value r ≡ Err e → BlockRefused level p e
-  leading_refused header start eh es (Ok leading) is h = lines_refused header start leading eh es is (many (text_line (indent_of level header.value leading)) leading.end) refl h
-  leading_refused header start eh es (Err o) is h =
-      let same : o ≡ e = cc in
-      no_leading header start eh es ((blanks_refused (set_indent level header.value.digit) start e).0 (is ∙ ap (λ (x : Offence). Err x) same))
-
-  start_refused : (header : Found header_t) → header_at (skip 1 p) ≡ Ok header → (r : Result Place Offence) → after_line header.end ≡ r → after_start folded level header.value r ≡ Err e → BlockRefused level p e
-  start_refused header eh (Ok start) is h = leading_refused header start eh is (blank_lines (set_indent level header.value.digit) start) refl h
-  start_refused header eh (Err o) is h = let same : o ≡ e = cc in no_line_end header eh (is ∙ ap (λ (x : Offence). Err x) same)
-
-  header_refused : (r : Read header_t) → header_at (skip 1 p) ≡ r → after_header folded level r ≡ Err e → BlockRefused level p e
-  header_refused (Ok header) is h = start_refused header is (after_line header.end) refl h
-  header_refused (Err o) is h = let same : o ≡ e = cc in no_header (is ∙ ap (λ (x : Offence). Err x) same)
-
-  block_refused_to : BlockRefused level p e → block folded level p ≡ Err e
-  block_refused_to (no_header h) = block_is folded level p ∙ ap (after_header folded level) h
-  block_refused_to (no_line_end header eh h) = block_is folded level p ∙ ap (after_header folded level) eh ∙ ap (after_start folded level header.value) h
-  block_refused_to (no_leading header start eh es h) =
-      block_is folded level p ∙ ap (after_header folded level) eh ∙ ap (after_start folded level header.value) es
-      ∙ ap (after_leading folded level header.value) ((blanks_refused (set_indent level header.value.digit) start e).1 h)
-  block_refused_to (no_text header start leading lines q eh es el h) =
-      block_is folded level p ∙ ap (after_header folded level) eh ∙ ap (after_start folded level header.value) es ∙ ap (after_leading folded level header.value) el
-      ∙ ap (tail_of folded header.value.chomp leading.value) (refused_of (text_line (indent_of level header.value leading)) (line_advances (indent_of level header.value leading)) leading.end lines q e h)
-
-pub block_refused : BlockIsRefused
-block_refused folded level p e = (λ h. header_refused folded level p e (header_at (skip 1 p)) refl (sym (block_is folded level p) ∙ h), block_refused_to folded level p e)
