@@ -2,7 +2,7 @@
 use Rattle.std.specs.Prelude.{ℕ, Bool, length, if◌then◌else◌, Option, Some, None}
 use Rattle.yaml_text.specs.Fault.{Fault, fault_of}
 use Rattle.yaml_text.specs.Token.{Token, token_of, type_of}
-use Rattle.yaml_scan.specs.Token.{is_last_type}
+use Rattle.yaml_scan.specs.TokenTypes.{is_last_type}
 use Rattle.yaml_c.specs.Answer.{fault_texts}
 use Rattle.yaml_c.specs.Record.{texts_of}
 use Rattle.yaml_c.specs.declared.held.ahead_t.{ahead_t}

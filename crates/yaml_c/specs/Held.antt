@@ -9,7 +9,7 @@ use Rattle.yaml_text.specs.Types.{encoding_number}
 use Rattle.yaml_scan.specs.All.{ReadsAll}
 use Rattle.yaml_scan.specs.Parser.{Parser}
 use Rattle.yaml_scan.specs.Scanned.{Scanned}
-use Rattle.yaml_scan.specs.Session.{new_session}
+use Rattle.yaml_scan.specs.Sessions.{new_session}
 use Rattle.yaml_scan.specs.inside.Kept.{IsKept}
 use Rattle.yaml_c.specs.Ahead.{Ahead, ahead_of, is_end, need}
 use Rattle.yaml_c.specs.Ahead.Ahead.{NONE, TOKEN, FAULT, OVER}

@@ -4,7 +4,7 @@ ghost use Rattle.yaml_text.specs.Decode as decoding;
 ghost use Rattle.yaml_text.specs.declared.types.yaml_encoding_t.{yaml_encoding_t};
 ghost use Rattle.yaml_text.specs.Fault.{zero_mark};
 ghost use Rattle.yaml_text.specs.Types.{encoding_number};
-ghost use Rattle.yaml_scan.specs.Session.{session_reach};
+ghost use Rattle.yaml_scan.specs.Sessions.{session_reach};
 ghost use Rattle.yaml_scan.specs.Parser.{course_read};
 ghost use Rattle.yaml_c.specs.Answer.{IsWrong, most_key_limit, no_answer, rooms};
 ghost use Rattle.yaml_c.specs.Held.{Scan, IsAt, IsNext, IsPeek, opened};

@@ -98,9 +98,9 @@ pub fn ends_are_counted()
     ensures problems { ProblemIsCounted }
 {}
 
-/// At a place that is not between CR and LF is a stream end exactly if all characters of the text are before it. The
-/// marks of the stream end are then the one that is counted from the front of the text, moved to the start of the next
-/// line if its column is not 0.
+/// At a place that is not between CR and LF there is a stream end exactly if all characters of the text are before it.
+/// The marks of the stream end are then the one that is counted from the front of the text, moved to the start of the
+/// next line if its column is not 0.
 pub fn stream_end_is_at_the_end()
     ensures last { StreamEndIsLast }
     ensures marks { StreamEndIsCounted }

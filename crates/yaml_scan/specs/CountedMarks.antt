@@ -11,7 +11,8 @@ use Rattle.yaml_scan.specs.Answers.{course}
 use Rattle.yaml_scan.specs.Fault.{Fault, no_colon}
 use Rattle.yaml_scan.specs.Inputs.{answers_to}
 use Rattle.yaml_scan.specs.Decoded.{decoded_input}
-use Rattle.yaml_scan.specs.Session.{Session, Call, Answer, session, session_reach}
+use Rattle.yaml_scan.specs.Session.{Session, Call, Answer}
+use Rattle.yaml_scan.specs.Sessions.{session, session_reach}
 use Rattle.yaml_scan.specs.Session.Answer.{TOKEN, PEEKED, SKIPPED, NOTHING, FAULT}
 use Rattle.yaml_scan.specs.Step.{end_of}
 use Rattle.yaml_scan.specs.Token.{yaml_token_t, type_of}

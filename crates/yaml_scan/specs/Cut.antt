@@ -2,7 +2,8 @@
 use Rattle.std.specs.Prelude.{◌≡◌, ℕ, ◌+◌, ◌≤◌, ◌<◌, Bool, true, false, List, [], ◌∷◌, Option, Some, None, Ok, Err}
 use Rattle.std.specs.Prelude.{nat_lt}
 use Rattle.yaml_scan.specs.Kind.{Kind, is_stream_end, is_key, is_value}
-use Rattle.yaml_scan.specs.Token.{unnamed_yaml_token_t_data, type_of, is_last_type, zero_mark}
+use Rattle.yaml_scan.specs.Token.{unnamed_yaml_token_t_data, type_of, zero_mark}
+use Rattle.yaml_scan.specs.TokenTypes.{is_last_type}
 use Rattle.yaml_scan.specs.TokenTypes.{is_end_type, is_start_type, is_key_type, is_value_type}
 use Rattle.yaml_scan.specs.Laid.{Laid}
 use Rattle.yaml_scan.specs.Levels.{laid}

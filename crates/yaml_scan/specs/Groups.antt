@@ -1,6 +1,6 @@
 -- Groups: the tokens of a finished list of lexemes, with the keys and the starts and ends of blocks that the layout
 -- inserts. They are the offline list.
-use Rattle.std.specs.Prelude.{ℕ, ◌&&◌, List, [], ◌∷◌, ◌++◌, map, take, drop, nat_lt, if◌then◌else◌}
+use Rattle.std.specs.Prelude.{ℕ, ◌&&◌, List, [], ◌∷◌, ◌++◌, map, nat_lt, if◌then◌else◌}
 use Rattle.yaml_text.specs.declared.types.yaml_mark_t.{yaml_mark_t}
 use Rattle.yaml_text.specs.declared.types.yaml_encoding_t.{yaml_encoding_t}
 use Rattle.yaml_scan.specs.Kind.{Kind, is_stream_end, is_block_entry}
@@ -61,7 +61,3 @@ groups H (i ∷ early) = groups H early ++ group H i
 
 unfoldable pub offline : List Laid → List Token
 offline H = groups H H
-
--- tokens inserted at place n of a list
-abbrev pub put_in : ℕ → List Token → List Token → List Token
-put_in n ts q = take n q ++ (ts ++ drop n q)

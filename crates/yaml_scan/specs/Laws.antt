@@ -1,16 +1,18 @@
 -- What holds of the layout, over any list of lexemes that follow one another.
 use Rattle.std.specs.Prelude.{◌≡◌, ℕ, ◌+◌, ◌-◌, ◌≤◌, Bool, true, false, not, ◌&&◌, ◌||◌, List, [], ◌∷◌, ◌++◌, map}
 use Rattle.std.specs.Prelude.{reverse, filter, take, length, nat_eq, nat_lt, slice_get, Option, Some, None}
-use Rattle.std.specs.Prelude.{if◌then◌else◌}
+use Rattle.std.specs.Prelude.{if◌then◌else◌, drop}
 use Rattle.yaml_text.specs.declared.types.yaml_mark_t.{yaml_mark_t}
 use Rattle.yaml_scan.specs.Kind.{Kind, is_flow_start, is_flow_end}
 use Rattle.yaml_scan.specs.Laid.{Laid, column, is_none}
 use Rattle.yaml_scan.specs.Depth.{depth}
 use Rattle.yaml_scan.specs.Allowed.{allowed, allows}
 use Rattle.yaml_scan.specs.Keys.{candidate, is_candidate, enters, completed_by}
-use Rattle.yaml_scan.specs.Levels.{is_above, is_opener, open_columns, kept_columns, level, IsFalling}
-use Rattle.yaml_scan.specs.Groups.{Token, group, offline, put_in}
-use Rattle.yaml_scan.specs.Settled.{waiting, before, up_to, queued}
+use Rattle.yaml_scan.specs.Levels.{is_above, is_opener, open_columns, kept_columns, level}
+use Rattle.yaml_scan.specs.Falling.{IsFalling}
+use Rattle.yaml_scan.specs.Groups.{Token, group, offline}
+use Rattle.yaml_scan.specs.Settled.{waiting, before, up_to}
+use Rattle.yaml_scan.specs.Sessions.{queued}
 use Rattle.yaml_scan.specs.Groups.Token.{StreamStart, BlockEnd, BlockSequenceStart, BlockMappingStart, InsertedKey}
 use Rattle.yaml_scan.specs.Groups.Token.{OfLexeme}
 use Rattle.yaml_scan.specs.Order.{IsHistory}
@@ -19,6 +21,10 @@ use Rattle.yaml_scan.specs.Begins.{Begins}
 use Rattle.yaml_scan.specs.Source.{Source, Offence}
 use Rattle.yaml_scan.specs.Step.{step}
 use Rattle.yaml_scan.specs.Cut.{cut, IsRun, EndsWith, KeepsOrder}
+
+-- tokens inserted at place n of a list
+abbrev pub put_in : ℕ → List Token → List Token → List Token
+put_in n ts q = take n q ++ (ts ++ drop n q)
 
 -- ONE LEXEME MORE
 -- the depth after a lexeme of kind k

@@ -1,5 +1,5 @@
 -- Indentation levels: the columns of block collections that are open.
-use Rattle.std.specs.Prelude.{ℕ, ◌<◌, Bool, true, not, ◌&&◌, ◌||◌, List, [], ◌∷◌, map, filter, length, nat_eq, nat_lt}
+use Rattle.std.specs.Prelude.{ℕ, Bool, true, not, ◌&&◌, ◌||◌, List, [], ◌∷◌, map, filter, length, nat_eq, nat_lt}
 use Rattle.std.specs.Prelude.{nat_le, Option, Some, None, max, option_map}
 use Rattle.std.specs.List.{list_any, list_all}
 use Rattle.yaml_text.specs.declared.types.yaml_mark_t.{yaml_mark_t}
@@ -57,15 +57,6 @@ greater_of c (Some l) = Some (max c l)
 abbrev pub greatest_level : List ℕ → Option ℕ
 greatest_level [] = None
 greatest_level (c ∷ cs) = greater_of c (greatest_level cs)
-
-abbrev pub AllLess : ℕ → List ℕ → Type 0
-AllLess c [] = Unit {0}
-AllLess c (l ∷ ls) = (l < c) × AllLess c ls
-
--- each column is greater than those that follow
-abbrev pub IsFalling : List ℕ → Type 0
-IsFalling [] = Unit {0}
-IsFalling (l ∷ ls) = AllLess l ls × IsFalling ls
 
 -- the greatest level at a lexeme of kind k that starts at m after H, or none
 unfoldable pub level : List Laid → Kind → yaml_mark_t → Option ℕ

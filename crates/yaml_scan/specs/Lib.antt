@@ -8,6 +8,7 @@ pub mod Allowed
 pub mod Keys
 pub mod KeyLimits
 pub mod Levels
+pub mod Falling
 pub mod Begins
 pub mod Groups
 pub mod Order
@@ -21,6 +22,7 @@ pub mod Settled
 pub mod Near
 pub mod Answers
 pub mod Session
+pub mod Sessions
 pub mod Laws
 pub mod TokenLaws
 pub mod SessionLaws

@@ -1,5 +1,5 @@
 -- What the answers that a list of calls appends say, and which of them other inputs get as well.
-use Rattle.std.specs.Prelude.{◌≡◌, ◌≢◌, ◌⊎◌, ◌↔◌, ℕ, ◌+◌, ◌<◌, true, false, Option, None, Some, IfSome, List, []}
+use Rattle.std.specs.Prelude.{◌≡◌, ◌≢◌, ◌⊎◌, ◌↔◌, ℕ, ◌+◌, ◌<◌, false, Option, None, Some, IfSome, List, []}
 use Rattle.std.specs.Prelude.{◌∷◌, ◌++◌, map, take, drop, replicate, length, slice_get}
 use Rattle.yaml_text.specs.declared.types.yaml_encoding_t.{yaml_encoding_t}
 use Rattle.yaml_scan.specs.declared.calls.yaml_answer_t.{yaml_answer_t}
@@ -8,7 +8,8 @@ use Rattle.yaml_scan.specs.Fault.{Fault, memory_fault}
 use Rattle.yaml_scan.specs.Groups.{Token}
 use Rattle.yaml_scan.specs.Begins.{Begins}
 use Rattle.yaml_scan.specs.Inputs.{answers_to, GoesOn}
-use Rattle.yaml_scan.specs.Session.{Call, Answer, next_token, session, after_all}
+use Rattle.yaml_scan.specs.Session.{Call, Answer, next_token}
+use Rattle.yaml_scan.specs.Sessions.{session, after_all}
 use Rattle.yaml_scan.specs.Session.Call.{SKIP}
 use Rattle.yaml_scan.specs.Parser.{Parser, answered, course_read, input_read}
 use Rattle.yaml_scan.specs.Session.Answer.{FAULT}

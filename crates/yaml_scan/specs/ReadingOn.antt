@@ -10,7 +10,8 @@ use Rattle.yaml_scan.specs.Fault.{Fault}
 use Rattle.yaml_scan.specs.Answers.{Answers, course}
 use Rattle.yaml_scan.specs.Inputs.{answers_to}
 use Rattle.yaml_scan.specs.Decoded.{decoded_input}
-use Rattle.yaml_scan.specs.Session.{Session, Call, Answer, new_session, session}
+use Rattle.yaml_scan.specs.Session.{Session, Call, Answer}
+use Rattle.yaml_scan.specs.Sessions.{new_session, session}
 use Rattle.yaml_scan.specs.Session.Call.{SCAN}
 use Rattle.yaml_scan.specs.Session.Answer.{TOKEN, FAULT}
 use Rattle.yaml_scan.specs.Parser.{Parser}

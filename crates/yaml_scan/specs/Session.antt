@@ -1,13 +1,11 @@
 -- A session: scan, peek and skip, one after the other, on the course of an input.
-use Rattle.std.specs.Prelude.{ℕ, ◌+◌, Bool, true, false, List, [], ◌∷◌, length, nat_eq, nat_lt, slice_get, Option, Some}
+use Rattle.std.specs.Prelude.{ℕ, ◌+◌, Bool, true, false, length, slice_get, Option, Some}
 use Rattle.std.specs.Prelude.{None, if◌then◌else◌}
-use Rattle.yaml_text.specs.declared.types.yaml_mark_t.{yaml_mark_t}
 use Rattle.yaml_text.specs.declared.types.yaml_encoding_t.{yaml_encoding_t}
 use Rattle.yaml_scan.specs.Kind.{is_stream_end}
 use Rattle.yaml_scan.specs.Token.{yaml_token_t, empty}
-use Rattle.yaml_scan.specs.Laid.{reach}
 use Rattle.yaml_scan.specs.Groups.{Token, handed_out}
-use Rattle.yaml_scan.specs.Settled.{before, queued, first_steps, pace}
+use Rattle.yaml_scan.specs.Settled.{pace}
 use Rattle.yaml_scan.specs.Groups.Token.{StreamStart, BlockEnd, BlockSequenceStart, BlockMappingStart, InsertedKey}
 use Rattle.yaml_scan.specs.Groups.Token.{OfLexeme}
 use Rattle.yaml_scan.specs.Fault.{Fault}
@@ -34,13 +32,6 @@ pub record Session : Type 0 where
   pub peeked : Bool
   pub over : Bool
   pub fault : Option Fault
-
-abbrev pub new_session : Session
-new_session = record { taken = 0; steps = 0; peeked = false; over = false; fault = None }
-
--- the tokens that are settled after s steps
-abbrev pub settled_tokens : ℕ → Course → ℕ → List Token
-settled_tokens limit c s = if nat_lt 0 s then before limit (first_steps s c.read) else []
 
 -- how many steps there are
 abbrev pub all_steps : Course → ℕ
@@ -115,23 +106,3 @@ abbrev pub answer : yaml_encoding_t → ℕ → Course → Call → Session → 
 answer e limit c SCAN s = if s.over then TOKEN empty else scan_answer e c (next_token limit c s)
 answer e limit c PEEK s = if s.over then PEEKED empty else peek_answer e c (next_token limit c s)
 answer e limit c SKIP s = if s.peeked then SKIPPED else NOTHING
-
--- the answers to a list of calls
-unfoldable pub session : yaml_encoding_t → ℕ → Course → List Call → Session → List Answer
-session e limit c [] s = []
-session e limit c (call ∷ calls) s = answer e limit c call s ∷ session e limit c calls (after limit c call s)
-
--- what a list of calls leaves
-unfoldable pub after_all : ℕ → Course → List Call → Session → Session
-after_all limit c [] s = s
-after_all limit c (call ∷ calls) s = after_all limit c calls (after limit c call s)
-
--- WHAT CAN BE SEEN OF A SESSION
--- how far the last step was read, and zero before any
-abbrev pub session_reach : Course → Session → yaml_mark_t
-session_reach c s = reach (first_steps s.steps c.read)
-
--- how many of its steps have a token that was not taken
-abbrev pub session_queued : Course → Session → ℕ
-session_queued c s = if nat_eq s.steps 0 then 0
-    else queued (first_steps s.steps c.read) s.taken (first_steps s.steps c.read)

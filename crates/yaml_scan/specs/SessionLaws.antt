@@ -17,7 +17,8 @@ use Rattle.yaml_scan.specs.Step.Outcome.{Faults}
 use Rattle.yaml_scan.specs.Cut.{cut, IsRun, KeepsOrder}
 use Rattle.yaml_scan.specs.Answers.{Input, Course, next, course, tokens_of}
 use Rattle.yaml_scan.specs.Near.{place_of}
-use Rattle.yaml_scan.specs.Session.{Call, Session, new_session, next_token, after, after_all, answer, session_queued}
+use Rattle.yaml_scan.specs.Session.{Call, Session, next_token, after, answer}
+use Rattle.yaml_scan.specs.Sessions.{new_session, after_all, session_queued}
 use Rattle.yaml_scan.specs.Session.Call.{SCAN, PEEK, SKIP}
 use Rattle.yaml_scan.specs.Session.Answer.{TOKEN, PEEKED}
 

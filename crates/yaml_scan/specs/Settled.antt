@@ -32,12 +32,6 @@ up_to H (Some i) = groups H (filter (λ j. nat_lt j.number i.number) H) ++ block
 unfoldable pub before : ℕ → List Laid → List Token
 before limit H = up_to H (waiting limit H)
 
--- how many of the earliest steps, STREAM-START and some lexemes of H, have a token of their group at place t of the
--- offline list or after it
-unfoldable pub queued : List Laid → ℕ → List Laid → ℕ
-queued H t [] = if nat_lt t (length (groups H [])) then 1 else 0
-queued H t (i ∷ early) = (if nat_lt t (length (groups H (i ∷ early))) then 1 else 0) + queued H t early
-
 -- THE PACE
 -- the lexemes of the first s steps, of which one is STREAM-START
 abbrev pub first_steps : ℕ → List Laid → List Laid

@@ -1,8 +1,5 @@
 -- Tokens as they are handed out.
-use Rattle.std.specs.Prelude.{Bool, true, false}
 use Rattle.yaml_text.specs.declared.types.yaml_mark_t.{yaml_mark_t}
-use Rattle.yaml_text.specs.declared.types.yaml_token_type_t.{yaml_token_type_t}
-use Rattle.yaml_text.specs.declared.types.yaml_token_type_t.TheVariants.{YAML_STREAM_END_TOKEN}
 pub use Rattle.yaml_text.specs.Token.{type_of}
 use Rattle.yaml_text.specs.Token.{TokenData as token}
 -- the tokens of the definitions, by the names of the types of the code
@@ -16,8 +13,3 @@ at_mark says m = record { token_data = says; start_mark = m; end_mark = m }
 -- the token that stands for none
 abbrev pub empty : yaml_token_t
 empty = at_mark token.NO_TOKEN zero_mark
-
--- the type of the last token of a stream
-abbrev pub is_last_type : yaml_token_type_t → Bool
-is_last_type YAML_STREAM_END_TOKEN = true
-is_last_type _ = false

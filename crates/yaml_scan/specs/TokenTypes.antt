@@ -4,7 +4,7 @@ use Rattle.yaml_text.specs.declared.types.yaml_token_type_t.{yaml_token_type_t}
 use Rattle.yaml_text.specs.declared.types.yaml_token_type_t.TheVariants.{YAML_BLOCK_SEQUENCE_START_TOKEN}
 use Rattle.yaml_text.specs.declared.types.yaml_token_type_t.TheVariants.{YAML_BLOCK_MAPPING_START_TOKEN}
 use Rattle.yaml_text.specs.declared.types.yaml_token_type_t.TheVariants.{YAML_BLOCK_END_TOKEN, YAML_KEY_TOKEN}
-use Rattle.yaml_text.specs.declared.types.yaml_token_type_t.TheVariants.{YAML_VALUE_TOKEN}
+use Rattle.yaml_text.specs.declared.types.yaml_token_type_t.TheVariants.{YAML_VALUE_TOKEN, YAML_STREAM_END_TOKEN}
 
 -- of a BLOCK-END
 abbrev pub is_end_type : yaml_token_type_t → Bool
@@ -26,3 +26,8 @@ is_key_type _ = false
 abbrev pub is_value_type : yaml_token_type_t → Bool
 is_value_type YAML_VALUE_TOKEN = true
 is_value_type _ = false
+
+-- the type of the last token of a stream
+abbrev pub is_last_type : yaml_token_type_t → Bool
+is_last_type YAML_STREAM_END_TOKEN = true
+is_last_type _ = false

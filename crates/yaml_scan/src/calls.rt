@@ -2,7 +2,7 @@
 ghost use Rattle.std.specs.Prelude.{◌≡◌, ◌+◌, ◌≤◌, length, map, OnOk, OnErr, vec_len, true};
 ghost use Rattle.std.specs.Vec.{vec_capacity};
 ghost use Rattle.yaml_text.specs.Token.{token_of};
-ghost use Rattle.yaml_scan.specs.Session.{session_queued};
+ghost use Rattle.yaml_scan.specs.Sessions.{session_queued};
 ghost use Rattle.yaml_scan.specs.Session.Call.{SCAN, PEEK, SKIP};
 ghost use Rattle.yaml_scan.specs.Parser.{course_read, input_read};
 ghost use Rattle.yaml_scan.specs.ParserCalls.{IsRefusedEarly};

@@ -9,7 +9,7 @@ ghost use Rattle.yaml_lexeme.specs.Lexeme.{lexeme_of};
 ghost use Rattle.yaml_lexeme.specs.Place.{IsMarkOf};
 ghost use Rattle.yaml_scan.specs.Kind.{is_candidate_kind};
 ghost use Rattle.yaml_scan.specs.Laid.{Laid};
-ghost use Rattle.yaml_scan.specs.Levels.{IsFalling};
+ghost use Rattle.yaml_scan.specs.Falling.{IsFalling};
 ghost use Rattle.yaml_scan.specs.declared.groups.block_t.TheVariants.{MAPPING, NONE};
 ghost use Rattle.yaml_scan.specs.inside.Handed.{lone};
 ghost use Rattle.yaml_scan.specs.inside.Opened.{is_new};

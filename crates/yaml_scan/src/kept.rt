@@ -2,7 +2,7 @@
 ghost use Rattle.std.specs.Prelude.{◌≡◌, Some, true};
 ghost use Rattle.yaml_text.specs.Text.{Text};
 ghost use Rattle.yaml_text.specs.Kept.{IsKeptOf, KeptText};
-ghost use Rattle.yaml_scan.specs.Session.{session_reach};
+ghost use Rattle.yaml_scan.specs.Sessions.{session_reach};
 ghost use Rattle.yaml_scan.specs.Parser.{Parser, course_read};
 ghost use Rattle.yaml_scan.specs.inside.Kept.{IsKept};
 

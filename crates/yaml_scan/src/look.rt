@@ -1,7 +1,7 @@
 //! What a step tests before and after it reads its lexeme.
 ghost use Rattle.std.specs.Prelude.{◌≡◌, ◌+◌, ◌<◌, ◌^◌, ◌&&◌, not, if◌then◌else◌, nat_lt, None, reverse, vec_len};
 ghost use Rattle.std.specs.Option.{is_some, option_copied};
-ghost use Rattle.yaml_scan.specs.Levels.{IsFalling};
+ghost use Rattle.yaml_scan.specs.Falling.{IsFalling};
 ghost use Rattle.yaml_scan.specs.Step.{problem_of};
 ghost use Rattle.yaml_scan.specs.inside.Scanning.{IsNewHeld, cleared_in, met_in, refused_in};
 ghost use Rattle.yaml_scan.specs.inside.Slots.{is_level, root_of, slot_after};

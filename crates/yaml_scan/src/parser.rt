@@ -6,7 +6,7 @@ ghost use Rattle.yaml_text.specs.Token.{token_of};
 ghost use Rattle.yaml_text.specs.declared.types.yaml_encoding_t.TheVariants.{YAML_UTF8_ENCODING};
 ghost use Rattle.yaml_scan.specs.KeyLimits.{key_limit, most_key_limit};
 ghost use Rattle.yaml_scan.specs.Settled.{before};
-ghost use Rattle.yaml_scan.specs.Session.{new_session, session_queued, session_reach};
+ghost use Rattle.yaml_scan.specs.Sessions.{new_session, session_queued, session_reach};
 ghost use Rattle.yaml_scan.specs.inside.Scanning.{IsRunning, history};
 ghost use Rattle.yaml_scan.specs.inside.Ready.{IsNew, IsReady, IsSettled, IsStopped, IsShort, IsEnded, Pops, Begins};
 ghost use Rattle.yaml_scan.specs.inside.Ready.{IsStarted, IsShown};

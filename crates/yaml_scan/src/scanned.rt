@@ -2,7 +2,8 @@
 ghost use Rattle.std.specs.Prelude.{◌≡◌, ◌++◌, ◌∷◌, [], List, IfOk, IfErr, false, Some};
 ghost use Rattle.yaml_text.specs.Fault.{fault_of};
 ghost use Rattle.yaml_text.specs.Token.{Token, token_of};
-ghost use Rattle.yaml_scan.specs.Token.{is_last_type, type_of};
+ghost use Rattle.yaml_scan.specs.Token.{type_of};
+ghost use Rattle.yaml_scan.specs.TokenTypes.{is_last_type};
 ghost use Rattle.yaml_scan.specs.All.{ReadsAll};
 ghost use Rattle.yaml_scan.specs.Scanned.{Scanned};
 

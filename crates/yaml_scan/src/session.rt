@@ -1,7 +1,8 @@
 //! A session: what the calls of a parser have done so far.
 ghost use Rattle.std.specs.Prelude.{◌≡◌, Some, true, false};
 ghost use Rattle.yaml_text.specs.Token.{data_of};
-ghost use Rattle.yaml_scan.specs.Token.{is_last_type, type_of};
+ghost use Rattle.yaml_scan.specs.Token.{type_of};
+ghost use Rattle.yaml_scan.specs.TokenTypes.{is_last_type};
 
 use yaml_text::{unnamed_yaml_token_t_data, yaml_fault_t, yaml_token_t};
 

@@ -13,7 +13,8 @@ use Rattle.yamltok.specs.declared.args.yaml_command_t.TheVariants.{Decode, Scan,
 use Rattle.yaml_scan.specs.declared.calls.yaml_call_t.{yaml_call_t}
 use Rattle.yaml_scan.specs.declared.calls.yaml_call_t.TheVariants.{SCAN, PEEK, SKIP}
 use Rattle.yaml_text.specs.Token.{Token}
-use Rattle.yaml_scan.specs.Session.{Call, new_session}
+use Rattle.yaml_scan.specs.Session.{Call}
+use Rattle.yaml_scan.specs.Sessions.{new_session}
 use Rattle.yaml_scan.specs.Inputs.{answers_to}
 use Rattle.yaml_scan.specs.Decoded.{decoded_input}
 use Rattle.yaml_scan.specs.Parser.{Parser}

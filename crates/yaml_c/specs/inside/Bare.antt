@@ -2,7 +2,7 @@
 use Rattle.std.specs.Prelude.{◌≡◌, ℕ, [], pos, false}
 use Rattle.yaml_text.specs.Token.{Token, TokenData, type_of}
 use Rattle.yaml_text.specs.Types.{token_type_number}
-use Rattle.yaml_scan.specs.Token.{is_last_type}
+use Rattle.yaml_scan.specs.TokenTypes.{is_last_type}
 use Rattle.yaml_c.specs.Record.{detail_of, first_text, held, major_of, mark_of, minor_of, second_text}
 use Rattle.yaml_c.specs.declared.record.bogzhami_token.{bogzhami_token}
 

@@ -5,7 +5,8 @@ use Rattle.yaml_text.specs.declared.types.yaml_encoding_t.{yaml_encoding_t}
 use Rattle.yaml_scan.specs.Fault.{Fault, memory_fault}
 use Rattle.yaml_scan.specs.Token.{yaml_token_t}
 use Rattle.yaml_scan.specs.All.{ReadsAll}
-use Rattle.yaml_scan.specs.Session.{Call, Answer, session}
+use Rattle.yaml_scan.specs.Session.{Call, Answer}
+use Rattle.yaml_scan.specs.Sessions.{session}
 use Rattle.yaml_scan.specs.Session.Call.{SCAN, PEEK, SKIP}
 use Rattle.yaml_scan.specs.Session.{Answer as says}
 use Rattle.yaml_scan.specs.Parser.{Parser, course_read}
@@ -16,7 +17,7 @@ use Rattle.yaml_scan.specs.Seen.Seen.{FAULT}
 use Rattle.yaml_scan.specs.CountedMarks.{TokensAreCounted, FaultIsCounted, AnswerIsCounted, AllAreCounted}
 use Rattle.yaml_scan.specs.CountedMarks.{text_of_input}
 use Rattle.yaml_scan.specs.CallMarks.{text_read, IsCountedIn, ReachesTo, SeenIsCounted, SeenAreCounted, AllIsCounted}
-use Rattle.yaml_scan.specs.Session.{session_reach}
+use Rattle.yaml_scan.specs.Sessions.{session_reach}
 use Rattle.yaml_scan.proofs.CountedMarks.ReadMarks.{start_counted}
 use Rattle.yaml_scan.proofs.CountedMarks.TokenMarks.{answers_are_counted, sessions_are_counted, reach_is_counted}
 use Rattle.yaml_scan.proofs.SessionCalls.CallByCall.{of_session}

@@ -15,14 +15,16 @@ use Rattle.yaml_scan.specs.Levels.{opens, is_above, is_completed}
 use Rattle.yaml_scan.specs.Order.{IsHistory}
 use Rattle.yaml_scan.specs.Steps.{ended}
 use Rattle.yaml_scan.specs.Fault.{Fault}
-use Rattle.yaml_scan.specs.Token.{type_of, empty, zero_mark, is_last_type}
+use Rattle.yaml_scan.specs.Token.{type_of, empty, zero_mark}
+use Rattle.yaml_scan.specs.TokenTypes.{is_last_type}
 use Rattle.yaml_scan.specs.Groups.{Token, handed_out, offline, groups, group, block_ends, inserted, end_mark}
 use Rattle.yaml_scan.specs.Settled.{before}
 use Rattle.yaml_scan.specs.Groups.Token.{StreamStart, BlockEnd, BlockSequenceStart, BlockMappingStart, InsertedKey, OfLexeme}
 use Rattle.yaml_scan.specs.Answers.{Input, Course, course, tokens_of, answers}
 use Rattle.yaml_scan.specs.Inputs.{answers_to}
 use Rattle.yaml_scan.specs.Decoded.{decoded_input}
-use Rattle.yaml_scan.specs.Session.{Session, Call, session, next_token, answer, after, scan_answer, peek_answer, why}
+use Rattle.yaml_scan.specs.Session.{Session, Call, next_token, answer, after, scan_answer, peek_answer, why}
+use Rattle.yaml_scan.specs.Sessions.{session}
 use Rattle.yaml_scan.specs.Settled.{first_steps}
 use Rattle.yaml_scan.specs.Session.Call.{SCAN, PEEK, SKIP}
 use Rattle.yaml_scan.specs.Session.Answer.{TOKEN, PEEKED, SKIPPED, NOTHING}

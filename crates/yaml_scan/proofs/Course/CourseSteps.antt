@@ -19,8 +19,10 @@ use Rattle.yaml_scan.specs.Cut.{cut, IsRun, EndsWith, KeepsOrder}
 use Rattle.yaml_scan.specs.Steps.{Cut, cut_from, cut_on, oldest}
 use Rattle.yaml_scan.specs.Answers.{Input, Course, next, course, course_from, tokens_of}
 use Rattle.yaml_scan.specs.Near.{unless_near, is_near, place_of, starts_near}
-use Rattle.yaml_scan.specs.Session.{Call, Session, new_session, next_token, is_last, after_scan, after_peek, after_skip}
-use Rattle.yaml_scan.specs.Session.{after, after_all}
+use Rattle.yaml_scan.specs.Session.{Call, Session, next_token, is_last, after_scan, after_peek, after_skip}
+use Rattle.yaml_scan.specs.Sessions.{new_session}
+use Rattle.yaml_scan.specs.Session.{after}
+use Rattle.yaml_scan.specs.Sessions.{after_all}
 use Rattle.yaml_scan.specs.Session.Call.{SCAN, PEEK, SKIP}
 use Rattle.yaml_scan.specs.Laws.{StepsBeginCut, CutIsOnly}
 use Rattle.yaml_scan.specs.SessionLaws.{CourseIsHistory, EndsOrFaults, NearStepIsRefused, FarStepIsItself, CourseIsRun}

@@ -1,5 +1,5 @@
 -- No step of a text comes before the end of the one before it.
-use Rattle.std.proofs.Common.{◌≡◌, ℕ, ◌≤◌, true, false, List, [], ◌∷◌, ◌++◌, Option, Some, None, refl, ap, arith, inl, inr}
+use Rattle.std.proofs.Common.{◌≡◌, ℕ, ◌≤◌, false, List, [], ◌∷◌, ◌++◌, Option, Some, None, refl, ap, arith, inl, inr}
 use Rattle.std.specs.Prelude.{nat_lt, Result, Ok, Err}
 use Rattle.std.proofs.lemmas.Bool.{cases_Bool}
 use Rattle.yaml_text.specs.declared.types.yaml_mark_t.{yaml_mark_t}
@@ -12,7 +12,7 @@ use Rattle.yaml_scan.specs.Steps.{ended}
 use Rattle.yaml_scan.specs.Source.{Source, Reading, Offence}
 use Rattle.yaml_scan.specs.Step.{Outcome, place_after, step, kind_step, read_step, after_read, unless, refuse, stale}
 use Rattle.yaml_scan.specs.Step.{refused, clears, start_at, lexeme_of, front_of}
-use Rattle.yaml_scan.specs.Step.Outcome.{Reads, Faults}
+use Rattle.yaml_scan.specs.Step.Outcome.{Reads}
 use Rattle.yaml_scan.specs.Cut.{IsRun, KeepsOrder, IsReadInOrder}
 use Rattle.yaml_scan.specs.Near.{place_of}
 use Rattle.yaml_scan.proofs.Course.LongestCut.{IsReadTo, read_to}

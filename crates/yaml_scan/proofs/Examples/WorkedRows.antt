@@ -16,10 +16,12 @@ use Rattle.yaml_scan.specs.Allowed.{allowed}
 use Rattle.yaml_scan.specs.Keys.{candidate, completed_by}
 use Rattle.yaml_scan.specs.Levels.{is_completed, opens, still_open, open_columns, kept_columns, level, laid}
 use Rattle.yaml_scan.specs.Groups.{block_ends, inserted, group, groups, offline}
-use Rattle.yaml_scan.specs.Settled.{is_current, waiting, up_to, before, queued}
+use Rattle.yaml_scan.specs.Settled.{is_current, waiting, up_to, before}
+use Rattle.yaml_scan.specs.Sessions.{queued}
 use Rattle.yaml_scan.specs.Step.{required, stale, refused, clears, read_step, step, end_of}
 use Rattle.yaml_scan.specs.Answers.{Answers, next, course, answers}
-use Rattle.yaml_scan.specs.Session.{Call, Answer, new_session, session, after_all, session_queued, session_reach}
+use Rattle.yaml_scan.specs.Session.{Call, Answer}
+use Rattle.yaml_scan.specs.Sessions.{new_session, session, after_all, session_queued, session_reach}
 use Rattle.yaml_scan.specs.Settled.{steps_for, pace}
 use Rattle.yaml_scan.specs.Session.Call.{SCAN, PEEK, SKIP}
 use Rattle.yaml_scan.specs.Session.Answer.{TOKEN, PEEKED, SKIPPED, NOTHING, FAULT}

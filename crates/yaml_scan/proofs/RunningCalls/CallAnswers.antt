@@ -6,7 +6,8 @@ use Rattle.yaml_text.specs.declared.types.yaml_encoding_t.{yaml_encoding_t}
 use Rattle.yaml_text.specs.declared.fault.yaml_fault_t.{yaml_fault_t}
 use Rattle.yaml_text.specs.Fault.{Fault, fault_of}
 use Rattle.yaml_scan.specs.declared.scanner.scanner_t.{scanner_t}
-use Rattle.yaml_scan.specs.Token.{yaml_token_t, empty, is_last_type, type_of}
+use Rattle.yaml_scan.specs.Token.{yaml_token_t, empty, type_of}
+use Rattle.yaml_scan.specs.TokenTypes.{is_last_type}
 use Rattle.yaml_scan.specs.Laid.{Laid, reach}
 use Rattle.yaml_scan.specs.Steps.{ended}
 use Rattle.yaml_scan.specs.Groups.{Token, offline, groups, group, block_ends, inserted, handed_out}

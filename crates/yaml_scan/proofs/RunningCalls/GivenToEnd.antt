@@ -19,10 +19,12 @@ use Rattle.yaml_scan.specs.Inputs.{answers_to}
 use Rattle.yaml_scan.specs.Decoded.{decoded_input}
 use Rattle.yaml_scan.specs.Laid.{Laid}
 use Rattle.yaml_scan.specs.Steps.{ended}
-use Rattle.yaml_scan.specs.Session.{is_last, settled_tokens}
+use Rattle.yaml_scan.specs.Session.{is_last}
+use Rattle.yaml_scan.specs.Sessions.{settled_tokens}
 use Rattle.yaml_scan.specs.Settled.{before}
 use Rattle.yaml_scan.specs.Sink.{IsGivenAll, IsGivenFront}
-use Rattle.yaml_scan.specs.Token.{yaml_token_t, is_last_type, type_of}
+use Rattle.yaml_scan.specs.Token.{yaml_token_t, type_of}
+use Rattle.yaml_scan.specs.TokenTypes.{is_last_type}
 use Rattle.yaml_scan.specs.Words.{HasWords, HaveWords}
 use Rattle.yaml_scan.specs.inside.Given.{GaveRest, GivesAll, HasGiven, IsCutOff, StopsGiving, all_in, told_all, told_taken}
 use Rattle.yaml_scan.specs.inside.Handed.{IsCut, is_end}

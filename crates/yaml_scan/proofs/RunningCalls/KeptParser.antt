@@ -9,7 +9,7 @@ use Rattle.yaml_scan.specs.declared.parser.yaml_parser_t.TheInside.{Inside}
 use Rattle.yaml_scan.specs.Token.{empty}
 use Rattle.yaml_scan.specs.Laid.{reach}
 use Rattle.yaml_scan.specs.Settled.{first_steps}
-use Rattle.yaml_scan.specs.Session.{session_queued}
+use Rattle.yaml_scan.specs.Sessions.{session_queued}
 use Rattle.yaml_scan.specs.inside.Queue.{IsLead}
 use Rattle.yaml_text.specs.declared.types.yaml_encoding_t.{yaml_encoding_t}
 use Rattle.yaml_scan.specs.inside.Ready.{IsIn, IsReady, IsShown, Sound, parser_of, course_in}

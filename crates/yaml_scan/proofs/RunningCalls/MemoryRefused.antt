@@ -14,7 +14,8 @@ use Rattle.yaml_scan.specs.Answers.{Input, Course, course, tokens_of}
 use Rattle.yaml_scan.specs.AnswerLaws.{AreFollowed}
 use Rattle.yaml_scan.specs.TokenLaws.{KeysHaveValues}
 use Rattle.yaml_scan.specs.Settled.{settled, pace, first_steps}
-use Rattle.yaml_scan.specs.Session.{all_steps, settled_tokens}
+use Rattle.yaml_scan.specs.Session.{all_steps}
+use Rattle.yaml_scan.specs.Sessions.{settled_tokens}
 use Rattle.yaml_scan.proofs.Course.AnswerOrder.{TokensFit, fit_front, fit_course, followed}
 use Rattle.yaml_scan.proofs.Course.CourseSteps.{course_is_history}
 use Rattle.yaml_scan.proofs.TokenList.SettledStays.{before-before}

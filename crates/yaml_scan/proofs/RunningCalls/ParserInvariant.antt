@@ -6,7 +6,8 @@ use Rattle.yaml_scan.specs.declared.scanner.scanner_t.{scanner_t}
 use Rattle.yaml_scan.specs.Token.{yaml_token_t}
 use Rattle.yaml_scan.specs.Laid.{Laid, reach}
 use Rattle.yaml_scan.specs.Order.{IsHistory}
-use Rattle.yaml_scan.specs.Settled.{before, queued}
+use Rattle.yaml_scan.specs.Settled.{before}
+use Rattle.yaml_scan.specs.Sessions.{queued}
 use Rattle.yaml_scan.specs.Answers.{Course}
 use Rattle.yaml_scan.specs.Settled.{pace, first_steps}
 use Rattle.yaml_scan.specs.Decoded.{decoded_input}

@@ -14,7 +14,8 @@ use Rattle.yaml_scan.specs.Decoded.{decoded_input}
 use Rattle.yaml_scan.specs.Order.{IsHistory}
 use Rattle.yaml_scan.specs.Parser.{Parser}
 use Rattle.yaml_scan.specs.Scanned.{Scanned}
-use Rattle.yaml_scan.specs.Session.{Call, Session, after, after_all, after_scan, all_steps, is_last, new_session, next_token, paced, took}
+use Rattle.yaml_scan.specs.Session.{Call, Session, after, after_scan, all_steps, is_last, next_token, paced, took}
+use Rattle.yaml_scan.specs.Sessions.{after_all, new_session}
 use Rattle.yaml_scan.specs.Session.Call.{SCAN}
 use Rattle.yaml_scan.specs.Settled.{before, pace, steps_for}
 use Rattle.yaml_scan.specs.Token.{yaml_token_t}

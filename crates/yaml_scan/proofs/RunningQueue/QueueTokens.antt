@@ -6,7 +6,7 @@ use Rattle.std.proofs.lemmas.List.{drop-append-le, take_at, drop_at}
 use Rattle.yaml_scan.specs.Groups.{Token, group, block_ends, offline}
 use Rattle.yaml_scan.specs.Settled.{waiting, before, up_to, is_current}
 use Rattle.yaml_scan.specs.Groups.Token.{OfLexeme}
-use Rattle.yaml_scan.specs.Groups.{put_in}
+use Rattle.yaml_scan.specs.Laws.{put_in}
 use Rattle.yaml_scan.specs.Laws.{key_tokens}
 use Rattle.yaml_scan.specs.Laid.{Laid, reach, names}
 use Rattle.yaml_scan.specs.Keys.{candidate, live}

@@ -4,7 +4,7 @@ use Rattle.std.specs.Prelude.{if◌then◌else◌}
 use Rattle.std.proofs.lemmas.Bool.{cases_lt}
 use Rattle.std.proofs.lemmas.List.{drop-append-le, drop_all}
 use Rattle.std.proofs.lemmas.List.Elements.{filter-append}
-use Rattle.yaml_scan.specs.Settled.{queued}
+use Rattle.yaml_scan.specs.Sessions.{queued}
 use Rattle.yaml_scan.specs.Groups.{Token, group, groups, block_ends, inserted}
 use Rattle.yaml_scan.specs.Groups.Token.{OfLexeme}
 use Rattle.yaml_scan.specs.Laws.{is_of_lexeme}

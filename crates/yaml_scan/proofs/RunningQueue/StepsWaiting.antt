@@ -10,7 +10,8 @@ use Rattle.yaml_scan.specs.Laws.{is_of_lexeme}
 use Rattle.yaml_scan.specs.Begins.{Begins}
 use Rattle.yaml_scan.specs.Order.{IsHistory}
 use Rattle.yaml_scan.specs.Groups.{Token, offline, groups}
-use Rattle.yaml_scan.specs.Settled.{before, queued}
+use Rattle.yaml_scan.specs.Settled.{before}
+use Rattle.yaml_scan.specs.Sessions.{queued}
 use Rattle.yaml_scan.specs.Groups.Token.{OfLexeme}
 use Rattle.yaml_scan.specs.Steps.{oldest}
 use Rattle.yaml_scan.specs.Settled.{steps_for, pace, first_steps}

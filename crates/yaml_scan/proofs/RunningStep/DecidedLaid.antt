@@ -23,7 +23,8 @@ use Rattle.yaml_scan.specs.Allowed.{allowed_after, allows}
 use Rattle.yaml_scan.specs.Depth.{depth}
 use Rattle.yaml_scan.specs.Kind.{Kind, is_candidate_kind, is_plain, is_stream_end, is_value}
 use Rattle.yaml_scan.specs.Laid.{Laid}
-use Rattle.yaml_scan.specs.Levels.{IsFalling, greatest_level, laid, stays}
+use Rattle.yaml_scan.specs.Levels.{greatest_level, laid, stays}
+use Rattle.yaml_scan.specs.Falling.{IsFalling}
 use Rattle.yaml_scan.specs.Order.{IsNotBefore}
 use Rattle.yaml_scan.specs.Steps.{ended}
 use Rattle.yaml_scan.specs.Settled.{before}

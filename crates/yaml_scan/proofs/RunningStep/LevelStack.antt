@@ -7,7 +7,8 @@ use Rattle.std.proofs.Common.{◌∙◌, subst, List, [], ◌∷◌, ◌++◌, r
 use Rattle.std.proofs.Common.{le-ltb, ltb-false, None, inl, inr, take}
 use Rattle.std.specs.Option.{is_some}
 use Rattle.std.proofs.lemmas.List.{reverse-append, reverse-reverse}
-use Rattle.yaml_scan.specs.Levels.{IsFalling, AllLess, stays, greatest_level}
+use Rattle.yaml_scan.specs.Levels.{stays, greatest_level}
+use Rattle.yaml_scan.specs.Falling.{IsFalling, AllLess}
 use Rattle.yaml_scan.proofs.History.LevelsFall.{level_first}
 use Rattle.yaml_scan.specs.inside.Queue.{closing, ends_at}
 use Rattle.yaml_scan.specs.Groups.{Token, end_at}

@@ -22,7 +22,8 @@ use Rattle.yaml_scan.specs.Kind.{Kind, is_stream_end}
 use Rattle.yaml_scan.specs.Laid.{Laid}
 use Rattle.yaml_scan.specs.Levels.{laid}
 use Rattle.yaml_scan.specs.Steps.{ended}
-use Rattle.yaml_scan.specs.Token.{unnamed_yaml_token_t_data, yaml_token_t, is_last_type, type_of}
+use Rattle.yaml_scan.specs.Token.{unnamed_yaml_token_t_data, yaml_token_t, type_of}
+use Rattle.yaml_scan.specs.TokenTypes.{is_last_type}
 use Rattle.yaml_scan.specs.Words.{HasWords}
 use Rattle.yaml_scan.specs.SourceOf.{source_of}
 use Rattle.yaml_scan.specs.Step.{front_of}

@@ -20,7 +20,8 @@ use Rattle.yaml_scan.specs.Laid.{Laid, reach, is_none}
 use Rattle.yaml_scan.specs.Keys.{candidate, live, completed_by}
 use Rattle.yaml_scan.specs.Depth.{depth}
 use Rattle.yaml_scan.specs.Allowed.{allowed, allowed_after, allows}
-use Rattle.yaml_scan.specs.Levels.{AllLess, IsFalling, laid, is_required, stays, open_columns, kept_columns, level}
+use Rattle.yaml_scan.specs.Levels.{laid, is_required, stays, open_columns, kept_columns, level}
+use Rattle.yaml_scan.specs.Falling.{AllLess, IsFalling}
 use Rattle.yaml_scan.specs.Levels.{greatest_level, greater_of}
 use Rattle.yaml_scan.specs.Order.{IsHistory, IsNotBefore, Follows}
 use Rattle.yaml_scan.specs.Steps.{ended}

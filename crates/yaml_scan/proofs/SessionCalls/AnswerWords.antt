@@ -50,7 +50,8 @@ use Rattle.yaml_scan.specs.Answers.{Input, Course, course, course_from, tokens_o
 use Rattle.yaml_scan.specs.Near.{starts_near, is_near, place_of, unless_near}
 use Rattle.yaml_scan.specs.Inputs.{answers_to}
 use Rattle.yaml_scan.specs.Decoded.{decoded_input}
-use Rattle.yaml_scan.specs.Session.{Session, Call, session, answer, scan_answer, peek_answer, after, next_token, why}
+use Rattle.yaml_scan.specs.Session.{Session, Call, answer, scan_answer, peek_answer, after, next_token, why}
+use Rattle.yaml_scan.specs.Sessions.{session}
 use Rattle.yaml_scan.specs.Session.Call.{SCAN, PEEK, SKIP}
 use Rattle.yaml_scan.specs.Session.Answer.{TOKEN, PEEKED, SKIPPED, NOTHING}
 use Rattle.yaml_scan.specs.Words.{HasWords, HasLine, HaveWords, AllHaveLines, AnswerHasLine, AnswersHaveLines}

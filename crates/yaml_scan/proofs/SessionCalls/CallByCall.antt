@@ -1,8 +1,9 @@
 -- Calls, one after the other, are answered by the session, up to a refused growth.
-use Rattle.std.proofs.Common.{◌⊎◌, ◌≡◌, ◌≢◌, ℕ, zero, suc, ◌+◌, ◌<◌, true, false, List, [], ◌∷◌, ◌++◌, map, take, drop, length, slice_get, Some, refl, ap, sym, ◌∙◌, subst, arith, inl, inr}
+use Rattle.std.proofs.Common.{◌≡◌, ◌≢◌, ℕ, zero, suc, ◌+◌, ◌<◌, true, false, List, [], ◌∷◌, ◌++◌, map, take, drop, length, slice_get, Some, refl, ap, sym, ◌∙◌, subst, arith, inl, inr}
 use Rattle.std.proofs.lemmas.Bool.{false≢true}
 use Rattle.yaml_scan.specs.Fault.{memory_fault}
-use Rattle.yaml_scan.specs.Session.{Call, session, after_all, Answer as says}
+use Rattle.yaml_scan.specs.Session.{Call, Answer as says}
+use Rattle.yaml_scan.specs.Sessions.{session, after_all}
 use Rattle.yaml_scan.specs.Session.Call.{SCAN, PEEK, SKIP}
 use Rattle.yaml_scan.specs.Parser.{Parser, answered, after_call, course_read}
 use Rattle.yaml_scan.specs.Headline.{WantsMemory, Calls, Runs}

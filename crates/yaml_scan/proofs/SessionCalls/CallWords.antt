@@ -1,7 +1,8 @@
 -- So can the answers to a list of calls.
 use Rattle.std.proofs.Common.{◌≡◌, ◌+◌, List, [], ◌∷◌, ◌++◌, map, take, drop, sym, subst, inl, inr}
 use Rattle.yaml_scan.specs.Fault.{Fault, memory_fault}
-use Rattle.yaml_scan.specs.Session.{Call, Answer, session}
+use Rattle.yaml_scan.specs.Session.{Call, Answer}
+use Rattle.yaml_scan.specs.Sessions.{session}
 use Rattle.yaml_scan.specs.Session.Call.{SCAN, PEEK, SKIP}
 use Rattle.yaml_scan.specs.Session.{Answer as says}
 use Rattle.yaml_scan.specs.Parser.{Parser, course_read}

@@ -8,7 +8,8 @@ use Rattle.yaml_scan.specs.Fault.{Fault, memory_fault}
 use Rattle.yaml_scan.specs.Groups.{Token}
 use Rattle.yaml_scan.specs.Answers.{Course, course}
 use Rattle.yaml_scan.specs.Decoded.{decoded_input}
-use Rattle.yaml_scan.specs.Session.{Session, Call, session, after_all, answer, after, next_token, finished, why}
+use Rattle.yaml_scan.specs.Session.{Session, Call, answer, after, next_token, finished, why}
+use Rattle.yaml_scan.specs.Sessions.{session, after_all}
 use Rattle.yaml_scan.specs.Session.{scan_answer, peek_answer, after_scan, after_peek, after_skip}
 use Rattle.yaml_scan.specs.Session.Call.{SCAN, PEEK, SKIP}
 use Rattle.yaml_scan.specs.Session.Answer.{TOKEN, PEEKED, SKIPPED, NOTHING}

@@ -12,7 +12,8 @@ use Rattle.yaml_scan.specs.Cut.{KeepsOrder}
 use Rattle.yaml_scan.specs.Answers.{Input, Course, Answers, course, tokens_of, answers}
 use Rattle.yaml_scan.specs.Inputs.{answers_to}
 use Rattle.yaml_scan.specs.Decoded.{decoded_input}
-use Rattle.yaml_scan.specs.Session.{Session, Call, Answer, new_session, session, after, next_token, is_last}
+use Rattle.yaml_scan.specs.Session.{Session, Call, Answer, after, next_token, is_last}
+use Rattle.yaml_scan.specs.Sessions.{new_session, session}
 use Rattle.yaml_scan.specs.Session.{took, paced, finished, why, scan_answer, after_scan}
 use Rattle.yaml_scan.specs.Session.Call.{SCAN}
 use Rattle.yaml_scan.specs.Session.Answer.{TOKEN, PEEKED, SKIPPED, NOTHING, FAULT}

@@ -36,7 +36,8 @@ use Rattle.yaml_lexeme.proofs.Locality.NameLocality.{name_like}
 use Rattle.yaml_lexeme.proofs.Locality.TagLocality.{tag_like}
 use Rattle.yaml_lexeme.proofs.Locality.PlainLocality.{plain_like}
 use Rattle.yaml_scan.specs.Kind.{Kind}
-use Rattle.yaml_scan.specs.Token.{type_of, is_last_type}
+use Rattle.yaml_scan.specs.Token.{type_of}
+use Rattle.yaml_scan.specs.TokenTypes.{is_last_type}
 use Rattle.yaml_scan.specs.TokenTypes.{is_end_type, is_start_type, is_key_type, is_value_type}
 use Rattle.yaml_scan.specs.Cut.{SaysKind}
 use Rattle.yaml_scan.specs.Source.{Reading, Offence as told_offence}

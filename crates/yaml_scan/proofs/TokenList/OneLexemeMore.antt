@@ -7,8 +7,10 @@ use Rattle.std.proofs.lemmas.List.{take_at, drop_at}
 use Rattle.yaml_scan.specs.Laid.{Laid}
 use Rattle.yaml_scan.specs.Depth.{depth}
 use Rattle.yaml_scan.specs.Keys.{candidate, is_candidate, enters, completed_by}
-use Rattle.yaml_scan.specs.Levels.{open_columns, kept_columns, level, greatest_level, keeps, IsFalling}
-use Rattle.yaml_scan.specs.Groups.{Token, group, groups, offline, block_ends, put_in}
+use Rattle.yaml_scan.specs.Levels.{open_columns, kept_columns, level, greatest_level, keeps}
+use Rattle.yaml_scan.specs.Falling.{IsFalling}
+use Rattle.yaml_scan.specs.Groups.{Token, group, groups, offline, block_ends}
+use Rattle.yaml_scan.specs.Laws.{put_in}
 use Rattle.yaml_scan.specs.Settled.{up_to}
 use Rattle.yaml_scan.specs.Groups.Token.{OfLexeme}
 use Rattle.yaml_scan.specs.Order.{IsHistory}

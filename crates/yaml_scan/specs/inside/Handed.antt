@@ -17,7 +17,8 @@ use Rattle.yaml_scan.specs.Begins.{Begins}
 use Rattle.yaml_scan.specs.Groups.{Token, handed_out}
 use Rattle.yaml_scan.specs.Kind.{Kind}
 use Rattle.yaml_scan.specs.Laid.{Laid}
-use Rattle.yaml_scan.specs.Token.{yaml_token_t, is_last_type, type_of}
+use Rattle.yaml_scan.specs.Token.{yaml_token_t, type_of}
+use Rattle.yaml_scan.specs.TokenTypes.{is_last_type}
 use Rattle.yaml_scan.specs.inside.Queue.{leads}
 use Rattle.yaml_scan.specs.inside.Scanning.{AdvancesWith, IsLaidBy, Makes, Refuses, groups_in}
 

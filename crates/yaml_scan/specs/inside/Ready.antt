@@ -14,7 +14,8 @@ use Rattle.yaml_scan.specs.Token.{yaml_token_t, empty}
 use Rattle.yaml_scan.specs.Groups.{Token, handed_out}
 use Rattle.yaml_scan.specs.Settled.{before, settled, pace, first_steps}
 use Rattle.yaml_scan.specs.Answers.{Course, course, tokens_of}
-use Rattle.yaml_scan.specs.Session.{all_steps, session_queued}
+use Rattle.yaml_scan.specs.Session.{all_steps}
+use Rattle.yaml_scan.specs.Sessions.{session_queued}
 use Rattle.yaml_scan.specs.Decoded.{decoded_input}
 use Rattle.yaml_scan.specs.inside.Scanning.{IsRunning, IsOpen, history, course_of, input_of}
 use Rattle.yaml_scan.specs.Parser.{Parser}

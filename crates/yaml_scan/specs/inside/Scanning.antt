@@ -31,7 +31,8 @@ use Rattle.yaml_scan.specs.inside.TextReads.{IsDecider, IsOffence, IsProblem, Is
 use Rattle.yaml_scan.specs.Laid.{Laid, reach}
 use Rattle.yaml_scan.specs.Depth.{depth}
 use Rattle.yaml_scan.specs.Allowed.{allowed, allowed_after}
-use Rattle.yaml_scan.specs.Levels.{AllLess, laid, open_columns, greatest_level, stays}
+use Rattle.yaml_scan.specs.Levels.{laid, open_columns, greatest_level, stays}
+use Rattle.yaml_scan.specs.Falling.{AllLess}
 use Rattle.yaml_scan.specs.Order.{IsHistory}
 use Rattle.yaml_scan.specs.Steps.{ended}
 use Rattle.yaml_scan.specs.Groups.{offline}

@@ -4,7 +4,8 @@ use Rattle.std.proofs.lemmas.Bool.{false≢true}
 use Rattle.yaml_text.specs.Fault.{Fault, fault_of}
 use Rattle.yaml_text.specs.Token.{token_of}
 use Rattle.yaml_scan.specs.Scanned.{GoesOnBy}
-use Rattle.yaml_scan.specs.Token.{is_last_type, type_of}
+use Rattle.yaml_scan.specs.Token.{type_of}
+use Rattle.yaml_scan.specs.TokenTypes.{is_last_type}
 use Rattle.yaml_scan.specs.Session.Answer.{TOKEN}
 use Rattle.yaml_scan.specs.Parser.{Parser}
 use Rattle.yaml_scan.specs.ParserCalls.{told}

@@ -1,6 +1,7 @@
 use Rattle.std.proofs.Common.{◌≡◌, ◌+◌, ◌≤◌, reverse, filter, length, not, vec_len}
 use Rattle.std.specs.Vec.{vec_capacity}
-use Rattle.yaml_scan.specs.Levels.{IsFalling, stays}
+use Rattle.yaml_scan.specs.Levels.{stays}
+use Rattle.yaml_scan.specs.Falling.{IsFalling}
 use Rattle.yaml_scan.proofs.RunningStep.LevelStack.{is_early}
 use Rattle.yaml_scan.proofs.levels.close_levels.Given as goal
 

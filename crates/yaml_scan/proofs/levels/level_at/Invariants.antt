@@ -1,5 +1,6 @@
 use Rattle.std.proofs.Common.{◌≡◌, reverse, filter, length}
-use Rattle.yaml_scan.specs.Levels.{IsFalling, stays}
+use Rattle.yaml_scan.specs.Levels.{stays}
+use Rattle.yaml_scan.specs.Falling.{IsFalling}
 use Rattle.yaml_scan.proofs.levels.level_at.Given as goal
 
 abbrev pub invariant-closed : goal.invariant-closed

@@ -3,7 +3,8 @@ use Rattle.std.specs.Prelude.{option_map}
 use Rattle.std.proofs.lemmas.Bool.{false≢true}
 use Rattle.yaml_text.specs.Fault.{fault_of}
 use Rattle.yaml_text.specs.Token.{token_of}
-use Rattle.yaml_scan.specs.Token.{is_last_type, type_of}
+use Rattle.yaml_scan.specs.Token.{type_of}
+use Rattle.yaml_scan.specs.TokenTypes.{is_last_type}
 use Rattle.yaml_scan.specs.Parser.{Parser}
 use Rattle.yaml_scan.specs.inside.Ready.{parser_of}
 use Rattle.yaml_scan.proofs.RunningCalls.CallAnswers.{shown_settled, stands_u, open_u, last_is, take_told_of, take_left_of, shown_session}

@@ -2,7 +2,7 @@ use Rattle.std.proofs.Common.{ap, sym, ◌∙◌, subst}
 use Rattle.yaml_text.specs.declared.types.yaml_mark_t.{yaml_mark_t}
 use Rattle.yaml_scan.specs.CallMarks.{ReachesTo}
 use Rattle.yaml_scan.specs.Parser.{Parser, course_read}
-use Rattle.yaml_scan.specs.Session.{session_reach}
+use Rattle.yaml_scan.specs.Sessions.{session_reach}
 use Rattle.yaml_scan.proofs.CountedMarks.CallMarks.{reach_reaches}
 use Rattle.yaml_scan.proofs.parser.yaml_parser_mark.Goals as goal
 

@@ -1,6 +1,6 @@
 use Rattle.std.proofs.Common.{◌≡◌, ℕ, ◌+◌, ◌-◌, ap, ◌∙◌, arith}
 use Rattle.yaml_scan.specs.Parser.{Parser, course_read}
-use Rattle.yaml_scan.specs.Session.{session_queued}
+use Rattle.yaml_scan.specs.Sessions.{session_queued}
 use Rattle.yaml_scan.proofs.parser.yaml_parser_queued.Goals as goal
 
 left_over : (a b n : ℕ) → a + b ≡ n → n - b ≡ a

@@ -1,6 +1,6 @@
 use Rattle.std.proofs.Common.{ap, ◌∙◌}
 use Rattle.yaml_scan.specs.declared.kept.yaml_kept_parser_t.{yaml_kept_parser_t}
-use Rattle.yaml_scan.specs.Session.{session_reach}
+use Rattle.yaml_scan.specs.Sessions.{session_reach}
 use Rattle.yaml_scan.specs.Parser.{Parser, course_read}
 use Rattle.yaml_scan.proofs.kept.yaml_kept_parser_t.mark.Goals as goal
 
