@@ -11,7 +11,8 @@ One line of output for each check; what is wrong is printed before it. The check
   in the file that it names: a definition in parentheses, and a test. walks.py follows the line further.
 - topics: the topic of a rule is the name of its first definition file. The line names a code file of that name, a folder or
   a file of proofs that begins with it (or says that there is none by hand), and a test whose name has it.
-- proofs: PROOFS.md names every law, every public function and every file of lemmas of each crate, and no others.
+- proofs: PROOFS.md, and the lists of laws in PROMISES.md, are those that `./dev folders` writes, of every law, every public
+  function and every file of lemmas; every law has a comment.
 - lemmas: every file of lemmas begins with a line that says what it shows. So does the file that lists a folder of them, and
   it has a line `mod NAME` for each file there, with a sentence on the line before it or after it on the same line. A crate
   with more than ten such files has them in folders.
@@ -39,6 +40,7 @@ sys.path.insert(0, os.path.join(os.path.dirname(os.path.abspath(__file__)), "lib
 sys.dont_write_bytecode = True
 from citing import statements
 from folders import MOST_FILES, long_folders, sentence, sources, stale
+from laws import CRATES, functions as public_functions, laws, lemma_files, marks, stale_lists
 from picture import drawn, is_stale, unreached
 from rules import files_in, front_and_sections, rules, tests_in
 
@@ -183,53 +185,14 @@ def check_topics():
 
 # PROOFS
 
-def functions_of(crate):
-    """The public functions of a crate: of a library those of the files that it exports, of a program all."""
-    library = f"crates/{crate}/src/lib.rt"
-    sources = found(f"crates/{crate}/src/*.rt")
-    if found(library):
-        exported = set(re.findall(r"^pub use (\w+)::", read(library), re.M)) | {"lib"}
-        sources = [path for path in sources if os.path.basename(path).split(".")[0] in exported]
-    pattern = re.compile(r'^ *pub (?:extern "C" )?fn (\w+)', re.M)
-    return {name for path in sources for name in pattern.findall(read(path))}
-
-
-def lemma_files(crate):
-    """The files of lemmas of a crate: those of `proofs/` and of its folders that a capital begins, without the lists."""
-    proofs = f"crates/{crate}/proofs"
-    paths = found(f"{proofs}/*.antt") + found(f"{proofs}/[A-Z]*/**/*.antt")
-    return [path for path in paths if os.path.basename(path) != "Lib.antt" and not found(path[:-len(".antt")])]
-
-
-def compare(what, said, wanted):
-    return ([f"PROOFS.md: {what} {name} is missing" for name in sorted(wanted - said)]
-            + [f"PROOFS.md: {what} {name} is gone" for name in sorted(said - wanted)])
-
-
 def check_proofs():
-    wrong, count, sections = [], 0, {}
-    for section in re.split(r"^#{2,3} ", read("docs/PROOFS.md"), flags=re.M)[1:]:
-        heading, _, rest = section.partition("\n")
-        sections[heading] = rest
-    for crate in (path.split("/")[1] for path in found("crates/*/src")):
-        laws = f"crates/{crate}/src/laws.rt"
-        lemmas = {os.path.basename(path)[:-len(".antt")] for path in lemma_files(crate)}
-        wanted = {
-            f"Laws of {crate}": set(re.findall(r"^pub fn (\w+)", read(laws), re.M)) if found(laws) else set(),
-            f"Lemma files of {crate}": lemmas,
-        }
-        functions = f"Public functions of {crate}"
-        if functions in sections or found(f"crates/{crate}/src/lib.rt"):
-            wanted[functions] = functions_of(crate)
-        for heading, names in wanted.items():
-            text = sections.get(heading, "")
-            said = set(re.findall(r"^(?:\| |- )`(\w+)`", text, re.M))
-            wrong += compare(f"{heading}:", said, names)
-            rows = re.findall(r"^\| `\w+` \|.*\| (.*) \|$", text, re.M)
-            rests = {name for row in rows for name in re.findall(r"`([A-Z]\w*[a-z]\w*)`", row)}
-            wrong += [f"PROOFS.md: {heading}: there is no lemma file {name}" for name in sorted(rests - lemmas)]
-            count += len(names)
-    return count, wrong
+    wrong = [f"{path}: it is not what ./dev folders writes" for path in stale_lists()]
+    told = [(crate, name, said) for crate in CRATES for name, said, _ in laws(crate)]
+    wrong += [f"crates/{crate}/src/laws.rt: {name} has no comment" for crate, name, said in told if not said]
+    unplaced = {crate for crate, *_ in told if marks(crate)[0] not in read("docs/PROMISES.md")}
+    wrong += [f"PROMISES.md: the laws of {crate} have no place" for crate in sorted(unplaced)]
+    functions = [name for crate in CRATES for name, *_ in public_functions(crate)]
+    return len(told) + len(functions) + sum(len(lemma_files(crate)) for crate in CRATES), wrong
 
 
 # EDITS

@@ -5,30 +5,25 @@ ghost use Rattle.yaml_c.specs.Laws.{HoldsAll, HoldsBeginning, KeepsSize};
 
 use crate::record::bogzhami_token;
 
-/// What holds of the room for texts.
-///
-/// If it has room for all of them, it holds all, and what follows them is unchanged. Otherwise it holds a beginning of
-/// them. It keeps its size.
+/// A room for texts that is large enough holds all of them, and what follows them is unchanged; a smaller one holds a
+/// beginning. It keeps its size.
 pub fn texts_in_room()
     ensures all { HoldsAll ℕ }
     ensures beginning { HoldsBeginning ℕ }
     ensures size { KeepsSize ℕ }
 {}
 
-/// What holds of the room for records.
-///
-/// If it has room for all of them, it holds all, and what follows them is unchanged. Otherwise it holds a beginning of
-/// them. It keeps its size.
+/// A room for records that is large enough holds all of them, and what follows them is unchanged; a smaller one holds a
+/// beginning. It keeps its size.
 pub fn records_in_room()
     ensures all { HoldsAll bogzhami_token }
     ensures beginning { HoldsBeginning bogzhami_token }
     ensures size { KeepsSize bogzhami_token }
 {}
 
-/// What batches are, joined.
-///
-/// The tokens of all batches of a scanner are a beginning of those of its input. When it is over, they are what reading
-/// the input to its end returns, in one call as in many; that is one list and one fault, if memory is not refused.
+/// The tokens of all batches of a scanner, joined, are a beginning of those of its input. When it is over, they are
+/// what reading the input to its end returns, in one call as in many; that is one list and one fault, if memory is not
+/// refused.
 pub fn batches_joined()
     ensures beginning { GivesBeginning }
     ensures all { GivesAll }

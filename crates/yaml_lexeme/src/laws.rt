@@ -34,12 +34,14 @@ pub fn gap_is_longest()
     ensures runs { RunIsLongest }
 {}
 
-/// A lexeme starts at its place, takes a character or more, and ends and reaches at places of the text.
+/// A lexeme other than a stream end starts at its place, takes a character or more, and ends and reaches at places of
+/// the text.
 pub fn lexeme_spans()
     ensures { LexemeSpans }
 {}
 
-/// The marks of a lexeme are in order, and it takes a byte, and a column if it stays on its line.
+/// The marks of a lexeme other than a stream end are in order, and it takes a byte, and a column if it stays on its
+/// line.
 pub fn lexeme_order()
     ensures { LexemeOrder }
 {}
@@ -106,8 +108,9 @@ pub fn stream_end_is_at_the_end()
     ensures marks { StreamEndIsCounted }
 {}
 
-/// The text between the quotes of a scalar is its parts, one after the other and as many as possible, and its value is
-/// theirs. If it is refused, the offence comes after as many parts as possible.
+/// The text between the quotes of a scalar is its parts, one after the other and as many as possible: no further part
+/// follows them, and any other list of parts is a beginning of this one. Its value is theirs. If it is refused, the
+/// offence comes after as many parts as possible.
 pub fn quoted_is_its_parts()
     ensures parts { QuotedIsParts }
     ensures refused { QuotedIsRefused }

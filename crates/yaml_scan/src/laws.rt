@@ -25,8 +25,8 @@ ghost use Rattle.yaml_scan.specs.ReadingOn.{AllIsTold, RestIsTold, ScansReadOn, 
 
 use crate::calls::{yaml_answer_t, yaml_call_t};
 
-/// What one lexeme more makes of the depth, the candidates, the open columns and the level: a machine that keeps a slot
-/// for each depth and a stack of columns keeps them.
+/// What one lexeme more makes of the depth, the candidates, whether a key is allowed, the open columns and the level: a
+/// machine that keeps a slot for each depth and a stack of columns keeps them.
 pub fn one_lexeme_more()
     ensures depth { DepthGoesOn }
     ensures candidates { CandidatesGoOn }
@@ -45,24 +45,26 @@ pub fn offline_goes_on()
     ensures candidate { CandidateStandsThere }
 {}
 
-/// Tokens that were handed out are never revised.
+/// Tokens that were handed out are never revised: what comes before the earliest live candidate is a beginning of the
+/// offline list of every longer list of steps.
 pub fn never_revised()
     ensures { NeverRevised }
 {}
 
-/// Few lexemes wait for a candidate: at most as many as the key limit has bytes, and one.
+/// Few lexemes wait for a candidate: from the first token that is not settled on, the tokens are those of at most as
+/// many lexemes as the key limit has bytes, and of one more right after a step.
 pub fn few_lexemes_wait()
     ensures settled { FewWait }
     ensures one_step_on { FewWaitOneStepOn }
 {}
 
-/// Behind the stream end all of the offline list is handed out.
+/// After the stream end nothing waits, so all of the offline list is handed out.
 pub fn all_is_handed_out()
     ensures { AllIsHandedOut }
 {}
 
-/// The steps of a text: a list of steps to which none can be added, the only one, of which every list of steps is a
-/// beginning; and it is short.
+/// The steps of a text are a list of steps to which none can be added, every list of steps is a beginning of it, and no
+/// other list with a fault or a stream end is one. It has at most as many steps as the text has characters, and two.
 pub fn cut_is_longest()
     ensures longest { CutIsLongest }
     ensures beginnings { StepsBeginCut }
@@ -71,7 +73,7 @@ pub fn cut_is_longest()
     ensures short { CutIsShort }
 {}
 
-/// The tokens of the lexemes themselves come in the order of the text.
+/// The tokens of the lexemes come in the order of the lexemes in the text.
 pub fn lexemes_come_in_order()
     ensures { LexemesComeInOrder }
 {}
@@ -114,16 +116,17 @@ pub fn keys_are_followed()
     ensures answered { AnswersFollowKeys }
 {}
 
-/// There are at most four tokens a step.
+/// There are in all at most four times as many tokens as steps.
 pub fn tokens_are_few()
     ensures { FourTokensAStep }
 {}
 
-/// The steps of an input are a history, and end with the stream end or with a fault. An accepted input has the cut of
-/// its text, and a refused one a beginning of what its front alone would have.
+/// The steps of an input are a history, and end with the stream end or with a fault. An accepted input has the steps
+/// and the fault of the cut of its text, and a refused one a beginning of what its front alone would have.
 ///
-/// A step near the end of a refused front ends with the reader's fault, so the fault of a refused input is the
-/// reader's, or that of an earlier step.
+/// A step of a refused front that ends or faults fewer than eight characters before the front's end gives the reader's
+/// fault, also if it has a fault of its own; every other step is what it is. So the fault of a refused input is the
+/// reader's if its first step or the step after its lexemes is near the end, and else that of this step.
 pub fn course_of_an_input()
     ensures history { CourseIsHistory }
     ensures ends { EndsOrFaults }
@@ -135,13 +138,15 @@ pub fn course_of_an_input()
     ensures front { FrontIsCut }
 {}
 
-/// After any calls the tokens taken are, in order, a beginning of the list, and if none is left there is a fault.
+/// After any calls the tokens taken are, in order, a beginning of the list; if none is left and the session is not
+/// over, there is a fault.
 pub fn taken_tokens_begin_the_list()
     ensures beginning { TakenAreBeginning }
     ensures goes_on { NoneIsStuck }
 {}
 
-/// Peeks change nothing: the same calls without them, with a scan for each skip, take the same tokens.
+/// Peeks change nothing: if each skip takes a token that was peeked, the same calls without the peeks, with a scan for
+/// each skip, take the same tokens.
 pub fn peeks_change_nothing()
     ensures { PeeksChangeNothing }
 {}
@@ -153,7 +158,7 @@ pub fn peek_shows_what_scan_returns()
     ensures skips { SkipTakesPeeked }
 {}
 
-/// No more steps are made than the next token needs.
+/// No more steps are made than the next token needs: as few as settle it, and no fewer than were made before.
 pub fn pace_is_least()
     ensures settles { PaceSettles }
     ensures least { PaceIsLeast }
@@ -164,8 +169,9 @@ pub fn few_steps_are_queued()
     ensures { FewStepsQueued }
 {}
 
-/// A step depends on no character eight or more past its reach, or past its problem. So what is handed out of a refused
-/// input before the reader's fault, and an earlier fault, are those of every accepted input that agrees with it.
+/// A step depends on no character eight or more past its reach, or past its problem, so it is the same for two texts
+/// that agree on all characters before. So what is handed out of a refused input before the reader's fault, and an
+/// earlier fault, are those of every accepted input that agrees with it.
 pub fn step_is_local()
     ensures step { StepIsLocal }
     ensures tokens { TokensBeforeRefusal }
@@ -206,15 +212,16 @@ pub fn marks_are_counted()
     ensures reach { ReachIsCounted }
 {}
 
-/// More scans than there are tokens left take all of these in order, then return the fault once, if there is one, and
-/// then empty tokens.
+/// From any state of a session more scans than there are tokens left take all of these in order, then return the fault
+/// once, if there is one, and then empty tokens. So do scans that are made one by one, or a growth was refused in one
+/// of them.
 pub fn reading_on()
     ensures all { AllIsTold }
     ensures rest { RestIsTold }
     ensures in_turn { ScansReadOn }
 {}
 
-/// After any calls a fault was returned at most once.
+/// Whatever the calls, a fault is returned at most once, also if a growth was refused.
 pub fn fault_is_told_once()
     ensures sessions { FaultIsToldOnce }
     ensures runs { RunsFaultOnce }
