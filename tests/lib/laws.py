@@ -5,8 +5,11 @@ proof is. `./dev folders` writes both, and tests/documents.py fails if they are 
 """
 
 import glob
+import itertools
 import os
 import re
+
+from folders import sentence
 
 TOP = os.path.dirname(os.path.dirname(os.path.dirname(os.path.abspath(__file__))))
 PROMISES, PROOFS = "docs/PROMISES.md", "docs/PROOFS.md"
@@ -32,21 +35,9 @@ def comment(text):
     return " ".join(line.strip().lstrip("/").strip() for line in text.split("\n") if line.strip(" /"))
 
 
-def first_sentence(text):
-    said = re.match(r".*?[.:](?= [A-Z]|$)", text)
-    return said[0] if said else text
-
-
 def head(path):
     """The first sentence of the comment at the front of a file."""
-    lines = read(path).split("\n")
-    mark = "//!" if path.endswith(".rt") else "--"
-    front = []
-    for line in lines:
-        if not line.startswith(mark + " "):
-            break
-        front.append(line[len(mark) :].strip())
-    return first_sentence(" ".join(front))
+    return sentence(os.path.dirname(path), os.path.basename(path))
 
 
 # LAWS
@@ -158,18 +149,13 @@ def table(title, rows):
 
 def lemma_lines(crate):
     """The files of lemmas, folder by folder."""
-    folder = None
-    for path in lemma_files(crate):
-        at = os.path.dirname(path)
-        if at != folder:
-            folder = at
-            is_top = at == f"crates/{crate}/proofs"
-            yield f"In `{at}/`:" if is_top else f"In `{at}/`: {head(at + '.antt')}"
-            yield ""
-        yield f"- `{os.path.basename(path)[: -len('.antt')]}`: {head(path)}"
-        following = [other for other in lemma_files(crate) if os.path.dirname(other) == at]
-        if path == following[-1]:
-            yield ""
+    for folder, paths in itertools.groupby(lemma_files(crate), os.path.dirname):
+        is_top = folder == f"crates/{crate}/proofs"
+        yield f"In `{folder}/`:" if is_top else f"In `{folder}/`: {head(folder + '.antt')}"
+        yield ""
+        for path in paths:
+            yield f"- `{os.path.basename(path)[: -len('.antt')]}`: {head(path)}"
+        yield ""
 
 
 def section(crate):

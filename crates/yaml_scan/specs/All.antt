@@ -62,8 +62,8 @@ TellLexemes limit setting input tokens fault =
     Begins (of_text_among tokens) (tokens_of_cut limit (decoded_input setting input))
     × (fault ≡ None → of_text_among tokens ≡ tokens_of_cut limit (decoded_input setting input))
 
--- if no growth was refused, there is no fault exactly if the input is accepted and its cut ends with the stream end,
--- and a fault is the reader's or that of the step after the cut, as its place in a refused front decides
+-- there is no fault exactly if the input is accepted and its cut ends with the stream end, and a fault is the reader's
+-- or that of the step after the cut, as its place in a refused front decides; or the fault is of kind memory
 abbrev pub TellFault : ℕ → yaml_encoding_t → List ℕ → Option Fault → Type 0
 TellFault limit setting input fault =
     (EndsAs limit (decoded_input setting input) fault × EndsAsFront limit (decoded_input setting input) fault)

@@ -8,6 +8,7 @@ use Rattle.yaml_scan.specs.Settled.{before, first_steps}
 use Rattle.yaml_scan.specs.Answers.{Course}
 use Rattle.yaml_scan.specs.Session.{Session, Call, Answer, after, answer}
 
+-- a session before any call
 abbrev pub new_session : Session
 new_session = record { taken = 0; steps = 0; peeked = false; over = false; fault = None }
 
