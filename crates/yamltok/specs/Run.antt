@@ -71,7 +71,7 @@ pub record AnswersCalls
     (calls : List Call)
     (answers : List Seen) : Type 0 where
   pub after : Parser
-  pub runs : Runs (new_parser setting input) calls answers after
+  pub runs : Runs decoded_input (new_parser setting input) calls answers after
 
 -- The lines are the listing of the answers to the calls that the word spells, and has_fault says whether a fault is
 -- among them.
