@@ -1,6 +1,6 @@
 -- A place is a mark and the characters from it on.
-use Rattle.std.specs.Prelude.{ℕ, zero, suc, ◌≡◌, ◌+◌, ◌-◌, ◌≤◌, Bool, not, ◌&&◌, ◌==◌, nat_lt, if◌then◌else◌, List}
-use Rattle.std.specs.Prelude.{[], ◌∷◌, length, take, slice_index}
+use Rattle.std.specs.Prelude.{ℕ, zero, suc, ◌+◌, Bool, not, ◌&&◌, ◌==◌, nat_lt, if◌then◌else◌, List}
+use Rattle.std.specs.Prelude.{[], ◌∷◌, take, slice_index}
 use Rattle.std.specs.List.{prefix_len}
 use Rattle.yaml_text.specs.declared.types.yaml_mark_t.{yaml_mark_t}
 use Rattle.yaml_text.specs.Classes.{is_break}
@@ -43,18 +43,9 @@ skip_from (suc n) m (c ∷ cs) = skip_from n (mark_after m c (slice_index cs 0))
 unfoldable pub skip : ℕ → Place → Place
 skip n p = skip_from n p.mark p.rest
 
--- how many characters are from p up to q, which is ahead of it
-abbrev pub distance : Place → Place → ℕ
-distance p q = length p.rest - length q.rest
-
 -- the place after the first n characters of a text
 abbrev pub place_at : List ℕ → ℕ → Place
 place_at text n = skip n (start text)
-
--- the mark is that of the place after the first n characters of the text
-pub record IsMarkOf (text : List ℕ) (mark : yaml_mark_t) (n : ℕ) : Type 0 where
-  pub within : n ≤ length text
-  pub mark_is : mark ≡ (place_at text n).mark
 
 -- how many characters the break at a place takes, and 0 if there is none
 abbrev pub break_len : Place → ℕ

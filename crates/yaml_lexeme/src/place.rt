@@ -1,10 +1,12 @@
 //! A place that moves through a text.
 ghost use Rattle.std.specs.Prelude.{ℕ, min, ◌≡◌, ◌+◌, ◌^◌, ◌<◌, ◌≤◌, length, slice_index, take, drop, false, true};
 ghost use Rattle.std.specs.Str.{chars};
-ghost use Rattle.yaml_text.specs.Chars.{IsText, utf8};
+ghost use Rattle.yaml_text.specs.Chars.{utf8};
+ghost use Rattle.yaml_text.specs.TextBytes.{IsText};
 ghost use Rattle.yaml_text.specs.Classes.{is_break};
 ghost use Rattle.yaml_text.specs.Utf8.{value_of};
-ghost use Rattle.yaml_lexeme.specs.Place.{peek, first, place_at, IsMarkOf, skip, mark_after, width, after_run, run};
+ghost use Rattle.yaml_lexeme.specs.Place.{peek, first, place_at, skip, mark_after, width, after_run, run};
+ghost use Rattle.yaml_lexeme.specs.Counted.{IsMarkOf};
 ghost use Rattle.yaml_lexeme.specs.Place.{run_len, break_len};
 ghost use Rattle.yaml_lexeme.specs.declared.runs.class_t.TheVariants.{SPACE};
 ghost use Rattle.yaml_lexeme.specs.inside.Runs.{class_test, is_line, Stands};
@@ -41,7 +43,7 @@ pub(crate) struct cursor_t<'a> {
 impl<'a> Model for cursor_t<'a> {
     ghost use Rattle.std.specs.Prelude.{◌+◌, ◌^◌, ◌<◌, ◌≤◌, length};
     ghost use Rattle.std.specs.Str.{chars};
-    ghost use Rattle.yaml_text.specs.Chars.{IsText};
+    ghost use Rattle.yaml_text.specs.TextBytes.{IsText};
     ghost use Rattle.yaml_lexeme.specs.Place.{Place};
 
     ghost Value = { Place };

@@ -1,7 +1,8 @@
 //! The marks of a text's places.
 ghost use Rattle.std.specs.Prelude.{ℕ, ◌≡◌, ◌+◌, ◌-◌, ◌<◌, ◌↔◌, ◌&&◌, [], true, false, not, nat_le, nat_lt};
 ghost use Rattle.std.specs.Prelude.{length, slice_index, if◌then◌else◌, IsTrue};
-ghost use Rattle.yaml_text.specs.Classes.{is_break, is_crlf_at};
+ghost use Rattle.yaml_text.specs.Classes.{is_break};
+ghost use Rattle.yaml_text.specs.ClassCalls.{is_crlf_at};
 ghost use Rattle.yaml_text.specs.Utf8.{width_of, continues};
 ghost use Rattle.yaml_text.specs.Mark.{mark_of, cuts_break, IsPlace};
 ghost use Rattle.yaml_text.specs.inside.Cursor.{past, break_len, step_len, is_place_by};

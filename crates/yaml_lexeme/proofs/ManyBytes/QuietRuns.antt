@@ -8,7 +8,8 @@ use Rattle.std.proofs.lemmas.List.{length-append}
 use Rattle.std.proofs.lemmas.List.Sums.{sum_by-cons}
 use lib.Utf8.{encode, next}
 use Rattle.yaml_text.specs.declared.types.yaml_mark_t.{yaml_mark_t}
-use Rattle.yaml_text.specs.Chars.{AreChars, utf8}
+use Rattle.yaml_text.specs.Chars.{utf8}
+use Rattle.yaml_text.specs.TextBytes.{AreChars}
 use Rattle.yaml_text.specs.Classes.{is_break}
 use Rattle.yaml_text.proofs.Characters.Utf8Spelling.{two, three, four}
 use Rattle.yaml_text.proofs.Characters.CharRanges.{char_range}

@@ -8,7 +8,8 @@ use Rattle.std.proofs.lemmas.List.{drop_at}
 use Rattle.std.proofs.lemmas.List.Elements.{filter-append}
 use Rattle.std.proofs.lemmas.Str.{encode_ascii, encodes-append, length-encode}
 use lib.Utf8.{encode, next}
-use Rattle.yaml_text.specs.Chars.{AreChars, IsChar, utf8}
+use Rattle.yaml_text.specs.Chars.{utf8}
+use Rattle.yaml_text.specs.TextBytes.{AreChars, IsChar}
 use Rattle.yaml_text.specs.Utf8.{continues}
 use Rattle.yaml_text.specs.declared.types.yaml_mark_t.{yaml_mark_t}
 use Rattle.yaml_text.proofs.Characters.Utf8Spelling.{two, three, four}

@@ -4,7 +4,8 @@ use Rattle.std.specs.Prelude.{if◌then◌else◌, nat_lt, nat_eq, slice_index, 
 use Rattle.std.proofs.lemmas.Bool.{cases_Bool, cases_lt, false≢true}
 use Rattle.yaml_text.specs.declared.types.yaml_mark_t.{yaml_mark_t}
 use Rattle.yaml_text.specs.Token.{TokenData as token}
-use Rattle.yaml_text.specs.Chars.{AreChars, IsChar, is_char}
+use Rattle.yaml_text.specs.Chars.{is_char}
+use Rattle.yaml_text.specs.TextBytes.{AreChars, IsChar}
 use Rattle.yaml_text.specs.Classes.{is_z}
 use Rattle.yaml_lexeme.specs.declared.kind.yaml_lexeme_kind_t.TheVariants as kind
 use Rattle.yaml_lexeme.specs.declared.lex.yaml_context_t.{yaml_context_t}

@@ -8,7 +8,8 @@ use Rattle.std.proofs.lemmas.List.{append-nil, length-append, take_at, drop_at}
 use Rattle.std.proofs.lemmas.Str.{encodes-append, length-encode}
 use lib.Utf8.{encode}
 use Rattle.yaml_text.specs.declared.types.yaml_mark_t.{yaml_mark_t}
-use Rattle.yaml_text.specs.Chars.{AreChars, utf8}
+use Rattle.yaml_text.specs.Chars.{utf8}
+use Rattle.yaml_text.specs.TextBytes.{AreChars}
 use Rattle.yaml_text.specs.Classes.{is_break, is_crlf}
 use Rattle.yaml_text.specs.Mark.{ends_break, breaks, column, mark_of, cuts_break, mark_after, mark_on}
 use Rattle.yaml_text.proofs.Decodings.DecodeFronts.{chars-utf8}

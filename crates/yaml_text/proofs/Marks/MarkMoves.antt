@@ -11,9 +11,11 @@ use Rattle.std.proofs.lemmas.Str.{encodes-append, length-encode, length-le-encod
 use Rattle.std.proofs.Math.Seq.{get_or-append_seam}
 use lib.Utf8.{encode}
 use Rattle.yaml_text.specs.declared.types.yaml_mark_t.{yaml_mark_t}
-use Rattle.yaml_text.specs.Chars.{AreChars, IsText, utf8}
+use Rattle.yaml_text.specs.Chars.{utf8}
+use Rattle.yaml_text.specs.TextBytes.{AreChars, IsText}
 use Rattle.yaml_text.specs.Utf8.{width_of}
-use Rattle.yaml_text.specs.Classes.{Stands, is_break, is_crlf, is_crlf_at, is_z}
+use Rattle.yaml_text.specs.Classes.{is_break, is_crlf, is_z}
+use Rattle.yaml_text.specs.ClassCalls.{Stands, is_crlf_at}
 use Rattle.yaml_text.specs.Mark.{breaks, one_more_if, column, cuts_break, ends_break, mark_of}
 use Rattle.yaml_text.specs.inside.Cursor.{At, IsAt, at_of, past, break_len}
 use Rattle.yaml_text.proofs.Characters.CharRanges.{char_range}

@@ -2,8 +2,9 @@
 use Rattle.std.specs.Prelude.{ℕ, ◌≡◌, ◌-◌, ◌≤◌, Bool, false, ◌&&◌, not, nat_le, nat_lt, List, ◌++◌, length}
 use Rattle.std.specs.Prelude.{take, drop, slice_index, if◌then◌else◌}
 use Rattle.std.specs.Str.{chars}
-use Rattle.yaml_text.specs.Chars.{IsText}
-use Rattle.yaml_text.specs.Classes.{is_break, is_crlf, is_crlf_at}
+use Rattle.yaml_text.specs.TextBytes.{IsText}
+use Rattle.yaml_text.specs.Classes.{is_break, is_crlf}
+use Rattle.yaml_text.specs.ClassCalls.{is_crlf_at}
 use Rattle.yaml_text.specs.Mark.{breaks, column, cuts_break}
 use Rattle.yaml_text.specs.Utf8.{continues}
 use Rattle.yaml_text.specs.declared.types.yaml_mark_t.{yaml_mark_t}

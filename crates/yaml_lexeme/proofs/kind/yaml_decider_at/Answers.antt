@@ -2,8 +2,10 @@ use Rattle.std.proofs.Common.{◌≡◌, ◌<◌, ℕ, List, [], ◌∷◌, true
 use Rattle.std.specs.Prelude.{slice_index}
 use Rattle.yaml_text.specs.Classes.{is_break}
 use Rattle.yaml_text.specs.declared.types.yaml_mark_t.{yaml_mark_t}
-use Rattle.yaml_lexeme.specs.Gap.{IsGap, is_solid}
-use Rattle.yaml_lexeme.specs.Lex.{lex, lexeme_at, says_of, one_on}
+use Rattle.yaml_lexeme.specs.inside.Runs.{is_solid}
+use Rattle.yaml_lexeme.specs.Decider.{IsGap, one_on}
+use Rattle.yaml_lexeme.specs.Lex.{lex, says_of}
+use Rattle.yaml_lexeme.specs.Answers.{lexeme_at}
 use Rattle.yaml_lexeme.specs.Lexeme.{whole_of}
 use Rattle.yaml_lexeme.specs.Place.{Place, first, skip, skip_from, width, place_at}
 use Rattle.yaml_lexeme.specs.declared.kind.yaml_lexeme_kind_t.{yaml_lexeme_kind_t}
