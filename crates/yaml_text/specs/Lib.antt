@@ -11,6 +11,7 @@ pub mod Decode
 pub mod Decoding
 pub mod Kept
 pub mod Mark
+pub mod CountedMark
 pub mod Token
 pub mod TokenLength
 pub mod Types
