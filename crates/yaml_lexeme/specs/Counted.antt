@@ -1,7 +1,7 @@
 -- Places found by walking from the front, and marks that are counted.
 use Rattle.std.specs.Prelude.{ℕ, ◌≡◌, ◌↔◌, List, drop, ◌≤◌, length}
 use Rattle.yaml_text.specs.declared.types.yaml_mark_t.{yaml_mark_t}
-use Rattle.yaml_text.specs.CountedMark.{IsPlaceAt, mark_at}
+use Rattle.yaml_text.specs.Mark.{IsPlaceAt, mark_at}
 use Rattle.yaml_lexeme.specs.Place.{place_at}
 
 -- the mark is that of the place after the first n characters of the text

@@ -1,6 +1,6 @@
 -- The value of a run of blanks and breaks (YAML 1.1, 6.5 Line Folding).
 use Rattle.std.specs.Prelude.{ℕ, ◌==◌, if◌then◌else◌, List, [], ◌∷◌}
-use Rattle.yaml_text.specs.Mark.{ends_break}
+use Rattle.yaml_text.specs.MarkOn.{ends_break}
 use Rattle.yaml_lexeme.specs.Classes.{is_kept_break, line_feed}
 
 -- a break as it is written in a value (YAML 1.1, 5.4 Line Break Characters)

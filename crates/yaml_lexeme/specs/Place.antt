@@ -4,7 +4,7 @@ use Rattle.std.specs.List.{prefix_len}
 use Rattle.yaml_text.specs.declared.types.yaml_mark_t.{yaml_mark_t}
 use Rattle.yaml_text.specs.Classes.{is_break, is_crlf}
 use Rattle.yaml_text.specs.Fault.{zero_mark}
-use Rattle.yaml_text.specs.Mark.{mark_on}
+use Rattle.yaml_text.specs.MarkOn.{mark_on}
 
 pub record Place : Type 0 where
   pub mark : yaml_mark_t

@@ -10,8 +10,8 @@ pub mod Fault
 pub mod Decode
 pub mod Decoding
 pub mod Kept
+pub mod MarkOn
 pub mod Mark
-pub mod CountedMark
 pub mod Token
 pub mod TokenLength
 pub mod Types

@@ -4,7 +4,7 @@ ghost use Rattle.std.specs.Prelude.{length, slice_index, if◌then◌else◌, Is
 ghost use Rattle.yaml_text.specs.Classes.{is_break};
 ghost use Rattle.yaml_text.specs.ClassCalls.{is_crlf_at};
 ghost use Rattle.yaml_text.specs.Utf8.{width_of, continues};
-ghost use Rattle.yaml_text.specs.CountedMark.{mark_of, cuts_break, IsPlace, IsPlaceAt, mark_at};
+ghost use Rattle.yaml_text.specs.Mark.{mark_of, cuts_break, IsPlace, IsPlaceAt, mark_at};
 ghost use Rattle.yaml_text.specs.inside.Cursor.{past, first_break_len, step_len, is_place_by};
 
 use crate::classes::{IS_BREAK, IS_CRLF, WIDTH};

@@ -3,7 +3,7 @@ use Rattle.std.specs.Prelude.{ℕ, ◌+◌, Bool, not, ◌&&◌, if◌then◌els
 use Rattle.std.specs.Char.{len_utf8}
 use Rattle.yaml_text.specs.declared.types.yaml_mark_t.{yaml_mark_t}
 use Rattle.yaml_text.specs.Classes.{is_break, is_crlf}
-use Rattle.yaml_text.specs.Mark.{mark_on}
+use Rattle.yaml_text.specs.MarkOn.{mark_on}
 use Rattle.yaml_lexeme.specs.Place.{Place}
 
 -- a break ends after c, which `next` follows: CR LF is one break

@@ -11,8 +11,8 @@ use Rattle.yaml_text.specs.declared.types.yaml_mark_t.{yaml_mark_t}
 use Rattle.yaml_text.specs.Chars.{utf8}
 use Rattle.yaml_text.specs.TextBytes.{AreChars}
 use Rattle.yaml_text.specs.Classes.{is_break, is_crlf}
-use Rattle.yaml_text.specs.Mark.{ends_break, mark_after, mark_on}
-use Rattle.yaml_text.specs.CountedMark.{break_count, column, mark_of, cuts_break}
+use Rattle.yaml_text.specs.MarkOn.{ends_break, mark_after, mark_on}
+use Rattle.yaml_text.specs.Mark.{break_count, column, mark_of, cuts_break}
 use Rattle.yaml_text.proofs.Decodings.DecodeFronts.{chars-utf8}
 use Rattle.yaml_text.proofs.Marks.MarkMoves.{breaks-append, column-push, last_push, ends_whole, ends_last, two_bytes, AreChars-parts}
 

@@ -16,8 +16,8 @@ use Rattle.yaml_text.specs.TextBytes.{AreChars, IsText}
 use Rattle.yaml_text.specs.Utf8.{width_of}
 use Rattle.yaml_text.specs.Classes.{is_break, is_crlf, is_z}
 use Rattle.yaml_text.specs.ClassCalls.{Stands, is_crlf_at}
-use Rattle.yaml_text.specs.Mark.{ends_break}
-use Rattle.yaml_text.specs.CountedMark.{break_count, one_more_if, column, cuts_break, mark_of}
+use Rattle.yaml_text.specs.MarkOn.{ends_break}
+use Rattle.yaml_text.specs.Mark.{break_count, one_more_if, column, cuts_break, mark_of}
 use Rattle.yaml_text.specs.inside.Cursor.{At, IsAt, at_of, past, first_break_len}
 use Rattle.yaml_text.proofs.Characters.CharRanges.{char_range}
 use Rattle.yaml_text.proofs.Characters.Utf8Spelling.{stands}

@@ -11,7 +11,7 @@ use Rattle.yaml_text.specs.Chars.{utf8}
 use Rattle.yaml_text.specs.TextBytes.{AreChars, IsText}
 use Rattle.yaml_text.specs.Utf8.{continues}
 use Rattle.yaml_text.specs.ClassCalls.{is_crlf_at}
-use Rattle.yaml_text.specs.CountedMark.{cuts_break, IsPlaceAt, IsPlace}
+use Rattle.yaml_text.specs.Mark.{cuts_break, IsPlaceAt, IsPlace}
 use Rattle.yaml_text.specs.inside.Cursor.{is_place_by}
 use Rattle.yaml_text.proofs.Characters.Utf8Spelling.{two, three, four}
 use Rattle.yaml_text.proofs.Characters.CharRanges.{char_range}

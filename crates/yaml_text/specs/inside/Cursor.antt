@@ -5,7 +5,7 @@ use Rattle.std.specs.Str.{chars}
 use Rattle.yaml_text.specs.TextBytes.{IsText}
 use Rattle.yaml_text.specs.Classes.{is_break, is_crlf}
 use Rattle.yaml_text.specs.ClassCalls.{is_crlf_at}
-use Rattle.yaml_text.specs.CountedMark.{break_count, column, cuts_break}
+use Rattle.yaml_text.specs.Mark.{break_count, column, cuts_break}
 use Rattle.yaml_text.specs.Utf8.{continues}
 use Rattle.yaml_text.specs.declared.types.yaml_mark_t.{yaml_mark_t}
 
