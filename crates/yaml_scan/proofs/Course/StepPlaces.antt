@@ -3,12 +3,12 @@ use Rattle.std.proofs.Common.{◌≡◌, ℕ, ◌≤◌, false, List, [], ◌∷
 use Rattle.std.specs.Prelude.{nat_lt, Result, Ok, Err}
 use Rattle.std.proofs.lemmas.Bool.{cases_Bool}
 use Rattle.yaml_text.specs.declared.types.yaml_mark_t.{yaml_mark_t}
+use Rattle.yaml_scan.specs.Course.{ended}
 use Rattle.yaml_scan.specs.Kind.{Kind, is_stream_end}
 use Rattle.yaml_scan.specs.Laid.{Laid}
 use Rattle.yaml_scan.specs.Depth.{depth}
 use Rattle.yaml_scan.specs.Allowed.{allowed_after}
 use Rattle.yaml_scan.specs.Levels.{laid, level}
-use Rattle.yaml_scan.specs.Steps.{ended}
 use Rattle.yaml_scan.specs.Source.{Source, Reading, Offence}
 use Rattle.yaml_scan.specs.Step.{Outcome, place_after, step, kind_step, read_step, after_read, unless, refuse, stale}
 use Rattle.yaml_scan.specs.Step.{refused, clears, start_at, lexeme_of, front_of}

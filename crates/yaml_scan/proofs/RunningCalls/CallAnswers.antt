@@ -5,19 +5,18 @@ use Rattle.std.proofs.lemmas.Bool.{cases_lt, false≢true}
 use Rattle.yaml_text.specs.declared.types.yaml_encoding_t.{yaml_encoding_t}
 use Rattle.yaml_text.specs.declared.fault.yaml_fault_t.{yaml_fault_t}
 use Rattle.yaml_text.specs.Fault.{Fault, fault_of}
+use Rattle.yaml_scan.specs.Course.{ended, Input, Course, course}
 use Rattle.yaml_scan.specs.declared.scanner.scanner_t.{scanner_t}
 use Rattle.yaml_scan.specs.Token.{yaml_token_t, empty, type_of}
 use Rattle.yaml_scan.specs.TokenTypes.{is_last_type}
 use Rattle.yaml_scan.specs.Laid.{Laid, reach}
-use Rattle.yaml_scan.specs.Steps.{ended}
 use Rattle.yaml_scan.specs.Groups.{Token, offline, groups, group, block_ends, inserted, handed_out}
 use Rattle.yaml_scan.specs.Settled.{before}
 use Rattle.yaml_scan.specs.Groups.Token.{StreamStart, BlockEnd, BlockSequenceStart, BlockMappingStart, InsertedKey, OfLexeme}
-use Rattle.yaml_scan.specs.Answers.{Input, Course, course, tokens_of}
 use Rattle.yaml_scan.specs.Near.{starts_near}
 use Rattle.yaml_scan.specs.Session.{Session, Call, Answer, all_steps, next_token, is_last, after, took, paced}
 use Rattle.yaml_scan.specs.Session.{looked, why, scan_answer, peek_answer, after_scan, after_peek, after_skip}
-use Rattle.yaml_scan.specs.Settled.{pace, first_steps}
+use Rattle.yaml_scan.specs.Settled.{pace, first_steps, tokens_of}
 use Rattle.yaml_scan.specs.Session.Call.{SCAN, PEEK, SKIP}
 use Rattle.yaml_scan.specs.Session.Answer.{TOKEN, PEEKED, FAULT}
 use Rattle.yaml_scan.specs.Decoded.{decoded_input}

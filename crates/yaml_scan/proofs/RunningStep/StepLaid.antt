@@ -7,6 +7,7 @@ use Rattle.yaml_text.specs.declared.types.yaml_mark_t.{yaml_mark_t}
 use Rattle.yaml_text.specs.Fault.{Fault}
 use Rattle.yaml_lexeme.specs.Lexeme.{Lexeme as yaml_lexeme_t}
 use Rattle.yaml_lexeme.specs.Place.{IsMarkOf, place_at}
+use Rattle.yaml_scan.specs.Course.{ended}
 use Rattle.yaml_scan.specs.declared.scanner.scanner_t.{scanner_t}
 use Rattle.yaml_scan.specs.inside.Scanning.{Met}
 use Rattle.yaml_scan.specs.declared.groups.group_t.{group_t}
@@ -24,7 +25,6 @@ use Rattle.yaml_scan.specs.Levels.{laid, is_required, stays, open_columns, kept_
 use Rattle.yaml_scan.specs.Falling.{AllLess, IsFalling}
 use Rattle.yaml_scan.specs.Levels.{greatest_level, greater_of}
 use Rattle.yaml_scan.specs.Order.{IsHistory, IsNotBefore, Follows}
-use Rattle.yaml_scan.specs.Steps.{ended}
 use Rattle.yaml_scan.specs.Groups.{end_at, offline}
 use Rattle.yaml_scan.specs.Settled.{before}
 use Rattle.yaml_scan.specs.Groups.Token.{BlockEnd}

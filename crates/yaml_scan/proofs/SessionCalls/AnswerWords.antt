@@ -1,6 +1,7 @@
 -- Every token and every fault that is returned can be put in words.
 use Rattle.std.proofs.Common.{◌≡◌, ◌≢◌, ℕ, zero, suc, ◌+◌, Bool, true, false, ◌||◌, if◌then◌else◌, List, [], ◌∷◌, map}
 use Rattle.std.proofs.Common.{filter, drop, length, Option, Some, None, Ok, Err, slice_get, refl, subst}
+use Rattle.yaml_scan.specs.Course.{ended, Cut, cut_from, cut_on, Input, Course, course, course_from, next}
 use Rattle.yaml_scan.specs.inside.TextReads.{IsRead}
 use Rattle.std.specs.Prelude.{Result, IfSome, nat_lt, option_map}
 use Rattle.std.proofs.lemmas.Bool.{or_left, or_right}
@@ -35,9 +36,8 @@ use Rattle.yaml_scan.specs.Fault.{Fault}
 use Rattle.yaml_scan.specs.Laid.{Laid}
 use Rattle.yaml_scan.specs.Depth.{depth}
 use Rattle.yaml_scan.specs.Levels.{laid, level}
-use Rattle.yaml_scan.specs.Steps.{ended}
 use Rattle.yaml_scan.specs.Groups.{Token, handed_out, block_ends, group, groups, offline}
-use Rattle.yaml_scan.specs.Settled.{up_to, waiting, before}
+use Rattle.yaml_scan.specs.Settled.{up_to, waiting, before, tokens_of}
 use Rattle.yaml_scan.specs.Groups.Token.{StreamStart, BlockEnd, BlockSequenceStart, BlockMappingStart, InsertedKey}
 use Rattle.yaml_scan.specs.Groups.Token.{OfLexeme}
 use Rattle.yaml_scan.specs.Source.{Source, Reading, Offence}
@@ -45,8 +45,7 @@ use Rattle.yaml_scan.specs.SourceOf.{source_of, reading_of}
 use Rattle.yaml_scan.specs.Step.{Outcome, step, kind_step, read_step, after_read, unless, refuse, stale, refused}
 use Rattle.yaml_scan.specs.Step.{clears, start_at, front_of, lexeme_of}
 use Rattle.yaml_scan.specs.Step.Outcome.{Reads, Faults}
-use Rattle.yaml_scan.specs.Steps.{Cut, cut_from, cut_on}
-use Rattle.yaml_scan.specs.Answers.{Input, Course, course, course_from, tokens_of, next, answers}
+use Rattle.yaml_scan.specs.Answers.{answers}
 use Rattle.yaml_scan.specs.Near.{starts_near, is_near, place_of, unless_near}
 use Rattle.yaml_scan.specs.Inputs.{answers_to}
 use Rattle.yaml_scan.specs.Decoded.{decoded_input}
