@@ -23,7 +23,7 @@ use Rattle.yaml_scan.specs.Groups.Token.{StreamStart, BlockEnd, BlockSequenceSta
 use Rattle.yaml_scan.specs.Answers.{answers}
 use Rattle.yaml_scan.specs.Inputs.{answers_to}
 use Rattle.yaml_scan.specs.Decoded.{decoded_input}
-use Rattle.yaml_scan.specs.Session.{Session, Call, next_token, answer, after, scan_answer, peek_answer, why}
+use Rattle.yaml_scan.specs.Session.{Session, Call, next_token, answer, after, why}
 use Rattle.yaml_scan.specs.Sessions.{session}
 use Rattle.yaml_scan.specs.Settled.{first_steps, tokens_of}
 use Rattle.yaml_scan.specs.Session.Call.{SCAN, PEEK, SKIP}
@@ -31,6 +31,7 @@ use Rattle.yaml_scan.specs.Session.Answer.{TOKEN, PEEKED, SKIPPED, NOTHING}
 use Rattle.yaml_scan.specs.CountedMarks.{IsCounted, IsStreamEnd, HasMark, TokenIsCounted, TokensAreCounted}
 use Rattle.yaml_scan.specs.CountedMarks.{FaultIsCounted, AnswersAreCounted, AnswerIsCounted, AllAreCounted}
 use Rattle.yaml_scan.specs.CountedMarks.{SessionsAreCounted, ReachIsCounted}
+use Rattle.yaml_scan.proofs.SessionCalls.CallCases.{scan_answer, peek_answer}
 use Rattle.yaml_scan.proofs.Course.AnswerOrder.{Fits, TokenFits, TokensFit, fit_course}
 use Rattle.yaml_scan.proofs.History.LevelColumns.{completed_self, opens_self, opens_itself}
 use Rattle.yaml_scan.proofs.Course.CourseSteps.{course_is_history}

@@ -17,7 +17,7 @@ use Rattle.yaml_scan.specs.Step.{Outcome, step}
 use Rattle.yaml_scan.specs.Step.Outcome.{Reads, Faults}
 use Rattle.yaml_scan.specs.Cut.{cut, IsRun, EndsWith, KeepsOrder}
 use Rattle.yaml_scan.specs.Near.{unless_near, is_near, place_of, starts_near}
-use Rattle.yaml_scan.specs.Session.{Call, Session, next_token, is_last, after_scan, after_peek, after_skip}
+use Rattle.yaml_scan.specs.Session.{Call, Session, next_token, is_last}
 use Rattle.yaml_scan.specs.Sessions.{new_session}
 use Rattle.yaml_scan.specs.Session.{after}
 use Rattle.yaml_scan.specs.Sessions.{after_all}
@@ -26,6 +26,7 @@ use Rattle.yaml_scan.specs.Laws.{StepsBeginCut, CutIsOnly}
 use Rattle.yaml_scan.specs.SessionLaws.{CourseIsHistory, EndsOrFaults, NearStepIsRefused, FarStepIsItself, CourseIsRun}
 use Rattle.yaml_scan.specs.SessionLaws.{FaultOfRefused, RefusedHasFault, AcceptedIsCut, FrontIsCut, NoneIsStuck}
 use Rattle.yaml_scan.specs.SessionLaws.FaultOfRefused.{at_once, near, far}
+use Rattle.yaml_scan.proofs.SessionCalls.CallCases.{after_scan, after_peek, after_skip}
 use Rattle.yaml_scan.proofs.Course.LongestCut.{IsOrderly, orderly, IsHistory-from_run, cut_of, cut_is_longest}
 use Rattle.yaml_scan.proofs.TokenList.SettledStays.{before-before}
 use Rattle.yaml_scan.proofs.TokenList.OneLexemeMore.{all_is_handed_out}

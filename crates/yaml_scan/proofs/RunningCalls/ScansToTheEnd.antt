@@ -18,7 +18,7 @@ use Rattle.yaml_scan.specs.Inputs.{answers_to}
 use Rattle.yaml_scan.specs.Decoded.{decoded_input}
 use Rattle.yaml_scan.specs.Session.{Session, Call, Answer, all_steps, is_last, next_token}
 use Rattle.yaml_scan.specs.Sessions.{settled_tokens, new_session}
-use Rattle.yaml_scan.specs.Session.{why, scan_answer, after_scan, paced, took, after}
+use Rattle.yaml_scan.specs.Session.{why, after}
 use Rattle.yaml_scan.specs.Sessions.{after_all}
 use Rattle.yaml_scan.specs.Settled.{settled, pace, tokens_of}
 use Rattle.yaml_scan.specs.Session.Call.{SCAN}
@@ -28,6 +28,7 @@ use Rattle.yaml_scan.specs.ParserCalls.{told, input_read, course_read, answered,
 use Rattle.yaml_scan.specs.Headline.{WantsMemory, Calls}
 use Rattle.yaml_scan.specs.Scanned.{Scanned}
 use Rattle.yaml_scan.specs.All.{AllOf, AreSettled, ReadsAll}
+use Rattle.yaml_scan.proofs.SessionCalls.CallCases.{scan_answer, after_scan, paced, took}
 use Rattle.yaml_scan.proofs.Course.AnswerOrder.{fit_course}
 use Rattle.yaml_scan.proofs.Course.CourseSteps.{none_is_stuck}
 use Rattle.yaml_scan.proofs.Course.InputLaws.{inputs_keep_order}

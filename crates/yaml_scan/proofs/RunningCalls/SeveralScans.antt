@@ -13,7 +13,7 @@ use Rattle.yaml_scan.specs.Decoded.{decoded_input}
 use Rattle.yaml_scan.specs.Order.{IsHistory}
 use Rattle.yaml_scan.specs.Parser.{Parser}
 use Rattle.yaml_scan.specs.Scanned.{Scanned}
-use Rattle.yaml_scan.specs.Session.{Call, Session, after, after_scan, all_steps, is_last, next_token, paced, took}
+use Rattle.yaml_scan.specs.Session.{Call, Session, after, all_steps, is_last, next_token}
 use Rattle.yaml_scan.specs.Sessions.{after_all, new_session}
 use Rattle.yaml_scan.specs.Session.Call.{SCAN}
 use Rattle.yaml_scan.specs.Settled.{before, pace, steps_for, tokens_of}
@@ -23,6 +23,7 @@ use Rattle.yaml_scan.specs.inside.Handed.{is_end}
 use Rattle.yaml_scan.specs.inside.Ready.{course_in}
 use Rattle.yaml_scan.specs.inside.Scanning.{course_of, history}
 use Rattle.yaml_scan.specs.inside.Sent.{HasSent}
+use Rattle.yaml_scan.proofs.SessionCalls.CallCases.{after_scan, paced, took}
 use Rattle.yaml_scan.proofs.Course.AnswerOrder.{TokensFit, fit_course}
 use Rattle.yaml_scan.proofs.Course.InputLaws.{inputs_keep_order}
 use Rattle.yaml_scan.proofs.Course.StepsNeeded.{enough, grows}

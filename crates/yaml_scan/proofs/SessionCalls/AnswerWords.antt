@@ -49,12 +49,13 @@ use Rattle.yaml_scan.specs.Answers.{answers}
 use Rattle.yaml_scan.specs.Near.{starts_near, is_near, place_of, unless_near}
 use Rattle.yaml_scan.specs.Inputs.{answers_to}
 use Rattle.yaml_scan.specs.Decoded.{decoded_input}
-use Rattle.yaml_scan.specs.Session.{Session, Call, answer, scan_answer, peek_answer, after, next_token, why}
+use Rattle.yaml_scan.specs.Session.{Session, Call, answer, after, next_token, why}
 use Rattle.yaml_scan.specs.Sessions.{session}
 use Rattle.yaml_scan.specs.Session.Call.{SCAN, PEEK, SKIP}
 use Rattle.yaml_scan.specs.Session.Answer.{TOKEN, PEEKED, SKIPPED, NOTHING}
 use Rattle.yaml_scan.specs.Words.{HasWords, HasLine, HaveWords, AllHaveLines, AnswerHasLine, AnswersHaveLines}
 use Rattle.yaml_scan.specs.Words.{SessionsHaveLines}
+use Rattle.yaml_scan.proofs.SessionCalls.CallCases.{scan_answer, peek_answer}
 use Rattle.yaml_scan.proofs.TokenList.EveryToken.{Every, HoldsPutIn, every_append, every_block_end, every_of_group}
 use Rattle.yaml_scan.proofs.Texts.LexemeReads.{is_tag_type, is_directive_type, tag_gives, directive_gives}
 

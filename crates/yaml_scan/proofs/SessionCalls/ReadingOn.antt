@@ -16,7 +16,7 @@ use Rattle.yaml_scan.specs.Inputs.{answers_to}
 use Rattle.yaml_scan.specs.Decoded.{decoded_input}
 use Rattle.yaml_scan.specs.Session.{Session, Call, Answer, after, next_token, is_last}
 use Rattle.yaml_scan.specs.Sessions.{new_session, session}
-use Rattle.yaml_scan.specs.Session.{took, paced, finished, why, scan_answer, after_scan}
+use Rattle.yaml_scan.specs.Session.{why}
 use Rattle.yaml_scan.specs.Session.Call.{SCAN}
 use Rattle.yaml_scan.specs.Session.Answer.{TOKEN, PEEKED, SKIPPED, NOTHING, FAULT}
 use Rattle.yaml_scan.specs.Parser.{Parser, course_by}
@@ -25,6 +25,7 @@ use Rattle.yaml_scan.specs.Headline.{Runs, PutsAnswers}
 use Rattle.yaml_scan.specs.Puts.{answered_all, RunsOut, OfSession}
 use Rattle.yaml_scan.specs.Seen.{Seen, seen, seen_of}
 use Rattle.yaml_scan.specs.ReadingOn.{scans, fault_told, all_told, left_to, AllIsTold, RestIsTold, ReadsOn, ScansReadOn}
+use Rattle.yaml_scan.proofs.SessionCalls.CallCases.{took, paced, finished, scan_answer, after_scan}
 use Rattle.yaml_scan.proofs.Course.InputLaws.{inputs_keep_order}
 use Rattle.yaml_scan.proofs.Course.LastToken.{stream_end_is_last}
 use Rattle.yaml_scan.proofs.SessionCalls.CallByCall.{of_session}

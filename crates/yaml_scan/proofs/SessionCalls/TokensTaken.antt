@@ -14,9 +14,9 @@ use Rattle.yaml_scan.specs.Fault.{Fault, memory_fault}
 use Rattle.yaml_scan.specs.Groups.{Token, handed_out}
 use Rattle.yaml_scan.specs.Answers.{answers}
 use Rattle.yaml_scan.specs.Inputs.{answers_to}
-use Rattle.yaml_scan.specs.Session.{Session, Call, Answer, answer, after, next_token, took, paced}
+use Rattle.yaml_scan.specs.Session.{Session, Call, Answer, answer, after, next_token}
 use Rattle.yaml_scan.specs.Sessions.{session, after_all}
-use Rattle.yaml_scan.specs.Session.{looked, finished, why, scan_answer, peek_answer, after_scan, after_peek, after_skip}
+use Rattle.yaml_scan.specs.Session.{why}
 use Rattle.yaml_scan.specs.Session.Call.{SCAN, PEEK, SKIP}
 use Rattle.yaml_scan.specs.Session.{Answer as says}
 use Rattle.yaml_scan.specs.Parser.{Parser, course_by}
@@ -24,6 +24,7 @@ use Rattle.yaml_scan.specs.Seen.{Seen, seen, seen_of}
 use Rattle.yaml_scan.specs.Headline.{Runs, PutsAnswers}
 use Rattle.yaml_scan.specs.Seen.Seen.{TOKEN, PEEKED, SKIPPED, NOTHING, FAULT}
 use Rattle.yaml_scan.specs.Puts.{Puts, answered_all, after_calls, taken_told, AreTold, TakesOn, TakesNext, HasNext, OfSession}
+use Rattle.yaml_scan.proofs.SessionCalls.CallCases.{took, paced, looked, finished, scan_answer, peek_answer, after_scan, after_peek, after_skip}
 use Rattle.yaml_scan.proofs.SessionCalls.ReadingOn.{drop_next}
 use Rattle.yaml_scan.proofs.SessionCalls.CallByCall.{of_session}
 
