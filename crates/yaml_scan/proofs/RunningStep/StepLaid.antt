@@ -7,6 +7,7 @@ use Rattle.yaml_text.specs.declared.types.yaml_mark_t.{yaml_mark_t}
 use Rattle.yaml_text.specs.Fault.{Fault}
 use Rattle.yaml_lexeme.specs.Lexeme.{Lexeme as yaml_lexeme_t}
 use Rattle.yaml_lexeme.specs.Place.{IsMarkOf, place_at}
+use Rattle.yaml_scan.specs.inside.StepParts.{read_step, after_read}
 use Rattle.yaml_scan.specs.Course.{ended}
 use Rattle.yaml_scan.specs.declared.scanner.scanner_t.{scanner_t}
 use Rattle.yaml_scan.specs.inside.Scanning.{Met}
@@ -31,7 +32,7 @@ use Rattle.yaml_scan.specs.Groups.Token.{BlockEnd}
 use Rattle.yaml_scan.specs.inside.Opened.{opened, is_new}
 use Rattle.yaml_scan.specs.inside.Slots.{Held, held, held_of, still_held, lost_held, outer_to, root_of, slot_after}
 use Rattle.yaml_scan.specs.inside.Slots.{completed_held, nested_outer, nested_top, is_level}
-use Rattle.yaml_scan.specs.Step.{Outcome, step, read_step, after_read, unless, stale, required, lost, start_at}
+use Rattle.yaml_scan.specs.Step.{Outcome, step, unless, stale, required, lost, start_at}
 use Rattle.yaml_scan.specs.Step.{lexeme_of, front_of, place_after}
 use Rattle.yaml_scan.specs.Step.Outcome.{Reads}
 use Rattle.yaml_scan.specs.Cut.{IsReadInOrder}

@@ -1,6 +1,7 @@
 -- Every token and every fault that is returned can be put in words.
 use Rattle.std.proofs.Common.{◌≡◌, ◌≢◌, ℕ, zero, suc, ◌+◌, Bool, true, false, ◌||◌, if◌then◌else◌, List, [], ◌∷◌, map}
 use Rattle.std.proofs.Common.{filter, drop, length, Option, Some, None, Ok, Err, slice_get, refl, subst}
+use Rattle.yaml_scan.specs.inside.StepParts.{kind_step, read_step, after_read}
 use Rattle.yaml_scan.specs.Course.{ended, Cut, cut_from, cut_on, Input, Course, course, course_from, next}
 use Rattle.yaml_scan.specs.inside.TextReads.{IsRead}
 use Rattle.std.specs.Prelude.{Result, IfSome, nat_lt, option_map}
@@ -42,7 +43,7 @@ use Rattle.yaml_scan.specs.Groups.Token.{StreamStart, BlockEnd, BlockSequenceSta
 use Rattle.yaml_scan.specs.Groups.Token.{OfLexeme}
 use Rattle.yaml_scan.specs.Source.{Source, Reading, Offence}
 use Rattle.yaml_scan.specs.SourceOf.{source_of, reading_of}
-use Rattle.yaml_scan.specs.Step.{Outcome, step, kind_step, read_step, after_read, unless, refuse, stale, refused}
+use Rattle.yaml_scan.specs.Step.{Outcome, step, unless, refuse, stale, refused}
 use Rattle.yaml_scan.specs.Step.{clears, start_at, front_of, lexeme_of}
 use Rattle.yaml_scan.specs.Step.Outcome.{Reads, Faults}
 use Rattle.yaml_scan.specs.Answers.{answers}
@@ -180,7 +181,7 @@ module _ (S : Source) (s : SourceTold S) (limit : ℕ) (H : List Laid) where
       refuse_told (refused limit H k g) g p (unless (clears limit H k g) (start_at k g) p (read_step S limit H k p)) (unless_told (clears limit H k g) (start_at k g) p (read_step S limit H k p) r)
 
   step_told : OutcomeTold (step S limit H)
-  unfolding step
+  unfolding step read_step
   step_told =
       let p = front_of S H in
       let k = S.kind (nat_lt 0 (depth H)) p in
