@@ -7,7 +7,7 @@ use Rattle.yaml_text.specs.declared.types.yaml_encoding_t.{yaml_encoding_t}
 use Rattle.yaml_text.specs.declared.types.yaml_mark_t.{yaml_mark_t}
 use Rattle.yaml_text.specs.declared.types.yaml_token_type_t.{yaml_token_type_t}
 use Rattle.yaml_text.specs.declared.types.yaml_token_type_t.TheVariants.{YAML_STREAM_END_TOKEN, YAML_BLOCK_END_TOKEN}
-use Rattle.yaml_scan.specs.Answers.{course}
+use Rattle.yaml_scan.specs.Course.{course}
 use Rattle.yaml_scan.specs.Fault.{Fault, no_colon}
 use Rattle.yaml_scan.specs.Inputs.{answers_to}
 use Rattle.yaml_scan.specs.Decoded.{decoded_input}

@@ -1,6 +1,7 @@
 -- The longest list of steps of a text, and what is read of a text that is in its order.
 use Rattle.std.specs.Prelude.{◌≡◌, ℕ, ◌+◌, ◌≤◌, ◌<◌, Bool, true, false, List, [], ◌∷◌, Option, Some, None, Ok, Err}
 use Rattle.std.specs.Prelude.{nat_lt}
+use Rattle.yaml_scan.specs.Course.{Cut, cut_from, ended}
 use Rattle.yaml_scan.specs.Kind.{Kind, is_stream_end, is_key, is_value}
 use Rattle.yaml_scan.specs.Token.{unnamed_yaml_token_t_data, type_of, zero_mark}
 use Rattle.yaml_scan.specs.TokenTypes.{is_last_type}
@@ -11,7 +12,6 @@ use Rattle.yaml_scan.specs.Order.{IsNotBefore, Follows}
 use Rattle.yaml_scan.specs.Source.{Source, Reading, Offence}
 use Rattle.yaml_scan.specs.Step.{Outcome, step, lexeme_of}
 use Rattle.yaml_scan.specs.Step.Outcome.{Reads, Faults}
-use Rattle.yaml_scan.specs.Steps.{Cut, cut_from, ended}
 
 -- each lexeme but the stream end takes a character, so a text of n characters has n + 1 of them at most
 unfoldable pub cut : Source → ℕ → Cut

@@ -16,7 +16,7 @@ pub mod Fault
 pub mod Source
 pub mod SourceOf
 pub mod Step
-pub mod Steps
+pub mod Course
 pub mod Cut
 pub mod Settled
 pub mod Near

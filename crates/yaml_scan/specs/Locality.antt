@@ -1,7 +1,13 @@
 -- What depends on no character eight or more past the place where a step ends.
 use Rattle.std.specs.Prelude.{◌≡◌, ◌⊎◌, ℕ, ◌+◌, ◌<◌, ◌≤◌, length, slice_get, Bool, List}
 use Rattle.std.specs.Prelude.{Option, Some, None, Result, Ok, Err}
+<<<<<<< HEAD
 use Rattle.yaml_text.specs.TextBytes.{AreChars}
+=======
+use Rattle.yaml_text.specs.Chars.{AreChars}
+use Rattle.yaml_scan.specs.Settled.{tokens_of}
+use Rattle.yaml_scan.specs.Course.{Input, course}
+>>>>>>> scan_defs
 use Rattle.yaml_scan.specs.Kind.{Kind}
 use Rattle.yaml_scan.specs.Laid.{Laid}
 use Rattle.yaml_scan.specs.Fault.{Fault}
@@ -10,7 +16,6 @@ use Rattle.yaml_scan.specs.Source.{Source, Reading, Offence}
 use Rattle.yaml_scan.specs.SourceOf.{source_of}
 use Rattle.yaml_scan.specs.Step.{step, place_after}
 use Rattle.yaml_scan.specs.Cut.{KeepsOrder}
-use Rattle.yaml_scan.specs.Answers.{Input, course, tokens_of}
 use Rattle.yaml_scan.specs.Near.{place_of}
 
 -- the place where reading ended, or was refused

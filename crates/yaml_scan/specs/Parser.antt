@@ -1,7 +1,7 @@
 -- A parser, as its calls see it. The calls go by what its bytes decode to, whatever that is.
 use Rattle.std.specs.Prelude.{ℕ, List}
 use Rattle.yaml_text.specs.declared.types.yaml_encoding_t.{yaml_encoding_t}
-use Rattle.yaml_scan.specs.Answers.{Input, Course, course}
+use Rattle.yaml_scan.specs.Course.{Input, Course, course}
 use Rattle.yaml_scan.specs.Session.{Session, Call, Answer, after, answer}
 
 pub record Parser : Type 0 where

@@ -7,11 +7,14 @@ use Rattle.yaml_text.specs.declared.fault.yaml_fault_t.{yaml_fault_t}
 use Rattle.yaml_text.specs.declared.token.yaml_token_t.{yaml_token_t as code_token_t}
 use Rattle.yaml_text.specs.Fault.{fault_of}
 use Rattle.yaml_text.specs.Token.{token_of}
+use Rattle.yaml_scan.specs.Course.{Input, Course}
+use Rattle.yaml_scan.specs.declared.calls.yaml_call_t.{yaml_call_t}
+use Rattle.yaml_scan.specs.declared.calls.yaml_call_t.TheVariants as code
 use Rattle.yaml_scan.specs.Token.{yaml_token_t, empty}
 use Rattle.yaml_scan.specs.Groups.{Token, handed_out}
-use Rattle.yaml_scan.specs.Answers.{Input, Course}
 use Rattle.yaml_scan.specs.Near.{starts_near}
 use Rattle.yaml_scan.specs.Session.{Call, Answer, next_token}
+use Rattle.yaml_scan.specs.Session.Call.{SCAN, PEEK, SKIP}
 use Rattle.yaml_scan.specs.Session.Answer.{TOKEN, PEEKED, FAULT}
 use Rattle.yaml_scan.specs.Parser.{Parser, course_by, answer_by, after_by}
 use Rattle.yaml_scan.specs.Decoded.{decoded_input}
@@ -33,7 +36,13 @@ answered p call = answer_by decoded_input p call
 abbrev pub after_call : Parser → Call → Parser
 after_call p call = after_by decoded_input p call
 
--- WHAT FUNCTIONS RETURN
+-- CALLS AND WHAT THEY RETURN
+-- the code's calls
+abbrev pub call_of : yaml_call_t → Call
+call_of code.SCAN = SCAN
+call_of code.PEEK = PEEK
+call_of code.SKIP = SKIP
+
 -- a token or a fault of the code, as an answer
 abbrev pub told : Result code_token_t yaml_fault_t → Answer
 told (Ok token) = TOKEN (token_of token)

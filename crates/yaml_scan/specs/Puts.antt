@@ -5,17 +5,17 @@ use Rattle.yaml_text.specs.declared.types.yaml_encoding_t.{yaml_encoding_t}
 use Rattle.yaml_scan.specs.Decoded.{decoded_input}
 use Rattle.yaml_scan.specs.ParserCalls.{input_read, course_read, answered}
 use Rattle.yaml_scan.specs.declared.calls.yaml_answer_t.{yaml_answer_t}
-use Rattle.yaml_scan.specs.Token.{yaml_token_t, empty}
+use Rattle.yaml_scan.specs.Token.{yaml_token_t, empty, type_of}
 use Rattle.yaml_scan.specs.Fault.{Fault, memory_fault}
 use Rattle.yaml_scan.specs.Groups.{Token}
 use Rattle.yaml_scan.specs.Begins.{Begins}
 use Rattle.yaml_scan.specs.Inputs.{answers_to, GoesOn}
 use Rattle.yaml_scan.specs.Session.{Call, Answer, next_token}
 use Rattle.yaml_scan.specs.Sessions.{session, after_all}
-use Rattle.yaml_scan.specs.Session.Call.{SKIP}
+use Rattle.yaml_scan.specs.Session.Call.{SCAN, PEEK, SKIP}
 use Rattle.yaml_scan.specs.Parser.{Parser}
 use Rattle.yaml_scan.specs.Session.Answer.{FAULT}
-use Rattle.yaml_scan.specs.Seen.{Seen, seen, seen_of, idle, Seen as sight}
+use Rattle.yaml_scan.specs.Seen.{Seen, seen, seen_of, Seen as sight}
 use Rattle.yaml_scan.specs.Headline.{WantsMemory, Runs}
 use Rattle.yaml_scan.specs.Seen.Seen.{TOKEN, PEEKED, SKIPPED, NOTHING}
 
@@ -45,6 +45,12 @@ pub record PutsSession (p : Parser) (calls : List Call) (old new : List yaml_ans
   pub is : new ≡ old ++ more
   pub answers : map seen_of more ≡ map seen (answered_all p calls)
   pub left : q ≡ after_calls p calls
+
+-- the answer to a call if the session is over
+abbrev pub idle : Call → Seen
+idle SCAN = TOKEN empty
+idle PEEK = PEEKED (type_of empty.token_data) empty.start_mark empty.end_mark
+idle SKIP = NOTHING
 
 -- memory was refused in the call after the first n: the answers to these are the session's, that to this call is the
 -- one fault, and the others are as if the session is over

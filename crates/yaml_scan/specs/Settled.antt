@@ -5,7 +5,7 @@ use Rattle.std.specs.Prelude.{None, option_map, if◌then◌else◌}
 use Rattle.yaml_scan.specs.Laid.{Laid, names, reach}
 use Rattle.yaml_scan.specs.Keys.{candidate, live}
 use Rattle.yaml_scan.specs.Groups.{Token, block_ends, groups, offline}
-use Rattle.yaml_scan.specs.Steps.{oldest}
+use Rattle.yaml_scan.specs.Course.{Course, oldest}
 
 -- i is the candidate of its depth in H
 unfoldable pub is_current : List Laid → Laid → Bool
@@ -31,6 +31,10 @@ up_to H (Some i) = groups H (filter (λ j. nat_lt j.number i.number) H) ++ block
 -- the offline list up to, and without, the token of the earliest live candidate: what no further lexeme revises
 unfoldable pub before : ℕ → List Laid → List Token
 before limit H = up_to H (waiting limit H)
+
+-- the tokens of these steps that no further step revises; after the stream end these are all
+abbrev pub tokens_of : ℕ → Course → List Token
+tokens_of limit c = if c.begun then before limit c.read else []
 
 -- THE PACE
 -- the lexemes of the first s steps, of which one is STREAM-START

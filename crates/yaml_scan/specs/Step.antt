@@ -1,5 +1,5 @@
 -- The step after a list of lexemes: the next lexeme, or the fault.
-use Rattle.std.specs.Prelude.{ℕ, ◌+◌, Bool, not, ◌&&◌, ◌||◌, List, [], ◌∷◌, nat_eq, nat_lt, Option, Some, None, Result}
+use Rattle.std.specs.Prelude.{ℕ, ◌+◌, Bool, not, ◌&&◌, ◌||◌, List, [], ◌∷◌, nat_eq, nat_lt, Option, Some, None}
 use Rattle.std.specs.Prelude.{Ok, Err, if◌then◌else◌}
 use Rattle.yaml_text.specs.declared.types.yaml_mark_t.{yaml_mark_t}
 use Rattle.yaml_scan.specs.Kind.{Kind, is_stream_end, is_block_entry, is_key, is_value, is_candidate_kind}
@@ -94,32 +94,35 @@ lexeme_of k g r = record {
   passed_break = r.passed_break;
 }
 
-abbrev pub after_read : ℕ → List Laid → Kind → yaml_mark_t → Result Reading Offence → Outcome
-after_read limit H k g (Err o) = Faults o
-after_read limit H k g (Ok r) = unless (stale limit (laid limit H (lexeme_of k g r)
-    ∷ H) r.reach) r.reach r.place (Reads (lexeme_of k g r))
-
--- the lexeme at place p or its offence, and the stale test at its reach
-unfoldable pub read_step : Source → ℕ → List Laid → Kind → ℕ → Outcome
-read_step S limit H k p = after_read limit H k (S.mark p) (S.read k (depth H) (level H k (start_at k (S.mark p))) p)
-
+-- THE STEP
+-- no lexeme starts at p, of mark m
 abbrev pub no_kind : yaml_mark_t → ℕ → Offence
 no_kind m p = record { fault = scanner_fault no_token m (Some in_next_token) m; place = p }
-
-abbrev pub kind_step : Source → ℕ → List Laid → ℕ → Option Kind → Outcome
-kind_step S limit H p None = Faults (no_kind (S.mark p) p)
-kind_step S limit H p (Some k) = refuse (refused limit H k (S.mark p)) (S.mark p) p
-    (unless (clears limit H k (S.mark p)) (start_at k (S.mark p)) p (read_step S limit H k p))
-
-abbrev pub gap_step : Source → ℕ → List Laid → ℕ → Outcome
-gap_step S limit H p = unless (stale limit H (S.mark p)) (S.mark p) p
-    (kind_step S limit H p (S.kind (nat_lt 0 (depth H)) p))
 
 -- the place where the gap after H ends
 abbrev pub front_of : Source → List Laid → ℕ
 front_of S H = S.gap (nat_lt 0 (depth H)) (allowed_after H) (place_after H)
 
--- The first that fits: a stale required candidate, no kind, a kind that is not allowed, a required candidate that would
--- be cleared, an offence, a required candidate that is stale at the reach; else the lexeme.
+-- The first that fits of seven rows, after the gap that ends at p, of mark g.
 unfoldable pub step : Source → ℕ → List Laid → Outcome
-step S limit H = gap_step S limit H (front_of S H)
+step S limit H =
+    let p = front_of S H in
+    let g = S.mark p in
+    -- 1. the required candidate is stale
+    unless (stale limit H g) g p (elim (S.kind (nat_lt 0 (depth H)) p) [
+      -- 2. there is no kind
+      | None ↦ Faults (no_kind g p)
+      -- 3. the kind needs a key to be allowed, and none is
+      | Some k ↦ refuse (refused limit H k g) g p
+          -- 4. the lexeme would clear or replace the live required candidate
+          (unless (clears limit H k g) (start_at k g) p (elim (S.read k (depth H) (level H k (start_at k g)) p) [
+            -- 5. it cannot be read
+            | Err o ↦ Faults o
+            | Ok r ↦
+                let x = lexeme_of k g r in
+                -- 6. the required candidate, of it and those before it, is stale at its reach
+                unless (stale limit (laid limit H x ∷ H) x.reach) x.reach x.place
+                -- 7. the lexeme
+                (Reads x)
+          ]))
+    ])

@@ -5,6 +5,7 @@ pub mod TextReads
 pub mod Stop
 pub mod Queue
 pub mod StepFaults
+pub mod StepParts
 pub mod NearFault
 pub mod Scanning
 pub mod Handed

@@ -5,13 +5,13 @@ ghost use Rattle.yaml_text.specs.Token.{token_of};
 ghost use Rattle.yaml_scan.specs.Decoded.{decoded_input};
 ghost use Rattle.yaml_scan.specs.Sessions.{session_queued};
 ghost use Rattle.yaml_scan.specs.Session.Call.{SCAN, PEEK, SKIP};
-ghost use Rattle.yaml_scan.specs.ParserCalls.{IsRefusedEarly, input_read, course_read};
+ghost use Rattle.yaml_scan.specs.ParserCalls.{IsRefusedEarly, input_read, course_read, call_of};
 ghost use Rattle.yaml_scan.specs.CallWords.{SeenHaveLines};
 ghost use Rattle.yaml_scan.specs.ReadingOn.{ReadsOn, HaveOneFault};
 ghost use Rattle.yaml_scan.specs.Puts.{Puts, PutsSession, TakesNext, HasNext, AreAnsweredAlike};
 ghost use Rattle.yaml_scan.specs.CallMarks.{text_read, SeenAreCounted};
 ghost use Rattle.yaml_scan.specs.inside.Shown.{IsSeen};
-ghost use Rattle.yaml_scan.specs.Seen.{seen_of, call_of, seen};
+ghost use Rattle.yaml_scan.specs.Seen.{seen_of, seen};
 ghost use Rattle.yaml_scan.specs.Headline.{PutsAnswers};
 ghost use Rattle.yaml_scan.specs.Session.Answer.{PEEKED};
 

@@ -19,9 +19,9 @@ use Rattle.yaml_scan.specs.Sessions.{new_session}
 use Rattle.yaml_scan.specs.Inputs.{answers_to}
 use Rattle.yaml_scan.specs.Decoded.{decoded_input}
 use Rattle.yaml_scan.specs.Parser.{Parser}
-use Rattle.yaml_scan.specs.ParserCalls.{IsRefusedEarly}
+use Rattle.yaml_scan.specs.ParserCalls.{IsRefusedEarly, call_of}
 use Rattle.yaml_scan.specs.All.{AllOf, ReadsAll}
-use Rattle.yaml_scan.specs.Seen.{Seen, call_of}
+use Rattle.yaml_scan.specs.Seen.{Seen}
 use Rattle.yaml_scan.specs.Headline.{Runs}
 use Rattle.yamltok.specs.Args.{is_right, usual_key_limit}
 use Rattle.yamltok.specs.Listing.{decode_line, token_lines, fault_lines, answer_lines, is_fault}

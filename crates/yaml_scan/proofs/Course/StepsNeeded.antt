@@ -3,10 +3,10 @@ use Rattle.std.proofs.Common.{◌≡◌, ℕ, ◌+◌, ◌-◌, ◌≤◌, ◌<�
 use Rattle.std.specs.Prelude.{nat_lt}
 use Rattle.std.proofs.lemmas.Bool.{cases_Bool, cases_eq, cases_lt, and_from, and_parts}
 use Rattle.std.proofs.lemmas.List.{drop_at}
+use Rattle.yaml_scan.specs.Course.{oldest}
 use Rattle.yaml_scan.specs.Laid.{Laid}
 use Rattle.yaml_scan.specs.Settled.{before}
 use Rattle.yaml_scan.specs.Order.{IsHistory}
-use Rattle.yaml_scan.specs.Steps.{oldest}
 use Rattle.yaml_scan.specs.Settled.{settled, steps_for, pace, first_steps}
 use Rattle.yaml_scan.specs.SessionLaws.{PaceSettles, PaceIsLeast}
 use Rattle.yaml_scan.proofs.TokenList.QueueBound.{length-begins}

@@ -6,6 +6,8 @@ use Rattle.yaml_text.specs.declared.types.yaml_encoding_t.TheVariants.{YAML_UTF8
 use Rattle.yaml_text.specs.declared.types.yaml_error_type_t.TheVariants.{YAML_READER_ERROR}
 use Rattle.yaml_text.specs.declared.types.yaml_scalar_style_t.TheVariants.{YAML_PLAIN_SCALAR_STYLE, YAML_DOUBLE_QUOTED_SCALAR_STYLE}
 use Rattle.yaml_text.specs.Token.{TokenData as token}
+use Rattle.yaml_scan.specs.inside.StepParts.{read_step}
+use Rattle.yaml_scan.specs.Course.{next, course}
 use Rattle.yaml_scan.specs.Kind.{Kind}
 use Rattle.yaml_lexeme.specs.declared.kind.yaml_lexeme_kind_t.TheVariants.{STREAM_END, FLOW_SEQUENCE_START, FLOW_MAPPING_START, FLOW_SEQUENCE_END, FLOW_MAPPING_END, FLOW_ENTRY, BLOCK_ENTRY, KEY, VALUE, ANCHOR, TAG, DOUBLE_QUOTED, PLAIN}
 use Rattle.yaml_scan.specs.Token.{yaml_token_t, unnamed_yaml_token_t_data, zero_mark, at_mark, empty}
@@ -18,8 +20,8 @@ use Rattle.yaml_scan.specs.Levels.{is_completed, opens, still_open, open_columns
 use Rattle.yaml_scan.specs.Groups.{block_ends, inserted, group, groups, offline}
 use Rattle.yaml_scan.specs.Settled.{is_current, waiting, up_to, before}
 use Rattle.yaml_scan.specs.Sessions.{queued}
-use Rattle.yaml_scan.specs.Step.{required, stale, refused, clears, read_step, step, end_of}
-use Rattle.yaml_scan.specs.Answers.{Answers, next, course, answers}
+use Rattle.yaml_scan.specs.Step.{required, stale, refused, clears, step, end_of}
+use Rattle.yaml_scan.specs.Answers.{Answers, answers}
 use Rattle.yaml_scan.specs.Session.{Call, Answer}
 use Rattle.yaml_scan.specs.Sessions.{new_session, session, after_all, session_queued, session_reach}
 use Rattle.yaml_scan.specs.Settled.{steps_for, pace}

@@ -5,19 +5,18 @@ use Rattle.std.proofs.lemmas.Bool.{cases_lt, false≢true}
 use Rattle.yaml_text.specs.declared.types.yaml_encoding_t.{yaml_encoding_t}
 use Rattle.yaml_text.specs.declared.fault.yaml_fault_t.{yaml_fault_t}
 use Rattle.yaml_text.specs.Fault.{Fault, fault_of}
+use Rattle.yaml_scan.specs.Course.{ended, Input, Course, course}
 use Rattle.yaml_scan.specs.declared.scanner.scanner_t.{scanner_t}
 use Rattle.yaml_scan.specs.Token.{yaml_token_t, empty, type_of}
 use Rattle.yaml_scan.specs.TokenTypes.{is_last_type}
 use Rattle.yaml_scan.specs.Laid.{Laid, reach}
-use Rattle.yaml_scan.specs.Steps.{ended}
 use Rattle.yaml_scan.specs.Groups.{Token, offline, groups, group, block_ends, inserted, handed_out}
 use Rattle.yaml_scan.specs.Settled.{before}
 use Rattle.yaml_scan.specs.Groups.Token.{StreamStart, BlockEnd, BlockSequenceStart, BlockMappingStart, InsertedKey, OfLexeme}
-use Rattle.yaml_scan.specs.Answers.{Input, Course, course, tokens_of}
 use Rattle.yaml_scan.specs.Near.{starts_near}
-use Rattle.yaml_scan.specs.Session.{Session, Call, Answer, all_steps, next_token, is_last, after, took, paced}
-use Rattle.yaml_scan.specs.Session.{looked, why, scan_answer, peek_answer, after_scan, after_peek, after_skip}
-use Rattle.yaml_scan.specs.Settled.{pace, first_steps}
+use Rattle.yaml_scan.specs.Session.{Session, Call, Answer, all_steps, next_token, is_last, after}
+use Rattle.yaml_scan.specs.Session.{why}
+use Rattle.yaml_scan.specs.Settled.{pace, first_steps, tokens_of}
 use Rattle.yaml_scan.specs.Session.Call.{SCAN, PEEK, SKIP}
 use Rattle.yaml_scan.specs.Session.Answer.{TOKEN, PEEKED, FAULT}
 use Rattle.yaml_scan.specs.Decoded.{decoded_input}
@@ -28,6 +27,7 @@ use Rattle.yaml_scan.specs.ParserCalls.{told, IsThere, IsRefusedEarly, input_rea
 use Rattle.yaml_scan.specs.Headline.{Calls, WantsMemory}
 use Rattle.yaml_scan.specs.inside.Shown.{Shows}
 use Rattle.yaml_scan.specs.ParserCalls.{token_shown, token_or_empty}
+use Rattle.yaml_scan.proofs.SessionCalls.CallCases.{took, paced, looked, scan_answer, peek_answer, after_scan, after_peek, after_skip}
 use Rattle.yaml_scan.proofs.Course.AnswerOrder.{TokenFits, TokensFit, AllFit, course_fits, fit_before}
 use Rattle.yaml_scan.proofs.TokenList.OneLexemeMore.{all_is_handed_out}
 use Rattle.yaml_scan.proofs.RunningCalls.StepsMade.{enough_made}
@@ -266,12 +266,15 @@ show_over p o k = inl (rw (k, o) refl, rw o refl)
 pub scan_over : (p : Parser) → p.session.over ≡ true → Calls decoded_input SCAN p (TOKEN empty) p
 scan_over p o = inl (rw o refl, rw o refl)
 
+otherwise : {A : Type 0} (b : Bool) (x y : A) → b ≡ false → (if b then x else y) ≡ y
+otherwise b x y e = rw e refl
+
 -- a scan is a peek and a skip
 take_after_peek : (limit : ℕ) (c : Course) (s : Session) (y : Token) → s.over ≡ false → next_token limit c s ≡ Some y → after limit c SKIP (after limit c PEEK s) ≡ after limit c SCAN s
 take_after_peek limit c s y o n =
-    let a : after limit c PEEK s ≡ looked (paced limit c s) = rw (o, n) refl in
-    let b : after limit c SKIP (looked (paced limit c s)) ≡ took y (paced limit c s) = rw n refl in
-    let d : after limit c SCAN s ≡ took y (paced limit c s) = rw (o, n) refl in
+    let a : after limit c PEEK s ≡ looked (paced limit c s) = otherwise s.over s (after_peek limit c s (next_token limit c s)) o ∙ ap (λ (z : Option Token). after_peek limit c s z) n in
+    let b : after limit c SKIP (looked (paced limit c s)) ≡ took y (paced limit c s) = ap (λ (z : Option Token). after_skip (looked (paced limit c s)) z) n in
+    let d : after limit c SCAN s ≡ took y (paced limit c s) = otherwise s.over s (after_scan limit c s (next_token limit c s)) o ∙ ap (λ (z : Option Token). after_scan limit c s z) n in
     ap (λ (z : Session). after limit c SKIP z) a ∙ b ∙ sym d
 
 peeked_token : (e : yaml_encoding_t) (c : Course) (o : Option Token) (x : yaml_token_t) → PEEKED x ≡ peek_answer e c o → (y : Token) × (o ≡ Some y) × (x ≡ handed_out e y)
@@ -285,9 +288,6 @@ peeked_token e c (Some y) x q = (y, refl, cc)
 no_token : (e : yaml_encoding_t) (c : Course) (o : Option Token) (f : Fault) → FAULT f ≡ peek_answer e c o → o ≡ None
 no_token e c None f q = refl
 no_token e c (Some y) f q = absurd (cc)
-
-otherwise : {A : Type 0} (b : Bool) (x y : A) → b ≡ false → (if b then x else y) ≡ y
-otherwise b x y e = rw e refl
 
 module _ (p q : Parser) (o : p.session.over ≡ false) where
   abbrev next : Option Token

@@ -6,20 +6,21 @@ use Rattle.std.proofs.lemmas.Bool.{false≢true}
 use Rattle.std.proofs.lemmas.List.Folds.{list_any-append}
 use Rattle.yaml_text.specs.declared.types.yaml_encoding_t.{yaml_encoding_t}
 use Rattle.yaml_text.specs.declared.fault.yaml_fault_t.{yaml_fault_t}
+use Rattle.yaml_scan.specs.Course.{Input, Course, course}
 use Rattle.yaml_scan.specs.Fault.{Fault, memory_fault}
 use Rattle.yaml_text.specs.Fault.{fault_of}
 use Rattle.yaml_scan.specs.Token.{yaml_token_t, type_of}
 use Rattle.yaml_scan.specs.TokenTypes.{is_last_type}
 use Rattle.yaml_scan.specs.Begins.{Begins}
 use Rattle.yaml_scan.specs.Groups.{Token, handed_out}
-use Rattle.yaml_scan.specs.Answers.{Input, Course, course, tokens_of, answers}
+use Rattle.yaml_scan.specs.Answers.{answers}
 use Rattle.yaml_scan.specs.Inputs.{answers_to}
 use Rattle.yaml_scan.specs.Decoded.{decoded_input}
 use Rattle.yaml_scan.specs.Session.{Session, Call, Answer, all_steps, is_last, next_token}
 use Rattle.yaml_scan.specs.Sessions.{settled_tokens, new_session}
-use Rattle.yaml_scan.specs.Session.{why, scan_answer, after_scan, paced, took, after}
+use Rattle.yaml_scan.specs.Session.{why, after}
 use Rattle.yaml_scan.specs.Sessions.{after_all}
-use Rattle.yaml_scan.specs.Settled.{settled, pace}
+use Rattle.yaml_scan.specs.Settled.{settled, pace, tokens_of}
 use Rattle.yaml_scan.specs.Session.Call.{SCAN}
 use Rattle.yaml_scan.specs.Session.Answer.{TOKEN, FAULT}
 use Rattle.yaml_scan.specs.Parser.{Parser, course_by}
@@ -27,6 +28,7 @@ use Rattle.yaml_scan.specs.ParserCalls.{told, input_read, course_read, answered,
 use Rattle.yaml_scan.specs.Headline.{WantsMemory, Calls}
 use Rattle.yaml_scan.specs.Scanned.{Scanned}
 use Rattle.yaml_scan.specs.All.{AllOf, AreSettled, ReadsAll}
+use Rattle.yaml_scan.proofs.SessionCalls.CallCases.{scan_answer, after_scan, paced, took}
 use Rattle.yaml_scan.proofs.Course.AnswerOrder.{fit_course}
 use Rattle.yaml_scan.proofs.Course.CourseSteps.{none_is_stuck}
 use Rattle.yaml_scan.proofs.Course.InputLaws.{inputs_keep_order}

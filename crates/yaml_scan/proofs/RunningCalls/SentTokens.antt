@@ -3,16 +3,14 @@ use Rattle.std.proofs.Common.{◌≡◌, ℕ, ◌-◌, ◌≤◌, ◌<◌, Bool,
 use Rattle.std.specs.Prelude.{◌⊎◌, Ok, Err}
 use Rattle.std.proofs.lemmas.Bool.{cases_lt}
 use Rattle.yaml_text.specs.Fault.{memory_fault}
+use Rattle.yaml_scan.specs.Course.{oldest, ended, Course}
 use Rattle.yaml_scan.specs.declared.fault.stop_t.{stop_t}
 use Rattle.yaml_scan.specs.declared.groups.group_t.{group_t}
 use Rattle.yaml_scan.specs.declared.scanner.scanner_t.{scanner_t}
 use Rattle.yaml_scan.specs.Begins.{Begins}
-use Rattle.yaml_scan.specs.Steps.{oldest}
-use Rattle.yaml_scan.specs.Answers.{Course}
 use Rattle.yaml_scan.specs.Groups.{Token, offline}
 use Rattle.yaml_scan.specs.Laid.{Laid}
 use Rattle.yaml_scan.specs.Order.{IsHistory}
-use Rattle.yaml_scan.specs.Steps.{ended}
 use Rattle.yaml_scan.specs.Settled.{before, pace, steps_for}
 use Rattle.yaml_scan.specs.Token.{yaml_token_t}
 use Rattle.yaml_scan.specs.inside.Given.{HasGiven}

@@ -3,11 +3,11 @@ use Rattle.std.proofs.Common.{◌≡◌, ℕ, ◌+◌, ◌-◌, ◌≤◌, ◌<�
 use Rattle.std.proofs.lemmas.Bool.{cases_Bool}
 use Rattle.yaml_text.specs.declared.types.yaml_encoding_t.{yaml_encoding_t}
 use Rattle.yaml_text.specs.Fault.{Fault}
+use Rattle.yaml_scan.specs.Course.{Input, Course, course}
 use Rattle.yaml_scan.specs.declared.scanner.scanner_t.{scanner_t}
 use Rattle.yaml_scan.specs.Laid.{Laid, reach}
 use Rattle.yaml_scan.specs.Settled.{before}
-use Rattle.yaml_scan.specs.Answers.{Input, Course, course, tokens_of}
-use Rattle.yaml_scan.specs.Settled.{settled, steps_for, pace, first_steps}
+use Rattle.yaml_scan.specs.Settled.{settled, steps_for, pace, first_steps, tokens_of}
 use Rattle.yaml_scan.specs.Session.{all_steps}
 use Rattle.yaml_scan.specs.Decoded.{decoded_input}
 use Rattle.yaml_scan.specs.inside.Scanning.{Settles, Fails, Stops, Same, history, course_of, input_of}

@@ -9,8 +9,8 @@ use Rattle.yaml_scan.specs.Sessions.{session, after_all}
 use Rattle.yaml_scan.specs.Session.Call.{SCAN, PEEK, SKIP}
 use Rattle.yaml_scan.specs.Parser.{Parser, course_by}
 use Rattle.yaml_scan.specs.Headline.{WantsMemory, Calls, Runs}
-use Rattle.yaml_scan.specs.Puts.{answered_all, after_calls, RunsOut, OfSession, CallsAreSession}
-use Rattle.yaml_scan.specs.Seen.{Seen, seen, idle}
+use Rattle.yaml_scan.specs.Puts.{answered_all, after_calls, RunsOut, OfSession, CallsAreSession, idle}
+use Rattle.yaml_scan.specs.Seen.{Seen, seen}
 use Rattle.yaml_scan.specs.Seen.Seen.{FAULT}
 
 -- IF THE SESSION IS OVER

@@ -8,10 +8,10 @@ use Rattle.yaml_scan.specs.Session.Call.{SCAN, PEEK, SKIP}
 use Rattle.yaml_scan.specs.Session.{Answer as says}
 use Rattle.yaml_scan.specs.Parser.{Parser, course_by}
 use Rattle.yaml_scan.specs.Headline.{Calls, Runs}
-use Rattle.yaml_scan.specs.Puts.{answered_all, OfSession}
+use Rattle.yaml_scan.specs.Puts.{answered_all, OfSession, idle}
 use Rattle.yaml_scan.specs.Token.{yaml_token_t}
 use Rattle.yaml_scan.specs.Words.{HasWords, AnswerHasLine, AnswersHaveLines}
-use Rattle.yaml_scan.specs.Seen.{Seen, seen, idle}
+use Rattle.yaml_scan.specs.Seen.{Seen, seen}
 use Rattle.yaml_scan.specs.Seen.Seen.{FAULT}
 use Rattle.yaml_scan.specs.CallWords.{SeenHasLine, SeenHaveLines}
 use Rattle.yaml_scan.proofs.SessionCalls.AnswerWords.{sessions_have_lines}

@@ -3,12 +3,12 @@ use Rattle.std.proofs.Common.{◌≡◌, ℕ, zero, suc, ◌+◌, ◌<◌, List,
 use Rattle.yaml_scan.specs.Decoded.{decoded_input}
 use Rattle.yaml_scan.specs.Session.{Call}
 use Rattle.yaml_scan.specs.Parser.{Parser}
-use Rattle.yaml_scan.specs.ParserCalls.{IsRefusedEarly, input_read}
+use Rattle.yaml_scan.specs.ParserCalls.{IsRefusedEarly, input_read, call_of}
 use Rattle.yaml_scan.specs.Headline.{Calls, Runs, PutsAnswers}
 use Rattle.yaml_scan.specs.Puts.{after_calls, PutsSession, OfSession}
 use Rattle.yaml_scan.specs.declared.calls.yaml_call_t.{yaml_call_t}
 use Rattle.yaml_scan.specs.declared.calls.yaml_answer_t.{yaml_answer_t}
-use Rattle.yaml_scan.specs.Seen.{call_of, Seen, seen_of}
+use Rattle.yaml_scan.specs.Seen.{Seen, seen_of}
 use Rattle.yaml_scan.specs.inside.Shown.{IsSeen}
 use Rattle.yaml_scan.proofs.RunningCalls.CallAnswers.{wants_late}
 use Rattle.yaml_scan.proofs.SessionCalls.CallByCall.{of_session}

@@ -4,17 +4,19 @@ use Rattle.std.specs.Prelude.{◌⊎◌, Result, Ok, Err, if◌then◌else◌}
 use Rattle.yaml_text.specs.declared.types.yaml_encoding_t.{yaml_encoding_t}
 use Rattle.yaml_text.specs.declared.fault.yaml_fault_t.{yaml_fault_t}
 use Rattle.yaml_text.specs.declared.token.yaml_token_t.{yaml_token_t as code_token_t}
+use Rattle.yaml_scan.specs.Settled.{tokens_of}
+use Rattle.yaml_scan.specs.Course.{Input, Course, course}
 use Rattle.yaml_scan.specs.declared.calls.yaml_answer_t.{yaml_answer_t}
 use Rattle.yaml_scan.specs.Token.{yaml_token_t, empty}
 use Rattle.yaml_scan.specs.Fault.{Fault}
 use Rattle.yaml_scan.specs.Groups.{Token, handed_out}
 use Rattle.yaml_scan.specs.Cut.{KeepsOrder}
-use Rattle.yaml_scan.specs.Answers.{Input, Course, Answers, course, tokens_of, answers}
+use Rattle.yaml_scan.specs.Answers.{Answers, answers}
 use Rattle.yaml_scan.specs.Inputs.{answers_to}
 use Rattle.yaml_scan.specs.Decoded.{decoded_input}
 use Rattle.yaml_scan.specs.Session.{Session, Call, Answer, after, next_token, is_last}
 use Rattle.yaml_scan.specs.Sessions.{new_session, session}
-use Rattle.yaml_scan.specs.Session.{took, paced, finished, why, scan_answer, after_scan}
+use Rattle.yaml_scan.specs.Session.{why}
 use Rattle.yaml_scan.specs.Session.Call.{SCAN}
 use Rattle.yaml_scan.specs.Session.Answer.{TOKEN, PEEKED, SKIPPED, NOTHING, FAULT}
 use Rattle.yaml_scan.specs.Parser.{Parser, course_by}
@@ -23,6 +25,7 @@ use Rattle.yaml_scan.specs.Headline.{Runs, PutsAnswers}
 use Rattle.yaml_scan.specs.Puts.{answered_all, RunsOut, OfSession}
 use Rattle.yaml_scan.specs.Seen.{Seen, seen, seen_of}
 use Rattle.yaml_scan.specs.ReadingOn.{scans, fault_told, all_told, left_to, AllIsTold, RestIsTold, ReadsOn, ScansReadOn}
+use Rattle.yaml_scan.proofs.SessionCalls.CallCases.{took, paced, finished, scan_answer, after_scan}
 use Rattle.yaml_scan.proofs.Course.InputLaws.{inputs_keep_order}
 use Rattle.yaml_scan.proofs.Course.LastToken.{stream_end_is_last}
 use Rattle.yaml_scan.proofs.SessionCalls.CallByCall.{of_session}

@@ -3,24 +3,28 @@ use Rattle.std.proofs.Common.{◌≡◌, ℕ, zero, suc, ◌+◌, Bool, true, fa
 use Rattle.std.specs.Prelude.{if◌then◌else◌}
 use Rattle.std.proofs.lemmas.Bool.{cases_Bool, cond_both, false≢true}
 use Rattle.yaml_text.specs.declared.types.yaml_encoding_t.{yaml_encoding_t}
+use Rattle.yaml_scan.specs.Settled.{tokens_of}
+use Rattle.yaml_scan.specs.Course.{Course}
+use Rattle.yaml_scan.specs.Puts.{idle}
 use Rattle.yaml_scan.specs.Decoded.{decoded_input}
 use Rattle.yaml_scan.specs.ParserCalls.{input_read, course_read}
 use Rattle.yaml_scan.specs.declared.calls.yaml_answer_t.{yaml_answer_t}
 use Rattle.yaml_scan.specs.Token.{yaml_token_t, empty}
 use Rattle.yaml_scan.specs.Fault.{Fault, memory_fault}
 use Rattle.yaml_scan.specs.Groups.{Token, handed_out}
-use Rattle.yaml_scan.specs.Answers.{Course, tokens_of, answers}
+use Rattle.yaml_scan.specs.Answers.{answers}
 use Rattle.yaml_scan.specs.Inputs.{answers_to}
-use Rattle.yaml_scan.specs.Session.{Session, Call, Answer, answer, after, next_token, took, paced}
+use Rattle.yaml_scan.specs.Session.{Session, Call, Answer, answer, after, next_token}
 use Rattle.yaml_scan.specs.Sessions.{session, after_all}
-use Rattle.yaml_scan.specs.Session.{looked, finished, why, scan_answer, peek_answer, after_scan, after_peek, after_skip}
+use Rattle.yaml_scan.specs.Session.{why}
 use Rattle.yaml_scan.specs.Session.Call.{SCAN, PEEK, SKIP}
 use Rattle.yaml_scan.specs.Session.{Answer as says}
 use Rattle.yaml_scan.specs.Parser.{Parser, course_by}
-use Rattle.yaml_scan.specs.Seen.{Seen, seen, seen_of, idle}
+use Rattle.yaml_scan.specs.Seen.{Seen, seen, seen_of}
 use Rattle.yaml_scan.specs.Headline.{Runs, PutsAnswers}
 use Rattle.yaml_scan.specs.Seen.Seen.{TOKEN, PEEKED, SKIPPED, NOTHING, FAULT}
 use Rattle.yaml_scan.specs.Puts.{Puts, answered_all, after_calls, taken_told, AreTold, TakesOn, TakesNext, HasNext, OfSession}
+use Rattle.yaml_scan.proofs.SessionCalls.CallCases.{took, paced, looked, finished, scan_answer, peek_answer, after_scan, after_peek, after_skip}
 use Rattle.yaml_scan.proofs.SessionCalls.ReadingOn.{drop_next}
 use Rattle.yaml_scan.proofs.SessionCalls.CallByCall.{of_session}
 

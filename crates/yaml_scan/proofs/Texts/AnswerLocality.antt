@@ -3,26 +3,30 @@ use Rattle.std.proofs.Common.{◌≡◌, ℕ, zero, suc, ◌+◌, ◌<◌, Bool,
 use Rattle.std.specs.Prelude.{◌⊎◌, if◌then◌else◌}
 use Rattle.std.proofs.lemmas.Bool.{false≢true}
 use Rattle.yaml_text.specs.declared.types.yaml_encoding_t.{yaml_encoding_t}
+use Rattle.yaml_scan.specs.Settled.{tokens_of}
+use Rattle.yaml_scan.specs.Course.{Input, Course, course}
+use Rattle.yaml_scan.specs.Puts.{idle}
 use Rattle.yaml_scan.specs.ParserCalls.{answered}
 use Rattle.yaml_scan.specs.Token.{yaml_token_t, empty}
 use Rattle.yaml_scan.specs.Fault.{Fault, memory_fault}
 use Rattle.yaml_scan.specs.Begins.{Begins}
 use Rattle.yaml_scan.specs.Groups.{Token, handed_out}
-use Rattle.yaml_scan.specs.Answers.{Input, Course, Answers, course, tokens_of, answers}
+use Rattle.yaml_scan.specs.Answers.{Answers, answers}
 use Rattle.yaml_scan.specs.Inputs.{answers_to, GoesOn}
 use Rattle.yaml_scan.specs.Decoded.{decoded_input}
-use Rattle.yaml_scan.specs.Session.{Session, Call, Answer, answer, after, next_token, took, paced}
+use Rattle.yaml_scan.specs.Session.{Session, Call, Answer, answer, after, next_token}
 use Rattle.yaml_scan.specs.Sessions.{session, after_all}
-use Rattle.yaml_scan.specs.Session.{looked, finished, why, scan_answer, peek_answer, after_scan, after_peek, after_skip}
+use Rattle.yaml_scan.specs.Session.{why}
 use Rattle.yaml_scan.specs.Session.Call.{SCAN, PEEK, SKIP}
 use Rattle.yaml_scan.specs.Session.Answer.{TOKEN, PEEKED, SKIPPED, NOTHING, FAULT}
 use Rattle.yaml_scan.specs.SessionLaws.{FaultOfRefused}
 use Rattle.yaml_scan.specs.SessionLaws.FaultOfRefused.{at_once, near, far}
 use Rattle.yaml_scan.specs.Parser.{Parser, course_by}
 use Rattle.yaml_scan.specs.Headline.{Calls, Runs}
-use Rattle.yaml_scan.specs.Seen.{Seen, seen, idle, Seen as sight}
+use Rattle.yaml_scan.specs.Seen.{Seen, seen, Seen as sight}
 use Rattle.yaml_scan.specs.All.{ReadsAll}
 use Rattle.yaml_scan.specs.Puts.{answered_all, HasNext, of_input, IsAnsweredAlike, StopsWith, AreAnsweredAlike, AreReadAlike, OfSession}
+use Rattle.yaml_scan.proofs.SessionCalls.CallCases.{took, paced, looked, finished, scan_answer, peek_answer, after_scan, after_peek, after_skip}
 use Rattle.yaml_scan.proofs.Course.CourseSteps.{refused_has_fault}
 use Rattle.yaml_scan.proofs.Course.InputLaws.{inputs_keep_order, agree, encoding_is, late_faults}
 use Rattle.yaml_scan.proofs.Texts.StepLocality.{tokens_before_refusal, fault_before_refusal}

@@ -1,9 +1,9 @@
 use Rattle.std.proofs.Common.{List, [], ◌∷◌, ◌++◌, map, take, get_or, sym, subst, arith}
+use Rattle.yaml_scan.specs.ParserCalls.{call_of}
 use Rattle.yaml_scan.specs.Decoded.{decoded_input}
 use Rattle.yaml_scan.specs.declared.calls.yaml_call_t.TheVariants.{SCAN}
 use Rattle.yaml_scan.specs.declared.calls.yaml_answer_t.{yaml_answer_t}
 use Rattle.yaml_scan.specs.Session.{Call}
-use Rattle.yaml_scan.specs.Seen.{call_of}
 use Rattle.yaml_scan.specs.Headline.{PutsAnswers}
 use Rattle.yaml_scan.proofs.SessionCalls.CallsInTurn.{none_put, one_put, called_more}
 use Rattle.yaml_scan.proofs.calls.answer_all.Goals as goal

@@ -1,8 +1,8 @@
 use Rattle.std.proofs.Common.{◌+◌, ◌≤◌, map, take, length}
 use Rattle.std.specs.Prelude.{vec_len}
 use Rattle.std.specs.Vec.{vec_capacity}
+use Rattle.yaml_scan.specs.ParserCalls.{call_of}
 use Rattle.yaml_scan.specs.Decoded.{decoded_input}
-use Rattle.yaml_scan.specs.Seen.{call_of}
 use Rattle.yaml_scan.specs.Headline.{PutsAnswers}
 use Rattle.yaml_scan.proofs.calls.answer_all.Given as goal
 

@@ -1,7 +1,7 @@
 use Rattle.std.proofs.Common.{List, map, subst}
+use Rattle.yaml_scan.specs.ParserCalls.{call_of}
 use Rattle.yaml_scan.specs.Decoded.{decoded_input}
 use Rattle.yaml_scan.specs.declared.calls.yaml_answer_t.{yaml_answer_t}
-use Rattle.yaml_scan.specs.Seen.{call_of}
 use Rattle.yaml_scan.specs.Headline.{PutsAnswers}
 use Rattle.yaml_scan.specs.CallWords.{SeenHaveLines}
 use Rattle.yaml_scan.specs.ReadingOn.{HaveOneFault}

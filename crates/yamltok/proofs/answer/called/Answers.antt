@@ -1,10 +1,11 @@
 -- The answers are appended to none.
 use Rattle.std.proofs.Common.{◌≡◌, ◌++◌, List, map, sym, ap, ◌∙◌, subst}
+use Rattle.yaml_scan.specs.ParserCalls.{call_of}
 use Rattle.yaml_scan.specs.Decoded.{decoded_input}
 use Rattle.yaml_scan.specs.declared.calls.yaml_answer_t.{yaml_answer_t}
 use Rattle.yaml_scan.specs.Parser.{Parser}
 use Rattle.yaml_scan.specs.Headline.{Runs}
-use Rattle.yaml_scan.specs.Seen.{call_of, seen_of}
+use Rattle.yaml_scan.specs.Seen.{seen_of}
 use Rattle.yaml_scan.specs.CallWords.{SeenHaveLines}
 use Rattle.yamltok.proofs.answer.called.Goals as goal
 
