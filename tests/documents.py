@@ -8,7 +8,8 @@ One line of output for each check; what is wrong is printed before it. The check
   bench/results.md, docs/speed.svg and what is in a folder `out`. The documents are README.md, CHANGELOG.md, CONTRIBUTING.md,
   docs/, and the README files of tests/, bench/, uses/, rust/ and python/.
 - rules: in RULES.md every heading has a line with a definition and a code file, and a link to it. What that line names is
-  in the file that it names: a definition in parentheses, and a test. walks.py follows the line further.
+  in the file that it names: a definition in parentheses, and a test. The clauses are those that `./dev folders` writes, and
+  there is one for each definition. walks.py follows the line further.
 - topics: the topic of a rule is the name of its first definition file. The line names a code file of that name, a folder or
   a file of proofs that begins with it (or says that there is none by hand), and a test whose name has it.
 - proofs: PROOFS.md, and the lists of laws in PROMISES.md, are those that `./dev folders` writes, of every law, every public
@@ -39,6 +40,7 @@ import sys
 sys.path.insert(0, os.path.join(os.path.dirname(os.path.abspath(__file__)), "lib"))
 sys.dont_write_bytecode = True
 from citing import statements
+from clauses import is_stale as are_clauses_stale, uncited
 from folders import MOST_FILES, long_folders, sentence, sources, stale
 from laws import CRATES, functions as public_functions, laws, lemma_files, marks, stale_lists
 from picture import drawn, is_stale, unreached
@@ -156,6 +158,8 @@ def check_rules():
         for path, names in tests_in(parts["Shown by"]):
             gone = [name for name in names if found(path) and not re.search(rf"\bfn {name}\b", read(path))]
             wrong += [f"RULES.md: {heading}: {name} is not in {path}" for name in gone]
+    wrong += [f"RULES.md: {heading}: no clause of its code cites {name}" for heading, name in uncited()]
+    wrong += ["RULES.md: its clauses are not what ./dev folders writes"] if are_clauses_stale() else []
     return len(sections), wrong
 
 

@@ -73,6 +73,22 @@ def contracts(path):
     return found
 
 
+@functools.cache
+def clauses(path):
+    """Each clause of a file of code that says what a function returns or leaves: the function, how far it is known (0 if it is
+    public, 1 in the crate, 2 in the file), the clause's name if it has one, and the definitions that it cites."""
+    text, found = read(path), []
+    names, files = used(text)
+    for name, head in heads(text):
+        starts = [clause.start() for clause in CLAUSE.finditer(head)]
+        for begin, end in zip(starts, [*starts[1:], len(head)]):
+            ensures = re.match(r" +ensures\*?(?: (\w+))? \{", head[begin:end])
+            if ensures:
+                known = [head.lstrip().startswith(word) for word in ("pub ", "pub(crate) ", "")].index(True)
+                found.append((name, known, ensures[1], set(cited(head[begin:end], names, files))))
+    return found
+
+
 def changed(path):
     """The functions in which an edit of must-fail/ changes something, each with its file."""
     file = ""
