@@ -20,7 +20,8 @@ One line of output for each check; what is wrong is printed before it. The check
 - edits: every must-fail edit has a line in edits.txt, and every line has its edit. A line of twins.txt is for an edit, and has
   a text, or `-`, for each that the edit replaces. The README.md of a crate's must-fail edits
   names each of them, and no others. If its last column, "Refused by", begins with a name, the code has a function of that
-  name. What an edit replaces stands once in its file.
+  name; and each definition in that column is in the file that is named before it. What an edit replaces stands once in its
+  file.
 - lines: no line of the code or of a definition is longer than 120 characters.
 - kits: README.md names the kit that `rt version` names, among those that the proofs were made with, in one place.
 - versions: the header, the Rust crate, the Python module and the newest entry of CHANGELOG.md have the version of VERSION.
@@ -214,12 +215,16 @@ def misplaced(path, crate):
 
 
 def refused_by_none(path, names):
-    """The functions that are said to refuse an edit, and are not in the code."""
+    """The functions and definitions that are said to refuse an edit, and are not there."""
     for line in read(path).split("\n"):
         cells = re.fullmatch(r"\| `(\w+)` \|.*\|([^|]*)\|", line)
         name = re.match(r" `(?:\w+::)?(\w+)`", cells[2]) if cells else None
         if name and name[1] not in names:
             yield f"{path}: {cells[1]} is refused by {name[1]}, which is no function"
+        for file, definition, crate in re.findall(r"`((?:inside\.)?[A-Z]\w*)\.(\w+)`(?: of `(\w+)`)?", cells[2] if cells else ""):
+            specs = f"crates/{crate or path.split('/')[1]}/specs/{file.replace('.', '/')}.antt"
+            if not found(specs) or definition not in dict(statements(read(specs))):
+                yield f"{path}: {cells[1]} is refused by {definition}, which is not in {specs}"
 
 
 def check_edits():
