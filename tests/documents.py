@@ -28,7 +28,8 @@ One line of output for each check; what is wrong is printed before it. The check
 - folders: a folder with more than eight files has a README.md, but for proofs. That of a folder of code or of definitions is
   the one that `./dev folders` writes, from the first sentence of each file.
 - picture: that of docs/ARCHITECTURE.md is the one that `./dev folders` draws, and each module that it is to show is in it.
-- headline: the list in docs/ARCHITECTURE.md has the files that Headline.antt stands on, and no others, with their lines.
+- headline: the lists in docs/ARCHITECTURE.md are those that `./dev folders` writes: the files that Headline.antt stands on, in an
+  order chosen by hand, and those that what bytes spell adds. The headline reaches none of what is read of a list of characters.
 - scripts: the table of tests/README.md has a line for each script of tests/, and no others.
 """
 
@@ -40,6 +41,7 @@ import sys
 
 sys.path.insert(0, os.path.join(os.path.dirname(os.path.abspath(__file__)), "lib"))
 sys.dont_write_bytecode = True
+import headline
 from citing import statements
 from clauses import is_stale as are_clauses_stale, uncited
 from folders import MOST_FILES, long_folders, sentence, sources, stale
@@ -344,13 +346,11 @@ def check_picture():
 # HEADLINE
 
 def check_headline():
-    said = dict(re.findall(r"^\d+\. `(\w+)\.antt`, (\d+) lines", read("docs/ARCHITECTURE.md"), re.M))
-    texts = {name: read(f"crates/yaml_scan/specs/{name}.antt") for name in said}
-    lines = {name: text.count("\n") for name, text in texts.items()}
-    used = re.findall(r"^(?:pub )?use Rattle\.yaml_scan\.specs\.([A-Z]\w*)", "".join(texts.values()), re.M)
-    wrong = [f"ARCHITECTURE.md: what the headline stands on: {name}" for name in sorted({"Headline", *used} ^ set(said))]
-    wrong += [f"ARCHITECTURE.md: {name}.antt has {lines[name]} lines" for name in said if int(said[name]) != lines[name]]
-    return len(said), wrong
+    reached = headline.closure(headline.HEADLINE)
+    wrong = [f"tests/lib/headline.py: {path} is in the order and not reached, or reached and not there" for path in headline.unlisted()]
+    wrong += [f"{headline.path_of(place)}: Headline.antt reaches it" for place in (headline.BYTES, headline.READING) if place in reached]
+    wrong += ["docs/ARCHITECTURE.md: the lists are not what ./dev folders writes"] if headline.is_stale() else []
+    return len(reached), wrong
 
 
 # SCRIPTS

@@ -57,7 +57,7 @@ def heads(text):
             name, head = begun[1], []
         if name:
             head.append(line)
-        if name and (line.strip() == "{" or line.endswith(";") or line.endswith(" {") and not CLAUSE.match(line)):
+        if name and (line.strip() in ("{", "{}") or line.endswith(";") or line.endswith(" {") and not CLAUSE.match(line)):
             yield name, "\n".join(head)
             name = None
 

@@ -5,9 +5,6 @@ use Rattle.yaml_text.specs.Classes.{is_blank, is_break, is_z}
 abbrev pub line_feed : ℕ
 line_feed = 0x0A
 
-abbrev pub carriage_return : ℕ
-carriage_return = 0x0D
-
 -- the two breaks that a value keeps as themselves: line and paragraph separator (YAML 1.1, 5.4 Line Break
 -- Characters)
 abbrev pub is_kept_break : ℕ → Bool

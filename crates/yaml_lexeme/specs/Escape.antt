@@ -1,9 +1,10 @@
 -- Escapes in double quotes (YAML 1.1, 5.6 Escape Sequences).
-use Rattle.std.specs.Prelude.{ℕ, Bool, not, ◌&&◌, ◌||◌, ◌==◌, nat_lt, nat_le, if◌then◌else◌, length, take, Option}
+use Rattle.std.specs.Prelude.{ℕ, not, ◌&&◌, ◌||◌, ◌==◌, nat_lt, if◌then◌else◌, length, take, Option}
 use Rattle.std.specs.Prelude.{Some, None}
 use Rattle.std.specs.List.{list_all}
 use Rattle.std.specs.Str.Parse.{digits_value}
 use Rattle.yaml_text.specs.Classes.{is_hex}
+use Rattle.yaml_text.specs.Utf8.{is_scalar}
 use Rattle.yaml_lexeme.specs.declared.problem.yaml_problem_t.TheVariants.{UNKNOWN_ESCAPE, NO_HEX_DIGIT, NO_SCALAR_VALUE}
 use Rattle.yaml_lexeme.specs.Place.{Place, peek, skip}
 use Rattle.yaml_lexeme.specs.Reading.{Read, found, refuse}
@@ -33,9 +34,6 @@ simple_escape c =
 -- how many hex digits follow `x`, `u` and `U`
 abbrev pub hex_len : ℕ → ℕ
 hex_len c = if c == 0x78 then 2 else if c == 0x75 then 4 else if c == 0x55 then 8 else 0
-
-abbrev pub is_scalar : ℕ → Bool
-is_scalar c = nat_lt c 0xD800 || (nat_le 0xE000 c && nat_le c 0x10_FFFF)
 
 -- n hex digits that spell a character
 unfoldable pub hex_escape : ℕ → Place → Read ℕ

@@ -4,8 +4,10 @@ pub mod Reading
 pub mod Gap
 pub mod GapText
 pub mod Kind
+pub mod KindSets
 pub mod Fold
 pub mod Lexeme
+pub mod LexemeOf
 pub mod StreamEnd
 pub mod Escape
 pub mod Quoted
@@ -16,6 +18,7 @@ pub mod Uri
 pub mod Tag
 pub mod Directive
 pub mod Lex
+pub mod Decider
 pub mod FaultTexts
 pub mod Answers
 pub mod Order

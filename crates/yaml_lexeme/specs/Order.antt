@@ -1,5 +1,5 @@
 -- The order of places and of marks.
-use Rattle.std.specs.Prelude.{◌≡◌, ℕ, ◌+◌, ◌≤◌, Bool, true, false, length, Some, Ok, Err}
+use Rattle.std.specs.Prelude.{◌≡◌, ℕ, ◌+◌, ◌≤◌, Bool, true, false, length, Some, Ok, Err, ◌-◌}
 use Rattle.yaml_text.specs.declared.types.yaml_mark_t.{yaml_mark_t}
 use Rattle.yaml_lexeme.specs.declared.kind.yaml_lexeme_kind_t.{yaml_lexeme_kind_t}
 use Rattle.yaml_lexeme.specs.declared.kind.yaml_lexeme_kind_t.TheVariants as kind
@@ -80,3 +80,7 @@ abbrev pub LexemeFollows : Type 0
 LexemeFollows = (k : yaml_lexeme_kind_t) (c : yaml_context_t) (allowed : Bool) (q : Place) (f : Found yaml_lexeme_t)
     → let p = (gap (in_flow c) allowed q).0 in
     kind_at (in_flow c) p ≡ Some k → lex k c p ≡ Ok f → Follows k q.mark f.value
+
+-- how many characters are from p up to q, which is ahead of it
+abbrev pub distance : Place → Place → ℕ
+distance p q = length p.rest - length q.rest

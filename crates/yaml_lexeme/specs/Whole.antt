@@ -1,7 +1,7 @@
 -- Places where reading ends are not between CR and LF, so that their marks are the counted ones.
 use Rattle.std.specs.Prelude.{ℕ, ◌≡◌, ◌≤◌, ◌↔◌, Bool, List, length, Some, Ok, Err}
-use Rattle.yaml_text.specs.Chars.{AreChars}
-use Rattle.yaml_text.specs.Mark.{IsPlaceAt, IsMarkAt, mark_at}
+use Rattle.yaml_text.specs.TextBytes.{AreChars}
+use Rattle.yaml_text.specs.CountedMark.{IsPlaceAt, IsMarkAt, mark_at}
 use Rattle.yaml_text.specs.Token.{TokenData as token}
 use Rattle.yaml_text.specs.declared.types.yaml_mark_t.{yaml_mark_t}
 use Rattle.yaml_lexeme.specs.declared.kind.yaml_lexeme_kind_t.{yaml_lexeme_kind_t}

@@ -8,7 +8,7 @@ ghost use Rattle.yaml_lexeme.specs.Classes as sets;
 ghost use Rattle.yaml_lexeme.specs.Place.{Place, first, peek, run, after_run};
 ghost use Rattle.yaml_lexeme.specs.Plain as spec;
 ghost use Rattle.yaml_lexeme.specs.inside.Gives.{Gives, Appends};
-ghost use Rattle.yaml_lexeme.specs.Lexeme.{scalar_of};
+ghost use Rattle.yaml_lexeme.specs.LexemeOf.{scalar_of};
 ghost use Rattle.yaml_lexeme.specs.Reading.{with_front, over};
 ghost use Rattle.yaml_lexeme.specs.inside.Words.{links, words, plain_of, Goes, LeadsTo, Leaves, LeavesMore};
 

@@ -2,7 +2,7 @@
 -- of the text, so none is between CR and LF. The one exception is the mark of the end of a stream.
 use Rattle.std.specs.Prelude.{◌≡◌, ◌⊎◌, ℕ, List, [], ◌∷◌, length, Some, IfSome}
 use Rattle.yaml_text.specs.Decode.{front}
-use Rattle.yaml_text.specs.Mark.{IsMarkAt, mark_at}
+use Rattle.yaml_text.specs.CountedMark.{IsMarkAt, mark_at}
 use Rattle.yaml_text.specs.declared.types.yaml_encoding_t.{yaml_encoding_t}
 use Rattle.yaml_text.specs.declared.types.yaml_mark_t.{yaml_mark_t}
 use Rattle.yaml_text.specs.declared.types.yaml_token_type_t.{yaml_token_type_t}

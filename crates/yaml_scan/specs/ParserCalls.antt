@@ -9,12 +9,31 @@ use Rattle.yaml_text.specs.Fault.{fault_of}
 use Rattle.yaml_text.specs.Token.{token_of}
 use Rattle.yaml_scan.specs.Token.{yaml_token_t, empty}
 use Rattle.yaml_scan.specs.Groups.{Token, handed_out}
-use Rattle.yaml_scan.specs.Answers.{Input}
+use Rattle.yaml_scan.specs.Answers.{Input, Course}
 use Rattle.yaml_scan.specs.Near.{starts_near}
-use Rattle.yaml_scan.specs.Session.{Answer, next_token}
+use Rattle.yaml_scan.specs.Session.{Call, Answer, next_token}
 use Rattle.yaml_scan.specs.Session.Answer.{TOKEN, PEEKED, FAULT}
-use Rattle.yaml_scan.specs.Parser.{Parser, input_read, course_read}
+use Rattle.yaml_scan.specs.Parser.{Parser, course_by, answer_by, after_by}
+use Rattle.yaml_scan.specs.Decoded.{decoded_input}
 
+-- WHAT BYTES SPELL
+-- the input of a parser
+abbrev pub input_read : Parser → Input
+input_read p = decoded_input p.setting p.input
+
+-- its course
+abbrev pub course_read : Parser → Course
+course_read p = course_by decoded_input p
+
+-- the answer to a call
+abbrev pub answered : Parser → Call → Answer
+answered p call = answer_by decoded_input p call
+
+-- the parser after a call
+abbrev pub after_call : Parser → Call → Parser
+after_call p call = after_by decoded_input p call
+
+-- WHAT FUNCTIONS RETURN
 -- a token or a fault of the code, as an answer
 abbrev pub told : Result code_token_t yaml_fault_t → Answer
 told (Ok token) = TOKEN (token_of token)

@@ -2,6 +2,8 @@
 use Rattle.std.specs.Prelude.{◌≡◌, ◌≢◌, ◌⊎◌, ◌↔◌, ℕ, ◌+◌, ◌<◌, false, Option, None, Some, IfSome, List, []}
 use Rattle.std.specs.Prelude.{◌∷◌, ◌++◌, map, take, drop, replicate, length, slice_get}
 use Rattle.yaml_text.specs.declared.types.yaml_encoding_t.{yaml_encoding_t}
+use Rattle.yaml_scan.specs.Decoded.{decoded_input}
+use Rattle.yaml_scan.specs.ParserCalls.{input_read, course_read, answered}
 use Rattle.yaml_scan.specs.declared.calls.yaml_answer_t.{yaml_answer_t}
 use Rattle.yaml_scan.specs.Token.{yaml_token_t, empty}
 use Rattle.yaml_scan.specs.Fault.{Fault, memory_fault}
@@ -11,7 +13,7 @@ use Rattle.yaml_scan.specs.Inputs.{answers_to, GoesOn}
 use Rattle.yaml_scan.specs.Session.{Call, Answer, next_token}
 use Rattle.yaml_scan.specs.Sessions.{session, after_all}
 use Rattle.yaml_scan.specs.Session.Call.{SKIP}
-use Rattle.yaml_scan.specs.Parser.{Parser, answered, course_read, input_read}
+use Rattle.yaml_scan.specs.Parser.{Parser}
 use Rattle.yaml_scan.specs.Session.Answer.{FAULT}
 use Rattle.yaml_scan.specs.Seen.{Seen, seen, seen_of, idle, Seen as sight}
 use Rattle.yaml_scan.specs.Headline.{WantsMemory, Runs}
@@ -51,7 +53,7 @@ pub record RunsOut (p : Parser) (calls : List Call) (all : List Seen) (q : Parse
   pub within : n < length calls
   -- a skip needs no memory
   pub asks : slice_get calls n ≢ Some SKIP
-  pub wants : WantsMemory (after_calls p (take n calls)) q
+  pub wants : WantsMemory decoded_input (after_calls p (take n calls)) q
   pub answers : all
       ≡ map seen (answered_all p (take n calls)) ++ (sight.FAULT memory_fault ∷ map idle (drop (n + 1) calls))
 
@@ -141,4 +143,4 @@ OfSession p calls answers q =
 -- calls that are answered one after the other, each on the parser that the one before it left, are answered just so
 abbrev pub CallsAreSession : Type 0
 CallsAreSession = (p : Parser) (calls : List Call) (answers : List Seen) (q : Parser)
-    → Runs p calls answers q ↔ OfSession p calls answers q
+    → Runs decoded_input p calls answers q ↔ OfSession p calls answers q

@@ -77,7 +77,7 @@ ReadsOn p calls old new q = (n : ℕ) → calls ≡ scans n → length (left_to 
 -- one of them
 abbrev pub ScansReadOn : Type 0
 ScansReadOn = (p : Parser) (results : List (Result code_token_t yaml_fault_t)) (q : Parser)
-    → Runs p (scans (length results)) (map seen (map told results)) q
+    → Runs decoded_input p (scans (length results)) (map seen (map told results)) q
     → length (left_to p).tokens < length results
     → (map told results ≡ all_told (left_to p) (length results))
     ⊎ RunsOut p (scans (length results)) (map seen (map told results)) q
@@ -99,4 +99,4 @@ FaultIsToldOnce = (limit : ℕ) (setting : yaml_encoding_t) (input : List ℕ) (
 -- a fault is returned at most once, also if memory was refused
 abbrev pub RunsFaultOnce : Type 0
 RunsFaultOnce = (p : Parser) (calls : List Call) (answers : List Seen) (q : Parser)
-    → Runs p calls answers q → HaveOneFault answers
+    → Runs decoded_input p calls answers q → HaveOneFault answers

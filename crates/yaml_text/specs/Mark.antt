@@ -1,31 +1,12 @@
--- Marks: how far into a text a place is, and in which line and column (YAML 1.1, section 5.4).
+-- How a mark moves on: how far into a text a place is, and in which line and column (YAML 1.1, section 5.4).
 use Rattle.std.specs.Char.{len_utf8}
-use Rattle.std.specs.Prelude.{ℕ, zero, suc, ◌≡◌, ◌+◌, ◌-◌, ◌≤◌, Bool, false, ◌&&◌, not, List, [], ◌∷◌, length}
-use Rattle.std.specs.Prelude.{take, drop, reverse, slice_index, if◌then◌else◌}
-use Rattle.std.specs.List.{prefix_len}
-use Rattle.yaml_text.specs.Chars.{utf8}
+use Rattle.std.specs.Prelude.{ℕ, zero, suc, ◌+◌, Bool, ◌&&◌, not, List, [], ◌∷◌, slice_index, if◌then◌else◌}
 use Rattle.yaml_text.specs.Classes.{is_break, is_crlf}
 use Rattle.yaml_text.specs.declared.types.yaml_mark_t.{yaml_mark_t}
 
 -- A break ends at c, before the characters after: c is a break, and not the first half of CR LF.
 abbrev pub ends_break : ℕ → List ℕ → Bool
 ends_break c after = is_break c && not (is_crlf c (slice_index after 0))
-
-abbrev pub one_more_if : Bool → ℕ → ℕ
-one_more_if b n = if b then suc n else n
-
--- how many breaks are in the characters
-abbrev pub breaks : List ℕ → ℕ
-breaks [] = 0
-breaks (c ∷ after) = one_more_if (ends_break c after) (breaks after)
-
--- how many characters come after the last break
-unfoldable pub column : List ℕ → ℕ
-column cs = prefix_len (λ c. not (is_break c)) (reverse cs)
-
--- the mark after these characters
-abbrev pub mark_of : List ℕ → yaml_mark_t
-mark_of before = record { index = length (utf8 before); line = breaks before; column = column before }
 
 -- The mark after one character c more, which the characters `after` follow.
 abbrev pub mark_after : yaml_mark_t → ℕ → List ℕ → yaml_mark_t
@@ -38,25 +19,3 @@ abbrev pub mark_on : ℕ → yaml_mark_t → List ℕ → yaml_mark_t
 mark_on zero m cs = m
 mark_on (suc n) m [] = m
 mark_on (suc n) m (c ∷ cs) = mark_on n (mark_after m c cs) cs
-
--- CR and LF of one break are on the two sides
-abbrev pub cuts_break : List ℕ → List ℕ → Bool
-cuts_break before left = is_crlf (slice_index before (length before - 1)) (slice_index left 0)
-
--- The place p of a text is at this index of its UTF-8, and not between CR and LF.
-pub record IsPlaceAt (text : List ℕ) (index p : ℕ) : Type 0 where
-  pub within : p ≤ length text
-  pub index_is : index ≡ length (utf8 (take p text))
-  pub whole : cuts_break (take p text) (drop p text) ≡ false
-
-abbrev pub IsPlace : List ℕ → ℕ → Type 0
-IsPlace text index = (p : ℕ) × IsPlaceAt text index p
-
--- the mark of the place p
-abbrev pub mark_at : List ℕ → ℕ → yaml_mark_t
-mark_at text p = mark_of (take p text)
-
--- the mark is that of the place p of the text
-pub record IsMarkAt (text : List ℕ) (mark : yaml_mark_t) (p : ℕ) : Type 0 where
-  pub place : IsPlaceAt text mark.index p
-  pub mark_is : mark ≡ mark_at text p

@@ -4,7 +4,7 @@ use Rattle.std.proofs.Math.Bool.{and-false}
 use Rattle.std.proofs.Math.Seq.{take-length, drop-length}
 use Rattle.yaml_text.specs.declared.types.yaml_mark_t.{yaml_mark_t}
 use Rattle.yaml_text.specs.Chars.{utf8}
-use Rattle.yaml_text.specs.Mark.{IsPlaceAt, mark_at, mark_of}
+use Rattle.yaml_text.specs.CountedMark.{IsPlaceAt, mark_at, mark_of}
 
 -- a text's end is a place
 pub IsPlaceAt-end : (cs : List ℕ) → IsPlaceAt cs (length (utf8 cs)) (length cs)

@@ -56,7 +56,7 @@ use Rattle.yaml_text.specs.Token.{Token, TokenData}
 use Rattle.yaml_text.specs.Token.TokenData.{STREAM_START, VERSION_DIRECTIVE, TAG_DIRECTIVE, ALIAS, ANCHOR, TAG, SCALAR}
 use Rattle.yaml_text.specs.Token.{type_of}
 use Rattle.yaml_text.specs.Chars.{utf8}
-use Rattle.yaml_text.specs.Mark.{mark_of}
+use Rattle.yaml_text.specs.CountedMark.{mark_of}
 use Rattle.yaml_text.specs.Text.{Text}
 use Rattle.yaml_text.specs.Fault.{Fault}
 use Rattle.yaml_scan.specs.Seen.{Seen}

@@ -3,7 +3,7 @@
 //! allocated.
 ghost use Rattle.std.specs.Prelude.{◌≡◌, ◌++◌, ◌∷◌, [], codes, map, OnOk, OnErr};
 ghost use Rattle.yaml_text.specs.Fault.{fault_of};
-ghost use Rattle.yaml_text.specs.Mark.{mark_of};
+ghost use Rattle.yaml_text.specs.CountedMark.{mark_of};
 ghost use Rattle.yaml_text.specs.Token.{data_of, token_of};
 ghost use Rattle.yaml_scan.specs.Words.{HasLine, HasWords};
 ghost use Rattle.yaml_scan.specs.Seen.{seen_of};

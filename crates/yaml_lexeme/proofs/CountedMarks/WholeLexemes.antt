@@ -35,7 +35,7 @@ use Rattle.yaml_lexeme.specs.Tag.{tag}
 use Rattle.yaml_lexeme.specs.Whole.{IsWhole, GapIsWhole, ReachIsWhole, EndIsWhole, IsCounted, GapIsCounted, LexemeIsCounted, ProblemIsCounted}
 use Rattle.yaml_text.specs.Chars.{utf8}
 use Rattle.yaml_text.specs.Classes.{is_z, is_crlf}
-use Rattle.yaml_text.specs.Mark.{cuts_break, IsPlaceAt, mark_at}
+use Rattle.yaml_text.specs.CountedMark.{cuts_break, IsPlaceAt, mark_at}
 
 -- no lexeme begins with a CR
 no_kind : (flow : Bool) (p : Place) → first p ≡ 0x0D → kind_at flow p ≡ None

@@ -15,9 +15,11 @@ use Rattle.yaml_lexeme.proofs.MarkOrder.ScalarsAhead.{body_goes}
 use Rattle.yaml_lexeme.specs.Block.{is_sign, digit_at, header_at, is_indenting, indent_len, after_indent, blank_line, Blanks, blank_lines, Line, line_at, is_text, text_line, end_of, block, block_indent, set_indent}
 use Rattle.yaml_lexeme.specs.Classes.{ends, is_white, is_in_line}
 use Rattle.yaml_lexeme.specs.Directive.{directive}
-use Rattle.yaml_lexeme.specs.Escape.{backslash, escape, hex_escape, simple_at, hex_len, simple_escape, is_scalar}
+use Rattle.yaml_lexeme.specs.Escape.{backslash, escape, hex_escape, simple_at, hex_len, simple_escape}
+use Rattle.yaml_text.specs.Utf8.{is_scalar}
 use Rattle.yaml_lexeme.specs.Kind.{is_marker}
-use Rattle.yaml_lexeme.specs.Place.{Place, first, peek, skip, mark_after, run, run_len, after_run, break_len}
+use Rattle.yaml_lexeme.specs.Place.{Place, first, peek, skip, run, run_len, after_run, break_len}
+use Rattle.yaml_lexeme.specs.inside.Moves.{mark_after}
 use Rattle.yaml_lexeme.proofs.Readers.PlainLinks.{tab_from, separator_is}
 use Rattle.yaml_lexeme.specs.Plain.{is_chunk, is_bad_colon, chunk_len, chunk, untabbed, separator, is_over, link, plain}
 use Rattle.yaml_lexeme.specs.Quoted.{quote, unmarked, body_part, spelled, quoted}

@@ -25,7 +25,8 @@ use Rattle.yaml_lexeme.specs.Uri.{octet, next_octets, uri_escape, uri_part, uri,
 use Rattle.yaml_lexeme.specs.Tag.{angled, handled, tag}
 use Rattle.yaml_lexeme.specs.Directive.{number, version_at, handle_at, tag_directive_at, named, directive}
 use Rattle.yaml_lexeme.specs.FaultTexts.{problem_text, context_text}
-use Rattle.yaml_lexeme.specs.Lex.{lex, lexeme_at}
+use Rattle.yaml_lexeme.specs.Lex.{lex}
+use Rattle.yaml_lexeme.specs.Answers.{lexeme_at}
 
 abbrev at : ℕ → ℕ → ℕ → yaml_mark_t
 at i l c = record { index = i; line = l; column = c }

@@ -12,7 +12,8 @@ use Rattle.yaml_lexeme.proofs.Readers.PlainLinks.{chunk_more, chunk_there}
 use Rattle.yaml_lexeme.specs.Block.{is_sign, digit_at, header_at, after_line, is_indenting, indent_len, after_indent, blank_line, Blanks, blank_lines, Line, line_at, is_text, text_line, end_of, block, block_indent, set_indent}
 use Rattle.yaml_lexeme.specs.Classes.{ends, is_white, is_in_line}
 use Rattle.yaml_lexeme.specs.Directive.{directive}
-use Rattle.yaml_lexeme.specs.Escape.{escape, hex_escape, simple_at, hex_len, simple_escape, is_scalar}
+use Rattle.yaml_lexeme.specs.Escape.{escape, hex_escape, simple_at, hex_len, simple_escape}
+use Rattle.yaml_text.specs.Utf8.{is_scalar}
 use Rattle.yaml_lexeme.specs.Gap.{after_comment}
 use Rattle.yaml_lexeme.specs.Kind.{is_marker}
 use Rattle.yaml_lexeme.specs.Order.{IsAhead, Spans}

@@ -16,7 +16,8 @@ use Rattle.yaml_lexeme.proofs.Parts.ReadResults.{value_or, end_or}
 use Rattle.yaml_lexeme.specs.Classes.{is_white, ends}
 use Rattle.yaml_lexeme.specs.Fold.{fold}
 use Rattle.yaml_lexeme.specs.inside.Gives.{Refuses, TakesPart, TakesRead}
-use Rattle.yaml_lexeme.specs.Place.{Place, first, peek, skip, skip_from, run, run_len, after_run, mark_after}
+use Rattle.yaml_lexeme.specs.Place.{Place, first, peek, skip, run, run_len, after_run}
+use Rattle.yaml_lexeme.specs.inside.Moves.{skip_from, mark_after}
 use Rattle.yaml_lexeme.specs.Plain.{is_bad_tab, has_bad_tab, bad_tab, is_flow_indicator, is_bad_colon, is_chunk, chunk_len, chunk, untabbed, separator, is_over, link, plain}
 use Rattle.yaml_lexeme.specs.Reading.{Read, found, Part, part, refuse, over, many, with_front, ◌>>=◌}
 use Rattle.yaml_text.specs.Chars.{utf8}

@@ -3,7 +3,7 @@ use Rattle.std.proofs.Common.{◌≡◌, ℕ, zero, suc, ◌+◌, ◌<◌, ◌�
 use Rattle.std.proofs.lemmas.List.{map-append}
 use Rattle.yaml_text.specs.declared.types.yaml_encoding_t.{yaml_encoding_t}
 use Rattle.yaml_text.specs.Decode.{front}
-use Rattle.yaml_text.specs.Chars.{AreChars}
+use Rattle.yaml_text.specs.TextBytes.{AreChars}
 use Rattle.yaml_text.proofs.Decodings.DecodeResults.{front_is}
 use Rattle.yaml_scan.specs.Fault.{Fault}
 use Rattle.yaml_scan.specs.Token.{yaml_token_t}

@@ -5,7 +5,7 @@ use Rattle.yaml_scan.specs.declared.fault.stop_t.{stop_t}
 use Rattle.yaml_scan.specs.inside.Stop.{fault_at}
 use Rattle.std.proofs.lemmas.Bool.{cases_eq, false≢true}
 use Rattle.yaml_text.specs.Fault.{Fault, memory_fault}
-use Rattle.yaml_text.specs.Decode.{refusal_seen}
+use Rattle.yaml_text.specs.Decoding.{refusal_seen}
 use Rattle.yaml_scan.specs.declared.groups.group_t.{group_t}
 use Rattle.yaml_scan.specs.declared.scanner.scanner_t.{scanner_t}
 use Rattle.yaml_scan.specs.Lexeme.{Lexeme}

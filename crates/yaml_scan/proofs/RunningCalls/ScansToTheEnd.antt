@@ -22,8 +22,8 @@ use Rattle.yaml_scan.specs.Sessions.{after_all}
 use Rattle.yaml_scan.specs.Settled.{settled, pace}
 use Rattle.yaml_scan.specs.Session.Call.{SCAN}
 use Rattle.yaml_scan.specs.Session.Answer.{TOKEN, FAULT}
-use Rattle.yaml_scan.specs.Parser.{Parser, answered, after_call, course_read, input_read}
-use Rattle.yaml_scan.specs.ParserCalls.{told}
+use Rattle.yaml_scan.specs.Parser.{Parser, course_by}
+use Rattle.yaml_scan.specs.ParserCalls.{told, input_read, course_read, answered, after_call}
 use Rattle.yaml_scan.specs.Headline.{WantsMemory, Calls}
 use Rattle.yaml_scan.specs.Scanned.{Scanned}
 use Rattle.yaml_scan.specs.All.{AllOf, AreSettled, ReadsAll}
@@ -126,7 +126,7 @@ module _ (limit : ℕ) (setting : yaml_encoding_t) (input : List ℕ) where
     input_same = rw (h.input_is, h.setting_is) refl
 
     course_same : course_read q ≡ C
-    unfolding course_read
+    unfolding course_by
     course_same = rw (h.input_is, h.setting_is, h.limit_is) refl
 
     -- the answer, with the parser's own words
@@ -157,7 +157,7 @@ module _ (limit : ℕ) (setting : yaml_encoding_t) (input : List ℕ) where
       is : x ≡ handed_out I.encoding token
       left : r ≡ after_call q SCAN
 
-    next_is : (x : yaml_token_t) (r : Parser) → Calls SCAN q (TOKEN x) r → IsNextToken x r
+    next_is : (x : yaml_token_t) (r : Parser) → Calls decoded_input SCAN q (TOKEN x) r → IsNextToken x r
     next_is x r (inr w) = absurd (no_fault x memory_fault w.0)
     next_is x r (inl w) = go (next_token limit C S) refl (w.0 ∙ answer_same)
       where
@@ -166,7 +166,7 @@ module _ (limit : ℕ) (setting : yaml_encoding_t) (input : List ℕ) where
         go None e k = let f = stuck e in absurd (no_fault x f.0 (k ∙ ap why f.1))
 
     -- one token more
-    pub scans_on : (x : yaml_token_t) (r : Parser) (last : Bool) → last ≡ is_last_type (type_of x.token_data) → Calls SCAN q (TOKEN x) r → HasScanned r (tokens ++ x ∷ []) last × (r.session.taken ≡ S.taken + 1)
+    pub scans_on : (x : yaml_token_t) (r : Parser) (last : Bool) → last ≡ is_last_type (type_of x.token_data) → Calls decoded_input SCAN q (TOKEN x) r → HasScanned r (tokens ++ x ∷ []) last × (r.session.taken ≡ S.taken + 1)
     scans_on x r last l w = (
       record {
         input_is = ap (λ (z : Parser). z.input) n.left ∙ h.input_is;
@@ -212,7 +212,7 @@ module _ (limit : ℕ) (setting : yaml_encoding_t) (input : List ℕ) where
     no_token x f e = cc
 
     -- a growth was refused
-    scans_short : (r : Parser) → WantsMemory q r → AreSettled limit setting input tokens
+    scans_short : (r : Parser) → WantsMemory decoded_input q r → AreSettled limit setting input tokens
     unfolding answers_to answers
     scans_short r w = record {
       steps = S.steps;
@@ -227,7 +227,7 @@ module _ (limit : ℕ) (setting : yaml_encoding_t) (input : List ℕ) where
         unsettled = sym (ap (λ (c : Course). settled q.limit c.read S.taken r.session.steps) course_same ∙ ap (λ (n : ℕ). settled n C.read S.taken r.session.steps) h.limit_is) ∙ w.unsettled
 
     -- a fault
-    pub scans_fault : (f : yaml_fault_t) (r : Parser) → Calls SCAN q (told (Err f)) r → ReadsAll limit setting input tokens (Some (fault_of f))
+    pub scans_fault : (f : yaml_fault_t) (r : Parser) → Calls decoded_input SCAN q (told (Err f)) r → ReadsAll limit setting input tokens (Some (fault_of f))
     unfolding answers_to answers
     scans_fault f r (inr w) = inr (scans_short r w.1, ap Some (fault_same (fault_of f) memory_fault w.0))
     scans_fault f r (inl w) = inl (go (next_token limit C S) refl (w.0 ∙ answer_same))

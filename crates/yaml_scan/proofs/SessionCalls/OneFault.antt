@@ -3,6 +3,7 @@ use Rattle.std.proofs.Common.{◌≡◌, ℕ, suc, ◌+◌, ◌≤◌, Bool, tru
 use Rattle.std.specs.Prelude.{filter, ◌⊎◌, if◌then◌else◌}
 use Rattle.std.proofs.lemmas.Bool.{cases_Bool, false≢true}
 use Rattle.yaml_text.specs.declared.types.yaml_encoding_t.{yaml_encoding_t}
+use Rattle.yaml_scan.specs.ParserCalls.{input_read, course_read}
 use Rattle.yaml_scan.specs.Token.{empty}
 use Rattle.yaml_scan.specs.Fault.{Fault, memory_fault}
 use Rattle.yaml_scan.specs.Groups.{Token}
@@ -13,7 +14,6 @@ use Rattle.yaml_scan.specs.Sessions.{session, after_all}
 use Rattle.yaml_scan.specs.Session.{scan_answer, peek_answer, after_scan, after_peek, after_skip}
 use Rattle.yaml_scan.specs.Session.Call.{SCAN, PEEK, SKIP}
 use Rattle.yaml_scan.specs.Session.Answer.{TOKEN, PEEKED, SKIPPED, NOTHING}
-use Rattle.yaml_scan.specs.Parser.{course_read, input_read}
 use Rattle.yaml_scan.specs.Seen.{Seen, seen, idle, Seen as sight}
 use Rattle.yaml_scan.specs.Puts.{answered_all, OfSession}
 use Rattle.yaml_scan.specs.ReadingOn.{is_fault, HaveOneFault, FaultIsToldOnce, RunsFaultOnce}

@@ -17,7 +17,7 @@ use Rattle.yaml_scan.specs.Sessions.{new_session, session}
 use Rattle.yaml_scan.specs.Session.{took, paced, finished, why, scan_answer, after_scan}
 use Rattle.yaml_scan.specs.Session.Call.{SCAN}
 use Rattle.yaml_scan.specs.Session.Answer.{TOKEN, PEEKED, SKIPPED, NOTHING, FAULT}
-use Rattle.yaml_scan.specs.Parser.{Parser, course_read}
+use Rattle.yaml_scan.specs.Parser.{Parser, course_by}
 use Rattle.yaml_scan.specs.ParserCalls.{told}
 use Rattle.yaml_scan.specs.Headline.{Runs, PutsAnswers}
 use Rattle.yaml_scan.specs.Puts.{answered_all, RunsOut, OfSession}
@@ -145,11 +145,11 @@ all_is_told limit setting input n l = rest_is_told limit setting input new_sessi
 
 -- what is left to a parser
 rest_of : (p : Parser) (n : ℕ) → length (left_to p).tokens < n → answered_all p (scans n) ≡ all_told (left_to p) n
-unfolding course_read
+unfolding course_by
 rest_of p n l = rest_is_told p.limit p.setting p.input p.session n l
 
-pub reads_on : (p : Parser) (calls : List Call) (old new : List yaml_answer_t) (q : Parser) → PutsAnswers p calls old new q → ReadsOn p calls old new q
-reads_on p calls old new q g n e l = record { more = g.more; is = g.is; told = go (of_session p (scans n) (map seen_of g.more) q (subst (λ (z : List Call). Runs p z (map seen_of g.more) q) e g.runs)) }
+pub reads_on : (p : Parser) (calls : List Call) (old new : List yaml_answer_t) (q : Parser) → PutsAnswers decoded_input p calls old new q → ReadsOn p calls old new q
+reads_on p calls old new q g n e l = record { more = g.more; is = g.is; told = go (of_session p (scans n) (map seen_of g.more) q (subst (λ (z : List Call). Runs decoded_input p z (map seen_of g.more) q) e g.runs)) }
   where
     go : OfSession p (scans n) (map seen_of g.more) q → (map seen_of g.more ≡ map seen (all_told (left_to p) n)) ⊎ RunsOut p (scans n) (map seen_of g.more) q
     go (inl r) = inl (r.0 ∙ ap (λ (z : List Answer). map seen z) (rest_of p n l))

@@ -3,6 +3,8 @@ use Rattle.std.proofs.Common.{◌≡◌, ℕ, zero, suc, ◌+◌, Bool, true, fa
 use Rattle.std.specs.Prelude.{if◌then◌else◌}
 use Rattle.std.proofs.lemmas.Bool.{cases_Bool, cond_both, false≢true}
 use Rattle.yaml_text.specs.declared.types.yaml_encoding_t.{yaml_encoding_t}
+use Rattle.yaml_scan.specs.Decoded.{decoded_input}
+use Rattle.yaml_scan.specs.ParserCalls.{input_read, course_read}
 use Rattle.yaml_scan.specs.declared.calls.yaml_answer_t.{yaml_answer_t}
 use Rattle.yaml_scan.specs.Token.{yaml_token_t, empty}
 use Rattle.yaml_scan.specs.Fault.{Fault, memory_fault}
@@ -14,7 +16,7 @@ use Rattle.yaml_scan.specs.Sessions.{session, after_all}
 use Rattle.yaml_scan.specs.Session.{looked, finished, why, scan_answer, peek_answer, after_scan, after_peek, after_skip}
 use Rattle.yaml_scan.specs.Session.Call.{SCAN, PEEK, SKIP}
 use Rattle.yaml_scan.specs.Session.{Answer as says}
-use Rattle.yaml_scan.specs.Parser.{Parser, course_read, input_read}
+use Rattle.yaml_scan.specs.Parser.{Parser, course_by}
 use Rattle.yaml_scan.specs.Seen.{Seen, seen, seen_of, idle}
 use Rattle.yaml_scan.specs.Headline.{Runs, PutsAnswers}
 use Rattle.yaml_scan.specs.Seen.Seen.{TOKEN, PEEKED, SKIPPED, NOTHING, FAULT}
@@ -203,10 +205,10 @@ takes_no_more tokens n m a b k g f = record {
 }
 
 session_takes : (p : Parser) (calls : List Call) → (p.session.peeked ≡ true → HasNext p) → TakesOn (answers_to p.limit p.setting p.input).tokens p.session.taken (map seen (answered_all p calls)) (after_calls p calls).session.taken
-unfolding answers_to answers course_read
+unfolding answers_to answers course_by
 session_takes p calls h = takes (input_read p).encoding p.limit (course_read p) calls p.session h
 
-pub takes_next : (p : Parser) (calls : List Call) (answers : List Seen) (q : Parser) → (p.session.peeked ≡ true → HasNext p) → Runs p calls answers q → TakesNext p answers q
+pub takes_next : (p : Parser) (calls : List Call) (answers : List Seen) (q : Parser) → (p.session.peeked ≡ true → HasNext p) → Runs decoded_input p calls answers q → TakesNext p answers q
 takes_next p calls answers q h w = go (of_session p calls answers q w)
   where
     go : OfSession p calls answers q → TakesNext p answers q
@@ -218,5 +220,5 @@ takes_next p calls answers q h w = go (of_session p calls answers q w)
         (subst (λ (z : ℕ). TakesOn (answers_to p.limit p.setting p.input).tokens p.session.taken (map seen (answered_all p (take o.n calls)) ++ (FAULT memory_fault ∷ map idle (drop (o.n + 1) calls))) z) (sym o.wants.taken) g)
 
 -- what holds of all answers of a run holds of those that were appended
-pub puts : (Holds : List Seen → Type 0) (p : Parser) (calls : List Call) (old new : List yaml_answer_t) (q : Parser) → PutsAnswers p calls old new q → ((answers : List Seen) → Runs p calls answers q → Holds answers) → Puts Holds old new
+pub puts : (Holds : List Seen → Type 0) (p : Parser) (calls : List Call) (old new : List yaml_answer_t) (q : Parser) → PutsAnswers decoded_input p calls old new q → ((answers : List Seen) → Runs decoded_input p calls answers q → Holds answers) → Puts Holds old new
 puts Holds p calls old new q g h = record { more = g.more; is = g.is; holds = h (map seen_of g.more) g.runs }

@@ -3,6 +3,7 @@ use Rattle.std.proofs.Common.{◌≡◌, ℕ, zero, suc, ◌+◌, ◌<◌, Bool,
 use Rattle.std.specs.Prelude.{◌⊎◌, if◌then◌else◌}
 use Rattle.std.proofs.lemmas.Bool.{false≢true}
 use Rattle.yaml_text.specs.declared.types.yaml_encoding_t.{yaml_encoding_t}
+use Rattle.yaml_scan.specs.ParserCalls.{answered}
 use Rattle.yaml_scan.specs.Token.{yaml_token_t, empty}
 use Rattle.yaml_scan.specs.Fault.{Fault, memory_fault}
 use Rattle.yaml_scan.specs.Begins.{Begins}
@@ -17,7 +18,7 @@ use Rattle.yaml_scan.specs.Session.Call.{SCAN, PEEK, SKIP}
 use Rattle.yaml_scan.specs.Session.Answer.{TOKEN, PEEKED, SKIPPED, NOTHING, FAULT}
 use Rattle.yaml_scan.specs.SessionLaws.{FaultOfRefused}
 use Rattle.yaml_scan.specs.SessionLaws.FaultOfRefused.{at_once, near, far}
-use Rattle.yaml_scan.specs.Parser.{Parser, answered, course_read}
+use Rattle.yaml_scan.specs.Parser.{Parser, course_by}
 use Rattle.yaml_scan.specs.Headline.{Calls, Runs}
 use Rattle.yaml_scan.specs.Seen.{Seen, seen, idle, Seen as sight}
 use Rattle.yaml_scan.specs.All.{ReadsAll}
@@ -208,16 +209,16 @@ of_both : (limit : ℕ) (s : yaml_encoding_t) (a : List ℕ) (t : yaml_encoding_
 of_both limit s a t b refused g w x y u v e (inl k) = inl (e ∙ k.answer_is)
 of_both limit s a t b refused g w x y u v e (inr k) = inr (inl (e ∙ k.answer_is))
 
-pub scanned_alike : (p : Parser) (a : Answer) (q : Parser) → Calls SCAN p a q → IsAnsweredAlike p SCAN a
-unfolding course_read
+pub scanned_alike : (p : Parser) (a : Answer) (q : Parser) → Calls decoded_input SCAN p a q → IsAnsweredAlike p SCAN a
+unfolding course_by
 scanned_alike p a q (inr w) t b fault g = inr (inr w.0)
 scanned_alike p a q (inl w) t b fault g =
     let u = p.session in
     of_both p.limit p.setting p.input t b fault g a (answered p SCAN) (answered (of_input p t b) SCAN) _ _ w.0
     (scan_both p.limit p.setting p.input t b fault g u u (like_self p.limit p.setting p.input t b fault g u) u.over (next_token p.limit (course p.limit (decoded_input p.setting p.input)) u) refl refl)
 
-pub peeked_alike : (p : Parser) (a : Answer) (q : Parser) → Calls PEEK p a q → IsAnsweredAlike p PEEK a
-unfolding course_read
+pub peeked_alike : (p : Parser) (a : Answer) (q : Parser) → Calls decoded_input PEEK p a q → IsAnsweredAlike p PEEK a
+unfolding course_by
 peeked_alike p a q (inr w) t b fault g = inr (inr w.0)
 peeked_alike p a q (inl w) t b fault g =
     let u = p.session in
@@ -226,11 +227,11 @@ peeked_alike p a q (inl w) t b fault g =
 
 -- LISTS OF CALLS
 run_alike : (p : Parser) (calls : List Call) (t : yaml_encoding_t) (b : List ℕ) (fault : Fault) (g : GoesOn p.setting p.input t b fault) → (p.session.peeked ≡ true → HasNext p) → Alike p.limit p.setting p.input t b fault g calls p.session p.session
-unfolding course_read
+unfolding course_by
 run_alike p calls t b fault g h = alike p.limit p.setting p.input t b fault g calls p.session p.session (like_self p.limit p.setting p.input t b fault g p.session) h
 
 runs_of_session : (p : Parser) (calls : List Call) (answers : List Seen) (q : Parser) → (p.session.peeked ≡ true → HasNext p) → OfSession p calls answers q → AreAnsweredAlike p calls answers
-unfolding course_read
+unfolding course_by
 runs_of_session p calls answers q h (inl r) t b fault g = go (run_alike p calls t b fault g h)
   where
     go : Alike p.limit p.setting p.input t b fault g calls p.session p.session
@@ -244,7 +245,7 @@ runs_of_session p calls answers q h (inr o) t b fault g = go (run_alike p (take 
     go (inl e) = inr (inr (record { n = o.n; within = o.within; answers_are = o.answers ∙ ap (λ (z : List Seen). z ++ (sight.FAULT memory_fault ∷ map idle (drop (o.n + 1) calls))) e }))
     go (inr k) = absurd (false≢true (sym o.wants.was_open ∙ k.over))
 
-pub runs_alike : (p : Parser) (calls : List Call) (answers : List Seen) (q : Parser) → (p.session.peeked ≡ true → HasNext p) → Runs p calls answers q → AreAnsweredAlike p calls answers
+pub runs_alike : (p : Parser) (calls : List Call) (answers : List Seen) (q : Parser) → (p.session.peeked ≡ true → HasNext p) → Runs decoded_input p calls answers q → AreAnsweredAlike p calls answers
 runs_alike p calls answers q h w = runs_of_session p calls answers q h (of_session p calls answers q w)
 
 -- ALL TOKENS

@@ -8,11 +8,12 @@ use Rattle.std.specs.VecDeque.{deque_capacity}
 use Rattle.yaml_text.specs.declared.types.yaml_mark_t.{yaml_mark_t}
 use Rattle.yaml_lexeme.specs.Lexeme.{Lexeme as yaml_lexeme_t}
 use Rattle.yaml_text.specs.Fault.{Fault, memory_fault}
-use Rattle.yaml_text.specs.Chars.{AreChars, utf8}
-use Rattle.yaml_text.specs.Decode.{refusal_seen}
-use Rattle.yaml_lexeme.specs.Place.{IsMarkOf}
+use Rattle.yaml_text.specs.Chars.{utf8}
+use Rattle.yaml_text.specs.TextBytes.{AreChars}
+use Rattle.yaml_text.specs.Decoding.{refusal_seen}
+use Rattle.yaml_lexeme.specs.Counted.{IsMarkOf}
 use Rattle.yaml_lexeme.specs.Answers.{refused_at}
-use Rattle.yaml_lexeme.specs.Lexeme.{lexeme_of}
+use Rattle.yaml_lexeme.specs.LexemeOf.{lexeme_of}
 use Rattle.yaml_lexeme.specs.declared.lex.yaml_context_t.{yaml_context_t}
 use Rattle.yaml_lexeme.specs.declared.lexeme.yaml_lexeme_t.{yaml_lexeme_t as code_lexeme_t}
 use Rattle.yaml_lexeme.specs.declared.problem.yaml_refusal_t.{yaml_refusal_t}

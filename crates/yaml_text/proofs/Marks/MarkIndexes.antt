@@ -6,7 +6,7 @@ use Rattle.std.proofs.lemmas.Str.{encodes-append, length-le-encodes}
 use Rattle.std.proofs.Math.Seq.{take-add}
 use Rattle.yaml_text.specs.Chars.{utf8}
 use Rattle.yaml_text.specs.Classes.{is_break, is_crlf}
-use Rattle.yaml_text.specs.Mark.{cuts_break, IsPlaceAt, mark_of, mark_at}
+use Rattle.yaml_text.specs.CountedMark.{cuts_break, IsPlaceAt, mark_of, mark_at}
 use Rattle.yaml_text.specs.inside.Cursor.{At, past, step_len}
 
 -- the bytes between two places are at least their characters

@@ -1,5 +1,6 @@
 -- The answers are appended to none.
 use Rattle.std.proofs.Common.{◌≡◌, ◌++◌, List, map, sym, ap, ◌∙◌, subst}
+use Rattle.yaml_scan.specs.Decoded.{decoded_input}
 use Rattle.yaml_scan.specs.declared.calls.yaml_answer_t.{yaml_answer_t}
 use Rattle.yaml_scan.specs.Parser.{Parser}
 use Rattle.yaml_scan.specs.Headline.{Runs}
@@ -14,11 +15,11 @@ returns-clause-answers c =
     let answers = c.yaml_run.new.out.items in
     let calls = map call_of c.args.calls.now in
     let e : answers ≡ r.more = r.is ∙ ap (λ (l : List yaml_answer_t). l ++ r.more) c.new-answers.ensures.items in
-    let runs : Runs c.new-parser.result calls (map seen_of answers) parser =
-    subst (λ (l : List yaml_answer_t). Runs c.new-parser.result calls (map seen_of l) parser) (sym e) r.runs in
+    let runs : Runs decoded_input c.new-parser.result calls (map seen_of answers) parser =
+    subst (λ (l : List yaml_answer_t). Runs decoded_input c.new-parser.result calls (map seen_of l) parser) (sym e) r.runs in
     record {
       after = parser;
-      runs = subst (λ (p : Parser). Runs p calls (map seen_of answers) parser) c.new-parser.ensures runs;
+      runs = subst (λ (p : Parser). Runs decoded_input p calls (map seen_of answers) parser) c.new-parser.ensures runs;
     }
 
 pub returns-clause-lines : goal.returns-clause-lines
