@@ -13,6 +13,10 @@ PATH = "docs/RULES.md"
 LINE = re.compile(r"(^\*Definition:\*.*\n)(?:\n\*Clauses:\*.*\n)?", re.M)
 
 
+def is_there(path):
+    return os.path.exists(os.path.join(TOP, path))
+
+
 def citing(codes, definition):
     """The clauses in files of code that cite a definition, of the functions that are known best first: a function, its clause."""
     every = [(known, name, clause) for path in codes for name, known, clause, cited in clauses(path) if definition in cited]
@@ -21,7 +25,8 @@ def citing(codes, definition):
 
 def words_through(parts, definition):
     """The words of a rule's "Through" that are tied to a definition, as walks.py has it."""
-    shown = [named for path in places_in(parts["Through"]) if "/proofs/" in path for named in lemmas(path).values()]
+    files = [path for path in places_in(parts["Through"]) if "/proofs/" in path and is_there(path)]
+    shown = [named for path in files for named in lemmas(path).values()]
     for path, names in files_in(parts["Through"]):
         for between in ((*file_of(path), name) for name in names):
             if leads_to(between, definition) or any(named.issuperset({between, definition}) for named in shown):
@@ -30,7 +35,7 @@ def words_through(parts, definition):
 
 def clause_of(parts, definition):
     """The clause for a definition: what it cites, its function and its name; nothing if there is none."""
-    codes = [path for path, _ in files_in(parts["Code"])]
+    codes = [path for path, _ in files_in(parts["Code"]) if is_there(path)]
     for cited in (definition, *words_through(parts, definition)):
         for function, clause in citing(codes, cited)[:1]:
             return cited[-1], function, clause
@@ -64,8 +69,8 @@ def read():
 
 def written():
     """RULES with its clauses as they would be written now."""
-    lines = iter([told(parts)[0] for _, parts in rules()])
-    return LINE.sub(lambda line: f"{line[1]}\n*Clauses:* {next(lines)}.\n", read())
+    lines = iter([told(parts)[0] for _, parts in rules() if parts["Definition"]])
+    return LINE.sub(lambda line: f"{line[1]}\n*Clauses:* {next(lines, '')}.\n", read())
 
 
 def is_stale():
