@@ -497,8 +497,8 @@ pub fn yaml_lexeme_fault(
 /// # Errors
 ///
 /// A fault of kind scanner is the first offence of the lexeme. Its problem text says what is wrong. Its problem mark is
-/// that of the first character that does not fit, which may be the end. Its context text says what was being
-/// read, and its context mark is `at`. These are the problems:
+/// that of the first character that does not fit, which may be the end, if nothing else is said below. Its context text
+/// says what was being read, and its context mark is `at`. These are the problems:
 ///
 /// - a directive: no name after `%`, a name that goes on with another character, an unknown name, what is not a
 ///   comment or a break after it; in `%YAML` no number, a number of more than nine digits (at the tenth), no `.`; in
@@ -511,7 +511,8 @@ pub fn yaml_lexeme_fault(
 ///   where a space of indentation could be;
 /// - a quoted scalar: the end of the text, a document marker at the start of a line; in double quotes an unknown escape
 ///   (at the backslash), a digit that is not hexadecimal, and digits that spell no character (both at the first digit);
-/// - a plain scalar: in flow a `:` before `?` or a flow indicator, and a tab in the indentation of a line that goes on.
+/// - a plain scalar: in flow a `:` before `?` or a flow indicator; and after a break, also if the scalar is over before
+///   it, a tab in a column that is not above the greatest open level.
 ///
 /// A fault of kind memory may come instead of the lexeme or its offence, for a growth that was refused. The
 /// contract does not say that one was. It never comes for stream ends, document markers and lexemes of one

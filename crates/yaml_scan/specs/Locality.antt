@@ -1,13 +1,9 @@
 -- What depends on no character eight or more past the place where a step ends.
 use Rattle.std.specs.Prelude.{◌≡◌, ◌⊎◌, ℕ, ◌+◌, ◌<◌, ◌≤◌, length, slice_get, Bool, List}
 use Rattle.std.specs.Prelude.{Option, Some, None, Result, Ok, Err}
-<<<<<<< HEAD
 use Rattle.yaml_text.specs.TextBytes.{AreChars}
-=======
-use Rattle.yaml_text.specs.Chars.{AreChars}
 use Rattle.yaml_scan.specs.Settled.{tokens_of}
 use Rattle.yaml_scan.specs.Course.{Input, course}
->>>>>>> scan_defs
 use Rattle.yaml_scan.specs.Kind.{Kind}
 use Rattle.yaml_scan.specs.Laid.{Laid}
 use Rattle.yaml_scan.specs.Fault.{Fault}

@@ -12,12 +12,8 @@ use Rattle.yaml_text.specs.declared.token.yaml_token_t.{yaml_token_t}
 use Rattle.yaml_text.specs.Token.{token_of}
 use Rattle.yaml_lexeme.specs.Decider.{decides}
 use Rattle.yaml_lexeme.specs.Lexeme.{Lexeme as yaml_lexeme_t}
-<<<<<<< HEAD
 use Rattle.yaml_lexeme.specs.Counted.{IsMarkOf}
-=======
-use Rattle.yaml_lexeme.specs.Place.{IsMarkOf}
 use Rattle.yaml_scan.specs.Course.{ended}
->>>>>>> scan_defs
 use Rattle.yaml_scan.specs.declared.groups.block_t.TheVariants.{MAPPING, NONE}
 use Rattle.yaml_scan.specs.declared.groups.group_t.{group_t}
 use Rattle.yaml_scan.specs.declared.slots.slots_t.{slots_t}

@@ -6,18 +6,12 @@ use Rattle.std.proofs.Common.{length-append}
 use Rattle.yaml_text.specs.declared.types.yaml_encoding_t.{yaml_encoding_t}
 use Rattle.yaml_text.specs.Fault.{Fault, zero_mark}
 use Rattle.yaml_text.specs.Text.{Text}
-<<<<<<< HEAD
 use Rattle.yaml_text.specs.TextBytes.{AreChars}
 use Rattle.yaml_text.specs.Decode.{front, refusal, encoding_of}
 use Rattle.yaml_text.specs.Decoding.{refusal_seen}
 use Rattle.yaml_lexeme.specs.Place.{skip}
 use Rattle.yaml_lexeme.specs.Counted.{IsMarkOf}
-=======
-use Rattle.yaml_text.specs.Chars.{AreChars}
-use Rattle.yaml_text.specs.Decode.{front, refusal, refusal_seen, encoding_of}
-use Rattle.yaml_lexeme.specs.Place.{IsMarkOf, skip}
 use Rattle.yaml_scan.specs.Course.{oldest, course}
->>>>>>> scan_defs
 use Rattle.yaml_scan.specs.declared.scanner.scanner_t.{scanner_t}
 use Rattle.yaml_scan.specs.SourceOf.{source_of}
 use Rattle.yaml_scan.specs.Laid.{Laid, reach}

@@ -6,14 +6,10 @@ use Rattle.std.proofs.lemmas.Bool.{cases_Bool, cases_eq, and_parts}
 use Rattle.yaml_text.specs.declared.types.yaml_mark_t.{yaml_mark_t}
 use Rattle.yaml_text.specs.Fault.{Fault}
 use Rattle.yaml_lexeme.specs.Lexeme.{Lexeme as yaml_lexeme_t}
-<<<<<<< HEAD
 use Rattle.yaml_lexeme.specs.Place.{place_at}
 use Rattle.yaml_lexeme.specs.Counted.{IsMarkOf}
-=======
-use Rattle.yaml_lexeme.specs.Place.{IsMarkOf, place_at}
 use Rattle.yaml_scan.specs.inside.StepParts.{read_step, after_read}
 use Rattle.yaml_scan.specs.Course.{ended}
->>>>>>> scan_defs
 use Rattle.yaml_scan.specs.declared.scanner.scanner_t.{scanner_t}
 use Rattle.yaml_scan.specs.inside.Scanning.{Met}
 use Rattle.yaml_scan.specs.declared.groups.group_t.{group_t}

@@ -4,13 +4,9 @@ use Rattle.std.specs.Option.{is_some}
 use Rattle.std.specs.Prelude.{if◌then◌else◌, option_map, nat_eq, nat_lt}
 use Rattle.yaml_text.specs.declared.types.yaml_mark_t.{yaml_mark_t}
 use Rattle.yaml_text.specs.Fault.{Fault, scanner_fault}
-<<<<<<< HEAD
 use Rattle.yaml_lexeme.specs.Counted.{IsMarkOf}
-=======
-use Rattle.yaml_lexeme.specs.Place.{IsMarkOf}
 use Rattle.yaml_scan.specs.inside.StepParts.{kind_step, read_step}
 use Rattle.yaml_scan.specs.Course.{ended}
->>>>>>> scan_defs
 use Rattle.yaml_scan.specs.declared.groups.group_t.{group_t}
 use Rattle.yaml_scan.specs.declared.scanner.scanner_t.{scanner_t}
 use Rattle.yaml_scan.specs.Kind.{Kind}
