@@ -1,6 +1,6 @@
 -- What is handed out, and when: a token is settled if no further step can insert anything before it. As many steps are
 -- made as the next token needs.
-use Rattle.std.specs.Prelude.{ℕ, ◌+◌, ◌-◌, Bool, ◌&&◌, List, [], ◌∷◌, ◌++◌, filter, length, max, nat_lt, Option, Some}
+use Rattle.std.specs.Prelude.{ℕ, zero, suc, ◌+◌, ◌-◌, Bool, ◌&&◌, List, [], ◌∷◌, ◌++◌, filter, length, max, nat_lt, Option, Some}
 use Rattle.std.specs.Prelude.{None, option_map, if◌then◌else◌}
 use Rattle.yaml_scan.specs.Laid.{Laid, names, reach}
 use Rattle.yaml_scan.specs.Keys.{candidate, live}
@@ -37,19 +37,23 @@ abbrev pub tokens_of : ℕ → Course → List Token
 tokens_of limit c = if c.begun then before limit c.read else []
 
 -- THE PACE
--- the lexemes of the first s steps, of which one is STREAM-START
+-- the lexemes of the first n steps, of which one is STREAM-START
 abbrev pub first_steps : ℕ → List Laid → List Laid
-first_steps s H = oldest (s - 1) H
+first_steps n H = oldest (n - 1) H
 
--- token t is settled after s steps of H
+-- token t is settled after n steps of H
 abbrev pub settled : ℕ → List Laid → ℕ → ℕ → Bool
-settled limit H t s = nat_lt 0 s && nat_lt t (length (before limit (first_steps s H)))
+settled limit H t n = nat_lt 0 n && nat_lt t (length (before limit (first_steps n H)))
 
--- the least number of steps of H after which token t is settled
+-- the least of n, n + 1 and so on of which a test is true, or n + k if it is true of none below that
+unfoldable pub least : (ℕ → Bool) → ℕ → ℕ → ℕ
+least test n zero = n
+least test n (suc k) = if test n then n else least test (n + 1) k
+
+-- the least number of steps of H after which token t is settled, or all of them
 unfoldable pub steps_for : ℕ → List Laid → ℕ → ℕ
-steps_for limit [] t = 1
-steps_for limit (i ∷ H) t = if nat_lt t (length (before limit H)) then steps_for limit H t else length H + 2
+steps_for limit H t = least (settled limit H t) 1 (length H)
 
--- how many steps are made once token t is requested, if s were made
+-- how many steps are made once token t is requested, if n were made
 unfoldable pub pace : ℕ → List Laid → ℕ → ℕ → ℕ
-pace limit H t s = max s (steps_for limit H t)
+pace limit H t n = max n (steps_for limit H t)

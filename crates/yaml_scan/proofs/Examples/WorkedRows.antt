@@ -24,7 +24,7 @@ use Rattle.yaml_scan.specs.Step.{required, stale, refused, clears, step, end_of}
 use Rattle.yaml_scan.specs.Answers.{Answers, answers}
 use Rattle.yaml_scan.specs.Session.{Call, Answer}
 use Rattle.yaml_scan.specs.Sessions.{new_session, session, after_all, session_queued, session_reach}
-use Rattle.yaml_scan.specs.Settled.{steps_for, pace}
+use Rattle.yaml_scan.specs.Settled.{least, steps_for, pace}
 use Rattle.yaml_scan.specs.Session.Call.{SCAN, PEEK, SKIP}
 use Rattle.yaml_scan.specs.Session.Answer.{TOKEN, PEEKED, SKIPPED, NOTHING, FAULT}
 
@@ -704,12 +704,12 @@ limit_one_required = refl
 
 -- SESSIONS
 called : ℕ → ℕ → List ℕ → List Entry → List Call → List Answer
-unfolding session pace steps_for answers course next step read_step required stale refused clears before up_to waiting is_current offline groups group inserted block_ends laid level kept_columns open_columns still_open opens is_completed completed_by candidate allowed depth
+unfolding session pace steps_for least answers course next step read_step required stale refused clears before up_to waiting is_current offline groups group inserted block_ends laid level kept_columns open_columns still_open opens is_completed completed_by candidate allowed depth
 called limit size starts es calls = session YAML_UTF8_ENCODING limit (course limit (record { encoding = YAML_UTF8_ENCODING; source = source size starts es; refusal = None })) calls new_session
 
 -- how many steps are queued, and how far the last one was read
 seen : ℕ → ℕ → List ℕ → List Entry → List Call → ℕ × yaml_mark_t
-unfolding after_all queued pace steps_for course next step read_step required stale refused clears before up_to waiting is_current offline groups group inserted block_ends laid level kept_columns open_columns still_open opens is_completed completed_by candidate allowed depth
+unfolding after_all queued pace steps_for least course next step read_step required stale refused clears before up_to waiting is_current offline groups group inserted block_ends laid level kept_columns open_columns still_open opens is_completed completed_by candidate allowed depth
 seen limit size starts es calls =
     let c = course limit (record { encoding = YAML_UTF8_ENCODING; source = source size starts es; refusal = None }) in
     let s = after_all limit c calls new_session in

@@ -115,7 +115,7 @@ module _ (a s : scanner_t) (g : Goes a s) (o : IsOpen a) (l : length (before s.l
         let n = e.made in
         let w = h.runs.within in
         let f = fewer_before (t.made - 2) (omega arith) in
-        let k = needs_more t.limit (course_of t).read (t.taken - 1) (t.made - 2) (omega arith) (omega arith) in
+        let k = needs_more t.limit (course_of t).read (t.taken - 1) (t.made - 2) (read_history t h.runs) (omega arith) (omega arith) in
         omega arith
 
     last_has : steps_for t.limit (course_of t).read (t.taken - 1) ≤ t.made
@@ -126,7 +126,7 @@ module _ (a s : scanner_t) (g : Goes a s) (o : IsOpen a) (l : length (before s.l
         let i = ap (λ (n : ℕ). length (before n (history m))) e.limit in
         let w = ap (λ (X : List Token). length X) whole in
         let v = all_taken in
-        let k = enough t.limit (course_of t).read (t.taken - 1) (t.made - 1) (read_history t h.runs) (inside t h.runs) (omega arith) in
+        let k = enough t.limit (course_of t).read (t.taken - 1) (t.made - 1) (inside t h.runs) (omega arith) in
         let b = h.runs.begun in
         omega arith
 

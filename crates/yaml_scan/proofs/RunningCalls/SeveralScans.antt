@@ -162,7 +162,7 @@ module _ (limit : ℕ) (setting : yaml_encoding_t) (input : List ℕ) (s t : sca
   steps_few i l =
       let h = subst (λ (c : Course). IsHistory t.limit c.read) course_t (read_history t k.stands.runs) in
       let a = settled_t in
-      let b = enough limit C.read i (t.made - 1) (subst (λ (n : ℕ). IsHistory n C.read) (k.limit ∙ e) h) inside_t (omega arith) in
+      let b = enough limit C.read i (t.made - 1) inside_t (omega arith) in
       let d = k.stands.runs.begun in
       omega arith
 

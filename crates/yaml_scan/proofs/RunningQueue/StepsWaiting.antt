@@ -140,7 +140,7 @@ module _ (limit : ℕ) (H : List Laid) (h : IsHistory limit H) where
         let g : IsHistory limit (r.0 ∷ oldest (m - 2) H) = subst (λ (X : List Laid). IsHistory limit X) o (first_history m (omega arith)) in
         let b : length (before limit (oldest (m - 2) H)) ≤ t = elim (cases_lt t (length (before limit (oldest (m - 2) H)))) [
           | inr x ↦ x
-          | inl x ↦ (let y = enough limit H t (m - 2) h (omega arith) x in absurd (omega arith))
+          | inl x ↦ (let y = enough limit H t (m - 2) (omega arith) x in absurd (omega arith))
         ] in
         rw (some_made H m t z, o) (queued_few limit r.0 (oldest (m - 2) H) t g b))
   ]
