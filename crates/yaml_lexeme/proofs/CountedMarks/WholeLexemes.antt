@@ -18,6 +18,7 @@ use Rattle.yaml_lexeme.proofs.CountedMarks.WholePlaces.{parts, Clear, clear_here
 use Rattle.yaml_lexeme.proofs.CountedMarks.WholeSmallReaders.{Held, Holds, ok_holds, bind_holds, Clears, is_not, gap_clear, name_clears, tag_clears}
 use Rattle.yaml_lexeme.proofs.CountedMarks.CountedPlaces.{places_counted}
 use Rattle.yaml_lexeme.proofs.Places.PlaceMoves.{skip_skip, length_skip, rest_skip}
+use Rattle.yaml_lexeme.proofs.Readers.BlocksAlike.{blocks_alike}
 use Rattle.yaml_lexeme.proofs.CountedMarks.WholeScalars.{HasMark, mark_here, Marks, quoted_clears, plain_marks, directive_marks, block_marks}
 use Rattle.yaml_lexeme.specs.Block.{block}
 use Rattle.yaml_lexeme.specs.Classes.{ends}
@@ -132,8 +133,8 @@ lexeme_holds kind.VALUE c p h other t = some_hold kind.VALUE 1 p (clear_one p t)
 lexeme_holds kind.ALIAS c p h other t = whole_holds token.ALIAS p (name p) (name_clears p t)
 lexeme_holds kind.ANCHOR c p h other t = whole_holds token.ANCHOR p (name p) (name_clears p t)
 lexeme_holds kind.TAG c p h other t = whole_holds (λ t. t) p (tag (in_flow c) p) (tag_clears (in_flow c) p t)
-lexeme_holds kind.LITERAL c p h other t = scalar_holds YAML_LITERAL_SCALAR_STYLE p (block false c.level p) (block_marks false c.level p t)
-lexeme_holds kind.FOLDED c p h other t = scalar_holds YAML_FOLDED_SCALAR_STYLE p (block true c.level p) (block_marks true c.level p t)
+lexeme_holds kind.LITERAL c p h other t = scalar_holds YAML_LITERAL_SCALAR_STYLE p (block false c.level p) (rw (blocks_alike false c.level p) (block_marks false c.level p t))
+lexeme_holds kind.FOLDED c p h other t = scalar_holds YAML_FOLDED_SCALAR_STYLE p (block true c.level p) (rw (blocks_alike true c.level p) (block_marks true c.level p t))
 lexeme_holds kind.SINGLE_QUOTED c p h other t = whole_holds (quoted_as YAML_SINGLE_QUOTED_SCALAR_STYLE) p (quoted true p) (quoted_clears true p t)
 lexeme_holds kind.DOUBLE_QUOTED c p h other t = whole_holds (quoted_as YAML_DOUBLE_QUOTED_SCALAR_STYLE) p (quoted false p) (quoted_clears false p t)
 lexeme_holds kind.PLAIN c p h other t = scalar_holds YAML_PLAIN_SCALAR_STYLE p (plain (in_flow c) (least c) p) (plain_marks (in_flow c) (least c) p)

@@ -19,7 +19,7 @@ use Rattle.yaml_lexeme.specs.Fold.{fold}
 use Rattle.yaml_lexeme.specs.Escape.{hex_escape, escape}
 use Rattle.yaml_lexeme.specs.Quoted.{body_part, quoted}
 use Rattle.yaml_lexeme.specs.Plain.{chunk, separator, link, plain}
-use Rattle.yaml_lexeme.specs.Block.{digit_at, header_at, after_line, after_indent, blank_line, blank_lines, line_at, text_line, block}
+use Rattle.yaml_lexeme.specs.Block.{digit_at, header_at, after_line, after_indent, empty_line, text_line, block}
 use Rattle.yaml_lexeme.specs.Name.{name}
 use Rattle.yaml_lexeme.specs.Uri.{octet, next_octets, uri_escape, uri_part, uri, some_uri}
 use Rattle.yaml_lexeme.specs.Tag.{angled, handled, tag}
@@ -109,7 +109,7 @@ names =
     ∷ []
 
 names_hold : Hold names
-unfolding lex number version_at handle_at tag_directive_at named directive after_gap_line after_gap_lines gap skip fold hex_escape escape body_part quoted chunk separator link plain digit_at header_at after_line after_indent blank_line blank_lines line_at text_line block name octet next_octets uri_escape uri_part uri some_uri angled handled tag at_most kind_at encode_utf8 problem_text context_text
+unfolding lex number version_at handle_at tag_directive_at named directive after_gap_line after_gap_lines gap skip fold hex_escape escape body_part quoted chunk separator link plain digit_at header_at after_line after_indent empty_line text_line block name octet next_octets uri_escape uri_part uri some_uri angled handled tag at_most kind_at encode_utf8 problem_text context_text
 names_hold = refl
 
 abbrev directives : Rows
@@ -131,7 +131,7 @@ directives =
     ∷ []
 
 directives_hold : Hold directives
-unfolding lex number version_at handle_at tag_directive_at named directive after_gap_line after_gap_lines gap skip fold hex_escape escape body_part quoted chunk separator link plain digit_at header_at after_line after_indent blank_line blank_lines line_at text_line block name octet next_octets uri_escape uri_part uri some_uri angled handled tag at_most kind_at encode_utf8 problem_text context_text
+unfolding lex number version_at handle_at tag_directive_at named directive after_gap_line after_gap_lines gap skip fold hex_escape escape body_part quoted chunk separator link plain digit_at header_at after_line after_indent empty_line text_line block name octet next_octets uri_escape uri_part uri some_uri angled handled tag at_most kind_at encode_utf8 problem_text context_text
 directives_hold = refl
 
 abbrev quoted_rows : Rows
@@ -152,7 +152,7 @@ quoted_rows =
     ∷ []
 
 quoted_rows_hold : Hold quoted_rows
-unfolding lex number version_at handle_at tag_directive_at named directive after_gap_line after_gap_lines gap skip fold hex_escape escape body_part quoted chunk separator link plain digit_at header_at after_line after_indent blank_line blank_lines line_at text_line block name octet next_octets uri_escape uri_part uri some_uri angled handled tag at_most kind_at encode_utf8 problem_text context_text
+unfolding lex number version_at handle_at tag_directive_at named directive after_gap_line after_gap_lines gap skip fold hex_escape escape body_part quoted chunk separator link plain digit_at header_at after_line after_indent empty_line text_line block name octet next_octets uri_escape uri_part uri some_uri angled handled tag at_most kind_at encode_utf8 problem_text context_text
 quoted_rows_hold = refl
 
 abbrev plain_rows : Rows
@@ -170,7 +170,7 @@ plain_rows =
     ∷ []
 
 plain_rows_hold : Hold plain_rows
-unfolding lex number version_at handle_at tag_directive_at named directive after_gap_line after_gap_lines gap skip fold hex_escape escape body_part quoted chunk separator link plain digit_at header_at after_line after_indent blank_line blank_lines line_at text_line block name octet next_octets uri_escape uri_part uri some_uri angled handled tag at_most kind_at encode_utf8 problem_text context_text
+unfolding lex number version_at handle_at tag_directive_at named directive after_gap_line after_gap_lines gap skip fold hex_escape escape body_part quoted chunk separator link plain digit_at header_at after_line after_indent empty_line text_line block name octet next_octets uri_escape uri_part uri some_uri angled handled tag at_most kind_at encode_utf8 problem_text context_text
 plain_rows_hold = refl
 
 abbrev block_rows : Rows
@@ -194,5 +194,5 @@ block_rows =
     ∷ []
 
 block_rows_hold : Hold block_rows
-unfolding lex number version_at handle_at tag_directive_at named directive after_gap_line after_gap_lines gap skip fold hex_escape escape body_part quoted chunk separator link plain digit_at header_at after_line after_indent blank_line blank_lines line_at text_line block name octet next_octets uri_escape uri_part uri some_uri angled handled tag at_most kind_at encode_utf8 problem_text context_text
+unfolding lex number version_at handle_at tag_directive_at named directive after_gap_line after_gap_lines gap skip fold hex_escape escape body_part quoted chunk separator link plain digit_at header_at after_line after_indent empty_line text_line block name octet next_octets uri_escape uri_part uri some_uri angled handled tag at_most kind_at encode_utf8 problem_text context_text
 block_rows_hold = refl

@@ -7,6 +7,7 @@ use Rattle.yaml_text.specs.Token.{TokenData as token}
 use Rattle.yaml_lexeme.proofs.MarkOrder.ReadingAhead.{ahead_here, ahead_some, ahead_on, Goes, Span}
 use Rattle.yaml_lexeme.proofs.MarkOrder.SmallReadersAhead.{after_trans, after_less, gap_order, marks_after, name_goes, tag_goes}
 use Rattle.yaml_lexeme.proofs.Places.PlaceMoves.{is_there, some_char}
+use Rattle.yaml_lexeme.proofs.Readers.BlocksAlike.{blocks_alike}
 use Rattle.yaml_lexeme.proofs.MarkOrder.ScalarsAhead.{quoted_goes, plain_span, directive_span, block_span}
 use Rattle.yaml_lexeme.specs.Block.{block}
 use Rattle.yaml_lexeme.specs.Classes.{ends}
@@ -124,8 +125,8 @@ stands kind.VALUE c p h other t = some_stand kind.VALUE 1 p (omega arith) t
 stands kind.ALIAS c p h other t = whole_stands token.ALIAS p (name p) (name_goes p t)
 stands kind.ANCHOR c p h other t = whole_stands token.ANCHOR p (name p) (name_goes p t)
 stands kind.TAG c p h other t = whole_stands (λ t. t) p (tag (in_flow c) p) (tag_goes (in_flow c) p t)
-stands kind.LITERAL c p h other t = scalar_stands YAML_LITERAL_SCALAR_STYLE p (block false c.level p) (block_span false c.level p t)
-stands kind.FOLDED c p h other t = scalar_stands YAML_FOLDED_SCALAR_STYLE p (block true c.level p) (block_span true c.level p t)
+stands kind.LITERAL c p h other t = scalar_stands YAML_LITERAL_SCALAR_STYLE p (block false c.level p) (rw (blocks_alike false c.level p) (block_span false c.level p t))
+stands kind.FOLDED c p h other t = scalar_stands YAML_FOLDED_SCALAR_STYLE p (block true c.level p) (rw (blocks_alike true c.level p) (block_span true c.level p t))
 stands kind.SINGLE_QUOTED c p h other t = whole_stands (quoted_as YAML_SINGLE_QUOTED_SCALAR_STYLE) p (quoted true p) (quoted_goes true p t)
 stands kind.DOUBLE_QUOTED c p h other t = whole_stands (quoted_as YAML_DOUBLE_QUOTED_SCALAR_STYLE) p (quoted false p) (quoted_goes false p t)
 stands kind.PLAIN c p h other t = scalar_stands YAML_PLAIN_SCALAR_STYLE p (plain (in_flow c) (least c) p) (plain_span (in_flow c) (least c) p (plain_starts (in_flow c) p h))
