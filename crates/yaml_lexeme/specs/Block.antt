@@ -11,6 +11,7 @@ use Rattle.yaml_lexeme.specs.declared.problem.yaml_problem_t.TheVariants.{NO_COM
 use Rattle.yaml_lexeme.specs.declared.problem.yaml_problem_t.TheVariants.{TAB_IN_INDENTATION}
 use Rattle.yaml_lexeme.specs.Classes.{is_in_line, line_feed}
 use Rattle.yaml_lexeme.specs.Place.{Place, first, skip, run, run_len, after_run, break_len}
+use Rattle.yaml_lexeme.specs.Greatest.{greatest}
 use Rattle.yaml_lexeme.specs.Gap.{after_comment}
 use Rattle.yaml_lexeme.specs.Fold.{written}
 use Rattle.yaml_lexeme.specs.Reading.{Offence, Read, found, refuse, ◌>>=◌, Part, part, over, many}
@@ -157,11 +158,6 @@ block_value folded chomp leading ls =
     joined folded a ls ++ chomped chomp (last_of a ls)
 
 -- THE COLUMN OF THE TEXT LINES
-
--- the greatest of these numbers, or 0
-abbrev pub greatest : List ℕ → ℕ
-greatest [] = 0
-greatest (n ∷ ns) = max n (greatest ns)
 
 -- the greatest open level, or 0 if none is open
 abbrev pub base : Option ℕ → ℕ

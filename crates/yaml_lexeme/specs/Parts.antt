@@ -16,7 +16,8 @@ use Rattle.yaml_lexeme.specs.Quoted.{quote, body_part, quoted}
 use Rattle.yaml_lexeme.specs.Plain.{is_bad_colon, is_chunk, chunk, separator, is_over, link, plain}
 use Rattle.yaml_lexeme.specs.Uri.{uri_part, uri}
 use Rattle.yaml_lexeme.specs.Block.{EmptyLine, TextLine, header_at, after_line, after_indent, empty_line, breaks_of}
-use Rattle.yaml_lexeme.specs.Block.{break_at, is_text, next_line, text_line, greatest, set_indent, block_indent}
+use Rattle.yaml_lexeme.specs.Block.{break_at, is_text, next_line, text_line, set_indent, block_indent}
+use Rattle.yaml_lexeme.specs.Greatest.{greatest}
 use Rattle.yaml_lexeme.specs.Block.{block_value, block}
 
 -- a part that was read: its characters, and its value

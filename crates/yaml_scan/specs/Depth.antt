@@ -1,6 +1,6 @@
 -- Flow depth: how many flow collections are open.
 use Rattle.std.specs.Prelude.{ℕ, ◌-◌, List, [], ◌∷◌, map, filter, length}
-use Rattle.yaml_lexeme.specs.Block.{greatest}
+use Rattle.yaml_lexeme.specs.Greatest.{greatest}
 use Rattle.yaml_scan.specs.Kind.{is_flow_start, is_flow_end}
 use Rattle.yaml_scan.specs.Laid.{Laid}
 

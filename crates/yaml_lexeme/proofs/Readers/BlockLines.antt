@@ -15,7 +15,8 @@ use Rattle.yaml_lexeme.proofs.Readers.FoldSeparators.{run_more, run_none, encode
 use Rattle.yaml_lexeme.proofs.MarkOrder.ScalarsAhead.{blank_shortens, text_shortens}
 use Rattle.yaml_lexeme.proofs.Parts.ReadResults.{value_or, end_or}
 use Rattle.yaml_lexeme.specs.Block.{is_indenting, indent_len, after_indent, EmptyLine, empty_line, break_at, is_text}
-use Rattle.yaml_lexeme.specs.Block.{header_at, after_line, set_indent, block_indent, block, or_none, or_space, greatest}
+use Rattle.yaml_lexeme.specs.Block.{header_at, after_line, set_indent, block_indent, block, or_none, or_space}
+use Rattle.yaml_lexeme.specs.Greatest.{greatest}
 use Rattle.yaml_lexeme.specs.Block.{is_line_feed}
 use Rattle.yaml_lexeme.specs.inside.BlockAhead.{Blanks, blanks_of, blank_lines, Line, line_at, text_line, between}
 use Rattle.yaml_lexeme.specs.inside.BlockAhead.{chomped, value_after, block_value, end_of as end_of_lines}

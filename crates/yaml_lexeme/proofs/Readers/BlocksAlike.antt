@@ -9,7 +9,8 @@ use Rattle.yaml_lexeme.specs.declared.block.chomp_t.{chomp_t}
 use Rattle.yaml_lexeme.specs.declared.block.chomp_t.TheVariants.{STRIP, CLIP, KEEP}
 use Rattle.yaml_lexeme.specs.declared.block.header_t.{header_t}
 use Rattle.yaml_lexeme.specs.declared.problem.yaml_problem_t.TheVariants.{TAB_IN_INDENTATION}
-use Rattle.yaml_lexeme.specs.Block.{EmptyLine, TextLine, header_at, after_line, after_indent, indent_len, is_indenting, empty_line, breaks_of, break_at, is_text, next_line, text_line, joined, last_of, chomped, block_value, greatest, set_indent, block_indent, block}
+use Rattle.yaml_lexeme.specs.Block.{EmptyLine, TextLine, header_at, after_line, after_indent, indent_len, is_indenting, empty_line, breaks_of, break_at, is_text, next_line, text_line, joined, last_of, chomped, block_value, set_indent, block_indent, block}
+use Rattle.yaml_lexeme.specs.Greatest.{greatest}
 use Rattle.yaml_lexeme.specs.Classes.{is_in_line}
 use Rattle.yaml_lexeme.specs.inside.BlockAhead as old
 use Rattle.yaml_lexeme.specs.inside.BlockAhead.{Line, blanks_of, blank_lines, line_at, value_after, end_of, block_ahead}
