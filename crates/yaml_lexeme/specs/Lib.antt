@@ -3,6 +3,7 @@ pub mod Place
 pub mod Reading
 pub mod Gap
 pub mod GapText
+pub mod Greatest
 pub mod Kind
 pub mod KindSets
 pub mod Fold
