@@ -7,7 +7,7 @@
 -- input (Answers.antt), unless memory was refused. Then a list of calls: `Runs decode p calls answers q` says that of
 -- each call in turn, so it is the same for calls that are made one by one. Last `PutsAnswers`, the contract of
 -- `yaml_run`: such answers are appended.
-use Rattle.std.specs.Prelude.{◌≡◌, ◌≢◌, ◌⊎◌, ◌≤◌, false, true, List, [], ◌∷◌, ◌++◌, map, Some}
+use Rattle.std.specs.Prelude.{◌≡◌, ◌≢◌, ◌⊎◌, ◌≤◌, false, true, List, [], ◌∷◌, ◌++◌, ℕ, map, Some}
 use Rattle.yaml_text.specs.declared.types.yaml_encoding_t.TheVariants.{YAML_UTF8_ENCODING}
 use Rattle.yaml_scan.specs.declared.calls.yaml_answer_t.{yaml_answer_t}
 use Rattle.yaml_scan.specs.Fault.{memory_fault}
@@ -22,16 +22,14 @@ use Rattle.yaml_scan.specs.Seen.{Seen, seen, seen_of}
 -- memory was refused in a call: the session is over, the tokens taken stay taken, no more steps were made than the next
 -- token needs, and it needs one more
 pub record WantsMemory (decode : Decoder) (p q : Parser) : Type 0 where
-  pub input : q.input ≡ p.input
-  pub setting : q.setting ≡ p.setting
-  pub limit : q.limit ≡ p.limit
-  pub taken : q.session.taken ≡ p.session.taken
-  pub least : p.session.steps ≤ q.session.steps
-  pub most : q.session.steps ≤ pace p.limit (course_by decode p).read p.session.taken p.session.steps
-  pub unsettled : settled p.limit (course_by decode p).read p.session.taken q.session.steps ≡ false
-  pub peeked : q.session.peeked ≡ false
-  pub over : q.session.over ≡ true
-  pub fault : q.session.fault ≡ Some memory_fault
+  -- how many steps were made
+  pub steps : ℕ
+  pub is : q ≡ record p {
+    session = record p.session { steps = steps; peeked = false; over = true; fault = Some memory_fault };
+  }
+  pub least : p.session.steps ≤ steps
+  pub most : steps ≤ pace p.limit (course_by decode p).read p.session.taken p.session.steps
+  pub unsettled : settled p.limit (course_by decode p).read p.session.taken steps ≡ false
   -- memory was needed for decoding UTF-16, or in the first step or after it: not if the reader's fault comes instead of
   -- the first
   pub in_utf8 : (decode p.setting p.input).encoding ≡ YAML_UTF8_ENCODING → (course_by decode p).begun ≡ true

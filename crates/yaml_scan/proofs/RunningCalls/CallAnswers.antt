@@ -4,7 +4,7 @@ use Rattle.std.specs.Prelude.{◌⊎◌, if◌then◌else◌}
 use Rattle.std.proofs.lemmas.Bool.{cases_lt, false≢true}
 use Rattle.yaml_text.specs.declared.types.yaml_encoding_t.{yaml_encoding_t}
 use Rattle.yaml_text.specs.declared.fault.yaml_fault_t.{yaml_fault_t}
-use Rattle.yaml_text.specs.Fault.{Fault, fault_of}
+use Rattle.yaml_text.specs.Fault.{Fault, fault_of, memory_fault}
 use Rattle.yaml_scan.specs.Course.{ended, Input, Course, course}
 use Rattle.yaml_scan.specs.declared.scanner.scanner_t.{scanner_t}
 use Rattle.yaml_scan.specs.Token.{yaml_token_t, empty, type_of}
@@ -377,7 +377,16 @@ module _ (setting : yaml_encoding_t) (input : List ℕ) (s t : scanner_t) (peeke
 
   wants : IsShort setting input s (fault_of f) → peeked ≡ false → WantsMemory decoded_input open_parser stopped
   unfolding course_by
-  wants m n = record { input = refl; setting = refl; limit = z.limit; taken = z.taken; least = z.least; most = z.most; unsettled = z.unsettled; peeked = refl; over = refl; fault = ap Some m.fault; in_utf8 = m.in_utf8; was_open = refl; was_not_peeked = n }
+  wants m n = record {
+    steps = t.made;
+    is = same_stopped input setting t.limit s.limit t.taken s.taken t.made t.made (Some (fault_of f)) (Some memory_fault) z.limit z.taken refl (ap Some m.fault);
+    least = z.least;
+    most = z.most;
+    unsettled = z.unsettled;
+    in_utf8 = m.in_utf8;
+    was_open = refl;
+    was_not_peeked = n;
+  }
 
   pub show_fault : IsShort setting input s (fault_of f) ⊎ IsEnded setting input s t (fault_of f) → peeked ≡ false → Calls decoded_input PEEK open_parser (FAULT (fault_of f)) stopped
   show_fault (inl m) n = inr (ap FAULT m.fault, wants m n, λ e. absurd (cc))

@@ -219,14 +219,14 @@ module _ (limit : ℕ) (setting : yaml_encoding_t) (input : List ℕ) where
     scans_short r w = record {
       steps = S.steps;
       within = h.steps_within;
-      tokens_are = h.tokens_are ∙ ap (λ (z : List Token). map (handed_out I.encoding) z) (all_taken limit I (inputs_keep_order setting input) S.taken S.steps r.session.steps h.steps_within w.least h.are_settled unsettled);
+      tokens_are = h.tokens_are ∙ ap (λ (z : List Token). map (handed_out I.encoding) z) (all_taken limit I (inputs_keep_order setting input) S.taken S.steps w.steps h.steps_within w.least h.are_settled unsettled);
       beginning = scans_begin q tokens false h;
       in_utf8 = λ u. sym (ap (λ (c : Course). c.begun) course_same) ∙ w.in_utf8 (ap (λ (i : Input). i.encoding) input_same ∙ u);
       no_end = h.no_end refl;
     }
       where
-        unsettled : settled limit C.read S.taken r.session.steps ≡ false
-        unsettled = sym (ap (λ (c : Course). settled q.limit c.read S.taken r.session.steps) course_same ∙ ap (λ (n : ℕ). settled n C.read S.taken r.session.steps) h.limit_is) ∙ w.unsettled
+        unsettled : settled limit C.read S.taken w.steps ≡ false
+        unsettled = sym (ap (λ (c : Course). settled q.limit c.read S.taken w.steps) course_same ∙ ap (λ (n : ℕ). settled n C.read S.taken w.steps) h.limit_is) ∙ w.unsettled
 
     -- a fault
     pub scans_fault : (f : yaml_fault_t) (r : Parser) → Calls decoded_input SCAN q (told (Err f)) r → ReadsAll limit setting input tokens (Some (fault_of f))

@@ -83,7 +83,7 @@ of_session p (call ∷ calls) (s ∷ more) q (a, r, c, e, w) = go (of_session r 
   where
     go : OfSession r calls more q → Calls decoded_input call p a r → OfSession p (call ∷ calls) (s ∷ more) q
     go ih (inl m) = subst (λ (x : Seen). OfSession p (call ∷ calls) (x ∷ more) q) (sym (e ∙ ap seen m.0)) (one_later p call calls more q (subst (λ (x : Parser). OfSession x calls more q) m.1 ih))
-    go ih (inr m) = (let z = idle_run calls more r q m.1.over m.1.peeked w in
+    go ih (inr m) = (let z = idle_run calls more r q (ap (λ (z : Parser). z.session.over) m.1.is) (ap (λ (z : Parser). z.session.peeked) m.1.is) w in
         inr (subst (λ (x : Seen). RunsOut p (call ∷ calls) (x ∷ more) q) (sym (e ∙ ap seen m.0))
         (out_first p call calls more q (subst (λ (x : Parser). WantsMemory decoded_input p x) (sym z.1) m.1) m.2 z.0)))
 
@@ -97,7 +97,7 @@ out_runs : (calls : List Call) (n : ℕ) (p q : Parser) → n < length calls →
     → Runs decoded_input p calls (map seen (answered_all p (take n calls)) ++ (FAULT memory_fault ∷ map idle (drop (n + 1) calls))) q
 unfolding course_by session after_all
 out_runs [] n p q l k w = absurd (omega arith)
-out_runs (call ∷ calls) zero p q l k w = (says.FAULT memory_fault, q, inr (refl, w, λ e. k (ap (λ (x : Call). Some x) e)), refl, idle_runs calls q w.over w.peeked)
+out_runs (call ∷ calls) zero p q l k w = (says.FAULT memory_fault, q, inr (refl, w, λ e. k (ap (λ (x : Call). Some x) e)), refl, idle_runs calls q (ap (λ (z : Parser). z.session.over) w.is) (ap (λ (z : Parser). z.session.peeked) w.is))
 out_runs (call ∷ calls) (suc n) p q l k w =
     let m : suc n + 1 ≡ suc (n + 1) = omega arith in
     rw m (answered p call, after_call p call, inl (refl, refl), refl, out_runs calls n (after_call p call) q (omega arith) k w)

@@ -221,7 +221,7 @@ takes_next p calls answers q h w = go (of_session p calls answers q w)
         let k = idle_told (drop (o.n + 1) calls) in
         let g = takes_no_more (answers_to p.limit p.setting p.input).tokens p.session.taken (after_calls p (take o.n calls)).session.taken (map seen (answered_all p (take o.n calls))) (FAULT memory_fault ∷ map idle (drop (o.n + 1) calls)) k.0 (session_takes p (take o.n calls) h) k.1 in
         subst (λ (z : List Seen). TakesNext p z q) (sym o.answers)
-        (subst (λ (z : ℕ). TakesOn (answers_to p.limit p.setting p.input).tokens p.session.taken (map seen (answered_all p (take o.n calls)) ++ (FAULT memory_fault ∷ map idle (drop (o.n + 1) calls))) z) (sym o.wants.taken) g)
+        (subst (λ (z : ℕ). TakesOn (answers_to p.limit p.setting p.input).tokens p.session.taken (map seen (answered_all p (take o.n calls)) ++ (FAULT memory_fault ∷ map idle (drop (o.n + 1) calls))) z) (sym (ap (λ (z : Parser). z.session.taken) o.wants.is)) g)
 
 -- what holds of all answers of a run holds of those that were appended
 pub puts : (Holds : List Seen → Type 0) (p : Parser) (calls : List Call) (old new : List yaml_answer_t) (q : Parser) → PutsAnswers decoded_input p calls old new q → ((answers : List Seen) → Runs decoded_input p calls answers q → Holds answers) → Puts Holds old new
