@@ -8,7 +8,7 @@ use Rattle.yaml_lexeme.specs.declared.problem.yaml_refusal_t.{yaml_refusal_t}
 use Rattle.yaml_lexeme.specs.declared.problem.yaml_refusal_t.TheVariants.{MEMORY, OFFENCE}
 use Rattle.yaml_lexeme.specs.FaultTexts.{problem_text, context_text}
 use Rattle.yaml_lexeme.specs.declared.lex.yaml_context_t.{yaml_context_t}
-use Rattle.yaml_lexeme.specs.Lexeme.{Lexeme as yaml_lexeme_t}
+use Rattle.yaml_lexeme.specs.Lexeme.{Lexeme}
 use Rattle.yaml_lexeme.specs.Place.{Place}
 use Rattle.yaml_lexeme.specs.Reading.{Read}
 use Rattle.yaml_lexeme.specs.Lex.{lex}
@@ -31,9 +31,9 @@ ReadsAs view k at there (Ok l) answer = answer ≡ Ok (view l)
 ReadsAs view k at there (Err r) answer = (r ≡ MEMORY) ⊎ (answer ≡ Err (refused_at k at there r))
 
 -- the lexeme, or the fault of its offence, whose context is at the lexeme's start
-abbrev pub answer : yaml_lexeme_kind_t → Place → Read yaml_lexeme_t → Result yaml_lexeme_t Fault
+abbrev pub answer : yaml_lexeme_kind_t → Place → Read Lexeme → Result Lexeme Fault
 answer k p (Ok f) = Ok f.value
 answer k p (Err e) = Err (scanner_fault (problem_text e.problem) e.at.mark (Some (context_text k e.problem)) p.mark)
 
-abbrev pub lexeme_at : yaml_lexeme_kind_t → yaml_context_t → Place → Result yaml_lexeme_t Fault
+abbrev pub lexeme_at : yaml_lexeme_kind_t → yaml_context_t → Place → Result Lexeme Fault
 lexeme_at k context p = answer k p (lex k context p)

@@ -6,14 +6,14 @@ use Rattle.yaml_text.specs.Classes.{is_blank, is_break, is_digit, is_z}
 use Rattle.yaml_lexeme.specs.declared.block.chomp_t.{chomp_t}
 use Rattle.yaml_lexeme.specs.declared.block.chomp_t.TheVariants.{STRIP, CLIP, KEEP}
 use Rattle.yaml_lexeme.specs.declared.block.header_t.{header_t}
-use Rattle.yaml_lexeme.specs.Lexeme.{Scalar as scalar_t}
+use Rattle.yaml_lexeme.specs.Lexeme.{Scalar}
 use Rattle.yaml_lexeme.specs.declared.problem.yaml_problem_t.TheVariants.{NO_COMMENT_OR_BREAK, INDICATOR_ZERO}
 use Rattle.yaml_lexeme.specs.declared.problem.yaml_problem_t.TheVariants.{TAB_IN_INDENTATION}
 use Rattle.yaml_lexeme.specs.Classes.{is_in_line, line_feed}
 use Rattle.yaml_lexeme.specs.Place.{Place, first, skip, run, run_len, after_run, break_len}
 use Rattle.yaml_lexeme.specs.Greatest.{greatest}
 use Rattle.yaml_lexeme.specs.Gap.{after_comment}
-use Rattle.yaml_lexeme.specs.Fold.{written}
+use Rattle.yaml_lexeme.specs.Fold.{written, or_space}
 use Rattle.yaml_lexeme.specs.Reading.{Offence, Read, found, refuse, ◌>>=◌, Part, part, over, many}
 
 abbrev pub is_sign : ℕ → Bool
@@ -125,10 +125,6 @@ abbrev pub is_line_feed : Option ℕ → Bool
 is_line_feed None = false
 is_line_feed (Some b) = b == line_feed
 
-abbrev pub or_space : List ℕ → List ℕ
-or_space [] = 0x20 ∷ []
-or_space (b ∷ bs) = b ∷ bs
-
 -- what is between two text lines
 abbrev pub between : Bool → TextLine → TextLine → List ℕ
 between folded a b =
@@ -184,7 +180,7 @@ block_indent level None leading next = max (max 1 (above level)) (max leading ne
 
 -- Header, leading empty lines, text lines; at `|` or `>`. The level is the greatest one that is open. The indentation
 -- of the line after the scalar is read too.
-unfoldable pub block : Bool → Option ℕ → Place → Read scalar_t
+unfoldable pub block : Bool → Option ℕ → Place → Read Scalar
 block folded level p = do
   header ← header_at (skip 1 p)
   start ← after_line header.end

@@ -1,12 +1,14 @@
 -- Kinds that are read in one way: which of them it is, and which of them need no memory.
 use Rattle.std.specs.Prelude.{ℕ, Bool, true, false, if◌then◌else◌, List}
-use Rattle.yaml_text.specs.Token.{TokenData as unnamed_yaml_token_t_data, TokenData as token}
+use Rattle.yaml_text.specs.Token.{TokenData, TokenData as token}
+use Rattle.yaml_text.specs.declared.types.yaml_scalar_style_t.{yaml_scalar_style_t}
+use Rattle.yaml_text.specs.declared.types.yaml_scalar_style_t.TheVariants as styles
 use Rattle.yaml_lexeme.specs.declared.kind.yaml_lexeme_kind_t.{yaml_lexeme_kind_t}
 use Rattle.yaml_lexeme.specs.Name.{name}
 use Rattle.yaml_lexeme.specs.declared.kind.yaml_lexeme_kind_t.TheVariants as kind
 
 -- what an anchor or an alias says
-abbrev pub anchor_or_alias : Bool → List ℕ → unnamed_yaml_token_t_data
+abbrev pub anchor_or_alias : Bool → List ℕ → TokenData
 anchor_or_alias anchor name = if anchor then token.ANCHOR name else token.ALIAS name
 
 -- the kind of a quoted scalar, and of a literal or folded one
@@ -45,3 +47,14 @@ is_character kind.STREAM_END = false
 is_character kind.DOCUMENT_START = false
 is_character kind.DOCUMENT_END = false
 is_character k = is_bare k
+
+-- the style of a literal or folded scalar, and of a quoted one
+abbrev pub block_style : Bool → yaml_scalar_style_t
+block_style folded = if folded then styles.YAML_FOLDED_SCALAR_STYLE else styles.YAML_LITERAL_SCALAR_STYLE
+
+abbrev pub quoted_style : Bool → yaml_scalar_style_t
+quoted_style single = if single then styles.YAML_SINGLE_QUOTED_SCALAR_STYLE else styles.YAML_DOUBLE_QUOTED_SCALAR_STYLE
+
+-- what a quoted scalar says
+abbrev pub quoted_as : yaml_scalar_style_t → List ℕ → TokenData
+quoted_as style value = token.SCALAR value style

@@ -1,13 +1,11 @@
 -- Lexemes of every kind.
-use Rattle.std.specs.Prelude.{ℕ, Bool, true, false, nat_lt, if◌then◌else◌, List}
-use Rattle.yaml_text.specs.declared.types.yaml_scalar_style_t.{yaml_scalar_style_t}
+use Rattle.std.specs.Prelude.{ℕ, Bool, true, false, nat_lt}
 use Rattle.yaml_text.specs.declared.types.yaml_scalar_style_t.TheVariants as styles
-use Rattle.yaml_text.specs.Token.{TokenData as unnamed_yaml_token_t_data}
-use Rattle.yaml_text.specs.Token.{TokenData as token}
+use Rattle.yaml_text.specs.Token.{TokenData, TokenData as token}
 use Rattle.yaml_lexeme.specs.declared.kind.yaml_lexeme_kind_t.{yaml_lexeme_kind_t}
 use Rattle.yaml_lexeme.specs.declared.kind.yaml_lexeme_kind_t.TheVariants as kind
 use Rattle.yaml_lexeme.specs.declared.lex.yaml_context_t.{yaml_context_t}
-use Rattle.yaml_lexeme.specs.Lexeme.{Lexeme as yaml_lexeme_t, lexeme, whole, scalar_to, directive_to}
+use Rattle.yaml_lexeme.specs.Lexeme.{Lexeme, lexeme, whole, scalar_to, directive_to}
 use Rattle.yaml_lexeme.specs.StreamEnd.{at_end}
 use Rattle.yaml_lexeme.specs.Place.{Place, skip}
 use Rattle.yaml_lexeme.specs.Reading.{Read, found}
@@ -26,7 +24,7 @@ abbrev pub least : yaml_context_t → ℕ
 least context = above context.level
 
 -- what a lexeme of one character, or a document marker, says
-abbrev pub says_of : yaml_lexeme_kind_t → unnamed_yaml_token_t_data
+abbrev pub says_of : yaml_lexeme_kind_t → TokenData
 says_of kind.DOCUMENT_START = token.DOCUMENT_START
 says_of kind.DOCUMENT_END = token.DOCUMENT_END
 says_of kind.FLOW_SEQUENCE_START = token.FLOW_SEQUENCE_START
@@ -45,27 +43,19 @@ len_of kind.DOCUMENT_START = 3
 len_of kind.DOCUMENT_END = 3
 len_of k = 1
 
-abbrev pub block_style : Bool → yaml_scalar_style_t
-block_style folded = if folded then styles.YAML_FOLDED_SCALAR_STYLE else styles.YAML_LITERAL_SCALAR_STYLE
-
-abbrev pub quoted_style : Bool → yaml_scalar_style_t
-quoted_style single = if single then styles.YAML_SINGLE_QUOTED_SCALAR_STYLE else styles.YAML_DOUBLE_QUOTED_SCALAR_STYLE
-
--- what a quoted scalar says
-abbrev pub quoted_as : yaml_scalar_style_t → List ℕ → unnamed_yaml_token_t_data
-quoted_as style value = token.SCALAR value style
-
 -- the lexeme of the kind that is at a place, or its first offence
-unfoldable pub lex : yaml_lexeme_kind_t → yaml_context_t → Place → Read yaml_lexeme_t
+unfoldable pub lex : yaml_lexeme_kind_t → yaml_context_t → Place → Read Lexeme
 lex kind.STREAM_END context p = at_end p
 lex kind.DIRECTIVE context p = lexeme directive_to p (directive p)
 lex kind.ALIAS context p = lexeme (whole token.ALIAS) p (name p)
 lex kind.ANCHOR context p = lexeme (whole token.ANCHOR) p (name p)
 lex kind.TAG context p = lexeme (whole (λ t. t)) p (tag (in_flow context) p)
-lex kind.LITERAL context p = lexeme (scalar_to (block_style false)) p (block false context.level p)
-lex kind.FOLDED context p = lexeme (scalar_to (block_style true)) p (block true context.level p)
-lex kind.SINGLE_QUOTED context p = lexeme (whole (quoted_as (quoted_style true))) p (quoted true p)
-lex kind.DOUBLE_QUOTED context p = lexeme (whole (quoted_as (quoted_style false))) p (quoted false p)
+lex kind.LITERAL context p = lexeme (scalar_to styles.YAML_LITERAL_SCALAR_STYLE) p (block false context.level p)
+lex kind.FOLDED context p = lexeme (scalar_to styles.YAML_FOLDED_SCALAR_STYLE) p (block true context.level p)
+lex kind.SINGLE_QUOTED context p =
+    lexeme (whole (λ v. token.SCALAR v styles.YAML_SINGLE_QUOTED_SCALAR_STYLE)) p (quoted true p)
+lex kind.DOUBLE_QUOTED context p =
+    lexeme (whole (λ v. token.SCALAR v styles.YAML_DOUBLE_QUOTED_SCALAR_STYLE)) p (quoted false p)
 lex kind.PLAIN context p =
     lexeme (scalar_to styles.YAML_PLAIN_SCALAR_STYLE) p (plain (in_flow context) (least context) p)
 lex k context p = lexeme (whole says_of) p (found k (skip (len_of k) p))

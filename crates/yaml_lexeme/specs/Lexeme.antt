@@ -37,13 +37,8 @@ lexeme make p r = r >>= λ x. found (make p.mark x.value x.end.mark) x.end
 
 -- what ends where its token ends
 abbrev pub whole_of : TokenData → yaml_mark_t → yaml_mark_t → Lexeme
-whole_of says start end = record {
-  token_data = says;
-  start_mark = start;
-  end_mark = end;
-  reach = end;
-  passed_break = false;
-}
+whole_of says start end =
+    record { token_data = says; start_mark = start; end_mark = end; reach = end; passed_break = false }
 
 -- the same of a value, which `says` makes the token's data of
 abbrev pub whole : {A : Type 0} → (A → TokenData) → yaml_mark_t → A → yaml_mark_t → Lexeme
@@ -61,10 +56,5 @@ scalar_to style start s reach = record {
 
 -- a directive, after whose token the rest of the line is read
 abbrev pub directive_to : yaml_mark_t → Directive → yaml_mark_t → Lexeme
-directive_to start d reach = record {
-  token_data = d.says;
-  start_mark = start;
-  end_mark = d.end;
-  reach = reach;
-  passed_break = false;
-}
+directive_to start d reach =
+    record { token_data = d.says; start_mark = start; end_mark = d.end; reach = reach; passed_break = false }

@@ -6,7 +6,7 @@ use Rattle.yaml_text.specs.Chars.{utf8}
 use Rattle.yaml_text.specs.Classes.{is_break}
 use Rattle.yaml_lexeme.specs.declared.block.chomp_t.{chomp_t}
 use Rattle.yaml_lexeme.specs.declared.block.header_t.{header_t}
-use Rattle.yaml_lexeme.specs.Lexeme.{Scalar as scalar_t}
+use Rattle.yaml_lexeme.specs.Lexeme.{Scalar}
 use Rattle.yaml_lexeme.specs.declared.problem.yaml_problem_t.TheVariants.{COLON_IN_FLOW}
 use Rattle.yaml_lexeme.specs.Classes.{is_white, is_in_line}
 use Rattle.yaml_lexeme.specs.Place.{Place, peek, first, skip, run, after_run}
@@ -72,7 +72,7 @@ QuotedIsRefused = (single : Bool) (p : Place) (e : Offence) → (quoted single p
     ((parts : List (Piece (List ℕ))) × (q : Place) × IsLongest (body_part single) (skip 1 p) parts q (Err e))
 
 -- the value of a plain scalar whose last chunk ends at a place
-abbrev pub plain_scalar : List ℕ → List (List ℕ) → Place → scalar_t
+abbrev pub plain_scalar : List ℕ → List (List ℕ) → Place → Scalar
 plain_scalar head links last = record {
   value = utf8 head ++ flat_map utf8 links;
   end = last.mark;
@@ -80,7 +80,7 @@ plain_scalar head links last = record {
 }
 
 -- A plain scalar at p: a chunk, links of a separator and a chunk, and the place where the last chunk ends.
-pub record PlainParts (flow : Bool) (least : ℕ) (p : Place) (f : Found scalar_t) : Type 0 where
+pub record PlainParts (flow : Bool) (least : ℕ) (p : Place) (f : Found Scalar) : Type 0 where
   pub head : Found (List ℕ)
   pub links : List (Piece (List ℕ))
   pub last : Place
@@ -91,7 +91,7 @@ pub record PlainParts (flow : Bool) (least : ℕ) (p : Place) (f : Found scalar_
   pub end : f.end ≡ after_run is_white last
 
 abbrev pub PlainIsParts : Type 0
-PlainIsParts = (flow : Bool) (least : ℕ) (p : Place) (f : Found scalar_t) →
+PlainIsParts = (flow : Bool) (least : ℕ) (p : Place) (f : Found Scalar) →
     (plain flow least p ≡ Ok f) ↔ PlainParts flow least p f
 
 -- From p on come as many characters of a chunk as possible, and after them, in flow, a `:` before `?` or a flow
@@ -197,7 +197,7 @@ indent_of level h leading next =
     block_indent level (set_indent level h.digit) (greatest (map (λ b. b.column) leading)) next.mark.column
 
 -- the value of a literal or folded scalar, whose last line ends at a place
-abbrev pub block_scalar : Bool → chomp_t → List EmptyLine → List TextLine → Place → scalar_t
+abbrev pub block_scalar : Bool → chomp_t → List EmptyLine → List TextLine → Place → Scalar
 block_scalar folded chomp leading lines last = record {
   value = utf8 (block_value folded chomp (breaks_of leading) lines);
   end = last.mark;
@@ -206,7 +206,7 @@ block_scalar folded chomp leading lines last = record {
 
 -- A literal or folded scalar at p: its header, leading empty lines, and text lines, as many as possible of both. The
 -- indentation of the line after them is read too.
-pub record BlockParts (folded : Bool) (level : Option ℕ) (p : Place) (f : Found scalar_t) : Type 0 where
+pub record BlockParts (folded : Bool) (level : Option ℕ) (p : Place) (f : Found Scalar) : Type 0 where
   pub header : Found header_t
   pub start : Place
   pub leading : List (Piece EmptyLine)
@@ -223,5 +223,5 @@ pub record BlockParts (folded : Bool) (level : Option ℕ) (p : Place) (f : Foun
   pub value : f.value ≡ block_scalar folded header.value.chomp (values leading) (values lines) last
 
 abbrev pub BlockIsLines : Type 0
-BlockIsLines = (folded : Bool) (level : Option ℕ) (p : Place) (f : Found scalar_t) →
+BlockIsLines = (folded : Bool) (level : Option ℕ) (p : Place) (f : Found Scalar) →
     (block folded level p ≡ Ok f) ↔ BlockParts folded level p f

@@ -1,6 +1,6 @@
 -- A place is a mark and the characters from it on.
-use Rattle.std.specs.Prelude.{ℕ, Bool, if◌then◌else◌, List, take, drop, slice_index}
-use Rattle.std.specs.List.{prefix_len}
+use Rattle.std.specs.Prelude.{ℕ, Bool, if◌then◌else◌, List, drop, slice_index}
+use Rattle.std.specs.List.{prefix_len, take_while}
 use Rattle.yaml_text.specs.declared.types.yaml_mark_t.{yaml_mark_t}
 use Rattle.yaml_text.specs.Classes.{is_break, is_crlf}
 use Rattle.yaml_text.specs.Fault.{zero_mark}
@@ -37,7 +37,7 @@ abbrev pub run_len : (ℕ → Bool) → Place → ℕ
 run_len test p = prefix_len test p.rest
 
 abbrev pub run : (ℕ → Bool) → Place → List ℕ
-run test p = take (run_len test p) p.rest
+run test p = take_while test p.rest
 
 abbrev pub after_run : (ℕ → Bool) → Place → Place
 after_run test p = skip (run_len test p) p

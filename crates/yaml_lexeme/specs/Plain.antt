@@ -5,7 +5,7 @@ use Rattle.std.specs.List.{list_any, flat_map, find, range_with_len}
 use Rattle.yaml_text.specs.Chars.{utf8}
 use Rattle.yaml_text.specs.Classes.{is_break}
 use Rattle.yaml_lexeme.specs.declared.problem.yaml_problem_t.TheVariants.{COLON_IN_FLOW, TAB_IN_PLAIN}
-use Rattle.yaml_lexeme.specs.Lexeme.{Scalar as scalar_t}
+use Rattle.yaml_lexeme.specs.Lexeme.{Scalar}
 use Rattle.yaml_lexeme.specs.Classes.{is_white, ends, is_one_of}
 use Rattle.yaml_lexeme.specs.Place.{Place, peek, first, skip, run, run_len, after_run}
 use Rattle.yaml_lexeme.specs.Kind.{is_marker}
@@ -37,13 +37,10 @@ chunk flow p =
     if is_bad_colon flow (first end) (peek end 1) then refuse COLON_IN_FLOW end
     else found (take (chunk_len flow p.rest) p.rest) end
 
--- a tab in indentation: at a column below `least`, in a separator with a break before it
-abbrev pub is_bad_tab : ℕ → Bool → Place → Bool
-is_bad_tab least broken p = (first p == 0x09 && broken) && nat_lt p.mark.column least
-
--- k characters after p, in the separator there, is a tab in indentation
+-- k characters after p, in the separator there, is a tab in indentation: after a break, at a column below `least`
 abbrev pub has_bad_tab : ℕ → Place → ℕ → Bool
-has_bad_tab least p k = is_bad_tab least (list_any is_break (take k p.rest)) (skip k p)
+has_bad_tab least p k =
+    let q = skip k p in (first q == 0x09 && list_any is_break (take k p.rest)) && nat_lt q.mark.column least
 
 -- the place of the first tab in indentation, if the separator at p has one
 abbrev pub bad_tab : ℕ → Place → Option Place
@@ -72,7 +69,7 @@ link flow least p =
 
 -- A chunk, then separators and chunks: the value, the mark after the last chunk, and whether a break is in the
 -- separator after it, which is read too.
-unfoldable pub plain : Bool → ℕ → Place → Read scalar_t
+unfoldable pub plain : Bool → ℕ → Place → Read Scalar
 plain flow least p = do
   head ← chunk flow p
   links ← many (link flow least) head.end

@@ -165,7 +165,7 @@ fn take_whole_directive(
 }
 
 fn block_style(folded: bool) -> yaml_scalar_style_t
-    ensures { result ≡ spec.block_style folded }
+    ensures { result ≡ sets.block_style folded }
 {
     if folded {
         yaml_scalar_style_t::YAML_FOLDED_SCALAR_STYLE
@@ -184,7 +184,7 @@ fn take_block_scalar(
 ) -> Result<yaml_lexeme_t, yaml_refusal_t>
     requires { spec.least context + 10 < 2 ^ 64 }
     ensures { Gives lexeme_of result cursor.new
-        (lexeme (scalar_to (spec.block_style folded)) cursor.old (blocks.block folded context.level cursor.old)) }
+        (lexeme (scalar_to (sets.block_style folded)) cursor.old (blocks.block folded context.level cursor.old)) }
 {
     let start = cursor.mark();
     match take_block(room, cursor, folded, context.level) {
@@ -195,13 +195,13 @@ fn take_block_scalar(
 
 /// What a quoted scalar says.
 fn quoted_as(value: Vec<u8>, style: yaml_scalar_style_t) -> unnamed_yaml_token_t_data
-    ensures { data_of result ≡ spec.quoted_as style value.items }
+    ensures { data_of result ≡ sets.quoted_as style value.items }
 {
     unnamed_yaml_token_t_data::SCALAR { value, style }
 }
 
 fn quoted_style(single: bool) -> yaml_scalar_style_t
-    ensures { result ≡ spec.quoted_style single }
+    ensures { result ≡ sets.quoted_style single }
 {
     if single {
         yaml_scalar_style_t::YAML_SINGLE_QUOTED_SCALAR_STYLE
@@ -218,7 +218,7 @@ fn take_quoted_scalar(
     single: bool,
 ) -> Result<yaml_lexeme_t, yaml_refusal_t>
     ensures { Gives lexeme_of result cursor.new
-        (lexeme (whole (spec.quoted_as (spec.quoted_style single))) cursor.old (quotes.quoted single cursor.old)) }
+        (lexeme (whole (sets.quoted_as (sets.quoted_style single))) cursor.old (quotes.quoted single cursor.old)) }
 {
     let start = cursor.mark();
     match take_quoted(room, cursor, single) {
@@ -261,7 +261,7 @@ fn take_block_apart(
 ) -> Result<yaml_lexeme_t, yaml_refusal_t>
     requires { spec.least context + 10 < 2 ^ 64 }
     ensures { Gives lexeme_of result cursor.new
-        (lexeme (scalar_to (spec.block_style folded)) cursor.old (blocks.block folded context.level cursor.old)) }
+        (lexeme (scalar_to (sets.block_style folded)) cursor.old (blocks.block folded context.level cursor.old)) }
 {
     take_block_scalar(room, cursor, folded, context)
 }
@@ -274,7 +274,7 @@ fn take_quoted_apart(
     single: bool,
 ) -> Result<yaml_lexeme_t, yaml_refusal_t>
     ensures { Gives lexeme_of result cursor.new
-        (lexeme (whole (spec.quoted_as (spec.quoted_style single))) cursor.old (quotes.quoted single cursor.old)) }
+        (lexeme (whole (sets.quoted_as (sets.quoted_style single))) cursor.old (quotes.quoted single cursor.old)) }
 {
     take_quoted_scalar(room, cursor, single)
 }

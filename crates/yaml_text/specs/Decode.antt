@@ -15,24 +15,21 @@ use Rattle.yaml_text.specs.Text.{Text}
 
 -- How a character is spelled.
 abbrev pub spelling : yaml_encoding_t → ℕ → List ℕ
-spelling YAML_ANY_ENCODING c = encode_utf8 c
-spelling YAML_UTF8_ENCODING c = encode_utf8 c
 spelling YAML_UTF16LE_ENCODING c = spelling16 false c
 spelling YAML_UTF16BE_ENCODING c = spelling16 true c
+spelling e c = encode_utf8 c
 
 -- The spellings of characters, joined.
 abbrev pub spellings : yaml_encoding_t → List ℕ → List ℕ
-spellings YAML_ANY_ENCODING cs = utf8 cs
-spellings YAML_UTF8_ENCODING cs = utf8 cs
 spellings YAML_UTF16LE_ENCODING cs = utf16 false cs
 spellings YAML_UTF16BE_ENCODING cs = utf16 true cs
+spellings e cs = utf8 cs
 
 -- The value that the first octets or units have, whether it is a character's or not.
 abbrev pub value_in_front : yaml_encoding_t → List ℕ → ℕ
-value_in_front YAML_ANY_ENCODING bytes = value8 bytes
-value_in_front YAML_UTF8_ENCODING bytes = value8 bytes
 value_in_front YAML_UTF16LE_ENCODING bytes = value16 false bytes
 value_in_front YAML_UTF16BE_ENCODING bytes = value16 true bytes
+value_in_front e bytes = value8 bytes
 
 -- The character c, if the bytes begin with its spelling.
 abbrev pub if_begins : yaml_encoding_t → ℕ → List ℕ → Option ℕ
@@ -61,9 +58,7 @@ encoding_of YAML_ANY_ENCODING input =
     if begins_with 0xFF 0xFE input then YAML_UTF16LE_ENCODING
     else if begins_with 0xFE 0xFF input then YAML_UTF16BE_ENCODING
     else YAML_UTF8_ENCODING
-encoding_of YAML_UTF8_ENCODING input = YAML_UTF8_ENCODING
-encoding_of YAML_UTF16LE_ENCODING input = YAML_UTF16LE_ENCODING
-encoding_of YAML_UTF16BE_ENCODING input = YAML_UTF16BE_ENCODING
+encoding_of setting input = setting
 
 -- How many bytes the byte order mark has that is dropped. None is, if an encoding is set.
 abbrev pub bom_len : yaml_encoding_t → List ℕ → ℕ
@@ -72,9 +67,7 @@ bom_len YAML_ANY_ENCODING input =
     else if begins_with 0xFE 0xFF input then 2
     else if begins_with 0xEF 0xBB input && slice_index input 2 == 0xBF then 3
     else 0
-bom_len YAML_UTF8_ENCODING input = 0
-bom_len YAML_UTF16LE_ENCODING input = 0
-bom_len YAML_UTF16BE_ENCODING input = 0
+bom_len setting input = 0
 
 -- What follows it.
 abbrev pub after_bom : yaml_encoding_t → List ℕ → List ℕ
@@ -82,10 +75,9 @@ after_bom setting input = drop (bom_len setting input) input
 
 -- What is wrong with bytes that begin with no character.
 abbrev pub offence : yaml_encoding_t → List ℕ → offence_t
-offence YAML_ANY_ENCODING bytes = offence8 bytes
-offence YAML_UTF8_ENCODING bytes = offence8 bytes
 offence YAML_UTF16LE_ENCODING bytes = offence16 false bytes
 offence YAML_UTF16BE_ENCODING bytes = offence16 true bytes
+offence e bytes = offence8 bytes
 
 -- The front of an input, as a text.
 unfoldable pub front : yaml_encoding_t → List ℕ → Text

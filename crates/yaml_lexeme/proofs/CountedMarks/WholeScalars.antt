@@ -5,8 +5,8 @@ use Rattle.std.proofs.lemmas.Bool.Decides.{nat_tests}
 use Rattle.std.specs.List.{list_all}
 use Rattle.std.specs.Str.Parse.{digits_value}
 use Rattle.yaml_text.specs.declared.types.yaml_mark_t.{yaml_mark_t}
-use Rattle.yaml_lexeme.specs.Lexeme.{Scalar as scalar_t}
-use Rattle.yaml_lexeme.specs.Lexeme.{Directive as directive_t}
+use Rattle.yaml_lexeme.specs.Lexeme.{Scalar}
+use Rattle.yaml_lexeme.specs.Lexeme.{Directive}
 use Rattle.yaml_lexeme.proofs.MarkOrder.ReadingAhead.{shorter, part_shorter, PartAhead}
 use Rattle.yaml_lexeme.proofs.CountedMarks.WholePlaces.{parts, Clear, clear_here, clear_trans, clear_skip, clear_after, clear_one, clear_run, clear_within, clear_break, other, one_more, no_return, end_whole}
 use Rattle.yaml_lexeme.proofs.CountedMarks.WholeSmallReaders.{Held, Holds, ok_holds, refuse_holds, if_holds, bind_holds, from_holds, Clears, PartClears, ClearsTo, then_clears, then_to, many_clears, sure_white, sure_in_line, sure_alpha, is_not, named_clears, line_end_clears}
@@ -224,7 +224,7 @@ mark_then {p} {q} {m} a h = record { at = h.at; is = h.is; clear = clear_trans a
 abbrev pub Marks : {A : Type 0} → (A → yaml_mark_t) → Place → Read A → Type 0
 Marks mark p r = Holds (λ f. HasMark p (mark f.value) × Clear p f.end) p r
 
-pub plain_marks : (flow : Bool) (least : ℕ) (p : Place) → Marks (λ (s : scalar_t). s.end) p (plain flow least p)
+pub plain_marks : (flow : Bool) (least : ℕ) (p : Place) → Marks (λ (s : Scalar). s.end) p (plain flow least p)
 unfolding plain
 plain_marks flow least p =
     bind_holds (chunk_clears flow p) (λ head a.
@@ -232,7 +232,7 @@ plain_marks flow least p =
     ok_holds (mark_here b, clear_trans b (clear_run is_white links.end sure_white))))
 
 -- directives
-pub directive_marks : (p : Place) → (first p == 0x0D) ≡ false → Marks (λ (d : directive_t). d.end) p (directive p)
+pub directive_marks : (p : Place) → (first p == 0x0D) ≡ false → Marks (λ (d : Directive). d.end) p (directive p)
 unfolding directive
 directive_marks p h =
     let letters = run is_alpha (skip 1 p) in
@@ -312,7 +312,7 @@ lines_marks zero indent start m p h a = ok_holds (h, a)
 lines_marks (suc n) indent start m p h a =
     bind_holds (from_holds {R = LineEnd p} a (text_marks indent p) (λ x b. b)) (λ o e. lines_turn (at_most (text_line indent) n) start m p o h a e (λ l x i b. lines_marks n indent start l.end x i b))
 
-pub block_marks : (folded : Bool) (level : Option ℕ) (p : Place) → (first p == 0x0D) ≡ false → Marks (λ (s : scalar_t). s.end) p (block_ahead folded level p)
+pub block_marks : (folded : Bool) (level : Option ℕ) (p : Place) → (first p == 0x0D) ≡ false → Marks (λ (s : Scalar). s.end) p (block_ahead folded level p)
 unfolding block_ahead
 block_marks folded level p h =
     bind_holds (then_clears (clear_one p h) (header_clears (skip 1 p))) (λ header a.

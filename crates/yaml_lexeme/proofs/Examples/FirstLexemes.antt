@@ -4,13 +4,13 @@ use Rattle.std.specs.Prelude.{codes, map, pos, nat_lt}
 use Rattle.std.specs.Char.{encode_utf8}
 use Rattle.yaml_text.specs.declared.types.yaml_mark_t.{yaml_mark_t}
 use Rattle.yaml_text.specs.declared.types.yaml_scalar_style_t.TheVariants as style
-use Rattle.yaml_text.specs.Token.{TokenData as unnamed_yaml_token_t_data}
+use Rattle.yaml_text.specs.Token.{TokenData}
 use Rattle.yaml_text.specs.Token.{TokenData as says}
 use Rattle.yaml_text.specs.Fault.{Fault, scanner_fault}
 use Rattle.yaml_lexeme.specs.declared.kind.yaml_lexeme_kind_t.{yaml_lexeme_kind_t}
 use Rattle.yaml_lexeme.specs.declared.kind.yaml_lexeme_kind_t.TheVariants as kind
 use Rattle.yaml_lexeme.specs.declared.lex.yaml_context_t.{yaml_context_t}
-use Rattle.yaml_lexeme.specs.Lexeme.{Lexeme as yaml_lexeme_t}
+use Rattle.yaml_lexeme.specs.Lexeme.{Lexeme}
 use Rattle.yaml_lexeme.specs.Place.{Place, start, skip}
 use Rattle.yaml_lexeme.specs.Reading.{at_most}
 use Rattle.yaml_lexeme.specs.Gap.{gap, after_gap_line, after_gap_lines}
@@ -31,18 +31,18 @@ use Rattle.yaml_lexeme.specs.Answers.{lexeme_at}
 abbrev at : ℕ → ℕ → ℕ → yaml_mark_t
 at i l c = record { index = i; line = l; column = c }
 
-abbrev token : unnamed_yaml_token_t_data → yaml_mark_t → yaml_mark_t → yaml_mark_t → Bool → yaml_lexeme_t
+abbrev token : TokenData → yaml_mark_t → yaml_mark_t → yaml_mark_t → Bool → Lexeme
 token data_is start end reach passed = record { token_data = data_is; start_mark = start; end_mark = end; reach = reach; passed_break = passed }
 
-abbrev by : Option yaml_lexeme_kind_t → yaml_context_t → Place → Option (Result yaml_lexeme_t Fault)
+abbrev by : Option yaml_lexeme_kind_t → yaml_context_t → Place → Option (Result Lexeme Fault)
 by (Some k) context p = Some (lexeme_at k context p)
 by None context p = None
 
 -- a text, its first lexeme at a flow depth and a greatest open level, and what that must be
 abbrev Rows : Type 0
-Rows = List (Option (Result yaml_lexeme_t Fault) × Result yaml_lexeme_t Fault)
+Rows = List (Option (Result Lexeme Fault) × Result Lexeme Fault)
 
-abbrev lexed : ℕ → Option ℕ → List ℕ → Option (Result yaml_lexeme_t Fault)
+abbrev lexed : ℕ → Option ℕ → List ℕ → Option (Result Lexeme Fault)
 lexed depth level text = by (kind_at (nat_lt 0 depth) (start text)) (record { depth = depth; level = level }) (start text)
 
 abbrev Hold : Rows → Type 0

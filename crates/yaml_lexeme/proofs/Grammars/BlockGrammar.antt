@@ -1,7 +1,7 @@
 -- A literal or folded scalar is refused at the first of its parts that the text does not give.
 use Rattle.std.proofs.Common.{◌≡◌, ℕ, Bool, List, Option, Some, Ok, Err, Result, refl, sym, ap, ◌∙◌}
 use Rattle.yaml_lexeme.specs.declared.block.header_t.{header_t}
-use Rattle.yaml_lexeme.specs.Lexeme.{Scalar as scalar_t}
+use Rattle.yaml_lexeme.specs.Lexeme.{Scalar}
 use Rattle.yaml_lexeme.specs.Block.{EmptyLine, TextLine, header_at, after_line, after_indent, empty_line, set_indent, text_line, block}
 use Rattle.yaml_lexeme.specs.BlockGrammar.{BlockRefused, BlockIsRefused}
 use Rattle.yaml_lexeme.specs.BlockGrammar.BlockRefused.{no_header, no_line_end, no_leading, no_text}
@@ -16,7 +16,7 @@ use Rattle.yaml_lexeme.proofs.LongestLists.BlockLongest.{blank_advances, line_ad
 use Rattle.yaml_lexeme.proofs.LongestLists.LongestParts.{many_longest, many_refused, found_of, refused_of}
 
 module _ (folded : Bool) (level : Option ℕ) (p : Place) (e : Offence) where
-  end_refused : (s : scalar_t) (indent : ℕ) (q : Place) (r : Result Place Offence) → text_line indent q ≡ over → after_indent (Some indent) q ≡ r → at_end s r ≡ Err e → BlockRefused level p e
+  end_refused : (s : Scalar) (indent : ℕ) (q : Place) (r : Result Place Offence) → text_line indent q ≡ over → after_indent (Some indent) q ≡ r → at_end s r ≡ Err e → BlockRefused level p e
   end_refused s indent q (Ok x) none is h = absurd cc
   end_refused s indent q (Err o) none is h = absurd (end_not_refused indent q o none is)
 

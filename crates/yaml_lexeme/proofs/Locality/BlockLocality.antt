@@ -20,7 +20,7 @@ use Rattle.yaml_lexeme.proofs.Readers.BlockLines.{blank_at, after_blanks}
 use Rattle.yaml_lexeme.specs.Place.{Place, first, skip, run_len, break_len}
 use Rattle.yaml_lexeme.specs.Reading.{Offence, Found, Read, found, refuse, ◌>>=◌, part, over, many}
 use Rattle.yaml_lexeme.specs.declared.block.header_t.{header_t}
-use Rattle.yaml_lexeme.specs.Lexeme.{Scalar as scalar_t}
+use Rattle.yaml_lexeme.specs.Lexeme.{Scalar}
 use Rattle.yaml_lexeme.specs.declared.problem.yaml_problem_t.TheVariants.{TAB_IN_INDENTATION}
 use Rattle.yaml_text.specs.Chars.{utf8}
 use Rattle.yaml_text.specs.Classes.{is_digit}
@@ -163,16 +163,16 @@ header_like n p q a =
     (like_found 1 refl (λ h. refl) (λ h. ap (λ (c : ℕ). signed c x.value) (sym (b.same 0 (omega arith))))) found_here))
 
 -- after the leading empty lines
-abbrev block_end : Bool → header_t → Option ℕ → Found Blanks → Read scalar_t
+abbrev block_end : Bool → header_t → Option ℕ → Found Blanks → Read Scalar
 block_end folded header level leading =
     many (text_line (block_indent level (set_indent level header.digit) leading.value.column leading.end.mark.column)) leading.end >>= λ lines.
     found (record { value = utf8 (block_value folded header.chomp leading.value.breaks lines.value); end = end_of leading.value.end lines.value; passed_break = false }) lines.end
 
-abbrev block_value_of : Bool → header_t → Blanks → List Line → scalar_t
+abbrev block_value_of : Bool → header_t → Blanks → List Line → Scalar
 block_value_of folded header leading lines = record { value = utf8 (block_value folded header.chomp leading.breaks lines); end = end_of leading.end lines; passed_break = false }
 
 -- after the header's line
-abbrev block_lines : Bool → Option ℕ → header_t → Place → Read scalar_t
+abbrev block_lines : Bool → Option ℕ → header_t → Place → Read Scalar
 block_lines folded level header start = blank_lines (set_indent level header.digit) start >>= λ leading. block_end folded header level leading
 
 end_like : (folded : Bool) (header : header_t) (level : Option ℕ) (column : ℕ) (leading : Blanks) (n : ℕ) (p q : Place) → Agree n p q → p.mark.column ≡ column
@@ -185,7 +185,7 @@ end_like folded header level column leading n p q a e =
 block_lines_like : (folded : Bool) (level : Option ℕ) (header : header_t) → IsLike (block_lines folded level header)
 block_lines_like folded level header n p q a =
     like_bind _ _ a (lines_like (set_indent level header.digit) n p q a) (λ x z m b.
-    subst (λ (k : yaml_mark_t). Like {A = scalar_t} m x.end z (block_end folded header level x) (many (text_line (block_indent level (set_indent level header.digit) x.value.column k.column)) z >>= λ lines. found (block_value_of folded header x.value lines.value) lines.end)) b.mark
+    subst (λ (k : yaml_mark_t). Like {A = Scalar} m x.end z (block_end folded header level x) (many (text_line (block_indent level (set_indent level header.digit) x.value.column k.column)) z >>= λ lines. found (block_value_of folded header x.value lines.value) lines.end)) b.mark
     (end_like folded header level x.end.mark.column x.value m x.end z b refl))
 
 abbrev as_read : Result Place Offence → Read ℕ
@@ -195,7 +195,7 @@ rest_is : {A : Type 0} (r : Result Place Offence) (f : Place → Read A) → (r 
 rest_is (Ok p) f = refl
 rest_is (Err e) f = refl
 
-abbrev block_header : Bool → Option ℕ → Place → Read scalar_t
+abbrev block_header : Bool → Option ℕ → Place → Read Scalar
 block_header folded level p = header_at p >>= λ header. as_read (after_line header.end) >>= λ start. block_lines folded level header.value start.end
 
 block_from : (folded : Bool) (level : Option ℕ) (r : Read header_t) → (r >>= λ header. after_line header.end >>= λ start. block_lines folded level header.value start) ≡ (r >>= λ header. as_read (after_line header.end) >>= λ start. block_lines folded level header.value start.end)

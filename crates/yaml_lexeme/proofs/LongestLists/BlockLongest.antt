@@ -3,7 +3,7 @@ use Rattle.std.proofs.Common.{◌≡◌, ℕ, Bool, true, false, not, if◌then�
 use Rattle.yaml_text.specs.Chars.{utf8}
 use Rattle.yaml_lexeme.specs.declared.block.chomp_t.{chomp_t}
 use Rattle.yaml_lexeme.specs.declared.block.header_t.{header_t}
-use Rattle.yaml_lexeme.specs.Lexeme.{Scalar as scalar_t}
+use Rattle.yaml_lexeme.specs.Lexeme.{Scalar}
 use Rattle.yaml_lexeme.proofs.LongestLists.LongestParts.{Advances, many_longest, many_refused, found_of, refused_of}
 use Rattle.yaml_lexeme.proofs.MarkOrder.ScalarsAhead.{blank_goes}
 use Rattle.yaml_lexeme.proofs.Parts.ReadResults.{value_or, end_or, both}
@@ -94,34 +94,34 @@ text_refused indent p e = (λ h. line_refused_from indent p e (after_indent (Som
 
 -- ---- the scalar
 
-abbrev pub at_end : scalar_t → Result Place Offence → Read scalar_t
+abbrev pub at_end : Scalar → Result Place Offence → Read Scalar
 at_end s r = r >>= λ end. found s end
 
 -- what is read after each part
-abbrev pub after_lines : Bool → chomp_t → List EmptyLine → ℕ → Read (List TextLine) → Read scalar_t
+abbrev pub after_lines : Bool → chomp_t → List EmptyLine → ℕ → Read (List TextLine) → Read Scalar
 after_lines folded chomp leading indent r = r >>= λ lines. at_end (block_scalar folded chomp leading lines.value lines.end) (after_indent (Some indent) lines.end)
 
-abbrev pub after_next : Bool → Option ℕ → header_t → Found (List EmptyLine) → Result Place Offence → Read scalar_t
+abbrev pub after_next : Bool → Option ℕ → header_t → Found (List EmptyLine) → Result Place Offence → Read Scalar
 after_next folded level h leading r = r >>= λ next. after_lines folded h.chomp leading.value (indent_of level h leading.value next) (many (text_line (indent_of level h leading.value next)) leading.end)
 
-abbrev pub after_leading : Bool → Option ℕ → header_t → Read (List EmptyLine) → Read scalar_t
+abbrev pub after_leading : Bool → Option ℕ → header_t → Read (List EmptyLine) → Read Scalar
 after_leading folded level h r = r >>= λ leading. after_next folded level h leading (after_indent (set_indent level h.digit) leading.end)
 
-abbrev pub after_start : Bool → Option ℕ → header_t → Result Place Offence → Read scalar_t
+abbrev pub after_start : Bool → Option ℕ → header_t → Result Place Offence → Read Scalar
 after_start folded level h r = r >>= λ start. after_leading folded level h (many (empty_line (set_indent level h.digit)) start)
 
-abbrev pub after_header : Bool → Option ℕ → Read header_t → Read scalar_t
+abbrev pub after_header : Bool → Option ℕ → Read header_t → Read Scalar
 after_header folded level r = r >>= λ header. after_start folded level header.value (after_line header.end)
 
 pub block_is : (folded : Bool) (level : Option ℕ) (p : Place) → block folded level p ≡ after_header folded level (header_at (skip 1 p))
 unfolding block
 block_is folded level p = refl
 
-end_from : (s : scalar_t) (r : Result Place Offence) (f : Found scalar_t) → at_end s r ≡ Ok f → (r ≡ Ok f.end) × (f.value ≡ s)
+end_from : (s : Scalar) (r : Result Place Offence) (f : Found Scalar) → at_end s r ≡ Ok f → (r ≡ Ok f.end) × (f.value ≡ s)
 end_from s (Ok x) f h = (ap (λ (y : Place). Ok y) (ap (end_or x) h), sym (ap (value_or s) h))
 end_from s (Err o) f h = absurd cc
 
-module _ (folded : Bool) (level : Option ℕ) (p : Place) (f : Found scalar_t) where
+module _ (folded : Bool) (level : Option ℕ) (p : Place) (f : Found Scalar) where
   lines_from : (header : Found header_t) (start : Place) (leading : List (Piece EmptyLine)) (first next : Place) → header_at (skip 1 p) ≡ Ok header → after_line header.end ≡ Ok start
       → IsLongest (empty_line (set_indent level header.value.digit)) start leading first over → after_indent (set_indent level header.value.digit) first ≡ Ok next
       → (r : Read (List TextLine)) → many (text_line (indent_of level header.value (values leading) next)) first ≡ r → after_lines folded header.value.chomp (values leading) (indent_of level header.value (values leading) next) r ≡ Ok f

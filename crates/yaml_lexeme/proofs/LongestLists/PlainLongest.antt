@@ -3,7 +3,7 @@ use Rattle.std.proofs.Common.{◌≡◌, ℕ, zero, suc, ◌+◌, ◌<◌, ◌�
 use Rattle.std.proofs.lemmas.Bool.{cases_Bool, eqb-true, not-false}
 use Rattle.std.proofs.lemmas.Bool.Decides.{nat_tests}
 use Rattle.std.proofs.lemmas.List.{length-take-le}
-use Rattle.yaml_lexeme.specs.Lexeme.{Scalar as scalar_t}
+use Rattle.yaml_lexeme.specs.Lexeme.{Scalar}
 use Rattle.yaml_lexeme.specs.declared.problem.yaml_problem_t.{yaml_problem_t}
 use Rattle.yaml_lexeme.specs.declared.problem.yaml_problem_t.TheVariants.{COLON_IN_FLOW}
 use Rattle.yaml_lexeme.specs.Classes.{is_white}
@@ -264,7 +264,7 @@ link_over flow least p = (over_from flow least p, over_to flow least p)
 link_advances : (flow : Bool) (least : ℕ) → Advances (link flow least)
 link_advances flow least p = (link_goes flow least p).goes
 
-links_from : (flow : Bool) (least : ℕ) (p : Place) (f : Found scalar_t) (head : Found (List ℕ)) → chunk flow p ≡ Ok head → (r : Read (List (List ℕ))) → many (link flow least) head.end ≡ r → tail_of head.value r ≡ Ok f → PlainParts flow least p f
+links_from : (flow : Bool) (least : ℕ) (p : Place) (f : Found Scalar) (head : Found (List ℕ)) → chunk flow p ≡ Ok head → (r : Read (List (List ℕ))) → many (link flow least) head.end ≡ r → tail_of head.value r ≡ Ok f → PlainParts flow least p f
 links_from flow least p f head starts (Ok b) e h =
     let l = many_longest (link flow least) (link_advances flow least) head.end b e in
     record {
@@ -279,11 +279,11 @@ links_from flow least p f head starts (Ok b) e h =
     }
 links_from flow least p f head starts (Err o) e h = absurd cc
 
-head_from : (flow : Bool) (least : ℕ) (p : Place) (f : Found scalar_t) (r : Read (List ℕ)) → chunk flow p ≡ r → after_head flow least r ≡ Ok f → PlainParts flow least p f
+head_from : (flow : Bool) (least : ℕ) (p : Place) (f : Found Scalar) (r : Read (List ℕ)) → chunk flow p ≡ r → after_head flow least r ≡ Ok f → PlainParts flow least p f
 head_from flow least p f (Ok head) e h = links_from flow least p f head e (many (link flow least) head.end) refl h
 head_from flow least p f (Err o) e h = absurd cc
 
-plain_to : (flow : Bool) (least : ℕ) (p : Place) (f : Found scalar_t) → PlainParts flow least p f → plain flow least p ≡ Ok f
+plain_to : (flow : Bool) (least : ℕ) (p : Place) (f : Found Scalar) → PlainParts flow least p f → plain flow least p ≡ Ok f
 plain_to flow least p f q =
     plain_is flow least p ∙ ap (after_head flow least) q.starts ∙ ap (tail_of q.head.value) (found_of (link flow least) (link_advances flow least) q.head.end q.links q.last q.longest)
     ∙ both f (plain_scalar q.head.value (values q.links) q.last) (after_run is_white q.last) q.value q.end

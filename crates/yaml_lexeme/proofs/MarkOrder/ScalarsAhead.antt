@@ -23,8 +23,8 @@ use Rattle.yaml_lexeme.specs.Place.{Place, first, peek, skip, run, after_run, br
 use Rattle.yaml_lexeme.specs.Plain.{is_chunk, is_bad_colon, chunk_len, chunk, bad_tab, untabbed, separator, is_over, link, plain}
 use Rattle.yaml_lexeme.specs.Quoted.{quote, unmarked, body_part, quoted}
 use Rattle.yaml_lexeme.specs.Reading.{Read, ◌>>=◌, Part, part, over, many, with_front, go_on}
-use Rattle.yaml_lexeme.specs.Lexeme.{Directive as directive_t}
-use Rattle.yaml_lexeme.specs.Lexeme.{Scalar as scalar_t}
+use Rattle.yaml_lexeme.specs.Lexeme.{Directive}
+use Rattle.yaml_lexeme.specs.Lexeme.{Scalar}
 use Rattle.yaml_text.specs.Classes.{is_z, is_break, is_alpha, is_blank, is_hex, is_digit}
 use Rattle.yaml_text.specs.declared.types.yaml_mark_t.{yaml_mark_t}
 
@@ -99,7 +99,7 @@ link_goes flow least p =
     part_bind 1 (then_goes 1 0 a (chunk_goes flow gap.end)) (λ c b.
     part_if (length c.value == 0) (λ z. over_goes) (λ z. part_goes b)))))
 
-pub plain_span : (flow : Bool) (least : ℕ) (p : Place) → is_chunk flow (first p) (peek p 1) ≡ true → Span (λ (s : scalar_t). s.end) 1 p (plain flow least p)
+pub plain_span : (flow : Bool) (least : ℕ) (p : Place) → is_chunk flow (first p) (peek p 1) ≡ true → Span (λ (s : Scalar). s.end) 1 p (plain flow least p)
 unfolding plain
 plain_span flow least p h =
     bind_span 1 (chunk_some flow p h) (λ head a.
@@ -115,7 +115,7 @@ line_end_goes p =
     let a : IsAhead 0 p q = ahead_trans 0 0 p b q (ahead_after is_blank p) (comment_ahead b) in
     to_if (is_break (first q) || is_z (first q)) (to_goes (on (break_len q) p q a)) refuse_to
 
-pub directive_span : (p : Place) → 0 < length p.rest → Span (λ (e : directive_t). e.end) 1 p (directive p)
+pub directive_span : (p : Place) → 0 < length p.rest → Span (λ (e : Directive). e.end) 1 p (directive p)
 unfolding directive
 directive_span p h =
     let letters = run is_alpha (skip 1 p) in
@@ -223,7 +223,7 @@ lines_within (suc k) n indent start m p h s =
 lines_span : (n indent : ℕ) (start : Place) (m : yaml_mark_t) (p : Place) → Spans n start m p → Span (end_of m) n start (many (text_line indent) p)
 lines_span n indent start m p s = lines_within (length p.rest + 1) n indent start m p (omega arith) s
 
-pub block_span : (folded : Bool) (level : Option ℕ) (p : Place) → 0 < length p.rest → Span (λ (s : scalar_t). s.end) 1 p (block_ahead folded level p)
+pub block_span : (folded : Bool) (level : Option ℕ) (p : Place) → 0 < length p.rest → Span (λ (s : Scalar). s.end) 1 p (block_ahead folded level p)
 unfolding block_ahead
 block_span folded level p h =
     bind_span 1 (then_goes 1 0 (ahead_skip 1 p (omega arith)) (header_goes (skip 1 p))) (λ header a.

@@ -15,7 +15,7 @@ use Rattle.yaml_lexeme.proofs.Readers.FoldSeparators.{run_more, run_none, encode
 use Rattle.yaml_lexeme.proofs.MarkOrder.ScalarsAhead.{blank_shortens, text_shortens}
 use Rattle.yaml_lexeme.proofs.Parts.ReadResults.{value_or, end_or}
 use Rattle.yaml_lexeme.specs.Block.{is_indenting, indent_len, after_indent, EmptyLine, empty_line, break_at, is_text}
-use Rattle.yaml_lexeme.specs.Block.{header_at, after_line, set_indent, block_indent, block, or_none, or_space}
+use Rattle.yaml_lexeme.specs.Block.{header_at, after_line, set_indent, block_indent, block, or_none}
 use Rattle.yaml_lexeme.specs.Greatest.{greatest}
 use Rattle.yaml_lexeme.specs.Block.{is_line_feed}
 use Rattle.yaml_lexeme.specs.inside.BlockAhead.{Blanks, blanks_of, blank_lines, Line, line_at, text_line, between}
@@ -23,7 +23,7 @@ use Rattle.yaml_lexeme.specs.inside.BlockAhead.{chomped, value_after, block_valu
 use Rattle.yaml_lexeme.specs.inside.BlockAhead.{is_more_indented, block_ahead}
 use Rattle.yaml_lexeme.proofs.Readers.BlocksAlike.{blocks_alike}
 use Rattle.yaml_lexeme.specs.Classes.{is_in_line}
-use Rattle.yaml_lexeme.specs.Fold.{written}
+use Rattle.yaml_lexeme.specs.Fold.{written, or_space}
 use Rattle.yaml_lexeme.specs.inside.Gives.{Refuses}
 use Rattle.yaml_lexeme.specs.Place.{Place, first, skip, run, after_run, break_len}
 use Rattle.yaml_lexeme.specs.Reading.{Offence, Found, Read, found, Part, part, refuse, over, many, ◌>>=◌}
@@ -34,7 +34,7 @@ use Rattle.yaml_lexeme.specs.declared.block.tail_t.{tail_t}
 use Rattle.yaml_lexeme.specs.declared.block.chomp_t.{chomp_t}
 use Rattle.yaml_lexeme.specs.declared.block.chomp_t.TheVariants.{STRIP, CLIP, KEEP}
 use Rattle.yaml_lexeme.specs.declared.block.header_t.{header_t}
-use Rattle.yaml_lexeme.specs.Lexeme.{Scalar as scalar_t}
+use Rattle.yaml_lexeme.specs.Lexeme.{Scalar}
 
 -- the place after indentation
 abbrev pub indent_end : Option ℕ → Place → Place
@@ -208,7 +208,7 @@ abbrev pub before_lines : List ℕ → yaml_mark_t → Line
 before_lines leading m = record { text = []; break = None; empties = leading; end = m }
 
 -- what the lines that were gathered make
-abbrev pub finish : chomp_t → Read Lines → Read scalar_t
+abbrev pub finish : chomp_t → Read Lines → Read Scalar
 finish chomp r = r >>= λ s. found (record { value = s.value.0 ++ utf8 (chomped chomp s.value.1); end = s.value.1.end; passed_break = false }) s.end
 
 gathered : (folded : Bool) (chomp : chomp_t) (ls : List Line) (out : List ℕ) (last : Line)
@@ -306,7 +306,7 @@ blocks_all folded level start chomp indent p out new tail h b e =
     rw (value, b.keeps.end) (sym b.so_far ∙ ap (finish chomp) all)
 
 -- what a block scalar is after its header and leading empty lines
-abbrev pub tail_of : Bool → chomp_t → Blanks → Read (List Line) → Read scalar_t
+abbrev pub tail_of : Bool → chomp_t → Blanks → Read (List Line) → Read Scalar
 tail_of folded chomp b m = m >>= λ lines. found (record { value = utf8 (block_value folded chomp b.breaks lines.value); end = end_of_lines b.end lines.value; passed_break = false }) lines.end
 
 tail_is : (folded : Bool) (chomp : chomp_t) (b : Blanks) (m : Read (List Line)) → finish chomp (gather (add_line folded) ([], before_lines b.breaks b.end) m) ≡ tail_of folded chomp b m
@@ -316,13 +316,13 @@ tail_is folded chomp b (Ok r) =
     let value = t.0 ∙ ap utf8 (first_of folded chomp b.breaks b.end r.value) in
     rw (value, t.1) refl
 
-abbrev pub after_leading : Bool → Option ℕ → header_t → Read Blanks → Read scalar_t
+abbrev pub after_leading : Bool → Option ℕ → header_t → Read Blanks → Read Scalar
 after_leading folded level h r = r >>= λ leading. tail_of folded h.chomp leading.value (many (text_line (block_indent level (set_indent level h.digit) leading.value.column leading.end.mark.column)) leading.end)
 
-abbrev pub after_start : Bool → Option ℕ → header_t → Result Place Offence → Read scalar_t
+abbrev pub after_start : Bool → Option ℕ → header_t → Result Place Offence → Read Scalar
 after_start folded level h r = r >>= λ start. after_leading folded level h (blank_lines (set_indent level h.digit) start)
 
-abbrev pub after_header : Bool → Option ℕ → Read header_t → Read scalar_t
+abbrev pub after_header : Bool → Option ℕ → Read header_t → Read Scalar
 after_header folded level r = r >>= λ header. after_start folded level header.value (after_line header.end)
 
 pub ahead_is : (folded : Bool) (level : Option ℕ) (p : Place) → block_ahead folded level p ≡ after_header folded level (header_at (skip 1 p))

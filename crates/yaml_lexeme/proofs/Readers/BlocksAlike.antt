@@ -14,7 +14,7 @@ use Rattle.yaml_lexeme.specs.Greatest.{greatest}
 use Rattle.yaml_lexeme.specs.Classes.{is_in_line}
 use Rattle.yaml_lexeme.specs.inside.BlockAhead as old
 use Rattle.yaml_lexeme.specs.inside.BlockAhead.{Line, blanks_of, blank_lines, line_at, value_after, end_of, block_ahead}
-use Rattle.yaml_lexeme.specs.Lexeme.{Scalar as scalar_t}
+use Rattle.yaml_lexeme.specs.Lexeme.{Scalar}
 use Rattle.yaml_lexeme.specs.Place.{Place, first, skip, run, run_len, after_run, break_len}
 use Rattle.yaml_lexeme.specs.Reading.{Offence, Found, Read, found, refuse, ◌>>=◌, Part, part, over, many, with_front, go_on}
 use Rattle.yaml_lexeme.proofs.MarkOrder.ReadingAhead.{ahead_trans, ahead_here, PartGoes, part_if, over_goes, then_goes, part_bind, part_goes, many_goes, to_part_bind, part_shorter}
@@ -211,10 +211,10 @@ bind_same : {A B : Type 0} → (r : Result A Offence) (f g : A → Result B Offe
 bind_same (Ok x) f g h = h x refl
 bind_same (Err e) f g h = refl
 
-abbrev scalar : Bool → chomp_t → List ℕ → Pair → scalar_t
+abbrev scalar : Bool → chomp_t → List ℕ → Pair → Scalar
 scalar folded chomp leading t = record { value = utf8 (block_value folded chomp leading t.0); end = t.1; passed_break = false }
 
-abbrev whole : Bool → chomp_t → List ℕ → Read Pair → Read scalar_t
+abbrev whole : Bool → chomp_t → List ℕ → Read Pair → Read Scalar
 whole folded chomp leading r = r >>= λ t. found (scalar folded chomp leading t.value) t.end
 
 end_at : (folded : Bool) (chomp : chomp_t) (leading : List ℕ) (ls : List TextLine) (m : yaml_mark_t) (r : Result Place Offence)
@@ -232,21 +232,21 @@ old_whole : (folded : Bool) (chomp : chomp_t) (leading : List ℕ) (m : yaml_mar
     → (r >>= λ lines. found (record { value = utf8 (old.block_value folded chomp leading lines.value); end = end_of m lines.value; passed_break = false }) lines.end)
     ≡ whole folded chomp leading (with_mark m r)
 old_whole folded chomp leading m (Ok ls) =
-    ap (λ (xs : List ℕ). found {A = scalar_t} (record { value = utf8 xs; end = end_of m ls.value; passed_break = false }) ls.end) (sym (blocks_value folded chomp leading m ls.value))
+    ap (λ (xs : List ℕ). found {A = Scalar} (record { value = utf8 xs; end = end_of m ls.value; passed_break = false }) ls.end) (sym (blocks_value folded chomp leading m ls.value))
 old_whole folded chomp leading m (Err e) = refl
 
 module _ (folded : Bool) (level : Option ℕ) (header : header_t) where
   abbrev columns : List EmptyLine → ℕ
   columns es = greatest (map (λ b. b.column) es)
 
-  abbrev new_lines : List EmptyLine → Place → Place → Read scalar_t
+  abbrev new_lines : List EmptyLine → Place → Place → Read Scalar
   new_lines es p next =
       let indent = block_indent level (set_indent level header.digit) (columns es) next.mark.column in
       many (text_line indent) p >>= λ lines.
       after_indent (Some indent) lines.end >>= λ end.
       found (record { value = utf8 (block_value folded header.chomp (breaks_of es) lines.value); end = lines.end.mark; passed_break = false }) end
 
-  abbrev old_lines : Found old.Blanks → Read scalar_t
+  abbrev old_lines : Found old.Blanks → Read Scalar
   old_lines leading =
       many (old.text_line (block_indent level (set_indent level header.digit) leading.value.column leading.end.mark.column)) leading.end >>= λ lines.
       found (record { value = utf8 (old.block_value folded header.chomp leading.value.breaks lines.value); end = end_of leading.value.end lines.value; passed_break = false }) lines.end

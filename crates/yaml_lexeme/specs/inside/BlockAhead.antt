@@ -6,12 +6,13 @@ use Rattle.yaml_text.specs.Chars.{utf8}
 use Rattle.yaml_text.specs.Classes.{is_blank}
 use Rattle.yaml_lexeme.specs.declared.block.chomp_t.{chomp_t}
 use Rattle.yaml_lexeme.specs.declared.block.chomp_t.TheVariants.{STRIP, CLIP, KEEP}
-use Rattle.yaml_lexeme.specs.Lexeme.{Scalar as scalar_t}
+use Rattle.yaml_lexeme.specs.Lexeme.{Scalar}
 use Rattle.yaml_lexeme.specs.Classes.{is_in_line}
 use Rattle.yaml_lexeme.specs.Place.{Place, skip, run, after_run, break_len}
 use Rattle.yaml_lexeme.specs.Reading.{Read, found, ◌>>=◌, Part, part, over, many}
 use Rattle.yaml_lexeme.specs.Block.{header_at, after_line, after_indent, EmptyLine, empty_line, greatest, break_at}
-use Rattle.yaml_lexeme.specs.Block.{is_text, or_none, is_line_feed, or_space, set_indent, block_indent}
+use Rattle.yaml_lexeme.specs.Block.{is_text, or_none, is_line_feed, set_indent, block_indent}
+use Rattle.yaml_lexeme.specs.Fold.{or_space}
 
 -- empty lines: the greatest column that spaces reach on them, their breaks, and the mark after them
 pub record Blanks : Type 0 where
@@ -88,7 +89,7 @@ end_of m [] = m
 end_of m (l ∷ ls) = end_of l.end ls
 
 -- Header, leading empty lines, text lines; at `|` or `>`. The level is the greatest one that is open.
-unfoldable pub block_ahead : Bool → Option ℕ → Place → Read scalar_t
+unfoldable pub block_ahead : Bool → Option ℕ → Place → Read Scalar
 block_ahead folded level p = do
   header ← header_at (skip 1 p)
   start ← after_line header.end

@@ -1,10 +1,10 @@
 -- Parts of a quoted body, and words of a plain scalar, that are read at once.
-use Rattle.std.specs.Prelude.{◌≡◌, ℕ, Bool, true, false, List, [], take, Result, Ok, Err}
+use Rattle.std.specs.Prelude.{◌≡◌, ℕ, Bool, true, false, List, [], take, Result, Ok, Err, ◌&&◌, ◌==◌, nat_lt}
 use Rattle.yaml_text.specs.Chars.{utf8}
 use Rattle.yaml_lexeme.specs.declared.problem.yaml_refusal_t.{yaml_refusal_t}
 use Rattle.yaml_lexeme.specs.declared.runs.class_t.{class_t}
 use Rattle.yaml_lexeme.specs.declared.runs.class_t.TheVariants.{PLAIN, FLOW}
-use Rattle.yaml_lexeme.specs.Place.{Place, skip}
+use Rattle.yaml_lexeme.specs.Place.{Place, skip, first}
 use Rattle.yaml_lexeme.specs.Reading.{Read, found, ◌>>=◌, many, with_front}
 use Rattle.yaml_lexeme.specs.Quoted.{body_part, spelled}
 use Rattle.yaml_lexeme.specs.Plain.{chunk, link}
@@ -54,3 +54,7 @@ abbrev pub LeavesMore : Result Bool yaml_refusal_t → Read (List ℕ) → Read 
 LeavesMore (Ok true) before after out q = before ≡ after
 LeavesMore (Ok false) before after out q = before ≡ found out q
 LeavesMore (Err e) before after out q = Refuses e q before
+
+-- a tab in indentation: at a column below `least`, in a separator with a break before it
+abbrev pub is_bad_tab : ℕ → Bool → Place → Bool
+is_bad_tab least broken p = (first p == 0x09 && broken) && nat_lt p.mark.column least

@@ -29,7 +29,8 @@ use Rattle.yaml_lexeme.specs.Quoted.{quoted}
 use Rattle.yaml_lexeme.specs.Name.{name}
 use Rattle.yaml_lexeme.specs.Tag.{tag}
 use Rattle.yaml_lexeme.specs.Directive.{directive}
-use Rattle.yaml_lexeme.specs.Lex.{lex, in_flow, least, quoted_as}
+use Rattle.yaml_lexeme.specs.Lex.{lex, in_flow, least}
+use Rattle.yaml_lexeme.specs.KindSets.{quoted_as}
 use Rattle.yaml_scan.specs.Kind.{Kind}
 use Rattle.yaml_scan.specs.Lexeme.{Lexeme}
 use Rattle.yaml_scan.specs.Token.{empty, type_of}
