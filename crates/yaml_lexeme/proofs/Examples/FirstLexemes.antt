@@ -106,6 +106,9 @@ names =
     ∷ (lexed 0 None (codes "!%C3%41"), Err (scanner_fault (codes "found an incorrect trailing UTF-8 octet") (at 4 0 4) (Some (codes "while parsing a tag")) (at 0 0 0)))
     ∷ (lexed 0 None (codes "!%C3x"), Err (scanner_fault (codes "did not find URI escaped octet") (at 4 0 4) (Some (codes "while parsing a tag")) (at 0 0 0)))
     ∷ (lexed 1 None (codes "!!str]"), Err (scanner_fault (codes "did not find expected whitespace or line break") (at 5 0 5) (Some (codes "while scanning a tag")) (at 0 0 0)))
+    ∷ (lexed 0 None (codes "!<09AZaz_-;/?:@&=+$.!~*'(),[]> x"), Ok (token (says.TAG [] (codes "09AZaz_-;/?:@&=+$.!~*'(),[]")) (at 0 0 0) (at 30 0 30) (at 30 0 30) false))
+    ∷ (lexed 0 None (codes "!09AZaz_-!09AZaz_-;/?:@&=+$.!~*'() x"), Ok (token (says.TAG (codes "!09AZaz_-!") (codes "09AZaz_-;/?:@&=+$.!~*'()")) (at 0 0 0) (at 34 0 34) (at 34 0 34) false))
+    ∷ (lexed 0 None (codes "*a`"), Ok (token (says.ALIAS (codes "a")) (at 0 0 0) (at 2 0 2) (at 2 0 2) false))
     ∷ []
 
 names_hold : Hold names
@@ -149,6 +152,7 @@ quoted_rows =
     ∷ (lexed 0 None (codes "\"\\uD800\""), Err (scanner_fault (codes "found invalid Unicode character escape code") (at 3 0 3) (Some (codes "while parsing a quoted scalar")) (at 0 0 0)))
     ∷ (lexed 0 None (codes "\"\\U00110000\""), Err (scanner_fault (codes "found invalid Unicode character escape code") (at 3 0 3) (Some (codes "while parsing a quoted scalar")) (at 0 0 0)))
     ∷ (lexed 0 None (codes "\"\\x4g\""), Err (scanner_fault (codes "did not find expected hexadecimal number") (at 3 0 3) (Some (codes "while parsing a quoted scalar")) (at 0 0 0)))
+    ∷ (lexed 0 None (codes "\"\\0\\a\\b\\t\\" ++ (9 ∷ codes "\\n\\v\\f\\r\\e\\ \\\"\\/\\\\\\N\\_\\L\\P\"")), Ok (token (says.SCALAR (0 ∷ 7 ∷ 8 ∷ 9 ∷ 9 ∷ 10 ∷ 11 ∷ 12 ∷ 13 ∷ 27 ∷ 32 ∷ 34 ∷ 47 ∷ 92 ∷ 194 ∷ 133 ∷ 194 ∷ 160 ∷ 226 ∷ 128 ∷ 168 ∷ 226 ∷ 128 ∷ 169 ∷ []) style.YAML_DOUBLE_QUOTED_SCALAR_STYLE) (at 0 0 0) (at 38 0 38) (at 38 0 38) false))
     ∷ []
 
 quoted_rows_hold : Hold quoted_rows
