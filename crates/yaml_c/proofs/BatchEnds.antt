@@ -45,6 +45,7 @@ nothing_given s old h answer code at over tells = record {
   records_are = sym (covered_by_none old.tokens.now);
   texts_are = sym (covered_by_none old.texts.now);
   ends = λ f e. absurd (cc);
+  last = λ n e. absurd (n e);
   over = over;
   tells = tells;
 }
@@ -125,6 +126,7 @@ module _ (s : Scan) (old mid : token_rooms_t) (kept : Option yaml_kept_parser_t)
             ∙ more_covered_from old.text_len (all_texts r.gives.list) ft old.texts.now
             ∙ ap (λ (n : ℕ). covered_from n (all_texts r.gives.list ++ ft) old.texts.now) no_text;
         over = λ e. absurd (more e);
+        last = λ n e. reads;
         ends = λ x e. (refl, subst (λ (z : Option Fault). ReadsAll s.limit s.setting s.input (s.given ++ r.gives.list) z) e reads);
         tells = inr (inl (g.code_is, λ e. absurd (cc), g.answer_is ∙ told_by (Some f)));
       }
@@ -148,6 +150,7 @@ module _ (s : Scan) (old mid : token_rooms_t) (kept : Option yaml_kept_parser_t)
             ∙ ap (λ (n : ℕ). covered_from n (all_texts r.gives.list) old.texts.now) no_text
             ∙ ap (λ (z : List ℕ). covered z old.texts.now) (sym (append-nil (all_texts r.gives.list)));
         ends = λ f e. absurd (cc);
+        last = λ n e. r.gives.last e;
         over = λ e. absurd (more e);
         tells = elim tells [
           | inl w ↦ (let none : length r.gives.list ≡ 0 = omega (arith, w.0, count) in

@@ -4,6 +4,7 @@ use Rattle.std.specs.Prelude.{if◌then◌else◌, ◌≢◌}
 use Rattle.std.proofs.lemmas.List.{length_push}
 use Rattle.yaml_text.specs.declared.types.yaml_encoding_t.{yaml_encoding_t}
 use Rattle.yaml_text.specs.Token.{Token}
+use Rattle.yaml_scan.specs.All.{ReadsAll}
 use Rattle.yaml_scan.specs.Parser.{Parser}
 use Rattle.yaml_scan.specs.Scanned.{Scanned}
 use Rattle.yaml_scan.proofs.RunningCalls.ScansToTheEnd.{scans_end}
@@ -96,24 +97,38 @@ module _ (limit : ℕ) (setting : yaml_encoding_t) (input : List ℕ) (given : L
     pub goes_more : is_end t ≡ false → GoesOn limit setting input given old q next NONE
     goes_more e = given_more NONE (subst (λ (z : Bool). Scanned limit setting input q (given ++ (g.list ++ t ∷ [])) z) e longer)
 
+    pub all_given : is_end t ≡ true → ReadsAll limit setting input (given ++ (g.list ++ t ∷ [])) None
+    all_given e = scans_end limit setting input q (given ++ (g.list ++ t ∷ []))
+        (subst (λ (z : Bool). Scanned limit setting input q (given ++ (g.list ++ t ∷ [])) z) e longer)
+
     pub goes_end : is_end t ≡ true → GoesOn limit setting input given old q next OVER
-    goes_end e = given_more OVER (
-      None,
-      scans_end limit setting input q (given ++ (g.list ++ t ∷ []))
-          (subst (λ (z : Bool). Scanned limit setting input q (given ++ (g.list ++ t ∷ [])) z) e longer),
-    )
+    goes_end e = given_more OVER (None, all_given e)
 
   -- the batch ends there
   pub batch_ends : (b : Ahead) (q : Parser) → KeepsSizes old new → Stands limit setting input q (given ++ g.list) b
-      → Stops (length old.tokens.now) (length old.texts.now) g.list b → GivesNext limit setting input given old q new b
-  batch_ends b q k s stops = record {
+      → Stops (length old.tokens.now) (length old.texts.now) g.list b → (b ≡ OVER → ReadsAll limit setting input (given ++ g.list) None)
+      → GivesNext limit setting input given old q new b
+  batch_ends b q k s stops last = record {
     list = g.list;
     put = g.put;
     few = omega (arith, g.count, k.few, k.tokens);
     fit = omega (arith, g.text, k.fit, k.texts);
     stands = s;
     stops = stops;
+    last = last;
   }
+
+-- the batch ends with the stream end
+pub stream_ends : (limit : ℕ) (setting : yaml_encoding_t) (input : List ℕ) (given : List Token) (old : token_rooms_t) (p : Parser) (new : token_rooms_t) (a : Ahead) (g : GoesOn limit setting input given old p new a)
+    (q : Parser) (t : Token) (next : token_rooms_t) (stands : Stands limit setting input q (given ++ g.list) (TOKEN t)) (put : IsPut new t next)
+    (one : new.token_count < length new.tokens.now) (fits : new.text_len + length (texts_of t) ≤ length new.texts.now)
+    (few : length new.tokens.now < 2 ^ 63) (short : length new.texts.now < 2 ^ 63) → KeepsSizes old new → is_end t ≡ true → GivesNext limit setting input given old q next OVER
+unfolding goes_end given_more
+stream_ends limit setting input given old p new a g q t next stands put one fits few short k e =
+    let more = goes_end limit setting input given old p new a g q t next stands put one fits few short e in
+    batch_ends limit setting input given old q next OVER more OVER q (keeps_more old new next t k put one fits few short) more.stands
+    (omega (arith, more.count, put.token_count, few))
+    (λ z. all_given limit setting input given old p new a g q t next stands put one fits few short e)
 
 -- what is no token, not nothing, and not the end ends every batch
 pub stops_rest : (records bytes : ℕ) (list : List Token) (a : ahead_t) → ((t : _) → a ≡ code.TOKEN t → ⊥) → ahead_of a ≢ NONE → ahead_of a ≢ OVER → Stops records bytes list (ahead_of a)
@@ -121,6 +136,13 @@ stops_rest records bytes list code.NONE n m o = absurd (m refl)
 stops_rest records bytes list (code.TOKEN t) n m o = absurd (n t refl)
 stops_rest records bytes list (code.FAULT f) n m o = tt
 stops_rest records bytes list code.OVER n m o = absurd (o refl)
+
+-- the code has read nothing ahead, if it is so as the definitions see it
+pub none_is : (a : ahead_t) → ahead_of a ≡ NONE → a ≡ code.NONE
+none_is code.NONE e = refl
+none_is (code.TOKEN t) e = absurd (cc)
+none_is (code.FAULT f) e = absurd (cc)
+none_is code.OVER e = absurd (cc)
 
 pub none_is_open : NONE ≡ OVER → ⊥
 none_is_open e = absurd (cc)

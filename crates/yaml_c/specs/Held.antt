@@ -90,6 +90,8 @@ pub record IsNext (s : Scan) (old new : Rooms) (h : held_t) (answer : bogzhami_a
   pub texts_are : new.texts ≡ covered (all_texts list ++ fault_texts fault) old.texts
   pub ends : (f : Fault) → fault ≡ Some f
       → (after ≡ OVER) × ReadsAll s.limit s.setting s.input (s.given ++ list) (Some f)
+  -- nothing comes any more only after the stream end, or after the fault that is given here
+  pub last : s.ahead ≢ OVER → after ≡ OVER → ReadsAll s.limit s.setting s.input (s.given ++ list) fault
   pub over : s.ahead ≡ OVER → code ≡ status.over
   pub tells : Tells s old list fault after answer code
 
@@ -119,5 +121,9 @@ pub record IsPeek
   pub parser : Parser
   pub ahead : Ahead
   pub known : ahead ≢ NONE
+  -- what was read ahead before is shown again
+  pub stays : s.ahead ≢ NONE → ahead ≡ s.ahead
+  -- that nothing comes is shown only after the stream end or the fault was given
+  pub over : ahead ≡ OVER → s.ahead ≡ OVER
   pub at : IsAt (looked s parser ahead) h
   pub shows : Shows ahead old room new texts answer code

@@ -53,6 +53,7 @@ pub struct held_t {
 pub(crate) fn look(parser: &mut yaml_parser_t, ahead: ahead_t) -> ahead_t
     ensures next { ahead_of result ≢ NONE }
     ensures over { ahead_of result ≡ ALL_GIVEN → ahead_of ahead ≡ ALL_GIVEN }
+    ensures stays { ahead_of ahead ≢ NONE → ahead_of result ≡ ahead_of ahead }
     ensures stands { (e : yaml_encoding_t) (limit : ℕ) (input : List ℕ) (given : List Token)
         → Stands limit e input parser.old given (ahead_of ahead)
         → Stands limit e input parser.new given (ahead_of result) }
@@ -292,6 +293,8 @@ pub(crate) fn open(
 pub(crate) fn look_ahead(alloc: Global, held: held_t, input: &[u8]) -> held_t
     requires { (s : Scan) × (s.input ≡ input.now) × IsAt s held }
     ensures next { ahead_of result.ahead ≢ NONE }
+    ensures over { ahead_of result.ahead ≡ ALL_GIVEN → ahead_of held.ahead ≡ ALL_GIVEN }
+    ensures stays { ahead_of held.ahead ≢ NONE → ahead_of result.ahead ≡ ahead_of held.ahead }
     ensures at { (s : Scan) → s.input ≡ input.now → IsAt s held
         → (p : Parser) × IsAt (looked s p (ahead_of result.ahead)) result }
 {

@@ -6,7 +6,7 @@ use Rattle.yaml_text.specs.Token.{token_of}
 use Rattle.yaml_scan.specs.All.{ReadsAll}
 use Rattle.yaml_scan.specs.Scanned.{ReadsNext, Scanned}
 use Rattle.yaml_c.specs.Ahead.{Ahead, ahead_of, is_end}
-use Rattle.yaml_c.specs.Ahead.Ahead.{NONE, TOKEN, FAULT, OVER}
+use Rattle.yaml_c.specs.Ahead.Ahead.{NONE, TOKEN, FAULT}
 use Rattle.yaml_c.specs.Held.{Stands}
 use Rattle.yaml_c.specs.Record.{texts_of}
 use Rattle.yaml_c.specs.inside.Batch.{GivesNext}
@@ -15,7 +15,7 @@ use Rattle.yaml_c.specs.inside.Sink.{ArePut, IsPut}
 use Rattle.yaml_c.specs.declared.held.ahead_t.{ahead_t}
 use Rattle.yaml_c.specs.declared.sink.token_rooms_t.{token_rooms_t}
 use Rattle.yaml_c.proofs.TokensPut.{Fits}
-use Rattle.yaml_c.proofs.Batches.{batch_ends, beside_goes, beside_sizes, ends_there, fewer_there, fewer_records, goes_end, goes_more, goes_on, keeps_more, of_input, own, sizes_to, tokens_go, tokens_sizes}
+use Rattle.yaml_c.proofs.Batches.{batch_ends, beside_goes, beside_sizes, ends_there, fewer_there, fewer_records, goes_more, goes_on, keeps_more, of_input, own, sizes_to, stream_ends, tokens_go, tokens_sizes}
 use Rattle.yaml_c.proofs.held.give_rest.Goals as goal
 
 pub tokens-init : goal.tokens-init
@@ -28,7 +28,7 @@ returns-in-Err c = λ first e limit input given l h.
     let f = fault_of c.in-Err.fault in
     let s = of_input limit e input c.tokens.parser (given ++ g.list) g.stands (λ n x i. ReadsAll n x i (given ++ g.list) (Some f)) (c.in-Err.ensures.fault (given ++ g.list) (own limit e input c.tokens.parser (given ++ g.list) g.stands)) in
     batch_ends limit e input given first c.tokens.parser c.yaml_scan_next_to.new.sink NONE (beside_goes limit e input given first c.tokens.parser c.tokens.rooms g c.yaml_scan_next_to.new.sink c.in-Err.ensures.none)
-    (FAULT f) c.yaml_scan_next_to.new.parser (beside_sizes first c.tokens.rooms c.yaml_scan_next_to.new.sink k c.in-Err.ensures.none) s tt
+    (FAULT f) c.yaml_scan_next_to.new.parser (beside_sizes first c.tokens.rooms c.yaml_scan_next_to.new.sink k c.in-Err.ensures.none) s tt (λ z. absurd (cc))
 
 -- tokens went straight into the rooms
 pub tokens-smaller-in-Ok-None : goal.tokens-smaller-in-Ok-None
@@ -81,13 +81,11 @@ returns-in-Some c = λ first e limit input given l h.
           subst (λ (z : token_rooms_t). GivesNext limit e input given first q z (ahead_of c.in-Some.stop)) (sym w.0)
           (subst (λ (z : Ahead). GivesNext limit e input given first q b z) (sym n)
           (batch_ends limit e input given first p b NONE g (TOKEN t) q k here
-          (omega (arith, low, g.text, k.texts)))))
+          (omega (arith, low, g.text, k.texts)) (λ z. absurd (cc)))))
       | inr high ↦ (let w = c.give_token.ensures.put high in
           let u = ends_there (is_end t) (ahead_of c.in-Some.stop) (sym w.1 ∙ stop) in
-          let more = goes_end limit e input given first p b NONE g q t c.give_token.new.rooms here w.0 one high few short u.0 in
-          let kept = keeps_more first b c.give_token.new.rooms t k w.0 one high few short in
           subst (λ (z : Ahead). GivesNext limit e input given first q c.give_token.new.rooms z) u.1
-          (batch_ends limit e input given first q c.give_token.new.rooms OVER more OVER q kept more.stands (omega (arith, more.count, w.0.token_count, few))))
+          (stream_ends limit e input given first p b NONE g q t c.give_token.new.rooms here w.0 one high few short k u.0))
     ]
 
 -- and put
@@ -139,4 +137,4 @@ pub returns : goal.returns
 returns c = λ first e limit input given l h. let g = c.tokens.invariant.1 first e limit input given h in
     let k = sizes_to first c.args.rooms.now c.tokens.rooms l c.tokens.invariant.0 in
     batch_ends limit e input given first c.tokens.parser c.tokens.rooms NONE g NONE c.tokens.parser k g.stands
-    (omega (arith, g.count, k.few, k.tokens, c.tokens-test.false))
+    (omega (arith, g.count, k.few, k.tokens, c.tokens-test.false)) (λ z. absurd (cc))
