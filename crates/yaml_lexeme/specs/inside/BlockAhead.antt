@@ -10,7 +10,8 @@ use Rattle.yaml_lexeme.specs.Lexeme.{Scalar}
 use Rattle.yaml_lexeme.specs.Classes.{is_in_line}
 use Rattle.yaml_lexeme.specs.Place.{Place, skip, run, after_run, break_len}
 use Rattle.yaml_lexeme.specs.Reading.{Read, found, ◌>>=◌, Part, part, over, many}
-use Rattle.yaml_lexeme.specs.Block.{header_at, after_line, after_indent, EmptyLine, empty_line, greatest, break_at}
+use Rattle.yaml_lexeme.specs.Block.{header_at, after_line, after_indent, EmptyLine, empty_line, break_at}
+use Rattle.yaml_lexeme.specs.Greatest.{greatest}
 use Rattle.yaml_lexeme.specs.Block.{is_text, or_none, is_line_feed, set_indent, block_indent}
 use Rattle.yaml_lexeme.specs.Fold.{or_space}
 
