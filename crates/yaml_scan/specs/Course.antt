@@ -1,8 +1,8 @@
 -- The course of an input: steps, one after the other, up to the stream end or a fault.
 use Rattle.std.specs.Prelude.{ℕ, zero, suc, ◌+◌, ◌-◌, Bool, true, false, List, [], ◌∷◌, length, drop, Option, Some}
 use Rattle.std.specs.Prelude.{None, option_map, if◌then◌else◌}
+use Rattle.yaml_text.specs.Fault.{Fault}
 use Rattle.yaml_text.specs.declared.types.yaml_encoding_t.{yaml_encoding_t}
-use Rattle.yaml_scan.specs.Fault.{Fault}
 use Rattle.yaml_scan.specs.Kind.{is_stream_end}
 use Rattle.yaml_scan.specs.Laid.{Laid}
 use Rattle.yaml_scan.specs.Levels.{laid}

@@ -4,8 +4,7 @@ use Rattle.std.specs.Prelude.{nat_le, Option, Some, None, max, option_map}
 use Rattle.std.specs.List.{list_any, list_all}
 use Rattle.yaml_text.specs.declared.types.yaml_mark_t.{yaml_mark_t}
 use Rattle.yaml_scan.specs.Kind.{Kind, is_block_entry, is_key, is_value, closes_all}
-use Rattle.yaml_scan.specs.Lexeme.{Lexeme}
-use Rattle.yaml_scan.specs.Laid.{Laid, column, is_none, names}
+use Rattle.yaml_scan.specs.Laid.{Laid, column, is_none, names, Lexeme}
 use Rattle.yaml_scan.specs.Depth.{depth}
 use Rattle.yaml_scan.specs.Allowed.{allowed}
 use Rattle.yaml_scan.specs.Keys.{completed_by}

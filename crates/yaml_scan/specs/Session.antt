@@ -1,6 +1,7 @@
 -- A session: scan, peek and skip, one after the other, on the course of an input.
 use Rattle.std.specs.Prelude.{ℕ, ◌+◌, Bool, true, false, length, slice_get, Option, Some}
 use Rattle.std.specs.Prelude.{None, if◌then◌else◌}
+use Rattle.yaml_text.specs.Fault.{Fault}
 use Rattle.yaml_text.specs.declared.types.yaml_encoding_t.{yaml_encoding_t}
 use Rattle.yaml_scan.specs.Course.{Course}
 use Rattle.yaml_scan.specs.Kind.{is_stream_end}
@@ -8,7 +9,6 @@ use Rattle.yaml_scan.specs.Token.{yaml_token_t, empty}
 use Rattle.yaml_scan.specs.Groups.{Token, handed_out}
 use Rattle.yaml_scan.specs.Settled.{pace, tokens_of}
 use Rattle.yaml_scan.specs.Groups.Token.{OfLexeme}
-use Rattle.yaml_scan.specs.Fault.{Fault}
 
 pub data Call : Type 0 where
   SCAN : Call

@@ -1,7 +1,7 @@
 -- What is handed out, and when: a token is settled if no further step can insert anything before it. As many steps are
 -- made as the next token needs.
-use Rattle.std.specs.Prelude.{ℕ, zero, suc, ◌+◌, ◌-◌, Bool, ◌&&◌, List, [], ◌∷◌, ◌++◌, filter, length, max, nat_lt, Option, Some}
-use Rattle.std.specs.Prelude.{None, option_map, if◌then◌else◌}
+use Rattle.std.specs.Prelude.{ℕ, zero, suc, ◌+◌, ◌-◌, Bool, ◌&&◌, List, [], ◌∷◌, ◌++◌, filter, length, max, nat_lt}
+use Rattle.std.specs.Prelude.{Option, Some, None, option_map, if◌then◌else◌}
 use Rattle.yaml_scan.specs.Laid.{Laid, names, reach}
 use Rattle.yaml_scan.specs.Keys.{candidate, live}
 use Rattle.yaml_scan.specs.Groups.{Token, block_ends, groups, offline}

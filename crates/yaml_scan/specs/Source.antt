@@ -1,9 +1,9 @@
 -- What is read of a text, place by place. A place is the number of characters before it.
 use Rattle.std.specs.Prelude.{ℕ, Bool, Option, Result}
+use Rattle.yaml_text.specs.Fault.{Fault}
 use Rattle.yaml_text.specs.declared.types.yaml_mark_t.{yaml_mark_t}
 use Rattle.yaml_scan.specs.Kind.{Kind}
 use Rattle.yaml_scan.specs.Token.{unnamed_yaml_token_t_data}
-use Rattle.yaml_scan.specs.Fault.{Fault}
 
 -- a lexeme of a kind from a start on
 pub record Reading : Type 0 where

@@ -1,18 +1,41 @@
 -- The step after a list of lexemes: the next lexeme, or the fault.
 use Rattle.std.specs.Prelude.{ℕ, ◌+◌, Bool, not, ◌&&◌, ◌||◌, List, [], ◌∷◌, nat_eq, nat_lt, Option, Some, None}
-use Rattle.std.specs.Prelude.{Ok, Err, if◌then◌else◌}
+use Rattle.std.specs.Prelude.{Ok, Err, codes, if◌then◌else◌}
 use Rattle.yaml_text.specs.declared.types.yaml_mark_t.{yaml_mark_t}
+use Rattle.yaml_text.specs.Fault.{scanner_fault}
 use Rattle.yaml_scan.specs.Kind.{Kind, is_stream_end, is_block_entry, is_key, is_value, is_candidate_kind}
-use Rattle.yaml_scan.specs.Lexeme.{Lexeme}
-use Rattle.yaml_scan.specs.Laid.{Laid, is_none}
+use Rattle.yaml_scan.specs.Laid.{Laid, is_none, Lexeme}
 use Rattle.yaml_scan.specs.Depth.{depth}
 use Rattle.yaml_scan.specs.Keys.{candidate, live, only_live, completed_by}
 use Rattle.yaml_scan.specs.Allowed.{allowed, allowed_after}
 use Rattle.yaml_scan.specs.Levels.{level, laid, is_required}
-use Rattle.yaml_scan.specs.Fault.{scanner_fault, no_token, no_colon, entry_not_allowed, key_not_allowed}
-use Rattle.yaml_scan.specs.Fault.{value_not_allowed, in_next_token, in_simple_key}
 use Rattle.yaml_scan.specs.Source.{Source, Reading, Offence}
 
+-- THE TEXTS OF ITS FAULTS
+-- problems
+abbrev pub no_token : List ℕ
+no_token = codes "found character that cannot start any token"
+
+abbrev pub no_colon : List ℕ
+no_colon = codes "could not find expected ':'"
+
+abbrev pub entry_not_allowed : List ℕ
+entry_not_allowed = codes "block sequence entries are not allowed in this context"
+
+abbrev pub key_not_allowed : List ℕ
+key_not_allowed = codes "mapping keys are not allowed in this context"
+
+abbrev pub value_not_allowed : List ℕ
+value_not_allowed = codes "mapping values are not allowed in this context"
+
+-- contexts
+abbrev pub in_next_token : List ℕ
+in_next_token = codes "while scanning for the next token"
+
+abbrev pub in_simple_key : List ℕ
+in_simple_key = codes "while scanning a simple key"
+
+-- WHAT IT GIVES
 pub data Outcome : Type 0 where
   Reads : Lexeme → Outcome
   Faults : Offence → Outcome
