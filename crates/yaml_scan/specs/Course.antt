@@ -22,6 +22,7 @@ pub record Cut : Type 0 where
   pub read : List Laid
   pub fault : Option Offence
 
+-- a lexeme goes on the list, and a fault ends it
 abbrev pub cut_on : (ℕ → List Laid → Cut) → ℕ → List Laid → Outcome → Cut
 cut_on next limit H (Faults o) = record { read = H; fault = Some o }
 cut_on next limit H (Reads x) = next limit (laid limit H x ∷ H)
@@ -43,6 +44,7 @@ pub record Input : Type 0 where
   pub source : Source
   pub refusal : Option Fault
 
+-- the step after H in an input
 unfoldable pub next : Input → ℕ → List Laid → Outcome
 next input limit H = unless_near input.source.size input.refusal (step input.source limit H)
 
@@ -52,10 +54,12 @@ pub record Course : Type 0 where
   pub read : List Laid
   pub fault : Option Fault
 
+-- the reader's fault comes at once if even STREAM-START is near the end
 abbrev pub course_from : Bool → Option Fault → Cut → Course
 course_from true refusal c = record { begun = false; read = []; fault = refusal }
 course_from false refusal c = record { begun = true; read = c.read; fault = option_map (λ o. o.fault) c.fault }
 
+-- the course of an input; a text of n characters has at most n + 1 lexemes
 unfoldable pub course : ℕ → Input → Course
 course limit input = course_from (starts_near input.source.size input.refusal) input.refusal
     (cut_from (next input limit) (input.source.size + 1) limit [])

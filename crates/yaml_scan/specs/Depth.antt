@@ -12,6 +12,7 @@ ends (i ∷ H) = [] ∷ map (λ e. i ∷ e) (ends H)
 abbrev pub unclosed : List Laid → ℕ
 unclosed e = length (filter (λ i. is_flow_start i.lexeme.kind) e) - length (filter (λ i. is_flow_end i.lexeme.kind) e)
 
+-- the greatest of some numbers, or 0
 abbrev pub greatest : List ℕ → ℕ
 greatest [] = 0
 greatest (n ∷ ns) = max n (greatest ns)

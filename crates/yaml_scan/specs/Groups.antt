@@ -31,6 +31,7 @@ handed_out e (OfLexeme x) = record { token_data = x.token_data; start_mark = x.s
 abbrev pub end_at : Kind → yaml_mark_t → yaml_mark_t → ℕ → yaml_mark_t
 end_at k front start c = if is_stream_end k && nat_lt front.column c then front else start
 
+-- the mark of the end with which x closes column c
 abbrev pub end_mark : Lexeme → ℕ → yaml_mark_t
 end_mark x c = end_at x.kind x.front x.start c
 
@@ -38,9 +39,11 @@ end_mark x c = end_at x.kind x.front x.start c
 unfoldable pub block_ends : Laid → List Token
 block_ends i = map (λ c. BlockEnd (end_mark i.lexeme c)) i.closed
 
+-- of a block sequence before a `-`, and of a block mapping before others
 abbrev pub start_token : Kind → yaml_mark_t → Token
 start_token k m = if is_block_entry k then BlockSequenceStart m else BlockMappingStart m
 
+-- the start of the block collection that i opens
 abbrev pub block_start : Laid → Token
 block_start i = start_token i.lexeme.kind i.lexeme.start
 
@@ -58,5 +61,6 @@ unfoldable pub groups : List Laid → List Laid → List Token
 groups H [] = StreamStart ∷ []
 groups H (i ∷ early) = groups H early ++ group H i
 
+-- the groups of all lexemes
 unfoldable pub offline : List Laid → List Token
 offline H = groups H H

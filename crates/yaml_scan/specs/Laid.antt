@@ -36,9 +36,11 @@ pub record Laid : Type 0 where
   -- the columns that it closes, greatest first
   pub closed : List ℕ
 
+-- the column of its start
 abbrev pub column : Laid → ℕ
 column i = i.lexeme.start.column
 
+-- whether it is not there
 abbrev pub is_none : {A : Type 0} → Option A → Bool
 is_none None = true
 is_none (Some a) = false

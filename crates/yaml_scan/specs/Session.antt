@@ -10,11 +10,13 @@ use Rattle.yaml_scan.specs.Groups.{Token, handed_out}
 use Rattle.yaml_scan.specs.Settled.{pace, tokens_of}
 use Rattle.yaml_scan.specs.Groups.Token.{OfLexeme}
 
+-- the calls
 pub data Call : Type 0 where
   SCAN : Call
   PEEK : Call
   SKIP : Call
 
+-- what a call returns: a token that is taken or shown, whether one was skipped, or a fault
 pub data Answer : Type 0 where
   TOKEN : yaml_token_t → Answer
   PEEKED : yaml_token_t → Answer
@@ -22,6 +24,7 @@ pub data Answer : Type 0 where
   NOTHING : Answer
   FAULT : Fault → Answer
 
+-- what the calls so far have come to
 pub record Session : Type 0 where
   -- how many tokens were taken
   pub taken : ℕ
@@ -36,6 +39,7 @@ pub record Session : Type 0 where
 abbrev pub all_steps : Course → ℕ
 all_steps c = if c.begun then length c.read + 1 else 0
 
+-- the token that the next scan takes
 abbrev pub next_token : ℕ → Course → Session → Option Token
 next_token limit c s = slice_get (tokens_of limit c) s.taken
 

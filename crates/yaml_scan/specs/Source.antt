@@ -14,11 +14,13 @@ pub record Reading : Type 0 where
   pub place : ℕ
   pub passed_break : Bool
 
+-- what is wrong with a lexeme
 pub record Offence : Type 0 where
   pub fault : Fault
   -- the place of its problem
   pub place : ℕ
 
+-- what a step asks of a text
 pub record Source : Type 0 where
   -- how many characters the text has
   pub size : ℕ
