@@ -33,6 +33,11 @@ cut_from step zero limit H = record { read = H; fault = None }
 cut_from step (suc n) limit H = if ended H then record { read = H; fault = None }
     else cut_on (cut_from step n) limit H (step H)
 
+-- the longest list of steps of a text of n characters: each lexeme but the stream end takes a character, so there are
+-- n + 1 of them at most
+abbrev pub longest : (List Laid → Outcome) → ℕ → ℕ → Cut
+longest step n limit = cut_from step (n + 1) limit []
+
 -- the first n lexemes
 abbrev pub oldest : ℕ → List Laid → List Laid
 oldest n H = drop (length H - n) H
@@ -59,7 +64,7 @@ abbrev pub course_from : Bool → Option Fault → Cut → Course
 course_from true refusal c = record { begun = false; read = []; fault = refusal }
 course_from false refusal c = record { begun = true; read = c.read; fault = option_map (λ o. o.fault) c.fault }
 
--- the course of an input; a text of n characters has at most n + 1 lexemes
+-- the course of an input
 unfoldable pub course : ℕ → Input → Course
 course limit input = course_from (starts_near input.source.size input.refusal) input.refusal
-    (cut_from (next input limit) (input.source.size + 1) limit [])
+    (longest (next input limit) input.source.size limit)
