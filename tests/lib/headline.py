@@ -17,7 +17,7 @@ BEGIN, END = "<!-- listed by ./dev folders -->", "<!-- end of what is listed -->
 HEADLINE, BYTES, READING = ("yaml_scan", "Headline"), ("yaml_scan", "Decoded"), ("yaml_scan", "SourceOf")
 # Names of yaml_scan, and others by crate and name.
 ORDER = """
-Headline Seen Parser Session Settled Groups Laid Levels Keys Depth yaml_lexeme/Greatest Allowed Course Near Step Lexeme Kind Token Fault
+Headline Seen Parser Session Settled Groups Laid Levels Keys Depth yaml_lexeme/Greatest Allowed Course Near Step Kind Token
 yaml_text/Token yaml_text/Fault yaml_text/Offence Source
 """
 USE = re.compile(r"^(?:pub )?use Rattle\.(\w+)\.specs\.([A-Z]\w*)", re.M)

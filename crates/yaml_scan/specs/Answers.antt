@@ -1,9 +1,9 @@
 -- The answers to a decoded input: a list of tokens, and perhaps a fault.
+use Rattle.yaml_text.specs.Fault.{Fault}
 use Rattle.std.specs.Prelude.{ℕ, List, map, Option}
 use Rattle.yaml_scan.specs.Token.{yaml_token_t}
 use Rattle.yaml_scan.specs.Groups.{handed_out}
 use Rattle.yaml_scan.specs.Settled.{tokens_of}
-use Rattle.yaml_scan.specs.Fault.{Fault}
 use Rattle.yaml_scan.specs.Course.{Input, course}
 
 pub record Answers : Type 0 where

@@ -1,8 +1,8 @@
 -- The course of an input: steps, one after the other, up to the stream end or a fault.
 use Rattle.std.specs.Prelude.{ℕ, zero, suc, ◌+◌, ◌-◌, Bool, true, false, List, [], ◌∷◌, length, drop, Option, Some}
 use Rattle.std.specs.Prelude.{None, option_map, if◌then◌else◌}
+use Rattle.yaml_text.specs.Fault.{Fault}
 use Rattle.yaml_text.specs.declared.types.yaml_encoding_t.{yaml_encoding_t}
-use Rattle.yaml_scan.specs.Fault.{Fault}
 use Rattle.yaml_scan.specs.Kind.{is_stream_end}
 use Rattle.yaml_scan.specs.Laid.{Laid}
 use Rattle.yaml_scan.specs.Levels.{laid}
@@ -22,6 +22,7 @@ pub record Cut : Type 0 where
   pub read : List Laid
   pub fault : Option Offence
 
+-- a lexeme goes on the list, and a fault ends it
 abbrev pub cut_on : (ℕ → List Laid → Cut) → ℕ → List Laid → Outcome → Cut
 cut_on next limit H (Faults o) = record { read = H; fault = Some o }
 cut_on next limit H (Reads x) = next limit (laid limit H x ∷ H)
@@ -31,6 +32,11 @@ abbrev pub cut_from : (List Laid → Outcome) → ℕ → ℕ → List Laid → 
 cut_from step zero limit H = record { read = H; fault = None }
 cut_from step (suc n) limit H = if ended H then record { read = H; fault = None }
     else cut_on (cut_from step n) limit H (step H)
+
+-- the longest list of steps of a text of n characters: each lexeme but the stream end takes a character, so there are
+-- n + 1 of them at most
+abbrev pub longest : (List Laid → Outcome) → ℕ → ℕ → Cut
+longest step n limit = cut_from step (n + 1) limit []
 
 -- the first n lexemes
 abbrev pub oldest : ℕ → List Laid → List Laid
@@ -43,6 +49,7 @@ pub record Input : Type 0 where
   pub source : Source
   pub refusal : Option Fault
 
+-- the step after H in an input
 unfoldable pub next : Input → ℕ → List Laid → Outcome
 next input limit H = unless_near input.source.size input.refusal (step input.source limit H)
 
@@ -52,10 +59,12 @@ pub record Course : Type 0 where
   pub read : List Laid
   pub fault : Option Fault
 
+-- the reader's fault comes at once if even STREAM-START is near the end
 abbrev pub course_from : Bool → Option Fault → Cut → Course
 course_from true refusal c = record { begun = false; read = []; fault = refusal }
 course_from false refusal c = record { begun = true; read = c.read; fault = option_map (λ o. o.fault) c.fault }
 
+-- the course of an input
 unfoldable pub course : ℕ → Input → Course
 course limit input = course_from (starts_near input.source.size input.refusal) input.refusal
-    (cut_from (next input limit) (input.source.size + 1) limit [])
+    (longest (next input limit) input.source.size limit)

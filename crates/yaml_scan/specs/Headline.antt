@@ -8,9 +8,9 @@
 -- each call in turn, so it is the same for calls that are made one by one. Last `PutsAnswers`, the contract of
 -- `yaml_run`: such answers are appended.
 use Rattle.std.specs.Prelude.{◌≡◌, ◌≢◌, ◌⊎◌, ◌≤◌, false, true, List, [], ◌∷◌, ◌++◌, ℕ, map, Some}
+use Rattle.yaml_text.specs.Fault.{memory_fault}
 use Rattle.yaml_text.specs.declared.types.yaml_encoding_t.TheVariants.{YAML_UTF8_ENCODING}
 use Rattle.yaml_scan.specs.declared.calls.yaml_answer_t.{yaml_answer_t}
-use Rattle.yaml_scan.specs.Fault.{memory_fault}
 use Rattle.yaml_scan.specs.Settled.{settled, pace}
 use Rattle.yaml_scan.specs.Session.{Call, Answer}
 use Rattle.yaml_scan.specs.Session.Call.{SKIP}

@@ -6,7 +6,6 @@ use Rattle.yaml_scan.specs.Settled.{tokens_of}
 use Rattle.yaml_scan.specs.Course.{Input, course}
 use Rattle.yaml_scan.specs.Kind.{Kind}
 use Rattle.yaml_scan.specs.Laid.{Laid}
-use Rattle.yaml_scan.specs.Fault.{Fault}
 use Rattle.yaml_scan.specs.Begins.{Begins}
 use Rattle.yaml_scan.specs.Source.{Source, Reading, Offence}
 use Rattle.yaml_scan.specs.SourceOf.{source_of}

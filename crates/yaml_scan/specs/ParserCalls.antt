@@ -43,10 +43,10 @@ call_of code.SCAN = SCAN
 call_of code.PEEK = PEEK
 call_of code.SKIP = SKIP
 
--- a token or a fault of the code, as an answer
-abbrev pub told : Result code_token_t yaml_fault_t → Answer
-told (Ok token) = TOKEN (token_of token)
-told (Err fault) = FAULT (fault_of fault)
+-- a token or a fault that a scan returns, as an answer
+abbrev pub scan_result : Result code_token_t yaml_fault_t → Answer
+scan_result (Ok token) = TOKEN (token_of token)
+scan_result (Err fault) = FAULT (fault_of fault)
 
 -- the next token is there already: it was peeked, or the session is over and there is none
 abbrev pub IsThere : Parser → Type 0
@@ -56,15 +56,15 @@ IsThere p = (p.session.peeked ≡ true) ⊎ (p.session.over ≡ true)
 abbrev pub IsRefusedEarly : Input → Type 0
 IsRefusedEarly input = (input.encoding ≡ YAML_UTF8_ENCODING) × (starts_near input.source.size input.refusal ≡ true)
 
--- a token that is shown or a fault, as an answer
-abbrev pub shown : Result code_token_t yaml_fault_t → Answer
-shown (Ok token) = PEEKED (token_of token)
-shown (Err fault) = FAULT (fault_of fault)
+-- a token that a peek shows, or a fault, as an answer
+abbrev pub peek_result : Result code_token_t yaml_fault_t → Answer
+peek_result (Ok token) = PEEKED (token_of token)
+peek_result (Err fault) = FAULT (fault_of fault)
 
 -- the token after the reference, or the fault
-abbrev pub told_copied : Result (Bor code_token_t) yaml_fault_t → Result code_token_t yaml_fault_t
-told_copied (Ok token) = Ok token.now
-told_copied (Err fault) = Err fault
+abbrev pub copied : Result (Bor code_token_t) yaml_fault_t → Result code_token_t yaml_fault_t
+copied (Ok token) = Ok token.now
+copied (Err fault) = Err fault
 
 -- WHAT A PARSER SHOWS
 abbrev pub token_or_empty : yaml_encoding_t → Option Token → yaml_token_t

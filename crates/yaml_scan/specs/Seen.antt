@@ -1,12 +1,11 @@
 -- What can be seen of the answers to lists of calls.
 use Rattle.yaml_text.specs.declared.types.yaml_mark_t.{yaml_mark_t}
 use Rattle.yaml_text.specs.declared.types.yaml_token_type_t.{yaml_token_type_t}
-use Rattle.yaml_text.specs.Fault.{fault_of}
+use Rattle.yaml_text.specs.Fault.{fault_of, Fault}
 use Rattle.yaml_text.specs.Token.{token_of}
 use Rattle.yaml_scan.specs.declared.calls.yaml_answer_t.{yaml_answer_t}
 use Rattle.yaml_scan.specs.declared.calls.yaml_answer_t.TheVariants as coded
 use Rattle.yaml_scan.specs.Token.{yaml_token_t, type_of}
-use Rattle.yaml_scan.specs.Fault.{Fault}
 use Rattle.yaml_scan.specs.Session.{Answer, Answer as says}
 
 -- what can be seen of an answer: of a peeked token the type and the marks

@@ -1,6 +1,7 @@
 -- A session: scan, peek and skip, one after the other, on the course of an input.
 use Rattle.std.specs.Prelude.{ℕ, ◌+◌, Bool, true, false, length, slice_get, Option, Some}
 use Rattle.std.specs.Prelude.{None, if◌then◌else◌}
+use Rattle.yaml_text.specs.Fault.{Fault}
 use Rattle.yaml_text.specs.declared.types.yaml_encoding_t.{yaml_encoding_t}
 use Rattle.yaml_scan.specs.Course.{Course}
 use Rattle.yaml_scan.specs.Kind.{is_stream_end}
@@ -8,13 +9,14 @@ use Rattle.yaml_scan.specs.Token.{yaml_token_t, empty}
 use Rattle.yaml_scan.specs.Groups.{Token, handed_out}
 use Rattle.yaml_scan.specs.Settled.{pace, tokens_of}
 use Rattle.yaml_scan.specs.Groups.Token.{OfLexeme}
-use Rattle.yaml_scan.specs.Fault.{Fault}
 
+-- the calls
 pub data Call : Type 0 where
   SCAN : Call
   PEEK : Call
   SKIP : Call
 
+-- what a call returns: a token that is taken or shown, whether one was skipped, or a fault
 pub data Answer : Type 0 where
   TOKEN : yaml_token_t → Answer
   PEEKED : yaml_token_t → Answer
@@ -22,6 +24,7 @@ pub data Answer : Type 0 where
   NOTHING : Answer
   FAULT : Fault → Answer
 
+-- what the calls so far have come to
 pub record Session : Type 0 where
   -- how many tokens were taken
   pub taken : ℕ
@@ -36,6 +39,7 @@ pub record Session : Type 0 where
 abbrev pub all_steps : Course → ℕ
 all_steps c = if c.begun then length c.read + 1 else 0
 
+-- the token that the next scan takes
 abbrev pub next_token : ℕ → Course → Session → Option Token
 next_token limit c s = slice_get (tokens_of limit c) s.taken
 

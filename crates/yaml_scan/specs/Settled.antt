@@ -11,10 +11,12 @@ use Rattle.yaml_scan.specs.Course.{Course, oldest}
 unfoldable pub is_current : List Laid → Laid → Bool
 is_current H i = names i.number (option_map (λ c. c.number) (candidate H i.depth))
 
+-- the first one if it is there, or else the second
 abbrev pub or_else : Option Laid → Laid → Laid
 or_else None i = i
 or_else (Some l) i = l
 
+-- the last of a list, which is the earliest lexeme
 abbrev pub last_of : List Laid → Option Laid
 last_of [] = None
 last_of (i ∷ H) = Some (or_else (last_of H) i)

@@ -1,10 +1,10 @@
 -- So are the marks in the answers to the calls of a parser.
 use Rattle.std.proofs.Common.{ℕ, ◌+◌, List, [], ◌∷◌, ◌++◌, map, take, drop, Option, sym, subst, inl, inr}
 use Rattle.std.specs.Prelude.{IfSome}
+use Rattle.yaml_text.specs.Fault.{Fault, memory_fault}
 use Rattle.yaml_text.specs.declared.types.yaml_encoding_t.{yaml_encoding_t}
 use Rattle.yaml_scan.specs.Decoded.{decoded_input}
 use Rattle.yaml_scan.specs.ParserCalls.{course_read}
-use Rattle.yaml_scan.specs.Fault.{Fault, memory_fault}
 use Rattle.yaml_scan.specs.Token.{yaml_token_t}
 use Rattle.yaml_scan.specs.All.{ReadsAll}
 use Rattle.yaml_scan.specs.Session.{Call, Answer}
@@ -68,9 +68,9 @@ runs_are_counted p calls answers q w = go (of_session p calls answers q w)
   where
     go : OfSession p calls answers q → SeenAreCounted (text_read p) answers
     go (inl r) = subst (λ (z : List Seen). SeenAreCounted (text_read p) z) (sym r.0) (answered_counted p calls)
-    go (inr r) = subst (λ (z : List Seen). SeenAreCounted (text_read p) z) (sym r.answers)
-        (joined_counted (text_read p) (map seen (answered_all p (take r.n calls))) (FAULT memory_fault ∷ map idle (drop (r.n + 1) calls)) (answered_counted p (take r.n calls))
-        ((inl (start_counted (text_read p)), start_counted (text_read p)), all_idle_counted (text_read p) (drop (r.n + 1) calls)))
+    go (inr r) = subst (λ (z : List Seen). SeenAreCounted (text_read p) z) (sym r.stops.answers_are)
+        (joined_counted (text_read p) (map seen (answered_all p (take r.stops.n calls))) (FAULT memory_fault ∷ map idle (drop (r.stops.n + 1) calls)) (answered_counted p (take r.stops.n calls))
+        ((inl (start_counted (text_read p)), start_counted (text_read p)), all_idle_counted (text_read p) (drop (r.stops.n + 1) calls)))
 
 -- ALL TOKENS
 counted_front : (text : List ℕ) (a b : List yaml_token_t) → TokensAreCounted text (a ++ b) → TokensAreCounted text a

@@ -9,10 +9,9 @@ use Rattle.yaml_text.specs.declared.types.yaml_mark_t.{yaml_mark_t}
 use Rattle.yaml_text.specs.declared.types.yaml_encoding_t.{yaml_encoding_t}
 use Rattle.yaml_scan.specs.Course.{Input, Course, course, course_from, next}
 use Rattle.yaml_scan.specs.Kind.{is_stream_end, is_key}
-use Rattle.yaml_scan.specs.Lexeme.{Lexeme}
 use Rattle.yaml_scan.specs.Token.{yaml_token_t, type_of}
 use Rattle.yaml_scan.specs.TokenTypes.{is_end_type, is_start_type, is_key_type}
-use Rattle.yaml_scan.specs.Laid.{Laid}
+use Rattle.yaml_scan.specs.Laid.{Laid, Lexeme}
 use Rattle.yaml_scan.specs.Groups.{Token, handed_out, group, groups, offline}
 use Rattle.yaml_scan.specs.Settled.{before, tokens_of}
 use Rattle.yaml_scan.specs.Groups.Token.{StreamStart, BlockEnd, BlockSequenceStart, BlockMappingStart, InsertedKey}

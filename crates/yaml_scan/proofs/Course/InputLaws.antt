@@ -1,13 +1,13 @@
 -- They hold for any bytes and setting.
 use Rattle.std.proofs.Common.{◌≡◌, ℕ, zero, suc, ◌+◌, ◌<◌, ◌≤◌, List, [], ◌∷◌, ◌++◌, map, length, slice_get, Option, Some, refl, ap, sym, ◌∙◌, arith, inl, inr}
 use Rattle.std.proofs.lemmas.List.{map-append}
+use Rattle.yaml_text.specs.Fault.{Fault}
 use Rattle.yaml_text.specs.declared.types.yaml_encoding_t.{yaml_encoding_t}
 use Rattle.yaml_text.specs.Decode.{front}
 use Rattle.yaml_text.specs.TextBytes.{AreChars}
 use Rattle.yaml_text.proofs.Decodings.DecodeResults.{front_is}
 use Rattle.yaml_scan.specs.Settled.{tokens_of}
 use Rattle.yaml_scan.specs.Course.{Input, course}
-use Rattle.yaml_scan.specs.Fault.{Fault}
 use Rattle.yaml_scan.specs.Token.{yaml_token_t}
 use Rattle.yaml_scan.specs.Groups.{Token, handed_out}
 use Rattle.yaml_scan.specs.Begins.{Begins}

@@ -1,6 +1,7 @@
 -- What the definitions give for lexemes that are written as data.
 use Rattle.std.specs.Prelude.{◌≡◌, ℕ, ◌+◌, ◌-◌, pos, Bool, true, false, List, [], ◌∷◌, Option, Some, None, Result, Ok, Err, codes, nat_eq, nat_le, if◌then◌else◌}
 use Rattle.std.proofs.Common.{refl}
+use Rattle.yaml_text.specs.Fault.{Fault, scanner_fault}
 use Rattle.yaml_text.specs.declared.types.yaml_mark_t.{yaml_mark_t}
 use Rattle.yaml_text.specs.declared.types.yaml_encoding_t.TheVariants.{YAML_UTF8_ENCODING}
 use Rattle.yaml_text.specs.declared.types.yaml_error_type_t.TheVariants.{YAML_READER_ERROR}
@@ -11,7 +12,6 @@ use Rattle.yaml_scan.specs.Course.{next, course}
 use Rattle.yaml_scan.specs.Kind.{Kind}
 use Rattle.yaml_lexeme.specs.declared.kind.yaml_lexeme_kind_t.TheVariants.{STREAM_END, FLOW_SEQUENCE_START, FLOW_MAPPING_START, FLOW_SEQUENCE_END, FLOW_MAPPING_END, FLOW_ENTRY, BLOCK_ENTRY, KEY, VALUE, ANCHOR, TAG, DOUBLE_QUOTED, PLAIN}
 use Rattle.yaml_scan.specs.Token.{yaml_token_t, unnamed_yaml_token_t_data, zero_mark, at_mark, empty}
-use Rattle.yaml_scan.specs.Fault.{Fault, scanner_fault}
 use Rattle.yaml_scan.specs.Source.{Source, Reading, Offence}
 use Rattle.yaml_scan.specs.Depth.{depth}
 use Rattle.yaml_scan.specs.Allowed.{allowed}

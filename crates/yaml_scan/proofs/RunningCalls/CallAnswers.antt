@@ -23,7 +23,7 @@ use Rattle.yaml_scan.specs.Decoded.{decoded_input}
 use Rattle.yaml_scan.specs.inside.Scanning.{IsOpen, history, course_of, input_of}
 use Rattle.yaml_scan.specs.inside.Ready.{IsIn, IsShown, IsSettled, IsStopped, IsShort, IsEnded, Pops, course_in}
 use Rattle.yaml_scan.specs.Parser.{Parser, course_by}
-use Rattle.yaml_scan.specs.ParserCalls.{told, IsThere, IsRefusedEarly, input_read, course_read, answered, after_call}
+use Rattle.yaml_scan.specs.ParserCalls.{scan_result, IsThere, IsRefusedEarly, input_read, course_read, answered, after_call}
 use Rattle.yaml_scan.specs.Headline.{Calls, WantsMemory}
 use Rattle.yaml_scan.specs.inside.Shown.{Shows}
 use Rattle.yaml_scan.specs.ParserCalls.{token_shown, token_or_empty}
@@ -335,7 +335,7 @@ module _ (p q : Parser) (o : p.session.over ≡ false) where
       (left_peek ∙ ap (λ (z : Option Token). after_peek p.limit (course_read p) p.session z) n
       ∙ sym (left_scan ∙ ap (λ (z : Option Token). after_scan p.limit (course_read p) p.session z) n))
 
-  pub scan_not_shown : (f : yaml_fault_t) → Calls decoded_input PEEK p (FAULT (fault_of f)) q → Calls decoded_input SCAN p (told (Err f)) q
+  pub scan_not_shown : (f : yaml_fault_t) → Calls decoded_input PEEK p (FAULT (fault_of f)) q → Calls decoded_input SCAN p (scan_result (Err f)) q
   scan_not_shown f (inr a) = inr (a.0, a.1, λ e. absurd (cc))
   scan_not_shown f (inl a) = (let n = no_token (input_read p).encoding (course_read p) next (fault_of f) (a.0 ∙ open_peek) in inl (a.0 ∙ same_answer n, a.1 ∙ same_left n))
 

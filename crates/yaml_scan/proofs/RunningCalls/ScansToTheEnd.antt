@@ -7,8 +7,7 @@ use Rattle.std.proofs.lemmas.List.Folds.{list_any-append}
 use Rattle.yaml_text.specs.declared.types.yaml_encoding_t.{yaml_encoding_t}
 use Rattle.yaml_text.specs.declared.fault.yaml_fault_t.{yaml_fault_t}
 use Rattle.yaml_scan.specs.Course.{Input, Course, course}
-use Rattle.yaml_scan.specs.Fault.{Fault, memory_fault}
-use Rattle.yaml_text.specs.Fault.{fault_of}
+use Rattle.yaml_text.specs.Fault.{fault_of, Fault, memory_fault}
 use Rattle.yaml_scan.specs.Token.{yaml_token_t, type_of}
 use Rattle.yaml_scan.specs.TokenTypes.{is_last_type}
 use Rattle.yaml_scan.specs.Begins.{Begins}
@@ -24,7 +23,7 @@ use Rattle.yaml_scan.specs.Settled.{settled, pace, tokens_of}
 use Rattle.yaml_scan.specs.Session.Call.{SCAN}
 use Rattle.yaml_scan.specs.Session.Answer.{TOKEN, FAULT}
 use Rattle.yaml_scan.specs.Parser.{Parser, course_by}
-use Rattle.yaml_scan.specs.ParserCalls.{told, input_read, course_read, answered, after_call}
+use Rattle.yaml_scan.specs.ParserCalls.{scan_result, input_read, course_read, answered, after_call}
 use Rattle.yaml_scan.specs.Headline.{WantsMemory, Calls}
 use Rattle.yaml_scan.specs.Scanned.{Scanned}
 use Rattle.yaml_scan.specs.All.{AllOf, AreSettled, ReadsAll}
@@ -229,7 +228,7 @@ module _ (limit : ℕ) (setting : yaml_encoding_t) (input : List ℕ) where
         unsettled = sym (ap (λ (c : Course). settled q.limit c.read S.taken w.steps) course_same ∙ ap (λ (n : ℕ). settled n C.read S.taken w.steps) h.limit_is) ∙ w.unsettled
 
     -- a fault
-    pub scans_fault : (f : yaml_fault_t) (r : Parser) → Calls decoded_input SCAN q (told (Err f)) r → ReadsAll limit setting input tokens (Some (fault_of f))
+    pub scans_fault : (f : yaml_fault_t) (r : Parser) → Calls decoded_input SCAN q (scan_result (Err f)) r → ReadsAll limit setting input tokens (Some (fault_of f))
     unfolding answers_to answers
     scans_fault f r (inr w) = inr (scans_short r w.1, ap Some (fault_same (fault_of f) memory_fault w.0))
     scans_fault f r (inl w) = inl (go (next_token limit C S) refl (w.0 ∙ answer_same))

@@ -18,9 +18,8 @@ use Rattle.yaml_text.specs.declared.types.yaml_encoding_t.TheVariants.{YAML_UTF8
 use Rattle.yaml_scan.specs.Groups.{Token, handed_out, offline}
 use Rattle.yaml_scan.specs.Groups.Token.{StreamStart, BlockEnd, BlockSequenceStart, BlockMappingStart, InsertedKey, OfLexeme}
 use Rattle.yaml_scan.specs.Laws.{is_of_lexeme}
-use Rattle.yaml_scan.specs.Lexeme.{Lexeme}
 use Rattle.yaml_scan.specs.Kind.{Kind, is_stream_end}
-use Rattle.yaml_scan.specs.Laid.{Laid}
+use Rattle.yaml_scan.specs.Laid.{Laid, Lexeme}
 use Rattle.yaml_scan.specs.Levels.{laid}
 use Rattle.yaml_scan.specs.Token.{unnamed_yaml_token_t_data, yaml_token_t, type_of}
 use Rattle.yaml_scan.specs.TokenTypes.{is_last_type}

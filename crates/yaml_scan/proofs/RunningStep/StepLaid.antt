@@ -15,11 +15,10 @@ use Rattle.yaml_scan.specs.inside.Scanning.{Met}
 use Rattle.yaml_scan.specs.declared.groups.group_t.{group_t}
 use Rattle.yaml_text.specs.Token.{token_of}
 use Rattle.yaml_scan.specs.Kind.{Kind, is_candidate_kind, is_stream_end}
-use Rattle.yaml_scan.specs.Lexeme.{Lexeme}
 use Rattle.yaml_scan.specs.Source.{Source, Reading, Offence}
 use Rattle.yaml_scan.specs.SourceOf.{source_of, reading}
 use Rattle.yaml_scan.specs.inside.TextReads.{IsRead, IsOffence}
-use Rattle.yaml_scan.specs.Laid.{Laid, reach, is_none}
+use Rattle.yaml_scan.specs.Laid.{Laid, reach, is_none, Lexeme}
 use Rattle.yaml_scan.specs.Keys.{candidate, live, completed_by}
 use Rattle.yaml_scan.specs.Depth.{depth}
 use Rattle.yaml_scan.specs.Allowed.{allowed, allowed_after, allows}

@@ -5,12 +5,12 @@ use Rattle.std.specs.Prelude.{if◌then◌else◌, option_map, nat_eq, nat_lt}
 use Rattle.yaml_text.specs.declared.types.yaml_mark_t.{yaml_mark_t}
 use Rattle.yaml_text.specs.Fault.{Fault, scanner_fault}
 use Rattle.yaml_lexeme.specs.Counted.{IsMarkOf}
+use Rattle.yaml_scan.specs.Step.{no_token, in_next_token}
 use Rattle.yaml_scan.specs.inside.StepParts.{kind_step, read_step}
 use Rattle.yaml_scan.specs.Course.{ended}
 use Rattle.yaml_scan.specs.declared.groups.group_t.{group_t}
 use Rattle.yaml_scan.specs.declared.scanner.scanner_t.{scanner_t}
 use Rattle.yaml_scan.specs.Kind.{Kind}
-use Rattle.yaml_scan.specs.Fault.{no_token, in_next_token}
 use Rattle.yaml_scan.specs.Source.{Source, Offence}
 use Rattle.yaml_scan.specs.SourceOf.{source_of}
 use Rattle.yaml_scan.specs.inside.Slots.{Held, held, held_of, lost_held, needed, root_of, completed_held}

@@ -6,6 +6,7 @@ use Rattle.yaml_scan.specs.Course.{ended, Cut, cut_from, cut_on, Input, Course, 
 use Rattle.yaml_scan.specs.inside.TextReads.{IsRead}
 use Rattle.std.specs.Prelude.{Result, IfSome, nat_lt, option_map}
 use Rattle.std.proofs.lemmas.Bool.{or_left, or_right}
+use Rattle.yaml_text.specs.Fault.{Fault}
 use Rattle.yaml_text.specs.declared.types.yaml_mark_t.{yaml_mark_t}
 use Rattle.yaml_text.specs.declared.types.yaml_encoding_t.{yaml_encoding_t}
 use Rattle.yaml_text.specs.declared.types.yaml_encoding_t.TheVariants.{YAML_ANY_ENCODING}
@@ -32,10 +33,8 @@ use Rattle.yaml_lexeme.specs.Directive.{directive}
 use Rattle.yaml_lexeme.specs.Lex.{lex, in_flow, least}
 use Rattle.yaml_lexeme.specs.KindSets.{quoted_as}
 use Rattle.yaml_scan.specs.Kind.{Kind}
-use Rattle.yaml_scan.specs.Lexeme.{Lexeme}
 use Rattle.yaml_scan.specs.Token.{empty, type_of}
-use Rattle.yaml_scan.specs.Fault.{Fault}
-use Rattle.yaml_scan.specs.Laid.{Laid}
+use Rattle.yaml_scan.specs.Laid.{Laid, Lexeme}
 use Rattle.yaml_scan.specs.Depth.{depth}
 use Rattle.yaml_scan.specs.Levels.{laid, level}
 use Rattle.yaml_scan.specs.Groups.{Token, handed_out, block_ends, group, groups, offline}

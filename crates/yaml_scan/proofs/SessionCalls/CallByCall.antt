@@ -1,9 +1,9 @@
 -- Calls, one after the other, are answered by the session, up to a refused growth.
+use Rattle.yaml_text.specs.Fault.{memory_fault}
 use Rattle.std.proofs.Common.{◌≡◌, ◌≢◌, ℕ, zero, suc, ◌+◌, ◌<◌, true, false, List, [], ◌∷◌, ◌++◌, map, take, drop, length, slice_get, Some, refl, ap, sym, ◌∙◌, subst, arith, inl, inr}
 use Rattle.std.proofs.lemmas.Bool.{false≢true}
 use Rattle.yaml_scan.specs.Decoded.{decoded_input}
 use Rattle.yaml_scan.specs.ParserCalls.{answered, after_call}
-use Rattle.yaml_scan.specs.Fault.{memory_fault}
 use Rattle.yaml_scan.specs.Session.{Call, Answer as says}
 use Rattle.yaml_scan.specs.Sessions.{session, after_all}
 use Rattle.yaml_scan.specs.Session.Call.{SCAN, PEEK, SKIP}
@@ -49,24 +49,24 @@ one_call a b e = cc
 out_later : (p : Parser) (call : Call) (calls : List Call) (all : List Seen) (q : Parser) → RunsOut (after_call p call) calls all q → RunsOut p (call ∷ calls) (seen (answered p call) ∷ all) q
 unfolding course_by session after_all
 out_later p call calls all q o =
-    let m : suc o.n + 1 ≡ suc (o.n + 1) = omega arith in record {
-      n = suc o.n;
-      within = (let w = o.within in omega arith);
+    let m : suc o.stops.n + 1 ≡ suc (o.stops.n + 1) = omega arith in record {
+      stops = record {
+        n = suc o.stops.n;
+        within = (let w = o.stops.within in omega arith);
+        answers_are = ap (λ (z : List Seen). seen (answered p call) ∷ z) o.stops.answers_are
+            ∙ ap (λ (z : ℕ). seen (answered p call) ∷ (map seen (answered_all (after_call p call) (take o.stops.n calls)) ++ (FAULT memory_fault ∷ map idle (drop z (call ∷ calls))))) (sym m);
+      };
       asks = o.asks;
       wants = o.wants;
-      answers = ap (λ (z : List Seen). seen (answered p call) ∷ z) o.answers
-          ∙ ap (λ (z : ℕ). seen (answered p call) ∷ (map seen (answered_all (after_call p call) (take o.n calls)) ++ (FAULT memory_fault ∷ map idle (drop z (call ∷ calls))))) (sym m);
     }
 
 -- or in the first call
 out_first : (p : Parser) (call : Call) (calls : List Call) (all : List Seen) (q : Parser) → WantsMemory decoded_input p q → call ≢ SKIP → all ≡ map idle calls → RunsOut p (call ∷ calls) (FAULT memory_fault ∷ all) q
 unfolding session after_all
 out_first p call calls all q w k e = record {
-  n = 0;
-  within = omega arith;
+  stops = record { n = 0; within = omega arith; answers_are = ap (λ (z : List Seen). FAULT memory_fault ∷ z) e };
   asks = λ z. k (one_call call SKIP z);
   wants = w;
-  answers = ap (λ (z : List Seen). FAULT memory_fault ∷ z) e;
 }
 
 one_later : (p : Parser) (call : Call) (calls : List Call) (all : List Seen) (q : Parser) → OfSession (after_call p call) calls all q → OfSession p (call ∷ calls) (seen (answered p call) ∷ all) q
@@ -104,7 +104,7 @@ out_runs (call ∷ calls) (suc n) p q l k w =
 
 pub runs_of : (p : Parser) (calls : List Call) (answers : List Seen) (q : Parser) → OfSession p calls answers q → Runs decoded_input p calls answers q
 runs_of p calls answers q (inl s) = subst (λ (z : List Seen). Runs decoded_input p calls z q) (sym s.0) (subst (λ (z : Parser). Runs decoded_input p calls (map seen (answered_all p calls)) z) (sym s.1) (session_runs calls p))
-runs_of p calls answers q (inr o) = subst (λ (z : List Seen). Runs decoded_input p calls z q) (sym o.answers) (out_runs calls o.n p q o.within o.asks o.wants)
+runs_of p calls answers q (inr o) = subst (λ (z : List Seen). Runs decoded_input p calls z q) (sym o.stops.answers_are) (out_runs calls o.stops.n p q o.stops.within o.asks o.wants)
 
 pub calls_are_session : CallsAreSession
 calls_are_session p calls answers q = (of_session p calls answers q, runs_of p calls answers q)

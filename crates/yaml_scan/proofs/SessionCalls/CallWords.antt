@@ -1,7 +1,7 @@
 -- So can the answers to a list of calls.
+use Rattle.yaml_text.specs.Fault.{Fault, memory_fault}
 use Rattle.std.proofs.Common.{◌≡◌, ◌+◌, List, [], ◌∷◌, ◌++◌, map, take, drop, sym, subst, inl, inr}
 use Rattle.yaml_scan.specs.Decoded.{decoded_input}
-use Rattle.yaml_scan.specs.Fault.{Fault, memory_fault}
 use Rattle.yaml_scan.specs.Session.{Call, Answer}
 use Rattle.yaml_scan.specs.Sessions.{session}
 use Rattle.yaml_scan.specs.Session.Call.{SCAN, PEEK, SKIP}
@@ -51,8 +51,8 @@ run_has_lines p calls answers q w = go (of_session p calls answers q w)
   where
     go : OfSession p calls answers q → SeenHaveLines answers
     go (inl r) = subst (λ (z : List Seen). SeenHaveLines z) (sym r.0) (answered_told p calls)
-    go (inr r) = subst (λ (z : List Seen). SeenHaveLines z) (sym r.answers)
-        (joined_told (map seen (answered_all p (take r.n calls))) (FAULT memory_fault ∷ map idle (drop (r.n + 1) calls)) (answered_told p (take r.n calls)) (tt, all_idle_told (drop (r.n + 1) calls)))
+    go (inr r) = subst (λ (z : List Seen). SeenHaveLines z) (sym r.stops.answers_are)
+        (joined_told (map seen (answered_all p (take r.stops.n calls))) (FAULT memory_fault ∷ map idle (drop (r.stops.n + 1) calls)) (answered_told p (take r.stops.n calls)) (tt, all_idle_told (drop (r.stops.n + 1) calls)))
 
 -- a token that a scan returns
 no_fault : (t : yaml_token_t) (f : Fault) → says.TOKEN t ≡ says.FAULT f → ⊥

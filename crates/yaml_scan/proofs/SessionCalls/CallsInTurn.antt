@@ -45,7 +45,7 @@ puts_session p calls old out q g e = go (of_session p calls (map seen_of g.more)
   where
     go : OfSession p calls (map seen_of g.more) q → PutsSession p calls old out q
     go (inl s) = record { more = g.more; is = g.is; answers = s.0; left = s.1 }
-    go (inr o) = absurd (wants_late (after_calls p (take o.n calls)) q o.wants e)
+    go (inr o) = absurd (wants_late (after_calls p (take o.stops.n calls)) q o.wants e)
 
 -- the code's calls, one by one
 pub called_more : (xs : List yaml_call_t) (n : ℕ) (d : yaml_call_t) → n < length xs → map call_of (take (n + 1) xs) ≡ map call_of (take n xs) ++ call_of (get_or xs n d) ∷ []

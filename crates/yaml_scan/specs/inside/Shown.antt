@@ -1,7 +1,7 @@
 -- Calls, as functions of the parser return them.
+use Rattle.yaml_text.specs.Fault.{Fault}
 use Rattle.std.specs.Prelude.{◌≡◌, Bool, true, false, Some}
 use Rattle.yaml_scan.specs.Decoded.{decoded_input}
-use Rattle.yaml_scan.specs.Fault.{Fault}
 use Rattle.yaml_scan.specs.Session.{Call, Answer}
 use Rattle.yaml_scan.specs.Session.Call.{PEEK}
 use Rattle.yaml_scan.specs.Session.Answer.{PEEKED, FAULT}

@@ -9,7 +9,7 @@ use Rattle.yaml_scan.specs.Token.{type_of}
 use Rattle.yaml_scan.specs.TokenTypes.{is_last_type}
 use Rattle.yaml_scan.specs.Session.Answer.{TOKEN}
 use Rattle.yaml_scan.specs.Parser.{Parser}
-use Rattle.yaml_scan.specs.ParserCalls.{told}
+use Rattle.yaml_scan.specs.ParserCalls.{scan_result}
 use Rattle.yaml_scan.specs.Headline.{Calls}
 use Rattle.yaml_scan.specs.inside.Ready.{parser_of, IsEnded, IsShort, IsShown}
 use Rattle.yaml_scan.specs.inside.Sent.{HasSentOrSettled}
@@ -146,7 +146,7 @@ returns-in-Err-send-clause-fault g c = λ given h. let i = c.parser-2.inside in
           let o = sym (ap (λ (p : Parser). p.session.over) c.parser-2.view_is) ∙ over in
           let r : Parser = record { input = i.input.now; setting = i.setting; limit = t.limit; session = record { taken = t.taken; steps = t.made; peeked = false; over = true; fault = Some (fault_of w) } } in
           let s = show_fault_on i.setting i.input.now i.scanner t i.session.peeked (option_map fault_of i.session.fault) w f.1 c.args.parser.now (e ∙ open_session (parser_of i) over) (subst (λ (x : Fault). IsShort i.setting i.input.now i.scanner x ⊎ IsEnded i.setting i.input.now i.scanner t x) (sym c.fault_at-fault.ensures) f.0) peeked in
-          let a : Calls decoded_input SCAN c.args.parser.now (told (Err w)) r = scan_not_shown c.args.parser.now r o w s in
+          let a : Calls decoded_input SCAN c.args.parser.now (scan_result (Err w)) r = scan_not_shown c.args.parser.now r o w s in
           let d = c.args.parser.now in
           scans_fault d.limit d.setting d.input d given h w r a)
     ]

@@ -8,7 +8,7 @@ use Rattle.yaml_scan.specs.Token.{yaml_token_t, type_of}
 use Rattle.yaml_scan.specs.TokenTypes.{is_last_type}
 use Rattle.yaml_scan.specs.Session.Answer.{TOKEN}
 use Rattle.yaml_scan.specs.Parser.{Parser}
-use Rattle.yaml_scan.specs.ParserCalls.{told}
+use Rattle.yaml_scan.specs.ParserCalls.{scan_result}
 use Rattle.yaml_scan.specs.Headline.{Calls}
 use Rattle.yaml_scan.specs.inside.Ready.{parser_of, IsShown, IsShort, IsEnded}
 use Rattle.yaml_scan.specs.Session.Call.{SCAN}
@@ -72,8 +72,8 @@ returns-in-Err c = let i = c.parser.inside in let f = c.in-Err.ensures in let t 
     let o = sym (ap (λ (p : Parser). p.session.over) c.parser.view_is) ∙ c.if-parser.false in
     let r : Parser = record { input = i.input.now; setting = i.setting; limit = t.limit; session = record { taken = t.taken; steps = t.made; peeked = false; over = true; fault = Some (fault_of w) } } in
     let s = show_fault_on i.setting i.input.now i.scanner t i.session.peeked (option_map fault_of i.session.fault) w f.1 c.args.parser.now (e ∙ open_session (parser_of i) c.if-parser.false) (subst (λ (x : Fault). IsShort i.setting i.input.now i.scanner x ⊎ IsEnded i.setting i.input.now i.scanner t x) (sym c.fault_at-fault.ensures) f.0) f.2 in
-    let a : Calls decoded_input SCAN c.args.parser.now (told (Err w)) r = scan_not_shown c.args.parser.now r o w s in
-    rw c.end.ensures (record { answers = a; bare = bare SCAN c.args.parser.now (told (Err w)) r a; early = early SCAN c.args.parser.now (told (Err w)) r a; local = scanned_alike c.args.parser.now (told (Err w)) r a; marks = call_is_counted SCAN c.args.parser.now (told (Err w)) r a })
+    let a : Calls decoded_input SCAN c.args.parser.now (scan_result (Err w)) r = scan_not_shown c.args.parser.now r o w s in
+    rw c.end.ensures (record { answers = a; bare = bare SCAN c.args.parser.now (scan_result (Err w)) r a; early = early SCAN c.args.parser.now (scan_result (Err w)) r a; local = scanned_alike c.args.parser.now (scan_result (Err w)) r a; marks = call_is_counted SCAN c.args.parser.now (scan_result (Err w)) r a })
 
 pub returns-then-parser-clause-local : goal.returns-then-parser-clause-local
 returns-then-parser-clause-local c =
