@@ -1,6 +1,7 @@
 -- Literal and folded scalars (YAML 1.1, 9.2 Block Scalar Header, 9.3 Block Scalar Styles and 6.1 Indentation Spaces).
 use Rattle.std.specs.Prelude.{ℕ, ◌+◌, ◌-◌, min, max, Bool, true, false, not, ◌&&◌, ◌||◌, ◌==◌, nat_lt, if◌then◌else◌}
-use Rattle.std.specs.Prelude.{List, [], ◌∷◌, ◌++◌, map, slice_index, Option, Some, None, is_some, Result, Ok}
+use Rattle.std.specs.Prelude.{List, [], ◌∷◌, ◌++◌, map, slice_index, Option, Some, None, is_some, option_map, unwrap_or}
+use Rattle.std.specs.Prelude.{Result, Ok}
 use Rattle.yaml_text.specs.Chars.{utf8}
 use Rattle.yaml_text.specs.Classes.{is_blank, is_break, is_digit, is_z}
 use Rattle.yaml_lexeme.specs.declared.block.chomp_t.{chomp_t}
@@ -52,10 +53,6 @@ abbrev pub is_below : Option ℕ → ℕ → Bool
 is_below None column = true
 is_below (Some n) column = nat_lt column n
 
--- c is at a place where a space could be indentation
-abbrev pub is_indenting : ℕ → Option ℕ → Place → Bool
-is_indenting c limit p = first p == c && is_below limit p.mark.column
-
 -- how many spaces are indentation
 abbrev pub indent_len : Option ℕ → Place → ℕ
 indent_len None p = run_len (λ c. c == 0x20) p
@@ -65,7 +62,7 @@ indent_len (Some n) p = min (run_len (λ c. c == 0x20) p) (n - p.mark.column)
 unfoldable pub after_indent : Option ℕ → Place → Result Place Offence
 after_indent limit p =
     let q = skip (indent_len limit p) p in
-    if is_indenting 0x09 limit q then refuse TAB_IN_INDENTATION q else Ok q
+    if first q == 0x09 && is_below limit q.mark.column then refuse TAB_IN_INDENTATION q else Ok q
 
 -- LINES
 
@@ -74,13 +71,10 @@ pub record EmptyLine : Type 0 where
   pub column : ℕ
   pub break : ℕ
 
--- the one whose break is at q
-abbrev pub empty_at : Place → EmptyLine
-empty_at q = record { column = q.mark.column; break = written (first q) }
-
 unfoldable pub empty_line : Option ℕ → Place → Part EmptyLine
 empty_line limit p = after_indent limit p >>= λ q.
-    if nat_lt 0 (break_len q) then part (empty_at q) (skip (break_len q) q) else over
+    if nat_lt 0 (break_len q)
+    then part (record { column = q.mark.column; break = written (first q) }) (skip (break_len q) q) else over
 
 -- the breaks of empty lines
 abbrev pub breaks_of : List EmptyLine → List ℕ
@@ -155,10 +149,6 @@ block_value folded chomp leading ls =
 
 -- THE COLUMN OF THE TEXT LINES
 
--- the greatest open level, or 0 if none is open
-abbrev pub base : Option ℕ → ℕ
-base None = 0
-base (Some level) = level
 
 -- the least column above the greatest open level, or 0 if none is open
 abbrev pub above : Option ℕ → ℕ
@@ -167,8 +157,7 @@ above (Some level) = level + 1
 
 -- The column that a digit sets for the text lines. It counts from the greatest open level, or from 0 if none is open.
 abbrev pub set_indent : Option ℕ → Option ℕ → Option ℕ
-set_indent level None = None
-set_indent level (Some d) = Some (base level + d)
+set_indent level digit = option_map (λ d. unwrap_or level 0 + d) digit
 
 -- The column of the text lines: the one that is set. If none is, the greatest of 1, the least column above the open
 -- level, and the columns that spaces reach on the leading empty lines and on the line after them.

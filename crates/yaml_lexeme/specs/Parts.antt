@@ -45,14 +45,11 @@ texts ts = flat_map (λ t. t.text) ts
 abbrev pub values : {A : Type 0} → List (Piece A) → List A
 values ts = map (λ t. t.value) ts
 
--- The pieces from p up to q make up the text between. At q is no further one, but `next`: an end or an offence. All
--- other pieces from p are the first of these.
+-- The pieces are from p up to q, and at q is no further one, but `next`: an end or an offence.
 pub record IsLongest {A : Type 0}
     (one : Place → Part A) (p : Place) (ts : List (Piece A)) (q : Place) (next : Part A) : Type 0 where
   pub pieces : Pieces one p ts q
-  pub joined : p.rest ≡ texts ts ++ q.rest
   pub stops : one q ≡ next
-  pub longest : (us : List (Piece A)) (x : Place) → Pieces one p us x → (more : List (Piece A)) × (ts ≡ us ++ more)
 
 -- A quoted scalar at p: the parts between its quotes, and the place of the closing one.
 pub record QuotedParts (single : Bool) (p : Place) (f : Found (List ℕ)) : Type 0 where

@@ -1,6 +1,6 @@
 -- Plain scalars (YAML 1.1, 9.1.3 Plain).
 use Rattle.std.specs.Prelude.{ℕ, ◌+◌, Bool, not, ◌&&◌, ◌||◌, ◌==◌, nat_lt, if◌then◌else◌, List, [], ◌∷◌, ◌++◌}
-use Rattle.std.specs.Prelude.{length, take, slice_index, codes, Option, Some, None, option_map}
+use Rattle.std.specs.Prelude.{length, take, slice_index, codes, Option, option_map, unwrap_or}
 use Rattle.std.specs.List.{list_any, flat_map, find, range_with_len}
 use Rattle.yaml_text.specs.Chars.{utf8}
 use Rattle.yaml_text.specs.Classes.{is_break}
@@ -46,13 +46,11 @@ has_bad_tab least p k =
 abbrev pub bad_tab : ℕ → Place → Option Place
 bad_tab least p = option_map (λ k. skip k p) (find (has_bad_tab least p) (range_with_len 0 (run_len is_white p)))
 
-abbrev pub untabbed : Option Place → List ℕ → Place → Read (List ℕ)
-untabbed None value p = found value p
-untabbed (Some tab) value p = refuse TAB_IN_PLAIN tab
-
 -- The longest run of blanks and breaks, with its value. A tab in indentation is an offence.
 unfoldable pub separator : ℕ → Place → Read (List ℕ)
-separator least p = untabbed (bad_tab least p) (fold (run is_white p)) (after_run is_white p)
+separator least p =
+    let end = after_run is_white p in
+    unwrap_or (option_map (refuse TAB_IN_PLAIN) (bad_tab least p)) (found (fold (run is_white p)) end)
 
 -- the scalar is over after a separator
 abbrev pub is_over : Bool → ℕ → Place → Bool

@@ -140,7 +140,7 @@ fn is_below(limit: Option<u64>, column: u64) -> bool
 }
 
 fn is_indenting(cursor: &cursor_t, c: char, limit: Option<u64>) -> bool
-    ensures { result ≡ spec.is_indenting c limit cursor.now }
+    ensures { result ≡ ahead.is_indenting c limit cursor.now }
 {
     check_at!(cursor, c, 0) && is_below(limit, cursor.mark().column)
 }
@@ -279,7 +279,7 @@ fn push_chomped(out: &mut Vec<u8>, chomp: chomp_t, tail: &tail_t) -> Result<(), 
 
 /// The greatest open level, or 0 if none is open.
 fn base(level: Option<u64>) -> u64
-    ensures { result ≡ spec.base level }
+    ensures { result ≡ ahead.base level }
 {
     match level {
         None => 0,

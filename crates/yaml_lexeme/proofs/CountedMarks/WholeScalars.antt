@@ -12,18 +12,21 @@ use Rattle.yaml_lexeme.proofs.CountedMarks.WholePlaces.{parts, Clear, clear_here
 use Rattle.yaml_lexeme.proofs.CountedMarks.WholeSmallReaders.{Held, Holds, ok_holds, refuse_holds, if_holds, bind_holds, from_holds, Clears, PartClears, ClearsTo, then_clears, then_to, many_clears, sure_white, sure_in_line, sure_alpha, is_not, named_clears, line_end_clears}
 use Rattle.yaml_lexeme.proofs.Parts.PartByPart.{many_turn}
 use Rattle.yaml_lexeme.proofs.MarkOrder.ScalarsAhead.{body_goes}
-use Rattle.yaml_lexeme.specs.Block.{is_sign, digit_at, header_at, is_indenting, indent_len, after_indent, empty_line}
+use Rattle.yaml_lexeme.specs.Block.{is_sign, digit_at, header_at, indent_len, after_indent, empty_line}
 use Rattle.yaml_lexeme.specs.Block.{is_text, block_indent, set_indent}
 use Rattle.yaml_lexeme.specs.inside.BlockAhead.{Blanks, blank_lines, Line, line_at, text_line, end_of, block_ahead}
+use Rattle.yaml_lexeme.specs.inside.BlockAhead.{is_indenting}
 use Rattle.yaml_lexeme.specs.Classes.{ends, is_white, is_in_line}
 use Rattle.yaml_lexeme.specs.Directive.{directive}
-use Rattle.yaml_lexeme.specs.Escape.{backslash, escape, hex_escape, simple_at, hex_len, simple_escape}
+use Rattle.yaml_lexeme.specs.Escape.{backslash, escape, hex_escape, hex_len, simple_escape}
+use Rattle.yaml_lexeme.specs.inside.CommonEscapes.{simple_at}
 use Rattle.yaml_text.specs.Utf8.{is_scalar}
 use Rattle.yaml_lexeme.specs.Kind.{is_marker}
 use Rattle.yaml_lexeme.specs.Place.{Place, first, peek, skip, run, run_len, after_run, break_len}
 use Rattle.yaml_lexeme.specs.inside.Moves.{mark_after}
 use Rattle.yaml_lexeme.proofs.Readers.PlainLinks.{tab_from, separator_is}
-use Rattle.yaml_lexeme.specs.Plain.{is_chunk, is_bad_colon, chunk_len, chunk, untabbed, separator, is_over, link, plain}
+use Rattle.yaml_lexeme.specs.Plain.{is_chunk, is_bad_colon, chunk_len, chunk, separator, is_over, link, plain}
+use Rattle.yaml_lexeme.specs.inside.Words.{untabbed}
 use Rattle.yaml_lexeme.specs.Quoted.{quote, unmarked, body_part, spelled, quoted}
 use Rattle.yaml_lexeme.specs.Reading.{Found, Read, Part, go_on, at_most, many}
 use Rattle.yaml_text.specs.Classes.{is_alpha, is_digit, is_hex, is_break, is_z, is_crlf}

@@ -21,6 +21,7 @@ use Rattle.yaml_lexeme.proofs.Grammars.ReadingSteps.{unless_ok, unless_err, take
 use Rattle.yaml_lexeme.proofs.Grammars.UriGrammar.{some_from, some_to, some_refused}
 use Rattle.yaml_lexeme.proofs.Grammars.VersionGrammar.{blanks_at, blanks_are, after_blanks}
 use Rattle.yaml_lexeme.proofs.Parts.ReadResults.{both}
+use Rattle.yaml_lexeme.proofs.LongestLists.LongestParts.{joined_of}
 
 -- HANDLES
 
@@ -188,7 +189,7 @@ tag_from p f h =
     let w = texts after.uri.parts in
     let one = joined_on p.rest before.blanks.end.rest handle.end.rest b handle.value before.spaces.joined (handle_text before.blanks.end handle before.parts) in
     let two = joined_on p.rest handle.end.rest after.blanks.end.rest (b ++ handle.value) c one after.spaces.joined in
-    let three = joined_on p.rest after.blanks.end.rest prefix.end.rest ((b ++ handle.value) ++ c) w two after.uri.longest.joined in
+    let three = joined_on p.rest after.blanks.end.rest prefix.end.rest ((b ++ handle.value) ++ c) w two (joined_of {p = after.blanks.end} {ts = after.uri.parts} after.uri.longest) in
     record {
       handle = handle;
       prefix = prefix;

@@ -19,6 +19,7 @@ use Rattle.yaml_lexeme.proofs.Grammars.UriGrammar.{some_from, some_to, some_refu
 use Rattle.yaml_lexeme.proofs.LongestLists.UriLongest.{uri_parts, uri_refused}
 use Rattle.yaml_lexeme.proofs.Parts.ReadResults.{both}
 use Rattle.yaml_lexeme.proofs.Places.PlaceMoves.{skip_skip}
+use Rattle.yaml_lexeme.proofs.LongestLists.LongestParts.{joined_of}
 
 abbrev Tag : Type 0
 Tag = Found TokenData
@@ -41,7 +42,7 @@ verbatim_from p f mark angle h =
     let second : (skip 1 p).rest ≡ 0x3C ∷ (skip 2 p).rest = sign_is 0x3C (skip 1 p) (omega arith) angle ∙ ap (λ (x : Place). 0x3C ∷ x.rest) (skip_skip 1 1 p) in
     let last : s.0.end.rest ≡ 0x3E ∷ f.end.rest = sign_is 0x3E s.0.end (omega arith) closed ∙ ap (λ (x : Tag). 0x3E ∷ x.end.rest) (sym t.1) in
     let body : (skip 2 p).rest ≡ (texts u.0.parts ++ (0x3E ∷ [])) ++ f.end.rest =
-    u.0.longest.joined ∙ ap (λ (cs : List ℕ). texts u.0.parts ++ cs) last ∙ sym (append_assoc (texts u.0.parts) (0x3E ∷ []) f.end.rest) in
+    joined_of u.0.longest ∙ ap (λ (cs : List ℕ). texts u.0.parts ++ cs) last ∙ sym (append_assoc (texts u.0.parts) (0x3E ∷ []) f.end.rest) in
     record {
       suffix = s.0;
       angle = angle;
@@ -109,7 +110,7 @@ named_from p f mark second h =
     let is : f ≡ record { value = with_handle g.value s.0.value; end = s.0.end } = cc in
     let end : f.end ≡ s.0.end = ap (λ (x : Tag). x.end) is in
     let t = texts u.0.parts in
-    let uri_rest : (skip 1 g.end).rest ≡ t ++ f.end.rest = u.0.longest.joined ∙ ap (λ (x : Place). t ++ x.rest) (sym end) in
+    let uri_rest : (skip 1 g.end).rest ≡ t ++ f.end.rest = joined_of u.0.longest ∙ ap (λ (x : Place). t ++ x.rest) (sym end) in
     let rest : (skip 1 p).rest ≡ ((g.value ++ (0x21 ∷ [])) ++ t) ++ f.end.rest =
     l.joined ∙ ap (λ (cs : List ℕ). g.value ++ cs) (sign_is 0x21 g.end (omega arith) second ∙ ap (λ (cs : List ℕ). 0x21 ∷ cs) uri_rest)
     ∙ sym (append_assoc g.value (0x21 ∷ []) (t ++ f.end.rest)) ∙ sym (append_assoc (g.value ++ (0x21 ∷ [])) t f.end.rest) in
@@ -135,7 +136,7 @@ primary_from p f mark no_angle unmarked h =
     let is : f ≡ record { value = lone (g.value ++ s.0.value); end = s.0.end } = cc in
     let end : f.end ≡ s.0.end = ap (λ (x : Tag). x.end) is in
     let t = texts u.parts in
-    let uri_rest : g.end.rest ≡ t ++ f.end.rest = u.longest.joined ∙ ap (λ (x : Place). t ++ x.rest) (sym end) in
+    let uri_rest : g.end.rest ≡ t ++ f.end.rest = joined_of u.longest ∙ ap (λ (x : Place). t ++ x.rest) (sym end) in
     let rest : (skip 1 p).rest ≡ (g.value ++ t) ++ f.end.rest = l.joined ∙ ap (λ (cs : List ℕ). g.value ++ cs) uri_rest ∙ sym (append_assoc g.value t f.end.rest) in
     record {
       letters = g;

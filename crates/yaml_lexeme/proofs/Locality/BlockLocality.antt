@@ -7,12 +7,12 @@ use Rattle.yaml_lexeme.proofs.Locality.ComposedReaders.{Like, IsLike, IsPartLike
 use Rattle.yaml_lexeme.proofs.Locality.LocalReaders.{agree_less, run_same}
 use Rattle.yaml_lexeme.proofs.Locality.LookaheadLists.{Next, go, stop, join, finish, finish_like}
 use Rattle.yaml_lexeme.proofs.MarkOrder.ScalarsAhead.{blank_shortens, text_shortens}
-use Rattle.yaml_lexeme.specs.Block.{header_of, empty_at, is_sign, sign_of, digit_at, header_at, after_line}
-use Rattle.yaml_lexeme.specs.Block.{is_indenting, indent_len, after_indent, EmptyLine, empty_line, break_at, is_text}
+use Rattle.yaml_lexeme.specs.Block.{header_of, is_sign, sign_of, digit_at, header_at, after_line}
+use Rattle.yaml_lexeme.specs.Block.{indent_len, after_indent, EmptyLine, empty_line, break_at, is_text}
 use Rattle.yaml_lexeme.specs.Block.{block_indent, set_indent, block}
 use Rattle.yaml_lexeme.proofs.Readers.BlocksAlike.{blocks_alike}
 use Rattle.yaml_lexeme.specs.inside.BlockAhead.{Blanks, blanks_of, blank_lines, Line, line_at, text_line, block_value}
-use Rattle.yaml_lexeme.specs.inside.BlockAhead.{end_of, block_ahead}
+use Rattle.yaml_lexeme.specs.inside.BlockAhead.{end_of, block_ahead, is_indenting}
 use Rattle.yaml_lexeme.specs.Classes.{is_in_line}
 use Rattle.yaml_lexeme.specs.Fold.{written}
 use Rattle.yaml_lexeme.proofs.Locality.AgreeingPlaces.{Agree}
@@ -70,6 +70,10 @@ turn_then m q = if nat_lt 0 (break_len q) then found (go (record { column = q.ma
 
 abbrev turn : Option ℕ → Place → Read (Next EmptyLine yaml_mark_t)
 turn limit p = indented limit p >>= λ x. turn_then p.mark x.end
+
+-- the one whose break is at q
+abbrev empty_at : Place → EmptyLine
+empty_at q = record { column = q.mark.column; break = written (first q) }
 
 blank_same : (n : ℕ) (p q : Place) → Agree n p q → 8 ≤ n → empty_at q ≡ empty_at p
 blank_same n p q a h = rw (a.mark, a.same 0 (omega arith)) refl

@@ -14,7 +14,8 @@ use Rattle.yaml_lexeme.specs.Fold.{fold}
 use Rattle.yaml_lexeme.proofs.Locality.AgreeingPlaces.{Agree}
 use Rattle.yaml_lexeme.proofs.Parts.ReadResults.{value_or, end_or}
 use Rattle.yaml_lexeme.specs.Place.{Place, first, peek, skip, run, after_run}
-use Rattle.yaml_lexeme.specs.Plain.{is_bad_colon, is_chunk, chunk_len, chunk, untabbed, is_over, link, plain}
+use Rattle.yaml_lexeme.specs.Plain.{is_bad_colon, is_chunk, chunk_len, chunk, is_over, link, plain}
+use Rattle.yaml_lexeme.specs.inside.Words.{untabbed}
 use Rattle.yaml_lexeme.specs.Reading.{Found, Read, found, refuse, ◌>>=◌, part, over, many}
 use Rattle.yaml_lexeme.specs.Lexeme.{Scalar}
 use Rattle.yaml_lexeme.specs.declared.problem.yaml_problem_t.TheVariants.{COLON_IN_FLOW}

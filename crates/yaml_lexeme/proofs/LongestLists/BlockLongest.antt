@@ -1,6 +1,5 @@
 -- Empty lines and text lines of a block scalar are the longest lists.
-use Rattle.std.proofs.Common.{◌≡◌, ℕ, Bool, true, false, not, if◌then◌else◌, List, Option, Some, Ok, Err, Result, refl, sym, ap, ◌∙◌, subst, map}
-use Rattle.yaml_text.specs.Chars.{utf8}
+use Rattle.std.proofs.Common.{◌≡◌, ℕ, Bool, true, false, not, if◌then◌else◌, List, Option, Some, Ok, Err, Result, refl, sym, ap, ◌∙◌, subst}
 use Rattle.yaml_lexeme.specs.declared.block.chomp_t.{chomp_t}
 use Rattle.yaml_lexeme.specs.declared.block.header_t.{header_t}
 use Rattle.yaml_lexeme.specs.Lexeme.{Scalar}

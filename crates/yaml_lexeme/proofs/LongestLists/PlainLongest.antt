@@ -10,9 +10,11 @@ use Rattle.yaml_lexeme.specs.Classes.{is_white}
 use Rattle.yaml_lexeme.specs.Fold.{fold}
 use Rattle.yaml_lexeme.specs.Parts.{texts, values, plain_scalar, PlainParts, PlainIsParts, ChunkRefused, LinksRefused, PlainIsRefused, ChunkIsLongest, LinkParts, LinkIsLongest, SeparatorEnds, LinkIsOver}
 use Rattle.yaml_lexeme.specs.Place.{Place, first, peek, skip, run, after_run}
-use Rattle.yaml_lexeme.specs.Plain.{is_bad_colon, is_chunk, chunk_len, chunk, bad_tab, untabbed, separator, is_over, link, plain}
+use Rattle.yaml_lexeme.specs.Plain.{is_bad_colon, is_chunk, chunk_len, chunk, bad_tab, separator, is_over, link, plain}
+use Rattle.yaml_lexeme.specs.inside.Words.{untabbed}
 use Rattle.yaml_lexeme.specs.Reading.{Offence, Found, Read, found, refuse, ◌>>=◌, Part, part, over, many}
-use Rattle.yaml_lexeme.proofs.LongestLists.LongestParts.{Advances, split, many_longest, many_refused, found_of, refused_of}
+use Rattle.yaml_lexeme.proofs.LongestLists.LongestParts.{Advances, split, many_longest, many_refused, found_of}
+use Rattle.yaml_lexeme.proofs.LongestLists.LongestParts.{refused_of, joined_of}
 use Rattle.yaml_lexeme.proofs.Places.PlaceMoves.{skip_none, rest_skip, peek_on}
 use Rattle.yaml_lexeme.proofs.Locality.PlainLocality.{unless_bad, chunk_within}
 use Rattle.yaml_lexeme.proofs.Readers.FoldSeparators.{stopped}
@@ -273,7 +275,7 @@ links_from flow least p f head starts (Ok b) e h =
       last = b.end;
       starts = starts;
       longest = l.is;
-      joined = chunk_joined flow p head starts ∙ ap (λ (cs : List ℕ). head.value ++ cs) l.is.joined ∙ sym (append_assoc head.value (texts l.pieces) b.end.rest);
+      joined = chunk_joined flow p head starts ∙ ap (λ (cs : List ℕ). head.value ++ cs) (joined_of l.is) ∙ sym (append_assoc head.value (texts l.pieces) b.end.rest);
       value = sym (ap (value_or (plain_scalar head.value b.value b.end)) h) ∙ ap (λ (vs : List (List ℕ)). plain_scalar head.value vs b.end) l.values_are;
       end = sym (ap (end_or b.end) h);
     }

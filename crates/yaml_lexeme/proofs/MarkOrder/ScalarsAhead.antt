@@ -9,18 +9,21 @@ use Rattle.yaml_lexeme.proofs.Parts.PartByPart.{many_turn, Shortens}
 use Rattle.yaml_lexeme.proofs.MarkOrder.SmallReadersAhead.{comment_ahead, on, next, named_goes}
 use Rattle.yaml_lexeme.proofs.Places.PlaceMoves.{is_there, break_within, after_run_more, after_none, some_char, in_or_break, is_break_len}
 use Rattle.yaml_lexeme.proofs.Readers.PlainLinks.{chunk_more, chunk_there}
-use Rattle.yaml_lexeme.specs.Block.{is_sign, digit_at, header_at, after_line, is_indenting, indent_len, after_indent}
+use Rattle.yaml_lexeme.specs.Block.{is_sign, digit_at, header_at, after_line, indent_len, after_indent}
 use Rattle.yaml_lexeme.specs.Block.{empty_line, is_text, block_indent, set_indent}
 use Rattle.yaml_lexeme.specs.inside.BlockAhead.{Blanks, blank_lines, Line, line_at, text_line, end_of, block_ahead}
+use Rattle.yaml_lexeme.specs.inside.BlockAhead.{is_indenting}
 use Rattle.yaml_lexeme.specs.Classes.{ends, is_white, is_in_line}
 use Rattle.yaml_lexeme.specs.Directive.{directive}
-use Rattle.yaml_lexeme.specs.Escape.{escape, hex_escape, simple_at, hex_len, simple_escape}
+use Rattle.yaml_lexeme.specs.Escape.{escape, hex_escape, hex_len, simple_escape}
+use Rattle.yaml_lexeme.specs.inside.CommonEscapes.{simple_at}
 use Rattle.yaml_text.specs.Utf8.{is_scalar}
 use Rattle.yaml_lexeme.specs.Gap.{after_comment}
 use Rattle.yaml_lexeme.specs.Kind.{is_marker}
 use Rattle.yaml_lexeme.specs.Order.{IsAhead, Spans}
 use Rattle.yaml_lexeme.specs.Place.{Place, first, peek, skip, run, after_run, break_len}
-use Rattle.yaml_lexeme.specs.Plain.{is_chunk, is_bad_colon, chunk_len, chunk, bad_tab, untabbed, separator, is_over, link, plain}
+use Rattle.yaml_lexeme.specs.Plain.{is_chunk, is_bad_colon, chunk_len, chunk, bad_tab, separator, is_over, link, plain}
+use Rattle.yaml_lexeme.specs.inside.Words.{untabbed}
 use Rattle.yaml_lexeme.specs.Quoted.{quote, unmarked, body_part, quoted}
 use Rattle.yaml_lexeme.specs.Reading.{Read, ◌>>=◌, Part, part, over, many, with_front, go_on}
 use Rattle.yaml_lexeme.specs.Lexeme.{Directive}

@@ -14,13 +14,13 @@ use Rattle.yaml_lexeme.proofs.Places.PlaceMoves.{length_skip, break_within}
 use Rattle.yaml_lexeme.proofs.Readers.FoldSeparators.{run_more, run_none, encode_some}
 use Rattle.yaml_lexeme.proofs.MarkOrder.ScalarsAhead.{blank_shortens, text_shortens}
 use Rattle.yaml_lexeme.proofs.Parts.ReadResults.{value_or, end_or}
-use Rattle.yaml_lexeme.specs.Block.{is_indenting, indent_len, after_indent, EmptyLine, empty_line, break_at, is_text}
+use Rattle.yaml_lexeme.specs.Block.{indent_len, after_indent, EmptyLine, empty_line, break_at, is_text}
 use Rattle.yaml_lexeme.specs.Block.{header_at, after_line, set_indent, block_indent, block, or_none}
 use Rattle.yaml_lexeme.specs.Greatest.{greatest}
 use Rattle.yaml_lexeme.specs.Block.{is_line_feed}
 use Rattle.yaml_lexeme.specs.inside.BlockAhead.{Blanks, blanks_of, blank_lines, Line, line_at, text_line, between}
 use Rattle.yaml_lexeme.specs.inside.BlockAhead.{chomped, value_after, block_value, end_of as end_of_lines}
-use Rattle.yaml_lexeme.specs.inside.BlockAhead.{is_more_indented, block_ahead}
+use Rattle.yaml_lexeme.specs.inside.BlockAhead.{is_more_indented, block_ahead, is_indenting}
 use Rattle.yaml_lexeme.proofs.Readers.BlocksAlike.{blocks_alike}
 use Rattle.yaml_lexeme.specs.Classes.{is_in_line}
 use Rattle.yaml_lexeme.specs.Fold.{written, or_space}

@@ -1,21 +1,23 @@
 -- A literal or folded scalar is the same if the indentation of the line that follows is read with each line.
-use Rattle.std.proofs.Common.{◌≡◌, ℕ, zero, suc, ◌+◌, ◌-◌, ◌<◌, ◌≤◌, min, max, Bool, true, false, not, ◌&&◌, ◌==◌, nat_lt, if◌then◌else◌, List, [], ◌∷◌, ◌++◌, length, get_or, map, Option, Some, None, Result, Ok, Err, refl, sym, ap, ◌∙◌, arith, append_assoc, eqb-true}
-use Rattle.std.proofs.lemmas.Bool.{cases_Bool}
+use Rattle.std.proofs.Common.{◌≡◌, ℕ, zero, suc, ◌+◌, ◌-◌, ◌<◌, min, Bool, true, false, not, ◌&&◌, ◌==◌, if◌then◌else◌, List, [], ◌∷◌, ◌++◌, length, get_or, map, Option, Some, None, Result, Ok, Err, refl, sym, ap, ◌∙◌, arith, append_assoc, eqb-true}
 use Rattle.std.proofs.lemmas.List.Sums.{prefix_len-le-length, prefix_len_passes}
 use Rattle.yaml_text.specs.declared.types.yaml_mark_t.{yaml_mark_t}
 use Rattle.yaml_text.specs.Chars.{utf8}
-use Rattle.yaml_text.specs.Classes.{is_break, is_z}
+use Rattle.yaml_text.specs.Classes.{is_break}
 use Rattle.yaml_lexeme.specs.declared.block.chomp_t.{chomp_t}
 use Rattle.yaml_lexeme.specs.declared.block.chomp_t.TheVariants.{STRIP, CLIP, KEEP}
 use Rattle.yaml_lexeme.specs.declared.block.header_t.{header_t}
 use Rattle.yaml_lexeme.specs.declared.problem.yaml_problem_t.TheVariants.{TAB_IN_INDENTATION}
-use Rattle.yaml_lexeme.specs.Block.{EmptyLine, TextLine, header_at, after_line, after_indent, indent_len, is_indenting, empty_line, breaks_of, break_at, is_text, next_line, text_line, joined, last_of, chomped, block_value, set_indent, block_indent, block}
+use Rattle.yaml_lexeme.specs.Block.{EmptyLine, TextLine, header_at, after_line, after_indent, empty_line}
+use Rattle.yaml_lexeme.specs.Block.{breaks_of, break_at, is_text, next_line, text_line, joined, last_of, chomped}
+use Rattle.yaml_lexeme.specs.Block.{block_value, set_indent, block_indent, block}
 use Rattle.yaml_lexeme.specs.Greatest.{greatest}
 use Rattle.yaml_lexeme.specs.Classes.{is_in_line}
 use Rattle.yaml_lexeme.specs.inside.BlockAhead as old
 use Rattle.yaml_lexeme.specs.inside.BlockAhead.{Line, blanks_of, blank_lines, line_at, value_after, end_of, block_ahead}
+use Rattle.yaml_lexeme.specs.inside.BlockAhead.{is_indenting}
 use Rattle.yaml_lexeme.specs.Lexeme.{Scalar}
-use Rattle.yaml_lexeme.specs.Place.{Place, first, skip, run, run_len, after_run, break_len}
+use Rattle.yaml_lexeme.specs.Place.{Place, first, skip, run, run_len, after_run}
 use Rattle.yaml_lexeme.specs.Reading.{Offence, Found, Read, found, refuse, ◌>>=◌, Part, part, over, many, with_front, go_on}
 use Rattle.yaml_lexeme.proofs.MarkOrder.ReadingAhead.{ahead_trans, ahead_here, PartGoes, part_if, over_goes, then_goes, part_bind, part_goes, many_goes, to_part_bind, part_shorter}
 use Rattle.yaml_lexeme.proofs.MarkOrder.ScalarsAhead.{blank_goes, indent_goes, line_some, inner, text_shortens}

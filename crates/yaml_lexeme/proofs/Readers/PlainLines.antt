@@ -25,10 +25,10 @@ use Rattle.yaml_lexeme.specs.inside.Gives.{Refuses, TakesPart}
 use Rattle.yaml_lexeme.specs.Kind.{is_marker}
 use Rattle.yaml_lexeme.specs.Place.{Place, first, peek, skip, run, run_len, after_run}
 use Rattle.yaml_lexeme.specs.declared.runs.class_t.TheVariants.{SPACE}
-use Rattle.yaml_lexeme.specs.Plain.{untabbed, is_bad_colon, is_chunk, chunk, separator, is_over, link, plain}
+use Rattle.yaml_lexeme.specs.Plain.{is_bad_colon, is_chunk, chunk, separator, is_over, link, plain}
 use Rattle.yaml_lexeme.specs.Reading.{Offence, Read, found, refuse, Part, part, over, many, with_front, go_on, ◌>>=◌}
 use Rattle.yaml_lexeme.specs.inside.Runs.{class_test, trim, Stands}
-use Rattle.yaml_lexeme.specs.inside.Words.{links, words, plain_of, Goes, is_bad_tab}
+use Rattle.yaml_lexeme.specs.inside.Words.{links, words, plain_of, Goes, is_bad_tab, untabbed}
 
 two_fronts : (a b : List ℕ) (r : Read (List ℕ)) → with_front a (with_front b r) ≡ with_front (a ++ b) r
 two_fronts a b (Ok f) = ap (λ (xs : List ℕ). found xs f.end) (sym (append_assoc a b f.value))

@@ -19,8 +19,8 @@ use Rattle.yaml_lexeme.specs.inside.Gives.{Refuses, TakesPart, TakesRead}
 use Rattle.yaml_lexeme.specs.Place.{Place, first, peek, skip, run, run_len, after_run}
 use Rattle.yaml_lexeme.specs.inside.Moves.{skip_from, mark_after}
 use Rattle.yaml_lexeme.specs.Plain.{has_bad_tab, bad_tab, is_flow_indicator, is_bad_colon, is_chunk, chunk_len, chunk}
-use Rattle.yaml_lexeme.specs.Plain.{untabbed, separator, is_over, link, plain}
-use Rattle.yaml_lexeme.specs.inside.Words.{is_bad_tab}
+use Rattle.yaml_lexeme.specs.Plain.{separator, is_over, link, plain}
+use Rattle.yaml_lexeme.specs.inside.Words.{is_bad_tab, untabbed}
 use Rattle.yaml_lexeme.specs.Reading.{Read, found, Part, part, refuse, over, many, with_front, ◌>>=◌}
 use Rattle.yaml_text.specs.Chars.{utf8}
 use Rattle.yaml_text.specs.Classes.{is_break, is_blank}

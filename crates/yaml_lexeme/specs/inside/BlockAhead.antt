@@ -1,6 +1,6 @@
 -- Literal and folded scalars, as the code reads them: the indentation of the line that follows is read with each line.
 use Rattle.std.specs.Prelude.{ℕ, Bool, false, not, ◌&&◌, ◌||◌, if◌then◌else◌, List, [], ◌∷◌, ◌++◌, map, slice_index}
-use Rattle.std.specs.Prelude.{Option, Some}
+use Rattle.std.specs.Prelude.{Option, Some, ◌==◌, unwrap_or}
 use Rattle.yaml_text.specs.declared.types.yaml_mark_t.{yaml_mark_t}
 use Rattle.yaml_text.specs.Chars.{utf8}
 use Rattle.yaml_text.specs.Classes.{is_blank}
@@ -8,11 +8,11 @@ use Rattle.yaml_lexeme.specs.declared.block.chomp_t.{chomp_t}
 use Rattle.yaml_lexeme.specs.declared.block.chomp_t.TheVariants.{STRIP, CLIP, KEEP}
 use Rattle.yaml_lexeme.specs.Lexeme.{Scalar}
 use Rattle.yaml_lexeme.specs.Classes.{is_in_line}
-use Rattle.yaml_lexeme.specs.Place.{Place, skip, run, after_run, break_len}
+use Rattle.yaml_lexeme.specs.Place.{Place, skip, run, after_run, break_len, first}
 use Rattle.yaml_lexeme.specs.Reading.{Read, found, ◌>>=◌, Part, part, over, many}
 use Rattle.yaml_lexeme.specs.Block.{header_at, after_line, after_indent, EmptyLine, empty_line, break_at}
+use Rattle.yaml_lexeme.specs.Block.{is_text, or_none, is_line_feed, set_indent, block_indent, is_below}
 use Rattle.yaml_lexeme.specs.Greatest.{greatest}
-use Rattle.yaml_lexeme.specs.Block.{is_text, or_none, is_line_feed, set_indent, block_indent}
 use Rattle.yaml_lexeme.specs.Fold.{or_space}
 
 -- empty lines: the greatest column that spaces reach on them, their breaks, and the mark after them
@@ -99,3 +99,11 @@ block_ahead folded level p = do
   lines ← many (text_line (block_indent level set leading.value.column leading.end.mark.column)) leading.end
   let value = utf8 (block_value folded header.value.chomp leading.value.breaks lines.value)
   found (record { value = value; end = end_of leading.value.end lines.value; passed_break = false }) lines.end
+
+-- c is at a place where a space could be indentation
+abbrev pub is_indenting : ℕ → Option ℕ → Place → Bool
+is_indenting c limit p = first p == c && is_below limit p.mark.column
+
+-- the greatest open level, or 0 if none is open
+abbrev pub base : Option ℕ → ℕ
+base level = unwrap_or level 0

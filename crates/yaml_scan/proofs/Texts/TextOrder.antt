@@ -5,7 +5,7 @@ use Rattle.std.proofs.lemmas.Bool.{cases_Bool}
 use Rattle.yaml_text.specs.TextBytes.{AreChars}
 use Rattle.yaml_text.specs.declared.types.yaml_mark_t.{yaml_mark_t}
 use Rattle.yaml_lexeme.specs.declared.kind.yaml_lexeme_kind_t.TheVariants.{STREAM_END}
-use Rattle.yaml_lexeme.specs.Place.{Place, place_at, start, skip}
+use Rattle.yaml_lexeme.specs.Place.{place_at, start, skip}
 use Rattle.yaml_lexeme.specs.inside.Moves.{skip_from, mark_after, ends_line}
 use Rattle.yaml_lexeme.specs.Lex.{lex}
 use Rattle.yaml_lexeme.specs.StreamEnd.{stream_end}
