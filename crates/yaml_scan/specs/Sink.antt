@@ -1,7 +1,11 @@
 -- What a sink is given.
+<<<<<<< HEAD
 use Rattle.std.specs.Prelude.{◌≡◌, ◌++◌, [], ◌∷◌, ℕ, ◌+◌, List, length, Option}
 use Rattle.std.proofs.Common.{sym, ap, ◌∙◌, append-nil, append_assoc}
 use Rattle.yaml_text.specs.Fault.{Fault}
+=======
+use Rattle.std.specs.Prelude.{◌++◌, [], ◌∷◌, ℕ, ◌+◌, List, length, Option}
+>>>>>>> edits
 use Rattle.yaml_text.specs.declared.types.yaml_encoding_t.{yaml_encoding_t}
 use Rattle.yaml_scan.specs.Token.{yaml_token_t, unnamed_yaml_token_t_data}
 use Rattle.yaml_text.specs.Token.TokenData.{TAG_DIRECTIVE, ALIAS, ANCHOR, TAG, SCALAR}
@@ -37,10 +41,3 @@ pub record IsGivenFront (took : List yaml_token_t
   pub given : took tokens
   pub refused : yaml_token_t
   pub beginning : Begins (tokens ++ refused ∷ []) (answers_to limit setting input).tokens
-
--- what a list of tokens has taken: none, and some and then others
-pub list_none : (xs : List yaml_token_t) → xs ≡ xs ++ []
-list_none xs = sym (append-nil xs)
-
-pub list_more : (a b c xs ys : List yaml_token_t) → b ≡ a ++ xs → c ≡ b ++ ys → c ≡ a ++ (xs ++ ys)
-list_more a b c xs ys e f = f ∙ ap (λ (z : List yaml_token_t). z ++ ys) e ∙ append_assoc a xs ys

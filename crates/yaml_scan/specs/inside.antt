@@ -10,6 +10,7 @@ pub mod NearFault
 pub mod Scanning
 pub mod Handed
 pub mod Given
+pub mod MoreTaken
 pub mod Ready
 pub mod Shown
 pub mod Kept
