@@ -149,7 +149,6 @@ block_value folded chomp leading ls =
 
 -- THE COLUMN OF THE TEXT LINES
 
-
 -- the least column above the greatest open level, or 0 if none is open
 abbrev pub above : Option ℕ → ℕ
 above None = 0

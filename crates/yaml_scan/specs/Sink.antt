@@ -1,11 +1,6 @@
 -- What a sink is given.
-<<<<<<< HEAD
-use Rattle.std.specs.Prelude.{◌≡◌, ◌++◌, [], ◌∷◌, ℕ, ◌+◌, List, length, Option}
-use Rattle.std.proofs.Common.{sym, ap, ◌∙◌, append-nil, append_assoc}
-use Rattle.yaml_text.specs.Fault.{Fault}
-=======
 use Rattle.std.specs.Prelude.{◌++◌, [], ◌∷◌, ℕ, ◌+◌, List, length, Option}
->>>>>>> edits
+use Rattle.yaml_text.specs.Fault.{Fault}
 use Rattle.yaml_text.specs.declared.types.yaml_encoding_t.{yaml_encoding_t}
 use Rattle.yaml_scan.specs.Token.{yaml_token_t, unnamed_yaml_token_t_data}
 use Rattle.yaml_text.specs.Token.TokenData.{TAG_DIRECTIVE, ALIAS, ANCHOR, TAG, SCALAR}
