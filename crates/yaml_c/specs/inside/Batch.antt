@@ -63,6 +63,11 @@ pub record ReadsOn (s : Scan) (old new : token_rooms_t) (kept : Option yaml_kept
   pub keeps : IsSomeAnd kept (IsKept parser)
   pub gives : GivesNext s.limit s.setting s.input s.given old parser new ahead
 
+-- A token that was read ahead is put before a fault comes, and a fault stays ahead.
+pub record KeepsAhead (before : Ahead) (old new : token_rooms_t) (after : Ahead) : Type 0 where
+  pub token : (t : Token) (f : Fault) → before ≡ TOKEN t → after ≡ FAULT f → 0 < new.token_count
+  pub fault : (f : Fault) → before ≡ FAULT f → (new.token_count ≡ old.token_count) × (after ≡ FAULT f)
+
 -- Two rooms by what they hold.
 abbrev pub rooms_of : token_rooms_t → Rooms
 rooms_of rooms = record { tokens = rooms.tokens.now; texts = rooms.texts.now }

@@ -1,4 +1,4 @@
-use Rattle.std.proofs.Common.{rules, ◌≡◌, ◌++◌, ◌+◌, ◌<◌, ◌^◌, Option, length, sym, ap, ◌∙◌, subst, arith, inl, inr}
+use Rattle.std.proofs.Common.{rules, ◌≡◌, ◌++◌, ◌+◌, ◌<◌, ◌^◌, Option, length, refl, sym, ap, ◌∙◌, subst, arith, inl, inr}
 use Rattle.std.specs.Prelude.{option_map}
 use Rattle.std.proofs.lemmas.Bool.{cases_lt}
 use Rattle.yaml_text.specs.Token.{token_of}
@@ -12,8 +12,8 @@ use Rattle.yaml_c.specs.declared.sink.token_rooms_t.{token_rooms_t}
 use Rattle.yaml_c.proofs.Batches.{goes_on, ends_there, keeps_more, goes_more, goes_from, batch_ends, stream_ends, stops_rest, none_is, no_token_yet}
 use Rattle.yaml_c.proofs.held.give.Goals as goal
 
-pub returns-in-Some : goal.returns-in-Some
-returns-in-Some c = λ e limit input given s.
+pub returns-in-Some-clause-next : goal.returns-in-Some-clause-next
+returns-in-Some-clause-next c = λ e limit input given s.
     let old = c.args.rooms.now in
     let p = c.args.parser.now in
     let r = c.requires in
@@ -38,8 +38,8 @@ returns-in-Some c = λ e limit input given s.
           (stream_ends limit e input given old p old (ahead_of c.args.ahead) g p t c.give_token.new.rooms here w.0 one high few short k u.0))
     ]
 
-pub returns-in-None : goal.returns-in-None
-returns-in-None c = λ e limit input given s.
+pub returns-in-None-clause-next : goal.returns-in-None-clause-next
+returns-in-None-clause-next c = λ e limit input given s.
     let old = c.args.rooms.now in
     let p = c.args.parser.now in
     let r = c.requires in
@@ -54,14 +54,14 @@ returns-in-None c = λ e limit input given s.
     elim (cases_lt (length old.texts.now) (old.text_len + length (texts_of t))) [
       | inl low ↦ absurd (let w = c.give_token.ensures.kept low in let e = sym w.1 ∙ none in cc)
       | inr high ↦ (let w = c.give_token.ensures.put high in
-          c.give_rest-in-None.ensures old e limit input given
+          c.give_rest-in-None.ensures.next old e limit input given
           (keeps_more old old c.give_token.new.rooms t k w.0 one high few short)
           (goes_more limit e input given old p old (ahead_of c.args.ahead) g p t c.give_token.new.rooms here w.0 one high few short (goes_on (is_end t) (sym w.1 ∙ none))))
     ]
 
 -- the fault comes next
-pub returns-in_default : goal.returns-in_default
-returns-in_default c = λ e limit input given s.
+pub returns-in_default-clause-next : goal.returns-in_default-clause-next
+returns-in_default-clause-next c = λ e limit input given s.
     let old = c.args.rooms.now in
     let p = c.args.parser.now in
     let a = ahead_of c.args.ahead in
@@ -70,3 +70,34 @@ returns-in_default c = λ e limit input given s.
     batch_ends limit e input given old p old a g a p (no_token_yet old r.none r.no_text) g.stands
     (stops_rest (length old.tokens.now) (length old.texts.now) g.list c.args.ahead c.in_default.not-TOKEN (λ z. c.in_default.not-NONE (none_is c.args.ahead z)) r.more)
     (λ z. absurd (r.more z))
+
+-- a token that was ahead is put before a fault comes
+pub returns-in-Some-clause-ahead : goal.returns-in-Some-clause-ahead
+returns-in-Some-clause-ahead c =
+    let old = c.args.rooms.now in
+    let t = token_of c.in-TOKEN.token in
+    let stop = ap (λ (z : Option ahead_t). option_map ahead_of z) c.in-Some.is in record {
+      token = λ u f e n. elim (cases_lt (length old.texts.now) (old.text_len + length (texts_of t))) [
+        | inl low ↦ absurd (let w = c.give_token.ensures.kept low in let k : ahead_of c.in-Some.stop ≡ TOKEN t = cc in cc)
+        | inr high ↦ absurd (let w = c.give_token.ensures.put high in let u = ends_there (is_end t) (ahead_of c.in-Some.stop) (sym w.1 ∙ stop) in let k = u.1 in cc)
+      ];
+      fault = λ f e. absurd (let k = ap ahead_of c.in-TOKEN.is in cc);
+    }
+
+pub returns-in-None-clause-ahead : goal.returns-in-None-clause-ahead
+returns-in-None-clause-ahead c =
+    let old = c.args.rooms.now in
+    let t = token_of c.in-TOKEN.token in
+    let none = ap (λ (z : Option ahead_t). option_map ahead_of z) c.in-None.is in record {
+      token = λ u f e n. elim (cases_lt (length old.texts.now) (old.text_len + length (texts_of t))) [
+        | inl low ↦ absurd (let w = c.give_token.ensures.kept low in let e = sym w.1 ∙ none in cc)
+        | inr high ↦ (let w = c.give_token.ensures.put high in omega (arith, w.0.token_count, c.give_rest-in-None.ensures.more))
+      ];
+      fault = λ f e. absurd (let k = ap ahead_of c.in-TOKEN.is in cc);
+    }
+
+pub returns-in_default-clause-ahead : goal.returns-in_default-clause-ahead
+returns-in_default-clause-ahead c = record {
+  token = λ t f e n. absurd (cc);
+  fault = λ f e. (refl, e);
+}
