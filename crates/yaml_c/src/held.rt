@@ -14,12 +14,14 @@ ghost use Rattle.yaml_scan.specs.Parser.{Parser};
 ghost use Rattle.yaml_c.specs.Answer.{most_key_limit};
 ghost use Rattle.yaml_scan.specs.inside.Kept.{IsKept};
 ghost use Rattle.yaml_c.specs.inside.Sink.{IsPut};
+ghost use Rattle.yaml_c.specs.inside.Spelled.{spelled_of};
 
 use crate::answer::{bogzhami_answer, counts, counts_and_fault, fault_len, put_fault_texts};
 use crate::numbers::encoding_number;
 use crate::record::{bogzhami_token, first_text, record_of, second_text};
 use crate::room::put_bytes;
 use crate::sink::{texts_len, token_rooms_t};
+use crate::spelled::{skipped_of, spelled_t};
 use crate::status::{DONE, FAULT, NO_ROOM, OVER};
 use std::alloc::{AllocError, Global};
 use yaml_scan::{
@@ -40,12 +42,14 @@ pub enum ahead_t {
     OVER,
 }
 
-/// What is held: a parser without its input, what was read ahead, and the number of the input's encoding.
+/// What is held: a parser without its input, what was read ahead, the number of the input's encoding, and how many
+/// bytes come before its text, unless that is in UTF-16.
 #[derive(Drop)]
 pub struct held_t {
     pub parser: Option<yaml_kept_parser_t>,
     pub ahead: ahead_t,
     pub encoding: u32,
+    pub skipped: Option<u64>,
 }
 
 /// Reads what comes next, if it was not read ahead.
@@ -189,6 +193,7 @@ pub(crate) fn nothing_held() -> held_t {
         parser: None,
         ahead: ahead_t::OVER,
         encoding: 0,
+        skipped: None,
     }
 }
 
@@ -196,17 +201,16 @@ pub(crate) fn nothing_held() -> held_t {
 fn read_on(
     kept: &mut Option<yaml_kept_parser_t>,
     ahead: ahead_t,
-    input: &[u8],
     rooms: &mut token_rooms_t,
 ) -> ahead_t
-    requires at { (s : Scan) × (s.input ≡ input.now) × IsSomeAnd kept.old (IsKept s.parser)
+    requires at { (s : Scan) × (s.input ≡ rooms.old.spelled.input.now) × IsSomeAnd kept.old (IsKept s.parser)
         × Stands s.limit s.setting s.input s.parser s.given (ahead_of ahead) }
     requires more { ahead_of ahead ≢ ALL_GIVEN }
     requires none { rooms.old.token_count ≡ 0 }
     requires no_text { rooms.old.text_len ≡ 0 }
     requires some { 0 < length rooms.old.tokens.now }
     ensures ahead { KeepsAhead (ahead_of ahead) rooms.old rooms.new (ahead_of result) }
-    ensures next { (s : Scan) → s.input ≡ input.now → IsSomeAnd kept.old (IsKept s.parser)
+    ensures next { (s : Scan) → s.input ≡ rooms.old.spelled.input.now → IsSomeAnd kept.old (IsKept s.parser)
         → Stands s.limit s.setting s.input s.parser s.given (ahead_of ahead)
         → ReadsOn s rooms.old rooms.new kept.new (ahead_of result) }
 {
@@ -217,24 +221,21 @@ fn read_on(
         unreachable!();
     };
     let alloc = *rooms.spare.allocator();
-    let mut parser = held.take(alloc, input);
+    let mut parser = held.take(alloc, rooms.spelled.input);
     let ahead = give(&mut parser, ahead, rooms);
     held.keep(parser);
     ahead
 }
 
 /// Gives the next tokens, whole ones, and perhaps the fault after them. Returns the answer and the status.
-pub(crate) fn next_batch(
-    held: &mut held_t,
-    input: &[u8],
-    rooms: &mut token_rooms_t,
-) -> (bogzhami_answer, u32)
-    requires at { (s : Scan) × (s.input ≡ input.now) × IsAt s held.old }
+pub(crate) fn next_batch(held: &mut held_t, rooms: &mut token_rooms_t) -> (bogzhami_answer, u32)
+    requires at { (s : Scan) × (s.input ≡ rooms.old.spelled.input.now) × IsAt s held.old }
+    requires skipped { rooms.old.spelled.skipped ≡ held.old.skipped }
     requires none { rooms.old.token_count ≡ 0 }
     requires no_text { rooms.old.text_len ≡ 0 }
     ensures same_tokens { rooms.new.tokens.ghost_name ≡ rooms.old.tokens.ghost_name }
     ensures same_texts { rooms.new.texts.ghost_name ≡ rooms.old.texts.ghost_name }
-    ensures next { (s : Scan) → s.input ≡ input.now → IsAt s held.old
+    ensures next { (s : Scan) → s.input ≡ rooms.old.spelled.input.now → IsAt s held.old
         → IsNext s (rooms_of rooms.old) (rooms_of rooms.new) held.new result.0 result.1 }
 {
     if let ahead_t::OVER = held.ahead {
@@ -244,7 +245,7 @@ pub(crate) fn next_batch(
         return (counts(0, 0), DONE);
     }
     let ahead = std::mem::replace(&mut held.ahead, ahead_t::OVER);
-    let ahead = read_on(&mut held.parser, ahead, input, rooms);
+    let ahead = read_on(&mut held.parser, ahead, rooms);
     let (ahead, answer, status) = end_batch(rooms, ahead);
     held.ahead = ahead;
     (answer, status)
@@ -285,6 +286,7 @@ pub(crate) fn open(
         parser: Some(yaml_kept_parser_t::new(parser)),
         ahead: ahead_t::NONE,
         encoding,
+        skipped: skipped_of(setting, input),
     };
     match Box::new(alloc, held) {
         Ok(held) => Ok(held),
@@ -305,6 +307,7 @@ pub(crate) fn look_ahead(alloc: Global, held: held_t, input: &[u8]) -> held_t
         parser,
         ahead,
         encoding,
+        skipped,
     } = held;
     match ahead {
         ahead_t::NONE => {
@@ -318,24 +321,28 @@ pub(crate) fn look_ahead(alloc: Global, held: held_t, input: &[u8]) -> held_t
                 parser: Some(kept),
                 ahead,
                 encoding,
+                skipped,
             }
         }
         ahead => held_t {
             parser,
             ahead,
             encoding,
+            skipped,
         },
     }
 }
 
 /// Shows what comes next, if its texts find room. Returns the answer and the status.
 pub(crate) fn show(
+    spelled: spelled_t,
     ahead: &ahead_t,
     token: &mut bogzhami_token,
     texts: &mut [u8],
 ) -> (bogzhami_answer, u32)
     requires { ahead_of ahead.now ≢ NONE }
-    ensures { Shows (ahead_of ahead.now) token.old texts.old token.new texts.new result.0 result.1 }
+    ensures { Shows (spelled_of spelled.entry) (ahead_of ahead.now)
+        token.old texts.old token.new texts.new result.0 result.1 }
 {
     let need = need(ahead);
     if need > texts.len() as u64 {
@@ -344,7 +351,7 @@ pub(crate) fn show(
     match ahead {
         ahead_t::TOKEN(shown) => {
             let first = first_text(&shown.token_data);
-            *token = record_of(0, shown);
+            *token = record_of(spelled, 0, shown);
             put_bytes(texts, 0, first);
             put_bytes(texts, first.len() as u64, second_text(&shown.token_data));
             (counts(1, need), DONE)

@@ -3,6 +3,7 @@
 
 ghost use Rattle.std.specs.Prelude.{◌≡◌, ◌≤◌};
 ghost use Rattle.yaml_c.specs.Answer.{IsScanned, RefusesWrong, ScansRight, most_key_limit, rooms};
+ghost use Rattle.yaml_c.specs.Spelled.{skipped_of};
 ghost use Rattle.yaml_c.specs.inside.Batch.{rooms_of};
 
 mod answer;
@@ -14,6 +15,7 @@ mod numbers;
 mod record;
 mod room;
 mod sink;
+mod spelled;
 mod status;
 #[cfg(test)]
 mod tests;
@@ -22,6 +24,7 @@ use crate::answer::{counts, counts_and_fault};
 use crate::calls::MOST_KEY_LIMIT;
 use crate::numbers::encoding_of;
 use crate::sink::token_rooms_t;
+use crate::spelled::{skipped_of, spelled_t};
 use crate::status::{DONE, FAULT, WRONG};
 pub use answer::bogzhami_answer;
 pub use calls::{
@@ -32,24 +35,21 @@ pub use record::{bogzhami_mark, bogzhami_token};
 use std::alloc::Global;
 use yaml_scan::{yaml_encoding_t, yaml_scan_to};
 
-/// Puts all tokens of an input into two rooms, in which there are none, and the texts of the fault after them. Returns
-/// the answer and the status.
-fn scan(
-    input: &[u8],
-    setting: yaml_encoding_t,
-    limit: u32,
-    rooms: &mut token_rooms_t,
-) -> (bogzhami_answer, u32)
+/// Puts all tokens of the input of two rooms into them, where there are none, and the texts of the fault after them.
+/// Returns the answer and the status.
+fn scan(setting: yaml_encoding_t, limit: u32, rooms: &mut token_rooms_t) -> (bogzhami_answer, u32)
     requires least { 1 ≤ limit }
     requires most { limit ≤ most_key_limit }
+    requires skipped { rooms.old.spelled.skipped ≡ skipped_of setting rooms.old.spelled.input.now }
     requires none { rooms.old.token_count ≡ 0 }
     requires no_text { rooms.old.text_len ≡ 0 }
-    ensures scanned { IsScanned setting limit input.now (rooms_of rooms.old) (rooms_of rooms.new) result.0 result.1 }
+    ensures scanned { IsScanned setting limit rooms.old.spelled.input.now
+        (rooms_of rooms.old) (rooms_of rooms.new) result.0 result.1 }
     ensures same_tokens { rooms.new.tokens.ghost_name ≡ rooms.old.tokens.ghost_name }
     ensures same_texts { rooms.new.texts.ghost_name ≡ rooms.old.texts.ghost_name }
 {
     let alloc = *rooms.spare.allocator();
-    let Ok(fault) = yaml_scan_to(alloc, input, setting, limit, rooms) else {
+    let Ok(fault) = yaml_scan_to(alloc, rooms.spelled.input, setting, limit, rooms) else {
         unreachable!();
     };
     let Some(fault) = fault else {
@@ -94,21 +94,19 @@ pub extern "C" fn bogzhami_scan_all(
     if limit < 1 || limit > MOST_KEY_LIMIT {
         return WRONG;
     }
+    let mut spare = Vec::new(alloc);
     let mut rooms = token_rooms_t {
         tokens,
         texts,
+        spelled: spelled_t {
+            input,
+            skipped: skipped_of(encoding, input),
+        },
         token_count: 0,
         text_len: 0,
-        spare: Vec::new(alloc),
+        spare: &mut spare,
     };
-    let (told, status) = scan(input, encoding, limit, &mut rooms);
-    let token_rooms_t {
-        tokens: _tokens,
-        texts: _texts,
-        token_count: _,
-        text_len: _,
-        spare: _spare,
-    } = rooms;
+    let (told, status) = scan(encoding, limit, &mut rooms);
     *out = told;
     status
 }
