@@ -20,11 +20,11 @@ ORDER = """
 Headline Seen Parser Session Settled Groups Laid Levels Keys Depth yaml_lexeme/Greatest Allowed Course Near Step Kind Token
 yaml_text/Token yaml_text/Fault yaml_text/Offence Source
 """
-USE = re.compile(r"^(?:pub )?use Rattle\.(\w+)\.specs\.([A-Z]\w*)", re.M)
+USE = re.compile(r"^(?:pub )?use Rattle\.(\w+)\.specs\.((?:inside\.)?[A-Z]\w*)", re.M)
 
 
 def path_of(place):
-    return f"crates/{place[0]}/specs/{place[1]}.antt"
+    return f"crates/{place[0]}/specs/{place[1].replace('.', '/')}.antt"
 
 
 def read(path):
