@@ -1,6 +1,7 @@
 -- What depends on no character eight or more past the place where a step ends.
 use Rattle.std.specs.Prelude.{◌≡◌, ◌⊎◌, ℕ, ◌+◌, ◌<◌, ◌≤◌, length, slice_get, Bool, List}
 use Rattle.std.specs.Prelude.{Option, Some, None, Result, Ok, Err}
+use Rattle.yaml_text.specs.Fault.{Fault}
 use Rattle.yaml_text.specs.TextBytes.{AreChars}
 use Rattle.yaml_scan.specs.Settled.{tokens_of}
 use Rattle.yaml_scan.specs.Course.{Input, course}
