@@ -169,10 +169,10 @@ pub record TextLineParts (indent : ℕ) (p : Place) (f : Found TextLine) : Type 
   pub text_is : is_text indent start ≡ true
   pub longest : IsLongest (empty_line (Some indent)) (next_line start) empties f.end over
   pub value : f.value ≡ record {
-      text = run is_in_line start;
-      break = break_at (after_run is_in_line start);
-      empties = breaks_of (values empties);
-    }
+    text = run is_in_line start;
+    break = break_at (after_run is_in_line start);
+    empties = breaks_of (values empties);
+  }
 
 abbrev pub TextLineIsParts : Type 0
 TextLineIsParts = (indent : ℕ) (p : Place) (f : Found TextLine) →

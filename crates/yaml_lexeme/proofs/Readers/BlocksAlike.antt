@@ -134,7 +134,7 @@ no_lines indent p o e = many_turn (text_line indent) (shortens indent) p ∙ ap 
 
 module _ (indent : ℕ) (p q : Place) (e : after_indent (Some indent) p ≡ Ok q)
     (more : (x y : Place) → length x.rest < length p.rest → after_indent (Some indent) x ≡ Ok y
-        → then_indent indent (many (text_line indent) x) ≡ with_mark x.mark (many (old.text_line indent) y)) where
+    → then_indent indent (many (text_line indent) x) ≡ with_mark x.mark (many (old.text_line indent) y)) where
   abbrev new_turn : Part TextLine → Read Pair
   new_turn r = then_indent indent (r >>= λ a. go_on (many (text_line indent)) p a)
 
