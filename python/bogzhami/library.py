@@ -42,6 +42,7 @@ class Record(ctypes.Structure):
         ("second_len", ctypes.c_uint64),
         ("start_mark", Place),
         ("end_mark", Place),
+        ("input_at", ctypes.c_uint64),
     ]
 
 
