@@ -8,7 +8,7 @@ import ctypes
 import os
 from typing import Iterator
 
-NAMES = ("libbogzhami.so.0", "libbogzhami.so")
+NAMES = ("libbogzhami.so.1", "libbogzhami.so")
 
 # What a call returns.
 DONE, FAULT, WRONG, NO_MEMORY, OVER, NO_ROOM, NOT_LIVE = range(7)
