@@ -367,9 +367,14 @@ impl<'a> Scanner<'a> {
 
     /// Reads the next batch if all of the last one was given and no fault waits.
     fn fill(&mut self) {
-        if self.given < self.count || self.fault.is_some() {
-            return;
+        if self.given == self.count && self.fault.is_none() {
+            self.read_batch();
         }
+    }
+
+    /// Reads the next batch in place of the last one. Most tokens need none.
+    #[cold]
+    fn read_batch(&mut self) {
         (self.given, self.count) = (0, 0);
         let mut answer = Answer::default();
         let mut status = self.read(&mut answer);
@@ -524,10 +529,14 @@ fn style_of(number: u32) -> Style {
     }
 }
 
-/// Both texts of a record in the room for texts.
-fn texts_of<'t>(record: &Record, texts: &'t [u8]) -> (&'t [u8], &'t [u8]) {
-    let second_at = record.text_at + record.first_len;
-    (part(texts, record.text_at, record.first_len), part(texts, second_at, record.second_len))
+/// The first text of a record in the room for texts.
+fn first_of<'t>(record: &Record, texts: &'t [u8]) -> &'t [u8] {
+    part(texts, record.text_at, record.first_len)
+}
+
+/// The second text of a record in the room for texts, where it follows the first.
+fn second_of<'t>(record: &Record, texts: &'t [u8]) -> &'t [u8] {
+    part(texts, record.text_at + record.first_len, record.second_len)
 }
 
 /// The first text of a record in the input, or `None` if the input does not have it as it is.
@@ -539,16 +548,18 @@ fn spelled<'a>(record: &Record, input: &'a [u8]) -> Option<&'a [u8]> {
 
 /// A token that borrows its texts from the room for texts.
 fn lent<'t>(record: &Record, texts: &'t [u8]) -> Token<'t> {
-    let (first, second) = texts_of(record, texts);
-    token_of(record, || Text(Cow::Borrowed(first)), || Text(Cow::Borrowed(second)))
+    let lent = |text| Text(Cow::Borrowed(text));
+    token_of(record, || lent(first_of(record, texts)), || lent(second_of(record, texts)))
 }
 
 /// A token that borrows its text from the input, or has copies if the input does not have it as it is.
 fn given<'a>(record: &Record, input: &'a [u8], texts: &[u8]) -> Token<'a> {
-    let (first, second) = texts_of(record, texts);
     let copied = |text: &[u8]| Text(Cow::Owned(text.to_vec()));
-    let first = || spelled(record, input).map_or_else(|| copied(first), |text| Text(Cow::Borrowed(text)));
-    token_of(record, first, || copied(second))
+    let first = || match spelled(record, input) {
+        Some(text) => Text(Cow::Borrowed(text)),
+        None => copied(first_of(record, texts)),
+    };
+    token_of(record, first, || copied(second_of(record, texts)))
 }
 
 /// The token of a record, whose texts are made if it has them.
