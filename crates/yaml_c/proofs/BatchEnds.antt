@@ -16,12 +16,15 @@ use Rattle.yaml_c.specs.inside.Batch.{Stops, ReadsOn, rooms_of, GivesFault, Tell
 use Rattle.yaml_text.specs.Types.{encoding_number}
 use Rattle.yaml_c.specs.Record.{held, records_of, all_texts}
 use Rattle.yaml_c.specs.Room.{covered, covered_from}
+use Rattle.yaml_c.specs.Spelled.{Spelled, skipped_of, spelled_in}
+use Rattle.yaml_c.specs.inside.Spelled.{spelled_of}
 use Rattle.yaml_c.specs.Status as status
 use Rattle.yaml_c.specs.declared.answer.bogzhami_answer.{bogzhami_answer}
 use Rattle.yaml_c.specs.declared.held.ahead_t.{ahead_t}
 use Rattle.yaml_c.specs.declared.held.ahead_t.TheVariants as code
 use Rattle.yaml_c.specs.declared.held.held_t.{held_t}
 use Rattle.yaml_c.specs.declared.record.bogzhami_token.{bogzhami_token}
+use Rattle.yaml_c.specs.declared.spelled.spelled_t.{spelled_t}
 use Rattle.yaml_c.specs.declared.sink.token_rooms_t.{token_rooms_t}
 use Rattle.yaml_c.proofs.Rooms.{covered_by_none, covered_held, length-covered_from, more_covered_from}
 use Rattle.yaml_c.proofs.TokensPut.{Fits, HavePut, have_put}
@@ -39,6 +42,7 @@ nothing_given s old h answer code at over tells = record {
     ahead = at.ahead;
     stands = subst (λ (z : List Token). Stands s.limit s.setting s.input s.parser z s.ahead) (sym (append-nil s.given)) at.stands;
     encoding = at.encoding;
+    skipped = at.skipped;
   };
   few = omega arith;
   fit = omega arith;
@@ -48,6 +52,12 @@ nothing_given s old h answer code at over tells = record {
   over = over;
   tells = tells;
 }
+
+-- the input that the rooms know is that of the scanner
+pub spelled_is : (s : Scan) (spelled : spelled_t) (h : held_t) (input : List ℕ) → s.input ≡ input → IsAt s h
+    → spelled.input.now ≡ input → spelled.skipped ≡ h.skipped → spelled_of spelled ≡ spelled_in s.setting s.input
+spelled_is s spelled h input same at is_input is_skipped =
+    λ i. record { input = (is_input ∙ sym same) i; skipped = (is_skipped ∙ at.skipped) i }
 
 -- what the code has read ahead is all, if it is so as the definitions see it
 pub over_is : (a : ahead_t) → ahead_of a ≡ OVER → a ≡ code.OVER
@@ -75,7 +85,8 @@ too_long records bytes [] OVER tight none some stops = absurd (omega arith)
 
 -- what a call leaves that read on
 module _ (s : Scan) (old mid : token_rooms_t) (kept : Option yaml_kept_parser_t) (a : Ahead) (h : held_t) (fits : Fits old) (no_token : old.token_count ≡ 0) (no_text : old.text_len ≡ 0)
-    (some : 0 < length old.tokens.now) (more : s.ahead ≡ OVER → ⊥) (r : ReadsOn s old mid kept a) (keeps : h.parser ≡ kept) (encoding : h.encoding ≡ encoding_number (encoding_of s.setting s.input)) where
+    (some : 0 < length old.tokens.now) (more : s.ahead ≡ OVER → ⊥) (r : ReadsOn s old mid kept a) (keeps : h.parser ≡ kept) (encoding : h.encoding ≡ encoding_number (encoding_of s.setting s.input))
+    (skipped : h.skipped ≡ skipped_of s.setting s.input) (spelled : spelled_of old.spelled ≡ spelled_in s.setting s.input) where
   put : HavePut old r.gives.list mid
   put = have_put old mid r.gives.list fits r.gives.put
 
@@ -88,9 +99,11 @@ module _ (s : Scan) (old mid : token_rooms_t) (kept : Option yaml_kept_parser_t)
   long : length mid.texts.now ≡ length old.texts.now
   long = ap length put.texts ∙ length-covered_from old.text_len (all_texts r.gives.list) old.texts.now
 
-  records : mid.tokens.now ≡ covered (records_of 0 r.gives.list) old.tokens.now
-  records = put.records ∙ ap (λ (n : ℕ). covered_from n (records_of old.text_len r.gives.list) old.tokens.now) no_token
-      ∙ ap (λ (n : ℕ). covered_from 0 (records_of n r.gives.list) old.tokens.now) no_text
+  records : mid.tokens.now ≡ covered (records_of (spelled_in s.setting s.input) 0 r.gives.list) old.tokens.now
+  records = put.records
+      ∙ ap (λ (n : ℕ). covered_from n (records_of (spelled_of old.spelled) old.text_len r.gives.list) old.tokens.now) no_token
+      ∙ ap (λ (n : ℕ). covered_from 0 (records_of (spelled_of old.spelled) n r.gives.list) old.tokens.now) no_text
+      ∙ ap (λ (z : Spelled). covered_from 0 (records_of z 0 r.gives.list) old.tokens.now) spelled
 
   keeps_it : IsSomeAnd h.parser (IsKept r.parser)
   keeps_it = subst (λ (z : Option yaml_kept_parser_t). IsSomeAnd z (IsKept r.parser)) (sym keeps) r.keeps
@@ -114,7 +127,7 @@ module _ (s : Scan) (old mid : token_rooms_t) (kept : Option yaml_kept_parser_t)
         list = r.gives.list;
         fault = Some f;
         after = OVER;
-        at = record { kept = keeps_it; ahead = is ∙ g.after; stands = (Some f, reads); encoding = encoding };
+        at = record { kept = keeps_it; ahead = is ∙ g.after; stands = (Some f, reads); encoding = encoding; skipped = skipped };
         few = r.gives.few;
         fit = omega (arith, length-append (all_texts r.gives.list) ft, g.fits, long, size);
         records_are = ap (λ (z : MutBor (List bogzhami_token)). z.now) g.tokens ∙ records;
@@ -140,7 +153,7 @@ module _ (s : Scan) (old mid : token_rooms_t) (kept : Option yaml_kept_parser_t)
         list = r.gives.list;
         fault = None;
         after = a;
-        at = record { kept = keeps_it; ahead = is ∙ same; stands = r.gives.stands; encoding = encoding };
+        at = record { kept = keeps_it; ahead = is ∙ same; stands = r.gives.stands; encoding = encoding; skipped = skipped };
         few = r.gives.few;
         fit = omega (arith, ap length (append-nil (all_texts r.gives.list)), r.gives.fit);
         records_are = records;

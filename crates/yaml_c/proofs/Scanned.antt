@@ -10,7 +10,9 @@ use Rattle.yaml_c.specs.declared.sink.token_rooms_t.{token_rooms_t}
 use Rattle.yaml_c.specs.Answer.{IsScanned, answer_with, fault_texts, status_of}
 use Rattle.yaml_c.specs.Record.{held, records_of, all_texts}
 use Rattle.yaml_c.specs.Room.{covered_from}
+use Rattle.yaml_c.specs.Spelled.{Spelled, spelled_in}
 use Rattle.yaml_c.specs.inside.Sink.{ArePut}
+use Rattle.yaml_c.specs.inside.Spelled.{spelled_of}
 use Rattle.yaml_c.proofs.TokensPut.{Fits, have_put}
 use Rattle.yaml_c.proofs.Rooms.{covered_held, length-covered_from, more_covered_from}
 
@@ -18,7 +20,7 @@ use Rattle.yaml_c.proofs.Rooms.{covered_held, length-covered_from, more_covered_
 pub are_scanned : (setting e : yaml_encoding_t) (limit : ℕ) (input : List ℕ)
     (a b : token_rooms_t) (fault : Option Fault)
     (tokens : List bogzhami_token) (texts last : List ℕ) (answer : bogzhami_answer) (status : ℕ)
-    → setting ≡ e → Fits a → a.token_count ≡ 0 → a.text_len ≡ 0
+    → setting ≡ e → Fits a → spelled_of a.spelled ≡ spelled_in setting input → a.token_count ≡ 0 → a.text_len ≡ 0
     → IsGivenAll (λ list. ArePut a list b) limit setting input fault
     → (a.tokens.ghost_name ≡ b.tokens.ghost_name → tokens ≡ b.tokens.now)
     → (a.texts.ghost_name ≡ b.texts.ghost_name → texts ≡ last)
@@ -28,7 +30,7 @@ pub are_scanned : (setting e : yaml_encoding_t) (limit : ℕ) (input : List ℕ)
     → IsScanned e limit input (record { tokens = a.tokens.now; texts = a.texts.now })
     (record { tokens = tokens; texts = texts }) answer status
 are_scanned setting e limit input a b fault tokens texts last answer status
-    same fits no_token no_text given is_tokens is_texts is_last is_answer is_status =
+    same fits spelled no_token no_text given is_tokens is_texts is_last is_answer is_status =
     let list = given.tokens in
     let words = all_texts list in
     let put = have_put a b list fits given.given in
@@ -45,8 +47,10 @@ are_scanned setting e limit input a b fault tokens texts last answer status
       answer_is = is_answer ∙ ap (λ (n : ℕ). answer_with n b.text_len fault) count
           ∙ ap (λ (n : ℕ). answer_with (held (length list)) n fault) size;
       records_are = is_tokens (sym put.same_tokens) ∙ put.records
-          ∙ ap (λ (n : ℕ). covered_from n (records_of a.text_len list) a.tokens.now) no_token
-          ∙ ap (λ (n : ℕ). covered_from 0 (records_of n list) a.tokens.now) no_text;
+          ∙ ap (λ (n : ℕ). covered_from n (records_of (spelled_of a.spelled) a.text_len list) a.tokens.now) no_token
+          ∙ ap (λ (n : ℕ). covered_from 0 (records_of (spelled_of a.spelled) n list) a.tokens.now) no_text
+          ∙ ap (λ (z : Spelled). covered_from 0 (records_of z 0 list) a.tokens.now) spelled
+          ∙ ap (λ (z : yaml_encoding_t). covered_from 0 (records_of (spelled_in z input) 0 list) a.tokens.now) same;
       texts_are = is_texts (sym put.same_texts) ∙ is_last
           ∙ ap (λ (n : ℕ). covered_from n (fault_texts fault) b.texts.now) put.text_len
           ∙ covered_held (a.text_len + length words) (fault_texts fault) b.texts.now room

@@ -8,23 +8,26 @@ use Rattle.yaml_c.specs.declared.record.bogzhami_token.{bogzhami_token}
 use Rattle.yaml_c.specs.declared.sink.token_rooms_t.{token_rooms_t}
 use Rattle.yaml_c.specs.Room.{covered_from}
 use Rattle.yaml_c.specs.Record.{held, record_of, records_of, texts_of, all_texts, first_text, second_text}
+use Rattle.yaml_c.specs.Spelled.{Spelled}
 use Rattle.yaml_c.specs.inside.Sink.{IsPut, ArePut}
+use Rattle.yaml_c.specs.inside.Spelled.{spelled_of}
+use Rattle.yaml_c.specs.declared.spelled.spelled_t.{spelled_t}
 use Rattle.yaml_c.proofs.Rooms.{covered_from_by_none, covered_held, length-covered_from, more_covered_from}
 
 held_held : (n k : ℕ) → held (held n + k) ≡ held (n + k)
 held_held n k = omega arith
 
 -- a place that 64 bits do not hold gives the same records
-records_of_held : (n : ℕ) (ts : List Token) → records_of (held n) ts ≡ records_of n ts
-records_of_held n [] = refl
-records_of_held n (t ∷ ts) =
+records_of_held : (s : Spelled) (n : ℕ) (ts : List Token) → records_of s (held n) ts ≡ records_of s n ts
+records_of_held s n [] = refl
+records_of_held s n (t ∷ ts) =
     let k = length (texts_of t) in
     let same : held (held n) ≡ held n = omega arith in
-    let here : record_of (held n) t ≡ record_of n t = ap (λ (m : ℕ). record (record_of n t) { text_at = m }) same in
-    let rest : records_of (held n + k) ts ≡ records_of (n + k) ts = sym (records_of_held (held n + k) ts)
-    ∙ ap (λ (m : ℕ). records_of m ts) (held_held n k) ∙ records_of_held (n + k) ts in
-    ap (λ (r : bogzhami_token). r ∷ records_of (held n + k) ts) here
-    ∙ ap (λ (rs : List bogzhami_token). record_of n t ∷ rs) rest
+    let here : record_of s (held n) t ≡ record_of s n t = ap (λ (m : ℕ). record (record_of s n t) { text_at = m }) same in
+    let rest : records_of s (held n + k) ts ≡ records_of s (n + k) ts = sym (records_of_held s (held n + k) ts)
+    ∙ ap (λ (m : ℕ). records_of s m ts) (held_held n k) ∙ records_of_held s (n + k) ts in
+    ap (λ (r : bogzhami_token). r ∷ records_of s (held n + k) ts) here
+    ∙ ap (λ (rs : List bogzhami_token). record_of s n t ∷ rs) rest
 
 -- rooms and counts as a machine has them
 pub record Fits (a : token_rooms_t) : Type 0 where
@@ -37,15 +40,16 @@ pub record Fits (a : token_rooms_t) : Type 0 where
 pub record HavePut (a : token_rooms_t) (list : List Token) (b : token_rooms_t) : Type 0 where
   pub same_tokens : b.tokens.ghost_name ≡ a.tokens.ghost_name
   pub same_texts : b.texts.ghost_name ≡ a.texts.ghost_name
+  pub spelled : b.spelled ≡ a.spelled
   pub token_count : b.token_count ≡ held (a.token_count + length list)
   pub text_len : b.text_len ≡ held (a.text_len + length (all_texts list))
-  pub records : b.tokens.now ≡ covered_from a.token_count (records_of a.text_len list) a.tokens.now
+  pub records : b.tokens.now ≡ covered_from a.token_count (records_of (spelled_of a.spelled) a.text_len list) a.tokens.now
   pub texts : b.texts.now ≡ covered_from a.text_len (all_texts list) a.texts.now
 
 fits_on : (a b : token_rooms_t) (t : Token) → Fits a → IsPut a t b → Fits b
 fits_on a b t fits put =
     let one : length b.tokens.now ≡ length a.tokens.now = ap length put.records
-    ∙ length-covered_from a.token_count (record_of a.text_len t ∷ []) a.tokens.now in
+    ∙ length-covered_from a.token_count (record_of (spelled_of a.spelled) a.text_len t ∷ []) a.tokens.now in
     let two : length b.texts.now ≡ length a.texts.now = ap length put.texts
     ∙ length-covered_from a.text_len (texts_of t) a.texts.now in
     record { tokens = omega arith; texts = omega arith; token_count = omega arith; text_len = omega arith }
@@ -54,6 +58,7 @@ none_put : (a : token_rooms_t) → Fits a → HavePut a [] a
 none_put a fits = record {
   same_tokens = refl;
   same_texts = refl;
+  spelled = refl;
   token_count = omega arith;
   text_len = omega arith;
   records = sym (covered_from_by_none a.token_count a.tokens.now);
@@ -66,20 +71,24 @@ one_more a m b t ts fits put more =
     let k = length (texts_of t) in
     let sum : length (all_texts (t ∷ ts)) ≡ k + length (all_texts ts) = length-append (texts_of t) (all_texts ts) in
     let next = fits_on a m t fits put in
+    let s = spelled_of a.spelled in
     record {
       same_tokens = more.same_tokens ∙ put.same_tokens;
       same_texts = more.same_texts ∙ put.same_texts;
+      spelled = more.spelled ∙ put.spelled;
       token_count = omega (arith, more.token_count, put.token_count);
       text_len = omega (arith, more.text_len, put.text_len);
       records = more.records
-          ∙ ap (λ (n : ℕ). covered_from n (records_of m.text_len ts) m.tokens.now) put.token_count
-          ∙ covered_held (a.token_count + 1) (records_of m.text_len ts) m.tokens.now next.tokens
-          ∙ ap (λ (n : ℕ). covered_from (a.token_count + 1) (records_of n ts) m.tokens.now) put.text_len
+          ∙ ap (λ (z : spelled_t). covered_from m.token_count (records_of (spelled_of z) m.text_len ts) m.tokens.now)
+          put.spelled
+          ∙ ap (λ (n : ℕ). covered_from n (records_of s m.text_len ts) m.tokens.now) put.token_count
+          ∙ covered_held (a.token_count + 1) (records_of s m.text_len ts) m.tokens.now next.tokens
+          ∙ ap (λ (n : ℕ). covered_from (a.token_count + 1) (records_of s n ts) m.tokens.now) put.text_len
           ∙ ap (λ (rs : List bogzhami_token). covered_from (a.token_count + 1) rs m.tokens.now)
-          (records_of_held (a.text_len + k) ts)
-          ∙ ap (λ (z : List bogzhami_token). covered_from (a.token_count + 1) (records_of (a.text_len + k) ts) z)
+          (records_of_held s (a.text_len + k) ts)
+          ∙ ap (λ (z : List bogzhami_token). covered_from (a.token_count + 1) (records_of s (a.text_len + k) ts) z)
           put.records
-          ∙ more_covered_from a.token_count (record_of a.text_len t ∷ []) (records_of (a.text_len + k) ts) a.tokens.now;
+          ∙ more_covered_from a.token_count (record_of s a.text_len t ∷ []) (records_of s (a.text_len + k) ts) a.tokens.now;
       texts = more.texts
           ∙ ap (λ (n : ℕ). covered_from n (all_texts ts) m.texts.now) put.text_len
           ∙ covered_held (a.text_len + k) (all_texts ts) m.texts.now next.texts
@@ -92,6 +101,7 @@ pub have_put : (a b : token_rooms_t) (list : List Token) → Fits a → ArePut a
 have_put a b [] fits put = let n = none_put a fits in record {
   same_tokens = rw put.tokens n.same_tokens;
   same_texts = rw put.texts n.same_texts;
+  spelled = put.spelled;
   token_count = rw put.token_count n.token_count;
   text_len = rw put.text_len n.text_len;
   records = rw put.tokens n.records;
@@ -116,7 +126,7 @@ texts_are (t ∷ ts) = let a = said_is t.token_data in let b = texts_are ts in l
 -- the rooms keep their sizes
 pub same_sizes : (a b : token_rooms_t) (list : List Token) → HavePut a list b → (length b.tokens.now ≡ length a.tokens.now) × (length b.texts.now ≡ length a.texts.now)
 same_sizes a b list p = (
-  ap (λ (z : List bogzhami_token). length z) p.records ∙ length-covered_from a.token_count (records_of a.text_len list) a.tokens.now,
+  ap (λ (z : List bogzhami_token). length z) p.records ∙ length-covered_from a.token_count (records_of (spelled_of a.spelled) a.text_len list) a.tokens.now,
   ap (λ (z : List ℕ). length z) p.texts ∙ length-covered_from a.text_len (all_texts list) a.texts.now,
 )
 

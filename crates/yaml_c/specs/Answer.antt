@@ -7,6 +7,7 @@ use Rattle.yaml_text.specs.Types.{error_type_number, encoding_number}
 use Rattle.yaml_scan.specs.All.{ReadsAll}
 use Rattle.yaml_c.specs.Record.{held, mark_of, records_of, all_texts}
 use Rattle.yaml_c.specs.Room.{covered}
+use Rattle.yaml_c.specs.Spelled.{spelled_in}
 use Rattle.yaml_c.specs.declared.answer.bogzhami_answer.{bogzhami_answer}
 use Rattle.yaml_c.specs.declared.record.bogzhami_token.{bogzhami_token}
 
@@ -90,7 +91,7 @@ pub record IsScanned
   pub status_is : status ≡ status_of fault
   pub answer_is : answer ≡ answer_of list fault
   -- the records cover the beginning of the one room
-  pub records_are : after.tokens ≡ covered (records_of 0 list) before.tokens
+  pub records_are : after.tokens ≡ covered (records_of (spelled_in setting input) 0 list) before.tokens
   -- the texts of the tokens and then those of the fault cover the beginning of the other
   pub texts_are : after.texts ≡ covered (all_texts list ++ fault_texts fault) before.texts
 

@@ -16,6 +16,7 @@ use Rattle.yaml_c.specs.Ahead.Ahead.{NONE, TOKEN, FAULT, OVER}
 use Rattle.yaml_c.specs.Answer.{Rooms, answer_of, answer_with, no_answer, fault_texts}
 use Rattle.yaml_c.specs.Record.{held, record_of, records_of, texts_of, all_texts}
 use Rattle.yaml_c.specs.Room.{covered}
+use Rattle.yaml_c.specs.Spelled.{Spelled, skipped_of, spelled_in}
 use Rattle.yaml_c.specs.Status as status
 use Rattle.yaml_c.specs.declared.answer.bogzhami_answer.{bogzhami_answer}
 use Rattle.yaml_c.specs.declared.held.held_t.{held_t}
@@ -55,6 +56,7 @@ pub record IsAt (s : Scan) (h : held_t) : Type 0 where
   pub ahead : ahead_of h.ahead ≡ s.ahead
   pub stands : Stands s.limit s.setting s.input s.parser s.given s.ahead
   pub encoding : h.encoding ≡ encoding_number (encoding_of s.setting s.input)
+  pub skipped : h.skipped ≡ skipped_of s.setting s.input
 
 -- Where it is after some more tokens, with this parser.
 abbrev pub moved : Scan → Parser → List Token → Ahead → Scan
@@ -86,7 +88,7 @@ pub record IsNext (s : Scan) (old new : Rooms) (h : held_t) (answer : bogzhami_a
   pub at : IsAt (moved s parser list after) h
   pub few : length list ≤ length old.tokens
   pub fit : length (all_texts list ++ fault_texts fault) ≤ length old.texts
-  pub records_are : new.tokens ≡ covered (records_of 0 list) old.tokens
+  pub records_are : new.tokens ≡ covered (records_of (spelled_in s.setting s.input) 0 list) old.tokens
   pub texts_are : new.texts ≡ covered (all_texts list ++ fault_texts fault) old.texts
   pub ends : (f : Fault) → fault ≡ Some f
       → (after ≡ OVER) × ReadsAll s.limit s.setting s.input (s.given ++ list) (Some f)
@@ -100,12 +102,12 @@ looked s p ahead = record s { parser = p; ahead = ahead }
 -- What comes next is shown, if its texts find room: the token and its texts, the fault and its texts, or that nothing
 -- comes.
 pub record Shows
-    (a : Ahead) (old : bogzhami_token) (room : List ℕ) (new : bogzhami_token) (texts : List ℕ)
+    (spelled : Spelled) (a : Ahead) (old : bogzhami_token) (room : List ℕ) (new : bogzhami_token) (texts : List ℕ)
     (answer : bogzhami_answer) (code : ℕ) : Type 0 where
   pub no_room : length room < need a
       → (new ≡ old) × (texts ≡ room) × (code ≡ status.no_room) × (answer ≡ answer_with 0 (held (need a)) None)
   pub token : (t : Token) → a ≡ TOKEN t → need a ≤ length room
-      → (new ≡ record_of 0 t) × (texts ≡ covered (texts_of t) room)
+      → (new ≡ record_of spelled 0 t) × (texts ≡ covered (texts_of t) room)
       × (code ≡ status.done) × (answer ≡ answer_of (t ∷ []) None)
   pub fault : (f : Fault) → a ≡ FAULT f → need a ≤ length room
       → (new ≡ old) × (texts ≡ covered (fault_texts (Some f)) room)
@@ -120,4 +122,4 @@ pub record IsPeek
   pub ahead : Ahead
   pub known : ahead ≢ NONE
   pub at : IsAt (looked s parser ahead) h
-  pub shows : Shows ahead old room new texts answer code
+  pub shows : Shows (spelled_in s.setting s.input) ahead old room new texts answer code

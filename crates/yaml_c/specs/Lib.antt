@@ -1,6 +1,7 @@
 pub mod Answer
 pub mod Laws
 pub mod Record
+pub mod Spelled
 pub mod Room
 pub mod Status
 pub mod Ahead

@@ -1,9 +1,16 @@
 -- Tokens as plain records, whose texts are elsewhere.
-use Rattle.std.specs.Prelude.{ℕ, ◌+◌, ℤ, pos, List, [], ◌∷◌, ◌++◌, length, min}
+use Rattle.std.specs.Prelude.{ℕ, ◌+◌, ℤ, pos, List, [], ◌∷◌, ◌++◌, length, min, Option, Some, None}
 use Rattle.yaml_text.specs.declared.types.yaml_mark_t.{yaml_mark_t}
+use Rattle.yaml_text.specs.declared.types.yaml_scalar_style_t.{yaml_scalar_style_t}
+use Rattle.yaml_text.specs.declared.types.yaml_scalar_style_t.TheVariants.{
+  YAML_PLAIN_SCALAR_STYLE,
+  YAML_SINGLE_QUOTED_SCALAR_STYLE,
+  YAML_DOUBLE_QUOTED_SCALAR_STYLE,
+}
 use Rattle.yaml_text.specs.Token.{Token, TokenData, type_of}
 use Rattle.yaml_text.specs.Token.TokenData.{STREAM_START, VERSION_DIRECTIVE, TAG_DIRECTIVE, ALIAS, ANCHOR, TAG, SCALAR}
 use Rattle.yaml_text.specs.Types.{token_type_number, scalar_style_number, encoding_number}
+use Rattle.yaml_c.specs.Spelled.{Spelled, place_of}
 use Rattle.yaml_c.specs.declared.record.bogzhami_mark.{bogzhami_mark}
 use Rattle.yaml_c.specs.declared.record.bogzhami_token.{bogzhami_token}
 
@@ -50,9 +57,27 @@ minor_of _ = pos 0
 abbrev pub texts_of : Token → List ℕ
 texts_of t = first_text t.token_data ++ second_text t.token_data
 
--- the record of a token whose texts begin at a place
-abbrev pub record_of : ℕ → Token → bogzhami_token
-record_of at t = record {
+-- how many bytes a scalar has before its value, if it may stand in the input as it is: a quote, or nothing
+abbrev pub quote_len : yaml_scalar_style_t → Option ℕ
+quote_len YAML_PLAIN_SCALAR_STYLE = Some 0
+quote_len YAML_SINGLE_QUOTED_SCALAR_STYLE = Some 1
+quote_len YAML_DOUBLE_QUOTED_SCALAR_STYLE = Some 1
+quote_len _ = None
+
+-- how many bytes a token has before its value, if it may stand in the input as it is: a quote, `*`, `&`, or nothing
+abbrev pub sign_len : TokenData → Option ℕ
+sign_len (ALIAS value) = Some 1
+sign_len (ANCHOR value) = Some 1
+sign_len (SCALAR value style) = quote_len style
+sign_len _ = None
+
+-- where a token's value stands in the input as it is
+abbrev pub input_at : Spelled → Token → ℕ
+input_at s t = place_of s (first_text t.token_data) t.start_mark.index (sign_len t.token_data)
+
+-- the record of a token of an input, whose texts begin at a place
+abbrev pub record_of : Spelled → ℕ → Token → bogzhami_token
+record_of s at t = record {
   token_type = token_type_number (type_of t.token_data);
   detail = detail_of t.token_data;
   major = major_of t.token_data;
@@ -62,12 +87,13 @@ record_of at t = record {
   second_len = length (second_text t.token_data);
   start_mark = mark_of t.start_mark;
   end_mark = mark_of t.end_mark;
+  input_at = input_at s t;
 }
 
--- the records of tokens whose texts follow one another, from a place on
-abbrev pub records_of : ℕ → List Token → List bogzhami_token
-records_of at [] = []
-records_of at (t ∷ ts) = record_of at t ∷ records_of (at + length (texts_of t)) ts
+-- the records of tokens of an input, whose texts follow one another from a place on
+abbrev pub records_of : Spelled → ℕ → List Token → List bogzhami_token
+records_of s at [] = []
+records_of s at (t ∷ ts) = record_of s at t ∷ records_of s (at + length (texts_of t)) ts
 
 -- the texts of tokens, one after the other
 abbrev pub all_texts : List Token → List ℕ

@@ -4,3 +4,4 @@ pub mod Sink
 pub mod Batch
 pub mod MorePut
 pub mod Bare
+pub mod Spelled

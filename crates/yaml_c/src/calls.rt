@@ -17,6 +17,7 @@ use crate::held::{look_ahead, next_batch, nothing_held, open, show};
 use crate::numbers::encoding_of;
 use crate::record::{bogzhami_mark, bogzhami_token, mark_of};
 use crate::sink::token_rooms_t;
+use crate::spelled::spelled_t;
 use crate::status::{DONE, NO_MEMORY, NOT_LIVE, WRONG};
 use std::alloc::Global;
 
@@ -107,21 +108,19 @@ pub extern "C" fn bogzhami_next(
         return NOT_LIVE;
     }
     let mut held = into_box(alloc, held);
+    let mut spare = Vec::new(alloc);
     let mut rooms = token_rooms_t {
         tokens,
         texts,
+        spelled: spelled_t {
+            input,
+            skipped: held.skipped,
+        },
         token_count: 0,
         text_len: 0,
-        spare: Vec::new(alloc),
+        spare: &mut spare,
     };
     let (told, status) = next_batch(&mut held, input, &mut rooms);
-    let token_rooms_t {
-        tokens: _tokens,
-        texts: _texts,
-        token_count: _,
-        text_len: _,
-        spare: _spare,
-    } = rooms;
     *handle = handle_of(held);
     *answer = told;
     status
@@ -151,7 +150,11 @@ pub extern "C" fn bogzhami_peek(
     }
     let mut held = into_box(alloc, held);
     let seen = look_ahead(alloc, std::mem::replace(&mut *held, nothing_held()), input);
-    let (told, status) = show(&seen.ahead, token, texts);
+    let spelled = spelled_t {
+        input,
+        skipped: seen.skipped,
+    };
+    let (told, status) = show(spelled, &seen.ahead, token, texts);
     *held = seen;
     *handle = handle_of(held);
     *answer = told;

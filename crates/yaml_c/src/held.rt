@@ -14,12 +14,14 @@ ghost use Rattle.yaml_scan.specs.Parser.{Parser};
 ghost use Rattle.yaml_c.specs.Answer.{most_key_limit};
 ghost use Rattle.yaml_scan.specs.inside.Kept.{IsKept};
 ghost use Rattle.yaml_c.specs.inside.Sink.{IsPut};
+ghost use Rattle.yaml_c.specs.inside.Spelled.{spelled_of};
 
 use crate::answer::{bogzhami_answer, counts, counts_and_fault, fault_len, put_fault_texts};
 use crate::numbers::encoding_number;
 use crate::record::{bogzhami_token, first_text, record_of, second_text};
 use crate::room::put_bytes;
 use crate::sink::{texts_len, token_rooms_t};
+use crate::spelled::{skipped_of, spelled_t};
 use crate::status::{DONE, FAULT, NO_ROOM, OVER};
 use std::alloc::{AllocError, Global};
 use yaml_scan::{
@@ -40,12 +42,14 @@ pub enum ahead_t {
     OVER,
 }
 
-/// What is held: a parser without its input, what was read ahead, and the number of the input's encoding.
+/// What is held: a parser without its input, what was read ahead, the number of the input's encoding, and how many
+/// bytes come before its text, unless that is in UTF-16.
 #[derive(Drop)]
 pub struct held_t {
     pub parser: Option<yaml_kept_parser_t>,
     pub ahead: ahead_t,
     pub encoding: u32,
+    pub skipped: Option<u64>,
 }
 
 /// Reads what comes next, if it was not read ahead.
@@ -186,6 +190,7 @@ pub(crate) fn nothing_held() -> held_t {
         parser: None,
         ahead: ahead_t::OVER,
         encoding: 0,
+        skipped: None,
     }
 }
 
@@ -226,6 +231,8 @@ pub(crate) fn next_batch(
     rooms: &mut token_rooms_t,
 ) -> (bogzhami_answer, u32)
     requires at { (s : Scan) × (s.input ≡ input.now) × IsAt s held.old }
+    requires input { rooms.old.spelled.input.now ≡ input.now }
+    requires skipped { rooms.old.spelled.skipped ≡ held.old.skipped }
     requires none { rooms.old.token_count ≡ 0 }
     requires no_text { rooms.old.text_len ≡ 0 }
     ensures same_tokens { rooms.new.tokens.ghost_name ≡ rooms.old.tokens.ghost_name }
@@ -281,6 +288,7 @@ pub(crate) fn open(
         parser: Some(yaml_kept_parser_t::new(parser)),
         ahead: ahead_t::NONE,
         encoding,
+        skipped: skipped_of(setting, input),
     };
     match Box::new(alloc, held) {
         Ok(held) => Ok(held),
@@ -299,6 +307,7 @@ pub(crate) fn look_ahead(alloc: Global, held: held_t, input: &[u8]) -> held_t
         parser,
         ahead,
         encoding,
+        skipped,
     } = held;
     match ahead {
         ahead_t::NONE => {
@@ -312,24 +321,27 @@ pub(crate) fn look_ahead(alloc: Global, held: held_t, input: &[u8]) -> held_t
                 parser: Some(kept),
                 ahead,
                 encoding,
+                skipped,
             }
         }
         ahead => held_t {
             parser,
             ahead,
             encoding,
+            skipped,
         },
     }
 }
 
 /// Shows what comes next, if its texts find room. Returns the answer and the status.
 pub(crate) fn show(
+    spelled: spelled_t,
     ahead: &ahead_t,
     token: &mut bogzhami_token,
     texts: &mut [u8],
 ) -> (bogzhami_answer, u32)
     requires { ahead_of ahead.now ≢ NONE }
-    ensures { Shows (ahead_of ahead.now) token.old texts.old token.new texts.new result.0 result.1 }
+    ensures { Shows (spelled_of spelled.entry) (ahead_of ahead.now) token.old texts.old token.new texts.new result.0 result.1 }
 {
     let need = need(ahead);
     if need > texts.len() as u64 {
@@ -338,7 +350,7 @@ pub(crate) fn show(
     match ahead {
         ahead_t::TOKEN(shown) => {
             let first = first_text(&shown.token_data);
-            *token = record_of(0, shown);
+            *token = record_of(spelled, 0, shown);
             put_bytes(texts, 0, first);
             put_bytes(texts, first.len() as u64, second_text(&shown.token_data));
             (counts(1, need), DONE)

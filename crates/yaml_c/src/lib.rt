@@ -3,7 +3,9 @@
 
 ghost use Rattle.std.specs.Prelude.{◌≡◌, ◌≤◌};
 ghost use Rattle.yaml_c.specs.Answer.{IsScanned, RefusesWrong, ScansRight, most_key_limit, rooms};
+ghost use Rattle.yaml_c.specs.Spelled.{spelled_in};
 ghost use Rattle.yaml_c.specs.inside.Batch.{rooms_of};
+ghost use Rattle.yaml_c.specs.inside.Spelled.{spelled_of};
 
 mod answer;
 mod calls;
@@ -14,6 +16,7 @@ mod numbers;
 mod record;
 mod room;
 mod sink;
+mod spelled;
 mod status;
 #[cfg(test)]
 mod tests;
@@ -22,6 +25,7 @@ use crate::answer::{counts, counts_and_fault};
 use crate::calls::MOST_KEY_LIMIT;
 use crate::numbers::encoding_of;
 use crate::sink::token_rooms_t;
+use crate::spelled::{skipped_of, spelled_t};
 use crate::status::{DONE, FAULT, WRONG};
 pub use answer::bogzhami_answer;
 pub use calls::{
@@ -42,6 +46,7 @@ fn scan(
 ) -> (bogzhami_answer, u32)
     requires least { 1 ≤ limit }
     requires most { limit ≤ most_key_limit }
+    requires spelled { spelled_of rooms.old.spelled ≡ spelled_in setting input.now }
     requires none { rooms.old.token_count ≡ 0 }
     requires no_text { rooms.old.text_len ≡ 0 }
     ensures scanned { IsScanned setting limit input.now (rooms_of rooms.old) (rooms_of rooms.new) result.0 result.1 }
@@ -94,21 +99,19 @@ pub extern "C" fn bogzhami_scan_all(
     if limit < 1 || limit > MOST_KEY_LIMIT {
         return WRONG;
     }
+    let mut spare = Vec::new(alloc);
     let mut rooms = token_rooms_t {
         tokens,
         texts,
+        spelled: spelled_t {
+            input,
+            skipped: skipped_of(encoding, input),
+        },
         token_count: 0,
         text_len: 0,
-        spare: Vec::new(alloc),
+        spare: &mut spare,
     };
     let (told, status) = scan(input, encoding, limit, &mut rooms);
-    let token_rooms_t {
-        tokens: _tokens,
-        texts: _texts,
-        token_count: _,
-        text_len: _,
-        spare: _spare,
-    } = rooms;
     *out = told;
     status
 }

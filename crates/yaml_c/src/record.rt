@@ -4,9 +4,12 @@ ghost use Rattle.yaml_text.specs.Token.{data_of, token_of};
 ghost use Rattle.yaml_text.specs.Token.TokenData.{SCALAR};
 ghost use Rattle.yaml_c.specs.Record as records;
 ghost use Rattle.yaml_c.specs.Record.{record_of};
+ghost use Rattle.yaml_c.specs.Spelled.{Spelled};
 ghost use Rattle.yaml_c.specs.inside.Bare.{IsBare, with_marks};
+ghost use Rattle.yaml_c.specs.inside.Spelled.{spelled_of};
 
 use crate::numbers::{encoding_number, style_number, type_number};
+use crate::spelled::{NOWHERE, place_of, spelled_t};
 use yaml_scan::{unnamed_yaml_token_t_data, yaml_mark_t, yaml_scalar_style_t, yaml_token_t};
 
 /// A place in a text.
@@ -43,6 +46,9 @@ pub struct bogzhami_token {
     pub start_mark: bogzhami_mark,
     /// Where it ends.
     pub end_mark: bogzhami_mark,
+    /// Where the value of a plain or quoted scalar, an anchor or an alias stands in the input as it is, in bytes from
+    /// 0; otherwise all ones.
+    pub input_at: u64,
 }
 
 /// A mark as a record.
@@ -102,6 +108,63 @@ fn version_of(said: &unnamed_yaml_token_t_data) -> (i32, i32)
     }
 }
 
+/// How many bytes a scalar has before its value, if it may stand in the input as it is: a quote, or nothing.
+#[inline(always)]
+fn quote_len(style: yaml_scalar_style_t) -> Option<u64>
+    ensures { result ≡ records.quote_len style }
+{
+    match style {
+        yaml_scalar_style_t::YAML_PLAIN_SCALAR_STYLE => Some(0),
+        yaml_scalar_style_t::YAML_SINGLE_QUOTED_SCALAR_STYLE
+        | yaml_scalar_style_t::YAML_DOUBLE_QUOTED_SCALAR_STYLE => Some(1),
+        _ => None,
+    }
+}
+
+/// How many bytes a token has before its value, if it may stand in the input as it is: a quote, `*`, `&`, or nothing.
+fn sign_len(said: &unnamed_yaml_token_t_data) -> Option<u64>
+    ensures { result ≡ records.sign_len (data_of said.now) }
+{
+    match said {
+        unnamed_yaml_token_t_data::ALIAS { value: _ }
+        | unnamed_yaml_token_t_data::ANCHOR { value: _ } => Some(1),
+        unnamed_yaml_token_t_data::SCALAR { value: _, style } => quote_len(*style),
+        _ => None,
+    }
+}
+
+/// Where a token's value stands in the input as it is.
+fn input_at(spelled: spelled_t, token: &yaml_token_t) -> u64
+    ensures { result ≡ records.input_at (spelled_of spelled.entry) (token_of token.now) }
+{
+    match sign_len(&token.token_data) {
+        Some(len) => place_of(
+            spelled,
+            first_text(&token.token_data),
+            token.start_mark.index,
+            len,
+        ),
+        None => NOWHERE,
+    }
+}
+
+/// Where a scalar's value stands in the input as it is.
+#[inline(always)]
+fn scalar_at(
+    spelled: spelled_t,
+    token: &yaml_token_t,
+    value: &[u8],
+    style: yaml_scalar_style_t,
+) -> u64
+    requires { (token_of token.now).token_data ≡ SCALAR value.now style }
+    ensures { result ≡ records.input_at (spelled_of spelled.entry) (token_of token.now) }
+{
+    match quote_len(style) {
+        Some(len) => place_of(spelled, value, token.start_mark.index, len),
+        None => NOWHERE,
+    }
+}
+
 /// Whether a token says nothing besides its type. The stream end is left out.
 #[inline(always)]
 pub(crate) fn is_bare(said: &unnamed_yaml_token_t_data) -> bool
@@ -140,6 +203,7 @@ fn with_marks(text_at: u64, token: &yaml_token_t) -> bogzhami_token
         second_len: 0,
         start_mark: mark_of(token.start_mark),
         end_mark: mark_of(token.end_mark),
+        input_at: NOWHERE,
     }
 }
 
@@ -147,32 +211,34 @@ fn with_marks(text_at: u64, token: &yaml_token_t) -> bogzhami_token
 #[inline(always)]
 pub(crate) fn bare_record(text_at: u64, token: &yaml_token_t) -> bogzhami_token
     requires { IsBare (token_of token.now).token_data }
-    ensures { result ≡ record_of text_at (token_of token.now) }
+    ensures { (s : Spelled) → result ≡ record_of s text_at (token_of token.now) }
 {
     with_marks(text_at, token)
 }
 
-/// The record of a scalar whose text begins at a place.
+/// The record of a scalar of an input, whose text begins at a place.
 #[inline(always)]
 pub(crate) fn scalar_record(
+    spelled: spelled_t,
     text_at: u64,
     token: &yaml_token_t,
     value: &[u8],
     style: yaml_scalar_style_t,
 ) -> bogzhami_token
     requires { (token_of token.now).token_data ≡ SCALAR value.now style }
-    ensures { result ≡ record_of text_at (token_of token.now) }
+    ensures { result ≡ record_of (spelled_of spelled.entry) text_at (token_of token.now) }
 {
     bogzhami_token {
         detail: style_number(style),
         first_len: value.len() as u64,
+        input_at: scalar_at(spelled, token, value, style),
         ..with_marks(text_at, token)
     }
 }
 
-/// The record of a token whose texts begin at a place.
-pub(crate) fn record_of(text_at: u64, token: &yaml_token_t) -> bogzhami_token
-    ensures { result ≡ record_of text_at (token_of token.now) }
+/// The record of a token of an input, whose texts begin at a place.
+pub(crate) fn record_of(spelled: spelled_t, text_at: u64, token: &yaml_token_t) -> bogzhami_token
+    ensures { result ≡ record_of (spelled_of spelled.entry) text_at (token_of token.now) }
 {
     let (major, minor) = version_of(&token.token_data);
     bogzhami_token {
@@ -181,6 +247,7 @@ pub(crate) fn record_of(text_at: u64, token: &yaml_token_t) -> bogzhami_token
         minor,
         first_len: first_text(&token.token_data).len() as u64,
         second_len: second_text(&token.token_data).len() as u64,
+        input_at: input_at(spelled, token),
         ..with_marks(text_at, token)
     }
 }

@@ -8,6 +8,7 @@ use crate::record::{
     bare_record, bogzhami_token, first_text, is_bare, record_of, scalar_record, second_text,
 };
 use crate::room::{put_bytes, put_record};
+use crate::spelled::spelled_t;
 use std::alloc::{AllocError, Global};
 use std::mem::replace;
 use yaml_scan::{
@@ -21,12 +22,14 @@ pub(crate) struct token_rooms_t<'a> {
     pub(crate) tokens: &'a mut [bogzhami_token],
     /// The room for texts.
     pub(crate) texts: &'a mut [u8],
+    /// The input whose tokens they are.
+    pub(crate) spelled: spelled_t<'a>,
     /// How many tokens were put.
     pub(crate) token_count: u64,
     /// How many bytes their texts have.
     pub(crate) text_len: u64,
     /// The list of a text that was put, whose room is used again.
-    pub(crate) spare: Vec<u8>,
+    pub(crate) spare: &'a mut Vec<u8>,
 }
 
 /// How many bytes the texts have of what a token says.
@@ -65,6 +68,7 @@ impl<'a> token_rooms_t<'a> {
     fn count_token(&mut self, texts_end: u64)
         ensures tokens { self.new.tokens ≡ self.old.tokens }
         ensures texts { self.new.texts ≡ self.old.texts }
+        ensures spelled { self.new.spelled ≡ self.old.spelled }
         ensures token_count { self.new.token_count ≡ held (self.old.token_count + 1) }
         ensures text_len { self.new.text_len ≡ texts_end }
     {
@@ -89,7 +93,7 @@ impl<'a> token_rooms_t<'a> {
         requires { (token_of token.now).token_data ≡ SCALAR value.now style }
         ensures { IsPut self.old (token_of token.now) self.new }
     {
-        let record = scalar_record(self.text_len, token, value, style);
+        let record = scalar_record(self.spelled, self.text_len, token, value, style);
         put_record(self.tokens, self.token_count, record);
         put_bytes(self.texts, self.text_len, value);
         self.count_token(self.text_len.saturating_add(value.len() as u64));
@@ -107,7 +111,7 @@ impl<'a> token_rooms_t<'a> {
         put_record(
             self.tokens,
             self.token_count,
-            record_of(self.text_len, &token),
+            record_of(self.spelled, self.text_len, &token),
         );
         put_bytes(self.texts, self.text_len, first);
         put_bytes(self.texts, second_at, second);
@@ -121,7 +125,7 @@ impl<'a> token_rooms_t<'a> {
     {
         if let unnamed_yaml_token_t_data::SCALAR { value, style: _ } = token.token_data {
             if value.capacity() <= MOST_SPARE {
-                self.spare = value;
+                *self.spare = value;
             }
         }
     }
@@ -182,7 +186,7 @@ impl yaml_token_sink_t for token_rooms_t<'_> {
 
     #[inline(always)]
     fn room(&mut self, alloc: Global) -> Vec<u8> {
-        replace(&mut self.spare, Vec::new(alloc))
+        replace(self.spare, Vec::new(alloc))
     }
 
     #[inline(always)]

@@ -21,6 +21,7 @@ const NO_TOKEN: bogzhami_token = bogzhami_token {
     second_len: 77,
     start_mark: NO_MARK,
     end_mark: NO_MARK,
+    input_at: 77,
 };
 
 const NO_ANSWER: bogzhami_answer = bogzhami_answer {
@@ -60,6 +61,7 @@ fn records_and_texts(rt: HostRuntime) -> Result<(), Fail> {
     assert_eq!(rt; (tag.token_type, tag.detail, tag.major), (20, 0, 0));
     assert_eq!(rt; (tag.text_at, tag.first_len, tag.second_len), (0, 3, 4));
     assert_eq!(rt; (tag.start_mark.index, tag.end_mark.index), (0, 7));
+    assert_eq!(rt; tag.input_at, u64::MAX);
     assert_eq!(rt; (scalar.token_type, scalar.detail), (21, 4));
     assert_eq!(rt; (scalar.text_at, scalar.first_len), (7, 0));
     assert_eq!(rt; (scalar.start_mark.line, scalar.end_mark.line), (1, 2));
@@ -123,6 +125,7 @@ fn is_untouched(token: &bogzhami_token) -> bool {
     (token.token_type, token.detail) == (77, 77)
         && (token.major, token.minor) == (77, 77)
         && (token.text_at, token.first_len, token.second_len) == (77, 77, 77)
+        && token.input_at == 77
         && marks.iter().all(|mark| (mark.index, mark.line, mark.column) == (77, 77, 77))
 }
 
@@ -186,5 +189,65 @@ fn ends_of_the_limits(rt: HostRuntime) -> Result<(), Fail> {
         assert_eq!(rt; token.token_type, 1, "{limit}");
         assert_eq!(rt; texts, *b"a", "{limit}");
     }
+    Ok(())
+}
+
+/// Where the value of the token after the stream start stands in the input.
+fn place(rt: HostRuntime, input: &[u8], setting: u32) -> u64 {
+    let mut tokens = [NO_TOKEN; 2];
+    let mut texts = [77u8; 8];
+    let mut out = NO_ANSWER;
+    let _status = bogzhami_scan_all(
+        rt.alloc(),
+        input,
+        setting,
+        KEY_LIMIT,
+        &mut tokens,
+        &mut texts,
+        &mut out,
+    );
+    tokens[1].input_at
+}
+
+/// A value that the input has as it is stands at its place, after a quote, `*` or `&`.
+#[test]
+fn values_in_the_input(rt: HostRuntime) -> Result<(), Fail> {
+    assert_eq!(rt; place(rt, b"ab", 0), 0);
+    assert_eq!(rt; place(rt, b"# c\n ab # d", 0), 5);
+    assert_eq!(rt; place(rt, b" 'ab'", 0), 2);
+    assert_eq!(rt; place(rt, b" \"ab\"", 0), 2);
+    assert_eq!(rt; place(rt, b"'ab'''", 0), 1);
+    assert_eq!(rt; place(rt, b" ''", 0), 2);
+    assert_eq!(rt; place(rt, b" &ab", 0), 2);
+    assert_eq!(rt; place(rt, b" *ab", 0), 2);
+    Ok(())
+}
+
+/// A value that the input has not as it is stands nowhere, nor do the texts of other tokens.
+#[test]
+fn values_that_are_not_in_the_input(rt: HostRuntime) -> Result<(), Fail> {
+    assert_eq!(rt; place(rt, b"\"a\\tb\"", 0), u64::MAX);
+    assert_eq!(rt; place(rt, b"'a''b'", 0), u64::MAX);
+    assert_eq!(rt; place(rt, b"\"a\n b\"", 0), u64::MAX);
+    assert_eq!(rt; place(rt, b"a\n b", 0), u64::MAX);
+    assert_eq!(rt; place(rt, b"|\n ab", 0), u64::MAX);
+    assert_eq!(rt; place(rt, b">\n ab", 0), u64::MAX);
+    assert_eq!(rt; place(rt, b"!ab", 0), u64::MAX);
+    assert_eq!(rt; place(rt, b"%TAG !a! b\n---", 0), u64::MAX);
+    assert_eq!(rt; place(rt, b"--- a", 0), u64::MAX);
+    Ok(())
+}
+
+/// A byte order mark comes before the text, whether it is dropped or not. In UTF-16 no value stands in the input.
+#[test]
+fn values_in_other_encodings(rt: HostRuntime) -> Result<(), Fail> {
+    assert_eq!(rt; place(rt, b"\xEF\xBB\xBFab", 0), 3);
+    assert_eq!(rt; place(rt, b"\xEF\xBB\xBFab", 1), 3);
+    assert_eq!(rt; place(rt, b"ab", 1), 0);
+    assert_eq!(rt; place(rt, b"\xFF\xFEa\0", 0), u64::MAX);
+    assert_eq!(rt; place(rt, b"\xFE\xFF\0a", 0), u64::MAX);
+    assert_eq!(rt; place(rt, b"\xFF\xFE'\0'\0", 0), u64::MAX);
+    assert_eq!(rt; place(rt, b"a\0", 2), u64::MAX);
+    assert_eq!(rt; place(rt, b"\0a", 3), u64::MAX);
     Ok(())
 }

@@ -20,7 +20,7 @@ returns-in_default-fault c =
     let n = same_names a b g.tokens g.given in
     record {
       scanned = are_scanned c.args.setting c.args.setting c.args.limit c.args.input.now a b None b.tokens.now b.texts.now b.texts.now c.counts.result 0
-          refl fits c.requires.none c.requires.no_text g (λ _. refl) (λ _. refl) (sym (covered_from_by_none b.text_len b.texts.now)) c.counts.ensures refl;
+          refl fits c.requires.spelled c.requires.none c.requires.no_text g (λ _. refl) (λ _. refl) (sym (covered_from_by_none b.text_len b.texts.now)) c.counts.ensures refl;
       same_tokens = n.0;
       same_texts = n.1;
     }
@@ -39,7 +39,7 @@ returns c =
     let n = same_names a b g.tokens g.given in
     record {
       scanned = are_scanned c.args.setting c.args.setting c.args.limit c.args.input.now a b (Some f) d.tokens.now d.texts.now d.texts.now c.counts_and_fault.result 1
-          refl fits c.requires.none c.requires.no_text g (λ _. ap (λ z. z.now) p.tokens) (λ _. refl) p.texts (rw (← p.token_count, ← p.text_len) c.counts_and_fault.ensures) refl;
+          refl fits c.requires.spelled c.requires.none c.requires.no_text g (λ _. ap (λ z. z.now) p.tokens) (λ _. refl) p.texts (rw (← p.token_count, ← p.text_len) c.counts_and_fault.ensures) refl;
       same_tokens = ap (λ z. z.ghost_name) p.tokens ∙ n.0;
       same_texts = p.same_texts ∙ n.1;
     }

@@ -1,18 +1,20 @@
 -- Tokens that say nothing besides their type.
-use Rattle.std.specs.Prelude.{◌≡◌, ℕ, [], pos, false}
+use Rattle.std.specs.Prelude.{◌≡◌, ℕ, [], pos, false, None}
 use Rattle.yaml_text.specs.Token.{Token, TokenData, type_of}
 use Rattle.yaml_text.specs.Types.{token_type_number}
 use Rattle.yaml_scan.specs.TokenTypes.{is_last_type}
-use Rattle.yaml_c.specs.Record.{detail_of, first_text, held, major_of, mark_of, minor_of, second_text}
+use Rattle.yaml_c.specs.Record.{detail_of, first_text, held, major_of, mark_of, minor_of, second_text, sign_len}
+use Rattle.yaml_c.specs.Spelled.{nowhere}
 use Rattle.yaml_c.specs.declared.record.bogzhami_token.{bogzhami_token}
 
--- Its record has zeros, and it has no texts. It is not the stream end.
+-- Its record has zeros and no place in the input, and it has no texts. It is not the stream end.
 pub record IsBare (d : TokenData) : Type 0 where
   pub first : first_text d ≡ []
   pub second : second_text d ≡ []
   pub detail : detail_of d ≡ 0
   pub major : major_of d ≡ pos 0
   pub minor : minor_of d ≡ pos 0
+  pub no_value : sign_len d ≡ None
   pub goes_on : is_last_type (type_of d) ≡ false
 
 -- a record of the type and the marks of a token, and of nothing else that it says
@@ -27,4 +29,5 @@ with_marks at t = record {
   second_len = 0;
   start_mark = mark_of t.start_mark;
   end_mark = mark_of t.end_mark;
+  input_at = nowhere;
 }

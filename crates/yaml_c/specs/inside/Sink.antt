@@ -3,6 +3,7 @@ use Rattle.std.specs.Prelude.{◌≡◌, ◌+◌, ◌≤◌, [], ◌∷◌, List
 use Rattle.yaml_text.specs.Token.{Token}
 use Rattle.yaml_c.specs.Room.{covered_from}
 use Rattle.yaml_c.specs.Record.{held, record_of, texts_of}
+use Rattle.yaml_c.specs.inside.Spelled.{spelled_of}
 use Rattle.yaml_c.specs.declared.sink.token_rooms_t.{token_rooms_t}
 
 -- A token is put after what was put before: its record into the one room, its texts into the other, and both are
@@ -10,15 +11,18 @@ use Rattle.yaml_c.specs.declared.sink.token_rooms_t.{token_rooms_t}
 pub record IsPut (a : token_rooms_t) (token : Token) (b : token_rooms_t) : Type 0 where
   pub same_tokens : b.tokens.ghost_name ≡ a.tokens.ghost_name
   pub same_texts : b.texts.ghost_name ≡ a.texts.ghost_name
+  pub spelled : b.spelled ≡ a.spelled
   pub token_count : b.token_count ≡ held (a.token_count + 1)
   pub text_len : b.text_len ≡ held (a.text_len + length (texts_of token))
-  pub records : b.tokens.now ≡ covered_from a.token_count (record_of a.text_len token ∷ []) a.tokens.now
+  pub records : b.tokens.now ≡ covered_from a.token_count
+      (record_of (spelled_of a.spelled) a.text_len token ∷ []) a.tokens.now
   pub texts : b.texts.now ≡ covered_from a.text_len (texts_of token) a.texts.now
 
 -- nothing is put, but the spare list may be another
 pub record IsBeside (a b : token_rooms_t) : Type 0 where
   pub tokens : b.tokens ≡ a.tokens
   pub texts : b.texts ≡ a.texts
+  pub spelled : b.spelled ≡ a.spelled
   pub token_count : b.token_count ≡ a.token_count
   pub text_len : b.text_len ≡ a.text_len
 

@@ -27,7 +27,7 @@ use Rattle.yaml_c.proofs.handle.nowhere.Statement.{statement}
 use Rattle.yaml_c.proofs.handle.nowhere.Code as code
 
 nobody : held
-nobody = record { parser = None; ahead = NONE; encoding = 0 }
+nobody = record { parser = None; ahead = NONE; encoding = 0; skipped = None }
 
 pub nowhere_spec : {M : Type 1} → statement M
 nowhere_spec {M} 𝓤 𝓛 𝓜 𝓡 wired =

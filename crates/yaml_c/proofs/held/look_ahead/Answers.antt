@@ -11,5 +11,6 @@ returns-in_default-clause-at c = λ s same at. (
     ahead = refl;
     stands = subst (λ (z : Ahead). Stands s.limit s.setting s.input s.parser s.given z) (sym at.ahead) at.stands;
     encoding = at.encoding;
+    skipped = at.skipped;
   },
 )

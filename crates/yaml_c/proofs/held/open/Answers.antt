@@ -15,4 +15,5 @@ returns-in-Ok c =
       ahead = refl;
       stands = has_begun s.limit s.setting s.input s.parser refl refl refl refl;
       encoding = c.encoding_number-encoding.ensures ∙ ap encoding_number c.in_ok-found_encoding.ensures;
+      skipped = c.skipped_of.ensures;
     })
