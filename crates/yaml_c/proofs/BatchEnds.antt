@@ -54,10 +54,9 @@ nothing_given s old h answer code at over tells = record {
 }
 
 -- the input that the rooms know is that of the scanner
-pub spelled_is : (s : Scan) (spelled : spelled_t) (h : held_t) (input : List ℕ) → s.input ≡ input → IsAt s h
-    → spelled.input.now ≡ input → spelled.skipped ≡ h.skipped → spelled_of spelled ≡ spelled_in s.setting s.input
-spelled_is s spelled h input same at is_input is_skipped =
-    λ i. record { input = (is_input ∙ sym same) i; skipped = (is_skipped ∙ at.skipped) i }
+pub spelled_is : (s : Scan) (spelled : spelled_t) (h : held_t) → s.input ≡ spelled.input.now → IsAt s h
+    → spelled.skipped ≡ h.skipped → spelled_of spelled ≡ spelled_in s.setting s.input
+spelled_is s spelled h same at is = λ i. record { input = sym same i; skipped = (is ∙ at.skipped) i }
 
 -- what the code has read ahead is all, if it is so as the definitions see it
 pub over_is : (a : ahead_t) → ahead_of a ≡ OVER → a ≡ code.OVER
@@ -85,7 +84,8 @@ too_long records bytes [] OVER tight none some stops = absurd (omega arith)
 
 -- what a call leaves that read on
 module _ (s : Scan) (old mid : token_rooms_t) (kept : Option yaml_kept_parser_t) (a : Ahead) (h : held_t) (fits : Fits old) (no_token : old.token_count ≡ 0) (no_text : old.text_len ≡ 0)
-    (some : 0 < length old.tokens.now) (more : s.ahead ≡ OVER → ⊥) (r : ReadsOn s old mid kept a) (keeps : h.parser ≡ kept) (encoding : h.encoding ≡ encoding_number (encoding_of s.setting s.input))
+    (some : 0 < length old.tokens.now) (more : s.ahead ≡ OVER → ⊥) (r : ReadsOn s old mid kept a) (keeps : h.parser ≡ kept)
+    (encoding : h.encoding ≡ encoding_number (encoding_of s.setting s.input))
     (skipped : h.skipped ≡ skipped_of s.setting s.input) (spelled : spelled_of old.spelled ≡ spelled_in s.setting s.input) where
   put : HavePut old r.gives.list mid
   put = have_put old mid r.gives.list fits r.gives.put
@@ -101,7 +101,8 @@ module _ (s : Scan) (old mid : token_rooms_t) (kept : Option yaml_kept_parser_t)
 
   records : mid.tokens.now ≡ covered (records_of (spelled_in s.setting s.input) 0 r.gives.list) old.tokens.now
   records = put.records
-      ∙ ap (λ (n : ℕ). covered_from n (records_of (spelled_of old.spelled) old.text_len r.gives.list) old.tokens.now) no_token
+      ∙ ap (λ (n : ℕ). covered_from n (records_of (spelled_of old.spelled) old.text_len r.gives.list) old.tokens.now)
+      no_token
       ∙ ap (λ (n : ℕ). covered_from 0 (records_of (spelled_of old.spelled) n r.gives.list) old.tokens.now) no_text
       ∙ ap (λ (z : Spelled). covered_from 0 (records_of z 0 r.gives.list) old.tokens.now) spelled
 
@@ -127,7 +128,13 @@ module _ (s : Scan) (old mid : token_rooms_t) (kept : Option yaml_kept_parser_t)
         list = r.gives.list;
         fault = Some f;
         after = OVER;
-        at = record { kept = keeps_it; ahead = is ∙ g.after; stands = (Some f, reads); encoding = encoding; skipped = skipped };
+        at = record {
+          kept = keeps_it;
+          ahead = is ∙ g.after;
+          stands = (Some f, reads);
+          encoding = encoding;
+          skipped = skipped;
+        };
         few = r.gives.few;
         fit = omega (arith, length-append (all_texts r.gives.list) ft, g.fits, long, size);
         records_are = ap (λ (z : MutBor (List bogzhami_token)). z.now) g.tokens ∙ records;
@@ -153,7 +160,13 @@ module _ (s : Scan) (old mid : token_rooms_t) (kept : Option yaml_kept_parser_t)
         list = r.gives.list;
         fault = None;
         after = a;
-        at = record { kept = keeps_it; ahead = is ∙ same; stands = r.gives.stands; encoding = encoding; skipped = skipped };
+        at = record {
+          kept = keeps_it;
+          ahead = is ∙ same;
+          stands = r.gives.stands;
+          encoding = encoding;
+          skipped = skipped;
+        };
         few = r.gives.few;
         fit = omega (arith, ap length (append-nil (all_texts r.gives.list)), r.gives.fit);
         records_are = records;

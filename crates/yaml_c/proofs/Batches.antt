@@ -61,7 +61,8 @@ pub keeps_more : (old new next : token_rooms_t) (t : Token) → KeepsSizes old n
     → new.token_count < length new.tokens.now → new.text_len + length (texts_of t) ≤ length new.texts.now
     → length new.tokens.now < 2 ^ 63 → length new.texts.now < 2 ^ 63 → KeepsSizes old next
 keeps_more old new next t k put one fits few short =
-    let one_size : length next.tokens.now ≡ length new.tokens.now = ap length put.records ∙ length-covered_from new.token_count (record_of (spelled_of new.spelled) new.text_len t ∷ []) new.tokens.now in
+    let one_size : length next.tokens.now ≡ length new.tokens.now = ap length put.records
+    ∙ length-covered_from new.token_count (record_of (spelled_of new.spelled) new.text_len t ∷ []) new.tokens.now in
     let two_size : length next.texts.now ≡ length new.texts.now = ap length put.texts ∙ length-covered_from new.text_len (texts_of t) new.texts.now in
     record {
       tokens = one_size ∙ k.tokens;
@@ -74,7 +75,8 @@ keeps_more old new next t k put one fits few short =
 pub fewer_records : (new next : token_rooms_t) (t : Token) → IsPut new t next → new.token_count < length new.tokens.now → length new.tokens.now < 2 ^ 63
     → length next.tokens.now - next.token_count < length new.tokens.now - new.token_count
 fewer_records new next t put one few =
-    let one_size : length next.tokens.now ≡ length new.tokens.now = ap length put.records ∙ length-covered_from new.token_count (record_of (spelled_of new.spelled) new.text_len t ∷ []) new.tokens.now in
+    let one_size : length next.tokens.now ≡ length new.tokens.now = ap length put.records
+    ∙ length-covered_from new.token_count (record_of (spelled_of new.spelled) new.text_len t ∷ []) new.tokens.now in
     omega (arith, put.token_count, one_size)
 
 module _ (limit : ℕ) (setting : yaml_encoding_t) (input : List ℕ) (given : List Token) (old : token_rooms_t) (p : Parser) (new : token_rooms_t) (a : Ahead) (g : GoesOn limit setting input given old p new a) where

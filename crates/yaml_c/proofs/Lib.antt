@@ -3,3 +3,4 @@ pub mod Rooms
 pub mod Scanned
 pub mod Batches
 pub mod BatchEnds
+pub mod SameEnds

@@ -10,11 +10,17 @@ use Rattle.yaml_c.specs.declared.sink.token_rooms_t.{token_rooms_t}
 use Rattle.yaml_c.specs.Answer.{IsScanned, answer_with, fault_texts, status_of}
 use Rattle.yaml_c.specs.Record.{held, records_of, all_texts}
 use Rattle.yaml_c.specs.Room.{covered_from}
-use Rattle.yaml_c.specs.Spelled.{Spelled, spelled_in}
+use Rattle.yaml_c.specs.Spelled.{Spelled, skipped_of, spelled_in}
+use Rattle.yaml_c.specs.declared.spelled.spelled_t.{spelled_t}
 use Rattle.yaml_c.specs.inside.Sink.{ArePut}
 use Rattle.yaml_c.specs.inside.Spelled.{spelled_of}
 use Rattle.yaml_c.proofs.TokensPut.{Fits, have_put}
 use Rattle.yaml_c.proofs.Rooms.{covered_held, length-covered_from, more_covered_from}
+
+-- what the code knows of an input, if it skips what comes before the text
+pub is_spelled : (s : spelled_t) (setting : yaml_encoding_t) → s.skipped ≡ skipped_of setting s.input.now
+    → spelled_of s ≡ spelled_in setting s.input.now
+is_spelled s setting e = ap (λ (z : Option ℕ). record { input = s.input.now; skipped = z }) e
 
 -- rooms, answer and status of a call that scanned
 pub are_scanned : (setting e : yaml_encoding_t) (limit : ℕ) (input : List ℕ)

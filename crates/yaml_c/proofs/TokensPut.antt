@@ -23,7 +23,8 @@ records_of_held s n [] = refl
 records_of_held s n (t ∷ ts) =
     let k = length (texts_of t) in
     let same : held (held n) ≡ held n = omega arith in
-    let here : record_of s (held n) t ≡ record_of s n t = ap (λ (m : ℕ). record (record_of s n t) { text_at = m }) same in
+    let here : record_of s (held n) t ≡ record_of s n t =
+    ap (λ (m : ℕ). record (record_of s n t) { text_at = m }) same in
     let rest : records_of s (held n + k) ts ≡ records_of s (n + k) ts = sym (records_of_held s (held n + k) ts)
     ∙ ap (λ (m : ℕ). records_of s m ts) (held_held n k) ∙ records_of_held s (n + k) ts in
     ap (λ (r : bogzhami_token). r ∷ records_of s (held n + k) ts) here
@@ -43,7 +44,8 @@ pub record HavePut (a : token_rooms_t) (list : List Token) (b : token_rooms_t) :
   pub spelled : b.spelled ≡ a.spelled
   pub token_count : b.token_count ≡ held (a.token_count + length list)
   pub text_len : b.text_len ≡ held (a.text_len + length (all_texts list))
-  pub records : b.tokens.now ≡ covered_from a.token_count (records_of (spelled_of a.spelled) a.text_len list) a.tokens.now
+  pub records : b.tokens.now ≡ covered_from a.token_count
+      (records_of (spelled_of a.spelled) a.text_len list) a.tokens.now
   pub texts : b.texts.now ≡ covered_from a.text_len (all_texts list) a.texts.now
 
 fits_on : (a b : token_rooms_t) (t : Token) → Fits a → IsPut a t b → Fits b
@@ -88,7 +90,8 @@ one_more a m b t ts fits put more =
           (records_of_held s (a.text_len + k) ts)
           ∙ ap (λ (z : List bogzhami_token). covered_from (a.token_count + 1) (records_of s (a.text_len + k) ts) z)
           put.records
-          ∙ more_covered_from a.token_count (record_of s a.text_len t ∷ []) (records_of s (a.text_len + k) ts) a.tokens.now;
+          ∙ more_covered_from a.token_count (record_of s a.text_len t ∷ []) (records_of s (a.text_len + k) ts)
+          a.tokens.now;
       texts = more.texts
           ∙ ap (λ (n : ℕ). covered_from n (all_texts ts) m.texts.now) put.text_len
           ∙ covered_held (a.text_len + k) (all_texts ts) m.texts.now next.texts
@@ -126,7 +129,8 @@ texts_are (t ∷ ts) = let a = said_is t.token_data in let b = texts_are ts in l
 -- the rooms keep their sizes
 pub same_sizes : (a b : token_rooms_t) (list : List Token) → HavePut a list b → (length b.tokens.now ≡ length a.tokens.now) × (length b.texts.now ≡ length a.texts.now)
 same_sizes a b list p = (
-  ap (λ (z : List bogzhami_token). length z) p.records ∙ length-covered_from a.token_count (records_of (spelled_of a.spelled) a.text_len list) a.tokens.now,
+  ap (λ (z : List bogzhami_token). length z) p.records
+      ∙ length-covered_from a.token_count (records_of (spelled_of a.spelled) a.text_len list) a.tokens.now,
   ap (λ (z : List ℕ). length z) p.texts ∙ length-covered_from a.text_len (all_texts list) a.texts.now,
 )
 

@@ -120,7 +120,7 @@ pub extern "C" fn bogzhami_next(
         text_len: 0,
         spare: &mut spare,
     };
-    let (told, status) = next_batch(&mut held, input, &mut rooms);
+    let (told, status) = next_batch(&mut held, &mut rooms);
     *handle = handle_of(held);
     *answer = told;
     status

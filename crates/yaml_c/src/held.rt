@@ -198,16 +198,15 @@ pub(crate) fn nothing_held() -> held_t {
 fn read_on(
     kept: &mut Option<yaml_kept_parser_t>,
     ahead: ahead_t,
-    input: &[u8],
     rooms: &mut token_rooms_t,
 ) -> ahead_t
-    requires at { (s : Scan) × (s.input ≡ input.now) × IsSomeAnd kept.old (IsKept s.parser)
+    requires at { (s : Scan) × (s.input ≡ rooms.old.spelled.input.now) × IsSomeAnd kept.old (IsKept s.parser)
         × Stands s.limit s.setting s.input s.parser s.given (ahead_of ahead) }
     requires more { ahead_of ahead ≢ ALL_GIVEN }
     requires none { rooms.old.token_count ≡ 0 }
     requires no_text { rooms.old.text_len ≡ 0 }
     requires some { 0 < length rooms.old.tokens.now }
-    ensures { (s : Scan) → s.input ≡ input.now → IsSomeAnd kept.old (IsKept s.parser)
+    ensures { (s : Scan) → s.input ≡ rooms.old.spelled.input.now → IsSomeAnd kept.old (IsKept s.parser)
         → Stands s.limit s.setting s.input s.parser s.given (ahead_of ahead)
         → ReadsOn s rooms.old rooms.new kept.new (ahead_of result) }
 {
@@ -218,26 +217,21 @@ fn read_on(
         unreachable!();
     };
     let alloc = *rooms.spare.allocator();
-    let mut parser = held.take(alloc, input);
+    let mut parser = held.take(alloc, rooms.spelled.input);
     let ahead = give(&mut parser, ahead, rooms);
     held.keep(parser);
     ahead
 }
 
 /// Gives the next tokens, whole ones, and perhaps the fault after them. Returns the answer and the status.
-pub(crate) fn next_batch(
-    held: &mut held_t,
-    input: &[u8],
-    rooms: &mut token_rooms_t,
-) -> (bogzhami_answer, u32)
-    requires at { (s : Scan) × (s.input ≡ input.now) × IsAt s held.old }
-    requires input { rooms.old.spelled.input.now ≡ input.now }
+pub(crate) fn next_batch(held: &mut held_t, rooms: &mut token_rooms_t) -> (bogzhami_answer, u32)
+    requires at { (s : Scan) × (s.input ≡ rooms.old.spelled.input.now) × IsAt s held.old }
     requires skipped { rooms.old.spelled.skipped ≡ held.old.skipped }
     requires none { rooms.old.token_count ≡ 0 }
     requires no_text { rooms.old.text_len ≡ 0 }
     ensures same_tokens { rooms.new.tokens.ghost_name ≡ rooms.old.tokens.ghost_name }
     ensures same_texts { rooms.new.texts.ghost_name ≡ rooms.old.texts.ghost_name }
-    ensures next { (s : Scan) → s.input ≡ input.now → IsAt s held.old
+    ensures next { (s : Scan) → s.input ≡ rooms.old.spelled.input.now → IsAt s held.old
         → IsNext s (rooms_of rooms.old) (rooms_of rooms.new) held.new result.0 result.1 }
 {
     if let ahead_t::OVER = held.ahead {
@@ -247,7 +241,7 @@ pub(crate) fn next_batch(
         return (counts(0, 0), DONE);
     }
     let ahead = std::mem::replace(&mut held.ahead, ahead_t::OVER);
-    let ahead = read_on(&mut held.parser, ahead, input, rooms);
+    let ahead = read_on(&mut held.parser, ahead, rooms);
     let (ahead, answer, status) = end_batch(rooms, ahead);
     held.ahead = ahead;
     (answer, status)
@@ -341,7 +335,8 @@ pub(crate) fn show(
     texts: &mut [u8],
 ) -> (bogzhami_answer, u32)
     requires { ahead_of ahead.now ≢ NONE }
-    ensures { Shows (spelled_of spelled.entry) (ahead_of ahead.now) token.old texts.old token.new texts.new result.0 result.1 }
+    ensures { Shows (spelled_of spelled.entry) (ahead_of ahead.now)
+        token.old texts.old token.new texts.new result.0 result.1 }
 {
     let need = need(ahead);
     if need > texts.len() as u64 {

@@ -3,9 +3,8 @@
 
 ghost use Rattle.std.specs.Prelude.{◌≡◌, ◌≤◌};
 ghost use Rattle.yaml_c.specs.Answer.{IsScanned, RefusesWrong, ScansRight, most_key_limit, rooms};
-ghost use Rattle.yaml_c.specs.Spelled.{spelled_in};
+ghost use Rattle.yaml_c.specs.Spelled.{skipped_of};
 ghost use Rattle.yaml_c.specs.inside.Batch.{rooms_of};
-ghost use Rattle.yaml_c.specs.inside.Spelled.{spelled_of};
 
 mod answer;
 mod calls;
@@ -36,25 +35,21 @@ pub use record::{bogzhami_mark, bogzhami_token};
 use std::alloc::Global;
 use yaml_scan::{yaml_encoding_t, yaml_scan_to};
 
-/// Puts all tokens of an input into two rooms, in which there are none, and the texts of the fault after them. Returns
-/// the answer and the status.
-fn scan(
-    input: &[u8],
-    setting: yaml_encoding_t,
-    limit: u32,
-    rooms: &mut token_rooms_t,
-) -> (bogzhami_answer, u32)
+/// Puts all tokens of the input of two rooms into them, where there are none, and the texts of the fault after them.
+/// Returns the answer and the status.
+fn scan(setting: yaml_encoding_t, limit: u32, rooms: &mut token_rooms_t) -> (bogzhami_answer, u32)
     requires least { 1 ≤ limit }
     requires most { limit ≤ most_key_limit }
-    requires spelled { spelled_of rooms.old.spelled ≡ spelled_in setting input.now }
+    requires skipped { rooms.old.spelled.skipped ≡ skipped_of setting rooms.old.spelled.input.now }
     requires none { rooms.old.token_count ≡ 0 }
     requires no_text { rooms.old.text_len ≡ 0 }
-    ensures scanned { IsScanned setting limit input.now (rooms_of rooms.old) (rooms_of rooms.new) result.0 result.1 }
+    ensures scanned { IsScanned setting limit rooms.old.spelled.input.now
+        (rooms_of rooms.old) (rooms_of rooms.new) result.0 result.1 }
     ensures same_tokens { rooms.new.tokens.ghost_name ≡ rooms.old.tokens.ghost_name }
     ensures same_texts { rooms.new.texts.ghost_name ≡ rooms.old.texts.ghost_name }
 {
     let alloc = *rooms.spare.allocator();
-    let Ok(fault) = yaml_scan_to(alloc, input, setting, limit, rooms) else {
+    let Ok(fault) = yaml_scan_to(alloc, rooms.spelled.input, setting, limit, rooms) else {
         unreachable!();
     };
     let Some(fault) = fault else {
@@ -111,7 +106,7 @@ pub extern "C" fn bogzhami_scan_all(
         text_len: 0,
         spare: &mut spare,
     };
-    let (told, status) = scan(input, encoding, limit, &mut rooms);
+    let (told, status) = scan(encoding, limit, &mut rooms);
     *out = told;
     status
 }

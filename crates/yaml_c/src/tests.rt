@@ -212,7 +212,11 @@ fn place(rt: HostRuntime, input: &[u8], setting: u32) -> u64 {
 /// A value that the input has as it is stands at its place, after a quote, `*` or `&`.
 #[test]
 fn values_in_the_input(rt: HostRuntime) -> Result<(), Fail> {
+    assert_eq!(rt; place(rt, b"a", 0), 0);
     assert_eq!(rt; place(rt, b"ab", 0), 0);
+    assert_eq!(rt; place(rt, b" abcde", 0), 1);
+    assert_eq!(rt; place(rt, b" abcdefghi", 0), 1);
+    assert_eq!(rt; place(rt, b" abcdefghijklmnopq", 0), 1);
     assert_eq!(rt; place(rt, b"# c\n ab # d", 0), 5);
     assert_eq!(rt; place(rt, b" 'ab'", 0), 2);
     assert_eq!(rt; place(rt, b" \"ab\"", 0), 2);
@@ -230,6 +234,9 @@ fn values_that_are_not_in_the_input(rt: HostRuntime) -> Result<(), Fail> {
     assert_eq!(rt; place(rt, b"'a''b'", 0), u64::MAX);
     assert_eq!(rt; place(rt, b"\"a\n b\"", 0), u64::MAX);
     assert_eq!(rt; place(rt, b"a\n b", 0), u64::MAX);
+    assert_eq!(rt; place(rt, b"a\n bcdefgh", 0), u64::MAX);
+    assert_eq!(rt; place(rt, b"abcde\n fgh", 0), u64::MAX);
+    assert_eq!(rt; place(rt, b"abcdefghijklmn\n opq", 0), u64::MAX);
     assert_eq!(rt; place(rt, b"|\n ab", 0), u64::MAX);
     assert_eq!(rt; place(rt, b">\n ab", 0), u64::MAX);
     assert_eq!(rt; place(rt, b"!ab", 0), u64::MAX);

@@ -19,7 +19,8 @@ returns-clause-next c = λ s same at.
     let fits : Fits c.args.rooms.now = record { tokens = search rules; texts = search rules; token_count = omega (arith, c.requires.none); text_len = omega (arith, c.requires.no_text) } in
     let r = c.read_on-ahead.ensures s same at.kept (subst (λ (z : Ahead). Stands s.limit s.setting s.input s.parser s.given z) (sym (ap ahead_of c.replace-ahead.ensures.value ∙ at.ahead)) at.stands) in
     batch_is s c.args.rooms.now c.read_on-ahead.new.rooms c.read_on-ahead.new.kept (ahead_of c.read_on-ahead.result) _ fits c.requires.none c.requires.no_text some (λ e. c.in_default.not-OVER (over_is _ (at.ahead ∙ e)))
-    r refl at.encoding at.skipped (spelled_is s c.args.rooms.now.spelled c.args.held.now c.args.input.now same at c.requires.input c.requires.skipped) c.end_batch-ahead.new.rooms (ahead_of c.end_batch-ahead.result.0) _ _ refl c.end_batch-ahead.ensures
+    r refl at.encoding at.skipped (spelled_is s c.args.rooms.now.spelled c.args.held.now same at c.requires.skipped)
+    c.end_batch-ahead.new.rooms (ahead_of c.end_batch-ahead.result.0) _ _ refl c.end_batch-ahead.ensures
 
 pub returns-clause-same_tokens : goal.returns-clause-same_tokens
 returns-clause-same_tokens c = let w = c.requires.at in
