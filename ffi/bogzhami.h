@@ -42,7 +42,7 @@ struct bogzhami_mark {
  * directive writes by `%`, which may be any bytes. The second follows right after the first.
  *
  * The input may have the first text too: it is input[input_at] to input[input_at + first_len - 1], unless input_at is
- * BOGZHAMI_NOWHERE. Then a caller that keeps the input need not copy the text. In UTF-8 it is looked for right behind the `*`,
+ * BOGZHAMI_NOWHERE. Then a caller that keeps the input need not copy the text. In UTF-8 it is looked for right after the `*`,
  * `&` or quote of an alias, an anchor or a quoted scalar, and where a plain scalar starts. It is there if no escape, doubled
  * quote or line break changes it. */
 struct bogzhami_token {
