@@ -26,9 +26,9 @@ extern "C" {
 #endif
 
 /* The version of this header. bogzhami_version returns that of the library. */
-#define BOGZHAMI_VERSION "0.1.0"
-#define BOGZHAMI_VERSION_MAJOR 0
-#define BOGZHAMI_VERSION_MINOR 1
+#define BOGZHAMI_VERSION "1.0.0"
+#define BOGZHAMI_VERSION_MAJOR 1
+#define BOGZHAMI_VERSION_MINOR 0
 #define BOGZHAMI_VERSION_PATCH 0
 
 /* A place in the text. Whatever the encoding of the input, the index counts bytes of the text in UTF-8. */
@@ -39,7 +39,12 @@ struct bogzhami_mark {
 };
 
 /* A token. Its texts are bytes in the room for texts, with no 0 after them. They are UTF-8, except what a tag or a %TAG
- * directive writes by `%`, which may be any bytes. The second follows right after the first. */
+ * directive writes by `%`, which may be any bytes. The second follows right after the first.
+ *
+ * The input may have the first text too: it is input[input_at] to input[input_at + first_len - 1], unless input_at is
+ * BOGZHAMI_NOWHERE. Then a caller that keeps the input need not copy the text. In UTF-8 it is looked for right after the `*`,
+ * `&` or quote of an alias, an anchor or a quoted scalar, and where a plain scalar starts. It is there if no escape, doubled
+ * quote or line break changes it. */
 struct bogzhami_token {
     uint32_t token_type;             /* a number of bogzhami_token_type */
     uint32_t detail;                 /* SCALAR: a number of bogzhami_scalar_style; STREAM_START: of bogzhami_encoding; otherwise 0 */
@@ -50,7 +55,11 @@ struct bogzhami_token {
     uint64_t second_len;             /* TAG_DIRECTIVE: the prefix; TAG: the suffix; otherwise 0 */
     struct bogzhami_mark start_mark; /* of its first character; a token without characters has one mark twice */
     struct bogzhami_mark end_mark;   /* after its last character */
+    uint64_t input_at;               /* how many bytes of the input, with its byte order mark, come before the text; or BOGZHAMI_NOWHERE */
 };
+
+/* No place in an input: the input_at of a token that has no text, or whose text the input does not have as it is. */
+#define BOGZHAMI_NOWHERE UINT64_MAX
 
 /* What a call returns besides tokens and texts. A count that 64 bits do not hold would be 2 to the power of 64, less 1. */
 struct bogzhami_answer {

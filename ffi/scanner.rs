@@ -8,7 +8,8 @@
 //! }
 //! ```
 //!
-//! The tokens come one by one. [`Scanner::next_batch`] lends many at once, with no copy of their texts.
+//! The tokens come one by one, and borrow from the input the texts that it has as they are. [`Scanner::next_batch`] lends
+//! many at once, with no copy of any text.
 #![allow(dead_code)]
 
 use std::borrow::Cow;
@@ -43,6 +44,7 @@ pub(crate) struct Record {
     pub(crate) second_len: u64,
     pub(crate) start_mark: Mark,
     pub(crate) end_mark: Mark,
+    pub(crate) input_at: u64,
 }
 
 #[repr(C)]
@@ -115,6 +117,8 @@ pub enum Style {
 }
 
 /// A text of a token: bytes that are UTF-8, except what a tag or a `%TAG` directive writes by `%`.
+///
+/// A [`Scanner`] as an iterator borrows it from the input if it stands there as it is, and otherwise copies it.
 #[derive(Clone, PartialEq, Eq, Hash)]
 pub struct Text<'a>(pub Cow<'a, [u8]>);
 
@@ -285,6 +289,10 @@ const FIRST_TEXTS: usize = 1 << 14;
 ///
 /// As an iterator it gives the tokens in order, up to the stream end or the first fault. The fault comes once, as the
 /// last item. A scanner may be dropped at any time, and frees all that it holds.
+///
+/// These tokens may outlive the scanner. They borrow from the input each text that stands in it as it is, if it is UTF-8:
+/// names of anchors and aliases, and plain and quoted scalars that no escape, doubled quote or line break changes. They have
+/// copies of other texts.
 pub struct Scanner<'a> {
     input: &'a [u8],
     handle: Handle,
@@ -334,7 +342,7 @@ impl<'a> Scanner<'a> {
     pub fn peek(&mut self) -> Option<Result<Token<'_>, &Fault>> {
         self.fill();
         match self.records[self.given..self.count].first() {
-            Some(record) => Some(Ok(token_of(record, &self.texts))),
+            Some(record) => Some(Ok(lent(record, &self.texts))),
             None => self.fault.as_ref().map(Err),
         }
     }
@@ -359,9 +367,14 @@ impl<'a> Scanner<'a> {
 
     /// Reads the next batch if all of the last one was given and no fault waits.
     fn fill(&mut self) {
-        if self.given < self.count || self.fault.is_some() {
-            return;
+        if self.given == self.count && self.fault.is_none() {
+            self.read_batch();
         }
+    }
+
+    /// Reads the next batch in place of the last one. Most tokens need none.
+    #[cold]
+    fn read_batch(&mut self) {
         (self.given, self.count) = (0, 0);
         let mut answer = Answer::default();
         let mut status = self.read(&mut answer);
@@ -439,7 +452,7 @@ impl<'a> Iterator for Scanner<'a> {
         match self.records[self.given..self.count].first() {
             Some(record) => {
                 self.given += 1;
-                Some(Ok(token_of(record, &self.texts).into_owned()))
+                Some(Ok(given(record, self.input, &self.texts)))
             }
             None => self.fault.take().map(Err),
         }
@@ -465,7 +478,7 @@ impl<'b> Iterator for Batch<'b> {
     type Item = Token<'b>;
 
     fn next(&mut self) -> Option<Token<'b>> {
-        self.records.next().map(|record| token_of(record, self.texts))
+        self.records.next().map(|record| lent(record, self.texts))
     }
 
     fn size_hint(&self) -> (usize, Option<usize>) {
@@ -516,15 +529,46 @@ fn style_of(number: u32) -> Style {
     }
 }
 
-fn token_of<'a>(record: &Record, texts: &'a [u8]) -> Token<'a> {
-    let text = |at, len| Text(Cow::Borrowed(part(texts, at, len)));
-    let first = text(record.text_at, record.first_len);
-    let second = text(record.text_at + record.first_len, record.second_len);
+/// The first text of a record in the room for texts.
+fn first_of<'t>(record: &Record, texts: &'t [u8]) -> &'t [u8] {
+    part(texts, record.text_at, record.first_len)
+}
+
+/// The second text of a record in the room for texts, where it follows the first.
+fn second_of<'t>(record: &Record, texts: &'t [u8]) -> &'t [u8] {
+    part(texts, record.text_at + record.first_len, record.second_len)
+}
+
+/// The first text of a record in the input, or `None` if the input does not have it as it is.
+fn spelled<'a>(record: &Record, input: &'a [u8]) -> Option<&'a [u8]> {
+    let start = usize::try_from(record.input_at).ok()?; // BOGZHAMI_NOWHERE is past the end of every input
+    let len = usize::try_from(record.first_len).ok()?;
+    input.get(start..start.checked_add(len)?)
+}
+
+/// A token that borrows its texts from the room for texts.
+fn lent<'t>(record: &Record, texts: &'t [u8]) -> Token<'t> {
+    let lent = |text| Text(Cow::Borrowed(text));
+    token_of(record, || lent(first_of(record, texts)), || lent(second_of(record, texts)))
+}
+
+/// A token that borrows its text from the input, or has copies if the input does not have it as it is.
+fn given<'a>(record: &Record, input: &'a [u8], texts: &[u8]) -> Token<'a> {
+    let copied = |text: &[u8]| Text(Cow::Owned(text.to_vec()));
+    let first = || match spelled(record, input) {
+        Some(text) => Text(Cow::Borrowed(text)),
+        None => copied(first_of(record, texts)),
+    };
+    token_of(record, first, || copied(second_of(record, texts)))
+}
+
+/// The token of a record, whose texts are made if it has them.
+fn token_of<'t>(record: &Record, first: impl FnOnce() -> Text<'t>, second: impl FnOnce() -> Text<'t>) -> Token<'t> {
     let data = match record.token_type {
         1 => Data::StreamStart { encoding: encoding_of(record.detail) },
         2 => Data::StreamEnd,
         3 => Data::VersionDirective { major: record.major, minor: record.minor },
-        4 => Data::TagDirective { handle: first, prefix: second },
+        4 => Data::TagDirective { handle: first(), prefix: second() },
         5 => Data::DocumentStart,
         6 => Data::DocumentEnd,
         7 => Data::BlockSequenceStart,
@@ -538,10 +582,10 @@ fn token_of<'a>(record: &Record, texts: &'a [u8]) -> Token<'a> {
         15 => Data::FlowEntry,
         16 => Data::Key,
         17 => Data::Value,
-        18 => Data::Alias { name: first },
-        19 => Data::Anchor { name: first },
-        20 => Data::Tag { handle: first, suffix: second },
-        21 => Data::Scalar { value: first, style: style_of(record.detail) },
+        18 => Data::Alias { name: first() },
+        19 => Data::Anchor { name: first() },
+        20 => Data::Tag { handle: first(), suffix: second() },
+        21 => Data::Scalar { value: first(), style: style_of(record.detail) },
         number => unreachable!("no token has the type {number}"),
     };
     Token { data, start: record.start_mark, end: record.end_mark }

@@ -8,7 +8,8 @@ One line of output for each check; what is wrong is printed before it. The check
   bench/results.md, docs/speed.svg and what is in a folder `out`. The documents are README.md, CHANGELOG.md, CONTRIBUTING.md,
   docs/, and the README files of tests/, bench/, uses/, rust/ and python/.
 - rules: in RULES.md every heading has a line with a definition and a code file, and a link to it. What that line names is
-  in the file that it names: a definition in parentheses, and a test. walks.py follows the line further.
+  in the file that it names: a definition in parentheses, and a test. The clauses are those that `./dev folders` writes, and
+  there is one for each definition. walks.py follows the line further.
 - topics: the topic of a rule is the name of its first definition file. The line names a code file of that name, a folder or
   a file of proofs that begins with it (or says that there is none by hand), and a test whose name has it.
 - proofs: PROOFS.md, and the lists of laws in PROMISES.md, are those that `./dev folders` writes, of every law, every public
@@ -19,14 +20,16 @@ One line of output for each check; what is wrong is printed before it. The check
 - edits: every must-fail edit has a line in edits.txt, and every line has its edit. A line of twins.txt is for an edit, and has
   a text, or `-`, for each that the edit replaces. The README.md of a crate's must-fail edits
   names each of them, and no others. If its last column, "Refused by", begins with a name, the code has a function of that
-  name. What an edit replaces stands once in its file.
+  name; and each definition in that column is in the file that is named before it. What an edit replaces stands once in its
+  file.
 - lines: no line of the code or of a definition is longer than 120 characters.
 - kits: README.md names the kit that `rt version` names, among those that the proofs were made with, in one place.
 - versions: the header, the Rust crate, the Python module and the newest entry of CHANGELOG.md have the version of VERSION.
 - folders: a folder with more than eight files has a README.md, but for proofs. That of a folder of code or of definitions is
   the one that `./dev folders` writes, from the first sentence of each file.
 - picture: that of docs/ARCHITECTURE.md is the one that `./dev folders` draws, and each module that it is to show is in it.
-- headline: the list in docs/ARCHITECTURE.md has the files that Headline.antt stands on, and no others, with their lines.
+- headline: the lists in docs/ARCHITECTURE.md are those that `./dev folders` writes: the files that Headline.antt stands on, in an
+  order chosen by hand, and those that what bytes spell adds. The headline reaches none of what is read of a list of characters.
 - scripts: the table of tests/README.md has a line for each script of tests/, and no others.
 """
 
@@ -38,7 +41,9 @@ import sys
 
 sys.path.insert(0, os.path.join(os.path.dirname(os.path.abspath(__file__)), "lib"))
 sys.dont_write_bytecode = True
+import headline
 from citing import statements
+from clauses import is_stale as are_clauses_stale, uncited
 from folders import MOST_FILES, long_folders, sentence, sources, stale
 from laws import CRATES, functions as public_functions, laws, lemma_files, marks, stale_lists
 from picture import drawn, is_stale, unreached
@@ -156,6 +161,8 @@ def check_rules():
         for path, names in tests_in(parts["Shown by"]):
             gone = [name for name in names if found(path) and not re.search(rf"\bfn {name}\b", read(path))]
             wrong += [f"RULES.md: {heading}: {name} is not in {path}" for name in gone]
+    wrong += [f"RULES.md: {heading}: no clause of its code cites {name}" for heading, name in uncited()]
+    wrong += ["RULES.md: its clauses are not what ./dev folders writes"] if are_clauses_stale() else []
     return len(sections), wrong
 
 
@@ -210,12 +217,16 @@ def misplaced(path, crate):
 
 
 def refused_by_none(path, names):
-    """The functions that are said to refuse an edit, and are not in the code."""
+    """The functions and definitions that are said to refuse an edit, and are not there."""
     for line in read(path).split("\n"):
         cells = re.fullmatch(r"\| `(\w+)` \|.*\|([^|]*)\|", line)
         name = re.match(r" `(?:\w+::)?(\w+)`", cells[2]) if cells else None
         if name and name[1] not in names:
             yield f"{path}: {cells[1]} is refused by {name[1]}, which is no function"
+        for file, definition, crate in re.findall(r"`((?:inside\.)?[A-Z]\w*)\.(\w+)`(?: of `(\w+)`)?", cells[2] if cells else ""):
+            specs = f"crates/{crate or path.split('/')[1]}/specs/{file.replace('.', '/')}.antt"
+            if not found(specs) or definition not in dict(statements(read(specs))):
+                yield f"{path}: {cells[1]} is refused by {definition}, which is not in {specs}"
 
 
 def check_edits():
@@ -335,13 +346,11 @@ def check_picture():
 # HEADLINE
 
 def check_headline():
-    said = dict(re.findall(r"^\d+\. `(\w+)\.antt`, (\d+) lines", read("docs/ARCHITECTURE.md"), re.M))
-    texts = {name: read(f"crates/yaml_scan/specs/{name}.antt") for name in said}
-    lines = {name: text.count("\n") for name, text in texts.items()}
-    used = re.findall(r"^(?:pub )?use Rattle\.yaml_scan\.specs\.([A-Z]\w*)", "".join(texts.values()), re.M)
-    wrong = [f"ARCHITECTURE.md: what the headline stands on: {name}" for name in sorted({"Headline", *used} ^ set(said))]
-    wrong += [f"ARCHITECTURE.md: {name}.antt has {lines[name]} lines" for name in said if int(said[name]) != lines[name]]
-    return len(said), wrong
+    reached = headline.closure(headline.HEADLINE)
+    wrong = [f"tests/lib/headline.py: {path} is in the order and not reached, or reached and not there" for path in headline.unlisted()]
+    wrong += [f"{headline.path_of(place)}: Headline.antt reaches it" for place in (headline.BYTES, headline.READING) if place in reached]
+    wrong += ["docs/ARCHITECTURE.md: the lists are not what ./dev folders writes"] if headline.is_stale() else []
+    return len(reached), wrong
 
 
 # SCRIPTS

@@ -2,16 +2,17 @@
 """Builds the library of ffi/, and calls it from C, from Rust and from here: ffi.py [PROGRAM].
 
 All inputs of vectors/scan.txt.gz are scanned at once through the shared library: with no room, with exactly the room that is
-needed and with about half of it; the tokens and the fault are the expected ones, and nothing else in a room has changed. Wrong
-settings and limits touch nothing but the answer. The records have the same sizes and places in C, in Rust and in the crate, and
-the header's numbers are the crate's. The examples list.c, list.cc and list.rs list what is expected, and list.c frees all that it
-took. The examples in ffi/README.md are compiled as they stand there, and give the expected tokens. The library exports the names
-of the header, with the version that VERSION has. Each request for memory of list.c is refused in turn.
+needed and with about half of it; the tokens and the fault are the expected ones, each record says where the input has the
+token's text, and nothing else in a room has changed. Wrong settings and limits touch nothing but the answer. The records have
+the same sizes and places in C, in Rust and in the crate, and the header's numbers are the crate's. The examples list.c, list.cc
+and list.rs list what is expected, and list.c frees all that it took. The examples in ffi/README.md are compiled as they stand
+there, and give the expected tokens. The library exports the names of the header, with the version that VERSION has. Each
+request for memory of list.c is refused in turn.
 
 A scanner that is held gives what the scan at once gives, whatever the batches, rooms, peeks, turns, threads and refused
 requests are (held.c), and takes less than a megabyte besides a long input. How far it has read is that of paces.txt.gz.
-scanner.rs gives the same tokens one by one, in batches and after peeks (held.rs). What needs a C compiler, rustc or valgrind is
-skipped if there is none.
+scanner.rs gives the same tokens one by one, in batches and after peeks, and borrows from the input what it can (held.rs). What
+needs a C compiler, rustc or valgrind is skipped if there is none.
 """
 
 import ctypes as c
@@ -38,6 +39,8 @@ RECORDS = ["mark", "token", "answer"]
 ENCODINGS = ["ANY", "UTF8", "UTF16LE", "UTF16BE"]
 STYLES = ["any", "plain", "single", "double", "literal", "folded"]
 NOWHERE = c.c_void_p(64)  # an address that holds nothing and is not null
+NO_PLACE = 2**64 - 1  # BOGZHAMI_NOWHERE
+SIGNS = {("SCALAR", "plain"): 0, ("SCALAR", "single"): 1, ("SCALAR", "double"): 1, ("ALIAS", "any"): 1, ("ANCHOR", "any"): 1}
 FILL = 0xA5
 SPARE = 3
 SMALL = [b"a: 1", b"- [a, b]\n- {c: d}\n", b"? |\n  text\n: 'x'\n", b"a: b: c", b"\xff\xfea\0:\0 \0b\0", b"a\xff"]
@@ -202,6 +205,20 @@ def token_line(t, texts, names):
     return " ".join([name, mark(t.start_mark), mark(t.end_mark), *more.get(name, [])])
 
 
+def is_utf8(setting, data):
+    return setting == 1 or setting == 0 and data[:2] not in (b"\xff\xfe", b"\xfe\xff")
+
+
+def place(t, texts, setting, data, names):
+    """Where the input has a token's text as it is: behind its quote or indicator, or nowhere. The mark of its start does not
+    count a byte order mark that decides the encoding."""
+    sign = SIGNS.get((names[t.token_type], STYLES[t.detail] if t.detail < len(STYLES) else "?"))
+    if sign is None or not is_utf8(setting, data):
+        return NO_PLACE
+    at = t.start_mark.index + sign + (3 if setting == 0 and data.startswith(b"\xef\xbb\xbf") else 0)
+    return at if data.startswith(texts[t.text_at : t.text_at + t.first_len], at) else NO_PLACE
+
+
 def fault_line(a, texts):
     problem = texts[a.text_len : a.text_len + a.problem_len].decode("ascii")
     context = texts[a.text_len + a.problem_len : a.text_len + a.problem_len + a.context_len].decode("ascii")
@@ -248,6 +265,9 @@ def wrong_with(call, names, words, data, wanted):
     found += [fault_line(whole.answer, written)] if whole.status == 1 else []
     if found != wanted or whole.status != any(line.startswith("FAULT") for line in wanted) or none.status != whole.status:
         return f"wanted {wanted}, got {found} and status {whole.status}"
+    places = [place(t, written, setting, data, names) for t in whole.tokens[:tokens]]
+    if [t.input_at for t in whole.tokens[:tokens]] != places:
+        return f"wanted the places {places}, got {[t.input_at for t in whole.tokens[:tokens]]}"
     if not whole.untouched(tokens, texts):
         return "something is written behind what is wanted"
     half = Call(call, data, setting, limit, tokens // 2, texts // 2)

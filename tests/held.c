@@ -140,6 +140,14 @@ static struct whole scan_whole(const struct input *i) {
     return w;
 }
 
+/* Whether the input has the text of a token where its record says that it has it, if it says so. */
+static bool is_there(const struct input *i, const struct whole *w, const struct bogzhami_token *t) {
+    if (t->input_at == BOGZHAMI_NOWHERE)
+        return true;
+    return t->input_at <= i->len && t->first_len <= i->len - t->input_at &&
+           !memcmp(i->bytes + t->input_at, w->texts + t->text_at, t->first_len);
+}
+
 static void forget(struct input *i, struct whole *w) {
     free(w->tokens);
     free(w->texts);
@@ -613,6 +621,8 @@ static const struct {
 /* Runs a test, and keeps the input as the one before. */
 static void try_input(void (*test)(const struct input *, const struct whole *), struct input i) {
     struct whole w = scan_whole(&i);
+    for (uint64_t n = 0; n < w.answer.token_count; n++)
+        check(is_there(&i, &w, &w.tokens[n]), "the input does not have a text where its record says");
     if (input_number == 0) {
         before = (struct input){i.encoding, i.key_limit, i.len, need(malloc(i.len ? i.len : 1))};
         memcpy(before.bytes, i.bytes, i.len);

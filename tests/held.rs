@@ -1,10 +1,11 @@
 //! held < INPUTS: checks the iterator, the batches and the peeks of scanner.rs against each other, for tests/ffi.py, which
-//! checks the batches by ffi/list.rs. The inputs are packed as held.c says. It stops at the first thing that is wrong, and
-//! then the exit status is not 0.
+//! checks the batches by ffi/list.rs, and which texts the iterator borrows from the input. The inputs are packed as held.c
+//! says. It stops at the first thing that is wrong, and then the exit status is not 0.
 #[path = "../ffi/scanner.rs"]
 mod scanner;
 
-use scanner::{Data, Encoding, Fault, Scanner, Settings, Token, WrongKeyLimit};
+use scanner::{Data, Encoding, Fault, Scanner, Settings, Style, Text, Token, WrongKeyLimit};
+use std::borrow::Cow;
 use std::io::{self, Read};
 use std::process::ExitCode;
 
@@ -96,6 +97,54 @@ fn one_by_one(mut scanner: Scanner) -> Vec<Item> {
     items
 }
 
+/// Where a borrowed text stands in the input; `None` of a copy.
+fn place_of(text: &Text, input: &[u8]) -> Option<usize> {
+    match text.0 {
+        Cow::Borrowed(bytes) => {
+            let at = (bytes.as_ptr() as usize).checked_sub(input.as_ptr() as usize).expect("it is in the input");
+            assert!(at + bytes.len() <= input.len(), "it is in the input");
+            Some(at)
+        }
+        Cow::Owned(_) => None,
+    }
+}
+
+fn is_utf8(input: &[u8], settings: Settings) -> bool {
+    let has_utf16_mark = input.starts_with(b"\xFF\xFE") || input.starts_with(b"\xFE\xFF");
+    settings.encoding == Encoding::Utf8 || settings.encoding == Encoding::Any && !has_utf16_mark
+}
+
+/// How many bytes a token has before its text; `None` if its texts are always copied.
+fn sign_len(token: &Token) -> Option<usize> {
+    match token.data {
+        Data::Scalar { style: Style::Plain, .. } => Some(0),
+        Data::Scalar { style: Style::SingleQuoted | Style::DoubleQuoted, .. } => Some(1),
+        Data::Alias { .. } | Data::Anchor { .. } => Some(1),
+        _ => None,
+    }
+}
+
+fn texts_of<'t, 'a>(token: &'t Token<'a>) -> Vec<&'t Text<'a>> {
+    match &token.data {
+        Data::Alias { name } | Data::Anchor { name } => vec![name],
+        Data::Scalar { value, .. } => vec![value],
+        Data::TagDirective { handle, prefix } => vec![handle, prefix],
+        Data::Tag { handle, suffix } => vec![handle, suffix],
+        _ => vec![],
+    }
+}
+
+/// Checks that a token borrows its text from the input if it stands there as it is, behind a quote or an indicator, and
+/// has copies if not. The marks do not count a byte order mark that decides the encoding.
+fn check_places(token: &Token, input: &[u8], settings: Settings) {
+    let skipped = if settings.encoding == Encoding::Any && input.starts_with(b"\xEF\xBB\xBF") { 3 } else { 0 };
+    let at = sign_len(token).filter(|_| is_utf8(input, settings)).map(|len| skipped + token.start.index as usize + len);
+    for text in texts_of(token) {
+        let wanted = at.filter(|at| input[*at..].starts_with(text));
+        assert_eq!(place_of(text, input), wanted, "the place of {token:?}");
+    }
+}
+
 fn check(input: &[u8], settings: Settings) {
     let all = by_batches(open(input, settings, 1000));
     let faults = all.iter().filter(|item| item.is_err()).count();
@@ -107,6 +156,7 @@ fn check(input: &[u8], settings: Settings) {
         assert_eq!(by_turns(open(input, settings, batch_len)), all, "by turns, {batch_len} at once");
         assert_eq!(by_peeks(open(input, settings, batch_len)), all, "by peeks, {batch_len} at once");
     }
+    open(input, settings, 256).flatten().for_each(|token| check_places(&token, input, settings));
     for count in 0..5 {
         let some: Vec<Item> = open(input, settings, 2).take(count).map(|item| item.map(Token::into_owned)).collect();
         assert_eq!(some[..], all[..count.min(all.len())], "a scanner that is dropped after {count} items");
@@ -128,11 +178,29 @@ fn check_settings() {
     assert!(tokens.len() == 3 && is_whole(&tokens[1]), "a text that is longer than the room");
 }
 
+/// Compares the places of an input's texts.
+fn check_row(input: &[u8], wanted: &[Option<usize>]) {
+    let tokens: Vec<Token> = Scanner::new(input).map(|item| item.expect("it has no fault")).collect();
+    let places: Vec<Option<usize>> = tokens.iter().flat_map(texts_of).map(|text| place_of(text, input)).collect();
+    assert_eq!(places, wanted, "{}", String::from_utf8_lossy(input));
+}
+
+fn check_rows() {
+    check_row(b"a: b c", &[Some(0), Some(3)]);
+    check_row(b"'a': \"b c\"", &[Some(1), Some(6)]);
+    check_row(b"- &a !!s b\n- *a", &[Some(3), None, None, Some(9), Some(14)]);
+    check_row(b"\xEF\xBB\xBFa: 'b'", &[Some(3), Some(7)]);
+    check_row(b"- 'it''s'\n- \"\\x41\"\n- \"\\\nb\"", &[None, None, None]);
+    check_row(b"- a\n  b\n- 'a\n\n  b'\n- |\n  a\n- >\n  b\n", &[None, None, None, None]);
+    check_row(b"\xFF\xFEa\0:\0 \0'\0b\0'\0", &[None, None]);
+}
+
 fn main() -> io::Result<ExitCode> {
     let mut bytes = Vec::new();
     io::stdin().read_to_end(&mut bytes)?;
     let (mut left, mut count) = (&bytes[..], 0);
     check_settings();
+    check_rows();
     while let Some((settings, input)) = next_input(&mut left) {
         check(input, settings);
         count += 1;

@@ -331,7 +331,7 @@ def try_places(room):
     wanted = "".join(line + "\n" for line in lines_of(b"a: 1", ["any"])), 0
     none = module(["bogzhami"], b"a: 1", env=environment)[1]
     named = module(["bogzhami"], b"a: 1", env={**environment, "BOGZHAMI_LIBRARY": os.path.join(room, "none")})[1]
-    shutil.copy(LIBRARY, os.path.join(libraries, "libbogzhami.so.0"))
+    shutil.copy(LIBRARY, os.path.join(libraries, "libbogzhami.so.1"))
     by_name = module(["bogzhami"], b"a: 1", env={**environment, "LD_LIBRARY_PATH": libraries})
     shutil.copy(LIBRARY, os.path.join(copy, "libbogzhami.so"))
     beside = module(["bogzhami"], b"a: 1", env=environment)

@@ -1,5 +1,5 @@
 #!/usr/bin/env python3
-"""Follows rules from their words to a test: walks.py [PROGRAM] [--seed N] [--all]. It runs no program.
+"""Follows rules from their words to a test: walks.py [PROGRAM] [--seed N]. It runs no program.
 
 A rule is a heading of docs/RULES.md. A walk has four hops, each to what the line under the heading names:
 
@@ -12,7 +12,7 @@ A rule is a heading of docs/RULES.md. A walk has four hops, each to what the lin
 - test: the functions are there and are tests, and so are the files of rows. If the row of a must-fail edit has one of the
   names, or an edit changes a function of the walk, the walk tells the first such edit too.
 
-Ten rules are chosen by the seed, or all are taken. A line for each walk, and one that counts the hops and those that fail.
+All rules are taken, or ten that the seed chooses. A line for each walk, and one that counts the hops and those that fail.
 """
 
 import argparse
@@ -149,13 +149,12 @@ def hops_of(walk):
 
 
 def main():
-    words = argparse.ArgumentParser(usage="walks.py [PROGRAM] [--seed N] [--all]")
+    words = argparse.ArgumentParser(usage="walks.py [PROGRAM] [--seed N]")
     words.add_argument("program", nargs="?")
-    words.add_argument("--seed", type=int, default=1)
-    words.add_argument("--all", action="store_true")
+    words.add_argument("--seed", type=int)
     given = words.parse_args()
     every = rules()
-    chosen = every if given.all else random.Random(given.seed).sample(every, CHOSEN)
+    chosen = every if given.seed is None else random.Random(given.seed).sample(every, CHOSEN)
     hops = failed = 0
     for heading, parts in chosen:
         walked = list(hops_of(Walk(heading, parts)))

@@ -13,9 +13,9 @@ TEXT_ROOM = 1 << 14
 
 # Parts of a record: what every token has, its texts, and the version of a directive.
 SIZE = ctypes.sizeof(Record)
-FIELDS = struct.Struct("=II8xQQ8xQQQQQQ")
-TEXTS = struct.Struct("=16xQQQ48x")
-VERSION = struct.Struct("=8xii72x")
+FIELDS = struct.Struct("=II8xQQ8xQQQQQQ8x")
+TEXTS = struct.Struct("=16xQQQ56x")
+VERSION = struct.Struct("=8xii80x")
 assert SIZE == FIELDS.size == TEXTS.size == VERSION.size
 
 Fields = Tuple[int, int, int, int, int, int, int, int, int, int]

@@ -8,7 +8,7 @@ import ctypes
 import os
 from typing import Iterator
 
-NAMES = ("libbogzhami.so.0", "libbogzhami.so")
+NAMES = ("libbogzhami.so.1", "libbogzhami.so")
 
 # What a call returns.
 DONE, FAULT, WRONG, NO_MEMORY, OVER, NO_ROOM, NOT_LIVE = range(7)
@@ -42,6 +42,7 @@ class Record(ctypes.Structure):
         ("second_len", ctypes.c_uint64),
         ("start_mark", Place),
         ("end_mark", Place),
+        ("input_at", ctypes.c_uint64),
     ]
 
 

@@ -31,7 +31,26 @@
 //! }
 //! ```
 //!
-//! These tokens own their texts. [`Scanner::next_batch`] lends up to 256 tokens at once, with no copy of their texts:
+//! These tokens borrow from the input the texts that it has as they are, and outlive the scanner. Other texts, such as a
+//! scalar with an escape, are copies:
+//!
+//! ```
+//! use bogzhami::{Data, Scanner};
+//! use std::borrow::Cow;
+//!
+//! # fn main() -> Result<(), bogzhami::Fault> {
+//! let mut borrowed = Vec::new();
+//! for token in Scanner::new(br#"[plain, "quoted", "\x65scaped"]"#) {
+//!     if let Data::Scalar { value, .. } = token?.data {
+//!         borrowed.push(matches!(value.0, Cow::Borrowed(_)));
+//!     }
+//! }
+//! assert_eq!(borrowed, [true, true, false]);
+//! # Ok(())
+//! # }
+//! ```
+//!
+//! [`Scanner::next_batch`] lends up to 256 tokens at once, with no copy of any text:
 //!
 //! ```
 //! use bogzhami::Scanner;

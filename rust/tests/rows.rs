@@ -4,7 +4,8 @@
 mod listing;
 
 use bogzhami as scanner; // by this name listing.rs calls the crate
-use scanner::{Fault, Scanner, Token};
+use scanner::{Data, Fault, Scanner, Text, Token};
+use std::borrow::Cow;
 use std::error::Error;
 
 const ROWS: &str = include_str!("../../tests/vectors/rows.txt");
@@ -52,6 +53,35 @@ fn items_are_those_of_batches() {
         }
         assert_eq!(Scanner::new(&input).collect::<Vec<Result<Token, Fault>>>(), wanted);
     }
+}
+
+/// Where an input has the text of its last scalar; `None` if that is a copy.
+fn last_place(input: &[u8]) -> Option<usize> {
+    let values = Scanner::new(input).filter_map(|item| match item.expect("it has no fault").data {
+        Data::Scalar { value, .. } => Some(value),
+        _ => None,
+    });
+    match values.last() {
+        Some(Text(Cow::Borrowed(value))) => Some(value.as_ptr() as usize - input.as_ptr() as usize),
+        _ => None,
+    }
+}
+
+#[test]
+fn texts_are_borrowed_from_the_input() {
+    assert_eq!(last_place(b"a: plain text"), Some(3));
+    assert_eq!(last_place(b"a: 'single'"), Some(4));
+    assert_eq!(last_place(b"a: \"double\""), Some(4));
+    assert_eq!(last_place(b"\xEF\xBB\xBFa: b"), Some(6), "after a byte order mark");
+}
+
+#[test]
+fn texts_that_the_input_does_not_have_are_copied() {
+    assert_eq!(last_place(b"a: \"\\x62\""), None, "an escape");
+    assert_eq!(last_place(b"a: 'it''s'"), None, "a doubled quote");
+    assert_eq!(last_place(b"a: b\n c"), None, "a line break");
+    assert_eq!(last_place(b"a: |\n b"), None, "a literal scalar");
+    assert_eq!(last_place(b"\xFF\xFEa\0:\0 \0b\0"), None, "UTF-16");
 }
 
 #[test]

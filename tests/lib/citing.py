@@ -57,7 +57,7 @@ def heads(text):
             name, head = begun[1], []
         if name:
             head.append(line)
-        if name and (line.strip() == "{" or line.endswith(";") or line.endswith(" {") and not CLAUSE.match(line)):
+        if name and (line.strip() in ("{", "{}") or line.endswith(";") or line.endswith(" {") and not CLAUSE.match(line)):
             yield name, "\n".join(head)
             name = None
 
@@ -70,6 +70,22 @@ def contracts(path):
     for name, head in heads(text):
         clauses = CLAUSE.search(head)
         found.setdefault(name, set()).update(cited(head[clauses.start() :], names, files) if clauses else ())
+    return found
+
+
+@functools.cache
+def clauses(path):
+    """Each clause of a file of code that says what a function returns or leaves: the function, how far it is known (0 if it is
+    public, 1 in the crate, 2 in the file), the clause's name if it has one, and the definitions that it cites."""
+    text, found = read(path), []
+    names, files = used(text)
+    for name, head in heads(text):
+        starts = [clause.start() for clause in CLAUSE.finditer(head)]
+        for begin, end in zip(starts, [*starts[1:], len(head)]):
+            ensures = re.match(r" +ensures\*?(?: (\w+))? \{", head[begin:end])
+            if ensures:
+                known = [head.lstrip().startswith(word) for word in ("pub ", "pub(crate) ", "")].index(True)
+                found.append((name, known, ensures[1], set(cited(head[begin:end], names, files))))
     return found
 
 

@@ -8,6 +8,11 @@ TOP = os.path.dirname(os.path.dirname(os.path.dirname(os.path.abspath(__file__))
 MOST_FILES = 8  # a folder with more has a README.md
 ENDINGS = (".antt", ".rt")
 WHAT = {"src": "The code of `{crate}`", "specs": "The definitions of `{crate}`", "inside": "What only the running code of `{crate}` needs"}
+# What a README.md says before its table.
+NOTES = {
+    "crates/yaml_scan/specs": 'Begin with `Headline.antt`. "What the headline stands on" in `docs/ARCHITECTURE.md` has the files under it in the '
+    "order in which to read them, with their lines; all others may be skipped.\n\n",
+}
 # What a file has that begins with no comment.
 NAMELESS = {"Lib.antt": "The list of the modules.", "tests.rt": "Tests of the crate.", "class_tests.rt": "Tests of the classes of characters."}
 
@@ -43,7 +48,8 @@ def listing(folder):
     crate, kind = folder.split("/")[1], folder.split("/")[-1]
     head = WHAT.get(kind, "The folder `" + kind + "` of `{crate}`").format(crate=crate)
     rows = "".join(f"| `{name}` | {sentence(folder, name)} |\n" for name in sources(folder))
-    return f"# {head}\n\n`./dev folders` writes this table, from the first sentence of each file.\n\n| File | What it has |\n|---|---|\n{rows}"
+    note = NOTES.get(folder, "")
+    return f"# {head}\n\n{note}`./dev folders` writes this table, from the first sentence of each file.\n\n| File | What it has |\n|---|---|\n{rows}"
 
 
 def stale():

@@ -14,7 +14,7 @@ import zlib
 from ctypes import byref, c_bool, c_int32, c_size_t, c_uint32, c_uint64, c_void_p
 
 BATCH = 1024  # tokens a call
-TOKEN_WORDS = 11  # a record of a token has 88 bytes
+TOKEN_WORDS = 12  # a record of a token has 96 bytes
 FIRST_TEXTS = 65536
 READ = 1_000_000
 KEY_LIMIT = 1024

@@ -6,9 +6,11 @@ use Rattle.yaml_lexeme.specs.declared.kind.yaml_lexeme_kind_t.{yaml_lexeme_kind_
 use Rattle.yaml_lexeme.specs.declared.lex.yaml_context_t.{yaml_context_t}
 use Rattle.yaml_lexeme.specs.Lexeme.{Lexeme as yaml_lexeme_t}
 use Rattle.yaml_lexeme.specs.Kind.{kind_at}
-use Rattle.yaml_lexeme.specs.Lex.{lex, lexeme_at, answer, in_flow}
+use Rattle.yaml_lexeme.specs.Lex.{lex, in_flow}
+use Rattle.yaml_lexeme.specs.Answers.{lexeme_at, answer}
 use Rattle.yaml_lexeme.specs.Order.{IsAhead, is_stream_end}
-use Rattle.yaml_lexeme.specs.Place.{Place, place_at, IsMarkOf}
+use Rattle.yaml_lexeme.specs.Place.{Place, place_at}
+use Rattle.yaml_lexeme.specs.Counted.{IsMarkOf}
 use Rattle.yaml_lexeme.specs.Reading.{Read}
 use Rattle.yaml_lexeme.proofs.MarkOrder.LexemeOrder.{lexeme_spans}
 use Rattle.yaml_scan.specs.SourceOf.{count_to}

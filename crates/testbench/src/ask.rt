@@ -1,7 +1,7 @@
 //! What a line asks, and its answer.
 ghost use Rattle.std.specs.Prelude.{ℕ, ◌≤◌, IfSome, IsTrue, length};
 ghost use Rattle.yaml_text.specs.Chars.{utf8};
-ghost use Rattle.yaml_lexeme.specs.Place.{IsMarkOf};
+ghost use Rattle.yaml_lexeme.specs.Counted.{IsMarkOf};
 
 use crate::show::{kind_name, show_bytes, show_fault, show_lexeme, show_mark, show_refusal};
 use crate::words::{bytes_of, flag_of, level_of, setting_of};

@@ -1,6 +1,6 @@
 //! The calls that take no memory, at each place of a text.
 ghost use Rattle.std.specs.Prelude.{ℕ};
-ghost use Rattle.yaml_lexeme.specs.Place.{IsMarkOf};
+ghost use Rattle.yaml_lexeme.specs.Counted.{IsMarkOf};
 
 use crate::ask::mark_at;
 use crate::show::{kind_name, put_mark};

@@ -1,7 +1,7 @@
 //! How long reading takes.
 ghost use Rattle.std.specs.Prelude.{ℕ, ◌≡◌, ◌≤◌, IfSome};
 ghost use Rattle.yaml_lexeme.specs.Order.{is_stream_end};
-ghost use Rattle.yaml_lexeme.specs.Place.{IsMarkOf};
+ghost use Rattle.yaml_lexeme.specs.Counted.{IsMarkOf};
 
 use crate::ask::mark_at;
 use crate::session::MOST_KEY_LIMIT;

@@ -1,5 +1,5 @@
 -- The end of a batch: what a call leaves that gives the next tokens.
-use Rattle.std.proofs.Common.{◌≡◌, ◌++◌, ◌∷◌, [], ℕ, ◌+◌, ◌<◌, ◌^◌, List, Option, Some, None, length, refl, sym, ap, ◌∙◌, subst, arith, inl, inr, length-append, append-nil, MutBor}
+use Rattle.std.proofs.Common.{◌≡◌, ◌++◌, ◌∷◌, [], ◌⊎◌, ℕ, ◌+◌, ◌<◌, ◌^◌, List, Option, Some, None, length, refl, sym, ap, ◌∙◌, subst, arith, inl, inr, length-append, append-nil, MutBor}
 use Rattle.std.specs.Prelude.{IsSomeAnd}
 use Rattle.std.proofs.lemmas.List.{nil_from_length}
 use Rattle.yaml_text.specs.Decode.{encoding_of}
@@ -11,8 +11,8 @@ use Rattle.yaml_scan.specs.declared.kept.yaml_kept_parser_t.{yaml_kept_parser_t}
 use Rattle.yaml_c.specs.Ahead.{Ahead, ahead_of, need}
 use Rattle.yaml_c.specs.Ahead.Ahead.{NONE, TOKEN, FAULT, OVER}
 use Rattle.yaml_c.specs.Answer.{answer_of, answer_with, fault_texts}
-use Rattle.yaml_c.specs.Held.{Scan, Stands, IsAt, Why, Tells, IsNext}
-use Rattle.yaml_c.specs.inside.Batch.{Stops, ReadsOn, rooms_of, GivesFault, TellsCounts, Ends}
+use Rattle.yaml_c.specs.Held.{Scan, Stands, IsAt, Why, Tells, ComesFirst, IsNext}
+use Rattle.yaml_c.specs.inside.Batch.{Stops, KeepsAhead, ReadsOn, rooms_of, GivesFault, TellsCounts, Ends}
 use Rattle.yaml_text.specs.Types.{encoding_number}
 use Rattle.yaml_c.specs.Record.{held, records_of, all_texts}
 use Rattle.yaml_c.specs.Room.{covered, covered_from}
@@ -26,8 +26,16 @@ use Rattle.yaml_c.specs.declared.held.held_t.{held_t}
 use Rattle.yaml_c.specs.declared.record.bogzhami_token.{bogzhami_token}
 use Rattle.yaml_c.specs.declared.spelled.spelled_t.{spelled_t}
 use Rattle.yaml_c.specs.declared.sink.token_rooms_t.{token_rooms_t}
+use Rattle.yaml_c.proofs.Batches.{token_first, token_stays}
 use Rattle.yaml_c.proofs.Rooms.{covered_by_none, covered_held, length-covered_from, more_covered_from}
 use Rattle.yaml_c.proofs.TokensPut.{Fits, HavePut, have_put}
+
+-- what was ahead stays ahead
+stays_first : (a : Ahead) → ComesFirst a [] None a
+stays_first NONE = tt
+stays_first (TOKEN t) = refl
+stays_first (FAULT f) = (refl, inr refl)
+stays_first OVER = tt
 
 -- nothing is given
 pub nothing_given : (s : Scan) (old : token_rooms_t) (h : held_t) (answer : bogzhami_answer) (code : ℕ) → IsAt s h
@@ -49,6 +57,8 @@ nothing_given s old h answer code at over tells = record {
   records_are = sym (covered_by_none old.tokens.now);
   texts_are = sym (covered_by_none old.texts.now);
   ends = λ f e. absurd (cc);
+  first = stays_first s.ahead;
+  last = λ n e. absurd (n e);
   over = over;
   tells = tells;
 }
@@ -86,7 +96,8 @@ too_long records bytes [] OVER tight none some stops = absurd (omega arith)
 module _ (s : Scan) (old mid : token_rooms_t) (kept : Option yaml_kept_parser_t) (a : Ahead) (h : held_t) (fits : Fits old) (no_token : old.token_count ≡ 0) (no_text : old.text_len ≡ 0)
     (some : 0 < length old.tokens.now) (more : s.ahead ≡ OVER → ⊥) (r : ReadsOn s old mid kept a) (keeps : h.parser ≡ kept)
     (encoding : h.encoding ≡ encoding_number (encoding_of s.setting s.input))
-    (skipped : h.skipped ≡ skipped_of s.setting s.input) (spelled : spelled_of old.spelled ≡ spelled_in s.setting s.input) where
+    (skipped : h.skipped ≡ skipped_of s.setting s.input) (spelled : spelled_of old.spelled ≡ spelled_in s.setting s.input)
+    (here : Stands s.limit s.setting s.input s.parser s.given s.ahead) (w : KeepsAhead s.ahead old mid a) where
   put : HavePut old r.gives.list mid
   put = have_put old mid r.gives.list fits r.gives.put
 
@@ -114,6 +125,23 @@ module _ (s : Scan) (old mid : token_rooms_t) (kept : Option yaml_kept_parser_t)
       let held_count : mid.token_count ≡ held (length r.gives.list) = omega (arith, count, r.gives.few, fits.tokens) in
       let held_size : mid.text_len ≡ held (length (all_texts r.gives.list)) = omega (arith, size, r.gives.fit, fits.texts) in
       λ i. answer_with (held_count i) (held_size i) f
+
+  -- a fault comes only after the token that was ahead
+  some_token : (t : Token) (f : Fault) → s.ahead ≡ TOKEN t → a ≡ FAULT f → r.gives.list ≡ [] → ⊥
+  some_token t f e g n = let l = ap length n in let k = w.token t f e g in omega (arith, l, k, count)
+
+  no_token_put : (f : Fault) → s.ahead ≡ FAULT f → r.gives.list ≡ []
+  no_token_put f e = let k = w.fault f e in nil_from_length r.gives.list (omega (arith, k.0, no_token, count))
+
+  comes_first : (b : Ahead) → s.ahead ≡ b → (fault : Option Fault) (after : Ahead)
+      → ((t : Token) → s.ahead ≡ TOKEN t → r.gives.list ≡ [] → after ≡ TOKEN t)
+      → ((f : Fault) → s.ahead ≡ FAULT f → (fault ≡ Some f) ⊎ (after ≡ FAULT f))
+      → ComesFirst b r.gives.list fault after
+  comes_first NONE e fault after x y = tt
+  comes_first (TOKEN t) e fault after x y = token_first s.limit s.setting s.input s.parser r.parser s.given t
+      (subst (λ (z : Ahead). Stands s.limit s.setting s.input s.parser s.given z) e here) r.gives.list a after r.gives.stands (x t e)
+  comes_first (FAULT f) e fault after x y = (no_token_put f e, y f e)
+  comes_first OVER e fault after x y = tt
 
   given_fault : (new : token_rooms_t) (b : Ahead) (answer : bogzhami_answer) (code : ℕ) → ahead_of h.ahead ≡ b → GivesFault mid a new b answer code
       → IsNext s (rooms_of old) (rooms_of new) h answer code
@@ -145,6 +173,9 @@ module _ (s : Scan) (old mid : token_rooms_t) (kept : Option yaml_kept_parser_t)
             ∙ more_covered_from old.text_len (all_texts r.gives.list) ft old.texts.now
             ∙ ap (λ (n : ℕ). covered_from n (all_texts r.gives.list ++ ft) old.texts.now) no_text;
         over = λ e. absurd (more e);
+        first = comes_first s.ahead refl (Some f) OVER (λ t e n. absurd (some_token t f e g.is n))
+            (λ x e. inl (let k = sym g.is ∙ (w.fault x e).1 in cc));
+        last = λ n e. reads;
         ends = λ x e. (refl, subst (λ (z : Option Fault). ReadsAll s.limit s.setting s.input (s.given ++ r.gives.list) z) e reads);
         tells = inr (inl (g.code_is, λ e. absurd (cc), g.answer_is ∙ told_by (Some f)));
       }
@@ -174,6 +205,12 @@ module _ (s : Scan) (old mid : token_rooms_t) (kept : Option yaml_kept_parser_t)
             ∙ ap (λ (n : ℕ). covered_from n (all_texts r.gives.list) old.texts.now) no_text
             ∙ ap (λ (z : List ℕ). covered z old.texts.now) (sym (append-nil (all_texts r.gives.list)));
         ends = λ f e. absurd (cc);
+        first = comes_first s.ahead refl None a
+            (λ t e n. token_stays s.limit s.setting s.input s.parser r.parser s.given t
+            (subst (λ (z : Ahead). Stands s.limit s.setting s.input s.parser s.given z) e here)
+            (length old.tokens.now) bytes r.gives.list a n r.gives.stands r.gives.stops some (λ f g. some_token t f e g n))
+            (λ f e. inr (w.fault f e).1);
+        last = λ n e. r.gives.last e;
         over = λ e. absurd (more e);
         tells = elim tells [
           | inl w ↦ (let none : length r.gives.list ≡ 0 = omega (arith, w.0, count) in

@@ -1,15 +1,19 @@
 -- Tokens that are given one by one make a batch.
-use Rattle.std.proofs.Common.{◌≡◌, ◌++◌, ◌∷◌, [], ℕ, ◌+◌, ◌-◌, ◌≤◌, ◌<◌, ◌^◌, Bool, true, false, List, Some, None, length, refl, ap, sym, ◌∙◌, subst, arith, append-nil, length-append, append_assoc}
+use Rattle.std.proofs.Common.{◌≡◌, ◌++◌, ◌∷◌, [], ℕ, ◌+◌, ◌-◌, ◌≤◌, ◌<◌, ◌^◌, Bool, true, false, List, Option, Some, None, length, refl, ap, sym, ◌∙◌, subst, arith, inl, inr, append-nil, length-append, append_assoc}
 use Rattle.std.specs.Prelude.{if◌then◌else◌, ◌≢◌}
-use Rattle.std.proofs.lemmas.List.{length_push}
+use Rattle.std.proofs.lemmas.List.{append_cancel_left, length_push}
 use Rattle.yaml_text.specs.declared.types.yaml_encoding_t.{yaml_encoding_t}
+use Rattle.yaml_text.specs.Fault.{Fault}
 use Rattle.yaml_text.specs.Token.{Token}
+use Rattle.yaml_scan.specs.All.{ReadsAll}
+use Rattle.yaml_scan.specs.Begins.{Begins}
+use Rattle.yaml_scan.specs.Inputs.{answers_to}
 use Rattle.yaml_scan.specs.Parser.{Parser}
 use Rattle.yaml_scan.specs.Scanned.{Scanned}
-use Rattle.yaml_scan.proofs.RunningCalls.ScansToTheEnd.{scans_end}
+use Rattle.yaml_scan.proofs.RunningCalls.ScansToTheEnd.{scans_begin, scans_end}
 use Rattle.yaml_c.specs.Ahead.{Ahead, ahead_of, is_end}
-use Rattle.yaml_c.specs.Ahead.Ahead.{NONE, TOKEN, OVER}
-use Rattle.yaml_c.specs.Held.{Stands}
+use Rattle.yaml_c.specs.Ahead.Ahead.{NONE, TOKEN, FAULT, OVER}
+use Rattle.yaml_c.specs.Held.{IsFirst, Stands}
 use Rattle.yaml_c.specs.inside.Batch.{Stops, GivesNext, GoesOn, KeepsSizes}
 use Rattle.yaml_c.specs.Record.{record_of, texts_of, all_texts}
 use Rattle.yaml_c.specs.inside.Sink.{ArePut, IsBeside, IsPut, IsWithin}
@@ -99,24 +103,77 @@ module _ (limit : ℕ) (setting : yaml_encoding_t) (input : List ℕ) (given : L
     pub goes_more : is_end t ≡ false → GoesOn limit setting input given old q next NONE
     goes_more e = given_more NONE (subst (λ (z : Bool). Scanned limit setting input q (given ++ (g.list ++ t ∷ [])) z) e longer)
 
+    pub all_given : is_end t ≡ true → ReadsAll limit setting input (given ++ (g.list ++ t ∷ [])) None
+    all_given e = scans_end limit setting input q (given ++ (g.list ++ t ∷ []))
+        (subst (λ (z : Bool). Scanned limit setting input q (given ++ (g.list ++ t ∷ [])) z) e longer)
+
     pub goes_end : is_end t ≡ true → GoesOn limit setting input given old q next OVER
-    goes_end e = given_more OVER (
-      None,
-      scans_end limit setting input q (given ++ (g.list ++ t ∷ []))
-          (subst (λ (z : Bool). Scanned limit setting input q (given ++ (g.list ++ t ∷ [])) z) e longer),
-    )
+    goes_end e = given_more OVER (None, all_given e)
 
   -- the batch ends there
   pub batch_ends : (b : Ahead) (q : Parser) → KeepsSizes old new → Stands limit setting input q (given ++ g.list) b
-      → Stops (length old.tokens.now) (length old.texts.now) g.list b → GivesNext limit setting input given old q new b
-  batch_ends b q k s stops = record {
+      → Stops (length old.tokens.now) (length old.texts.now) g.list b → (b ≡ OVER → ReadsAll limit setting input (given ++ g.list) None)
+      → GivesNext limit setting input given old q new b
+  batch_ends b q k s stops last = record {
     list = g.list;
     put = g.put;
     few = omega (arith, g.count, k.few, k.tokens);
     fit = omega (arith, g.text, k.fit, k.texts);
     stands = s;
     stops = stops;
+    last = last;
   }
+
+-- what was given is a beginning of all tokens
+without_last : (xs all : List Token) (t : Token) → Begins (xs ++ t ∷ []) all → Begins xs all
+without_last xs all t b = record { rest = t ∷ b.rest; is = b.is ∙ append_assoc xs (t ∷ []) b.rest }
+
+all_begin : (limit : ℕ) (setting : yaml_encoding_t) (input : List ℕ) (given : List Token) (f : Option Fault) → ReadsAll limit setting input given f → Begins given (answers_to limit setting input).tokens
+all_begin limit setting input given f (inl w) = record { rest = []; is = sym w.0 ∙ sym (append-nil given) }
+all_begin limit setting input given f (inr w) = w.0.beginning
+
+pub begins : (limit : ℕ) (setting : yaml_encoding_t) (input : List ℕ) (p : Parser) (given : List Token) (a : Ahead) → Stands limit setting input p given a → Begins given (answers_to limit setting input).tokens
+begins limit setting input p given NONE w = scans_begin limit setting input p given _ w
+begins limit setting input p given (TOKEN t) w = without_last given _ t (scans_begin limit setting input p (given ++ t ∷ []) (is_end t) w)
+begins limit setting input p given (FAULT f) w = all_begin limit setting input given (Some f) w
+begins limit setting input p given OVER w = all_begin limit setting input given w.0 w.1
+
+-- so the next token is one
+same_next : (given all : List Token) (t x : Token) (ys : List Token) → Begins (given ++ t ∷ []) all → Begins (given ++ x ∷ ys) all → x ≡ t
+same_next given all t x ys b d =
+    let e : given ++ (t ∷ b.rest) ≡ given ++ (x ∷ (ys ++ d.rest)) = sym (append_assoc given (t ∷ []) b.rest) ∙ sym b.is ∙ d.is ∙ append_assoc given (x ∷ ys) d.rest in
+    let f = append_cancel_left given (t ∷ b.rest) (x ∷ (ys ++ d.rest)) e in
+    cc
+
+-- a token that was read ahead comes first
+module _ (limit : ℕ) (setting : yaml_encoding_t) (input : List ℕ) (p q : Parser) (given : List Token) (t : Token) (here : Scanned limit setting input p (given ++ t ∷ []) (is_end t)) where
+  pub token_first : (xs : List Token) (a after : Ahead) → Stands limit setting input q (given ++ xs) a → (xs ≡ [] → after ≡ TOKEN t) → IsFirst t xs after
+  token_first [] a after s none = none refl
+  token_first (x ∷ ys) a after s none = same_next given _ t x ys (scans_begin limit setting input p (given ++ t ∷ []) (is_end t) here) (begins limit setting input q (given ++ x ∷ ys) a s)
+
+  -- or is still ahead
+  pub token_stays : (records bytes : ℕ) (xs : List Token) (a : Ahead) → xs ≡ [] → Stands limit setting input q (given ++ xs) a → Stops records bytes xs a
+      → 0 < records → ((f : Fault) → a ≡ FAULT f → ⊥) → a ≡ TOKEN t
+  token_stays records bytes (x ∷ ys) a n s stops some no_fault = absurd (cc)
+  token_stays records bytes [] NONE n s stops some no_fault = absurd (omega (arith, stops, some))
+  token_stays records bytes [] (TOKEN u) n s stops some no_fault =
+      let same = same_next given _ t u [] (scans_begin limit setting input p (given ++ t ∷ []) (is_end t) here)
+      (subst (λ (z : List Token). Begins (z ++ u ∷ []) (answers_to limit setting input).tokens) (append-nil given) (scans_begin limit setting input q ((given ++ []) ++ u ∷ []) (is_end u) s)) in
+      ap (λ (z : Token). TOKEN z) same
+  token_stays records bytes [] (FAULT f) n s stops some no_fault = absurd (no_fault f refl)
+  token_stays records bytes [] OVER n s stops some no_fault = absurd (omega (arith, stops))
+
+-- the batch ends with the stream end
+pub stream_ends : (limit : ℕ) (setting : yaml_encoding_t) (input : List ℕ) (given : List Token) (old : token_rooms_t) (p : Parser) (new : token_rooms_t) (a : Ahead) (g : GoesOn limit setting input given old p new a)
+    (q : Parser) (t : Token) (next : token_rooms_t) (stands : Stands limit setting input q (given ++ g.list) (TOKEN t)) (put : IsPut new t next)
+    (one : new.token_count < length new.tokens.now) (fits : new.text_len + length (texts_of t) ≤ length new.texts.now)
+    (few : length new.tokens.now < 2 ^ 63) (short : length new.texts.now < 2 ^ 63) → KeepsSizes old new → is_end t ≡ true → GivesNext limit setting input given old q next OVER
+unfolding goes_end given_more
+stream_ends limit setting input given old p new a g q t next stands put one fits few short k e =
+    let more = goes_end limit setting input given old p new a g q t next stands put one fits few short e in
+    batch_ends limit setting input given old q next OVER more OVER q (keeps_more old new next t k put one fits few short) more.stands
+    (omega (arith, more.count, put.token_count, few))
+    (λ z. all_given limit setting input given old p new a g q t next stands put one fits few short e)
 
 -- what is no token, not nothing, and not the end ends every batch
 pub stops_rest : (records bytes : ℕ) (list : List Token) (a : ahead_t) → ((t : _) → a ≡ code.TOKEN t → ⊥) → ahead_of a ≢ NONE → ahead_of a ≢ OVER → Stops records bytes list (ahead_of a)
@@ -124,6 +181,13 @@ stops_rest records bytes list code.NONE n m o = absurd (m refl)
 stops_rest records bytes list (code.TOKEN t) n m o = absurd (n t refl)
 stops_rest records bytes list (code.FAULT f) n m o = tt
 stops_rest records bytes list code.OVER n m o = absurd (o refl)
+
+-- the code has read nothing ahead, if it is so as the definitions see it
+pub none_is : (a : ahead_t) → ahead_of a ≡ NONE → a ≡ code.NONE
+none_is code.NONE e = refl
+none_is (code.TOKEN t) e = absurd (cc)
+none_is (code.FAULT f) e = absurd (cc)
+none_is code.OVER e = absurd (cc)
 
 pub none_is_open : NONE ≡ OVER → ⊥
 none_is_open e = absurd (cc)
@@ -165,6 +229,9 @@ module _ (new next : token_rooms_t) (fits : Fits new) (tokens : List Token) (put
 
   pub sizes_then : (old : token_rooms_t) → KeepsSizes old new → KeepsSizes old next
   sizes_then old k = let q = size in record { tokens = q.0 ∙ k.tokens; texts = q.1 ∙ k.texts; few = within.few; fit = within.fit }
+
+  pub count_there : new.token_count ≤ next.token_count
+  count_there = let n = counted in omega (arith, n)
 
   pub fewer_there : 0 < length tokens → length next.tokens.now - next.token_count < length new.tokens.now - new.token_count
   fewer_there s = let q = size in let a = counted in let b = within.few in omega arith

@@ -78,6 +78,18 @@ Tells s room list fault after answer code =
     ⊎ ((code ≡ status.no_room) × (list ≡ []) × (fault ≡ None) × (length room.texts < need after)
     × (answer ≡ answer_with 0 (held (need after)) None))
 
+-- the first of the tokens is t, or there is none and t is ahead
+abbrev pub IsFirst : Token → List Token → Ahead → Type 0
+IsFirst t [] after = after ≡ TOKEN t
+IsFirst t (x ∷ list) after = x ≡ t
+
+-- What was read ahead comes first, or is still ahead.
+abbrev pub ComesFirst : Ahead → List Token → Option Fault → Ahead → Type 0
+ComesFirst NONE list fault after = Unit {0}
+ComesFirst (TOKEN t) list fault after = IsFirst t list after
+ComesFirst (FAULT f) list fault after = (list ≡ []) × ((fault ≡ Some f) ⊎ (after ≡ FAULT f))
+ComesFirst OVER list fault after = Unit {0}
+
 -- A call gives the next tokens, whole ones, and perhaps the fault after them. After the fault, and after the stream
 -- end, nothing more is given.
 pub record IsNext (s : Scan) (old new : Rooms) (h : held_t) (answer : bogzhami_answer) (code : ℕ) : Type 0 where
@@ -92,6 +104,10 @@ pub record IsNext (s : Scan) (old new : Rooms) (h : held_t) (answer : bogzhami_a
   pub texts_are : new.texts ≡ covered (all_texts list ++ fault_texts fault) old.texts
   pub ends : (f : Fault) → fault ≡ Some f
       → (after ≡ OVER) × ReadsAll s.limit s.setting s.input (s.given ++ list) (Some f)
+  -- so a batch begins with what a peek has shown
+  pub first : ComesFirst s.ahead list fault after
+  -- nothing comes any more only after the stream end, or after the fault that is given here
+  pub last : s.ahead ≢ OVER → after ≡ OVER → ReadsAll s.limit s.setting s.input (s.given ++ list) fault
   pub over : s.ahead ≡ OVER → code ≡ status.over
   pub tells : Tells s old list fault after answer code
 
@@ -121,5 +137,9 @@ pub record IsPeek
   pub parser : Parser
   pub ahead : Ahead
   pub known : ahead ≢ NONE
+  -- what was read ahead before is shown again
+  pub stays : s.ahead ≢ NONE → ahead ≡ s.ahead
+  -- that nothing comes is shown only after the stream end or the fault was given
+  pub over : ahead ≡ OVER → s.ahead ≡ OVER
   pub at : IsAt (looked s parser ahead) h
   pub shows : Shows (spelled_in s.setting s.input) ahead old room new texts answer code

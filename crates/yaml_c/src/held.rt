@@ -6,7 +6,7 @@ ghost use Rattle.yaml_c.specs.Record.{held, texts_of};
 ghost use Rattle.yaml_c.specs.Ahead.{ahead_of, after_token, need};
 ghost use Rattle.yaml_c.specs.Ahead.Ahead.{NONE, TOKEN, OVER as ALL_GIVEN};
 ghost use Rattle.yaml_c.specs.Held.{Scan, Stands, IsAt, IsNext, Shows};
-ghost use Rattle.yaml_c.specs.inside.Batch.{GivesNext, GoesOn, KeepsSizes, Ends, ReadsOn};
+ghost use Rattle.yaml_c.specs.inside.Batch.{GivesNext, GoesOn, KeepsAhead, KeepsSizes, Ends, ReadsOn};
 ghost use Rattle.yaml_c.specs.Held.{opened, looked};
 ghost use Rattle.yaml_c.specs.inside.Batch.{rooms_of};
 ghost use Rattle.yaml_text.specs.Decode.{encoding_of};
@@ -57,6 +57,7 @@ pub struct held_t {
 pub(crate) fn look(parser: &mut yaml_parser_t, ahead: ahead_t) -> ahead_t
     ensures next { ahead_of result ≢ NONE }
     ensures over { ahead_of result ≡ ALL_GIVEN → ahead_of ahead ≡ ALL_GIVEN }
+    ensures stays { ahead_of ahead ≢ NONE → ahead_of result ≡ ahead_of ahead }
     ensures stands { (e : yaml_encoding_t) (limit : ℕ) (input : List ℕ) (given : List Token)
         → Stands limit e input parser.old given (ahead_of ahead)
         → Stands limit e input parser.new given (ahead_of result) }
@@ -112,7 +113,8 @@ fn give_token(rooms: &mut token_rooms_t, token: yaml_token_t) -> Option<ahead_t>
 fn give_rest(parser: &mut yaml_parser_t, rooms: &mut token_rooms_t) -> ahead_t
     requires few { rooms.old.token_count ≤ length rooms.old.tokens.now }
     requires fit { rooms.old.text_len ≤ length rooms.old.texts.now }
-    ensures { (first : token_rooms_t) (e : yaml_encoding_t) (limit : ℕ) (input : List ℕ) (given : List Token)
+    ensures more { rooms.old.token_count ≤ rooms.new.token_count }
+    ensures next { (first : token_rooms_t) (e : yaml_encoding_t) (limit : ℕ) (input : List ℕ) (given : List Token)
         → KeepsSizes first rooms.old → GoesOn limit e input given first parser.old rooms.old NONE
         → GivesNext limit e input given first parser.new rooms.new (ahead_of result) }
 {
@@ -137,7 +139,8 @@ pub(crate) fn give(parser: &mut yaml_parser_t, ahead: ahead_t, rooms: &mut token
     requires none { rooms.old.token_count ≡ 0 }
     requires no_text { rooms.old.text_len ≡ 0 }
     requires some { 0 < length rooms.old.tokens.now }
-    ensures { (e : yaml_encoding_t) (limit : ℕ) (input : List ℕ) (given : List Token)
+    ensures ahead { KeepsAhead (ahead_of ahead) rooms.old rooms.new (ahead_of result) }
+    ensures next { (e : yaml_encoding_t) (limit : ℕ) (input : List ℕ) (given : List Token)
         → Stands limit e input parser.old given (ahead_of ahead)
         → GivesNext limit e input given rooms.old parser.new rooms.new (ahead_of result) }
 {
@@ -206,7 +209,8 @@ fn read_on(
     requires none { rooms.old.token_count ≡ 0 }
     requires no_text { rooms.old.text_len ≡ 0 }
     requires some { 0 < length rooms.old.tokens.now }
-    ensures { (s : Scan) → s.input ≡ rooms.old.spelled.input.now → IsSomeAnd kept.old (IsKept s.parser)
+    ensures ahead { KeepsAhead (ahead_of ahead) rooms.old rooms.new (ahead_of result) }
+    ensures next { (s : Scan) → s.input ≡ rooms.old.spelled.input.now → IsSomeAnd kept.old (IsKept s.parser)
         → Stands s.limit s.setting s.input s.parser s.given (ahead_of ahead)
         → ReadsOn s rooms.old rooms.new kept.new (ahead_of result) }
 {
@@ -294,6 +298,8 @@ pub(crate) fn open(
 pub(crate) fn look_ahead(alloc: Global, held: held_t, input: &[u8]) -> held_t
     requires { (s : Scan) × (s.input ≡ input.now) × IsAt s held }
     ensures next { ahead_of result.ahead ≢ NONE }
+    ensures over { ahead_of result.ahead ≡ ALL_GIVEN → ahead_of held.ahead ≡ ALL_GIVEN }
+    ensures stays { ahead_of held.ahead ≢ NONE → ahead_of result.ahead ≡ ahead_of held.ahead }
     ensures at { (s : Scan) → s.input ≡ input.now → IsAt s held
         → (p : Parser) × IsAt (looked s p (ahead_of result.ahead)) result }
 {

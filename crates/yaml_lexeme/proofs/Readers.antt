@@ -22,6 +22,8 @@ pub mod PlainLinks
 pub mod PlainLines
 -- Literal and folded scalars are read a space and a line at a time.
 pub mod BlockLines
+-- A literal or folded scalar is the same if the indentation of the line that follows is read with each line.
+pub mod BlocksAlike
 -- The letters of a name are its bytes.
 pub mod NameBytes
 -- The octets, escapes and characters of a uri are read one by one.

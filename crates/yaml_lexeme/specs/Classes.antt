@@ -1,12 +1,10 @@
 -- Sets of characters that lexemes need, besides those of a text. The end of a text counts as character 0.
-use Rattle.std.specs.Prelude.{ℕ, Bool, false, not, ◌||◌, ◌==◌, List, [], ◌∷◌}
+use Rattle.std.specs.Prelude.{ℕ, Bool, not, ◌||◌, ◌==◌, List}
+use Rattle.std.specs.List.{list_any}
 use Rattle.yaml_text.specs.Classes.{is_blank, is_break, is_z}
 
 abbrev pub line_feed : ℕ
 line_feed = 0x0A
-
-abbrev pub carriage_return : ℕ
-carriage_return = 0x0D
 
 -- the two breaks that a value keeps as themselves: line and paragraph separator (YAML 1.1, 5.4 Line Break
 -- Characters)
@@ -26,5 +24,4 @@ abbrev pub is_in_line : ℕ → Bool
 is_in_line c = not (is_break c || is_z c)
 
 abbrev pub is_one_of : List ℕ → ℕ → Bool
-is_one_of [] c = false
-is_one_of (x ∷ xs) c = x == c || is_one_of xs c
+is_one_of cs c = list_any (λ x. x == c) cs

@@ -1,8 +1,13 @@
 -- Places found by walking from the front, and marks that are counted.
-use Rattle.std.specs.Prelude.{ℕ, ◌≡◌, ◌↔◌, List, drop}
+use Rattle.std.specs.Prelude.{ℕ, ◌≡◌, ◌↔◌, List, drop, ◌≤◌, length}
 use Rattle.yaml_text.specs.declared.types.yaml_mark_t.{yaml_mark_t}
 use Rattle.yaml_text.specs.Mark.{IsPlaceAt, mark_at}
-use Rattle.yaml_lexeme.specs.Place.{place_at, IsMarkOf}
+use Rattle.yaml_lexeme.specs.Place.{place_at}
+
+-- the mark is that of the place after the first n characters of the text
+pub record IsMarkOf (text : List ℕ) (mark : yaml_mark_t) (n : ℕ) : Type 0 where
+  pub within : n ≤ length text
+  pub mark_is : mark ≡ (place_at text n).mark
 
 -- A place that is not between CR and LF has the mark that is counted from the front of the text, and what
 -- follows is left.

@@ -3,13 +3,13 @@ use Rattle.std.specs.Prelude.{ℕ, pos, true, not, ◌==◌, nat_lt, if◌then�
 use Rattle.std.specs.Str.{bytes_eq}
 use Rattle.std.specs.Str.Parse.{digits_value}
 use Rattle.yaml_text.specs.Classes.{is_alpha, is_blank, is_digit}
-use Rattle.yaml_text.specs.Token.{TokenData as unnamed_yaml_token_t_data}
+use Rattle.yaml_text.specs.Token.{TokenData}
 use Rattle.yaml_text.specs.Token.TokenData.{VERSION_DIRECTIVE, TAG_DIRECTIVE}
 use Rattle.yaml_lexeme.specs.declared.problem.yaml_problem_t.TheVariants.{UNKNOWN_DIRECTIVE, NO_DIRECTIVE_NAME}
 use Rattle.yaml_lexeme.specs.declared.problem.yaml_problem_t.TheVariants.{DIRECTIVE_NAME_GOES_ON, NO_DOT, LONG_NUMBER}
 use Rattle.yaml_lexeme.specs.declared.problem.yaml_problem_t.TheVariants.{NO_NUMBER, NO_BLANK, NO_BLANK_OR_BREAK}
 use Rattle.yaml_lexeme.specs.declared.problem.yaml_problem_t.TheVariants.{NO_HANDLE, OPEN_HANDLE}
-use Rattle.yaml_lexeme.specs.Lexeme.{Directive as directive_t}
+use Rattle.yaml_lexeme.specs.Lexeme.{Directive}
 use Rattle.yaml_lexeme.specs.Classes.{ends}
 use Rattle.yaml_lexeme.specs.Place.{Place, first, skip, run, run_len, after_run}
 use Rattle.yaml_lexeme.specs.Block.{after_line}
@@ -24,7 +24,7 @@ number p =
     else found (digits_value 10 (run is_digit p)) (after_run is_digit p)
 
 -- after `YAML`
-unfoldable pub version_at : Place → Read unnamed_yaml_token_t_data
+unfoldable pub version_at : Place → Read TokenData
 version_at p =
     number (after_run is_blank p) >>= λ major.
     if not (first major.end == 0x2E) then refuse NO_DOT major.end
@@ -41,7 +41,7 @@ handle_at p =
     else found (codes "!") end
 
 -- after `TAG`
-unfoldable pub tag_directive_at : Place → Read unnamed_yaml_token_t_data
+unfoldable pub tag_directive_at : Place → Read TokenData
 tag_directive_at p =
     handle_at (after_run is_blank p) >>= λ handle.
     if not (is_blank (first handle.end)) then refuse NO_BLANK handle.end
@@ -50,14 +50,14 @@ tag_directive_at p =
     else found (TAG_DIRECTIVE handle.value prefix.value) prefix.end
 
 -- by the name
-unfoldable pub named : List ℕ → Place → Read unnamed_yaml_token_t_data
+unfoldable pub named : List ℕ → Place → Read TokenData
 named letters p =
     if bytes_eq letters (codes "YAML") then version_at p
     else if bytes_eq letters (codes "TAG") then tag_directive_at p
     else refuse UNKNOWN_DIRECTIVE p
 
 -- at `%`: what the directive says, and the mark after that. The rest of its line is read with it.
-unfoldable pub directive : Place → Read directive_t
+unfoldable pub directive : Place → Read Directive
 directive p =
     let letters = run is_alpha (skip 1 p) in
     let end = after_run is_alpha (skip 1 p) in

@@ -3,7 +3,7 @@ use Rattle.std.specs.Prelude.{ℕ, ◌≡◌, ◌↔◌, ◌⊎◌, ◌<◌, ◌
 use Rattle.std.specs.Prelude.{pos, Ok, Err}
 use Rattle.std.specs.Str.Parse.{digits_value}
 use Rattle.yaml_text.specs.Classes.{is_alpha, is_blank, is_digit}
-use Rattle.yaml_text.specs.Token.{TokenData as unnamed_yaml_token_t_data}
+use Rattle.yaml_text.specs.Token.{TokenData}
 use Rattle.yaml_text.specs.Token.TokenData.{VERSION_DIRECTIVE, TAG_DIRECTIVE}
 use Rattle.yaml_lexeme.specs.declared.problem.yaml_problem_t.TheVariants.{NO_BLANK_OR_BREAK, NO_BLANK, NO_HANDLE}
 use Rattle.yaml_lexeme.specs.declared.problem.yaml_problem_t.TheVariants.{NO_NUMBER, LONG_NUMBER, NO_DOT, OPEN_HANDLE}
@@ -13,7 +13,7 @@ use Rattle.yaml_lexeme.specs.Classes.{ends}
 use Rattle.yaml_lexeme.specs.Directive.{directive}
 use Rattle.yaml_lexeme.specs.Grammar.{LongestRun, SomeUriRefused}
 use Rattle.yaml_lexeme.specs.HeaderGrammar.{LineEnd, LineEndRefused}
-use Rattle.yaml_lexeme.specs.Lexeme.{Directive as directive_t}
+use Rattle.yaml_lexeme.specs.Lexeme.{Directive}
 use Rattle.yaml_lexeme.specs.Parts.{texts, UriParts}
 use Rattle.yaml_lexeme.specs.Place.{Place, first, skip}
 use Rattle.yaml_lexeme.specs.Reading.{Offence, Found}
@@ -43,7 +43,7 @@ pub record NumberAfter (p : Place) (major : Found ℕ) : Type 0 where
   pub number : NumberParts blanks.end major
 
 -- after `YAML`: blanks or none, a number, `.`, and a number
-pub record VersionParts (p : Place) (f : Found unnamed_yaml_token_t_data) : Type 0 where
+pub record VersionParts (p : Place) (f : Found TokenData) : Type 0 where
   pub major : Found ℕ
   pub minor : Found ℕ
   pub before : NumberAfter p major
@@ -108,7 +108,7 @@ pub record PrefixAfter (p : Place) (prefix : Found (List ℕ)) : Type 0 where
   pub some : 0 < length prefix.value
 
 -- after `TAG`: blanks or none, a handle, a blank or more, and a uri of an octet or more, which ends there
-pub record TagDirectiveParts (p : Place) (f : Found unnamed_yaml_token_t_data) : Type 0 where
+pub record TagDirectiveParts (p : Place) (f : Found TokenData) : Type 0 where
   pub handle : Found (List ℕ)
   pub prefix : Found (List ℕ)
   pub before : HandleAfter p handle
@@ -140,20 +140,20 @@ pub record DirectiveName (p : Place) (f : Found (List ℕ)) : Type 0 where
   pub follows : ends (first f.end) ≡ true
 
 -- what a directive of this name says
-abbrev pub Named : List ℕ → Place → Found unnamed_yaml_token_t_data → Type 0
+abbrev pub Named : List ℕ → Place → Found TokenData → Type 0
 Named name p f = ((name ≡ codes "YAML") × VersionParts p f) ⊎ ((name ≡ codes "TAG") × TagDirectiveParts p f)
 
 -- A directive: its name, what it says, and the rest of its line.
-pub record DirectiveParts (p : Place) (f : Found directive_t) : Type 0 where
+pub record DirectiveParts (p : Place) (f : Found Directive) : Type 0 where
   pub name : Found (List ℕ)
-  pub said : Found unnamed_yaml_token_t_data
+  pub said : Found TokenData
   pub name_is : DirectiveName p name
   pub said_is : Named name.value name.end said
   pub line : LineEnd said.end f.end
   pub value : f.value ≡ record { says = said.value; end = said.end.mark }
 
 abbrev pub DirectiveIsParts : Type 0
-DirectiveIsParts = (p : Place) (f : Found directive_t) → (directive p ≡ Ok f) ↔ DirectiveParts p f
+DirectiveIsParts = (p : Place) (f : Found Directive) → (directive p ≡ Ok f) ↔ DirectiveParts p f
 
 -- the first of these that the text does not give: a name, its end, a known name, what the directive says, and the rest
 -- of its line
@@ -167,7 +167,7 @@ pub data DirectiveRefused (p : Place) (e : Offence) : Type 0 where
       → VersionRefused name.end e → DirectiveRefused p e
   bad_tag : (name : Found (List ℕ)) → DirectiveName p name → name.value ≡ codes "TAG"
       → TagDirectiveRefused name.end e → DirectiveRefused p e
-  bad_line : (name : Found (List ℕ)) (said : Found unnamed_yaml_token_t_data) → DirectiveName p name
+  bad_line : (name : Found (List ℕ)) (said : Found TokenData) → DirectiveName p name
       → Named name.value name.end said → LineEndRefused said.end e → DirectiveRefused p e
 
 abbrev pub DirectiveIsRefused : Type 0

@@ -1,9 +1,10 @@
 -- Escapes in double quotes (YAML 1.1, 5.6 Escape Sequences).
-use Rattle.std.specs.Prelude.{ℕ, Bool, not, ◌&&◌, ◌||◌, ◌==◌, nat_lt, nat_le, if◌then◌else◌, length, take, Option}
-use Rattle.std.specs.Prelude.{Some, None}
+use Rattle.std.specs.Prelude.{ℕ, not, ◌&&◌, ◌||◌, ◌==◌, nat_lt, if◌then◌else◌, length, take, Option}
+use Rattle.std.specs.Prelude.{Some, None, option_map, unwrap_or}
 use Rattle.std.specs.List.{list_all}
 use Rattle.std.specs.Str.Parse.{digits_value}
 use Rattle.yaml_text.specs.Classes.{is_hex}
+use Rattle.yaml_text.specs.Utf8.{is_scalar}
 use Rattle.yaml_lexeme.specs.declared.problem.yaml_problem_t.TheVariants.{UNKNOWN_ESCAPE, NO_HEX_DIGIT, NO_SCALAR_VALUE}
 use Rattle.yaml_lexeme.specs.Place.{Place, peek, skip}
 use Rattle.yaml_lexeme.specs.Reading.{Read, found, refuse}
@@ -34,9 +35,6 @@ simple_escape c =
 abbrev pub hex_len : ℕ → ℕ
 hex_len c = if c == 0x78 then 2 else if c == 0x75 then 4 else if c == 0x55 then 8 else 0
 
-abbrev pub is_scalar : ℕ → Bool
-is_scalar c = nat_lt c 0xD800 || (nat_le 0xE000 c && nat_le c 0x10_FFFF)
-
 -- n hex digits that spell a character
 unfoldable pub hex_escape : ℕ → Place → Read ℕ
 hex_escape n p =
@@ -45,12 +43,8 @@ hex_escape n p =
     else if not (is_scalar (digits_value 16 digits)) then refuse NO_SCALAR_VALUE p
     else found (digits_value 16 digits) (skip n p)
 
-abbrev pub simple_at : Option ℕ → Place → Read ℕ
-simple_at None p = refuse UNKNOWN_ESCAPE p
-simple_at (Some c) p = found c (skip 2 p)
-
 -- the character of the escape at a backslash
 unfoldable pub escape : Place → Read ℕ
 escape p =
     if nat_lt 0 (hex_len (peek p 1)) then hex_escape (hex_len (peek p 1)) (skip 2 p)
-    else simple_at (simple_escape (peek p 1)) p
+    else unwrap_or (option_map (λ c. found c (skip 2 p)) (simple_escape (peek p 1))) (refuse UNKNOWN_ESCAPE p)

@@ -4,7 +4,8 @@ use Rattle.std.specs.List.{list_all}
 use Rattle.std.specs.Str.Parse.{digits_value}
 use Rattle.yaml_text.specs.Classes.{is_hex}
 use Rattle.yaml_lexeme.specs.declared.problem.yaml_problem_t.TheVariants.{UNKNOWN_ESCAPE, NO_HEX_DIGIT, NO_SCALAR_VALUE}
-use Rattle.yaml_lexeme.specs.Escape.{backslash, simple_escape, hex_len, is_scalar, escape}
+use Rattle.yaml_lexeme.specs.Escape.{backslash, simple_escape, hex_len, escape}
+use Rattle.yaml_text.specs.Utf8.{is_scalar}
 use Rattle.yaml_lexeme.specs.Grammar.{LongestRun}
 use Rattle.yaml_lexeme.specs.Place.{Place, peek, first, skip}
 use Rattle.yaml_lexeme.specs.Reading.{Offence, Found}

@@ -33,50 +33,40 @@ problem_text problem.NO_SCALAR_VALUE = codes "found invalid Unicode character es
 problem_text problem.COLON_IN_FLOW = codes "found unexpected ':'"
 problem_text problem.TAB_IN_PLAIN = codes "found a tab character that violates indentation"
 
+-- what was being read, by the kind of the lexeme
+abbrev pub scanning : yaml_lexeme_kind_t → List ℕ
+scanning kind.DIRECTIVE = codes "while scanning a directive"
+scanning kind.ALIAS = codes "while scanning an alias"
+scanning kind.ANCHOR = codes "while scanning an anchor"
+scanning kind.TAG = codes "while scanning a tag"
+scanning kind.SINGLE_QUOTED = codes "while scanning a quoted scalar"
+scanning kind.DOUBLE_QUOTED = codes "while scanning a quoted scalar"
+scanning kind.PLAIN = codes "while scanning a plain scalar"
+scanning literal_or_folded = codes "while scanning a block scalar"
+
 abbrev pub is_directive : yaml_lexeme_kind_t → Bool
 is_directive kind.DIRECTIVE = true
 is_directive k = false
 
-abbrev pub is_anchor : yaml_lexeme_kind_t → Bool
-is_anchor kind.ANCHOR = true
-is_anchor k = false
-
--- the first text in a directive, the second in another lexeme
-abbrev pub in_directive : yaml_lexeme_kind_t → List ℕ → List ℕ → List ℕ
-in_directive k there elsewhere = if is_directive k then there else elsewhere
-
 -- a uri in the prefix of a directive, or in a tag
-abbrev pub uri_context : yaml_lexeme_kind_t → List ℕ
-uri_context k = in_directive k (codes "while parsing a %TAG directive") (codes "while parsing a tag")
+abbrev pub parsing_uri : yaml_lexeme_kind_t → List ℕ
+parsing_uri k = if is_directive k then codes "while parsing a %TAG directive" else codes "while parsing a tag"
 
--- what was being read, by the kind of the lexeme and its problem
+-- what was being read, by the problem where that says more
 unfoldable pub context_text : yaml_lexeme_kind_t → yaml_problem_t → List ℕ
-context_text k problem.UNKNOWN_DIRECTIVE = codes "while scanning a directive"
-context_text k problem.NO_DIRECTIVE_NAME = codes "while scanning a directive"
-context_text k problem.DIRECTIVE_NAME_GOES_ON = codes "while scanning a directive"
 context_text k problem.NO_DOT = codes "while scanning a %YAML directive"
 context_text k problem.LONG_NUMBER = codes "while scanning a %YAML directive"
 context_text k problem.NO_NUMBER = codes "while scanning a %YAML directive"
 context_text k problem.NO_BLANK = codes "while scanning a %TAG directive"
+context_text k problem.NO_BLANK_OR_BREAK =
+    if is_directive k then codes "while scanning a %TAG directive" else scanning k
 context_text k problem.NO_HANDLE = codes "while scanning a tag directive"
 context_text k problem.OPEN_HANDLE = codes "while parsing a tag directive"
-context_text k problem.NO_CLOSING_ANGLE = codes "while scanning a tag"
-context_text k problem.INDICATOR_ZERO = codes "while scanning a block scalar"
-context_text k problem.TAB_IN_INDENTATION = codes "while scanning a block scalar"
-context_text k problem.DOCUMENT_MARKER = codes "while scanning a quoted scalar"
-context_text k problem.END_OF_TEXT = codes "while scanning a quoted scalar"
 context_text k problem.UNKNOWN_ESCAPE = codes "while parsing a quoted scalar"
 context_text k problem.NO_HEX_DIGIT = codes "while parsing a quoted scalar"
 context_text k problem.NO_SCALAR_VALUE = codes "while parsing a quoted scalar"
-context_text k problem.COLON_IN_FLOW = codes "while scanning a plain scalar"
-context_text k problem.TAB_IN_PLAIN = codes "while scanning a plain scalar"
-context_text k problem.NO_NAME =
-    if is_anchor k then codes "while scanning an anchor" else codes "while scanning an alias"
-context_text k problem.NO_BLANK_OR_BREAK =
-    in_directive k (codes "while scanning a %TAG directive") (codes "while scanning a tag")
-context_text k problem.NO_COMMENT_OR_BREAK =
-    in_directive k (codes "while scanning a directive") (codes "while scanning a block scalar")
-context_text k problem.NO_URI = uri_context k
-context_text k problem.NO_OCTET = uri_context k
-context_text k problem.BAD_LEAD_OCTET = uri_context k
-context_text k problem.BAD_NEXT_OCTET = uri_context k
+context_text k problem.NO_URI = parsing_uri k
+context_text k problem.NO_OCTET = parsing_uri k
+context_text k problem.BAD_LEAD_OCTET = parsing_uri k
+context_text k problem.BAD_NEXT_OCTET = parsing_uri k
+context_text k other = scanning k

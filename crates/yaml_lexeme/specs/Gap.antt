@@ -1,5 +1,5 @@
 -- What is between lexemes (YAML 1.1, 6.2 Comments and 6.3 Separation Spaces).
-use Rattle.std.specs.Prelude.{ℕ, ◌≡◌, zero, suc, length, Bool, not, ◌&&◌, ◌||◌, ◌==◌, nat_lt, if◌then◌else◌}
+use Rattle.std.specs.Prelude.{ℕ, zero, suc, length, Bool, not, ◌&&◌, ◌||◌, ◌==◌, nat_lt, if◌then◌else◌}
 use Rattle.yaml_lexeme.specs.Classes.{is_in_line}
 use Rattle.yaml_lexeme.specs.Place.{Place, first, skip, after_run, break_len}
 
@@ -9,10 +9,6 @@ byte_order_mark = 0xFEFF
 -- spaces, and tabs if these are allowed
 abbrev pub is_gap_blank : Bool → ℕ → Bool
 is_gap_blank tabs c = c == 0x20 || (c == 0x09 && tabs)
-
--- characters of ASCII that belong to no gap
-abbrev pub is_solid : ℕ → Bool
-is_solid c = nat_lt 0x20 c && (nat_lt c 0x80 && not (c == 0x23))
 
 -- after a byte order mark, if there is one at the start of a line
 abbrev pub after_mark : Place → Place
@@ -38,7 +34,3 @@ unfoldable pub gap : Bool → Bool → Place → Place × Bool
 gap flow allowed p =
     let line = after_gap_line (flow || not allowed) p in
     (after_gap_lines (length line.rest) flow line, nat_lt 0 (break_len line))
-
--- the gap at p ends at q, whether tabs are allowed or not
-abbrev pub IsGap : Place → Place → Bool → Type 0
-IsGap p q broken = (flow allowed : Bool) → gap flow allowed p ≡ (q, broken)

@@ -3,7 +3,8 @@ use Rattle.std.specs.Prelude.{ℕ, zero, suc, ◌≡◌, ◌⊎◌, ◌<◌, ◌
 use Rattle.yaml_text.specs.declared.types.yaml_mark_t.{yaml_mark_t}
 use Rattle.yaml_lexeme.specs.Classes.{is_in_line}
 use Rattle.yaml_lexeme.specs.Gap.{byte_order_mark, is_gap_blank, gap}
-use Rattle.yaml_lexeme.specs.Place.{Place, peek, first, skip, distance, after_run, break_len}
+use Rattle.yaml_lexeme.specs.Place.{Place, peek, first, skip, after_run, break_len}
+use Rattle.yaml_lexeme.specs.Order.{distance}
 
 -- all characters from p up to q pass
 pub record Passes (test : ℕ → Bool) (p q : Place) : Type 0 where

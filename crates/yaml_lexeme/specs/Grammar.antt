@@ -3,7 +3,7 @@ use Rattle.std.specs.Prelude.{ℕ, ◌≡◌, ◌↔◌, ◌⊎◌, ◌<◌, Boo
 use Rattle.std.specs.Prelude.{codes, Ok, Err}
 use Rattle.std.specs.List.{list_all}
 use Rattle.yaml_text.specs.Classes.{is_alpha}
-use Rattle.yaml_text.specs.Token.{TokenData as unnamed_yaml_token_t_data}
+use Rattle.yaml_text.specs.Token.{TokenData}
 use Rattle.yaml_text.specs.Token.TokenData.{TAG}
 use Rattle.yaml_lexeme.specs.declared.problem.yaml_problem_t.TheVariants.{NO_NAME, NO_URI, NO_CLOSING_ANGLE}
 use Rattle.yaml_lexeme.specs.declared.problem.yaml_problem_t.TheVariants.{NO_BLANK_OR_BREAK}
@@ -62,7 +62,7 @@ SomeUriRefused listed p e = UriRefused listed p e ⊎ NoUri listed p e
 -- TAGS (YAML 1.1, 8.2 Node Tags)
 
 -- `!<`, a uri of an octet or more, and `>`: the uri is the suffix, and the handle is empty
-pub record VerbatimTag (p : Place) (f : Found unnamed_yaml_token_t_data) : Type 0 where
+pub record VerbatimTag (p : Place) (f : Found TokenData) : Type 0 where
   pub suffix : Found (List ℕ)
   pub angle : first (skip 1 p) ≡ 0x3C
   pub uri : UriParts true (skip 2 p) suffix
@@ -73,7 +73,7 @@ pub record VerbatimTag (p : Place) (f : Found unnamed_yaml_token_t_data) : Type 
   pub says : f.value ≡ TAG [] suffix.value
 
 -- `!`, letters or none, `!`, and a uri of an octet or more: what comes before the uri is the handle
-pub record NamedTag (p : Place) (f : Found unnamed_yaml_token_t_data) : Type 0 where
+pub record NamedTag (p : Place) (f : Found TokenData) : Type 0 where
   pub letters : Found (List ℕ)
   pub suffix : Found (List ℕ)
   pub name : LongestRun is_alpha (skip 1 p) letters.value letters.end
@@ -86,7 +86,7 @@ pub record NamedTag (p : Place) (f : Found unnamed_yaml_token_t_data) : Type 0 w
 
 -- `!`, letters or none, and a uri or none, if neither of the above is at p: the handle is `!`, and the letters and the
 -- uri are the suffix. A lone `!` is itself the suffix.
-pub record PrimaryTag (p : Place) (f : Found unnamed_yaml_token_t_data) : Type 0 where
+pub record PrimaryTag (p : Place) (f : Found TokenData) : Type 0 where
   pub letters : Found (List ℕ)
   pub suffix : Found (List ℕ)
   pub no_angle : (first (skip 1 p) == 0x3C) ≡ false
@@ -97,19 +97,19 @@ pub record PrimaryTag (p : Place) (f : Found unnamed_yaml_token_t_data) : Type 0
   pub end : f.end ≡ suffix.end
   pub says : f.value ≡ lone (letters.value ++ suffix.value)
 
-abbrev pub TagText : Place → Found unnamed_yaml_token_t_data → Type 0
+abbrev pub TagText : Place → Found TokenData → Type 0
 TagText p f = VerbatimTag p f ⊎ (NamedTag p f ⊎ PrimaryTag p f)
 
 -- what is allowed after a tag
 abbrev pub is_after_tag : Bool → ℕ → Bool
 is_after_tag flow c = ends c || (flow && c == 0x2C)
 
-pub record TagParts (flow : Bool) (p : Place) (f : Found unnamed_yaml_token_t_data) : Type 0 where
+pub record TagParts (flow : Bool) (p : Place) (f : Found TokenData) : Type 0 where
   pub text : TagText p f
   pub follows : is_after_tag flow (first f.end) ≡ true
 
 abbrev pub TagIsParts : Type 0
-TagIsParts = (flow : Bool) (p : Place) (f : Found unnamed_yaml_token_t_data) → first p ≡ 0x21 →
+TagIsParts = (flow : Bool) (p : Place) (f : Found TokenData) → first p ≡ 0x21 →
     (tag flow p ≡ Ok f) ↔ TagParts flow p f
 
 -- the first of these that the text does not give: after `!<` a uri, and `>`; after the `!` of a name a uri; else a
@@ -124,7 +124,7 @@ pub data TagRefused (flow : Bool) (p : Place) (e : Offence) : Type 0 where
   primary : (letters : Found (List ℕ)) → (first (skip 1 p) == 0x3C) ≡ false
       → LongestRun is_alpha (skip 1 p) letters.value letters.end → (first letters.end == 0x21) ≡ false
       → UriRefused false letters.end e → TagRefused flow p e
-  goes_on : (f : Found unnamed_yaml_token_t_data) → TagText p f → is_after_tag flow (first f.end) ≡ false
+  goes_on : (f : Found TokenData) → TagText p f → is_after_tag flow (first f.end) ≡ false
       → e.problem ≡ NO_BLANK_OR_BREAK → e.at ≡ f.end → TagRefused flow p e
 
 abbrev pub TagIsRefused : Type 0

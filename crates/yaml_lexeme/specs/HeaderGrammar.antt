@@ -1,7 +1,8 @@
 -- What the text of a block scalar's header, and that of the rest of a line, are made of (YAML 1.1, 9.2 Block Scalar
 -- Header).
 use Rattle.std.specs.Prelude.{ℕ, ◌≡◌, ◌↔◌, ◌⊎◌, ◌-◌, true, false, ◌==◌, List, [], ◌++◌, Some, None, Ok, Err}
-use Rattle.yaml_text.specs.Classes.{is_blank, is_breakz, is_digit}
+use Rattle.yaml_text.specs.Classes.{is_blank, is_digit}
+use Rattle.yaml_text.specs.ClassCalls.{is_breakz}
 use Rattle.yaml_lexeme.specs.declared.block.chomp_t.TheVariants.{CLIP}
 use Rattle.yaml_lexeme.specs.declared.block.header_t.{header_t}
 use Rattle.yaml_lexeme.specs.declared.problem.yaml_problem_t.TheVariants.{INDICATOR_ZERO, NO_COMMENT_OR_BREAK}

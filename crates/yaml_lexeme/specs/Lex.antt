@@ -1,16 +1,11 @@
 -- Lexemes of every kind.
-use Rattle.std.specs.Prelude.{ℕ, ◌+◌, Bool, true, false, nat_lt, if◌then◌else◌, List, Some}
-use Rattle.yaml_text.specs.declared.types.yaml_mark_t.{yaml_mark_t}
-use Rattle.std.specs.Prelude.{Result, Ok, Err}
-use Rattle.yaml_text.specs.declared.types.yaml_scalar_style_t.{yaml_scalar_style_t}
+use Rattle.std.specs.Prelude.{ℕ, Bool, true, false, nat_lt}
 use Rattle.yaml_text.specs.declared.types.yaml_scalar_style_t.TheVariants as styles
-use Rattle.yaml_text.specs.Token.{TokenData as unnamed_yaml_token_t_data}
-use Rattle.yaml_text.specs.Token.{TokenData as token}
-use Rattle.yaml_text.specs.Fault.{Fault, scanner_fault}
+use Rattle.yaml_text.specs.Token.{TokenData, TokenData as token}
 use Rattle.yaml_lexeme.specs.declared.kind.yaml_lexeme_kind_t.{yaml_lexeme_kind_t}
 use Rattle.yaml_lexeme.specs.declared.kind.yaml_lexeme_kind_t.TheVariants as kind
 use Rattle.yaml_lexeme.specs.declared.lex.yaml_context_t.{yaml_context_t}
-use Rattle.yaml_lexeme.specs.Lexeme.{Lexeme as yaml_lexeme_t, lexeme, whole, scalar_to, directive_to}
+use Rattle.yaml_lexeme.specs.Lexeme.{Lexeme, lexeme, whole, scalar_to, directive_to}
 use Rattle.yaml_lexeme.specs.StreamEnd.{at_end}
 use Rattle.yaml_lexeme.specs.Place.{Place, skip}
 use Rattle.yaml_lexeme.specs.Reading.{Read, found}
@@ -20,7 +15,6 @@ use Rattle.yaml_lexeme.specs.Block.{above, block}
 use Rattle.yaml_lexeme.specs.Name.{name}
 use Rattle.yaml_lexeme.specs.Tag.{tag}
 use Rattle.yaml_lexeme.specs.Directive.{directive}
-use Rattle.yaml_lexeme.specs.FaultTexts.{problem_text, context_text}
 
 abbrev pub in_flow : yaml_context_t → Bool
 in_flow context = nat_lt 0 context.depth
@@ -30,7 +24,7 @@ abbrev pub least : yaml_context_t → ℕ
 least context = above context.level
 
 -- what a lexeme of one character, or a document marker, says
-abbrev pub says_of : yaml_lexeme_kind_t → unnamed_yaml_token_t_data
+abbrev pub says_of : yaml_lexeme_kind_t → TokenData
 says_of kind.DOCUMENT_START = token.DOCUMENT_START
 says_of kind.DOCUMENT_END = token.DOCUMENT_END
 says_of kind.FLOW_SEQUENCE_START = token.FLOW_SEQUENCE_START
@@ -49,88 +43,19 @@ len_of kind.DOCUMENT_START = 3
 len_of kind.DOCUMENT_END = 3
 len_of k = 1
 
-abbrev pub block_style : Bool → yaml_scalar_style_t
-block_style folded = if folded then styles.YAML_FOLDED_SCALAR_STYLE else styles.YAML_LITERAL_SCALAR_STYLE
-
-abbrev pub quoted_style : Bool → yaml_scalar_style_t
-quoted_style single = if single then styles.YAML_SINGLE_QUOTED_SCALAR_STYLE else styles.YAML_DOUBLE_QUOTED_SCALAR_STYLE
-
--- what an anchor or an alias says
-abbrev pub anchor_or_alias : Bool → List ℕ → unnamed_yaml_token_t_data
-anchor_or_alias anchor name = if anchor then token.ANCHOR name else token.ALIAS name
-
--- what a quoted scalar says
-abbrev pub quoted_as : yaml_scalar_style_t → List ℕ → unnamed_yaml_token_t_data
-quoted_as style value = token.SCALAR value style
-
--- the kind of a quoted scalar, and of a literal or folded one
-abbrev pub quoted_kind : Bool → yaml_lexeme_kind_t
-quoted_kind single = if single then kind.SINGLE_QUOTED else kind.DOUBLE_QUOTED
-
-abbrev pub block_kind : Bool → yaml_lexeme_kind_t
-block_kind folded = if folded then kind.FOLDED else kind.LITERAL
-
 -- the lexeme of the kind that is at a place, or its first offence
-unfoldable pub lex : yaml_lexeme_kind_t → yaml_context_t → Place → Read yaml_lexeme_t
+unfoldable pub lex : yaml_lexeme_kind_t → yaml_context_t → Place → Read Lexeme
 lex kind.STREAM_END context p = at_end p
 lex kind.DIRECTIVE context p = lexeme directive_to p (directive p)
 lex kind.ALIAS context p = lexeme (whole token.ALIAS) p (name p)
 lex kind.ANCHOR context p = lexeme (whole token.ANCHOR) p (name p)
 lex kind.TAG context p = lexeme (whole (λ t. t)) p (tag (in_flow context) p)
-lex kind.LITERAL context p = lexeme (scalar_to (block_style false)) p (block false context.level p)
-lex kind.FOLDED context p = lexeme (scalar_to (block_style true)) p (block true context.level p)
-lex kind.SINGLE_QUOTED context p = lexeme (whole (quoted_as (quoted_style true))) p (quoted true p)
-lex kind.DOUBLE_QUOTED context p = lexeme (whole (quoted_as (quoted_style false))) p (quoted false p)
+lex kind.LITERAL context p = lexeme (scalar_to styles.YAML_LITERAL_SCALAR_STYLE) p (block false context.level p)
+lex kind.FOLDED context p = lexeme (scalar_to styles.YAML_FOLDED_SCALAR_STYLE) p (block true context.level p)
+lex kind.SINGLE_QUOTED context p =
+    lexeme (whole (λ v. token.SCALAR v styles.YAML_SINGLE_QUOTED_SCALAR_STYLE)) p (quoted true p)
+lex kind.DOUBLE_QUOTED context p =
+    lexeme (whole (λ v. token.SCALAR v styles.YAML_DOUBLE_QUOTED_SCALAR_STYLE)) p (quoted false p)
 lex kind.PLAIN context p =
     lexeme (scalar_to styles.YAML_PLAIN_SCALAR_STYLE) p (plain (in_flow context) (least context) p)
 lex k context p = lexeme (whole says_of) p (found k (skip (len_of k) p))
-
--- kinds whose lexemes need no memory, and are never refused
-abbrev pub is_bare : yaml_lexeme_kind_t → Bool
-is_bare kind.STREAM_END = true
-is_bare kind.DOCUMENT_START = true
-is_bare kind.DOCUMENT_END = true
-is_bare kind.FLOW_SEQUENCE_START = true
-is_bare kind.FLOW_MAPPING_START = true
-is_bare kind.FLOW_SEQUENCE_END = true
-is_bare kind.FLOW_MAPPING_END = true
-is_bare kind.FLOW_ENTRY = true
-is_bare kind.BLOCK_ENTRY = true
-is_bare kind.KEY = true
-is_bare kind.VALUE = true
-is_bare kind.DIRECTIVE = false
-is_bare kind.ALIAS = false
-is_bare kind.ANCHOR = false
-is_bare kind.TAG = false
-is_bare kind.LITERAL = false
-is_bare kind.FOLDED = false
-is_bare kind.SINGLE_QUOTED = false
-is_bare kind.DOUBLE_QUOTED = false
-is_bare kind.PLAIN = false
-
--- kinds whose lexemes are one character
-abbrev pub is_character : yaml_lexeme_kind_t → Bool
-is_character kind.STREAM_END = false
-is_character kind.DOCUMENT_START = false
-is_character kind.DOCUMENT_END = false
-is_character k = is_bare k
-
--- what may decide, right after a scalar, whether that is a key: a `:`, and in flow a `,`, `]` or `}`
-abbrev pub decides : Bool → yaml_lexeme_kind_t → Bool
-decides flow kind.VALUE = true
-decides flow kind.FLOW_ENTRY = flow
-decides flow kind.FLOW_SEQUENCE_END = flow
-decides flow kind.FLOW_MAPPING_END = flow
-decides flow k = false
-
--- the mark after a character of ASCII that is no break
-abbrev pub one_on : yaml_mark_t → yaml_mark_t
-one_on m = record { index = m.index + 1; line = m.line; column = m.column + 1 }
-
--- the lexeme, or the fault of its offence, whose context is at the lexeme's start
-abbrev pub answer : yaml_lexeme_kind_t → Place → Read yaml_lexeme_t → Result yaml_lexeme_t Fault
-answer k p (Ok f) = Ok f.value
-answer k p (Err e) = Err (scanner_fault (problem_text e.problem) e.at.mark (Some (context_text k e.problem)) p.mark)
-
-abbrev pub lexeme_at : yaml_lexeme_kind_t → yaml_context_t → Place → Result yaml_lexeme_t Fault
-lexeme_at k context p = answer k p (lex k context p)

@@ -2,11 +2,8 @@
 use Rattle.std.specs.Prelude.{ℕ, Bool, false, List}
 use Rattle.yaml_text.specs.declared.types.yaml_mark_t.{yaml_mark_t}
 use Rattle.yaml_text.specs.declared.types.yaml_scalar_style_t.{yaml_scalar_style_t}
-use Rattle.yaml_text.specs.Token.{TokenData, data_of}
+use Rattle.yaml_text.specs.Token.{TokenData}
 use Rattle.yaml_text.specs.Token.TokenData.{SCALAR}
-use Rattle.yaml_lexeme.specs.declared.lexeme.yaml_lexeme_t.{yaml_lexeme_t}
-use Rattle.yaml_lexeme.specs.declared.plain.scalar_t.{scalar_t}
-use Rattle.yaml_lexeme.specs.declared.directive.directive_t.{directive_t}
 use Rattle.yaml_lexeme.specs.Place.{Place}
 use Rattle.yaml_lexeme.specs.Reading.{Read, found, ◌>>=◌}
 
@@ -40,13 +37,8 @@ lexeme make p r = r >>= λ x. found (make p.mark x.value x.end.mark) x.end
 
 -- what ends where its token ends
 abbrev pub whole_of : TokenData → yaml_mark_t → yaml_mark_t → Lexeme
-whole_of says start end = record {
-  token_data = says;
-  start_mark = start;
-  end_mark = end;
-  reach = end;
-  passed_break = false;
-}
+whole_of says start end =
+    record { token_data = says; start_mark = start; end_mark = end; reach = end; passed_break = false }
 
 -- the same of a value, which `says` makes the token's data of
 abbrev pub whole : {A : Type 0} → (A → TokenData) → yaml_mark_t → A → yaml_mark_t → Lexeme
@@ -64,30 +56,5 @@ scalar_to style start s reach = record {
 
 -- a directive, after whose token the rest of the line is read
 abbrev pub directive_to : yaml_mark_t → Directive → yaml_mark_t → Lexeme
-directive_to start d reach = record {
-  token_data = d.says;
-  start_mark = start;
-  end_mark = d.end;
-  reach = reach;
-  passed_break = false;
-}
-
--- THOSE OF THE CODE
-
--- A lexeme of the code, as the definitions see it.
-abbrev pub lexeme_of : yaml_lexeme_t → Lexeme
-lexeme_of l = record {
-  token_data = data_of l.token_data;
-  start_mark = l.start_mark;
-  end_mark = l.end_mark;
-  reach = l.reach;
-  passed_break = l.passed_break;
-}
-
--- A scalar of the code.
-abbrev pub scalar_of : scalar_t → Scalar
-scalar_of s = record { value = s.value.items; end = s.end; passed_break = s.passed_break }
-
--- A directive of the code.
-abbrev pub directive_of : directive_t → Directive
-directive_of d = record { says = data_of d.says; end = d.end }
+directive_to start d reach =
+    record { token_data = d.says; start_mark = start; end_mark = d.end; reach = reach; passed_break = false }

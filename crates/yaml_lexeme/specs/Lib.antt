@@ -3,9 +3,12 @@ pub mod Place
 pub mod Reading
 pub mod Gap
 pub mod GapText
+pub mod Greatest
 pub mod Kind
+pub mod KindSets
 pub mod Fold
 pub mod Lexeme
+pub mod LexemeOf
 pub mod StreamEnd
 pub mod Escape
 pub mod Quoted
@@ -16,6 +19,7 @@ pub mod Uri
 pub mod Tag
 pub mod Directive
 pub mod Lex
+pub mod Decider
 pub mod FaultTexts
 pub mod Answers
 pub mod Order

@@ -1,6 +1,7 @@
 -- What depends on no character eight or more past the place where reading ends.
 use Rattle.std.specs.Prelude.{◌≡◌, ℕ, ◌+◌, ◌<◌, Bool, slice_get, Ok, Err}
-use Rattle.yaml_lexeme.specs.Place.{Place, skip, distance}
+use Rattle.yaml_lexeme.specs.Place.{Place, skip}
+use Rattle.yaml_lexeme.specs.Order.{distance}
 use Rattle.yaml_lexeme.specs.Reading.{Read, found, refuse}
 use Rattle.yaml_lexeme.specs.declared.kind.yaml_lexeme_kind_t.{yaml_lexeme_kind_t}
 use Rattle.yaml_lexeme.specs.Gap.{gap}

@@ -1,23 +1,24 @@
 -- Lists of parts: one after the other, and as many as possible.
 use Rattle.std.specs.Prelude.{ℕ, ◌≡◌, ◌↔◌, ◌⊎◌, ◌+◌, ◌<◌, Bool, true, false, List, [], ◌∷◌, ◌++◌, length, map}
-use Rattle.std.specs.Prelude.{Option, Ok, Err}
+use Rattle.std.specs.Prelude.{Option, Some, Ok, Err}
 use Rattle.std.specs.List.{concat, list_any, flat_map}
 use Rattle.yaml_text.specs.Chars.{utf8}
 use Rattle.yaml_text.specs.Classes.{is_break}
 use Rattle.yaml_lexeme.specs.declared.block.chomp_t.{chomp_t}
 use Rattle.yaml_lexeme.specs.declared.block.header_t.{header_t}
-use Rattle.yaml_lexeme.specs.Lexeme.{Scalar as scalar_t}
+use Rattle.yaml_lexeme.specs.Lexeme.{Scalar}
 use Rattle.yaml_lexeme.specs.declared.problem.yaml_problem_t.TheVariants.{COLON_IN_FLOW}
-use Rattle.yaml_lexeme.specs.Classes.{is_white}
+use Rattle.yaml_lexeme.specs.Classes.{is_white, is_in_line}
 use Rattle.yaml_lexeme.specs.Place.{Place, peek, first, skip, run, after_run}
 use Rattle.yaml_lexeme.specs.Reading.{Offence, Found, found, Part, part, over}
 use Rattle.yaml_lexeme.specs.Fold.{fold}
 use Rattle.yaml_lexeme.specs.Quoted.{quote, body_part, quoted}
 use Rattle.yaml_lexeme.specs.Plain.{is_bad_colon, is_chunk, chunk, separator, is_over, link, plain}
 use Rattle.yaml_lexeme.specs.Uri.{uri_part, uri}
-use Rattle.yaml_lexeme.specs.Block.{Blank, Blanks, Line, header_at, after_line, after_indent, blank_line}
-use Rattle.yaml_lexeme.specs.Block.{blank_lines, blanks_of, block_indent, block_value, end_of, set_indent, text_line}
-use Rattle.yaml_lexeme.specs.Block.{block}
+use Rattle.yaml_lexeme.specs.Block.{EmptyLine, TextLine, header_at, after_line, after_indent, empty_line, breaks_of}
+use Rattle.yaml_lexeme.specs.Block.{break_at, is_text, next_line, text_line, set_indent, block_indent}
+use Rattle.yaml_lexeme.specs.Greatest.{greatest}
+use Rattle.yaml_lexeme.specs.Block.{block_value, block}
 
 -- a part that was read: its characters, and its value
 pub record Piece (A : Type 0) : Type 0 where
@@ -44,14 +45,11 @@ texts ts = flat_map (λ t. t.text) ts
 abbrev pub values : {A : Type 0} → List (Piece A) → List A
 values ts = map (λ t. t.value) ts
 
--- The pieces from p up to q make up the text between. At q is no further one, but `next`: an end or an offence. All
--- other pieces from p are the first of these.
+-- The pieces are from p up to q, and at q is no further one, but `next`: an end or an offence.
 pub record IsLongest {A : Type 0}
     (one : Place → Part A) (p : Place) (ts : List (Piece A)) (q : Place) (next : Part A) : Type 0 where
   pub pieces : Pieces one p ts q
-  pub joined : p.rest ≡ texts ts ++ q.rest
   pub stops : one q ≡ next
-  pub longest : (us : List (Piece A)) (x : Place) → Pieces one p us x → (more : List (Piece A)) × (ts ≡ us ++ more)
 
 -- A quoted scalar at p: the parts between its quotes, and the place of the closing one.
 pub record QuotedParts (single : Bool) (p : Place) (f : Found (List ℕ)) : Type 0 where
@@ -71,7 +69,7 @@ QuotedIsRefused = (single : Bool) (p : Place) (e : Offence) → (quoted single p
     ((parts : List (Piece (List ℕ))) × (q : Place) × IsLongest (body_part single) (skip 1 p) parts q (Err e))
 
 -- the value of a plain scalar whose last chunk ends at a place
-abbrev pub plain_scalar : List ℕ → List (List ℕ) → Place → scalar_t
+abbrev pub plain_scalar : List ℕ → List (List ℕ) → Place → Scalar
 plain_scalar head links last = record {
   value = utf8 head ++ flat_map utf8 links;
   end = last.mark;
@@ -79,7 +77,7 @@ plain_scalar head links last = record {
 }
 
 -- A plain scalar at p: a chunk, links of a separator and a chunk, and the place where the last chunk ends.
-pub record PlainParts (flow : Bool) (least : ℕ) (p : Place) (f : Found scalar_t) : Type 0 where
+pub record PlainParts (flow : Bool) (least : ℕ) (p : Place) (f : Found Scalar) : Type 0 where
   pub head : Found (List ℕ)
   pub links : List (Piece (List ℕ))
   pub last : Place
@@ -90,7 +88,7 @@ pub record PlainParts (flow : Bool) (least : ℕ) (p : Place) (f : Found scalar_
   pub end : f.end ≡ after_run is_white last
 
 abbrev pub PlainIsParts : Type 0
-PlainIsParts = (flow : Bool) (least : ℕ) (p : Place) (f : Found scalar_t) →
+PlainIsParts = (flow : Bool) (least : ℕ) (p : Place) (f : Found Scalar) →
     (plain flow least p ≡ Ok f) ↔ PlainParts flow least p f
 
 -- From p on come as many characters of a chunk as possible, and after them, in flow, a `:` before `?` or a flow
@@ -163,51 +161,64 @@ abbrev pub UriIsRefused : Type 0
 UriIsRefused = (listed : Bool) (p : Place) (e : Offence) → (uri listed p ≡ Err e) ↔
     ((parts : List (Piece (List ℕ))) × (q : Place) × IsLongest (uri_part listed) p parts q (Err e))
 
--- Empty lines at p, as many as possible, and the indentation after them.
-pub record BlankParts (limit : Option ℕ) (p : Place) (f : Found Blanks) : Type 0 where
-  pub lines : List (Piece Blank)
-  pub last : Place
-  pub longest : IsLongest (blank_line limit) p lines last over
-  pub indent : after_indent limit last ≡ Ok f.end
-  pub value : f.value ≡ blanks_of (values lines) last.mark
+-- A text line at p: its indentation, its characters up to its break, and empty lines, as many as possible.
+pub record TextLineParts (indent : ℕ) (p : Place) (f : Found TextLine) : Type 0 where
+  pub start : Place
+  pub empties : List (Piece EmptyLine)
+  pub indent_is : after_indent (Some indent) p ≡ Ok start
+  pub text_is : is_text indent start ≡ true
+  pub longest : IsLongest (empty_line (Some indent)) (next_line start) empties f.end over
+  pub value : f.value ≡ record {
+    text = run is_in_line start;
+    break = break_at (after_run is_in_line start);
+    empties = breaks_of (values empties);
+  }
 
-abbrev pub BlanksAreLines : Type 0
-BlanksAreLines = (limit : Option ℕ) (p : Place) (f : Found Blanks) →
-    (blank_lines limit p ≡ Ok f) ↔ BlankParts limit p f
+abbrev pub TextLineIsParts : Type 0
+TextLineIsParts = (indent : ℕ) (p : Place) (f : Found TextLine) →
+    (text_line indent p ≡ part f.value f.end) ↔ TextLineParts indent p f
 
--- the indentation of the text lines, after the leading empty lines
-abbrev pub indent_of : Option ℕ → header_t → Found Blanks → ℕ
-indent_of level h leading =
-    block_indent level (set_indent level h.digit) leading.value.column leading.end.mark.column
+-- an offence is in its indentation, or in that of a line after as many empty lines as possible
+pub data TextLineRefused (indent : ℕ) (p : Place) (e : Offence) : Type 0 where
+  own_indent : after_indent (Some indent) p ≡ Err e → TextLineRefused indent p e
+  next_indent : (start : Place) (empties : List (Piece EmptyLine)) (q : Place) → after_indent (Some indent) p ≡ Ok start
+      → is_text indent start ≡ true → IsLongest (empty_line (Some indent)) (next_line start) empties q (Err e)
+      → TextLineRefused indent p e
 
--- the value of a literal or folded scalar, and where it ends
-abbrev pub block_scalar : Bool → chomp_t → Blanks → List Line → scalar_t
-block_scalar folded chomp leading lines = record {
-  value = utf8 (block_value folded chomp leading.breaks lines);
-  end = end_of leading.end lines;
+abbrev pub TextLineIsRefused : Type 0
+TextLineIsRefused = (indent : ℕ) (p : Place) (e : Offence) → (text_line indent p ≡ Err e) ↔ TextLineRefused indent p e
+
+-- the indentation of the text lines, after the leading empty lines and the spaces up to `next`
+abbrev pub indent_of : Option ℕ → header_t → List EmptyLine → Place → ℕ
+indent_of level h leading next =
+    block_indent level (set_indent level h.digit) (greatest (map (λ b. b.column) leading)) next.mark.column
+
+-- the value of a literal or folded scalar, whose last line ends at a place
+abbrev pub block_scalar : Bool → chomp_t → List EmptyLine → List TextLine → Place → Scalar
+block_scalar folded chomp leading lines last = record {
+  value = utf8 (block_value folded chomp (breaks_of leading) lines);
+  end = last.mark;
   passed_break = false;
 }
 
--- A literal or folded scalar at p: its header, leading empty lines, and text lines, as many as possible.
-pub record BlockParts (folded : Bool) (level : Option ℕ) (p : Place) (f : Found scalar_t) : Type 0 where
+-- A literal or folded scalar at p: its header, leading empty lines, and text lines, as many as possible of both. The
+-- indentation of the line after them is read too.
+pub record BlockParts (folded : Bool) (level : Option ℕ) (p : Place) (f : Found Scalar) : Type 0 where
   pub header : Found header_t
   pub start : Place
-  pub leading : Found Blanks
-  pub lines : List (Piece Line)
+  pub leading : List (Piece EmptyLine)
+  pub first : Place
+  pub next : Place
+  pub lines : List (Piece TextLine)
+  pub last : Place
   pub header_is : header_at (skip 1 p) ≡ Ok header
   pub start_is : after_line header.end ≡ Ok start
-  pub leading_is : blank_lines (set_indent level header.value.digit) start ≡ Ok leading
-  pub longest : IsLongest (text_line (indent_of level header.value leading)) leading.end lines f.end over
-  pub value : f.value ≡ block_scalar folded header.value.chomp leading.value (values lines)
+  pub leading_is : IsLongest (empty_line (set_indent level header.value.digit)) start leading first over
+  pub next_is : after_indent (set_indent level header.value.digit) first ≡ Ok next
+  pub longest : IsLongest (text_line (indent_of level header.value (values leading) next)) first lines last over
+  pub end_is : after_indent (Some (indent_of level header.value (values leading) next)) last ≡ Ok f.end
+  pub value : f.value ≡ block_scalar folded header.value.chomp (values leading) (values lines) last
 
 abbrev pub BlockIsLines : Type 0
-BlockIsLines = (folded : Bool) (level : Option ℕ) (p : Place) (f : Found scalar_t) →
+BlockIsLines = (folded : Bool) (level : Option ℕ) (p : Place) (f : Found Scalar) →
     (block folded level p ≡ Ok f) ↔ BlockParts folded level p f
-
--- an offence in indentation comes after as many empty lines as possible
-abbrev pub BlanksRefused : Option ℕ → Place → Offence → Type 0
-BlanksRefused limit p e = (lines : List (Piece Blank)) × (q : Place) × IsLongest (blank_line limit) p lines q (Err e)
-
-abbrev pub BlanksAreRefused : Type 0
-BlanksAreRefused = (limit : Option ℕ) (p : Place) (e : Offence) →
-    (blank_lines limit p ≡ Err e) ↔ BlanksRefused limit p e

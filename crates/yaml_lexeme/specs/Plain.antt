@@ -1,11 +1,11 @@
 -- Plain scalars (YAML 1.1, 9.1.3 Plain).
 use Rattle.std.specs.Prelude.{ℕ, ◌+◌, Bool, not, ◌&&◌, ◌||◌, ◌==◌, nat_lt, if◌then◌else◌, List, [], ◌∷◌, ◌++◌}
-use Rattle.std.specs.Prelude.{length, take, slice_index, codes, Option, Some, None, option_map}
+use Rattle.std.specs.Prelude.{length, take, slice_index, codes, Option, option_map, unwrap_or}
 use Rattle.std.specs.List.{list_any, flat_map, find, range_with_len}
 use Rattle.yaml_text.specs.Chars.{utf8}
 use Rattle.yaml_text.specs.Classes.{is_break}
 use Rattle.yaml_lexeme.specs.declared.problem.yaml_problem_t.TheVariants.{COLON_IN_FLOW, TAB_IN_PLAIN}
-use Rattle.yaml_lexeme.specs.Lexeme.{Scalar as scalar_t}
+use Rattle.yaml_lexeme.specs.Lexeme.{Scalar}
 use Rattle.yaml_lexeme.specs.Classes.{is_white, ends, is_one_of}
 use Rattle.yaml_lexeme.specs.Place.{Place, peek, first, skip, run, run_len, after_run}
 use Rattle.yaml_lexeme.specs.Kind.{is_marker}
@@ -37,25 +37,20 @@ chunk flow p =
     if is_bad_colon flow (first end) (peek end 1) then refuse COLON_IN_FLOW end
     else found (take (chunk_len flow p.rest) p.rest) end
 
--- a tab in indentation: at a column below `least`, in a separator with a break before it
-abbrev pub is_bad_tab : ℕ → Bool → Place → Bool
-is_bad_tab least broken p = (first p == 0x09 && broken) && nat_lt p.mark.column least
-
--- k characters after p, in the separator there, is a tab in indentation
+-- k characters after p, in the separator there, is a tab in indentation: after a break, at a column below `least`
 abbrev pub has_bad_tab : ℕ → Place → ℕ → Bool
-has_bad_tab least p k = is_bad_tab least (list_any is_break (take k p.rest)) (skip k p)
+has_bad_tab least p k =
+    let q = skip k p in (first q == 0x09 && list_any is_break (take k p.rest)) && nat_lt q.mark.column least
 
 -- the place of the first tab in indentation, if the separator at p has one
 abbrev pub bad_tab : ℕ → Place → Option Place
 bad_tab least p = option_map (λ k. skip k p) (find (has_bad_tab least p) (range_with_len 0 (run_len is_white p)))
 
-abbrev pub untabbed : Option Place → List ℕ → Place → Read (List ℕ)
-untabbed None value p = found value p
-untabbed (Some tab) value p = refuse TAB_IN_PLAIN tab
-
 -- The longest run of blanks and breaks, with its value. A tab in indentation is an offence.
 unfoldable pub separator : ℕ → Place → Read (List ℕ)
-separator least p = untabbed (bad_tab least p) (fold (run is_white p)) (after_run is_white p)
+separator least p =
+    let end = after_run is_white p in
+    unwrap_or (option_map (refuse TAB_IN_PLAIN) (bad_tab least p)) (found (fold (run is_white p)) end)
 
 -- the scalar is over after a separator
 abbrev pub is_over : Bool → ℕ → Place → Bool
@@ -72,7 +67,7 @@ link flow least p =
 
 -- A chunk, then separators and chunks: the value, the mark after the last chunk, and whether a break is in the
 -- separator after it, which is read too.
-unfoldable pub plain : Bool → ℕ → Place → Read scalar_t
+unfoldable pub plain : Bool → ℕ → Place → Read Scalar
 plain flow least p = do
   head ← chunk flow p
   links ← many (link flow least) head.end

@@ -1,9 +1,10 @@
 -- Uris of tags, and their escapes (YAML 1.1, 5.5 Miscellaneous Characters).
-use Rattle.std.specs.Prelude.{ℕ, zero, suc, ◌-◌, Bool, ◌&&◌, ◌||◌, ◌==◌, nat_lt, nat_le, if◌then◌else◌, List, []}
-use Rattle.std.specs.Prelude.{◌∷◌, length, codes}
+use Rattle.std.specs.Prelude.{ℕ, zero, suc, ◌-◌, Bool, ◌&&◌, ◌||◌, ◌==◌, if◌then◌else◌, List, []}
+use Rattle.std.specs.Prelude.{◌∷◌, length, codes, not}
 use Rattle.std.specs.List.{concat}
 use Rattle.std.specs.Str.Parse.{digits_value}
 use Rattle.yaml_text.specs.Classes.{is_alpha, is_hex}
+use Rattle.yaml_text.specs.Utf8.{width_of, continues}
 use Rattle.yaml_lexeme.specs.declared.problem.yaml_problem_t.TheVariants.{NO_URI, NO_OCTET}
 use Rattle.yaml_lexeme.specs.declared.problem.yaml_problem_t.TheVariants.{BAD_LEAD_OCTET, BAD_NEXT_OCTET}
 use Rattle.yaml_lexeme.specs.Classes.{is_one_of}
@@ -25,29 +26,19 @@ octet_value p = digits_value 16 (peek p 1 ∷ peek p 2 ∷ [])
 unfoldable pub octet : Place → Read ℕ
 octet p = if is_octet p then found (octet_value p) (skip 3 p) else refuse NO_OCTET p
 
--- how many octets a lead octet begins, or 0
-abbrev pub octet_width : ℕ → ℕ
-octet_width c =
-    if nat_lt c 0x80 then 1 else if nat_lt c 0xC0 then 0 else if nat_lt c 0xE0 then 2 else if nat_lt c 0xF0 then 3
-    else if nat_lt c 0xF8 then 4 else 0
-
--- no later octet of a character
-abbrev pub is_bad_next : ℕ → Bool
-is_bad_next c = nat_lt c 0x80 || nat_le 0xC0 c
-
 unfoldable pub next_octets : ℕ → Place → Read (List ℕ)
 next_octets zero p = found [] p
 next_octets (suc n) p =
     octet p >>= λ c.
-    if is_bad_next c.value then refuse BAD_NEXT_OCTET p
+    if not (continues c.value) then refuse BAD_NEXT_OCTET p
     else next_octets n c.end >>= λ more. found (c.value ∷ more.value) more.end
 
 -- a lead octet and as many later ones as it needs
 unfoldable pub uri_escape : Place → Read (List ℕ)
 uri_escape p =
     octet p >>= λ lead.
-    if octet_width lead.value == 0 then refuse BAD_LEAD_OCTET p
-    else next_octets (octet_width lead.value - 1) lead.end >>= λ more. found (lead.value ∷ more.value) more.end
+    if width_of lead.value == 0 then refuse BAD_LEAD_OCTET p
+    else next_octets (width_of lead.value - 1) lead.end >>= λ more. found (lead.value ∷ more.value) more.end
 
 unfoldable pub uri_part : Bool → Place → Part (List ℕ)
 uri_part listed p =

@@ -1,13 +1,13 @@
 -- Places where reading ends are not between CR and LF, so that their marks are the counted ones.
 use Rattle.std.specs.Prelude.{ℕ, ◌≡◌, ◌≤◌, ◌↔◌, Bool, List, length, Some, Ok, Err}
-use Rattle.yaml_text.specs.Chars.{AreChars}
+use Rattle.yaml_text.specs.TextBytes.{AreChars}
 use Rattle.yaml_text.specs.Mark.{IsPlaceAt, IsMarkAt, mark_at}
 use Rattle.yaml_text.specs.Token.{TokenData as token}
 use Rattle.yaml_text.specs.declared.types.yaml_mark_t.{yaml_mark_t}
 use Rattle.yaml_lexeme.specs.declared.kind.yaml_lexeme_kind_t.{yaml_lexeme_kind_t}
 use Rattle.yaml_lexeme.specs.declared.kind.yaml_lexeme_kind_t.TheVariants as kind
 use Rattle.yaml_lexeme.specs.declared.lex.yaml_context_t.{yaml_context_t}
-use Rattle.yaml_lexeme.specs.Lexeme.{Lexeme as yaml_lexeme_t, whole_of}
+use Rattle.yaml_lexeme.specs.Lexeme.{Lexeme, whole_of}
 use Rattle.yaml_lexeme.specs.StreamEnd.{stream_end}
 use Rattle.yaml_lexeme.specs.Gap.{gap}
 use Rattle.yaml_lexeme.specs.Kind.{kind_at}
@@ -43,7 +43,7 @@ pub record EndsWhole (text : List ℕ) (n : ℕ) (mark : yaml_mark_t) : Type 0 w
 
 -- the place where a lexeme ends, other than the stream end
 abbrev pub EndIsWhole : Type 0
-EndIsWhole = (k : yaml_lexeme_kind_t) (c : yaml_context_t) (text : List ℕ) (index n : ℕ) (f : Found yaml_lexeme_t)
+EndIsWhole = (k : yaml_lexeme_kind_t) (c : yaml_context_t) (text : List ℕ) (index n : ℕ) (f : Found Lexeme)
     → IsPlaceAt text index n → kind_at (in_flow c) (place_at text n) ≡ Some k → (k ≡ kind.STREAM_END → ⊥)
     → lex k c (place_at text n) ≡ Ok f
     → EndsWhole text n f.value.end_mark
@@ -62,7 +62,7 @@ GapIsCounted = (flow allowed : Bool) (text : List ℕ) (index n : ℕ) → IsPla
 -- and the marks of a lexeme, other than the stream end,
 abbrev pub LexemeIsCounted : Type 0
 LexemeIsCounted =
-    (k : yaml_lexeme_kind_t) (c : yaml_context_t) (text : List ℕ) (index n : ℕ) (f : Found yaml_lexeme_t)
+    (k : yaml_lexeme_kind_t) (c : yaml_context_t) (text : List ℕ) (index n : ℕ) (f : Found Lexeme)
     → IsPlaceAt text index n → kind_at (in_flow c) (place_at text n) ≡ Some k → (k ≡ kind.STREAM_END → ⊥)
     → lex k c (place_at text n) ≡ Ok f
     → IsCounted text n f.value.start_mark × IsCounted text n f.value.end_mark × IsCounted text n f.value.reach
@@ -81,6 +81,6 @@ StreamEndIsLast = (flow : Bool) (text : List ℕ) (index n : ℕ) → AreChars t
 
 -- and its three marks are then that of the text's end, or of the next line's start if the column there is not 0.
 abbrev pub StreamEndIsCounted : Type 0
-StreamEndIsCounted = (c : yaml_context_t) (text : List ℕ) (index : ℕ) (f : Found yaml_lexeme_t)
+StreamEndIsCounted = (c : yaml_context_t) (text : List ℕ) (index : ℕ) (f : Found Lexeme)
     → IsPlaceAt text index (length text) → lex kind.STREAM_END c (place_at text (length text)) ≡ Ok f
     → (let end = stream_end (mark_at text (length text)) in f.value ≡ whole_of token.STREAM_END end end)

@@ -1,5 +1,7 @@
 -- The running code: what its readers return and keep, and what they look for first. No contract of a public call
 -- needs these.
+pub mod BlockAhead
+pub mod Moves
 pub mod Runs
 pub mod CommonEscapes
 pub mod Gives

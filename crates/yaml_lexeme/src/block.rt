@@ -2,7 +2,8 @@
 ghost use Rattle.std.specs.Prelude.{◌≡◌, ◌+◌, ◌++◌, ◌<◌, ◌^◌, OnOk, IfOk, IfSome};
 ghost use Rattle.yaml_text.specs.Chars.{utf8};
 ghost use Rattle.yaml_lexeme.specs.Block as spec;
-ghost use Rattle.yaml_lexeme.specs.Lexeme.{scalar_of};
+ghost use Rattle.yaml_lexeme.specs.inside.BlockAhead as ahead;
+ghost use Rattle.yaml_lexeme.specs.LexemeOf.{scalar_of};
 ghost use Rattle.yaml_lexeme.specs.inside.Gives.{Gives, Moves};
 ghost use Rattle.yaml_lexeme.specs.Place.{skip, break_len};
 ghost use Rattle.yaml_lexeme.specs.inside.Tails.{TakesBlanks, TakesLine, between_tail, chomped_tail};
@@ -139,7 +140,7 @@ fn is_below(limit: Option<u64>, column: u64) -> bool
 }
 
 fn is_indenting(cursor: &cursor_t, c: char, limit: Option<u64>) -> bool
-    ensures { result ≡ spec.is_indenting c limit cursor.now }
+    ensures { result ≡ ahead.is_indenting c limit cursor.now }
 {
     check_at!(cursor, c, 0) && is_below(limit, cursor.mark().column)
 }
@@ -178,7 +179,7 @@ fn take_blank_lines(
     end: &mut yaml_mark_t,
 ) -> Result<u64, yaml_refusal_t>
     ensures { TakesBlanks result breaks.old.items breaks.new.items end.new cursor.new
-        (spec.blank_lines limit cursor.old) }
+        (ahead.blank_lines limit cursor.old) }
 {
     let mut column: u64 = 0;
     *end = cursor.mark();
@@ -217,7 +218,7 @@ fn take_line(
     out: &mut Vec<u8>,
     tail: &mut tail_t,
 ) -> Result<(), yaml_refusal_t>
-    ensures { TakesLine result out.old.items out.new.items tail.new cursor.new (spec.line_at indent cursor.old) }
+    ensures { TakesLine result out.old.items out.new.items tail.new cursor.new (ahead.line_at indent cursor.old) }
 {
     tail.indented = is_at!(cursor, is_blank, 0);
     let text = cursor.run(class_t::IN_LINE);
@@ -278,7 +279,7 @@ fn push_chomped(out: &mut Vec<u8>, chomp: chomp_t, tail: &tail_t) -> Result<(), 
 
 /// The greatest open level, or 0 if none is open.
 fn base(level: Option<u64>) -> u64
-    ensures { result ≡ spec.base level }
+    ensures { result ≡ ahead.base level }
 {
     match level {
         None => 0,

@@ -3,7 +3,7 @@ ghost use Rattle.std.specs.Prelude.{◌≡◌, ◌^◌, ◌<◌, IfOk};
 ghost use Rattle.yaml_text.specs.Classes as classes;
 ghost use Rattle.yaml_text.specs.Token.{data_of};
 ghost use Rattle.yaml_lexeme.specs.Directive as spec;
-ghost use Rattle.yaml_lexeme.specs.Lexeme.{directive_of};
+ghost use Rattle.yaml_lexeme.specs.LexemeOf.{directive_of};
 ghost use Rattle.yaml_lexeme.specs.inside.Gives.{Gives};
 
 use crate::block::take_line_end;

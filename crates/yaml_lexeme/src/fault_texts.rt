@@ -41,27 +41,50 @@ pub(crate) fn problem_text(problem: yaml_problem_t) -> &'static str
     }
 }
 
+/// What was being read, by the kind of the lexeme.
+fn scanning(kind: yaml_lexeme_kind_t) -> &'static str
+    ensures { result.now ≡ spec.scanning kind }
+{
+    match kind {
+        yaml_lexeme_kind_t::DIRECTIVE => "while scanning a directive",
+        yaml_lexeme_kind_t::ALIAS => "while scanning an alias",
+        yaml_lexeme_kind_t::ANCHOR => "while scanning an anchor",
+        yaml_lexeme_kind_t::TAG => "while scanning a tag",
+        yaml_lexeme_kind_t::SINGLE_QUOTED | yaml_lexeme_kind_t::DOUBLE_QUOTED => {
+            "while scanning a quoted scalar"
+        }
+        yaml_lexeme_kind_t::PLAIN => "while scanning a plain scalar",
+        yaml_lexeme_kind_t::LITERAL
+        | yaml_lexeme_kind_t::FOLDED
+        | yaml_lexeme_kind_t::STREAM_END
+        | yaml_lexeme_kind_t::DOCUMENT_START
+        | yaml_lexeme_kind_t::DOCUMENT_END
+        | yaml_lexeme_kind_t::FLOW_SEQUENCE_START
+        | yaml_lexeme_kind_t::FLOW_MAPPING_START
+        | yaml_lexeme_kind_t::FLOW_SEQUENCE_END
+        | yaml_lexeme_kind_t::FLOW_MAPPING_END
+        | yaml_lexeme_kind_t::FLOW_ENTRY
+        | yaml_lexeme_kind_t::BLOCK_ENTRY
+        | yaml_lexeme_kind_t::KEY
+        | yaml_lexeme_kind_t::VALUE => "while scanning a block scalar",
+    }
+}
+
 fn is_directive(kind: yaml_lexeme_kind_t) -> bool
     ensures { result ≡ spec.is_directive kind }
 {
     matches!(kind, yaml_lexeme_kind_t::DIRECTIVE)
 }
 
-fn is_anchor(kind: yaml_lexeme_kind_t) -> bool
-    ensures { result ≡ spec.is_anchor kind }
+/// A uri in the prefix of a directive, or in a tag.
+fn parsing_uri(kind: yaml_lexeme_kind_t) -> &'static str
+    ensures { result.now ≡ spec.parsing_uri kind }
 {
-    matches!(kind, yaml_lexeme_kind_t::ANCHOR)
-}
-
-/// One text in a directive, another elsewhere.
-fn in_directive(
-    kind: yaml_lexeme_kind_t,
-    inside: &'static str,
-    outside: &'static str,
-) -> &'static str
-    ensures { result.now ≡ (if spec.is_directive kind then inside.now else outside.now) }
-{
-    if is_directive(kind) { inside } else { outside }
+    if is_directive(kind) {
+        "while parsing a %TAG directive"
+    } else {
+        "while parsing a tag"
+    }
 }
 
 /// What was being read when the problem came.
@@ -70,56 +93,37 @@ pub(crate) fn context_text(kind: yaml_lexeme_kind_t, problem: yaml_problem_t) ->
     ensures { result.now ≡ spec.context_text kind problem }
 {
     match problem {
-        yaml_problem_t::UNKNOWN_DIRECTIVE
-        | yaml_problem_t::NO_DIRECTIVE_NAME
-        | yaml_problem_t::DIRECTIVE_NAME_GOES_ON => "while scanning a directive",
         yaml_problem_t::NO_DOT | yaml_problem_t::LONG_NUMBER | yaml_problem_t::NO_NUMBER => {
             "while scanning a %YAML directive"
         }
         yaml_problem_t::NO_BLANK => "while scanning a %TAG directive",
-        yaml_problem_t::NO_HANDLE => "while scanning a tag directive",
-        yaml_problem_t::OPEN_HANDLE => "while parsing a tag directive",
-        yaml_problem_t::NO_CLOSING_ANGLE => "while scanning a tag",
-        yaml_problem_t::INDICATOR_ZERO | yaml_problem_t::TAB_IN_INDENTATION => {
-            "while scanning a block scalar"
-        }
-        yaml_problem_t::DOCUMENT_MARKER | yaml_problem_t::END_OF_TEXT =>
-            "while scanning a quoted scalar",
-        yaml_problem_t::UNKNOWN_ESCAPE
-        | yaml_problem_t::NO_HEX_DIGIT
-        | yaml_problem_t::NO_SCALAR_VALUE => { "while parsing a quoted scalar" }
-        yaml_problem_t::COLON_IN_FLOW | yaml_problem_t::TAB_IN_PLAIN =>
-            "while scanning a plain scalar",
-        yaml_problem_t::NO_NAME => {
-            if is_anchor(kind) {
-                "while scanning an anchor"
+        yaml_problem_t::NO_BLANK_OR_BREAK => {
+            if is_directive(kind) {
+                "while scanning a %TAG directive"
             } else {
-                "while scanning an alias"
+                scanning(kind)
             }
         }
-        yaml_problem_t::NO_BLANK_OR_BREAK => {
-            in_directive(
-                kind,
-                "while scanning a %TAG directive",
-                "while scanning a tag",
-            )
-        }
-        yaml_problem_t::NO_COMMENT_OR_BREAK => {
-            in_directive(
-                kind,
-                "while scanning a directive",
-                "while scanning a block scalar",
-            )
-        }
+        yaml_problem_t::NO_HANDLE => "while scanning a tag directive",
+        yaml_problem_t::OPEN_HANDLE => "while parsing a tag directive",
+        yaml_problem_t::UNKNOWN_ESCAPE
+        | yaml_problem_t::NO_HEX_DIGIT
+        | yaml_problem_t::NO_SCALAR_VALUE => "while parsing a quoted scalar",
         yaml_problem_t::NO_URI
         | yaml_problem_t::NO_OCTET
         | yaml_problem_t::BAD_LEAD_OCTET
-        | yaml_problem_t::BAD_NEXT_OCTET => {
-            in_directive(
-                kind,
-                "while parsing a %TAG directive",
-                "while parsing a tag",
-            )
-        }
+        | yaml_problem_t::BAD_NEXT_OCTET => parsing_uri(kind),
+        yaml_problem_t::UNKNOWN_DIRECTIVE
+        | yaml_problem_t::NO_DIRECTIVE_NAME
+        | yaml_problem_t::DIRECTIVE_NAME_GOES_ON
+        | yaml_problem_t::NO_COMMENT_OR_BREAK
+        | yaml_problem_t::NO_NAME
+        | yaml_problem_t::NO_CLOSING_ANGLE
+        | yaml_problem_t::INDICATOR_ZERO
+        | yaml_problem_t::TAB_IN_INDENTATION
+        | yaml_problem_t::DOCUMENT_MARKER
+        | yaml_problem_t::END_OF_TEXT
+        | yaml_problem_t::COLON_IN_FLOW
+        | yaml_problem_t::TAB_IN_PLAIN => scanning(kind),
     }
 }

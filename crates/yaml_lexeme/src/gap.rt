@@ -1,8 +1,11 @@
 //! What is between lexemes.
 ghost use Rattle.std.specs.Prelude.{ℕ, ◌≡◌, true, IfSome};
-ghost use Rattle.yaml_lexeme.specs.Place.{IsMarkOf, place_at, after_run, peek};
+ghost use Rattle.yaml_lexeme.specs.Place.{place_at, after_run, peek};
+ghost use Rattle.yaml_lexeme.specs.Counted.{IsMarkOf};
 ghost use Rattle.yaml_lexeme.specs.Classes.{is_in_line};
 ghost use Rattle.yaml_lexeme.specs.Gap as spec;
+ghost use Rattle.yaml_lexeme.specs.inside.Runs as runs;
+ghost use Rattle.yaml_lexeme.specs.Decider.{IsGap};
 ghost use Rattle.yaml_lexeme.specs.GapText.{EndsLongestGap};
 
 use crate::place::{check_at, cursor_t};
@@ -56,7 +59,7 @@ fn skip_gap_lines(cursor: &mut cursor_t, in_flow: bool, allowed: bool) -> bool
 /// Whether an ASCII character that belongs to no gap is here.
 #[inline(always)]
 fn is_solid(cursor: &cursor_t, k: usize) -> bool
-    ensures { result ≡ spec.is_solid (peek cursor.now k) }
+    ensures { result ≡ runs.is_solid (peek cursor.now k) }
 {
     let c = cursor.peek(k);
     c > ' ' && c < '\u{80}' && c != '#'
@@ -84,7 +87,7 @@ fn long_gap(
 /// The place after a line feed and spaces, if these are the gap that is here.
 #[inline(always)]
 fn after_feed<'a>(cursor: &cursor_t<'a>) -> Option<cursor_t<'a>>
-    ensures { IfSome result (λ q. spec.IsGap cursor.now q true) }
+    ensures { IfSome result (λ q. IsGap cursor.now q true) }
 {
     if !check_at!(cursor, '\n', 0) {
         return None;
@@ -99,7 +102,7 @@ fn after_feed<'a>(cursor: &cursor_t<'a>) -> Option<cursor_t<'a>>
 /// spaces after it are short, if an ASCII character that belongs to no gap follows.
 #[inline(always)]
 fn short_gap<'a>(cursor: &cursor_t<'a>) -> Option<(cursor_t<'a>, bool)>
-    ensures { IfSome result (λ r. spec.IsGap cursor.now r.0 r.1) }
+    ensures { IfSome result (λ r. IsGap cursor.now r.0 r.1) }
 {
     if is_solid(cursor, 0) {
         return Some((cursor.again(), false));

@@ -1,9 +1,11 @@
 //! Kinds of lexemes.
 ghost use Rattle.std.specs.Prelude.{ℕ, ◌≡◌, true, false, Some, Ok, IfSome};
-ghost use Rattle.yaml_lexeme.specs.Gap as gaps;
+ghost use Rattle.yaml_lexeme.specs.Decider as deciders;
 ghost use Rattle.yaml_lexeme.specs.Lex as lex;
+ghost use Rattle.yaml_lexeme.specs.Answers.{lexeme_at};
 ghost use Rattle.yaml_lexeme.specs.Lexeme.{whole_of};
-ghost use Rattle.yaml_lexeme.specs.Place.{IsMarkOf, place_at};
+ghost use Rattle.yaml_lexeme.specs.Place.{place_at};
+ghost use Rattle.yaml_lexeme.specs.Counted.{IsMarkOf};
 ghost use Rattle.yaml_lexeme.specs.Kind as spec;
 ghost use Rattle.yaml_lexeme.specs.declared.lex.yaml_context_t.{yaml_context_t};
 
@@ -183,13 +185,13 @@ pub fn yaml_decider_at(
     in_flow: bool,
 ) -> Option<yaml_lexeme_kind_t>
     requires { (n : ℕ) × IsMarkOf text.now.chars at n }
-    ensures decides { IfSome result (λ k. lex.decides in_flow k ≡ true) }
+    ensures decides { IfSome result (λ k. deciders.decides in_flow k ≡ true) }
     ensures gap { IfSome result (λ k. (n : ℕ) → IsMarkOf text.now.chars at n
-        → gaps.IsGap (place_at text.now.chars n) (place_at text.now.chars n) false) }
+        → deciders.IsGap (place_at text.now.chars n) (place_at text.now.chars n) false) }
     ensures kind { IfSome result (λ k. (n : ℕ) → IsMarkOf text.now.chars at n
         → spec.kind_at in_flow (place_at text.now.chars n) ≡ Some k) }
     ensures value { IfSome result (λ k. (n : ℕ) (context : yaml_context_t) → IsMarkOf text.now.chars at n
-        → lex.lexeme_at k context (place_at text.now.chars n) ≡ Ok (whole_of (lex.says_of k) at (lex.one_on at))) }
+        → lexeme_at k context (place_at text.now.chars n) ≡ Ok (whole_of (lex.says_of k) at (deciders.one_on at))) }
 {
     let cursor = cursor_t::at(text, at);
     match cursor.peek(0) {

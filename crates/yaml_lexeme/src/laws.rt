@@ -1,6 +1,6 @@
 //! Laws about the definitions, and about the equality that the types derive.
 ghost use Rattle.std.specs.Prelude.{◌≡◌, ◌↔◌, IsTrue};
-ghost use Rattle.yaml_lexeme.specs.Lexeme.{lexeme_of};
+ghost use Rattle.yaml_lexeme.specs.LexemeOf.{lexeme_of};
 ghost use Rattle.yaml_lexeme.specs.Counted.{PlacesAreCounted, MarksAreCounted};
 ghost use Rattle.yaml_lexeme.specs.Whole.{GapIsWhole, ReachIsWhole, EndIsWhole, GapIsCounted, LexemeIsCounted};
 ghost use Rattle.yaml_lexeme.specs.Whole.{ProblemIsCounted, StreamEndIsLast, StreamEndIsCounted};
@@ -8,7 +8,7 @@ ghost use Rattle.yaml_lexeme.specs.GapText.{GapIsLongest, RunIsLongest};
 ghost use Rattle.yaml_lexeme.specs.Locality.{GapIsLocal, KindIsLocal, LexIsLocal};
 ghost use Rattle.yaml_lexeme.specs.Parts.{QuotedIsParts, QuotedIsRefused, PlainIsParts, PlainIsRefused};
 ghost use Rattle.yaml_lexeme.specs.Parts.{ChunkIsLongest, LinkIsLongest, LinkIsOver, UriIsParts, UriIsRefused};
-ghost use Rattle.yaml_lexeme.specs.Parts.{BlanksAreLines, BlanksAreRefused, BlockIsLines};
+ghost use Rattle.yaml_lexeme.specs.Parts.{BlockIsLines, TextLineIsParts, TextLineIsRefused};
 ghost use Rattle.yaml_lexeme.specs.BlockGrammar.{BlockIsRefused};
 ghost use Rattle.yaml_lexeme.specs.Grammar.{NameIsParts, NameIsRefused, TagIsParts, TagIsRefused};
 ghost use Rattle.yaml_lexeme.specs.DirectiveGrammar.{DirectiveIsParts, DirectiveIsRefused};
@@ -143,8 +143,8 @@ pub fn uri_is_its_parts()
 /// that the text does not give: the header, the rest of its line, the leading empty lines, or the text lines. In the
 /// last two it comes after as many lines as possible.
 pub fn block_is_its_lines()
-    ensures empty { BlanksAreLines }
-    ensures empty_refused { BlanksAreRefused }
+    ensures line { TextLineIsParts }
+    ensures line_refused { TextLineIsRefused }
     ensures text { BlockIsLines }
     ensures refused { BlockIsRefused }
 {}

@@ -4,6 +4,7 @@ ghost use Rattle.yaml_text.specs.Chars.{utf8};
 ghost use Rattle.yaml_text.specs.Fault.{fault_of};
 ghost use Rattle.yaml_lexeme.specs.Kind as kinds;
 ghost use Rattle.yaml_lexeme.specs.Lex as spec;
+ghost use Rattle.yaml_lexeme.specs.KindSets as sets;
 ghost use Rattle.yaml_lexeme.specs.Block as blocks;
 ghost use Rattle.yaml_lexeme.specs.Directive as directives;
 ghost use Rattle.yaml_lexeme.specs.Name as names;
@@ -11,11 +12,13 @@ ghost use Rattle.yaml_lexeme.specs.Plain as plains;
 ghost use Rattle.yaml_lexeme.specs.Quoted as quotes;
 ghost use Rattle.yaml_lexeme.specs.Tag as tags;
 ghost use Rattle.yaml_text.specs.declared.types.yaml_scalar_style_t.TheVariants.{YAML_PLAIN_SCALAR_STYLE};
-ghost use Rattle.yaml_lexeme.specs.Place.{Place, IsMarkOf, place_at, skip};
+ghost use Rattle.yaml_lexeme.specs.Place.{Place, place_at, skip};
+ghost use Rattle.yaml_lexeme.specs.Counted.{IsMarkOf};
 ghost use Rattle.yaml_lexeme.specs.Reading.{Read, found};
 ghost use Rattle.yaml_lexeme.specs.inside.Gives.{Gives};
-ghost use Rattle.yaml_lexeme.specs.Answers.{Answers, ReadsAs, refused_at};
-ghost use Rattle.yaml_lexeme.specs.Lexeme.{Lexeme, lexeme, lexeme_of, whole, scalar_to, directive_to};
+ghost use Rattle.yaml_lexeme.specs.Answers.{Answers, ReadsAs, answer, lexeme_at, refused_at};
+ghost use Rattle.yaml_lexeme.specs.Lexeme.{Lexeme, lexeme, whole, scalar_to, directive_to};
+ghost use Rattle.yaml_lexeme.specs.LexemeOf.{lexeme_of};
 ghost use Rattle.yaml_lexeme.specs.declared.kind.yaml_lexeme_kind_t.{yaml_lexeme_kind_t as Kind};
 ghost use Rattle.yaml_lexeme.specs.declared.kind.yaml_lexeme_kind_t.TheVariants.{PLAIN};
 ghost use Rattle.yaml_lexeme.specs.declared.lex.yaml_context_t.{yaml_context_t};
@@ -86,7 +89,7 @@ fn least(context: yaml_context_t) -> u64
 /// Takes a lexeme of one character.
 #[inline(always)]
 fn take_character(cursor: &mut cursor_t, kind: yaml_lexeme_kind_t) -> yaml_lexeme_t
-    requires character { spec.is_character kind ≡ true }
+    requires character { sets.is_character kind ≡ true }
     requires there { (flow : Bool) × (kinds.kind_at flow cursor.old ≡ Some kind) }
     ensures { lexeme (whole spec.says_of) cursor.old (found kind (skip (spec.len_of kind) cursor.old))
         ≡ found (lexeme_of result) cursor.new }
@@ -109,7 +112,7 @@ fn take_marker(cursor: &mut cursor_t, kind: yaml_lexeme_kind_t) -> yaml_lexeme_t
 
 /// What an anchor or an alias says.
 fn anchor_or_alias(anchor: bool, value: Vec<u8>) -> unnamed_yaml_token_t_data
-    ensures { data_of result ≡ spec.anchor_or_alias anchor value.items }
+    ensures { data_of result ≡ sets.anchor_or_alias anchor value.items }
 {
     if anchor {
         unnamed_yaml_token_t_data::ANCHOR { value }
@@ -126,7 +129,7 @@ fn take_anchor_or_alias(
     anchor: bool,
 ) -> Result<yaml_lexeme_t, yaml_refusal_t>
     ensures { Gives lexeme_of result cursor.new
-        (lexeme (whole (spec.anchor_or_alias anchor)) cursor.old (names.name cursor.old)) }
+        (lexeme (whole (sets.anchor_or_alias anchor)) cursor.old (names.name cursor.old)) }
 {
     let start = cursor.mark();
     let value = take_name(alloc, cursor)?;
@@ -162,7 +165,7 @@ fn take_whole_directive(
 }
 
 fn block_style(folded: bool) -> yaml_scalar_style_t
-    ensures { result ≡ spec.block_style folded }
+    ensures { result ≡ sets.block_style folded }
 {
     if folded {
         yaml_scalar_style_t::YAML_FOLDED_SCALAR_STYLE
@@ -181,7 +184,7 @@ fn take_block_scalar(
 ) -> Result<yaml_lexeme_t, yaml_refusal_t>
     requires { spec.least context + 10 < 2 ^ 64 }
     ensures { Gives lexeme_of result cursor.new
-        (lexeme (scalar_to (spec.block_style folded)) cursor.old (blocks.block folded context.level cursor.old)) }
+        (lexeme (scalar_to (sets.block_style folded)) cursor.old (blocks.block folded context.level cursor.old)) }
 {
     let start = cursor.mark();
     match take_block(room, cursor, folded, context.level) {
@@ -192,13 +195,13 @@ fn take_block_scalar(
 
 /// What a quoted scalar says.
 fn quoted_as(value: Vec<u8>, style: yaml_scalar_style_t) -> unnamed_yaml_token_t_data
-    ensures { data_of result ≡ spec.quoted_as style value.items }
+    ensures { data_of result ≡ sets.quoted_as style value.items }
 {
     unnamed_yaml_token_t_data::SCALAR { value, style }
 }
 
 fn quoted_style(single: bool) -> yaml_scalar_style_t
-    ensures { result ≡ spec.quoted_style single }
+    ensures { result ≡ sets.quoted_style single }
 {
     if single {
         yaml_scalar_style_t::YAML_SINGLE_QUOTED_SCALAR_STYLE
@@ -215,7 +218,7 @@ fn take_quoted_scalar(
     single: bool,
 ) -> Result<yaml_lexeme_t, yaml_refusal_t>
     ensures { Gives lexeme_of result cursor.new
-        (lexeme (whole (spec.quoted_as (spec.quoted_style single))) cursor.old (quotes.quoted single cursor.old)) }
+        (lexeme (whole (sets.quoted_as (sets.quoted_style single))) cursor.old (quotes.quoted single cursor.old)) }
 {
     let start = cursor.mark();
     match take_quoted(room, cursor, single) {
@@ -258,7 +261,7 @@ fn take_block_apart(
 ) -> Result<yaml_lexeme_t, yaml_refusal_t>
     requires { spec.least context + 10 < 2 ^ 64 }
     ensures { Gives lexeme_of result cursor.new
-        (lexeme (scalar_to (spec.block_style folded)) cursor.old (blocks.block folded context.level cursor.old)) }
+        (lexeme (scalar_to (sets.block_style folded)) cursor.old (blocks.block folded context.level cursor.old)) }
 {
     take_block_scalar(room, cursor, folded, context)
 }
@@ -271,7 +274,7 @@ fn take_quoted_apart(
     single: bool,
 ) -> Result<yaml_lexeme_t, yaml_refusal_t>
     ensures { Gives lexeme_of result cursor.new
-        (lexeme (whole (spec.quoted_as (spec.quoted_style single))) cursor.old (quotes.quoted single cursor.old)) }
+        (lexeme (whole (sets.quoted_as (sets.quoted_style single))) cursor.old (quotes.quoted single cursor.old)) }
 {
     take_quoted_scalar(room, cursor, single)
 }
@@ -303,7 +306,7 @@ fn take_lexeme(
     requires room { spec.least context + 10 < 2 ^ 64 }
     requires there { (flow : Bool) × (kinds.kind_at flow cursor.old ≡ Some kind) }
     ensures value { Gives lexeme_of result cursor.new (spec.lex kind context cursor.old) }
-    ensures bare { spec.is_bare kind ≡ true → IsOk result }
+    ensures bare { sets.is_bare kind ≡ true → IsOk result }
 {
     match kind {
         yaml_lexeme_kind_t::STREAM_END => take_stream_end(cursor),
@@ -338,7 +341,7 @@ fn read_to(
     there: &mut yaml_mark_t,
 ) -> Result<yaml_lexeme_t, yaml_refusal_t>
     ensures value { (k : Kind) (p : Place) (read : Read Lexeme) → Gives lexeme_of taken cursor.now read
-        → ReadsAs lexeme_of k p.mark there.new result (spec.answer k p read) }
+        → ReadsAs lexeme_of k p.mark there.new result (answer k p read) }
     ensures taken { IsOk taken → IsOk result }
     ensures stays { IsOk result → there.new ≡ there.old }
 {
@@ -367,7 +370,7 @@ pub fn yaml_read_plain(
     requires level { IfSome context.level (λ l. l ≤ length (utf8 spot.old.text.now.chars)) }
     ensures value { (n : ℕ) → IsMarkOf spot.old.text.now.chars spot.old.at n
         → ReadsAs lexeme_of PLAIN spot.old.at spot.new.at result
-        (spec.lexeme_at PLAIN context (place_at spot.old.text.now.chars n)) }
+        (lexeme_at PLAIN context (place_at spot.old.text.now.chars n)) }
     ensures text { spot.new.text ≡ spot.old.text }
     ensures stays { IsOk result → spot.new.at ≡ spot.old.at }
 {
@@ -387,8 +390,8 @@ pub fn yaml_read_quoted(
 ) -> Result<yaml_lexeme_t, yaml_refusal_t>
     requires { (n : ℕ) × IsMarkOf spot.old.text.now.chars spot.old.at n }
     ensures value { (n : ℕ) (context : yaml_context_t) → IsMarkOf spot.old.text.now.chars spot.old.at n
-        → ReadsAs lexeme_of (spec.quoted_kind single) spot.old.at spot.new.at result
-        (spec.lexeme_at (spec.quoted_kind single) context (place_at spot.old.text.now.chars n)) }
+        → ReadsAs lexeme_of (sets.quoted_kind single) spot.old.at spot.new.at result
+        (lexeme_at (sets.quoted_kind single) context (place_at spot.old.text.now.chars n)) }
     ensures text { spot.new.text ≡ spot.old.text }
     ensures stays { IsOk result → spot.new.at ≡ spot.old.at }
 {
@@ -409,8 +412,8 @@ pub fn yaml_read_block(
     requires place { (n : ℕ) × IsMarkOf spot.old.text.now.chars spot.old.at n }
     requires level { IfSome context.level (λ l. l ≤ length (utf8 spot.old.text.now.chars)) }
     ensures value { (n : ℕ) → IsMarkOf spot.old.text.now.chars spot.old.at n
-        → ReadsAs lexeme_of (spec.block_kind folded) spot.old.at spot.new.at result
-        (spec.lexeme_at (spec.block_kind folded) context (place_at spot.old.text.now.chars n)) }
+        → ReadsAs lexeme_of (sets.block_kind folded) spot.old.at spot.new.at result
+        (lexeme_at (sets.block_kind folded) context (place_at spot.old.text.now.chars n)) }
     ensures text { spot.new.text ≡ spot.old.text }
     ensures stays { IsOk result → spot.new.at ≡ spot.old.at }
 {
@@ -432,9 +435,9 @@ pub fn yaml_read_character(
 ) -> yaml_lexeme_t
     requires place { (n : ℕ) × IsMarkOf text.now.chars at n
         × ((flow : Bool) × (kinds.kind_at flow (place_at text.now.chars n) ≡ Some kind)) }
-    requires kind { spec.is_character kind ≡ true }
+    requires kind { sets.is_character kind ≡ true }
     ensures { (n : ℕ) (context : yaml_context_t) → IsMarkOf text.now.chars at n
-        → spec.lexeme_at kind context (place_at text.now.chars n) ≡ Ok (lexeme_of result) }
+        → lexeme_at kind context (place_at text.now.chars n) ≡ Ok (lexeme_of result) }
 {
     take_character(&mut cursor_t::at(text, at), kind)
 }
@@ -452,8 +455,8 @@ pub fn yaml_read_lexeme(
     requires level { IfSome context.level (λ l. l ≤ length (utf8 spot.old.text.now.chars)) }
     ensures value { (n : ℕ) → IsMarkOf spot.old.text.now.chars spot.old.at n
         → ReadsAs lexeme_of kind spot.old.at spot.new.at result
-        (spec.lexeme_at kind context (place_at spot.old.text.now.chars n)) }
-    ensures bare { spec.is_bare kind ≡ true → IsOk result }
+        (lexeme_at kind context (place_at spot.old.text.now.chars n)) }
+    ensures bare { sets.is_bare kind ≡ true → IsOk result }
     ensures text { spot.new.text ≡ spot.old.text }
     ensures stays { IsOk result → spot.new.at ≡ spot.old.at }
 {
@@ -494,8 +497,8 @@ pub fn yaml_lexeme_fault(
 /// # Errors
 ///
 /// A fault of kind scanner is the first offence of the lexeme. Its problem text says what is wrong. Its problem mark is
-/// that of the first character that does not fit, which may be the end. Its context text says what was being
-/// read, and its context mark is `at`. These are the problems:
+/// that of the first character that does not fit, which may be the end, if nothing else is said below. Its context text
+/// says what was being read, and its context mark is `at`. These are the problems:
 ///
 /// - a directive: no name after `%`, a name that goes on with another character, an unknown name, what is not a
 ///   comment or a break after it; in `%YAML` no number, a number of more than nine digits (at the tenth), no `.`; in
@@ -508,7 +511,8 @@ pub fn yaml_lexeme_fault(
 ///   where a space of indentation could be;
 /// - a quoted scalar: the end of the text, a document marker at the start of a line; in double quotes an unknown escape
 ///   (at the backslash), a digit that is not hexadecimal, and digits that spell no character (both at the first digit);
-/// - a plain scalar: in flow a `:` before `?` or a flow indicator, and a tab in the indentation of a line that goes on.
+/// - a plain scalar: in flow a `:` before `?` or a flow indicator; and after a break, also if the scalar is over before
+///   it, a tab in a column that is not above the greatest open level.
 ///
 /// A fault of kind memory may come instead of the lexeme or its offence, for a growth that was refused. The
 /// contract does not say that one was. It never comes for stream ends, document markers and lexemes of one
@@ -525,8 +529,8 @@ pub fn yaml_lexeme_at(
         × (kinds.kind_at (spec.in_flow context) (place_at text.now.chars n) ≡ Some kind) }
     requires level { IfSome context.level (λ l. l ≤ length (utf8 text.now.chars)) }
     ensures value { (n : ℕ) → IsMarkOf text.now.chars at n
-        → Answers lexeme_of result (spec.lexeme_at kind context (place_at text.now.chars n)) }
-    ensures bare { spec.is_bare kind ≡ true → IsOk result }
+        → Answers lexeme_of result (lexeme_at kind context (place_at text.now.chars n)) }
+    ensures bare { sets.is_bare kind ≡ true → IsOk result }
 {
     let mut cursor = cursor_t::at(text, at);
     match take_lexeme(alloc, &mut cursor, kind, context) {

@@ -2,6 +2,7 @@
 ghost use Rattle.std.specs.Prelude.{◌≡◌};
 ghost use Rattle.yaml_text.specs.Token.{data_of};
 ghost use Rattle.yaml_lexeme.specs.Lexeme as spec;
+ghost use Rattle.yaml_lexeme.specs.LexemeOf.{directive_of, lexeme_of, scalar_of};
 
 use crate::directive::directive_t;
 use crate::plain::scalar_t;
@@ -33,7 +34,7 @@ pub(crate) fn whole_of(
     start: yaml_mark_t,
     end: yaml_mark_t,
 ) -> yaml_lexeme_t
-    ensures { spec.lexeme_of result ≡ spec.whole_of (data_of says) start end }
+    ensures { lexeme_of result ≡ spec.whole_of (data_of says) start end }
 {
     yaml_lexeme_t {
         token_data: says,
@@ -51,7 +52,7 @@ pub(crate) fn scalar_to(
     scalar: scalar_t,
     reach: yaml_mark_t,
 ) -> yaml_lexeme_t
-    ensures { spec.lexeme_of result ≡ spec.scalar_to style start (spec.scalar_of scalar) reach }
+    ensures { lexeme_of result ≡ spec.scalar_to style start (scalar_of scalar) reach }
 {
     yaml_lexeme_t {
         token_data: unnamed_yaml_token_t_data::SCALAR {
@@ -71,7 +72,7 @@ pub(crate) fn directive_to(
     directive: directive_t,
     reach: yaml_mark_t,
 ) -> yaml_lexeme_t
-    ensures { spec.lexeme_of result ≡ spec.directive_to start (spec.directive_of directive) reach }
+    ensures { lexeme_of result ≡ spec.directive_to start (directive_of directive) reach }
 {
     yaml_lexeme_t {
         token_data: directive.says,

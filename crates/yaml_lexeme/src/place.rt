@@ -1,10 +1,14 @@
 //! A place that moves through a text.
 ghost use Rattle.std.specs.Prelude.{ℕ, min, ◌≡◌, ◌+◌, ◌^◌, ◌<◌, ◌≤◌, length, slice_index, take, drop, false, true};
+ghost use Rattle.std.specs.Char.{len_utf8};
 ghost use Rattle.std.specs.Str.{chars};
-ghost use Rattle.yaml_text.specs.Chars.{IsText, utf8};
+ghost use Rattle.yaml_text.specs.Chars.{utf8};
+ghost use Rattle.yaml_text.specs.TextBytes.{IsText};
 ghost use Rattle.yaml_text.specs.Classes.{is_break};
 ghost use Rattle.yaml_text.specs.Utf8.{value_of};
-ghost use Rattle.yaml_lexeme.specs.Place.{peek, first, place_at, IsMarkOf, skip, mark_after, width, after_run, run};
+ghost use Rattle.yaml_lexeme.specs.Place.{peek, first, place_at, skip, after_run, run};
+ghost use Rattle.yaml_lexeme.specs.inside.Moves.{mark_after};
+ghost use Rattle.yaml_lexeme.specs.Counted.{IsMarkOf};
 ghost use Rattle.yaml_lexeme.specs.Place.{run_len, break_len};
 ghost use Rattle.yaml_lexeme.specs.declared.runs.class_t.TheVariants.{SPACE};
 ghost use Rattle.yaml_lexeme.specs.inside.Runs.{class_test, is_line, Stands};
@@ -41,7 +45,7 @@ pub(crate) struct cursor_t<'a> {
 impl<'a> Model for cursor_t<'a> {
     ghost use Rattle.std.specs.Prelude.{◌+◌, ◌^◌, ◌<◌, ◌≤◌, length};
     ghost use Rattle.std.specs.Str.{chars};
-    ghost use Rattle.yaml_text.specs.Chars.{IsText};
+    ghost use Rattle.yaml_text.specs.TextBytes.{IsText};
     ghost use Rattle.yaml_lexeme.specs.Place.{Place};
 
     ghost Value = { Place };
@@ -144,7 +148,7 @@ fn past_char(bytes: &[u8]) -> &[u8]
 }
 
 fn mark_after(mark: yaml_mark_t, c: char, next: char) -> yaml_mark_t
-    requires index { mark.index + width c < 2 ^ 64 }
+    requires index { mark.index + len_utf8 c < 2 ^ 64 }
     requires sums { mark.line + mark.column ≤ mark.index }
     ensures value { result ≡ mark_after mark c next }
     ensures sums { result.line + result.column ≤ result.index }

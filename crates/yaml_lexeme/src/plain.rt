@@ -7,8 +7,9 @@ ghost use Rattle.yaml_text.specs.Chars.{utf8};
 ghost use Rattle.yaml_lexeme.specs.Classes as sets;
 ghost use Rattle.yaml_lexeme.specs.Place.{Place, first, peek, run, after_run};
 ghost use Rattle.yaml_lexeme.specs.Plain as spec;
+ghost use Rattle.yaml_lexeme.specs.inside.Words as words;
 ghost use Rattle.yaml_lexeme.specs.inside.Gives.{Gives, Appends};
-ghost use Rattle.yaml_lexeme.specs.Lexeme.{scalar_of};
+ghost use Rattle.yaml_lexeme.specs.LexemeOf.{scalar_of};
 ghost use Rattle.yaml_lexeme.specs.Reading.{with_front, over};
 ghost use Rattle.yaml_lexeme.specs.inside.Words.{links, words, plain_of, Goes, LeadsTo, Leaves, LeavesMore};
 
@@ -152,7 +153,7 @@ fn take_words(
 }
 
 fn is_bad_tab(cursor: &cursor_t, broken: bool, least: u64) -> bool
-    ensures { result ≡ spec.is_bad_tab least broken cursor.now }
+    ensures { result ≡ words.is_bad_tab least broken cursor.now }
 {
     check_at!(cursor, '\t', 0) && broken && cursor.mark().column < least
 }

@@ -1,7 +1,7 @@
 //! The stream end.
 ghost use Rattle.std.specs.Prelude.{◌≡◌, ◌+◌, ◌<◌, ◌^◌, IsOk};
 ghost use Rattle.yaml_lexeme.specs.StreamEnd as spec;
-ghost use Rattle.yaml_lexeme.specs.Lexeme.{lexeme_of};
+ghost use Rattle.yaml_lexeme.specs.LexemeOf.{lexeme_of};
 ghost use Rattle.yaml_lexeme.specs.inside.Gives.{Gives};
 
 use crate::lexeme::{whole_of, yaml_lexeme_t};

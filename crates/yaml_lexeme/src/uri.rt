@@ -1,5 +1,6 @@
 //! Uris of tags, and their escapes.
-ghost use Rattle.std.specs.Prelude.{◌≡◌, ◌++◌, ◌∷◌, [], ◌<◌, true, OnOk};
+ghost use Rattle.std.specs.Prelude.{◌≡◌, ◌++◌, ◌∷◌, [], ◌<◌, true, not, OnOk};
+ghost use Rattle.yaml_text.specs.Utf8.{continues, width_of};
 ghost use Rattle.yaml_lexeme.specs.Uri as spec;
 ghost use Rattle.yaml_lexeme.specs.inside.Gives.{Gives, Takes, Appends, OctetIs};
 
@@ -58,7 +59,7 @@ fn octet_at(cursor: &cursor_t) -> Result<u8, yaml_refusal_t>
 
 /// How many octets a lead octet begins, or 0.
 fn octet_width(c: u8) -> usize
-    ensures { result ≡ spec.octet_width c }
+    ensures { result ≡ width_of c }
 {
     match c {
         0..=0x7F => 1,
@@ -70,9 +71,9 @@ fn octet_width(c: u8) -> usize
 }
 
 fn is_bad_next(c: u8) -> bool
-    ensures { result ≡ spec.is_bad_next c }
+    ensures { result ≡ not (continues c) }
 {
-    !(0x80..0xC0).contains(&c)
+    !(0x80..=0xBF).contains(&c)
 }
 
 /// Takes `n` later octets, and appends them to `out`.

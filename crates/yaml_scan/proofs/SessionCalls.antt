@@ -1,4 +1,6 @@
 -- Sessions: what lists of calls take and return.
+-- The cases of a call, each by itself: what it answers and leaves, by the next token.
+pub mod CallCases
 -- What calls take of the list, and how many steps are queued after them.
 pub mod SessionTokens
 -- What a peek shows is what the next scan returns.

@@ -1,15 +1,16 @@
 -- All tokens of an input, in one call.
 use Rattle.std.specs.Prelude.{◌≡◌, ◌⊎◌, ℕ, ◌≤◌, false, true, List, map, take, Option, None, Some}
 use Rattle.std.specs.List.{list_any}
+use Rattle.yaml_text.specs.Fault.{Fault, memory_fault}
 use Rattle.yaml_text.specs.declared.types.yaml_encoding_t.{yaml_encoding_t}
 use Rattle.yaml_text.specs.declared.types.yaml_encoding_t.TheVariants.{YAML_UTF8_ENCODING}
+use Rattle.yaml_scan.specs.Course.{Course, course}
 use Rattle.yaml_scan.specs.Token.{yaml_token_t, type_of}
 use Rattle.yaml_scan.specs.TokenTypes.{is_last_type}
-use Rattle.yaml_scan.specs.Fault.{Fault, memory_fault}
 use Rattle.yaml_scan.specs.Begins.{Begins}
 use Rattle.yaml_scan.specs.Depth.{depth}
 use Rattle.yaml_scan.specs.Groups.{handed_out}
-use Rattle.yaml_scan.specs.Answers.{Answers, Course, course}
+use Rattle.yaml_scan.specs.Answers.{Answers}
 use Rattle.yaml_scan.specs.Session.{all_steps}
 use Rattle.yaml_scan.specs.Sessions.{settled_tokens}
 use Rattle.yaml_scan.specs.Inputs.{answers_to}

@@ -5,10 +5,10 @@ use Rattle.yaml_scan.specs.Kind.{Kind, is_key, is_value, is_plain, invites_key}
 use Rattle.yaml_scan.specs.Laid.{Laid, is_none, reach}
 use Rattle.yaml_scan.specs.Depth.{depth}
 
--- after a lexeme of kind k, read at depth d; none: it completed nothing
+-- after a lexeme of kind k, read at depth d; lone: it completed nothing
 abbrev pub allows : Kind → ℕ → Bool → Bool → Bool
-allows k d none passed_break = invites_key k
-    || ((nat_eq d 0 && (is_key k || (is_value k && none))) || (is_plain k && passed_break))
+allows k d lone passed_break = invites_key k
+    || ((nat_eq d 0 && (is_key k || (is_value k && lone))) || (is_plain k && passed_break))
 
 -- by the last lexeme, and at the start of the stream
 abbrev pub allowed_after : List Laid → Bool

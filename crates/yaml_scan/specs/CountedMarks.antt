@@ -1,20 +1,20 @@
 -- Marks are counted from the front of the text (YAML 1.1, section 5.4): each mark that is handed out is that of a place
 -- of the text, so none is between CR and LF. The one exception is the mark of the end of a stream.
 use Rattle.std.specs.Prelude.{◌≡◌, ◌⊎◌, ℕ, List, [], ◌∷◌, length, Some, IfSome}
+use Rattle.yaml_text.specs.Fault.{Fault}
 use Rattle.yaml_text.specs.Decode.{front}
 use Rattle.yaml_text.specs.Mark.{IsMarkAt, mark_at}
 use Rattle.yaml_text.specs.declared.types.yaml_encoding_t.{yaml_encoding_t}
 use Rattle.yaml_text.specs.declared.types.yaml_mark_t.{yaml_mark_t}
 use Rattle.yaml_text.specs.declared.types.yaml_token_type_t.{yaml_token_type_t}
 use Rattle.yaml_text.specs.declared.types.yaml_token_type_t.TheVariants.{YAML_STREAM_END_TOKEN, YAML_BLOCK_END_TOKEN}
-use Rattle.yaml_scan.specs.Answers.{course}
-use Rattle.yaml_scan.specs.Fault.{Fault, no_colon}
+use Rattle.yaml_scan.specs.Course.{course}
 use Rattle.yaml_scan.specs.Inputs.{answers_to}
 use Rattle.yaml_scan.specs.Decoded.{decoded_input}
 use Rattle.yaml_scan.specs.Session.{Session, Call, Answer}
 use Rattle.yaml_scan.specs.Sessions.{session, session_reach}
 use Rattle.yaml_scan.specs.Session.Answer.{TOKEN, PEEKED, SKIPPED, NOTHING, FAULT}
-use Rattle.yaml_scan.specs.Step.{end_of}
+use Rattle.yaml_scan.specs.Step.{end_of, no_colon}
 use Rattle.yaml_scan.specs.Token.{yaml_token_t, type_of}
 
 -- the mark is that of a place of the text

@@ -1,6 +1,7 @@
 -- The longest list of steps of a text, and what is read of a text that is in its order.
-use Rattle.std.specs.Prelude.{◌≡◌, ℕ, ◌+◌, ◌≤◌, ◌<◌, Bool, true, false, List, [], ◌∷◌, Option, Some, None, Ok, Err}
+use Rattle.std.specs.Prelude.{◌≡◌, ℕ, ◌≤◌, ◌<◌, Bool, true, false, List, [], ◌∷◌, Option, Some, None, Ok, Err}
 use Rattle.std.specs.Prelude.{nat_lt}
+use Rattle.yaml_scan.specs.Course.{Cut, longest, ended}
 use Rattle.yaml_scan.specs.Kind.{Kind, is_stream_end, is_key, is_value}
 use Rattle.yaml_scan.specs.Token.{unnamed_yaml_token_t_data, type_of, zero_mark}
 use Rattle.yaml_scan.specs.TokenTypes.{is_last_type}
@@ -11,11 +12,10 @@ use Rattle.yaml_scan.specs.Order.{IsNotBefore, Follows}
 use Rattle.yaml_scan.specs.Source.{Source, Reading, Offence}
 use Rattle.yaml_scan.specs.Step.{Outcome, step, lexeme_of}
 use Rattle.yaml_scan.specs.Step.Outcome.{Reads, Faults}
-use Rattle.yaml_scan.specs.Steps.{Cut, cut_from, ended}
 
--- each lexeme but the stream end takes a character, so a text of n characters has n + 1 of them at most
+-- of a text alone
 unfoldable pub cut : Source → ℕ → Cut
-cut S limit = cut_from (step S limit) (S.size + 1) limit []
+cut S limit = longest (step S limit) S.size limit
 
 -- each lexeme of H is the outcome of the step after those before it
 abbrev pub IsRun : (List Laid → Outcome) → ℕ → List Laid → Type 0

@@ -2,8 +2,8 @@
 use Rattle.std.specs.Prelude.{ℕ, List}
 use Rattle.yaml_text.specs.declared.types.yaml_encoding_t.{yaml_encoding_t}
 use Rattle.yaml_text.specs.Decode.{front, refusal}
+use Rattle.yaml_scan.specs.Course.{Input}
 use Rattle.yaml_scan.specs.SourceOf.{source_of}
-use Rattle.yaml_scan.specs.Answers.{Input}
 
 -- the front of an input, decoded, and the fault of what follows it
 unfoldable pub decoded_input : yaml_encoding_t → List ℕ → Input

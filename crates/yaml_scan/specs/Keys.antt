@@ -6,6 +6,7 @@ use Rattle.yaml_scan.specs.Kind.{Kind, is_flow_start, is_value, is_candidate_kin
 use Rattle.yaml_scan.specs.Laid.{Laid}
 use Rattle.yaml_scan.specs.Depth.{depth}
 
+-- it is of a candidate kind
 abbrev pub is_candidate : Laid → Bool
 is_candidate i = is_candidate_kind i.lexeme.kind
 
@@ -22,6 +23,7 @@ abbrev pub since : ℕ → List Laid → List Laid
 since k [] = []
 since k (i ∷ H) = if enters k i then [] else (i ∷ since k H)
 
+-- the lexeme, if it is of a candidate kind
 abbrev pub only_candidate : Option Laid → Option Laid
 only_candidate None = None
 only_candidate (Some i) = if is_candidate i then Some i else None
@@ -35,6 +37,7 @@ candidate H k = only_candidate (find (λ i. nat_eq i.depth k && settles i) (sinc
 abbrev pub live : ℕ → Laid → yaml_mark_t → Bool
 live limit i m = nat_eq m.line i.lexeme.start.line && nat_le m.index (i.lexeme.start.index + limit)
 
+-- the candidate, if it is live at m
 abbrev pub only_live : ℕ → yaml_mark_t → Option Laid → Option Laid
 only_live limit m None = None
 only_live limit m (Some i) = if live limit i m then Some i else None

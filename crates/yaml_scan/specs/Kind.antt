@@ -8,6 +8,7 @@ use Rattle.yaml_lexeme.specs.declared.kind.yaml_lexeme_kind_t.TheVariants.{FLOW_
 use Rattle.yaml_lexeme.specs.declared.kind.yaml_lexeme_kind_t.TheVariants.{KEY, VALUE, ALIAS, ANCHOR, TAG, LITERAL}
 use Rattle.yaml_lexeme.specs.declared.kind.yaml_lexeme_kind_t.TheVariants.{FOLDED, SINGLE_QUOTED, DOUBLE_QUOTED, PLAIN}
 
+-- the stream end
 abbrev pub is_stream_end : Kind → Bool
 is_stream_end STREAM_END = true
 is_stream_end _ = false
@@ -39,6 +40,7 @@ abbrev pub is_value : Kind → Bool
 is_value VALUE = true
 is_value _ = false
 
+-- a plain scalar
 abbrev pub is_plain : Kind → Bool
 is_plain PLAIN = true
 is_plain _ = false

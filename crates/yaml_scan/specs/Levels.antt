@@ -4,8 +4,7 @@ use Rattle.std.specs.Prelude.{nat_le, Option, Some, None, max, option_map}
 use Rattle.std.specs.List.{list_any, list_all}
 use Rattle.yaml_text.specs.declared.types.yaml_mark_t.{yaml_mark_t}
 use Rattle.yaml_scan.specs.Kind.{Kind, is_block_entry, is_key, is_value, closes_all}
-use Rattle.yaml_scan.specs.Lexeme.{Lexeme}
-use Rattle.yaml_scan.specs.Laid.{Laid, column, is_none, names}
+use Rattle.yaml_scan.specs.Laid.{Laid, column, is_none, names, Lexeme}
 use Rattle.yaml_scan.specs.Depth.{depth}
 use Rattle.yaml_scan.specs.Allowed.{allowed}
 use Rattle.yaml_scan.specs.Keys.{completed_by}
@@ -18,14 +17,16 @@ stays flow k m c = flow || (not (closes_all k) && nat_le c m.column)
 abbrev pub keeps : ℕ → Kind → yaml_mark_t → ℕ → Bool
 keeps d k m c = stays (nat_lt 0 d) k m c
 
+-- a column is above a level, or there is none
 abbrev pub is_above : ℕ → Option ℕ → Bool
 is_above c None = true
 is_above c (Some l) = nat_lt l c
 
 -- a `-`, a `?`, or a `:` that completes nothing
 abbrev pub opens_level : Kind → Bool → Bool
-opens_level k none = is_block_entry k || (is_key k || (is_value k && none))
+opens_level k lone = is_block_entry k || (is_key k || (is_value k && lone))
 
+-- i opens a level, if its column is above
 abbrev pub is_opener : Laid → Bool
 is_opener i = opens_level i.lexeme.kind (is_none i.completed)
 
@@ -50,10 +51,12 @@ open_columns H = map column (filter (λ i. opens H i && still_open H i) H)
 unfoldable pub kept_columns : List Laid → Kind → yaml_mark_t → List ℕ
 kept_columns H k m = filter (keeps (depth H) k m) (open_columns H)
 
+-- the greater one of a column and a level
 abbrev pub greater_of : ℕ → Option ℕ → Option ℕ
 greater_of c None = Some c
 greater_of c (Some l) = Some (max c l)
 
+-- the greatest of some columns
 abbrev pub greatest_level : List ℕ → Option ℕ
 greatest_level [] = None
 greatest_level (c ∷ cs) = greater_of c (greatest_level cs)

@@ -1,7 +1,6 @@
 pub mod Kind
 pub mod Token
 pub mod TokenTypes
-pub mod Lexeme
 pub mod Laid
 pub mod Depth
 pub mod Allowed
@@ -12,11 +11,10 @@ pub mod Falling
 pub mod Begins
 pub mod Groups
 pub mod Order
-pub mod Fault
 pub mod Source
 pub mod SourceOf
 pub mod Step
-pub mod Steps
+pub mod Course
 pub mod Cut
 pub mod Settled
 pub mod Near

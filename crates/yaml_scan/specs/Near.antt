@@ -1,7 +1,7 @@
 -- The reader's fault near the end: in a refused input it comes instead of the first step that is near the end of the
 -- front.
+use Rattle.yaml_text.specs.Fault.{Fault}
 use Rattle.std.specs.Prelude.{ℕ, ◌+◌, Bool, false, nat_lt, Option, Some, None, if◌then◌else◌}
-use Rattle.yaml_scan.specs.Fault.{Fault}
 use Rattle.yaml_scan.specs.Step.{Outcome}
 use Rattle.yaml_scan.specs.Step.Outcome.{Reads, Faults}
 

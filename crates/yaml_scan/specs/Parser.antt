@@ -1,8 +1,7 @@
--- A parser, as its calls see it.
+-- A parser, as its calls see it. The calls go by what its bytes decode to, whatever that is.
 use Rattle.std.specs.Prelude.{ℕ, List}
 use Rattle.yaml_text.specs.declared.types.yaml_encoding_t.{yaml_encoding_t}
-use Rattle.yaml_scan.specs.Answers.{Input, Course, course}
-use Rattle.yaml_scan.specs.Decoded.{decoded_input}
+use Rattle.yaml_scan.specs.Course.{Input, Course, course}
 use Rattle.yaml_scan.specs.Session.{Session, Call, Answer, after, answer}
 
 pub record Parser : Type 0 where
@@ -14,22 +13,18 @@ pub record Parser : Type 0 where
   pub limit : ℕ
   pub session : Session
 
--- the input of a parser, and its course
-abbrev pub input_read : Parser → Input
-input_read p = decoded_input p.setting p.input
+-- what bytes decode to in an encoding setting; in the code it is `decoded_input` (Decoded.antt)
+abbrev pub Decoder : Type 0
+Decoder = yaml_encoding_t → List ℕ → Input
 
-unfoldable pub course_read : Parser → Course
-course_read p = course p.limit (input_read p)
-
--- the parser after a call
-abbrev pub after_call : Parser → Call → Parser
-after_call p call = record {
-  input = p.input;
-  setting = p.setting;
-  limit = p.limit;
-  session = after p.limit (course_read p) call p.session;
-}
+-- the course of a parser's input
+unfoldable pub course_by : Decoder → Parser → Course
+course_by decode p = course p.limit (decode p.setting p.input)
 
 -- the answer to a call
-abbrev pub answered : Parser → Call → Answer
-answered p call = answer (input_read p).encoding p.limit (course_read p) call p.session
+abbrev pub answer_by : Decoder → Parser → Call → Answer
+answer_by decode p call = answer (decode p.setting p.input).encoding p.limit (course_by decode p) call p.session
+
+-- the parser after a call
+abbrev pub after_by : Decoder → Parser → Call → Parser
+after_by decode p call = record p { session = after p.limit (course_by decode p) call p.session }

@@ -1,19 +1,21 @@
 -- What the answers that a list of calls appends say, and which of them other inputs get as well.
 use Rattle.std.specs.Prelude.{◌≡◌, ◌≢◌, ◌⊎◌, ◌↔◌, ℕ, ◌+◌, ◌<◌, false, Option, None, Some, IfSome, List, []}
 use Rattle.std.specs.Prelude.{◌∷◌, ◌++◌, map, take, drop, replicate, length, slice_get}
+use Rattle.yaml_text.specs.Fault.{Fault, memory_fault}
 use Rattle.yaml_text.specs.declared.types.yaml_encoding_t.{yaml_encoding_t}
+use Rattle.yaml_scan.specs.Decoded.{decoded_input}
+use Rattle.yaml_scan.specs.ParserCalls.{input_read, course_read, answered}
 use Rattle.yaml_scan.specs.declared.calls.yaml_answer_t.{yaml_answer_t}
-use Rattle.yaml_scan.specs.Token.{yaml_token_t, empty}
-use Rattle.yaml_scan.specs.Fault.{Fault, memory_fault}
+use Rattle.yaml_scan.specs.Token.{yaml_token_t, empty, type_of}
 use Rattle.yaml_scan.specs.Groups.{Token}
 use Rattle.yaml_scan.specs.Begins.{Begins}
 use Rattle.yaml_scan.specs.Inputs.{answers_to, GoesOn}
 use Rattle.yaml_scan.specs.Session.{Call, Answer, next_token}
 use Rattle.yaml_scan.specs.Sessions.{session, after_all}
-use Rattle.yaml_scan.specs.Session.Call.{SKIP}
-use Rattle.yaml_scan.specs.Parser.{Parser, answered, course_read, input_read}
+use Rattle.yaml_scan.specs.Session.Call.{SCAN, PEEK, SKIP}
+use Rattle.yaml_scan.specs.Parser.{Parser}
 use Rattle.yaml_scan.specs.Session.Answer.{FAULT}
-use Rattle.yaml_scan.specs.Seen.{Seen, seen, seen_of, idle, Seen as sight}
+use Rattle.yaml_scan.specs.Seen.{Seen, seen, seen_of, Seen as sight}
 use Rattle.yaml_scan.specs.Headline.{WantsMemory, Runs}
 use Rattle.yaml_scan.specs.Seen.Seen.{TOKEN, PEEKED, SKIPPED, NOTHING}
 
@@ -44,16 +46,24 @@ pub record PutsSession (p : Parser) (calls : List Call) (old new : List yaml_ans
   pub answers : map seen_of more ≡ map seen (answered_all p calls)
   pub left : q ≡ after_calls p calls
 
--- memory was refused in the call after the first n: the answers to these are the session's, that to this call is the
--- one fault, and the others are as if the session is over
-pub record RunsOut (p : Parser) (calls : List Call) (all : List Seen) (q : Parser) : Type 0 where
+-- the answer to a call if the session is over
+abbrev pub idle : Call → Seen
+idle SCAN = TOKEN empty
+idle PEEK = PEEKED (type_of empty.token_data) empty.start_mark empty.end_mark
+idle SKIP = NOTHING
+
+-- the answers to calls are a parser's, up to this fault, and after it as if the session is over
+pub record StopsWith (fault : Fault) (p : Parser) (calls : List Call) (answers : List Seen) : Type 0 where
   pub n : ℕ
   pub within : n < length calls
-  -- a skip needs no memory
-  pub asks : slice_get calls n ≢ Some SKIP
-  pub wants : WantsMemory (after_calls p (take n calls)) q
-  pub answers : all
-      ≡ map seen (answered_all p (take n calls)) ++ (sight.FAULT memory_fault ∷ map idle (drop (n + 1) calls))
+  pub answers_are : answers
+      ≡ map seen (answered_all p (take n calls)) ++ (sight.FAULT fault ∷ map idle (drop (n + 1) calls))
+
+-- memory was refused in a call, other than a skip: the answers stop with the fault of kind memory
+pub record RunsOut (p : Parser) (calls : List Call) (answers : List Seen) (q : Parser) : Type 0 where
+  pub stops : StopsWith memory_fault p calls answers
+  pub asks : slice_get calls stops.n ≢ Some SKIP
+  pub wants : WantsMemory decoded_input (after_calls p (take stops.n calls)) q
 
 -- THE TOKENS THAT WERE TAKEN
 -- the tokens that answers say were taken, in order: a scan its token, a skip that there was one
@@ -107,13 +117,6 @@ IsAnsweredAlike p call a = (t : yaml_encoding_t) (b : List ℕ) (fault : Fault)
     → GoesOn p.setting p.input t b fault
     → (a ≡ answered (of_input p t b) call) ⊎ ((a ≡ FAULT fault) ⊎ (a ≡ FAULT memory_fault))
 
--- the answers to calls are a parser's, up to this fault, and after it as if the session is over
-pub record StopsWith (fault : Fault) (p : Parser) (calls : List Call) (answers : List Seen) : Type 0 where
-  pub n : ℕ
-  pub within : n < length calls
-  pub answers_are : answers
-      ≡ map seen (answered_all p (take n calls)) ++ (sight.FAULT fault ∷ map idle (drop (n + 1) calls))
-
 -- the answers to calls are as for each accepted input that agrees up to the refused character: all of them, or those
 -- before the reader's fault or before a refused growth
 abbrev pub AreAnsweredAlike : Parser → List Call → List Seen → Type 0
@@ -141,4 +144,4 @@ OfSession p calls answers q =
 -- calls that are answered one after the other, each on the parser that the one before it left, are answered just so
 abbrev pub CallsAreSession : Type 0
 CallsAreSession = (p : Parser) (calls : List Call) (answers : List Seen) (q : Parser)
-    → Runs p calls answers q ↔ OfSession p calls answers q
+    → Runs decoded_input p calls answers q ↔ OfSession p calls answers q

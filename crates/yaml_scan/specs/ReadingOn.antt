@@ -1,13 +1,14 @@
 -- Reading on: scan after scan, to the end of an input and past it.
 use Rattle.std.specs.Prelude.{◌≡◌, ◌⊎◌, ℕ, ◌-◌, ◌≤◌, ◌<◌, Bool, true, false, Option, None, Some, Result, if◌then◌else◌}
 use Rattle.std.specs.Prelude.{List, [], ◌∷◌, ◌++◌, map, filter, drop, replicate, length}
+use Rattle.yaml_text.specs.Fault.{Fault}
 use Rattle.yaml_text.specs.declared.types.yaml_encoding_t.{yaml_encoding_t}
 use Rattle.yaml_text.specs.declared.fault.yaml_fault_t.{yaml_fault_t}
 use Rattle.yaml_text.specs.declared.token.yaml_token_t.{yaml_token_t as code_token_t}
+use Rattle.yaml_scan.specs.Course.{course}
 use Rattle.yaml_scan.specs.declared.calls.yaml_answer_t.{yaml_answer_t}
 use Rattle.yaml_scan.specs.Token.{empty}
-use Rattle.yaml_scan.specs.Fault.{Fault}
-use Rattle.yaml_scan.specs.Answers.{Answers, course}
+use Rattle.yaml_scan.specs.Answers.{Answers}
 use Rattle.yaml_scan.specs.Inputs.{answers_to}
 use Rattle.yaml_scan.specs.Decoded.{decoded_input}
 use Rattle.yaml_scan.specs.Session.{Session, Call, Answer}
@@ -15,7 +16,7 @@ use Rattle.yaml_scan.specs.Sessions.{new_session, session}
 use Rattle.yaml_scan.specs.Session.Call.{SCAN}
 use Rattle.yaml_scan.specs.Session.Answer.{TOKEN, FAULT}
 use Rattle.yaml_scan.specs.Parser.{Parser}
-use Rattle.yaml_scan.specs.ParserCalls.{told}
+use Rattle.yaml_scan.specs.ParserCalls.{scan_result}
 use Rattle.yaml_scan.specs.Headline.{Runs}
 use Rattle.yaml_scan.specs.Puts.{RunsOut}
 use Rattle.yaml_scan.specs.Seen.{Seen, seen, seen_of, Seen as sight}
@@ -77,10 +78,10 @@ ReadsOn p calls old new q = (n : ℕ) → calls ≡ scans n → length (left_to 
 -- one of them
 abbrev pub ScansReadOn : Type 0
 ScansReadOn = (p : Parser) (results : List (Result code_token_t yaml_fault_t)) (q : Parser)
-    → Runs p (scans (length results)) (map seen (map told results)) q
+    → Runs decoded_input p (scans (length results)) (map seen (map scan_result results)) q
     → length (left_to p).tokens < length results
-    → (map told results ≡ all_told (left_to p) (length results))
-    ⊎ RunsOut p (scans (length results)) (map seen (map told results)) q
+    → (map scan_result results ≡ all_told (left_to p) (length results))
+    ⊎ RunsOut p (scans (length results)) (map seen (map scan_result results)) q
 
 -- FAULTS
 abbrev pub is_fault : Seen → Bool
@@ -99,4 +100,4 @@ FaultIsToldOnce = (limit : ℕ) (setting : yaml_encoding_t) (input : List ℕ) (
 -- a fault is returned at most once, also if memory was refused
 abbrev pub RunsFaultOnce : Type 0
 RunsFaultOnce = (p : Parser) (calls : List Call) (answers : List Seen) (q : Parser)
-    → Runs p calls answers q → HaveOneFault answers
+    → Runs decoded_input p calls answers q → HaveOneFault answers

@@ -5,10 +5,10 @@ use Rattle.std.specs.List.{list_any}
 use Rattle.yaml_text.specs.declared.types.yaml_encoding_t.{yaml_encoding_t}
 use Rattle.yaml_text.specs.declared.token.yaml_token_t.{yaml_token_t as code_token_t}
 use Rattle.yaml_text.specs.Token.{token_of}
+use Rattle.yaml_scan.specs.Settled.{tokens_of}
 use Rattle.yaml_scan.specs.Token.{yaml_token_t, type_of}
 use Rattle.yaml_scan.specs.TokenTypes.{is_last_type}
 use Rattle.yaml_scan.specs.Groups.{handed_out}
-use Rattle.yaml_scan.specs.Answers.{tokens_of}
 use Rattle.yaml_scan.specs.Decoded.{decoded_input}
 use Rattle.yaml_scan.specs.Session.{Call, all_steps}
 use Rattle.yaml_scan.specs.Sessions.{settled_tokens, new_session, after_all}

@@ -1,16 +1,12 @@
 -- What can be seen of the answers to lists of calls.
 use Rattle.yaml_text.specs.declared.types.yaml_mark_t.{yaml_mark_t}
 use Rattle.yaml_text.specs.declared.types.yaml_token_type_t.{yaml_token_type_t}
-use Rattle.yaml_text.specs.Fault.{fault_of}
+use Rattle.yaml_text.specs.Fault.{fault_of, Fault}
 use Rattle.yaml_text.specs.Token.{token_of}
-use Rattle.yaml_scan.specs.declared.calls.yaml_call_t.{yaml_call_t}
-use Rattle.yaml_scan.specs.declared.calls.yaml_call_t.TheVariants as code
 use Rattle.yaml_scan.specs.declared.calls.yaml_answer_t.{yaml_answer_t}
 use Rattle.yaml_scan.specs.declared.calls.yaml_answer_t.TheVariants as coded
-use Rattle.yaml_scan.specs.Token.{yaml_token_t, empty, type_of}
-use Rattle.yaml_scan.specs.Fault.{Fault}
-use Rattle.yaml_scan.specs.Session.{Call, Answer, Answer as says}
-use Rattle.yaml_scan.specs.Session.Call.{SCAN, PEEK, SKIP}
+use Rattle.yaml_scan.specs.Token.{yaml_token_t, type_of}
+use Rattle.yaml_scan.specs.Session.{Answer, Answer as says}
 
 -- what can be seen of an answer: of a peeked token the type and the marks
 pub data Seen : Type 0 where
@@ -35,15 +31,3 @@ seen_of (coded.PEEKED type start end) = PEEKED type start end
 seen_of coded.SKIPPED = SKIPPED
 seen_of coded.NOTHING = NOTHING
 seen_of (coded.FAULT f) = FAULT (fault_of f)
-
--- the code's calls
-abbrev pub call_of : yaml_call_t → Call
-call_of code.SCAN = SCAN
-call_of code.PEEK = PEEK
-call_of code.SKIP = SKIP
-
--- the answer to a call if the session is over
-abbrev pub idle : Call → Seen
-idle SCAN = TOKEN empty
-idle PEEK = PEEKED (type_of empty.token_data) empty.start_mark empty.end_mark
-idle SKIP = NOTHING

@@ -2,20 +2,19 @@
 use Rattle.std.specs.Prelude.{◌≡◌, ℕ, ◌+◌, ◌≤◌, ◌<◌, Bool, true, false, ◌&&◌, List, [], ◌∷◌, ◌++◌, length, Option, Some}
 use Rattle.std.specs.Prelude.{None, option_map, if◌then◌else◌}
 use Rattle.std.specs.Option.{option_to_list}
+use Rattle.yaml_text.specs.Fault.{Fault}
 use Rattle.yaml_text.specs.declared.types.yaml_encoding_t.{yaml_encoding_t}
+use Rattle.yaml_scan.specs.Course.{ended, Input, Course, next, course}
 use Rattle.yaml_scan.specs.Token.{yaml_token_t}
 use Rattle.yaml_scan.specs.Laid.{Laid}
 use Rattle.yaml_scan.specs.Groups.{Token, offline}
-use Rattle.yaml_scan.specs.Settled.{before, settled, pace}
+use Rattle.yaml_scan.specs.Settled.{before, settled, pace, tokens_of}
 use Rattle.yaml_scan.specs.Order.{IsHistory}
-use Rattle.yaml_scan.specs.Steps.{ended}
-use Rattle.yaml_scan.specs.Fault.{Fault}
 use Rattle.yaml_scan.specs.Begins.{Begins}
 use Rattle.yaml_scan.specs.Source.{Offence}
 use Rattle.yaml_scan.specs.Step.{step}
 use Rattle.yaml_scan.specs.Step.Outcome.{Faults}
 use Rattle.yaml_scan.specs.Cut.{cut, IsRun, KeepsOrder}
-use Rattle.yaml_scan.specs.Answers.{Input, Course, next, course, tokens_of}
 use Rattle.yaml_scan.specs.Near.{place_of}
 use Rattle.yaml_scan.specs.Session.{Call, Session, next_token, after, answer}
 use Rattle.yaml_scan.specs.Sessions.{new_session, after_all, session_queued}

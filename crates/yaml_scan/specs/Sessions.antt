@@ -2,10 +2,10 @@
 use Rattle.std.specs.Prelude.{ℕ, ◌+◌, false, List, [], ◌∷◌, length, nat_eq, nat_lt, None, if◌then◌else◌}
 use Rattle.yaml_text.specs.declared.types.yaml_mark_t.{yaml_mark_t}
 use Rattle.yaml_text.specs.declared.types.yaml_encoding_t.{yaml_encoding_t}
+use Rattle.yaml_scan.specs.Course.{Course}
 use Rattle.yaml_scan.specs.Laid.{Laid, reach}
 use Rattle.yaml_scan.specs.Groups.{Token, groups}
 use Rattle.yaml_scan.specs.Settled.{before, first_steps}
-use Rattle.yaml_scan.specs.Answers.{Course}
 use Rattle.yaml_scan.specs.Session.{Session, Call, Answer, after, answer}
 
 -- a session before any call
@@ -22,9 +22,9 @@ unfoldable pub after_all : ℕ → Course → List Call → Session → Session
 after_all limit c [] s = s
 after_all limit c (call ∷ calls) s = after_all limit c calls (after limit c call s)
 
--- the tokens that are settled after s steps
+-- the tokens that are settled after n steps
 abbrev pub settled_tokens : ℕ → Course → ℕ → List Token
-settled_tokens limit c s = if nat_lt 0 s then before limit (first_steps s c.read) else []
+settled_tokens limit c n = if nat_lt 0 n then before limit (first_steps n c.read) else []
 
 -- how far the last step was read, and zero before any
 abbrev pub session_reach : Course → Session → yaml_mark_t

@@ -1,10 +1,9 @@
 -- What a sink is given.
-use Rattle.std.specs.Prelude.{◌≡◌, ◌++◌, [], ◌∷◌, ℕ, ◌+◌, List, length, Option}
-use Rattle.std.proofs.Common.{sym, ap, ◌∙◌, append-nil, append_assoc}
+use Rattle.std.specs.Prelude.{◌++◌, [], ◌∷◌, ℕ, ◌+◌, List, length, Option}
+use Rattle.yaml_text.specs.Fault.{Fault}
 use Rattle.yaml_text.specs.declared.types.yaml_encoding_t.{yaml_encoding_t}
 use Rattle.yaml_scan.specs.Token.{yaml_token_t, unnamed_yaml_token_t_data}
 use Rattle.yaml_text.specs.Token.TokenData.{TAG_DIRECTIVE, ALIAS, ANCHOR, TAG, SCALAR}
-use Rattle.yaml_scan.specs.Fault.{Fault}
 use Rattle.yaml_scan.specs.Begins.{Begins}
 use Rattle.yaml_scan.specs.Inputs.{answers_to}
 use Rattle.yaml_scan.specs.All.{ReadsAll}
@@ -37,10 +36,3 @@ pub record IsGivenFront (took : List yaml_token_t
   pub given : took tokens
   pub refused : yaml_token_t
   pub beginning : Begins (tokens ++ refused ∷ []) (answers_to limit setting input).tokens
-
--- what a list of tokens has taken: none, and some and then others
-pub list_none : (xs : List yaml_token_t) → xs ≡ xs ++ []
-list_none xs = sym (append-nil xs)
-
-pub list_more : (a b c xs ys : List yaml_token_t) → b ≡ a ++ xs → c ≡ b ++ ys → c ≡ a ++ (xs ++ ys)
-list_more a b c xs ys e f = f ∙ ap (λ (z : List yaml_token_t). z ++ ys) e ∙ append_assoc a xs ys

@@ -1,9 +1,9 @@
 -- What is read of a text, place by place. A place is the number of characters before it.
 use Rattle.std.specs.Prelude.{ℕ, Bool, Option, Result}
+use Rattle.yaml_text.specs.Fault.{Fault}
 use Rattle.yaml_text.specs.declared.types.yaml_mark_t.{yaml_mark_t}
 use Rattle.yaml_scan.specs.Kind.{Kind}
 use Rattle.yaml_scan.specs.Token.{unnamed_yaml_token_t_data}
-use Rattle.yaml_scan.specs.Fault.{Fault}
 
 -- a lexeme of a kind from a start on
 pub record Reading : Type 0 where
@@ -14,11 +14,13 @@ pub record Reading : Type 0 where
   pub place : ℕ
   pub passed_break : Bool
 
+-- what is wrong with a lexeme
 pub record Offence : Type 0 where
   pub fault : Fault
   -- the place of its problem
   pub place : ℕ
 
+-- what a step asks of a text
 pub record Source : Type 0 where
   -- how many characters the text has
   pub size : ℕ

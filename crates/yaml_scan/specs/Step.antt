@@ -1,18 +1,41 @@
 -- The step after a list of lexemes: the next lexeme, or the fault.
-use Rattle.std.specs.Prelude.{ℕ, ◌+◌, Bool, not, ◌&&◌, ◌||◌, List, [], ◌∷◌, nat_eq, nat_lt, Option, Some, None, Result}
-use Rattle.std.specs.Prelude.{Ok, Err, if◌then◌else◌}
+use Rattle.std.specs.Prelude.{ℕ, ◌+◌, Bool, not, ◌&&◌, ◌||◌, List, [], ◌∷◌, nat_eq, nat_lt, Option, Some, None}
+use Rattle.std.specs.Prelude.{Ok, Err, codes, if◌then◌else◌}
 use Rattle.yaml_text.specs.declared.types.yaml_mark_t.{yaml_mark_t}
+use Rattle.yaml_text.specs.Fault.{scanner_fault}
 use Rattle.yaml_scan.specs.Kind.{Kind, is_stream_end, is_block_entry, is_key, is_value, is_candidate_kind}
-use Rattle.yaml_scan.specs.Lexeme.{Lexeme}
-use Rattle.yaml_scan.specs.Laid.{Laid, is_none}
+use Rattle.yaml_scan.specs.Laid.{Laid, is_none, Lexeme}
 use Rattle.yaml_scan.specs.Depth.{depth}
 use Rattle.yaml_scan.specs.Keys.{candidate, live, only_live, completed_by}
 use Rattle.yaml_scan.specs.Allowed.{allowed, allowed_after}
 use Rattle.yaml_scan.specs.Levels.{level, laid, is_required}
-use Rattle.yaml_scan.specs.Fault.{scanner_fault, no_token, no_colon, entry_not_allowed, key_not_allowed}
-use Rattle.yaml_scan.specs.Fault.{value_not_allowed, in_next_token, in_simple_key}
 use Rattle.yaml_scan.specs.Source.{Source, Reading, Offence}
 
+-- THE TEXTS OF ITS FAULTS
+-- problems
+abbrev pub no_token : List ℕ
+no_token = codes "found character that cannot start any token"
+
+abbrev pub no_colon : List ℕ
+no_colon = codes "could not find expected ':'"
+
+abbrev pub entry_not_allowed : List ℕ
+entry_not_allowed = codes "block sequence entries are not allowed in this context"
+
+abbrev pub key_not_allowed : List ℕ
+key_not_allowed = codes "mapping keys are not allowed in this context"
+
+abbrev pub value_not_allowed : List ℕ
+value_not_allowed = codes "mapping values are not allowed in this context"
+
+-- contexts
+abbrev pub in_next_token : List ℕ
+in_next_token = codes "while scanning for the next token"
+
+abbrev pub in_simple_key : List ℕ
+in_simple_key = codes "while scanning a simple key"
+
+-- WHAT IT GIVES
 pub data Outcome : Type 0 where
   Reads : Lexeme → Outcome
   Faults : Offence → Outcome
@@ -23,6 +46,7 @@ place_after [] = 0
 place_after (i ∷ H) = i.lexeme.place
 
 -- THE REQUIRED CANDIDATE
+-- the candidate, if it is required
 abbrev pub only_required : Option Laid → Option Laid
 only_required None = None
 only_required (Some i) = if is_required i then Some i else None
@@ -31,6 +55,7 @@ only_required (Some i) = if is_required i then Some i else None
 unfoldable pub required : List Laid → Option Laid
 required H = only_required (candidate H 0)
 
+-- the candidate, if it is not live at m
 abbrev pub only_stale : ℕ → yaml_mark_t → Option Laid → Option Laid
 only_stale limit m None = None
 only_stale limit m (Some i) = if live limit i m then None else Some i
@@ -51,22 +76,25 @@ unless (Some i) m p o = Faults (lost i.lexeme.start m p)
 -- WHAT IS NOT ALLOWED
 -- the problem of a `-`, a `?` or a `:` that completes nothing
 abbrev pub problem_of : Kind → Bool → Option (List ℕ)
-problem_of k none = if is_block_entry k then Some entry_not_allowed else if is_key k then Some key_not_allowed
-    else if is_value k && none then Some value_not_allowed else None
+problem_of k lone = if is_block_entry k then Some entry_not_allowed else if is_key k then Some key_not_allowed
+    else if is_value k && lone then Some value_not_allowed else None
 
 -- at depth 0, if no key is allowed
 unfoldable pub refused : ℕ → List Laid → Kind → yaml_mark_t → Option (List ℕ)
 refused limit H k g = if nat_eq (depth H) 0 && not (allowed H g) then problem_of k (is_none (completed_by limit H k g))
     else None
 
+-- a lexeme is not allowed at the mark m of place p
 abbrev pub not_allowed : List ℕ → yaml_mark_t → ℕ → Offence
 not_allowed problem m p = record { fault = scanner_fault problem m None m; place = p }
 
+-- a lexeme that is not allowed comes first
 abbrev pub refuse : Option (List ℕ) → yaml_mark_t → ℕ → Outcome → Outcome
 refuse None m p o = o
 refuse (Some problem) m p o = Faults (not_allowed problem m p)
 
 -- THE LEXEME
+-- a lexeme of kind k clears or replaces the candidate of its depth
 abbrev pub replaces : Kind → Bool → Bool
 replaces k allowed = not (is_value k) && (not (is_candidate_kind k) || allowed)
 
@@ -82,6 +110,7 @@ end_of g = if nat_eq g.column 0 then g else record { index = g.index; line = g.l
 abbrev pub start_at : Kind → yaml_mark_t → yaml_mark_t
 start_at k g = if is_stream_end k then end_of g else g
 
+-- the lexeme of kind k that was read after the gap that ends at g
 abbrev pub lexeme_of : Kind → yaml_mark_t → Reading → Lexeme
 lexeme_of k g r = record {
   kind = k;
@@ -94,32 +123,35 @@ lexeme_of k g r = record {
   passed_break = r.passed_break;
 }
 
-abbrev pub after_read : ℕ → List Laid → Kind → yaml_mark_t → Result Reading Offence → Outcome
-after_read limit H k g (Err o) = Faults o
-after_read limit H k g (Ok r) = unless (stale limit (laid limit H (lexeme_of k g r)
-    ∷ H) r.reach) r.reach r.place (Reads (lexeme_of k g r))
-
--- the lexeme at place p or its offence, and the stale test at its reach
-unfoldable pub read_step : Source → ℕ → List Laid → Kind → ℕ → Outcome
-read_step S limit H k p = after_read limit H k (S.mark p) (S.read k (depth H) (level H k (start_at k (S.mark p))) p)
-
+-- THE STEP
+-- no lexeme starts at p, of mark m
 abbrev pub no_kind : yaml_mark_t → ℕ → Offence
 no_kind m p = record { fault = scanner_fault no_token m (Some in_next_token) m; place = p }
-
-abbrev pub kind_step : Source → ℕ → List Laid → ℕ → Option Kind → Outcome
-kind_step S limit H p None = Faults (no_kind (S.mark p) p)
-kind_step S limit H p (Some k) = refuse (refused limit H k (S.mark p)) (S.mark p) p
-    (unless (clears limit H k (S.mark p)) (start_at k (S.mark p)) p (read_step S limit H k p))
-
-abbrev pub gap_step : Source → ℕ → List Laid → ℕ → Outcome
-gap_step S limit H p = unless (stale limit H (S.mark p)) (S.mark p) p
-    (kind_step S limit H p (S.kind (nat_lt 0 (depth H)) p))
 
 -- the place where the gap after H ends
 abbrev pub front_of : Source → List Laid → ℕ
 front_of S H = S.gap (nat_lt 0 (depth H)) (allowed_after H) (place_after H)
 
--- The first that fits: a stale required candidate, no kind, a kind that is not allowed, a required candidate that would
--- be cleared, an offence, a required candidate that is stale at the reach; else the lexeme.
+-- The first that fits of seven rows, after the gap that ends at p, of mark g.
 unfoldable pub step : Source → ℕ → List Laid → Outcome
-step S limit H = gap_step S limit H (front_of S H)
+step S limit H =
+    let p = front_of S H in
+    let g = S.mark p in
+    -- 1. the required candidate is stale
+    unless (stale limit H g) g p (elim (S.kind (nat_lt 0 (depth H)) p) [
+      -- 2. there is no kind
+      | None ↦ Faults (no_kind g p)
+      -- 3. the kind needs a key to be allowed, and none is
+      | Some k ↦ refuse (refused limit H k g) g p
+          -- 4. the lexeme would clear or replace the live required candidate
+          (unless (clears limit H k g) (start_at k g) p (elim (S.read k (depth H) (level H k (start_at k g)) p) [
+            -- 5. it cannot be read
+            | Err o ↦ Faults o
+            | Ok r ↦
+                let x = lexeme_of k g r in
+                -- 6. the required candidate, of it and those before it, is stale at its reach
+                unless (stale limit (laid limit H x ∷ H) x.reach) x.reach x.place
+                -- 7. the lexeme
+                (Reads x)
+          ]))
+    ])

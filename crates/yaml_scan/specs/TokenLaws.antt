@@ -65,6 +65,6 @@ abbrev pub KeysAreFollowed : Type 0
 KeysAreFollowed = (limit : ℕ) (H : List Laid) → IsHistory limit H
     → KeysHaveValues limit (offline H) × KeysHaveValues limit (before limit H)
 
--- at most four tokens a step, of which STREAM-START is one
+-- in all at most four times as many tokens as steps, of which STREAM-START is one
 abbrev pub FourTokensAStep : Type 0
 FourTokensAStep = (limit : ℕ) (H : List Laid) → IsHistory limit H → length (offline H) ≤ 4 * (length H + 1)

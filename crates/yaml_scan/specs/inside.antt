@@ -5,10 +5,12 @@ pub mod TextReads
 pub mod Stop
 pub mod Queue
 pub mod StepFaults
+pub mod StepParts
 pub mod NearFault
 pub mod Scanning
 pub mod Handed
 pub mod Given
+pub mod MoreTaken
 pub mod Ready
 pub mod Shown
 pub mod Kept

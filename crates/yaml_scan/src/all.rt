@@ -27,7 +27,7 @@ struct token_list_t {
 impl yaml_token_sink_t for token_list_t {
     ghost use Rattle.std.specs.Prelude.{◌≡◌, ◌++◌, map};
     ghost use Rattle.yaml_text.specs.Token.{token_of};
-    ghost use Rattle.yaml_scan.specs.Sink.{list_none, list_more};
+    ghost use Rattle.yaml_scan.specs.inside.MoreTaken.{list_none, list_more};
 
     ghost took = { λ a tokens b. map token_of b.tokens.items ≡ map token_of a.tokens.items ++ tokens };
 

@@ -2,16 +2,16 @@
 ghost use Rattle.std.specs.Prelude.{◌≡◌, ◌+◌, ◌≤◌, length, map, OnOk, OnErr, vec_len, true};
 ghost use Rattle.std.specs.Vec.{vec_capacity};
 ghost use Rattle.yaml_text.specs.Token.{token_of};
+ghost use Rattle.yaml_scan.specs.Decoded.{decoded_input};
 ghost use Rattle.yaml_scan.specs.Sessions.{session_queued};
 ghost use Rattle.yaml_scan.specs.Session.Call.{SCAN, PEEK, SKIP};
-ghost use Rattle.yaml_scan.specs.Parser.{course_read, input_read};
-ghost use Rattle.yaml_scan.specs.ParserCalls.{IsRefusedEarly};
+ghost use Rattle.yaml_scan.specs.ParserCalls.{IsRefusedEarly, input_read, course_read, call_of};
 ghost use Rattle.yaml_scan.specs.CallWords.{SeenHaveLines};
 ghost use Rattle.yaml_scan.specs.ReadingOn.{ReadsOn, HaveOneFault};
 ghost use Rattle.yaml_scan.specs.Puts.{Puts, PutsSession, TakesNext, HasNext, AreAnsweredAlike};
 ghost use Rattle.yaml_scan.specs.CallMarks.{text_read, SeenAreCounted};
 ghost use Rattle.yaml_scan.specs.inside.Shown.{IsSeen};
-ghost use Rattle.yaml_scan.specs.Seen.{seen_of, call_of, seen};
+ghost use Rattle.yaml_scan.specs.Seen.{seen_of, seen};
 ghost use Rattle.yaml_scan.specs.Headline.{PutsAnswers};
 ghost use Rattle.yaml_scan.specs.Session.Answer.{PEEKED};
 
@@ -96,7 +96,7 @@ fn answer_call(parser: &mut yaml_parser_t, call: yaml_call_t) -> yaml_answer_t
 /// Makes the calls. There is room for their answers.
 fn answer_all(parser: &mut yaml_parser_t, calls: &[yaml_call_t], out: &mut Vec<yaml_answer_t>)
     requires { vec_len out.old + length calls.now ≤ vec_capacity out.old }
-    ensures { PutsAnswers parser.old (map call_of calls.now) out.old.items out.new.items parser.new }
+    ensures { PutsAnswers decoded_input parser.old (map call_of calls.now) out.old.items out.new.items parser.new }
 {
     for call in calls {
         let answer = answer_call(parser, *call);
@@ -130,8 +130,8 @@ pub fn yaml_run(
     calls: &[yaml_call_t],
     out: &mut Vec<yaml_answer_t>,
 ) -> Result<(), AllocError>
-    ensures answers { OnOk result (PutsAnswers parser.old (map call_of calls.now) out.old.items out.new.items
-        parser.new) }
+    ensures answers { OnOk result
+        (PutsAnswers decoded_input parser.old (map call_of calls.now) out.old.items out.new.items parser.new) }
     ensures early { OnOk result (IsRefusedEarly (input_read parser.old)
         → PutsSession parser.old (map call_of calls.now) out.old.items out.new.items parser.new) }
     ensures refused { OnErr result ((parser.new ≡ parser.old) × (out.new.items ≡ out.old.items)) }

@@ -1,7 +1,7 @@
 //! What comes after a lexeme was read: the step may have to stop, or the lexeme is laid.
 ghost use Rattle.std.specs.Prelude.{ℕ, ◌≡◌, false, List, [], MatchResult, OnOk};
-ghost use Rattle.yaml_lexeme.specs.Lexeme.{lexeme_of};
-ghost use Rattle.yaml_lexeme.specs.Place.{IsMarkOf};
+ghost use Rattle.yaml_lexeme.specs.LexemeOf.{lexeme_of};
+ghost use Rattle.yaml_lexeme.specs.Counted.{IsMarkOf};
 ghost use Rattle.yaml_scan.specs.Laid.{Laid};
 ghost use Rattle.yaml_scan.specs.Kind.{is_stream_end};
 ghost use Rattle.yaml_scan.specs.inside.Handed.{LaysTo, StepsTo, group_tokens, made_by};

@@ -2,8 +2,9 @@
 ghost use Rattle.std.specs.Prelude.{◌≡◌, Some, true};
 ghost use Rattle.yaml_text.specs.Text.{Text};
 ghost use Rattle.yaml_text.specs.Kept.{IsKeptOf, KeptText};
+ghost use Rattle.yaml_scan.specs.ParserCalls.{course_read};
 ghost use Rattle.yaml_scan.specs.Sessions.{session_reach};
-ghost use Rattle.yaml_scan.specs.Parser.{Parser, course_read};
+ghost use Rattle.yaml_scan.specs.Parser.{Parser};
 ghost use Rattle.yaml_scan.specs.inside.Kept.{IsKept};
 
 use crate::fault::make_memory_fault;

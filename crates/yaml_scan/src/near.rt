@@ -1,8 +1,9 @@
 //! Which steps of a refused input are near the place at which its text breaks off.
 ghost use Rattle.std.specs.Prelude.{◌≡◌, ◌+◌, ◌<◌, ◌^◌, length, List, ℕ};
-ghost use Rattle.yaml_text.specs.Decode.{refusal_seen};
+ghost use Rattle.yaml_text.specs.Decoding.{refusal_seen};
 ghost use Rattle.yaml_scan.specs.inside.NearFault.{near_fault};
-ghost use Rattle.yaml_text.specs.Chars.{AreChars, utf8};
+ghost use Rattle.yaml_text.specs.Chars.{utf8};
+ghost use Rattle.yaml_text.specs.TextBytes.{AreChars};
 ghost use Rattle.yaml_text.specs.Utf8.{continues};
 ghost use Rattle.yaml_scan.specs.inside.Scanning.{IsNearFrom, IsNearOf};
 

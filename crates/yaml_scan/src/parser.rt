@@ -4,6 +4,7 @@ ghost use Rattle.std.specs.Borrow.{sem};
 ghost use Rattle.yaml_text.specs.Fault.{Fault, fault_of};
 ghost use Rattle.yaml_text.specs.Token.{token_of};
 ghost use Rattle.yaml_text.specs.declared.types.yaml_encoding_t.TheVariants.{YAML_UTF8_ENCODING};
+ghost use Rattle.yaml_scan.specs.Decoded.{decoded_input};
 ghost use Rattle.yaml_scan.specs.KeyLimits.{key_limit, most_key_limit};
 ghost use Rattle.yaml_scan.specs.Settled.{before};
 ghost use Rattle.yaml_scan.specs.Sessions.{new_session, session_queued, session_reach};
@@ -11,11 +12,11 @@ ghost use Rattle.yaml_scan.specs.inside.Scanning.{IsRunning, history};
 ghost use Rattle.yaml_scan.specs.inside.Ready.{IsNew, IsReady, IsSettled, IsStopped, IsShort, IsEnded, Pops, Begins};
 ghost use Rattle.yaml_scan.specs.inside.Ready.{IsStarted, IsShown};
 ghost use Rattle.yaml_scan.specs.Headline.{Calls};
-ghost use Rattle.yaml_scan.specs.Parser.{Parser, after_call, input_read};
-ghost use Rattle.yaml_scan.specs.ParserCalls.{told, token_shown, IsThere, IsRefusedEarly};
+ghost use Rattle.yaml_scan.specs.Parser.{Parser};
+ghost use Rattle.yaml_scan.specs.ParserCalls.{input_read, course_read, answered, after_call};
+ghost use Rattle.yaml_scan.specs.ParserCalls.{scan_result, token_shown, IsThere, IsRefusedEarly};
 ghost use Rattle.yaml_scan.specs.inside.Shown.{Shows};
-ghost use Rattle.yaml_scan.specs.Parser.{answered, course_read};
-ghost use Rattle.yaml_scan.specs.ParserCalls.{told_copied, shown};
+ghost use Rattle.yaml_scan.specs.ParserCalls.{peek_result, copied};
 ghost use Rattle.yaml_scan.specs.CallMarks.{IsCountedIn, ReachesTo};
 ghost use Rattle.yaml_scan.specs.Session.Call.{SKIP, SCAN, PEEK};
 ghost use Rattle.yaml_scan.specs.Peek.{OnceLetGo};
@@ -298,13 +299,13 @@ fn take_shown(parser: &mut yaml_parser_t) -> yaml_token_t
 /// before the first step.
 #[inline(always)]
 pub fn yaml_parser_scan(parser: &mut yaml_parser_t) -> Result<yaml_token_t, yaml_fault_t>
-    ensures answers { Calls SCAN parser.old (told result) parser.new }
-    ensures bare { IsThere parser.old → (told result ≡ answered parser.old SCAN)
+    ensures answers { Calls decoded_input SCAN parser.old (scan_result result) parser.new }
+    ensures bare { IsThere parser.old → (scan_result result ≡ answered parser.old SCAN)
         × (parser.new ≡ after_call parser.old SCAN) }
     ensures early { IsRefusedEarly (input_read parser.old)
-        → (told result ≡ answered parser.old SCAN) × (parser.new ≡ after_call parser.old SCAN) }
-    ensures local { IsAnsweredAlike parser.old SCAN (told result) }
-    ensures marks { IsCountedIn parser.old (told result) }
+        → (scan_result result ≡ answered parser.old SCAN) × (parser.new ≡ after_call parser.old SCAN) }
+    ensures local { IsAnsweredAlike parser.old SCAN (scan_result result) }
+    ensures marks { IsCountedIn parser.old (scan_result result) }
 {
     if parser.session.over {
         return Ok(yaml_token_t::empty());
@@ -344,12 +345,13 @@ pub fn yaml_parser_skip(parser: &mut yaml_parser_t)
 pub fn yaml_parser_peek<'s>(
     parser: &'s mut yaml_parser_t<'_>,
 ) -> Result<&'s yaml_token_t, yaml_fault_t>
-    ensures* answers { sem 𝓛 (OnceLetGo parser.entry (λ q. Calls PEEK parser.old (shown (told_copied result)) q)) }
-    ensures shows { (q : Parser) × Calls PEEK parser.old (shown (told_copied result)) q }
-    ensures bare { IsThere parser.old → shown (told_copied result) ≡ answered parser.old PEEK }
-    ensures early { IsRefusedEarly (input_read parser.old) → shown (told_copied result) ≡ answered parser.old PEEK }
-    ensures local { IsAnsweredAlike parser.old PEEK (shown (told_copied result)) }
-    ensures marks { IsCountedIn parser.old (shown (told_copied result)) }
+    ensures* answers { sem 𝓛 (OnceLetGo parser.entry
+        (λ q. Calls decoded_input PEEK parser.old (peek_result (copied result)) q)) }
+    ensures shows { (q : Parser) × Calls decoded_input PEEK parser.old (peek_result (copied result)) q }
+    ensures bare { IsThere parser.old → peek_result (copied result) ≡ answered parser.old PEEK }
+    ensures early { IsRefusedEarly (input_read parser.old) → peek_result (copied result) ≡ answered parser.old PEEK }
+    ensures local { IsAnsweredAlike parser.old PEEK (peek_result (copied result)) }
+    ensures marks { IsCountedIn parser.old (peek_result (copied result)) }
 {
     if show(parser) {
         Ok(shown(parser))

@@ -2,9 +2,9 @@
 ghost use Rattle.std.specs.Prelude.{◌≡◌, ◌⊎◌, ◌+◌, ◌-◌, ◌<◌, ◌^◌, ◌&&◌, not, nat_lt, nat_eq, length};
 ghost use Rattle.std.specs.Prelude.{false, MatchResult};
 ghost use Rattle.yaml_text.specs.Fault.{memory_fault};
+ghost use Rattle.yaml_scan.specs.Course.{ended};
 ghost use Rattle.yaml_scan.specs.inside.Queue.{begins_with_end, pending};
 ghost use Rattle.yaml_scan.specs.Settled.{before};
-ghost use Rattle.yaml_scan.specs.Steps.{ended};
 ghost use Rattle.yaml_scan.specs.inside.Stop.{fault_at};
 ghost use Rattle.yaml_scan.specs.inside.Scanning.{IsRunning, StepsOn, IsLast, Stays, IsOpen};
 ghost use Rattle.yaml_scan.specs.inside.Scanning.{Fails, Settles};

@@ -1,8 +1,8 @@
 //! The readers of `yaml_lexeme`, with contracts over places instead of marks.
 ghost use Rattle.std.specs.Prelude.{◌≡◌, ℕ, ◌≤◌, Bool, Option, Some, length, IfSome, true};
-ghost use Rattle.yaml_lexeme.specs.Lex.{block_kind, is_character, quoted_kind};
-ghost use Rattle.yaml_lexeme.specs.Lexeme.{lexeme_of};
-ghost use Rattle.yaml_lexeme.specs.Place.{IsMarkOf};
+ghost use Rattle.yaml_lexeme.specs.KindSets.{block_kind, is_character, quoted_kind};
+ghost use Rattle.yaml_lexeme.specs.LexemeOf.{lexeme_of};
+ghost use Rattle.yaml_lexeme.specs.Counted.{IsMarkOf};
 ghost use Rattle.yaml_lexeme.specs.declared.kind.yaml_lexeme_kind_t.TheVariants.{PLAIN};
 ghost use Rattle.yaml_scan.specs.SourceOf.{source_of};
 ghost use Rattle.yaml_scan.specs.inside.Scanning.{HasRead};

@@ -1,6 +1,6 @@
 //! A step: the gap, the kind of the next lexeme, the lexeme, and what the layout makes of it.
 ghost use Rattle.std.specs.Prelude.{List, ◌≡◌, ◌<◌, true, false, nat_lt, vec_len, OnOk};
-ghost use Rattle.yaml_lexeme.specs.Lex.{block_kind, is_character, quoted_kind};
+ghost use Rattle.yaml_lexeme.specs.KindSets.{block_kind, is_character, quoted_kind};
 ghost use Rattle.yaml_lexeme.specs.declared.kind.yaml_lexeme_kind_t.TheVariants.{PLAIN};
 ghost use Rattle.yaml_scan.specs.Laid.{Laid};
 ghost use Rattle.yaml_scan.specs.inside.Handed.{StepsTo};

@@ -1,15 +1,14 @@
 //! Why a step stops. These functions are cold, and find again what the step has tested.
 ghost use Rattle.std.specs.Prelude.{Bool, List, ◌≡◌, not, true, Some, None, Err};
 ghost use Rattle.std.specs.Option.{is_some};
-ghost use Rattle.yaml_text.specs.Decode.{refusal_seen};
+ghost use Rattle.yaml_text.specs.Decoding.{refusal_seen};
 ghost use Rattle.yaml_text.specs.Fault.{Fault, fault_of, scanner_fault};
 ghost use Rattle.yaml_lexeme.specs.Lexeme.{Lexeme as yaml_lexeme_t};
-ghost use Rattle.yaml_lexeme.specs.Place.{IsMarkOf};
+ghost use Rattle.yaml_lexeme.specs.Counted.{IsMarkOf};
 ghost use Rattle.yaml_scan.specs.declared.met.step_t.{step_t};
-ghost use Rattle.yaml_scan.specs.Fault.{no_colon, in_simple_key};
 ghost use Rattle.yaml_scan.specs.Laid.{Laid};
 ghost use Rattle.yaml_scan.specs.SourceOf.{source_of};
-ghost use Rattle.yaml_scan.specs.Step.{front_of};
+ghost use Rattle.yaml_scan.specs.Step.{front_of, no_colon, in_simple_key};
 ghost use Rattle.yaml_scan.specs.inside.Slots.{lost_held, root_of};
 ghost use Rattle.yaml_scan.specs.inside.Scanning.{CanRead, CanStep, Comes, Ends, StopsAfter, IsReadIn, Offends};
 ghost use Rattle.yaml_scan.specs.inside.Scanning.{Passes, Refuses};

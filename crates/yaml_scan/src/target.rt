@@ -5,7 +5,7 @@ ghost use Rattle.std.specs.Prelude.{if◌then◌else◌, OnErr, OnOk};
 ghost use Rattle.std.specs.VecDeque.{deque_capacity};
 ghost use Rattle.yaml_text.specs.Token.{Token, data_of, token_of};
 ghost use Rattle.yaml_scan.specs.Sink.{said_len, texts_len};
-ghost use Rattle.yaml_lexeme.specs.Lexeme.{lexeme_of};
+ghost use Rattle.yaml_lexeme.specs.LexemeOf.{lexeme_of};
 ghost use Rattle.yaml_scan.specs.Words.{HasWords};
 ghost use Rattle.yaml_scan.specs.declared.fault.stop_t.TheVariants.{SINK};
 ghost use Rattle.yaml_scan.specs.inside.Queue.{ends_at, leads, start_at};

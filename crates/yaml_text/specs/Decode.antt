@@ -1,53 +1,35 @@
 -- Decoding: the characters that an input spells, or what is wrong after them (YAML 1.1, sections 5.1 and 5.2).
-use Rattle.std.specs.Prelude.{ℕ, zero, suc, ◌≡◌, ◌+◌, ◌<◌, ◌≤◌, ◌⊎◌, Bool, ◌&&◌, ◌==◌, slice_index, if◌then◌else◌}
-use Rattle.std.specs.Prelude.{List, [], ◌∷◌, ◌++◌, length, take, drop, encode_utf8, Option, Some, None, Result, Ok}
-use Rattle.std.specs.Prelude.{Err, option_map, false, true}
+use Rattle.std.specs.Prelude.{ℕ, zero, suc, ◌+◌, Bool, ◌&&◌, ◌==◌, slice_index, if◌then◌else◌}
+use Rattle.std.specs.Prelude.{List, [], ◌∷◌, length, take, drop, encode_utf8, Option, Some, None}
+use Rattle.std.specs.Prelude.{false, true}
 use Rattle.std.specs.Str.{bytes_eq}
 use Rattle.yaml_text.specs.declared.types.yaml_encoding_t.{yaml_encoding_t}
 use Rattle.yaml_text.specs.declared.types.yaml_encoding_t.TheVariants.{YAML_ANY_ENCODING, YAML_UTF8_ENCODING}
 use Rattle.yaml_text.specs.declared.types.yaml_encoding_t.TheVariants.{YAML_UTF16LE_ENCODING, YAML_UTF16BE_ENCODING}
-use Rattle.yaml_text.specs.declared.fault.yaml_fault_t.{yaml_fault_t}
 use Rattle.yaml_text.specs.declared.offence.offence_t.{offence_t}
-use Rattle.yaml_text.specs.Chars.{is_char, IsChar, AreChars, utf8}
+use Rattle.yaml_text.specs.Chars.{is_char, utf8}
 use Rattle.yaml_text.specs.Utf8.{value8, offence8}
 use Rattle.yaml_text.specs.Utf16.{spelling16, utf16, value16, offence16}
-use Rattle.yaml_text.specs.Fault.{Fault, fault_of, memory_fault, reader_fault}
+use Rattle.yaml_text.specs.Fault.{Fault, reader_fault}
 use Rattle.yaml_text.specs.Text.{Text}
 
 -- How a character is spelled.
 abbrev pub spelling : yaml_encoding_t → ℕ → List ℕ
-spelling YAML_ANY_ENCODING c = encode_utf8 c
-spelling YAML_UTF8_ENCODING c = encode_utf8 c
 spelling YAML_UTF16LE_ENCODING c = spelling16 false c
 spelling YAML_UTF16BE_ENCODING c = spelling16 true c
+spelling e c = encode_utf8 c
 
 -- The spellings of characters, joined.
 abbrev pub spellings : yaml_encoding_t → List ℕ → List ℕ
-spellings YAML_ANY_ENCODING cs = utf8 cs
-spellings YAML_UTF8_ENCODING cs = utf8 cs
 spellings YAML_UTF16LE_ENCODING cs = utf16 false cs
 spellings YAML_UTF16BE_ENCODING cs = utf16 true cs
-
--- The bytes begin with the spelling of c.
-abbrev pub Begins : yaml_encoding_t → ℕ → List ℕ → Type 0
-Begins e c bytes = (more : List ℕ) × (bytes ≡ spelling e c ++ more)
-
--- They begin with the spelling of no character.
-abbrev pub BeginsWithNone : yaml_encoding_t → List ℕ → Type 0
-BeginsWithNone e bytes = (c : ℕ) → IsChar c → Begins e c bytes → ⊥
-
--- The front of the bytes: the longest list of characters whose spellings, joined, begin them.
-pub record IsFront (e : yaml_encoding_t) (bytes chars rest : List ℕ) : Type 0 where
-  pub parts : bytes ≡ spellings e chars ++ rest
-  pub each : AreChars chars
-  pub longest : BeginsWithNone e rest
+spellings e cs = utf8 cs
 
 -- The value that the first octets or units have, whether it is a character's or not.
 abbrev pub value_in_front : yaml_encoding_t → List ℕ → ℕ
-value_in_front YAML_ANY_ENCODING bytes = value8 bytes
-value_in_front YAML_UTF8_ENCODING bytes = value8 bytes
 value_in_front YAML_UTF16LE_ENCODING bytes = value16 false bytes
 value_in_front YAML_UTF16BE_ENCODING bytes = value16 true bytes
+value_in_front e bytes = value8 bytes
 
 -- The character c, if the bytes begin with its spelling.
 abbrev pub if_begins : yaml_encoding_t → ℕ → List ℕ → Option ℕ
@@ -76,9 +58,7 @@ encoding_of YAML_ANY_ENCODING input =
     if begins_with 0xFF 0xFE input then YAML_UTF16LE_ENCODING
     else if begins_with 0xFE 0xFF input then YAML_UTF16BE_ENCODING
     else YAML_UTF8_ENCODING
-encoding_of YAML_UTF8_ENCODING input = YAML_UTF8_ENCODING
-encoding_of YAML_UTF16LE_ENCODING input = YAML_UTF16LE_ENCODING
-encoding_of YAML_UTF16BE_ENCODING input = YAML_UTF16BE_ENCODING
+encoding_of setting input = setting
 
 -- How many bytes the byte order mark has that is dropped. None is, if an encoding is set.
 abbrev pub bom_len : yaml_encoding_t → List ℕ → ℕ
@@ -87,9 +67,7 @@ bom_len YAML_ANY_ENCODING input =
     else if begins_with 0xFE 0xFF input then 2
     else if begins_with 0xEF 0xBB input && slice_index input 2 == 0xBF then 3
     else 0
-bom_len YAML_UTF8_ENCODING input = 0
-bom_len YAML_UTF16LE_ENCODING input = 0
-bom_len YAML_UTF16BE_ENCODING input = 0
+bom_len setting input = 0
 
 -- What follows it.
 abbrev pub after_bom : yaml_encoding_t → List ℕ → List ℕ
@@ -97,10 +75,9 @@ after_bom setting input = drop (bom_len setting input) input
 
 -- What is wrong with bytes that begin with no character.
 abbrev pub offence : yaml_encoding_t → List ℕ → offence_t
-offence YAML_ANY_ENCODING bytes = offence8 bytes
-offence YAML_UTF8_ENCODING bytes = offence8 bytes
 offence YAML_UTF16LE_ENCODING bytes = offence16 false bytes
 offence YAML_UTF16BE_ENCODING bytes = offence16 true bytes
+offence e bytes = offence8 bytes
 
 -- The front of an input, as a text.
 unfoldable pub front : yaml_encoding_t → List ℕ → Text
@@ -122,52 +99,3 @@ refusal_of e before (b ∷ bytes) = Some (reader_fault before (offence e (b ∷ 
 unfoldable pub refusal : yaml_encoding_t → List ℕ → Option Fault
 refusal setting input =
     refusal_of (encoding_of setting input) (front_len setting input) (drop (front_len setting input) input)
-
-abbrev pub unless_refused : Option Fault → Text → Result Text Fault
-unless_refused None text = Ok text
-unless_refused (Some fault) text = Err fault
-
--- What an input decodes to.
-abbrev pub decoding : yaml_encoding_t → List ℕ → Result Text Fault
-decoding setting input = unless_refused (refusal setting input) (front setting input)
-
--- The text is the front of the input: the longest list of characters whose spellings, joined, begin what follows its
--- byte order mark.
-pub record IsLongestFront (setting : yaml_encoding_t) (input : List ℕ) (text : Text) : Type 0 where
-  pub encoding : text.encoding ≡ encoding_of setting input
-  pub each : AreChars text.chars
-  pub rest : List ℕ
-  pub begins : after_bom setting input ≡ spellings text.encoding text.chars ++ rest
-  pub longest : (cs more : List ℕ) → AreChars cs
-      → after_bom setting input ≡ spellings text.encoding cs ++ more
-      → length cs ≤ length text.chars
-
--- The input spells the text.
-pub record Spells (setting : yaml_encoding_t) (input : List ℕ) (text : Text) : Type 0 where
-  pub encoding : text.encoding ≡ encoding_of setting input
-  pub each : AreChars text.chars
-  pub bytes : after_bom setting input ≡ spellings text.encoding text.chars
-
--- The input spells no text: the fault is what is wrong after its front.
-pub record IsRefused (setting : yaml_encoding_t) (input : List ℕ) (fault : Fault) : Type 0 where
-  pub chars : List ℕ
-  pub rest : List ℕ
-  pub front : IsFront (encoding_of setting input) (after_bom setting input) chars rest
-  pub left : 0 < length rest
-  pub fault_is : fault ≡ reader_fault
-      (bom_len setting input + length (spellings (encoding_of setting input) chars))
-      (offence (encoding_of setting input) rest)
-
--- A fault of the code, if there is one, as the definitions see it.
-abbrev pub refusal_seen : Option yaml_fault_t → Option Fault
-refusal_seen fault = option_map fault_of fault
-
--- A call returned what it should, or memory was refused.
-abbrev pub Decodes : Result Text yaml_fault_t → Result Text Fault → Type 0
-Decodes (Ok text) right = right ≡ Ok text
-Decodes (Err fault) right = (fault_of fault ≡ memory_fault) ⊎ (right ≡ Err (fault_of fault))
-
--- What a call returned, with the fault's texts instead of references to them.
-abbrev pub outcome : Result Text yaml_fault_t → Result Text Fault
-outcome (Ok text) = Ok text
-outcome (Err fault) = Err (fault_of fault)

@@ -33,10 +33,10 @@ fault_of e = record {
 abbrev pub zero_mark : yaml_mark_t
 zero_mark = record { index = 0; line = 0; column = 0 }
 
--- Memory was refused.
-abbrev pub memory_fault : Fault
-memory_fault = record {
-  error = YAML_MEMORY_ERROR;
+-- A fault of a kind, with nothing else said.
+abbrev pub bare_fault : yaml_error_type_t → Fault
+bare_fault error = record {
+  error = error;
   problem = None;
   offset = 0;
   value = pos 0;
@@ -45,25 +45,22 @@ memory_fault = record {
   context_mark = zero_mark;
 }
 
+-- Memory was refused.
+abbrev pub memory_fault : Fault
+memory_fault = bare_fault YAML_MEMORY_ERROR
+
 -- The fault of an offence, `before` bytes into the input.
 abbrev pub reader_fault : ℕ → offence_t → Fault
-reader_fault before o = record {
-  error = YAML_READER_ERROR;
+reader_fault before o = record (bare_fault YAML_READER_ERROR) {
   problem = Some (problem_text o.problem);
   offset = before + o.offset;
   value = o.value;
-  problem_mark = zero_mark;
-  context = None;
-  context_mark = zero_mark;
 }
 
 -- A problem at a mark, with a context at another.
 abbrev pub scanner_fault : List ℕ → yaml_mark_t → Option (List ℕ) → yaml_mark_t → Fault
-scanner_fault problem problem_mark context context_mark = record {
-  error = YAML_SCANNER_ERROR;
+scanner_fault problem problem_mark context context_mark = record (bare_fault YAML_SCANNER_ERROR) {
   problem = Some problem;
-  offset = 0;
-  value = pos 0;
   problem_mark = problem_mark;
   context = context;
   context_mark = context_mark;

@@ -2,7 +2,7 @@
 use Rattle.std.specs.Prelude.{ℕ, ◌≡◌, ◌+◌, ◌≤◌, List, length, take, drop, Option, unwrap_or}
 use Rattle.std.specs.Str.{chars}
 use Rattle.yaml_text.specs.declared.types.yaml_encoding_t.{yaml_encoding_t}
-use Rattle.yaml_text.specs.Chars.{IsText}
+use Rattle.yaml_text.specs.TextBytes.{IsText}
 use Rattle.yaml_text.specs.Text.{Text}
 
 -- What is kept of it: its own bytes, or the part of the input that it borrows.

@@ -1,23 +1,19 @@
--- Marks: how far into a text a place is, and in which line and column (YAML 1.1, section 5.4).
-use Rattle.std.specs.Char.{len_utf8}
-use Rattle.std.specs.Prelude.{ℕ, zero, suc, ◌≡◌, ◌+◌, ◌-◌, ◌≤◌, Bool, false, ◌&&◌, not, List, [], ◌∷◌, length}
-use Rattle.std.specs.Prelude.{take, drop, reverse, slice_index, if◌then◌else◌}
+-- Marks, counted from the front of a text, and the places of a text (YAML 1.1, section 5.4).
+use Rattle.std.specs.Prelude.{ℕ, suc, ◌≡◌, ◌-◌, ◌≤◌, Bool, false, not, List, [], ◌∷◌, length, take, drop, reverse}
+use Rattle.std.specs.Prelude.{slice_index, if◌then◌else◌}
 use Rattle.std.specs.List.{prefix_len}
 use Rattle.yaml_text.specs.Chars.{utf8}
 use Rattle.yaml_text.specs.Classes.{is_break, is_crlf}
 use Rattle.yaml_text.specs.declared.types.yaml_mark_t.{yaml_mark_t}
-
--- A break ends at c, before the characters after: c is a break, and not the first half of CR LF.
-abbrev pub ends_break : ℕ → List ℕ → Bool
-ends_break c after = is_break c && not (is_crlf c (slice_index after 0))
+use Rattle.yaml_text.specs.MarkOn.{ends_break}
 
 abbrev pub one_more_if : Bool → ℕ → ℕ
 one_more_if b n = if b then suc n else n
 
 -- how many breaks are in the characters
-abbrev pub breaks : List ℕ → ℕ
-breaks [] = 0
-breaks (c ∷ after) = one_more_if (ends_break c after) (breaks after)
+abbrev pub break_count : List ℕ → ℕ
+break_count [] = 0
+break_count (c ∷ after) = one_more_if (ends_break c after) (break_count after)
 
 -- how many characters come after the last break
 unfoldable pub column : List ℕ → ℕ
@@ -25,19 +21,7 @@ column cs = prefix_len (λ c. not (is_break c)) (reverse cs)
 
 -- the mark after these characters
 abbrev pub mark_of : List ℕ → yaml_mark_t
-mark_of before = record { index = length (utf8 before); line = breaks before; column = column before }
-
--- The mark after one character c more, which the characters `after` follow.
-abbrev pub mark_after : yaml_mark_t → ℕ → List ℕ → yaml_mark_t
-mark_after m c after =
-    if ends_break c after then record { index = m.index + len_utf8 c; line = m.line + 1; column = 0 }
-    else record { index = m.index + len_utf8 c; line = m.line; column = m.column + 1 }
-
--- The mark after n characters more, moved character by character.
-abbrev pub mark_on : ℕ → yaml_mark_t → List ℕ → yaml_mark_t
-mark_on zero m cs = m
-mark_on (suc n) m [] = m
-mark_on (suc n) m (c ∷ cs) = mark_on n (mark_after m c cs) cs
+mark_of before = record { index = length (utf8 before); line = break_count before; column = column before }
 
 -- CR and LF of one break are on the two sides
 abbrev pub cuts_break : List ℕ → List ℕ → Bool

@@ -1,5 +1,5 @@
 -- Tokens: what they say, and where they are.
-use Rattle.std.specs.Prelude.{ℕ, ℤ, List, length}
+use Rattle.std.specs.Prelude.{ℕ, ℤ, List}
 use Rattle.yaml_text.specs.declared.types.yaml_mark_t.{yaml_mark_t}
 use Rattle.yaml_text.specs.declared.types.yaml_encoding_t.{yaml_encoding_t}
 use Rattle.yaml_text.specs.declared.types.yaml_scalar_style_t.{yaml_scalar_style_t}
@@ -97,8 +97,3 @@ type_of (ALIAS value) = types.YAML_ALIAS_TOKEN
 type_of (ANCHOR value) = types.YAML_ANCHOR_TOKEN
 type_of (TAG handle suffix) = types.YAML_TAG_TOKEN
 type_of (SCALAR value style) = types.YAML_SCALAR_TOKEN
-
--- The length of a scalar's value, in bytes.
-abbrev pub length_of : TokenData → ℕ
-length_of (SCALAR value style) = length value
-length_of _ = 0

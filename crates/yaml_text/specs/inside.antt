@@ -2,6 +2,7 @@
 -- needs these.
 pub mod Cursor
 pub mod Fronts
+pub mod Held
 pub mod Singles
 pub mod Units
 pub mod Windows

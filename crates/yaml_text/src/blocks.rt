@@ -1,6 +1,6 @@
 //! Runs of whole characters of UTF-8, many bytes at a time.
 ghost use Rattle.std.specs.Prelude.{ℕ, ◌≡◌, ◌<◌, ◌≤◌, true, false, List, length, take, slice_index};
-ghost use Rattle.yaml_text.specs.Chars.{IsText};
+ghost use Rattle.yaml_text.specs.TextBytes.{IsText};
 ghost use Rattle.yaml_text.specs.Utf8.{continues};
 ghost use Rattle.yaml_text.specs.inside.Windows.{is_control, is_rare_lead, is_misplaced, is_suspect, AreClean, Starts};
 ghost use Rattle.yaml_text.specs.inside.Windows.{column, lanes};

@@ -6,10 +6,11 @@
 ghost use Rattle.std.specs.Prelude.{ℕ, ◌≡◌, ◌+◌, ◌-◌, ◌<◌, ◌≤◌, ◌||◌, true, pos, List, slice_index};
 ghost use Rattle.std.specs.Char.{len_utf8};
 ghost use Rattle.yaml_text.specs.Utf8.{width_of};
-ghost use Rattle.yaml_text.specs.Classes.{is_digit, is_hex, is_alpha, is_ascii, is_printable, is_z, is_bom};
-ghost use Rattle.yaml_text.specs.Classes.{is_space, is_tab, is_blank, is_break, is_crlf, is_breakz, is_blankz};
-ghost use Rattle.yaml_text.specs.Classes.{hex_value, is_break_at, is_bom_at, is_printable_at, is_crlf_at};
-ghost use Rattle.yaml_text.specs.Classes.{is_breakz_at, is_blankz_at, Stands};
+ghost use Rattle.yaml_text.specs.Classes.{is_digit, is_hex, is_alpha, is_z};
+ghost use Rattle.yaml_text.specs.ClassCalls.{is_ascii, is_printable, is_bom, is_breakz, is_blankz, hex_value};
+ghost use Rattle.yaml_text.specs.ClassCalls.{is_break_at, is_bom_at, is_printable_at, is_crlf_at, is_breakz_at};
+ghost use Rattle.yaml_text.specs.ClassCalls.{is_blankz_at, Stands};
+ghost use Rattle.yaml_text.specs.Classes.{is_space, is_tab, is_blank, is_break, is_crlf};
 
 #[inline(always)]
 fn byte_at(s: &[u8], at: usize) -> u8

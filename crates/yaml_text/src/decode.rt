@@ -1,11 +1,14 @@
 //! Decoding: the text that an input spells, or its longest front and what is wrong after it.
 ghost use Rattle.std.specs.Prelude.{◌≡◌, ◌+◌, ◌<◌, ◌≤◌, ◌^◌, ◌⊎◌, option_map, length, take, drop, true, false};
 ghost use Rattle.std.specs.Prelude.{IfOk, IfErr, IsOk, IsNone, IfSome};
-ghost use Rattle.yaml_text.specs.Chars.{IsText, utf8};
+ghost use Rattle.yaml_text.specs.Chars.{utf8};
+ghost use Rattle.yaml_text.specs.TextBytes.{IsText};
 ghost use Rattle.yaml_text.specs.Utf8.{offence8};
-ghost use Rattle.yaml_text.specs.Decode.{BeginsWithNone, IsLongestFront, encoding_of, bom_len, after_bom};
+ghost use Rattle.yaml_text.specs.Decode.{encoding_of, bom_len, after_bom};
+ghost use Rattle.yaml_text.specs.Decoding.{BeginsWithNone, IsLongestFront, refusal_seen, decoding, Decodes, outcome};
+ghost use Rattle.yaml_text.specs.Decoding.{Spells, IsRefused};
 ghost use Rattle.yaml_text.specs.inside.Fronts.{Fronts};
-ghost use Rattle.yaml_text.specs.Decode.{front, refusal, refusal_seen, decoding, Decodes, outcome, Spells, IsRefused};
+ghost use Rattle.yaml_text.specs.Decode.{front, refusal};
 ghost use Rattle.yaml_text.specs.inside.Fronts.{order};
 ghost use Rattle.yaml_text.specs.Fault.{fault_of, memory_fault, reader_fault};
 ghost use Rattle.yaml_text.specs.declared.types.yaml_encoding_t.TheVariants.{YAML_UTF8_ENCODING};

@@ -3,11 +3,14 @@ ghost use Rattle.std.specs.Prelude.{ℕ, ◌≡◌, ◌≤◌, ◌++◌, ◌↔�
 ghost use Rattle.std.specs.Prelude.{IsTrue, fold, pos};
 ghost use Rattle.std.specs.Hash as fed;
 ghost use Rattle.std.specs.Ordering.{nat_cmp};
-ghost use Rattle.yaml_text.specs.Chars.{AreChars, utf8};
+ghost use Rattle.yaml_text.specs.Chars.{utf8};
+ghost use Rattle.yaml_text.specs.TextBytes.{AreChars};
 ghost use Rattle.yaml_text.specs.Text.{Text};
 ghost use Rattle.yaml_text.specs.Fault.{Fault, fault_of};
-ghost use Rattle.yaml_text.specs.Decode.{spellings, IsFront, Spells, IsRefused, decoding};
-ghost use Rattle.yaml_text.specs.Mark.{cuts_break, mark_of, mark_on};
+ghost use Rattle.yaml_text.specs.Decode.{spellings};
+ghost use Rattle.yaml_text.specs.Decoding.{IsFront, Spells, IsRefused, decoding};
+ghost use Rattle.yaml_text.specs.MarkOn.{mark_on};
+ghost use Rattle.yaml_text.specs.Mark.{cuts_break, mark_of};
 ghost use Rattle.yaml_text.specs.Types as numbers;
 ghost use Rattle.yaml_text.specs.Token.{data_of, token_of};
 ghost use Rattle.std.specs.Str.{chars};

@@ -1,11 +1,11 @@
 //! The marks of a text's places.
 ghost use Rattle.std.specs.Prelude.{ℕ, ◌≡◌, ◌+◌, ◌-◌, ◌<◌, ◌↔◌, ◌&&◌, [], true, false, not, nat_le, nat_lt};
 ghost use Rattle.std.specs.Prelude.{length, slice_index, if◌then◌else◌, IsTrue};
-ghost use Rattle.yaml_text.specs.Classes.{is_break, is_crlf_at};
+ghost use Rattle.yaml_text.specs.Classes.{is_break};
+ghost use Rattle.yaml_text.specs.ClassCalls.{is_crlf_at};
 ghost use Rattle.yaml_text.specs.Utf8.{width_of, continues};
-ghost use Rattle.yaml_text.specs.Mark.{mark_of, cuts_break, IsPlace};
-ghost use Rattle.yaml_text.specs.inside.Cursor.{past, break_len, step_len, is_place_by};
-ghost use Rattle.yaml_text.specs.Mark.{IsPlaceAt, mark_at};
+ghost use Rattle.yaml_text.specs.Mark.{mark_of, cuts_break, IsPlace, IsPlaceAt, mark_at};
+ghost use Rattle.yaml_text.specs.inside.Cursor.{past, first_break_len, step_len, is_place_by};
 
 use crate::classes::{IS_BREAK, IS_CRLF, WIDTH};
 use crate::text::yaml_text_t;
@@ -81,7 +81,7 @@ impl<'a> mark_counter_t<'a> {
     /// Goes past a break.
     fn skip_line(&mut self)
         requires { is_break (slice_index self.old.left 0) ≡ true }
-        ensures { self.new ≡ past (break_len self.old.left) self.old }
+        ensures { self.new ≡ past (first_break_len self.old.left) self.old }
     {
         let at = self.mark.index as usize;
         let width = break_width(self.bytes, at);

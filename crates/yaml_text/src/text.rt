@@ -1,7 +1,8 @@
 //! A decoded text.
 ghost use Rattle.std.specs.Prelude.{◌≡◌, ◌≢◌, IfSome, IsNone};
 ghost use Rattle.std.specs.Str.{chars};
-ghost use Rattle.yaml_text.specs.Chars.{utf8, AreChars, IsText};
+ghost use Rattle.yaml_text.specs.Chars.{utf8};
+ghost use Rattle.yaml_text.specs.TextBytes.{AreChars, IsText};
 ghost use Rattle.yaml_text.specs.declared.types.yaml_encoding_t.TheVariants.{YAML_ANY_ENCODING, YAML_UTF8_ENCODING};
 
 use crate::types::yaml_encoding_t;
@@ -19,9 +20,10 @@ impl<'a> Model for yaml_text_t<'a> {
     ghost use Rattle.std.specs.Prelude.{◌≢◌};
     ghost use Rattle.std.specs.Str.{chars};
     ghost use Rattle.std.specs.Cow.{cow_slice_items};
-    ghost use Rattle.yaml_text.specs.Chars.{IsText};
+    ghost use Rattle.yaml_text.specs.TextBytes.{IsText};
     ghost use Rattle.std.specs.Prelude.{◌≡◌, true};
-    ghost use Rattle.yaml_text.specs.Text.{Text, is_borrowed};
+    ghost use Rattle.yaml_text.specs.Text.{Text};
+    ghost use Rattle.yaml_text.specs.inside.Held.{is_borrowed};
     ghost use Rattle.yaml_text.specs.declared.types.yaml_encoding_t.TheVariants.{YAML_ANY_ENCODING};
     ghost use Rattle.yaml_text.specs.declared.types.yaml_encoding_t.TheVariants.{YAML_UTF8_ENCODING};
 

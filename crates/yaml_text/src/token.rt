@@ -84,7 +84,8 @@ pub enum unnamed_yaml_token_t_data {
 }
 
 impl unnamed_yaml_token_t_data {
-    ghost use Rattle.yaml_text.specs.Token.{data_of, type_of, length_of};
+    ghost use Rattle.yaml_text.specs.Token.{data_of, type_of};
+    ghost use Rattle.yaml_text.specs.TokenLength.{length_of};
 
     /// The length of a scalar's value, in bytes; 0 for every other token.
     pub fn length(&self) -> u64

@@ -2,7 +2,7 @@
 ghost use Rattle.std.specs.Prelude.{ℕ, ◌≡◌, ◌+◌, ◌-◌, ◌*◌, ◌<◌, ◌≤◌, List, ◌++◌};
 ghost use Rattle.std.specs.Prelude.{encode_utf8, length, take, drop, slice_index, true, IfOk, IfErr};
 ghost use Rattle.std.specs.Prelude.{OnErr, IfSome, IsNone};
-ghost use Rattle.yaml_text.specs.Chars.{IsChar};
+ghost use Rattle.yaml_text.specs.TextBytes.{IsChar};
 ghost use Rattle.yaml_text.specs.inside.Singles.{is_single};
 ghost use Rattle.yaml_text.specs.Utf16.{unit_at, is_low, is_high, spelling16, offence16};
 ghost use Rattle.yaml_text.specs.inside.Units.{Begins16, BeginsWithNone16};

@@ -2,9 +2,9 @@
 ghost use Rattle.std.specs.Prelude.{ℕ, ◌≡◌, ◌+◌, ◌<◌, ◌≤◌, ◌^◌, ◌++◌, length, slice_index, IfOk, IfErr, IfSome};
 ghost use Rattle.std.specs.Prelude.{OnErr, OnOk, encode_utf8};
 ghost use Rattle.std.specs.Char.{len_utf8, IsScalar};
-ghost use Rattle.yaml_text.specs.Chars.{IsChar};
+ghost use Rattle.yaml_text.specs.TextBytes.{IsChar};
 ghost use Rattle.yaml_text.specs.Utf8.{width_of, continues, stray_at, value_of, is_scalar, offence8};
-ghost use Rattle.yaml_text.specs.Decode.{Begins, BeginsWithNone};
+ghost use Rattle.yaml_text.specs.Decoding.{Begins, BeginsWithNone};
 ghost use Rattle.yaml_text.specs.declared.types.yaml_encoding_t.TheVariants.{YAML_UTF8_ENCODING};
 
 use crate::chars::is_char;

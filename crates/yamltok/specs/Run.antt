@@ -7,7 +7,8 @@ use Rattle.yaml_text.specs.declared.types.yaml_encoding_t.{yaml_encoding_t}
 use Rattle.yaml_text.specs.declared.types.yaml_encoding_t.TheVariants.{YAML_UTF8_ENCODING}
 use Rattle.yaml_text.specs.Text.{Text}
 use Rattle.yaml_text.specs.Fault.{Fault, memory_fault}
-use Rattle.yaml_text.specs.Decode.{decoding, encoding_of}
+use Rattle.yaml_text.specs.Decode.{encoding_of}
+use Rattle.yaml_text.specs.Decoding.{decoding}
 use Rattle.yamltok.specs.declared.args.yaml_command_t.{yaml_command_t}
 use Rattle.yamltok.specs.declared.args.yaml_command_t.TheVariants.{Decode, Scan, ScanLimit, Calls}
 use Rattle.yaml_scan.specs.declared.calls.yaml_call_t.{yaml_call_t}
@@ -18,9 +19,9 @@ use Rattle.yaml_scan.specs.Sessions.{new_session}
 use Rattle.yaml_scan.specs.Inputs.{answers_to}
 use Rattle.yaml_scan.specs.Decoded.{decoded_input}
 use Rattle.yaml_scan.specs.Parser.{Parser}
-use Rattle.yaml_scan.specs.ParserCalls.{IsRefusedEarly}
+use Rattle.yaml_scan.specs.ParserCalls.{IsRefusedEarly, call_of}
 use Rattle.yaml_scan.specs.All.{AllOf, ReadsAll}
-use Rattle.yaml_scan.specs.Seen.{Seen, call_of}
+use Rattle.yaml_scan.specs.Seen.{Seen}
 use Rattle.yaml_scan.specs.Headline.{Runs}
 use Rattle.yamltok.specs.Args.{is_right, usual_key_limit}
 use Rattle.yamltok.specs.Listing.{decode_line, token_lines, fault_lines, answer_lines, is_fault}
@@ -71,7 +72,7 @@ pub record AnswersCalls
     (calls : List Call)
     (answers : List Seen) : Type 0 where
   pub after : Parser
-  pub runs : Runs (new_parser setting input) calls answers after
+  pub runs : Runs decoded_input (new_parser setting input) calls answers after
 
 -- The lines are the listing of the answers to the calls that the word spells, and has_fault says whether a fault is
 -- among them.

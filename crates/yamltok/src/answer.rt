@@ -1,7 +1,8 @@
 //! The listing of a command's answer to an input.
 ghost use Rattle.std.specs.Prelude.{◌≡◌, ◌≤◌, true, map, vec_len, IfOk};
 ghost use Rattle.std.specs.List.{list_any};
-ghost use Rattle.yaml_scan.specs.Seen.{call_of, seen_of};
+ghost use Rattle.yaml_scan.specs.ParserCalls.{call_of};
+ghost use Rattle.yaml_scan.specs.Seen.{seen_of};
 ghost use Rattle.yaml_scan.specs.CallWords.{SeenHaveLines};
 ghost use Rattle.yamltok.specs.Args.{is_limit, is_right};
 ghost use Rattle.yamltok.specs.Listing.{is_fault};

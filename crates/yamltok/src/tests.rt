@@ -125,7 +125,11 @@ pub(crate) fn expect(
 }
 
 /// A part of an input, how many times it comes, and how many lines are written.
-const DEEP: [(&str, usize, u64); 2] = [("[", 100_000, 100_002), ("- ", 50_000, 150_002)];
+const DEEP: [(&str, usize, u64); 3] = [
+    ("[", 100_000, 100_002),
+    ("]", 100_000, 100_002),
+    ("- ", 50_000, 150_002),
+];
 
 /// Depth and levels have no limit of their own.
 #[test]

@@ -3,6 +3,7 @@ use Rattle.std.specs.Prelude.{◌≡◌, ◌⊎◌, ◌++◌, ℕ, ◌+◌, ◌�
 use Rattle.yaml_text.specs.declared.types.yaml_encoding_t.{yaml_encoding_t}
 use Rattle.yaml_text.specs.Fault.{Fault}
 use Rattle.yaml_text.specs.Token.{Token}
+use Rattle.yaml_scan.specs.All.{ReadsAll}
 use Rattle.yaml_scan.specs.Parser.{Parser}
 use Rattle.yaml_scan.specs.declared.kept.yaml_kept_parser_t.{yaml_kept_parser_t}
 use Rattle.yaml_scan.specs.inside.Kept.{IsKept}
@@ -52,6 +53,8 @@ pub record GivesNext
   pub fit : length (all_texts list) ≤ length old.texts.now
   pub stands : Stands limit setting input p (given ++ list) ahead
   pub stops : Stops (length old.tokens.now) (length old.texts.now) list ahead
+  -- nothing is left only after the stream end
+  pub last : ahead ≡ OVER → ReadsAll limit setting input (given ++ list) None
 
 -- The same, of a scanner that is at s, with the parser that is kept after it.
 pub record ReadsOn (s : Scan) (old new : token_rooms_t) (kept : Option yaml_kept_parser_t) (ahead : Ahead)
@@ -59,6 +62,11 @@ pub record ReadsOn (s : Scan) (old new : token_rooms_t) (kept : Option yaml_kept
   pub parser : Parser
   pub keeps : IsSomeAnd kept (IsKept parser)
   pub gives : GivesNext s.limit s.setting s.input s.given old parser new ahead
+
+-- A token that was read ahead is put before a fault comes, and a fault stays ahead.
+pub record KeepsAhead (before : Ahead) (old new : token_rooms_t) (after : Ahead) : Type 0 where
+  pub token : (t : Token) (f : Fault) → before ≡ TOKEN t → after ≡ FAULT f → 0 < new.token_count
+  pub fault : (f : Fault) → before ≡ FAULT f → (new.token_count ≡ old.token_count) × (after ≡ FAULT f)
 
 -- Two rooms by what they hold.
 abbrev pub rooms_of : token_rooms_t → Rooms

@@ -4,7 +4,8 @@ use Rattle.std.specs.Bool.{beq}
 use Rattle.yaml_text.proofs.Comparisons.SameParts.{are_same_marks, are_same_marks-is, same_flags-is}
 use Rattle.yaml_text.proofs.Comparisons.SameParts.{both-is, both_ways}
 use Rattle.yaml_text.proofs.Comparisons.SameTokens.{are_same_data, are_same_data-is}
-use Rattle.yaml_lexeme.specs.Lexeme.{lexeme_of, Lexeme}
+use Rattle.yaml_lexeme.specs.Lexeme.{Lexeme}
+use Rattle.yaml_lexeme.specs.LexemeOf.{lexeme_of}
 use Rattle.yaml_lexeme.specs.declared.lexeme.yaml_lexeme_t.{yaml_lexeme_t}
 use Rattle.yaml_lexeme.specs.contracts.lexeme.yaml_lexeme_tPartialEq.TheImpl as lexeme_eq
 

@@ -1,10 +1,12 @@
 -- The mark of a place is the one that is counted from the front.
 use Rattle.std.proofs.Common.{◌≡◌, ℕ, zero, suc, ◌≤◌, false, List, [], ◌∷◌, length, take, drop, slice_index, refl, sym, ap, ◌∙◌}
 use Rattle.yaml_text.specs.declared.types.yaml_mark_t.{yaml_mark_t}
-use Rattle.yaml_text.specs.Mark.{column, cuts_break, mark_on, mark_at}
+use Rattle.yaml_text.specs.MarkOn.{mark_on}
+use Rattle.yaml_text.specs.Mark.{column, cuts_break, mark_at}
 use Rattle.yaml_text.proofs.Marks.MarkCounts.{running}
 use Rattle.yaml_lexeme.specs.Counted.{PlacesAreCounted, MarksAreCounted}
-use Rattle.yaml_lexeme.specs.Place.{Place, place_at, mark_after, skip_from, skip}
+use Rattle.yaml_lexeme.specs.Place.{Place, place_at, skip}
+use Rattle.yaml_lexeme.specs.inside.Moves.{mark_after, skip_from}
 
 abbrev place_of : yaml_mark_t → List ℕ → Place
 place_of m cs = record { mark = m; rest = cs }

@@ -7,10 +7,10 @@ use Rattle.yaml_lexeme.specs.declared.kind.yaml_lexeme_kind_t.TheVariants as kin
 use Rattle.yaml_text.specs.Token.{TokenData as token}
 use Rattle.yaml_lexeme.specs.declared.kind.yaml_lexeme_kind_t.{yaml_lexeme_kind_t}
 use Rattle.yaml_lexeme.specs.declared.lex.yaml_context_t.{yaml_context_t}
-use Rattle.yaml_lexeme.specs.Lexeme.{Lexeme as yaml_lexeme_t, lexeme, whole, scalar_to, directive_to}
-use Rattle.yaml_lexeme.specs.Lexeme.{Directive as directive_t}
-use Rattle.yaml_lexeme.specs.Lexeme.{Scalar as scalar_t}
-use Rattle.yaml_text.specs.Token.{TokenData as unnamed_yaml_token_t_data}
+use Rattle.yaml_lexeme.specs.Lexeme.{Lexeme, lexeme, whole, scalar_to, directive_to}
+use Rattle.yaml_lexeme.specs.Lexeme.{Directive}
+use Rattle.yaml_lexeme.specs.Lexeme.{Scalar}
+use Rattle.yaml_text.specs.Token.{TokenData}
 use Rattle.yaml_text.specs.declared.types.yaml_mark_t.{yaml_mark_t}
 use Rattle.yaml_text.specs.declared.types.yaml_scalar_style_t.{yaml_scalar_style_t}
 use Rattle.yaml_text.specs.declared.types.yaml_scalar_style_t.TheVariants.{YAML_PLAIN_SCALAR_STYLE, YAML_SINGLE_QUOTED_SCALAR_STYLE, YAML_DOUBLE_QUOTED_SCALAR_STYLE, YAML_LITERAL_SCALAR_STYLE, YAML_FOLDED_SCALAR_STYLE}
@@ -18,13 +18,15 @@ use Rattle.yaml_lexeme.proofs.CountedMarks.WholePlaces.{parts, Clear, clear_here
 use Rattle.yaml_lexeme.proofs.CountedMarks.WholeSmallReaders.{Held, Holds, ok_holds, bind_holds, Clears, is_not, gap_clear, name_clears, tag_clears}
 use Rattle.yaml_lexeme.proofs.CountedMarks.CountedPlaces.{places_counted}
 use Rattle.yaml_lexeme.proofs.Places.PlaceMoves.{skip_skip, length_skip, rest_skip}
+use Rattle.yaml_lexeme.proofs.Readers.BlocksAlike.{blocks_alike}
 use Rattle.yaml_lexeme.proofs.CountedMarks.WholeScalars.{HasMark, mark_here, Marks, quoted_clears, plain_marks, directive_marks, block_marks}
 use Rattle.yaml_lexeme.specs.Block.{block}
 use Rattle.yaml_lexeme.specs.Classes.{ends}
 use Rattle.yaml_lexeme.specs.Directive.{directive}
 use Rattle.yaml_lexeme.specs.Gap.{gap}
 use Rattle.yaml_lexeme.specs.Kind.{is_marker_of, starts_plain, kind_at}
-use Rattle.yaml_lexeme.specs.Lex.{lex, in_flow, least, says_of, quoted_as, len_of}
+use Rattle.yaml_lexeme.specs.Lex.{lex, in_flow, least, says_of, len_of}
+use Rattle.yaml_lexeme.specs.KindSets.{quoted_as}
 use Rattle.yaml_lexeme.specs.Locality.{reach}
 use Rattle.yaml_lexeme.specs.Name.{name}
 use Rattle.yaml_lexeme.specs.Place.{Place, start, place_at, first, peek, skip}
@@ -100,22 +102,22 @@ marker_end flow k p t h =
     ]
 
 -- a lexeme from p on
-abbrev Lexeme : Place → Found yaml_lexeme_t → Type 0
-Lexeme p f = (f.value.start_mark ≡ p.mark) × (f.value.reach ≡ f.end.mark) × HasMark p f.value.end_mark × Clear p f.end
+abbrev MarkedLexeme : Place → Found Lexeme → Type 0
+MarkedLexeme p f = (f.value.start_mark ≡ p.mark) × (f.value.reach ≡ f.end.mark) × HasMark p f.value.end_mark × Clear p f.end
 
-whole_holds : {A : Type 0} (says : A → unnamed_yaml_token_t_data) (p : Place) (r : Read A) → Clears p r → Holds (Lexeme p) p (lexeme (whole says) p r)
+whole_holds : {A : Type 0} (says : A → TokenData) (p : Place) (r : Read A) → Clears p r → Holds (MarkedLexeme p) p (lexeme (whole says) p r)
 whole_holds says p r h = bind_holds h (λ x a. ok_holds (refl, refl, mark_here a, a))
 
-scalar_holds : (style : yaml_scalar_style_t) (p : Place) (r : Read scalar_t) → Marks (λ (s : scalar_t). s.end) p r → Holds (Lexeme p) p (lexeme (scalar_to style) p r)
+scalar_holds : (style : yaml_scalar_style_t) (p : Place) (r : Read Scalar) → Marks (λ (s : Scalar). s.end) p r → Holds (MarkedLexeme p) p (lexeme (scalar_to style) p r)
 scalar_holds style p r h = bind_holds h (λ x a. ok_holds (refl, refl, a.0, a.1))
 
-ended_holds : (p : Place) (r : Read directive_t) → Marks (λ (d : directive_t). d.end) p r → Holds (Lexeme p) p (lexeme directive_to p r)
+ended_holds : (p : Place) (r : Read Directive) → Marks (λ (d : Directive). d.end) p r → Holds (MarkedLexeme p) p (lexeme directive_to p r)
 ended_holds p r h = bind_holds h (λ x a. ok_holds (refl, refl, a.0, a.1))
 
-some_hold : (k : yaml_lexeme_kind_t) (n : ℕ) (p : Place) → Clear p (skip n p) → Holds (Lexeme p) p (lexeme (whole says_of) p (found k (skip n p)))
+some_hold : (k : yaml_lexeme_kind_t) (n : ℕ) (p : Place) → Clear p (skip n p) → Holds (MarkedLexeme p) p (lexeme (whole says_of) p (found k (skip n p)))
 some_hold k n p a = ok_holds (refl, refl, mark_here a, a)
 
-lexeme_holds : (k : yaml_lexeme_kind_t) (c : yaml_context_t) (p : Place) → kind_at (in_flow c) p ≡ Some k → (k ≡ kind.STREAM_END → ⊥) → (first p == 0x0D) ≡ false → Holds (Lexeme p) p (lex k c p)
+lexeme_holds : (k : yaml_lexeme_kind_t) (c : yaml_context_t) (p : Place) → kind_at (in_flow c) p ≡ Some k → (k ≡ kind.STREAM_END → ⊥) → (first p == 0x0D) ≡ false → Holds (MarkedLexeme p) p (lex k c p)
 unfolding lex
 lexeme_holds kind.STREAM_END c p h other t = absurd (other refl)
 lexeme_holds kind.DIRECTIVE c p h other t = ended_holds p (directive p) (directive_marks p t)
@@ -132,8 +134,8 @@ lexeme_holds kind.VALUE c p h other t = some_hold kind.VALUE 1 p (clear_one p t)
 lexeme_holds kind.ALIAS c p h other t = whole_holds token.ALIAS p (name p) (name_clears p t)
 lexeme_holds kind.ANCHOR c p h other t = whole_holds token.ANCHOR p (name p) (name_clears p t)
 lexeme_holds kind.TAG c p h other t = whole_holds (λ t. t) p (tag (in_flow c) p) (tag_clears (in_flow c) p t)
-lexeme_holds kind.LITERAL c p h other t = scalar_holds YAML_LITERAL_SCALAR_STYLE p (block false c.level p) (block_marks false c.level p t)
-lexeme_holds kind.FOLDED c p h other t = scalar_holds YAML_FOLDED_SCALAR_STYLE p (block true c.level p) (block_marks true c.level p t)
+lexeme_holds kind.LITERAL c p h other t = scalar_holds YAML_LITERAL_SCALAR_STYLE p (block false c.level p) (rw (blocks_alike false c.level p) (block_marks false c.level p t))
+lexeme_holds kind.FOLDED c p h other t = scalar_holds YAML_FOLDED_SCALAR_STYLE p (block true c.level p) (rw (blocks_alike true c.level p) (block_marks true c.level p t))
 lexeme_holds kind.SINGLE_QUOTED c p h other t = whole_holds (quoted_as YAML_SINGLE_QUOTED_SCALAR_STYLE) p (quoted true p) (quoted_clears true p t)
 lexeme_holds kind.DOUBLE_QUOTED c p h other t = whole_holds (quoted_as YAML_DOUBLE_QUOTED_SCALAR_STYLE) p (quoted false p) (quoted_clears false p t)
 lexeme_holds kind.PLAIN c p h other t = scalar_holds YAML_PLAIN_SCALAR_STYLE p (plain (in_flow c) (least c) p) (plain_marks (in_flow c) (least c) p)
@@ -160,7 +162,7 @@ is_end kind.SINGLE_QUOTED = Err (λ e. absurd cc)
 is_end kind.DOUBLE_QUOTED = Err (λ e. absurd cc)
 is_end kind.PLAIN = Err (λ e. absurd cc)
 
-reach_of : (p : Place) (r : Read yaml_lexeme_t) → Held (Lexeme p) p r → Clear p (reach r)
+reach_of : (p : Place) (r : Read Lexeme) → Held (MarkedLexeme p) p r → Clear p (reach r)
 reach_of p (Ok f) h = h.3
 reach_of p (Err e) h = h
 
@@ -217,8 +219,8 @@ gap_is_whole flow allowed text index n at = is_whole text index n (gap flow allo
 pub reach_is_whole : ReachIsWhole
 reach_is_whole k c text index n at h = is_whole text index n (reach (lex k c (place_at text n))) at (reach_clear k c (place_at text n) h)
 
-lexeme_is : (k : yaml_lexeme_kind_t) (c : yaml_context_t) (p : Place) (f : Found yaml_lexeme_t) → kind_at (in_flow c) p ≡ Some k → (k ≡ kind.STREAM_END → ⊥) → lex k c p ≡ Ok f → Lexeme p f
-lexeme_is k c p f h other e = subst (λ (r : Read yaml_lexeme_t). Held (Lexeme p) p r) e (lexeme_holds k c p h other (starts (in_flow c) k p h)).held
+lexeme_is : (k : yaml_lexeme_kind_t) (c : yaml_context_t) (p : Place) (f : Found Lexeme) → kind_at (in_flow c) p ≡ Some k → (k ≡ kind.STREAM_END → ⊥) → lex k c p ≡ Ok f → MarkedLexeme p f
+lexeme_is k c p f h other e = subst (λ (r : Read Lexeme). Held (MarkedLexeme p) p r) e (lexeme_holds k c p h other (starts (in_flow c) k p h)).held
 
 pub end_is_whole : EndIsWhole
 end_is_whole k c text index n f at h other e =
@@ -247,5 +249,5 @@ lexeme_is_counted k c text index n f at h other e =
 pub problem_is_counted : ProblemIsCounted
 problem_is_counted k c text index n e at h o =
     let p = place_at text n in
-    let a = subst (λ (r : Read yaml_lexeme_t). Clear p (reach r)) o (reach_clear k c p h) in
+    let a = subst (λ (r : Read Lexeme). Clear p (reach r)) o (reach_clear k c p h) in
     counted text n _ e.at refl (is_whole text index n e.at at a)

@@ -5,21 +5,28 @@ use Rattle.std.proofs.lemmas.Bool.Decides.{nat_tests}
 use Rattle.std.specs.List.{list_all}
 use Rattle.std.specs.Str.Parse.{digits_value}
 use Rattle.yaml_text.specs.declared.types.yaml_mark_t.{yaml_mark_t}
-use Rattle.yaml_lexeme.specs.Lexeme.{Scalar as scalar_t}
-use Rattle.yaml_lexeme.specs.Lexeme.{Directive as directive_t}
+use Rattle.yaml_lexeme.specs.Lexeme.{Scalar}
+use Rattle.yaml_lexeme.specs.Lexeme.{Directive}
 use Rattle.yaml_lexeme.proofs.MarkOrder.ReadingAhead.{shorter, part_shorter, PartAhead}
 use Rattle.yaml_lexeme.proofs.CountedMarks.WholePlaces.{parts, Clear, clear_here, clear_trans, clear_skip, clear_after, clear_one, clear_run, clear_within, clear_break, other, one_more, no_return, end_whole}
 use Rattle.yaml_lexeme.proofs.CountedMarks.WholeSmallReaders.{Held, Holds, ok_holds, refuse_holds, if_holds, bind_holds, from_holds, Clears, PartClears, ClearsTo, then_clears, then_to, many_clears, sure_white, sure_in_line, sure_alpha, is_not, named_clears, line_end_clears}
 use Rattle.yaml_lexeme.proofs.Parts.PartByPart.{many_turn}
 use Rattle.yaml_lexeme.proofs.MarkOrder.ScalarsAhead.{body_goes}
-use Rattle.yaml_lexeme.specs.Block.{is_sign, digit_at, header_at, is_indenting, indent_len, after_indent, blank_line, Blanks, blank_lines, Line, line_at, is_text, text_line, end_of, block, block_indent, set_indent}
+use Rattle.yaml_lexeme.specs.Block.{is_sign, digit_at, header_at, indent_len, after_indent, empty_line}
+use Rattle.yaml_lexeme.specs.Block.{is_text, block_indent, set_indent}
+use Rattle.yaml_lexeme.specs.inside.BlockAhead.{Blanks, blank_lines, Line, line_at, text_line, end_of, block_ahead}
+use Rattle.yaml_lexeme.specs.inside.BlockAhead.{is_indenting}
 use Rattle.yaml_lexeme.specs.Classes.{ends, is_white, is_in_line}
 use Rattle.yaml_lexeme.specs.Directive.{directive}
-use Rattle.yaml_lexeme.specs.Escape.{backslash, escape, hex_escape, simple_at, hex_len, simple_escape, is_scalar}
+use Rattle.yaml_lexeme.specs.Escape.{backslash, escape, hex_escape, hex_len, simple_escape}
+use Rattle.yaml_lexeme.specs.inside.CommonEscapes.{simple_at}
+use Rattle.yaml_text.specs.Utf8.{is_scalar}
 use Rattle.yaml_lexeme.specs.Kind.{is_marker}
-use Rattle.yaml_lexeme.specs.Place.{Place, first, peek, skip, mark_after, run, run_len, after_run, break_len}
+use Rattle.yaml_lexeme.specs.Place.{Place, first, peek, skip, run, run_len, after_run, break_len}
+use Rattle.yaml_lexeme.specs.inside.Moves.{mark_after}
 use Rattle.yaml_lexeme.proofs.Readers.PlainLinks.{tab_from, separator_is}
-use Rattle.yaml_lexeme.specs.Plain.{is_chunk, is_bad_colon, chunk_len, chunk, untabbed, separator, is_over, link, plain}
+use Rattle.yaml_lexeme.specs.Plain.{is_chunk, is_bad_colon, chunk_len, chunk, separator, is_over, link, plain}
+use Rattle.yaml_lexeme.specs.inside.Words.{untabbed}
 use Rattle.yaml_lexeme.specs.Quoted.{quote, unmarked, body_part, spelled, quoted}
 use Rattle.yaml_lexeme.specs.Reading.{Found, Read, Part, go_on, at_most, many}
 use Rattle.yaml_text.specs.Classes.{is_alpha, is_digit, is_hex, is_break, is_z, is_crlf}
@@ -220,7 +227,7 @@ mark_then {p} {q} {m} a h = record { at = h.at; is = h.is; clear = clear_trans a
 abbrev pub Marks : {A : Type 0} → (A → yaml_mark_t) → Place → Read A → Type 0
 Marks mark p r = Holds (λ f. HasMark p (mark f.value) × Clear p f.end) p r
 
-pub plain_marks : (flow : Bool) (least : ℕ) (p : Place) → Marks (λ (s : scalar_t). s.end) p (plain flow least p)
+pub plain_marks : (flow : Bool) (least : ℕ) (p : Place) → Marks (λ (s : Scalar). s.end) p (plain flow least p)
 unfolding plain
 plain_marks flow least p =
     bind_holds (chunk_clears flow p) (λ head a.
@@ -228,7 +235,7 @@ plain_marks flow least p =
     ok_holds (mark_here b, clear_trans b (clear_run is_white links.end sure_white))))
 
 -- directives
-pub directive_marks : (p : Place) → (first p == 0x0D) ≡ false → Marks (λ (d : directive_t). d.end) p (directive p)
+pub directive_marks : (p : Place) → (first p == 0x0D) ≡ false → Marks (λ (d : Directive). d.end) p (directive p)
 unfolding directive
 directive_marks p h =
     let letters = run is_alpha (skip 1 p) in
@@ -268,8 +275,8 @@ indent_clears limit p =
     let a : Clear p q = clear_within (λ c. c == 0x20) (indent_len limit p) p refl (indent_small limit p) in
     if_holds (is_indenting 0x09 limit q) (λ e. refuse_holds a) (λ e. ok_holds a)
 
-blank_clears : (limit : Option ℕ) (p : Place) → PartClears p (blank_line limit p)
-unfolding blank_line
+blank_clears : (limit : Option ℕ) (p : Place) → PartClears p (empty_line limit p)
+unfolding empty_line
 blank_clears limit p =
     bind_holds (indent_clears limit p) (λ q a.
     if_holds (nat_lt 0 (break_len q)) (λ b. ok_holds (clear_trans a (clear_break q))) (λ b. ok_holds tt))
@@ -277,7 +284,7 @@ blank_clears limit p =
 blanks_marks : (limit : Option ℕ) (p : Place) → Marks (λ (b : Blanks). b.end) p (blank_lines limit p)
 unfolding blank_lines
 blanks_marks limit p =
-    bind_holds (many_clears (blank_line limit) (blank_clears limit) p) (λ lines a.
+    bind_holds (many_clears (empty_line limit) (blank_clears limit) p) (λ lines a.
     bind_holds (then_to a (indent_clears limit lines.end)) (λ x b. ok_holds (mark_here a, b)))
 
 then_marks : {A : Type 0} (mark : A → yaml_mark_t) {p q : Place} {r : Read A} → Clear p q → Marks mark q r → Marks mark p r
@@ -308,8 +315,8 @@ lines_marks zero indent start m p h a = ok_holds (h, a)
 lines_marks (suc n) indent start m p h a =
     bind_holds (from_holds {R = LineEnd p} a (text_marks indent p) (λ x b. b)) (λ o e. lines_turn (at_most (text_line indent) n) start m p o h a e (λ l x i b. lines_marks n indent start l.end x i b))
 
-pub block_marks : (folded : Bool) (level : Option ℕ) (p : Place) → (first p == 0x0D) ≡ false → Marks (λ (s : scalar_t). s.end) p (block folded level p)
-unfolding block
+pub block_marks : (folded : Bool) (level : Option ℕ) (p : Place) → (first p == 0x0D) ≡ false → Marks (λ (s : Scalar). s.end) p (block_ahead folded level p)
+unfolding block_ahead
 block_marks folded level p h =
     bind_holds (then_clears (clear_one p h) (header_clears (skip 1 p))) (λ header a.
     bind_holds (then_to a (line_end_clears header.end)) (λ start b.

@@ -13,8 +13,9 @@ use Rattle.yaml_lexeme.specs.Name.{is_after_name, name}
 use Rattle.yaml_lexeme.specs.Place.{Place, first, peek, skip, run, run_len, after_run, break_len}
 use Rattle.yaml_lexeme.specs.Reading.{Offence, Found, Read, refuse, ◌>>=◌, Part, go_on, at_most, many}
 use Rattle.yaml_lexeme.specs.Tag.{angled, handled, tag}
-use Rattle.yaml_lexeme.specs.Uri.{is_uri, octet, is_bad_next, next_octets, octet_width, uri_escape, uri_part, uri, some_uri}
+use Rattle.yaml_lexeme.specs.Uri.{is_uri, octet, next_octets, uri_escape, uri_part, uri, some_uri}
 use Rattle.yaml_text.specs.Classes.{is_alpha, is_blank, is_digit, is_hex, is_break, is_z}
+use Rattle.yaml_text.specs.Utf8.{width_of, continues}
 
 -- what holds of what was read, or the place of the offence is clear
 abbrev pub Held : {B : Type 0} → (B → Type 0) → Place → Result B Offence → Type 0
@@ -159,12 +160,12 @@ next_clears : (n : ℕ) (p : Place) → Clears p (next_octets n p)
 unfolding next_octets
 next_clears zero p = ok_holds (clear_here p)
 next_clears (suc n) p =
-    bind_holds (octet_clears p) (λ c a. if_holds (is_bad_next c.value) (λ e. refuse_holds (clear_here p)) (λ e. bind_holds (then_clears a (next_clears n c.end)) (λ more b. ok_holds b)))
+    bind_holds (octet_clears p) (λ c a. if_holds (not (continues c.value)) (λ e. refuse_holds (clear_here p)) (λ e. bind_holds (then_clears a (next_clears n c.end)) (λ more b. ok_holds b)))
 
 uri_escape_clears : (p : Place) → Clears p (uri_escape p)
 unfolding uri_escape
 uri_escape_clears p =
-    bind_holds (octet_clears p) (λ lead a. if_holds (octet_width lead.value == 0) (λ e. refuse_holds (clear_here p)) (λ e. bind_holds (then_clears a (next_clears (octet_width lead.value - 1) lead.end)) (λ more b. ok_holds b)))
+    bind_holds (octet_clears p) (λ lead a. if_holds (width_of lead.value == 0) (λ e. refuse_holds (clear_here p)) (λ e. bind_holds (then_clears a (next_clears (width_of lead.value - 1) lead.end)) (λ more b. ok_holds b)))
 
 no_uri : (listed : Bool) → is_uri listed 0x0D ≡ false
 no_uri true = refl

@@ -4,13 +4,13 @@ use Rattle.std.specs.Prelude.{codes, map, pos, nat_lt}
 use Rattle.std.specs.Char.{encode_utf8}
 use Rattle.yaml_text.specs.declared.types.yaml_mark_t.{yaml_mark_t}
 use Rattle.yaml_text.specs.declared.types.yaml_scalar_style_t.TheVariants as style
-use Rattle.yaml_text.specs.Token.{TokenData as unnamed_yaml_token_t_data}
+use Rattle.yaml_text.specs.Token.{TokenData}
 use Rattle.yaml_text.specs.Token.{TokenData as says}
 use Rattle.yaml_text.specs.Fault.{Fault, scanner_fault}
 use Rattle.yaml_lexeme.specs.declared.kind.yaml_lexeme_kind_t.{yaml_lexeme_kind_t}
 use Rattle.yaml_lexeme.specs.declared.kind.yaml_lexeme_kind_t.TheVariants as kind
 use Rattle.yaml_lexeme.specs.declared.lex.yaml_context_t.{yaml_context_t}
-use Rattle.yaml_lexeme.specs.Lexeme.{Lexeme as yaml_lexeme_t}
+use Rattle.yaml_lexeme.specs.Lexeme.{Lexeme}
 use Rattle.yaml_lexeme.specs.Place.{Place, start, skip}
 use Rattle.yaml_lexeme.specs.Reading.{at_most}
 use Rattle.yaml_lexeme.specs.Gap.{gap, after_gap_line, after_gap_lines}
@@ -19,29 +19,30 @@ use Rattle.yaml_lexeme.specs.Fold.{fold}
 use Rattle.yaml_lexeme.specs.Escape.{hex_escape, escape}
 use Rattle.yaml_lexeme.specs.Quoted.{body_part, quoted}
 use Rattle.yaml_lexeme.specs.Plain.{chunk, separator, link, plain}
-use Rattle.yaml_lexeme.specs.Block.{digit_at, header_at, after_line, after_indent, blank_line, blank_lines, line_at, text_line, block}
+use Rattle.yaml_lexeme.specs.Block.{digit_at, header_at, after_line, after_indent, empty_line, text_line, block}
 use Rattle.yaml_lexeme.specs.Name.{name}
 use Rattle.yaml_lexeme.specs.Uri.{octet, next_octets, uri_escape, uri_part, uri, some_uri}
 use Rattle.yaml_lexeme.specs.Tag.{angled, handled, tag}
 use Rattle.yaml_lexeme.specs.Directive.{number, version_at, handle_at, tag_directive_at, named, directive}
 use Rattle.yaml_lexeme.specs.FaultTexts.{problem_text, context_text}
-use Rattle.yaml_lexeme.specs.Lex.{lex, lexeme_at}
+use Rattle.yaml_lexeme.specs.Lex.{lex}
+use Rattle.yaml_lexeme.specs.Answers.{lexeme_at}
 
 abbrev at : ℕ → ℕ → ℕ → yaml_mark_t
 at i l c = record { index = i; line = l; column = c }
 
-abbrev token : unnamed_yaml_token_t_data → yaml_mark_t → yaml_mark_t → yaml_mark_t → Bool → yaml_lexeme_t
+abbrev token : TokenData → yaml_mark_t → yaml_mark_t → yaml_mark_t → Bool → Lexeme
 token data_is start end reach passed = record { token_data = data_is; start_mark = start; end_mark = end; reach = reach; passed_break = passed }
 
-abbrev by : Option yaml_lexeme_kind_t → yaml_context_t → Place → Option (Result yaml_lexeme_t Fault)
+abbrev by : Option yaml_lexeme_kind_t → yaml_context_t → Place → Option (Result Lexeme Fault)
 by (Some k) context p = Some (lexeme_at k context p)
 by None context p = None
 
 -- a text, its first lexeme at a flow depth and a greatest open level, and what that must be
 abbrev Rows : Type 0
-Rows = List (Option (Result yaml_lexeme_t Fault) × Result yaml_lexeme_t Fault)
+Rows = List (Option (Result Lexeme Fault) × Result Lexeme Fault)
 
-abbrev lexed : ℕ → Option ℕ → List ℕ → Option (Result yaml_lexeme_t Fault)
+abbrev lexed : ℕ → Option ℕ → List ℕ → Option (Result Lexeme Fault)
 lexed depth level text = by (kind_at (nat_lt 0 depth) (start text)) (record { depth = depth; level = level }) (start text)
 
 abbrev Hold : Rows → Type 0
@@ -105,10 +106,13 @@ names =
     ∷ (lexed 0 None (codes "!%C3%41"), Err (scanner_fault (codes "found an incorrect trailing UTF-8 octet") (at 4 0 4) (Some (codes "while parsing a tag")) (at 0 0 0)))
     ∷ (lexed 0 None (codes "!%C3x"), Err (scanner_fault (codes "did not find URI escaped octet") (at 4 0 4) (Some (codes "while parsing a tag")) (at 0 0 0)))
     ∷ (lexed 1 None (codes "!!str]"), Err (scanner_fault (codes "did not find expected whitespace or line break") (at 5 0 5) (Some (codes "while scanning a tag")) (at 0 0 0)))
+    ∷ (lexed 0 None (codes "!<09AZaz_-;/?:@&=+$.!~*'(),[]> x"), Ok (token (says.TAG [] (codes "09AZaz_-;/?:@&=+$.!~*'(),[]")) (at 0 0 0) (at 30 0 30) (at 30 0 30) false))
+    ∷ (lexed 0 None (codes "!09AZaz_-!09AZaz_-;/?:@&=+$.!~*'() x"), Ok (token (says.TAG (codes "!09AZaz_-!") (codes "09AZaz_-;/?:@&=+$.!~*'()")) (at 0 0 0) (at 34 0 34) (at 34 0 34) false))
+    ∷ (lexed 0 None (codes "*a`"), Ok (token (says.ALIAS (codes "a")) (at 0 0 0) (at 2 0 2) (at 2 0 2) false))
     ∷ []
 
 names_hold : Hold names
-unfolding lex number version_at handle_at tag_directive_at named directive after_gap_line after_gap_lines gap skip fold hex_escape escape body_part quoted chunk separator link plain digit_at header_at after_line after_indent blank_line blank_lines line_at text_line block name octet next_octets uri_escape uri_part uri some_uri angled handled tag at_most kind_at encode_utf8 problem_text context_text
+unfolding lex number version_at handle_at tag_directive_at named directive after_gap_line after_gap_lines gap skip fold hex_escape escape body_part quoted chunk separator link plain digit_at header_at after_line after_indent empty_line text_line block name octet next_octets uri_escape uri_part uri some_uri angled handled tag at_most kind_at encode_utf8 problem_text context_text
 names_hold = refl
 
 abbrev directives : Rows
@@ -130,7 +134,7 @@ directives =
     ∷ []
 
 directives_hold : Hold directives
-unfolding lex number version_at handle_at tag_directive_at named directive after_gap_line after_gap_lines gap skip fold hex_escape escape body_part quoted chunk separator link plain digit_at header_at after_line after_indent blank_line blank_lines line_at text_line block name octet next_octets uri_escape uri_part uri some_uri angled handled tag at_most kind_at encode_utf8 problem_text context_text
+unfolding lex number version_at handle_at tag_directive_at named directive after_gap_line after_gap_lines gap skip fold hex_escape escape body_part quoted chunk separator link plain digit_at header_at after_line after_indent empty_line text_line block name octet next_octets uri_escape uri_part uri some_uri angled handled tag at_most kind_at encode_utf8 problem_text context_text
 directives_hold = refl
 
 abbrev quoted_rows : Rows
@@ -148,10 +152,11 @@ quoted_rows =
     ∷ (lexed 0 None (codes "\"\\uD800\""), Err (scanner_fault (codes "found invalid Unicode character escape code") (at 3 0 3) (Some (codes "while parsing a quoted scalar")) (at 0 0 0)))
     ∷ (lexed 0 None (codes "\"\\U00110000\""), Err (scanner_fault (codes "found invalid Unicode character escape code") (at 3 0 3) (Some (codes "while parsing a quoted scalar")) (at 0 0 0)))
     ∷ (lexed 0 None (codes "\"\\x4g\""), Err (scanner_fault (codes "did not find expected hexadecimal number") (at 3 0 3) (Some (codes "while parsing a quoted scalar")) (at 0 0 0)))
+    ∷ (lexed 0 None (codes "\"\\0\\a\\b\\t\\" ++ (9 ∷ codes "\\n\\v\\f\\r\\e\\ \\\"\\/\\\\\\N\\_\\L\\P\"")), Ok (token (says.SCALAR (0 ∷ 7 ∷ 8 ∷ 9 ∷ 9 ∷ 10 ∷ 11 ∷ 12 ∷ 13 ∷ 27 ∷ 32 ∷ 34 ∷ 47 ∷ 92 ∷ 194 ∷ 133 ∷ 194 ∷ 160 ∷ 226 ∷ 128 ∷ 168 ∷ 226 ∷ 128 ∷ 169 ∷ []) style.YAML_DOUBLE_QUOTED_SCALAR_STYLE) (at 0 0 0) (at 38 0 38) (at 38 0 38) false))
     ∷ []
 
 quoted_rows_hold : Hold quoted_rows
-unfolding lex number version_at handle_at tag_directive_at named directive after_gap_line after_gap_lines gap skip fold hex_escape escape body_part quoted chunk separator link plain digit_at header_at after_line after_indent blank_line blank_lines line_at text_line block name octet next_octets uri_escape uri_part uri some_uri angled handled tag at_most kind_at encode_utf8 problem_text context_text
+unfolding lex number version_at handle_at tag_directive_at named directive after_gap_line after_gap_lines gap skip fold hex_escape escape body_part quoted chunk separator link plain digit_at header_at after_line after_indent empty_line text_line block name octet next_octets uri_escape uri_part uri some_uri angled handled tag at_most kind_at encode_utf8 problem_text context_text
 quoted_rows_hold = refl
 
 abbrev plain_rows : Rows
@@ -169,7 +174,7 @@ plain_rows =
     ∷ []
 
 plain_rows_hold : Hold plain_rows
-unfolding lex number version_at handle_at tag_directive_at named directive after_gap_line after_gap_lines gap skip fold hex_escape escape body_part quoted chunk separator link plain digit_at header_at after_line after_indent blank_line blank_lines line_at text_line block name octet next_octets uri_escape uri_part uri some_uri angled handled tag at_most kind_at encode_utf8 problem_text context_text
+unfolding lex number version_at handle_at tag_directive_at named directive after_gap_line after_gap_lines gap skip fold hex_escape escape body_part quoted chunk separator link plain digit_at header_at after_line after_indent empty_line text_line block name octet next_octets uri_escape uri_part uri some_uri angled handled tag at_most kind_at encode_utf8 problem_text context_text
 plain_rows_hold = refl
 
 abbrev block_rows : Rows
@@ -193,5 +198,5 @@ block_rows =
     ∷ []
 
 block_rows_hold : Hold block_rows
-unfolding lex number version_at handle_at tag_directive_at named directive after_gap_line after_gap_lines gap skip fold hex_escape escape body_part quoted chunk separator link plain digit_at header_at after_line after_indent blank_line blank_lines line_at text_line block name octet next_octets uri_escape uri_part uri some_uri angled handled tag at_most kind_at encode_utf8 problem_text context_text
+unfolding lex number version_at handle_at tag_directive_at named directive after_gap_line after_gap_lines gap skip fold hex_escape escape body_part quoted chunk separator link plain digit_at header_at after_line after_indent empty_line text_line block name octet next_octets uri_escape uri_part uri some_uri angled handled tag at_most kind_at encode_utf8 problem_text context_text
 block_rows_hold = refl

@@ -5,7 +5,7 @@ use Rattle.std.proofs.lemmas.Bool.{cases_Bool, ne_eqb, not-false, not_from_false
 use Rattle.std.proofs.lemmas.Bool.Decides.{nat_tests}
 use Rattle.std.proofs.lemmas.Slice.Eq.{bytes_eq-Decides}
 use Rattle.yaml_text.specs.Classes.{is_alpha}
-use Rattle.yaml_text.specs.Token.{TokenData as unnamed_yaml_token_t_data}
+use Rattle.yaml_text.specs.Token.{TokenData}
 use Rattle.yaml_lexeme.specs.declared.problem.yaml_problem_t.TheVariants.{NO_DIRECTIVE_NAME, DIRECTIVE_NAME_GOES_ON, UNKNOWN_DIRECTIVE}
 use Rattle.yaml_lexeme.specs.Block.{after_line}
 use Rattle.yaml_lexeme.specs.Classes.{ends}
@@ -13,7 +13,7 @@ use Rattle.yaml_lexeme.specs.Directive.{version_at, tag_directive_at, named, dir
 use Rattle.yaml_lexeme.specs.DirectiveGrammar.{DirectiveName, Named, DirectiveParts, DirectiveIsParts, DirectiveRefused, DirectiveIsRefused}
 use Rattle.yaml_lexeme.specs.DirectiveGrammar.DirectiveRefused.{no_name, name_goes_on, unknown, bad_version, bad_tag, bad_line}
 use Rattle.yaml_lexeme.specs.Grammar.{LongestRun}
-use Rattle.yaml_lexeme.specs.Lexeme.{Directive as directive_t}
+use Rattle.yaml_lexeme.specs.Lexeme.{Directive}
 use Rattle.yaml_lexeme.specs.Place.{Place, first, skip}
 use Rattle.yaml_lexeme.specs.Reading.{Offence, Found, Read, found, refuse, ◌>>=◌}
 use Rattle.yaml_lexeme.proofs.Grammars.RunTexts.{of_run, run_at, run_is, after_sign}
@@ -24,7 +24,7 @@ use Rattle.yaml_lexeme.proofs.Grammars.HandleGrammar.{tag_from, tag_to, tag_refu
 use Rattle.yaml_lexeme.proofs.Parts.ReadResults.{both}
 
 abbrev Data : Type 0
-Data = unnamed_yaml_token_t_data
+Data = TokenData
 
 -- BY THE NAME
 
@@ -73,19 +73,19 @@ named_to name p f (inr (e, v)) = at_tag name p e ∙ tag_to p f v
 
 -- DIRECTIVES
 
-abbrev said_as : Found Data → Place → Read directive_t
+abbrev said_as : Found Data → Place → Read Directive
 said_as d next = found (record { says = d.value; end = d.end.mark }) next
 
-abbrev line_of : Found Data → Read directive_t
+abbrev line_of : Found Data → Read Directive
 line_of d = after_line d.end >>= said_as d
 
-abbrev says_by : Found (List ℕ) → Read directive_t
+abbrev says_by : Found (List ℕ) → Read Directive
 says_by g = named g.value g.end >>= line_of
 
-abbrev ended_by : Found (List ℕ) → Read directive_t
+abbrev ended_by : Found (List ℕ) → Read Directive
 ended_by g = if not (ends (first g.end)) then refuse DIRECTIVE_NAME_GOES_ON g.end else says_by g
 
-abbrev by_letters : Found (List ℕ) → Read directive_t
+abbrev by_letters : Found (List ℕ) → Read Directive
 by_letters g = if length g.value == 0 then refuse NO_DIRECTIVE_NAME g.end else ended_by g
 
 abbrev letters_at : Place → Found (List ℕ)
@@ -120,7 +120,7 @@ after_name p g n =
     let some : (length g.value == 0) ≡ false = ne_eqb (length g.value) 0 (λ e. absurd (omega (arith, e, n.some))) in
     directive_by p g n.letters ∙ left (length g.value == 0) _ (ended_by g) some ∙ left (not (ends (first g.end))) _ (says_by g) (so (ends (first g.end)) n.follows)
 
-parts_from : (p : Place) (f : Found directive_t) → directive p ≡ Ok f → DirectiveParts p f
+parts_from : (p : Place) (f : Found Directive) → directive p ≡ Ok f → DirectiveParts p f
 parts_from p f h =
     let g = letters_at p in
     let s = unless_ok (length g.value == 0) (ended_by g) _ f (sym (directive_is p) ∙ h) in
@@ -134,13 +134,13 @@ parts_from p f h =
       said = u.0;
       name_is = name_of p s.0 t.0;
       said_is = named_from g.value g.end u.0 u.1;
-      line = (line_parts u.0.end f.end).0 (v.1 ∙ ap (λ (x : Found directive_t). Ok x.end) (sym is));
-      value = ap (λ (x : Found directive_t). x.value) is;
+      line = (line_parts u.0.end f.end).0 (v.1 ∙ ap (λ (x : Found Directive). Ok x.end) (sym is));
+      value = ap (λ (x : Found Directive). x.value) is;
     }
 
-parts_to : (p : Place) (f : Found directive_t) → DirectiveParts p f → directive p ≡ Ok f
+parts_to : (p : Place) (f : Found Directive) → DirectiveParts p f → directive p ≡ Ok f
 parts_to p f d =
-    let value : directive_t = record { says = d.said.value; end = d.said.end.mark } in
+    let value : Directive = record { says = d.said.value; end = d.said.end.mark } in
     after_name p d.name d.name_is ∙ then_second (named d.name.value d.name.end) line_of d.said (Ok f) (named_to d.name.value d.name.end d.said d.said_is)
     (then_second (after_line d.said.end) (said_as d.said) f.end (Ok f) ((line_parts d.said.end f.end).1 d.line) (both f value f.end d.value refl))
 

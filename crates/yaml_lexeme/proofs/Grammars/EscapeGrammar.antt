@@ -10,7 +10,9 @@ use Rattle.std.proofs.lemmas.List.Folds.{length-prefix_len}
 use Rattle.std.proofs.lemmas.List.Sums.{prefix_len-le-length}
 use Rattle.yaml_text.specs.Classes.{is_hex}
 use Rattle.yaml_lexeme.specs.declared.problem.yaml_problem_t.TheVariants.{UNKNOWN_ESCAPE, NO_HEX_DIGIT, NO_SCALAR_VALUE}
-use Rattle.yaml_lexeme.specs.Escape.{backslash, simple_escape, hex_len, is_scalar, hex_escape, simple_at, escape}
+use Rattle.yaml_lexeme.specs.Escape.{backslash, simple_escape, hex_len, hex_escape, escape}
+use Rattle.yaml_lexeme.specs.inside.CommonEscapes.{simple_at}
+use Rattle.yaml_text.specs.Utf8.{is_scalar}
 use Rattle.yaml_lexeme.specs.EscapeGrammar.{HexDigits, SimpleEscape, HexEscape, EscapeIsParts, EscapeRefused, EscapeIsRefused}
 use Rattle.yaml_lexeme.specs.EscapeGrammar.EscapeRefused.{unknown, few_digits, no_character}
 use Rattle.yaml_lexeme.specs.Place.{Place, first, peek, skip, run_len}

@@ -3,7 +3,7 @@ use Rattle.std.proofs.Common.{◌≡◌, ℕ, Bool, true, false, not, ◌==◌, 
 use Rattle.std.proofs.lemmas.Bool.{cases_Bool, not-false, not_from_false}
 use Rattle.std.proofs.lemmas.Bool.Decides.{nat_tests}
 use Rattle.yaml_text.specs.Classes.{is_alpha, is_blank}
-use Rattle.yaml_text.specs.Token.{TokenData as unnamed_yaml_token_t_data}
+use Rattle.yaml_text.specs.Token.{TokenData}
 use Rattle.yaml_text.specs.Token.TokenData.{TAG_DIRECTIVE}
 use Rattle.yaml_lexeme.specs.declared.problem.yaml_problem_t.TheVariants.{NO_BLANK_OR_BREAK, NO_BLANK, NO_HANDLE, OPEN_HANDLE}
 use Rattle.yaml_lexeme.specs.Classes.{ends}
@@ -21,6 +21,7 @@ use Rattle.yaml_lexeme.proofs.Grammars.ReadingSteps.{unless_ok, unless_err, take
 use Rattle.yaml_lexeme.proofs.Grammars.UriGrammar.{some_from, some_to, some_refused}
 use Rattle.yaml_lexeme.proofs.Grammars.VersionGrammar.{blanks_at, blanks_are, after_blanks}
 use Rattle.yaml_lexeme.proofs.Parts.ReadResults.{both}
+use Rattle.yaml_lexeme.proofs.LongestLists.LongestParts.{joined_of}
 
 -- HANDLES
 
@@ -140,13 +141,13 @@ handle_text p f (inr c) = c.text
 
 -- TAG DIRECTIVES
 
-abbrev with_prefix : Found (List ℕ) → Found (List ℕ) → Read unnamed_yaml_token_t_data
+abbrev with_prefix : Found (List ℕ) → Found (List ℕ) → Read TokenData
 with_prefix handle prefix = if not (ends (first prefix.end)) then refuse NO_BLANK_OR_BREAK prefix.end else found (TAG_DIRECTIVE handle.value prefix.value) prefix.end
 
-abbrev prefix_at : Found (List ℕ) → Read unnamed_yaml_token_t_data
+abbrev prefix_at : Found (List ℕ) → Read TokenData
 prefix_at handle = some_uri true (after_run is_blank handle.end) >>= with_prefix handle
 
-abbrev after_handle : Found (List ℕ) → Read unnamed_yaml_token_t_data
+abbrev after_handle : Found (List ℕ) → Read TokenData
 after_handle handle = if not (is_blank (first handle.end)) then refuse NO_BLANK handle.end else prefix_at handle
 
 tag_is : (p : Place) → tag_directive_at p ≡ handle_at (after_run is_blank p) >>= after_handle
@@ -170,7 +171,7 @@ prefix_to p prefix a = ap (λ (x : Place). some_uri true x) (after_blanks p a.bl
 so : (b : Bool) → b ≡ true → not b ≡ false
 so b h = rw h refl
 
-pub tag_from : (p : Place) (f : Found unnamed_yaml_token_t_data) → tag_directive_at p ≡ Ok f → TagDirectiveParts p f
+pub tag_from : (p : Place) (f : Found TokenData) → tag_directive_at p ≡ Ok f → TagDirectiveParts p f
 tag_from p f h =
     let s = steps (handle_at (after_run is_blank p)) after_handle f (sym (tag_is p) ∙ h) in
     let handle = s.0 in
@@ -180,7 +181,7 @@ tag_from p f h =
     let v = unless_ok (not (ends (first prefix.end))) (found (TAG_DIRECTIVE handle.value prefix.value) prefix.end) _ f u.2 in
     let same : found (TAG_DIRECTIVE handle.value prefix.value) prefix.end ≡ Ok f = v.1 in
     let is : f ≡ record { value = TAG_DIRECTIVE handle.value prefix.value; end = prefix.end } = cc in
-    let end : f.end ≡ prefix.end = ap (λ (x : Found unnamed_yaml_token_t_data). x.end) is in
+    let end : f.end ≡ prefix.end = ap (λ (x : Found TokenData). x.end) is in
     let before = after_from p handle s.1 in
     let after = prefix_from handle.end prefix (not-false (is_blank (first handle.end)) t.0) u.1 in
     let b = before.blanks.value in
@@ -188,7 +189,7 @@ tag_from p f h =
     let w = texts after.uri.parts in
     let one = joined_on p.rest before.blanks.end.rest handle.end.rest b handle.value before.spaces.joined (handle_text before.blanks.end handle before.parts) in
     let two = joined_on p.rest handle.end.rest after.blanks.end.rest (b ++ handle.value) c one after.spaces.joined in
-    let three = joined_on p.rest after.blanks.end.rest prefix.end.rest ((b ++ handle.value) ++ c) w two after.uri.longest.joined in
+    let three = joined_on p.rest after.blanks.end.rest prefix.end.rest ((b ++ handle.value) ++ c) w two (joined_of {p = after.blanks.end} {ts = after.uri.parts} after.uri.longest) in
     record {
       handle = handle;
       prefix = prefix;
@@ -197,10 +198,10 @@ tag_from p f h =
       follows = not-false (ends (first prefix.end)) v.0;
       text = subst (λ (x : Place). p.rest ≡ (((b ++ handle.value) ++ c) ++ w) ++ x.rest) (sym end) three;
       end = end;
-      says = ap (λ (x : Found unnamed_yaml_token_t_data). x.value) is;
+      says = ap (λ (x : Found TokenData). x.value) is;
     }
 
-pub tag_to : (p : Place) (f : Found unnamed_yaml_token_t_data) → TagDirectiveParts p f → tag_directive_at p ≡ Ok f
+pub tag_to : (p : Place) (f : Found TokenData) → TagDirectiveParts p f → tag_directive_at p ≡ Ok f
 tag_to p f v =
     tag_is p ∙ then_second (handle_at (after_run is_blank p)) after_handle v.handle (Ok f) (after_to p v.handle v.before)
     (left (not (is_blank (first v.handle.end))) _ (prefix_at v.handle) (so (is_blank (first v.handle.end)) v.after.blank)

@@ -1,7 +1,8 @@
 -- The rest of a line is blanks, a comment, and a break or the end.
 use Rattle.std.proofs.Common.{◌≡◌, ℕ, Bool, true, false, ◌==◌, inl, inr, if◌then◌else◌, List, [], ◌++◌, Ok, Err, refl, sym, ap, ◌∙◌, subst, eqb-true}
 use Rattle.std.proofs.lemmas.Bool.{not-false, true≢false}
-use Rattle.yaml_text.specs.Classes.{is_blank, is_breakz}
+use Rattle.yaml_text.specs.Classes.{is_blank}
+use Rattle.yaml_text.specs.ClassCalls.{is_breakz}
 use Rattle.yaml_lexeme.specs.declared.problem.yaml_problem_t.TheVariants.{NO_COMMENT_OR_BREAK}
 use Rattle.yaml_lexeme.specs.Block.{after_line}
 use Rattle.yaml_lexeme.specs.Classes.{is_in_line}

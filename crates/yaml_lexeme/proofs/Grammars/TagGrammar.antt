@@ -3,7 +3,7 @@ use Rattle.std.proofs.Common.{◌≡◌, ℕ, Bool, true, false, ◌==◌, inl, 
 use Rattle.std.specs.List.{list_all}
 use Rattle.std.proofs.lemmas.Bool.{cases_Bool, and_parts, ne_eqb, true≢false}
 use Rattle.yaml_text.specs.Classes.{is_alpha}
-use Rattle.yaml_text.specs.Token.{TokenData as unnamed_yaml_token_t_data}
+use Rattle.yaml_text.specs.Token.{TokenData}
 use Rattle.yaml_text.specs.Token.TokenData.{TAG}
 use Rattle.yaml_lexeme.specs.declared.problem.yaml_problem_t.TheVariants.{NO_CLOSING_ANGLE, NO_BLANK_OR_BREAK}
 use Rattle.yaml_lexeme.specs.Grammar.{LongestRun, VerbatimTag, NamedTag, PrimaryTag, TagText, is_after_tag, TagParts, TagIsParts, TagRefused, TagIsRefused}
@@ -19,13 +19,14 @@ use Rattle.yaml_lexeme.proofs.Grammars.UriGrammar.{some_from, some_to, some_refu
 use Rattle.yaml_lexeme.proofs.LongestLists.UriLongest.{uri_parts, uri_refused}
 use Rattle.yaml_lexeme.proofs.Parts.ReadResults.{both}
 use Rattle.yaml_lexeme.proofs.Places.PlaceMoves.{skip_skip}
+use Rattle.yaml_lexeme.proofs.LongestLists.LongestParts.{joined_of}
 
 abbrev Tag : Type 0
-Tag = Found unnamed_yaml_token_t_data
+Tag = Found TokenData
 
 -- VERBATIM TAGS
 
-abbrev close_at : Found (List ℕ) → Read unnamed_yaml_token_t_data
+abbrev close_at : Found (List ℕ) → Read TokenData
 close_at r = if first r.end == 0x3E then found (TAG [] r.value) (skip 1 r.end) else refuse NO_CLOSING_ANGLE r.end
 
 angled_is : (p : Place) → angled (skip 1 p) ≡ some_uri true (skip 2 p) >>= close_at
@@ -41,7 +42,7 @@ verbatim_from p f mark angle h =
     let second : (skip 1 p).rest ≡ 0x3C ∷ (skip 2 p).rest = sign_is 0x3C (skip 1 p) (omega arith) angle ∙ ap (λ (x : Place). 0x3C ∷ x.rest) (skip_skip 1 1 p) in
     let last : s.0.end.rest ≡ 0x3E ∷ f.end.rest = sign_is 0x3E s.0.end (omega arith) closed ∙ ap (λ (x : Tag). 0x3E ∷ x.end.rest) (sym t.1) in
     let body : (skip 2 p).rest ≡ (texts u.0.parts ++ (0x3E ∷ [])) ++ f.end.rest =
-    u.0.longest.joined ∙ ap (λ (cs : List ℕ). texts u.0.parts ++ cs) last ∙ sym (append_assoc (texts u.0.parts) (0x3E ∷ []) f.end.rest) in
+    joined_of u.0.longest ∙ ap (λ (cs : List ℕ). texts u.0.parts ++ cs) last ∙ sym (append_assoc (texts u.0.parts) (0x3E ∷ []) f.end.rest) in
     record {
       suffix = s.0;
       angle = angle;
@@ -73,19 +74,19 @@ letters_at p = record { value = run is_alpha (skip 1 p); end = after_run is_alph
 letters_are : (p : Place) → LongestRun is_alpha (skip 1 p) (letters_at p).value (letters_at p).end
 letters_are p = of_run is_alpha (skip 1 p) refl
 
-abbrev named_as : Found (List ℕ) → Found (List ℕ) → Read unnamed_yaml_token_t_data
+abbrev named_as : Found (List ℕ) → Found (List ℕ) → Read TokenData
 named_as g r = found (with_handle g.value r.value) r.end
 
-abbrev primary_as : Found (List ℕ) → Found (List ℕ) → Read unnamed_yaml_token_t_data
+abbrev primary_as : Found (List ℕ) → Found (List ℕ) → Read TokenData
 primary_as g r = found (lone (g.value ++ r.value)) r.end
 
-abbrev named_at : Found (List ℕ) → Read unnamed_yaml_token_t_data
+abbrev named_at : Found (List ℕ) → Read TokenData
 named_at g = some_uri false (skip 1 g.end) >>= named_as g
 
-abbrev primary_at : Found (List ℕ) → Read unnamed_yaml_token_t_data
+abbrev primary_at : Found (List ℕ) → Read TokenData
 primary_at g = uri false g.end >>= primary_as g
 
-abbrev by_letters : Found (List ℕ) → Read unnamed_yaml_token_t_data
+abbrev by_letters : Found (List ℕ) → Read TokenData
 by_letters g = if first g.end == 0x21 then named_at g else primary_at g
 
 handled_is : (p : Place) → handled (skip 1 p) ≡ by_letters (letters_at p)
@@ -109,7 +110,7 @@ named_from p f mark second h =
     let is : f ≡ record { value = with_handle g.value s.0.value; end = s.0.end } = cc in
     let end : f.end ≡ s.0.end = ap (λ (x : Tag). x.end) is in
     let t = texts u.0.parts in
-    let uri_rest : (skip 1 g.end).rest ≡ t ++ f.end.rest = u.0.longest.joined ∙ ap (λ (x : Place). t ++ x.rest) (sym end) in
+    let uri_rest : (skip 1 g.end).rest ≡ t ++ f.end.rest = joined_of u.0.longest ∙ ap (λ (x : Place). t ++ x.rest) (sym end) in
     let rest : (skip 1 p).rest ≡ ((g.value ++ (0x21 ∷ [])) ++ t) ++ f.end.rest =
     l.joined ∙ ap (λ (cs : List ℕ). g.value ++ cs) (sign_is 0x21 g.end (omega arith) second ∙ ap (λ (cs : List ℕ). 0x21 ∷ cs) uri_rest)
     ∙ sym (append_assoc g.value (0x21 ∷ []) (t ++ f.end.rest)) ∙ sym (append_assoc (g.value ++ (0x21 ∷ [])) t f.end.rest) in
@@ -135,7 +136,7 @@ primary_from p f mark no_angle unmarked h =
     let is : f ≡ record { value = lone (g.value ++ s.0.value); end = s.0.end } = cc in
     let end : f.end ≡ s.0.end = ap (λ (x : Tag). x.end) is in
     let t = texts u.parts in
-    let uri_rest : g.end.rest ≡ t ++ f.end.rest = u.longest.joined ∙ ap (λ (x : Place). t ++ x.rest) (sym end) in
+    let uri_rest : g.end.rest ≡ t ++ f.end.rest = joined_of u.longest ∙ ap (λ (x : Place). t ++ x.rest) (sym end) in
     let rest : (skip 1 p).rest ≡ (g.value ++ t) ++ f.end.rest = l.joined ∙ ap (λ (cs : List ℕ). g.value ++ cs) uri_rest ∙ sym (append_assoc g.value t f.end.rest) in
     record {
       letters = g;
@@ -196,7 +197,7 @@ text_to p f (inl v) = verbatim_to p f v
 text_to p f (inr (inl v)) = named_to p f v
 text_to p f (inr (inr v)) = primary_to p f v
 
-abbrev if_over : Bool → Tag → Read unnamed_yaml_token_t_data
+abbrev if_over : Bool → Tag → Read TokenData
 if_over flow t = if is_after_tag flow (first t.end) then found t.value t.end else refuse NO_BLANK_OR_BREAK t.end
 
 tag_is : (flow : Bool) (p : Place) → tag flow p ≡ tag_parts p >>= if_over flow

@@ -7,11 +7,12 @@ use Rattle.yaml_lexeme.specs.Grammar.{SomeUriRefused}
 use Rattle.yaml_lexeme.specs.Parts.{Piece, Pieces, values, UriParts}
 use Rattle.yaml_lexeme.specs.Place.{Place, first, skip}
 use Rattle.yaml_lexeme.specs.Reading.{Offence, Found, Read, found, refuse, ◌>>=◌, Part, part, over, go_on, many}
-use Rattle.yaml_lexeme.specs.Uri.{is_uri, octet, octet_width, uri_escape, uri_part, uri, some_uri}
+use Rattle.yaml_lexeme.specs.Uri.{is_uri, octet, uri_escape, uri_part, uri, some_uri}
 use Rattle.yaml_lexeme.proofs.Grammars.ReadingSteps.{left, steps, stops, then_second, first_refused, unless_passed, unless_failed, offence_is}
 use Rattle.yaml_lexeme.proofs.LongestLists.UriLongest.{uri_parts, uri_refused}
 use Rattle.yaml_lexeme.proofs.Parts.PartByPart.{many_turn}
 use Rattle.yaml_lexeme.proofs.Readers.UriOctets.{uri_shortens}
+use Rattle.yaml_text.specs.Utf8.{width_of}
 
 abbrev if_some : Found (List ℕ) → Read (List ℕ)
 if_some r = if length r.value == 0 then refuse NO_URI r.end else found r.value r.end
@@ -46,7 +47,7 @@ unfolding uri_escape
 escape_some p f h =
     let s = steps (octet p) _ f h in
     let later : (b : Bool) (r : Read (List ℕ)) (o : Offence) → (if b then Err o else r >>= λ more. found (s.0.value ∷ more.value) more.end) ≡ Ok f → 0 < length f.value = λ b r o. later_some b s.0.value r o f in
-    later (octet_width s.0.value == 0) _ _ s.2
+    later (width_of s.0.value == 0) _ _ s.2
   where
     later_some : (b : Bool) (c : ℕ) (r : Read (List ℕ)) (o : Offence) (f : Found (List ℕ)) → (if b then Err o else r >>= λ more. found (c ∷ more.value) more.end) ≡ Ok f → 0 < length f.value
     later_some true c r o f h = absurd cc

@@ -5,7 +5,7 @@ use Rattle.std.proofs.lemmas.Bool.{ne_eqb, not-false, not_from_false}
 use Rattle.std.proofs.lemmas.Bool.Decides.{nat_tests}
 use Rattle.std.proofs.lemmas.List.Folds.{length-prefix_len}
 use Rattle.yaml_text.specs.Classes.{is_blank, is_digit}
-use Rattle.yaml_text.specs.Token.{TokenData as unnamed_yaml_token_t_data}
+use Rattle.yaml_text.specs.Token.{TokenData}
 use Rattle.yaml_text.specs.Token.TokenData.{VERSION_DIRECTIVE}
 use Rattle.yaml_lexeme.specs.declared.problem.yaml_problem_t.TheVariants.{NO_NUMBER, LONG_NUMBER, NO_DOT}
 use Rattle.yaml_lexeme.specs.Directive.{number, version_at}
@@ -94,10 +94,10 @@ blanks_at p = run_at is_blank p
 pub blanks_are : (p : Place) → LongestRun is_blank p (blanks_at p).value (blanks_at p).end
 blanks_are p = of_run is_blank p refl
 
-abbrev version_of : Found ℕ → Found ℕ → Read unnamed_yaml_token_t_data
+abbrev version_of : Found ℕ → Found ℕ → Read TokenData
 version_of major minor = found (VERSION_DIRECTIVE (pos major.value) (pos minor.value)) minor.end
 
-abbrev after_major : Found ℕ → Read unnamed_yaml_token_t_data
+abbrev after_major : Found ℕ → Read TokenData
 after_major major = if not (first major.end == 0x2E) then refuse NO_DOT major.end else number (skip 1 major.end) >>= version_of major
 
 version_is : (p : Place) → version_at p ≡ number (after_run is_blank p) >>= after_major
@@ -114,10 +114,10 @@ major_is p major n = ap number (after_blanks p n.blanks n.spaces) ∙ number_to 
 major_from : (p : Place) (major : Found ℕ) → number (after_run is_blank p) ≡ Ok major → NumberAfter p major
 major_from p major h = record { blanks = blanks_at p; spaces = blanks_are p; number = number_from (after_run is_blank p) major h }
 
-whole_version : (p : Place) (f : Found unnamed_yaml_token_t_data) (major minor : Found ℕ) → NumberAfter p major → first major.end ≡ 0x2E → NumberParts (skip 1 major.end) minor → version_of major minor ≡ Ok f → VersionParts p f
+whole_version : (p : Place) (f : Found TokenData) (major minor : Found ℕ) → NumberAfter p major → first major.end ≡ 0x2E → NumberParts (skip 1 major.end) minor → version_of major minor ≡ Ok f → VersionParts p f
 whole_version p f major minor before dot after h =
     let is : f ≡ record { value = VERSION_DIRECTIVE (pos major.value) (pos minor.value); end = minor.end } = cc in
-    let end : f.end ≡ minor.end = ap (λ (x : Found unnamed_yaml_token_t_data). x.end) is in
+    let end : f.end ≡ minor.end = ap (λ (x : Found TokenData). x.end) is in
     let b = before.blanks.value in
     let m = before.number.digits in
     let n = after.digits in
@@ -132,10 +132,10 @@ whole_version p f major minor before dot after h =
       after = after;
       text = subst (λ (x : Place). p.rest ≡ (((b ++ m) ++ (0x2E ∷ [])) ++ n) ++ x.rest) (sym end) whole;
       end = end;
-      says = ap (λ (x : Found unnamed_yaml_token_t_data). x.value) is;
+      says = ap (λ (x : Found TokenData). x.value) is;
     }
 
-pub version_from : (p : Place) (f : Found unnamed_yaml_token_t_data) → version_at p ≡ Ok f → VersionParts p f
+pub version_from : (p : Place) (f : Found TokenData) → version_at p ≡ Ok f → VersionParts p f
 version_from p f h =
     let s = steps (number (after_run is_blank p)) after_major f (sym (version_is p) ∙ h) in
     let major = s.0 in
@@ -146,7 +146,7 @@ version_from p f h =
 dot_test : (q : Place) → first q ≡ 0x2E → not (first q == 0x2E) ≡ false
 dot_test q dot = rw dot refl
 
-pub version_to : (p : Place) (f : Found unnamed_yaml_token_t_data) → VersionParts p f → version_at p ≡ Ok f
+pub version_to : (p : Place) (f : Found TokenData) → VersionParts p f → version_at p ≡ Ok f
 version_to p f v =
     version_is p ∙ then_second (number (after_run is_blank p)) after_major v.major (Ok f) (major_is p v.major v.before)
     (left (not (first v.major.end == 0x2E)) _ _ (dot_test v.major.end v.dot)

@@ -7,7 +7,12 @@ use Rattle.yaml_lexeme.proofs.Locality.ComposedReaders.{Like, IsLike, IsPartLike
 use Rattle.yaml_lexeme.proofs.Locality.LocalReaders.{agree_less, run_same}
 use Rattle.yaml_lexeme.proofs.Locality.LookaheadLists.{Next, go, stop, join, finish, finish_like}
 use Rattle.yaml_lexeme.proofs.MarkOrder.ScalarsAhead.{blank_shortens, text_shortens}
-use Rattle.yaml_lexeme.specs.Block.{header_of, blank_of, is_sign, sign_of, digit_at, header_at, after_line, is_indenting, indent_len, after_indent, Blank, blank_line, Blanks, blanks_of, blank_lines, Line, break_at, line_at, is_text, text_line, block_value, end_of, block_indent, set_indent, block}
+use Rattle.yaml_lexeme.specs.Block.{header_of, is_sign, sign_of, digit_at, header_at, after_line}
+use Rattle.yaml_lexeme.specs.Block.{indent_len, after_indent, EmptyLine, empty_line, break_at, is_text}
+use Rattle.yaml_lexeme.specs.Block.{block_indent, set_indent, block}
+use Rattle.yaml_lexeme.proofs.Readers.BlocksAlike.{blocks_alike}
+use Rattle.yaml_lexeme.specs.inside.BlockAhead.{Blanks, blanks_of, blank_lines, Line, line_at, text_line, block_value}
+use Rattle.yaml_lexeme.specs.inside.BlockAhead.{end_of, block_ahead, is_indenting}
 use Rattle.yaml_lexeme.specs.Classes.{is_in_line}
 use Rattle.yaml_lexeme.specs.Fold.{written}
 use Rattle.yaml_lexeme.proofs.Locality.AgreeingPlaces.{Agree}
@@ -15,7 +20,7 @@ use Rattle.yaml_lexeme.proofs.Readers.BlockLines.{blank_at, after_blanks}
 use Rattle.yaml_lexeme.specs.Place.{Place, first, skip, run_len, break_len}
 use Rattle.yaml_lexeme.specs.Reading.{Offence, Found, Read, found, refuse, ◌>>=◌, part, over, many}
 use Rattle.yaml_lexeme.specs.declared.block.header_t.{header_t}
-use Rattle.yaml_lexeme.specs.Lexeme.{Scalar as scalar_t}
+use Rattle.yaml_lexeme.specs.Lexeme.{Scalar}
 use Rattle.yaml_lexeme.specs.declared.problem.yaml_problem_t.TheVariants.{TAB_IN_INDENTATION}
 use Rattle.yaml_text.specs.Chars.{utf8}
 use Rattle.yaml_text.specs.Classes.{is_digit}
@@ -60,26 +65,30 @@ indent_is limit p f = let q = skip (indent_len limit p) p in elim (cases_Bool (i
 abbrev last : Option ℕ → Place → Read yaml_mark_t
 last limit p = indented limit p >>= λ x. found p.mark x.end
 
-abbrev turn_then : yaml_mark_t → Place → Read (Next Blank yaml_mark_t)
+abbrev turn_then : yaml_mark_t → Place → Read (Next EmptyLine yaml_mark_t)
 turn_then m q = if nat_lt 0 (break_len q) then found (go (record { column = q.mark.column; break = written (first q) })) (skip (break_len q) q) else found (stop m) q
 
-abbrev turn : Option ℕ → Place → Read (Next Blank yaml_mark_t)
+abbrev turn : Option ℕ → Place → Read (Next EmptyLine yaml_mark_t)
 turn limit p = indented limit p >>= λ x. turn_then p.mark x.end
 
-blank_same : (n : ℕ) (p q : Place) → Agree n p q → 8 ≤ n → blank_of q ≡ blank_of p
+-- the one whose break is at q
+abbrev empty_at : Place → EmptyLine
+empty_at q = record { column = q.mark.column; break = written (first q) }
+
+blank_same : (n : ℕ) (p q : Place) → Agree n p q → 8 ≤ n → empty_at q ≡ empty_at p
 blank_same n p q a h = rw (a.mark, a.same 0 (omega arith)) refl
 
 then_like : (m : yaml_mark_t) → IsLike (turn_then m)
 then_like m n p q a =
     like_if (nat_lt 0 (break_len p)) (nat_lt 0 (break_len q)) (λ h. ap (λ (i : ℕ). nat_lt 0 i) (break_same n p q a h))
-    (like_found (break_len p) refl (λ h. ap (λ (i : ℕ). skip i q) (break_same n p q a (omega arith))) (λ h. ap (λ (b : Blank). go b) (blank_same n p q a (omega arith)))) found_here
+    (like_found (break_len p) refl (λ h. ap (λ (i : ℕ). skip i q) (break_same n p q a (omega arith))) (λ h. ap (λ (b : EmptyLine). go b) (blank_same n p q a (omega arith)))) found_here
 
 turn_like : (limit : Option ℕ) → IsLike (turn limit)
 turn_like limit n p q a =
-    subst (λ (m : yaml_mark_t). Like {A = Next Blank yaml_mark_t} n p q (turn limit p) (indented limit q >>= λ x. turn_then m x.end)) a.mark
+    subst (λ (m : yaml_mark_t). Like {A = Next EmptyLine yaml_mark_t} n p q (turn limit p) (indented limit q >>= λ x. turn_then m x.end)) a.mark
     (like_bind _ _ a (indented_like limit n p q a) (λ x z i b. then_like p.mark i x.end z b))
 
-by_break : (b : Bool) (m : yaml_mark_t) (v : Blank) (q r : Place) → (if b then found (go v) r else found (stop m) q) ≡ join (if b then part v r else over) (found {A = yaml_mark_t} m q)
+by_break : (b : Bool) (m : yaml_mark_t) (v : EmptyLine) (q r : Place) → (if b then found (go v) r else found (stop m) q) ≡ join (if b then part v r else over) (found {A = yaml_mark_t} m q)
 by_break true m v q r = refl
 by_break false m v q r = refl
 
@@ -87,31 +96,31 @@ by_indent : (r : Read ℕ) (m : yaml_mark_t) → (r >>= λ x. turn_then m x.end)
 by_indent (Ok x) m = by_break (nat_lt 0 (break_len x.end)) m (record { column = x.end.mark.column; break = written (first x.end) }) x.end (skip (break_len x.end) x.end)
 by_indent (Err e) m = refl
 
-blank_is : (limit : Option ℕ) (p : Place) → blank_line limit p ≡ (indented limit p >>= λ x. blank_at x.end)
-unfolding blank_line
+blank_is : (limit : Option ℕ) (p : Place) → empty_line limit p ≡ (indented limit p >>= λ x. blank_at x.end)
+unfolding empty_line
 blank_is limit p = indent_is limit p blank_at
 
-turn_is : (limit : Option ℕ) (p : Place) → turn limit p ≡ join (blank_line limit p) (last limit p)
+turn_is : (limit : Option ℕ) (p : Place) → turn limit p ≡ join (empty_line limit p) (last limit p)
 turn_is limit p = rw (blank_is limit p) (by_indent (indented limit p) p.mark)
 
-abbrev blanks_from : Read (List Blank × yaml_mark_t) → Read Blanks
+abbrev blanks_from : Read (List EmptyLine × yaml_mark_t) → Read Blanks
 blanks_from r = r >>= λ t. found (blanks_of t.value.0 t.value.1) t.end
 
-last_is : (r : Read ℕ) (ls : List Blank) (m : yaml_mark_t) → (r >>= λ x. found (blanks_of ls m) x.end) ≡ blanks_from ((r >>= λ x. found m x.end) >>= λ b. found (ls, b.value) b.end)
+last_is : (r : Read ℕ) (ls : List EmptyLine) (m : yaml_mark_t) → (r >>= λ x. found (blanks_of ls m) x.end) ≡ blanks_from ((r >>= λ x. found m x.end) >>= λ b. found (ls, b.value) b.end)
 last_is (Ok x) ls m = refl
 last_is (Err e) ls m = refl
 
-blanks_is : (limit : Option ℕ) (r : Read (List Blank)) → after_blanks limit r ≡ blanks_from (finish (last limit) r)
+blanks_is : (limit : Option ℕ) (r : Read (List EmptyLine)) → after_blanks limit r ≡ blanks_from (finish (last limit) r)
 blanks_is limit (Ok lines) = indent_is limit lines.end (λ next. found (blanks_of lines.value lines.end.mark) next) ∙ last_is (indented limit lines.end) lines.value lines.end.mark
 blanks_is limit (Err e) = refl
 
-lines_is : (limit : Option ℕ) (p : Place) → blank_lines limit p ≡ blanks_from (finish (last limit) (many (blank_line limit) p))
+lines_is : (limit : Option ℕ) (p : Place) → blank_lines limit p ≡ blanks_from (finish (last limit) (many (empty_line limit) p))
 unfolding blank_lines
-lines_is limit p = blanks_is limit (many (blank_line limit) p)
+lines_is limit p = blanks_is limit (many (empty_line limit) p)
 
 lines_like : (limit : Option ℕ) → IsLike (blank_lines limit)
 lines_like limit n p q a =
-    rw (lines_is limit p, lines_is limit q) (like_map (λ (t : List Blank × yaml_mark_t). blanks_of t.0 t.1) (finish_like (blank_line limit) (last limit) (turn limit) (blank_shortens limit) (turn_is limit) (turn_like limit) n p q a))
+    rw (lines_is limit p, lines_is limit q) (like_map (λ (t : List EmptyLine × yaml_mark_t). blanks_of t.0 t.1) (finish_like (empty_line limit) (last limit) (turn limit) (blank_shortens limit) (turn_is limit) (turn_like limit) n p q a))
 
 abbrev line_then : ℕ → List ℕ → Place → Read Line
 line_then indent text q = blank_lines (Some indent) (skip (break_len q) q) >>= λ blanks. found (record { text = text; break = break_at q; empties = blanks.value.breaks; end = blanks.value.end }) blanks.end
@@ -158,16 +167,16 @@ header_like n p q a =
     (like_found 1 refl (λ h. refl) (λ h. ap (λ (c : ℕ). signed c x.value) (sym (b.same 0 (omega arith))))) found_here))
 
 -- after the leading empty lines
-abbrev block_end : Bool → header_t → Option ℕ → Found Blanks → Read scalar_t
+abbrev block_end : Bool → header_t → Option ℕ → Found Blanks → Read Scalar
 block_end folded header level leading =
     many (text_line (block_indent level (set_indent level header.digit) leading.value.column leading.end.mark.column)) leading.end >>= λ lines.
     found (record { value = utf8 (block_value folded header.chomp leading.value.breaks lines.value); end = end_of leading.value.end lines.value; passed_break = false }) lines.end
 
-abbrev block_value_of : Bool → header_t → Blanks → List Line → scalar_t
+abbrev block_value_of : Bool → header_t → Blanks → List Line → Scalar
 block_value_of folded header leading lines = record { value = utf8 (block_value folded header.chomp leading.breaks lines); end = end_of leading.end lines; passed_break = false }
 
 -- after the header's line
-abbrev block_lines : Bool → Option ℕ → header_t → Place → Read scalar_t
+abbrev block_lines : Bool → Option ℕ → header_t → Place → Read Scalar
 block_lines folded level header start = blank_lines (set_indent level header.digit) start >>= λ leading. block_end folded header level leading
 
 end_like : (folded : Bool) (header : header_t) (level : Option ℕ) (column : ℕ) (leading : Blanks) (n : ℕ) (p q : Place) → Agree n p q → p.mark.column ≡ column
@@ -180,7 +189,7 @@ end_like folded header level column leading n p q a e =
 block_lines_like : (folded : Bool) (level : Option ℕ) (header : header_t) → IsLike (block_lines folded level header)
 block_lines_like folded level header n p q a =
     like_bind _ _ a (lines_like (set_indent level header.digit) n p q a) (λ x z m b.
-    subst (λ (k : yaml_mark_t). Like {A = scalar_t} m x.end z (block_end folded header level x) (many (text_line (block_indent level (set_indent level header.digit) x.value.column k.column)) z >>= λ lines. found (block_value_of folded header x.value lines.value) lines.end)) b.mark
+    subst (λ (k : yaml_mark_t). Like {A = Scalar} m x.end z (block_end folded header level x) (many (text_line (block_indent level (set_indent level header.digit) x.value.column k.column)) z >>= λ lines. found (block_value_of folded header x.value lines.value) lines.end)) b.mark
     (end_like folded header level x.end.mark.column x.value m x.end z b refl))
 
 abbrev as_read : Result Place Offence → Read ℕ
@@ -190,7 +199,7 @@ rest_is : {A : Type 0} (r : Result Place Offence) (f : Place → Read A) → (r 
 rest_is (Ok p) f = refl
 rest_is (Err e) f = refl
 
-abbrev block_header : Bool → Option ℕ → Place → Read scalar_t
+abbrev block_header : Bool → Option ℕ → Place → Read Scalar
 block_header folded level p = header_at p >>= λ header. as_read (after_line header.end) >>= λ start. block_lines folded level header.value start.end
 
 block_from : (folded : Bool) (level : Option ℕ) (r : Read header_t) → (r >>= λ header. after_line header.end >>= λ start. block_lines folded level header.value start) ≡ (r >>= λ header. as_read (after_line header.end) >>= λ start. block_lines folded level header.value start.end)
@@ -198,8 +207,8 @@ block_from folded level (Ok header) = rest_is (after_line header.end) (block_lin
 block_from folded level (Err e) = refl
 
 block_is : (folded : Bool) (level : Option ℕ) (p : Place) → block folded level p ≡ block_header folded level (skip 1 p)
-unfolding block
-block_is folded level p = block_from folded level (header_at (skip 1 p))
+unfolding block_ahead
+block_is folded level p = blocks_alike folded level p ∙ block_from folded level (header_at (skip 1 p))
 
 block_header_like : (folded : Bool) (level : Option ℕ) → IsLike (block_header folded level)
 block_header_like folded level n p q a =

@@ -17,7 +17,7 @@ use Rattle.yaml_lexeme.proofs.Locality.AgreeingPlaces.{Agree}
 use Rattle.yaml_lexeme.specs.Place.{Place, first, skip, run, run_len, after_run, break_len}
 use Rattle.yaml_lexeme.specs.Reading.{Read, found, refuse, ◌>>=◌}
 use Rattle.yaml_lexeme.specs.Uri.{some_uri}
-use Rattle.yaml_lexeme.specs.Lexeme.{Directive as directive_t}
+use Rattle.yaml_lexeme.specs.Lexeme.{Directive}
 use Rattle.yaml_lexeme.specs.declared.problem.yaml_problem_t.TheVariants.{NO_NUMBER, LONG_NUMBER, NO_COMMENT_OR_BREAK, OPEN_HANDLE, NO_DIRECTIVE_NAME, DIRECTIVE_NAME_GOES_ON}
 use Rattle.yaml_text.specs.Classes.{is_alpha, is_blank, is_break, is_digit, is_z}
 use Rattle.yaml_text.specs.Token.TokenData.{VERSION_DIRECTIVE}
@@ -129,7 +129,7 @@ line_like v n p q a =
     let s = step_then after_comment comment_step n p q (after_run is_blank p) (after_run is_blank q) a (step_run is_blank n p q a) in
     rw (line_is v p, line_is v q) (like_step (line_then v) (line_then_like v) n p q (after_comment (after_run is_blank p)) (after_comment (after_run is_blank q)) a s)
 
-abbrev directive_then : List ℕ → Place → Read directive_t
+abbrev directive_then : List ℕ → Place → Read Directive
 directive_then letters end =
     if length letters == 0 then refuse NO_DIRECTIVE_NAME end
     else if not (ends (first end)) then refuse DIRECTIVE_NAME_GOES_ON end
@@ -140,10 +140,10 @@ then_like letters n p q a =
     like_if (length letters == 0) (length letters == 0) (λ h. refl) refuse_here
     (like_if (not (ends (first p))) (not (ends (first q))) (λ h. rw (a.same 0 (omega arith)) refl) refuse_here
     (like_bind _ _ a (named_like letters n p q a) (λ x z m b.
-    subst (λ (mark : yaml_mark_t). Like {A = directive_t} m x.end z (after_line x.end >>= λ next. found (record { says = x.value; end = x.end.mark }) next) (after_line z >>= λ next. found (record { says = x.value; end = mark }) next)) b.mark
+    subst (λ (mark : yaml_mark_t). Like {A = Directive} m x.end z (after_line x.end >>= λ next. found (record { says = x.value; end = x.end.mark }) next) (after_line z >>= λ next. found (record { says = x.value; end = mark }) next)) b.mark
     (line_like (record { says = x.value; end = x.end.mark }) m x.end z b))))
 
-abbrev directive_after : Place → Read directive_t
+abbrev directive_after : Place → Read Directive
 directive_after p = directive_then (run is_alpha p) (after_run is_alpha p)
 
 after_run_like : IsLike directive_after

@@ -9,7 +9,8 @@ use Rattle.yaml_lexeme.specs.Classes.{is_in_line}
 use Rattle.yaml_lexeme.specs.Gap.{byte_order_mark, is_gap_blank, after_mark, after_comment, after_gap_line, after_gap_lines, gap}
 use Rattle.yaml_lexeme.proofs.Locality.AgreeingPlaces.{Agree, by_agreeing}
 use Rattle.yaml_lexeme.specs.Locality.{GapIsLocal}
-use Rattle.yaml_lexeme.specs.Place.{Place, first, skip, distance, after_run, break_len}
+use Rattle.yaml_lexeme.specs.Place.{Place, first, skip, after_run, break_len}
+use Rattle.yaml_lexeme.specs.Order.{distance}
 
 pub break_same : (n : ℕ) (p q : Place) → Agree n p q → 8 ≤ n → break_len q ≡ break_len p
 break_same n p q a h = rw (a.same 0 (omega arith), a.same 1 (omega arith)) refl

@@ -14,7 +14,8 @@ use Rattle.yaml_lexeme.proofs.Places.PlaceMoves.{skip_none}
 use Rattle.yaml_lexeme.proofs.Locality.PlainLocality.{plain_like}
 use Rattle.yaml_lexeme.specs.Block.{block}
 use Rattle.yaml_lexeme.specs.Directive.{directive}
-use Rattle.yaml_lexeme.specs.Lex.{lex, in_flow, least, says_of, quoted_as}
+use Rattle.yaml_lexeme.specs.Lex.{lex, in_flow, least, says_of}
+use Rattle.yaml_lexeme.specs.KindSets.{quoted_as}
 use Rattle.yaml_lexeme.specs.StreamEnd.{stream_end, at_end}
 use Rattle.yaml_lexeme.specs.Locality.{LexIsLocal}
 use Rattle.yaml_lexeme.specs.Name.{name}
@@ -26,12 +27,12 @@ use Rattle.yaml_lexeme.specs.Reading.{Read, found}
 use Rattle.yaml_lexeme.specs.Tag.{tag}
 use Rattle.yaml_lexeme.specs.declared.kind.yaml_lexeme_kind_t.{yaml_lexeme_kind_t}
 use Rattle.yaml_lexeme.specs.declared.lex.yaml_context_t.{yaml_context_t}
-use Rattle.yaml_lexeme.specs.Lexeme.{Lexeme as yaml_lexeme_t, lexeme, whole_of, whole, scalar_to, directive_to}
+use Rattle.yaml_lexeme.specs.Lexeme.{Lexeme, lexeme, whole_of, whole, scalar_to, directive_to}
 use Rattle.yaml_text.specs.declared.types.yaml_mark_t.{yaml_mark_t}
 use Rattle.yaml_text.specs.declared.types.yaml_scalar_style_t.TheVariants.{YAML_PLAIN_SCALAR_STYLE, YAML_SINGLE_QUOTED_SCALAR_STYLE, YAML_DOUBLE_QUOTED_SCALAR_STYLE, YAML_LITERAL_SCALAR_STYLE, YAML_FOLDED_SCALAR_STYLE}
 
 -- a reader, and the lexeme that is made of it
-made_like : {A : Type 0} (make : yaml_mark_t → A → yaml_mark_t → yaml_lexeme_t) (read : Place → Read A) → IsLike read → IsLike (λ p. lexeme make p (read p))
+made_like : {A : Type 0} (make : yaml_mark_t → A → yaml_mark_t → Lexeme) (read : Place → Read A) → IsLike read → IsLike (λ p. lexeme make p (read p))
 made_like make read all n p q a =
     like_bind _ _ a (all n p q a) (λ x z m b. like_found 0 (sym (skip_none x.end)) (λ h. sym (skip_none z))
     (λ h. ap (λ (e : yaml_mark_t). make e x.value z.mark) (sym a.mark) ∙ ap (λ (e : yaml_mark_t). make p.mark x.value e) (sym b.mark)))
@@ -72,13 +73,13 @@ pub lex_is_local : LexIsLocal
 lex_is_local k c = like_law (lex k c) (lex_like k c)
 
 -- an offence is ahead
-abbrev Offends : Place → Read yaml_lexeme_t → Type 0
+abbrev Offends : Place → Read Lexeme → Type 0
 Offends p (Ok f) = Unit {0}
 Offends p (Err e) = IsAhead 0 p e.at
 
-offends : (p : Place) (n : ℕ) (r : Read yaml_lexeme_t) → EndsAt n p r → Offends p r
+offends : (p : Place) (n : ℕ) (r : Read Lexeme) → EndsAt n p r → Offends p r
 offends p n (Ok f) h = tt
 offends p n (Err e) h = subst (λ (x : Place). IsAhead 0 p x) (sym h) (ahead_any n p)
 
 pub offence_is_ahead : OffenceIsAhead
-offence_is_ahead k c p e h = let l = lex_like k c 0 p p (agree_self p) in subst (λ (r : Read yaml_lexeme_t). Offends p r) h (offends p l.count (lex k c p) l.ends)
+offence_is_ahead k c p e h = let l = lex_like k c 0 p p (agree_self p) in subst (λ (r : Read Lexeme). Offends p r) h (offends p l.count (lex k c p) l.ends)

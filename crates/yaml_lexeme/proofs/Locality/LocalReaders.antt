@@ -7,8 +7,8 @@ use Rattle.yaml_lexeme.proofs.MarkOrder.ReadingAhead.{ahead_any}
 use Rattle.yaml_lexeme.proofs.Parts.PartByPart.{IsShorter, Shortens, many_turn}
 use Rattle.yaml_lexeme.proofs.Places.PlaceMoves.{skip_one, skip_more, skip_none, length_skip, skip_skip}
 use Rattle.yaml_lexeme.specs.Locality.{reach, move, IsLocal}
-use Rattle.yaml_lexeme.specs.Order.{IsAhead}
-use Rattle.yaml_lexeme.specs.Place.{Place, peek, skip, distance, run_len}
+use Rattle.yaml_lexeme.specs.Order.{IsAhead, distance}
+use Rattle.yaml_lexeme.specs.Place.{Place, peek, skip, run_len}
 use Rattle.yaml_lexeme.specs.Reading.{Read, found, refuse, ◌>>=◌, Part, part, over, with_front, go_on, many}
 
 pub agree_less : (m n : ℕ) (p q : Place) → m ≤ n → Agree n p q → Agree m p q

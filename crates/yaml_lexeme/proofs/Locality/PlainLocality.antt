@@ -14,9 +14,10 @@ use Rattle.yaml_lexeme.specs.Fold.{fold}
 use Rattle.yaml_lexeme.proofs.Locality.AgreeingPlaces.{Agree}
 use Rattle.yaml_lexeme.proofs.Parts.ReadResults.{value_or, end_or}
 use Rattle.yaml_lexeme.specs.Place.{Place, first, peek, skip, run, after_run}
-use Rattle.yaml_lexeme.specs.Plain.{is_bad_colon, is_chunk, chunk_len, chunk, untabbed, is_over, link, plain}
+use Rattle.yaml_lexeme.specs.Plain.{is_bad_colon, is_chunk, chunk_len, chunk, is_over, link, plain}
+use Rattle.yaml_lexeme.specs.inside.Words.{untabbed}
 use Rattle.yaml_lexeme.specs.Reading.{Found, Read, found, refuse, ◌>>=◌, part, over, many}
-use Rattle.yaml_lexeme.specs.Lexeme.{Scalar as scalar_t}
+use Rattle.yaml_lexeme.specs.Lexeme.{Scalar}
 use Rattle.yaml_lexeme.specs.declared.problem.yaml_problem_t.TheVariants.{COLON_IN_FLOW}
 use Rattle.yaml_text.specs.Chars.{utf8}
 use Rattle.yaml_text.specs.Classes.{is_break}
@@ -104,10 +105,10 @@ turn_is flow least p =
       | inr other ↦ rw (other, after_none is_white p other, run_none is_white p other) refl
     ]
 
-abbrev scalar_of : List ℕ → List (List ℕ) × Tail → scalar_t
+abbrev scalar_of : List ℕ → List (List ℕ) × Tail → Scalar
 scalar_of v t = record { value = utf8 v ++ flat_map utf8 t.0; end = t.1.0; passed_break = t.1.1 }
 
-abbrev scalar_from : List ℕ → Read (List (List ℕ) × Tail) → Read scalar_t
+abbrev scalar_from : List ℕ → Read (List (List ℕ) × Tail) → Read Scalar
 scalar_from v r = r >>= λ t. found (scalar_of v t.value) t.end
 
 tail_is : (v : List ℕ) (r : Read (List (List ℕ))) → tail_of v r ≡ scalar_from v (finish trailing r)

@@ -7,7 +7,7 @@ use Rattle.yaml_lexeme.specs.Reading.{Read, found, ◌>>=◌}
 use Rattle.yaml_lexeme.specs.Tag.{lone, angled, handled, tag}
 use Rattle.yaml_lexeme.specs.Uri.{uri, some_uri}
 use Rattle.yaml_text.specs.Classes.{is_alpha}
-use Rattle.yaml_text.specs.Token.{TokenData as unnamed_yaml_token_t_data}
+use Rattle.yaml_text.specs.Token.{TokenData}
 use Rattle.yaml_text.specs.Token.TokenData.{TAG}
 use Rattle.yaml_lexeme.proofs.Locality.UriLocality.{uri_like, some_like}
 
@@ -17,7 +17,7 @@ angled_like n p q a =
     like_bind _ _ a (like_on (some_uri true) (some_like true) n 1 p q (skip 1 p) (skip 1 q) a refl (λ h. refl)) (λ x z m b.
     like_if (first x.end == 0x3E) (first z == 0x3E) (λ h. rw (b.same 0 (omega arith)) refl) (found_on 1) refuse_here)
 
-abbrev handle_then : List ℕ → Place → Read unnamed_yaml_token_t_data
+abbrev handle_then : List ℕ → Place → Read TokenData
 handle_then letters end =
     if first end == 0x21 then (some_uri false (skip 1 end) >>= λ r. found (TAG (codes "!" ++ letters ++ codes "!") r.value) r.end)
     else uri false end >>= λ r. found (lone (letters ++ r.value)) r.end
@@ -32,7 +32,7 @@ handled_like : IsLike handled
 unfolding handled
 handled_like n p q a = like_run handle_then handle_like is_alpha n p q a
 
-abbrev sign_then : Place → Read unnamed_yaml_token_t_data
+abbrev sign_then : Place → Read TokenData
 sign_then p = if first p == 0x3C then angled p else handled p
 
 sign_like : IsLike sign_then

@@ -1,5 +1,6 @@
 -- What is read as a list of parts is the longest list.
-use Rattle.std.proofs.Common.{◌≡◌, ℕ, zero, suc, ◌+◌, ◌<◌, List, [], ◌∷◌, ◌++◌, length, take, Some, None, Ok, Err, refl, sym, ap, ◌∙◌, subst, arith, append_assoc, length-append}
+use Rattle.std.proofs.Common.{◌≡◌, ℕ, zero, suc, ◌+◌, ◌<◌, List, [], ◌∷◌, ◌++◌, length, take, Some, None, Ok, Err, refl}
+use Rattle.std.proofs.Common.{sym, ap, ◌∙◌, subst, arith, append_assoc}
 use Rattle.std.proofs.lemmas.List.{append-nil, length-take-le, take-append-drop}
 use Rattle.yaml_lexeme.specs.Order.{IsAhead}
 use Rattle.yaml_lexeme.specs.Parts.{Piece, past, IsPiece, Pieces, texts, values, IsLongest}
@@ -66,62 +67,9 @@ joins : {A : Type 0} → (one : Place → Part A) (ts : List (Piece A)) (p q : P
 joins one [] p q h = ap (λ (x : Place). x.rest) (sym h)
 joins one (t ∷ ts) p q h = h.0.text ∙ ap (λ (cs : List ℕ). t.text ++ cs) (joins one ts (past t p) q h.1) ∙ sym (append_assoc t.text (texts ts) q.rest)
 
-abbrev end_or : {A : Type 0} → Place → Part A → Place
-end_or p (Ok (Some f)) = f.end
-end_or p (Ok None) = p
-end_or p (Err e) = p
-
--- no part is there
-abbrev IsNone : {A : Type 0} → Part A → Type 0
-IsNone (Ok (Some f)) = ⊥
-IsNone (Ok None) = Unit {0}
-IsNone (Err e) = Unit {0}
-
-abbrev value_or : {A : Type 0} → A → Part A → A
-value_or a (Ok (Some f)) = f.value
-value_or a (Ok None) = a
-value_or a (Err e) = a
-
-made : {A : Type 0} → (t u : Piece A) → t.text ≡ u.text → t.value ≡ u.value → t ≡ u
-made {A} t u e v =
-    let at : List ℕ → A → Piece A = λ x y. record { text = x; value = y } in
-    ap (λ (x : List ℕ). at x t.value) e ∙ ap (λ (y : A). at u.text y) v
-
--- if what is read at p ends as far on, the same characters were read
-same_text : (a b r s : List ℕ) → a ++ r ≡ b ++ s → length r ≡ length s → a ≡ b
-same_text [] [] r s e l = refl
-same_text [] (y ∷ b) r s e l = let h = ap (λ (z : List ℕ). length z) e in absurd (omega (arith, length-append b s))
-same_text (x ∷ a) [] r s e l = let h = ap (λ (z : List ℕ). length z) e in absurd (omega (arith, length-append a r))
-same_text (x ∷ a) (y ∷ b) r s e l =
-    let t : a ++ r ≡ b ++ s = cc in
-    let h : a ≡ b = same_text a b r s t l in
-    let g : x ≡ y = cc in
-    ap (λ (z : ℕ). z ∷ a) g ∙ ap (λ (cs : List ℕ). y ∷ cs) h
-
--- there is one piece at a place
-same_piece : {A : Type 0} → (one : Place → Part A) (p : Place) (u t : Piece A) → IsPiece one p u → IsPiece one p t → u ≡ t
-same_piece one p u t g h =
-    let e = sym g.read ∙ h.read in
-    let ends : past u p ≡ past t p = ap (end_or p) e in
-    made u t (same_text u.text t.text (past u p).rest (past t p).rest (sym g.text ∙ h.text) (ap (λ (y : Place). length y.rest) ends)) (ap (value_or u.value) e)
-
--- pieces from p on are the first of those that go on to where there is none
-first_of : {A : Type 0} → (one : Place → Part A) (us ts : List (Piece A)) (p q x : Place) → Pieces one p ts q → IsNone (one q) → Pieces one p us x → (more : List (Piece A)) × (ts ≡ us ++ more)
-first_of one [] ts p q x h none g = (ts, refl)
-first_of one (u ∷ us) [] p q x h none g = absurd (subst IsNone (ap one h ∙ g.0.read) none)
-first_of {A} one (u ∷ us) (t ∷ ts) p q x h none g =
-    let same = same_piece one p u t g.0 h.0 in
-    let e : past u p ≡ past t p = ap (λ (v : Piece A). past v p) same in
-    let more = first_of one us ts (past t p) q x h.1 none (subst (λ (y : Place). Pieces one y us x) e g.1) in
-    (more.0, ap (λ (v : Piece A). v ∷ ts) (sym same) ∙ ap (λ (vs : List (Piece A)). u ∷ vs) more.1)
-
-longest : {A : Type 0} → (one : Place → Part A) (p : Place) (ts : List (Piece A)) (q : Place) (next : Part A) → IsNone next → Pieces one p ts q → one q ≡ next → IsLongest one p ts q next
-longest one p ts q next none h e = record {
-  pieces = h;
-  joined = joins one ts p q h;
-  stops = e;
-  longest = λ us x g. first_of one us ts p q x h (subst IsNone (sym e) none) g;
-}
+-- the text of pieces is what is between
+pub joined_of : {A : Type 0} {one : Place → Part A} {p : Place} {ts : List (Piece A)} {q : Place} {next : Part A} → IsLongest one p ts q next → p.rest ≡ texts ts ++ q.rest
+joined_of {one = one} {p = p} {ts = ts} {q = q} l = joins one ts p q l.pieces
 
 begin : {A : Type 0} → (r : Read (List A)) → r ≡ with_front [] r
 begin (Ok r) = refl
@@ -145,7 +93,7 @@ pub record Longest {A : Type 0} (one : Place → Part A) (p : Place) (f : Found 
   pub is : IsLongest one p pieces f.end over
 
 of_found : {A : Type 0} → (one : Place → Part A) (p : Place) (f : Found (List A)) → Reads one p (Ok f) → Longest one p f
-of_found one p f h = record { pieces = h.0; values_are = h.2; is = longest one p h.0 f.end over tt h.1 h.3 }
+of_found one p f h = record { pieces = h.0; values_are = h.2; is = record { pieces = h.1; stops = h.3 } }
 
 pub many_longest : {A : Type 0} → (one : Place → Part A) → Advances one → (p : Place) (f : Found (List A)) → many one p ≡ Ok f → Longest one p f
 many_longest {A} one all p f e = of_found one p f (subst (λ (r : Read (List A)). Reads one p r) e (reads one all p))
@@ -154,7 +102,7 @@ many_longest {A} one all p f e = of_found one p f (subst (λ (r : Read (List A))
 pub many_refused : {A : Type 0} → (one : Place → Part A) → Advances one → (p : Place) (e : Offence) → many one p ≡ Err e → (ts : List (Piece A)) × (q : Place) × IsLongest one p ts q (Err e)
 many_refused {A} one all p e h =
     let r = subst (λ (r : Read (List A)). Reads one p r) h (reads one all p) in
-    (r.0, r.1, longest one p r.0 r.1 (Err e) tt r.2 r.3)
+    (r.0, r.1, record { pieces = r.2; stops = r.3 })
 
 pub found_of : {A : Type 0} → (one : Place → Part A) → Advances one → (p : Place) (ts : List (Piece A)) (q : Place) → IsLongest one p ts q over → many one p ≡ found (values ts) q
 found_of {A} one all p ts q l =

@@ -3,16 +3,18 @@ use Rattle.std.proofs.Common.{◌≡◌, ℕ, zero, suc, ◌+◌, ◌<◌, ◌�
 use Rattle.std.proofs.lemmas.Bool.{cases_Bool, eqb-true, not-false}
 use Rattle.std.proofs.lemmas.Bool.Decides.{nat_tests}
 use Rattle.std.proofs.lemmas.List.{length-take-le}
-use Rattle.yaml_lexeme.specs.Lexeme.{Scalar as scalar_t}
+use Rattle.yaml_lexeme.specs.Lexeme.{Scalar}
 use Rattle.yaml_lexeme.specs.declared.problem.yaml_problem_t.{yaml_problem_t}
 use Rattle.yaml_lexeme.specs.declared.problem.yaml_problem_t.TheVariants.{COLON_IN_FLOW}
 use Rattle.yaml_lexeme.specs.Classes.{is_white}
 use Rattle.yaml_lexeme.specs.Fold.{fold}
 use Rattle.yaml_lexeme.specs.Parts.{texts, values, plain_scalar, PlainParts, PlainIsParts, ChunkRefused, LinksRefused, PlainIsRefused, ChunkIsLongest, LinkParts, LinkIsLongest, SeparatorEnds, LinkIsOver}
 use Rattle.yaml_lexeme.specs.Place.{Place, first, peek, skip, run, after_run}
-use Rattle.yaml_lexeme.specs.Plain.{is_bad_colon, is_chunk, chunk_len, chunk, bad_tab, untabbed, separator, is_over, link, plain}
+use Rattle.yaml_lexeme.specs.Plain.{is_bad_colon, is_chunk, chunk_len, chunk, bad_tab, separator, is_over, link, plain}
+use Rattle.yaml_lexeme.specs.inside.Words.{untabbed}
 use Rattle.yaml_lexeme.specs.Reading.{Offence, Found, Read, found, refuse, ◌>>=◌, Part, part, over, many}
-use Rattle.yaml_lexeme.proofs.LongestLists.LongestParts.{Advances, split, many_longest, many_refused, found_of, refused_of}
+use Rattle.yaml_lexeme.proofs.LongestLists.LongestParts.{Advances, split, many_longest, many_refused, found_of}
+use Rattle.yaml_lexeme.proofs.LongestLists.LongestParts.{refused_of, joined_of}
 use Rattle.yaml_lexeme.proofs.Places.PlaceMoves.{skip_none, rest_skip, peek_on}
 use Rattle.yaml_lexeme.proofs.Locality.PlainLocality.{unless_bad, chunk_within}
 use Rattle.yaml_lexeme.proofs.Readers.FoldSeparators.{stopped}
@@ -264,7 +266,7 @@ link_over flow least p = (over_from flow least p, over_to flow least p)
 link_advances : (flow : Bool) (least : ℕ) → Advances (link flow least)
 link_advances flow least p = (link_goes flow least p).goes
 
-links_from : (flow : Bool) (least : ℕ) (p : Place) (f : Found scalar_t) (head : Found (List ℕ)) → chunk flow p ≡ Ok head → (r : Read (List (List ℕ))) → many (link flow least) head.end ≡ r → tail_of head.value r ≡ Ok f → PlainParts flow least p f
+links_from : (flow : Bool) (least : ℕ) (p : Place) (f : Found Scalar) (head : Found (List ℕ)) → chunk flow p ≡ Ok head → (r : Read (List (List ℕ))) → many (link flow least) head.end ≡ r → tail_of head.value r ≡ Ok f → PlainParts flow least p f
 links_from flow least p f head starts (Ok b) e h =
     let l = many_longest (link flow least) (link_advances flow least) head.end b e in
     record {
@@ -273,17 +275,17 @@ links_from flow least p f head starts (Ok b) e h =
       last = b.end;
       starts = starts;
       longest = l.is;
-      joined = chunk_joined flow p head starts ∙ ap (λ (cs : List ℕ). head.value ++ cs) l.is.joined ∙ sym (append_assoc head.value (texts l.pieces) b.end.rest);
+      joined = chunk_joined flow p head starts ∙ ap (λ (cs : List ℕ). head.value ++ cs) (joined_of l.is) ∙ sym (append_assoc head.value (texts l.pieces) b.end.rest);
       value = sym (ap (value_or (plain_scalar head.value b.value b.end)) h) ∙ ap (λ (vs : List (List ℕ)). plain_scalar head.value vs b.end) l.values_are;
       end = sym (ap (end_or b.end) h);
     }
 links_from flow least p f head starts (Err o) e h = absurd cc
 
-head_from : (flow : Bool) (least : ℕ) (p : Place) (f : Found scalar_t) (r : Read (List ℕ)) → chunk flow p ≡ r → after_head flow least r ≡ Ok f → PlainParts flow least p f
+head_from : (flow : Bool) (least : ℕ) (p : Place) (f : Found Scalar) (r : Read (List ℕ)) → chunk flow p ≡ r → after_head flow least r ≡ Ok f → PlainParts flow least p f
 head_from flow least p f (Ok head) e h = links_from flow least p f head e (many (link flow least) head.end) refl h
 head_from flow least p f (Err o) e h = absurd cc
 
-plain_to : (flow : Bool) (least : ℕ) (p : Place) (f : Found scalar_t) → PlainParts flow least p f → plain flow least p ≡ Ok f
+plain_to : (flow : Bool) (least : ℕ) (p : Place) (f : Found Scalar) → PlainParts flow least p f → plain flow least p ≡ Ok f
 plain_to flow least p f q =
     plain_is flow least p ∙ ap (after_head flow least) q.starts ∙ ap (tail_of q.head.value) (found_of (link flow least) (link_advances flow least) q.head.end q.links q.last q.longest)
     ∙ both f (plain_scalar q.head.value (values q.links) q.last) (after_run is_white q.last) q.value q.end

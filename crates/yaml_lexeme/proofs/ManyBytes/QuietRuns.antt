@@ -6,13 +6,15 @@ use Rattle.std.proofs.lemmas.Bool.Decides.{nat_tests}
 use Rattle.std.proofs.lemmas.Str.{encode_ascii, length-encode, len_utf8_bounds}
 use Rattle.std.proofs.lemmas.List.{length-append}
 use Rattle.std.proofs.lemmas.List.Sums.{sum_by-cons}
+use Rattle.std.specs.Char.{len_utf8}
 use lib.Utf8.{encode, next}
 use Rattle.yaml_text.specs.declared.types.yaml_mark_t.{yaml_mark_t}
-use Rattle.yaml_text.specs.Chars.{AreChars, utf8}
+use Rattle.yaml_text.specs.Chars.{utf8}
+use Rattle.yaml_text.specs.TextBytes.{AreChars}
 use Rattle.yaml_text.specs.Classes.{is_break}
 use Rattle.yaml_text.proofs.Characters.Utf8Spelling.{two, three, four}
 use Rattle.yaml_text.proofs.Characters.CharRanges.{char_range}
-use Rattle.yaml_lexeme.specs.Place.{skip_from, mark_after, width}
+use Rattle.yaml_lexeme.specs.inside.Moves.{skip_from, mark_after}
 use Rattle.yaml_lexeme.specs.declared.runs.class_t.{class_t}
 use Rattle.yaml_lexeme.specs.declared.runs.class_t.TheVariants.{BLANK, GAP_BLANK, SPACE, BLANK_OR_BREAK, ALPHA}
 use Rattle.yaml_lexeme.specs.inside.Runs.{is_quiet, class_test, begins, may_break, is_line}
@@ -144,10 +146,10 @@ pub record Over (class : class_t) (m : yaml_mark_t) (cs : List ℕ) (n : ℕ) : 
   pub place : skip_from (length front) m cs ≡ record { mark = along m n (length front); rest = left }
   pub goes : prefix_len (class_test class) cs ≡ length front + prefix_len (class_test class) left
 
-after_in_line : (m : yaml_mark_t) (c next : ℕ) → is_break c ≡ false → mark_after m c next ≡ along m (width c) 1
+after_in_line : (m : yaml_mark_t) (c next : ℕ) → is_break c ≡ false → mark_after m c next ≡ along m (len_utf8 c) 1
 after_in_line m c next h = rw h refl
 
-width_is : (c : ℕ) → length (encode c) ≡ width c
+width_is : (c : ℕ) → length (encode c) ≡ len_utf8 c
 width_is c = length-encode c
 
 nothing_over : (class : class_t) (m : yaml_mark_t) (cs : List ℕ) (n : ℕ) → n ≡ 0 → Over class m cs n
@@ -160,13 +162,13 @@ nothing_over class m cs n e = record {
   goes = omega arith;
 }
 
-one_over : (class : class_t) (m : yaml_mark_t) (c : ℕ) (cs : List ℕ) (n : ℕ) → Passes class c → Over class (along m (width c) 1) cs n → Over class m (c ∷ cs) (length (encode c) + n)
+one_over : (class : class_t) (m : yaml_mark_t) (c : ℕ) (cs : List ℕ) (n : ℕ) → Passes class c → Over class (along m (len_utf8 c) 1) cs n → Over class m (c ∷ cs) (length (encode c) + n)
 one_over class m c cs n good o =
     let k : length (c ∷ o.front) ≡ suc (length o.front) = omega arith in
-    let i : m.index + width c + n ≡ m.index + (length (encode c) + n) = omega (arith, width_is c) in
+    let i : m.index + len_utf8 c + n ≡ m.index + (length (encode c) + n) = omega (arith, width_is c) in
     let j : m.column + 1 + length o.front ≡ m.column + length (c ∷ o.front) = omega arith in
-    let same : along (along m (width c) 1) n (length o.front) ≡ along m (length (encode c) + n) (length (c ∷ o.front)) = λ t. record { index = i t; line = m.line; column = j t } in
-    let first : mark_after m c (get_or cs 0 0) ≡ along m (width c) 1 = after_in_line m c (get_or cs 0 0) good.1 in
+    let same : along (along m (len_utf8 c) 1) n (length o.front) ≡ along m (length (encode c) + n) (length (c ∷ o.front)) = λ t. record { index = i t; line = m.line; column = j t } in
+    let first : mark_after m c (get_or cs 0 0) ≡ along m (len_utf8 c) 1 = after_in_line m c (get_or cs 0 0) good.1 in
     let pass : class_test class c ≡ true = good.0 in
     record {
       front = c ∷ o.front;
@@ -197,7 +199,7 @@ over class m (c ∷ cs) h =
     elim (cases_Bool (is_quiet class (get_or (encode c) 0 0))) [
       | inl good ↦
           let r = char_range c h.0 in
-          let o = one_over class m c cs _ (passes class c r.0 good) (over class (along m (width c) 1) cs h.1) in
+          let o = one_over class m c cs _ (passes class c r.0 good) (over class (along m (len_utf8 c) 1) cs h.1) in
           subst (Over class m (c ∷ cs)) (sym (quiet_char class c (utf8 cs) good)) o
       | inr bad ↦
           let some : 0 < length (utf8 (c ∷ cs)) = omega (arith, length-append (encode c) (utf8 cs), length-encode c, len_utf8_bounds c) in

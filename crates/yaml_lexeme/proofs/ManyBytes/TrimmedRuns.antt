@@ -7,15 +7,18 @@ use Rattle.std.proofs.lemmas.Bool.Decides.{nat_tests}
 use Rattle.std.proofs.lemmas.List.{take-append-drop, take_at, drop_at, length-append, take-take}
 use Rattle.std.proofs.lemmas.List.Sums.{prefix_len-le-length, prefix_len_passes}
 use Rattle.std.proofs.lemmas.Str.{encode_ascii, encodes-append, length-encode, len_utf8_bounds}
+use Rattle.std.specs.Char.{len_utf8}
 use lib.Utf8.{encode}
 use Rattle.yaml_text.specs.declared.types.yaml_mark_t.{yaml_mark_t}
-use Rattle.yaml_text.specs.Chars.{AreChars, IsText, utf8}
+use Rattle.yaml_text.specs.Chars.{utf8}
+use Rattle.yaml_text.specs.TextBytes.{AreChars, IsText}
 use Rattle.yaml_text.specs.Classes.{is_blank, is_break}
 use Rattle.yaml_text.proofs.Decodings.DecodeFronts.{chars-utf8, IsText-utf8}
 use Rattle.yaml_text.proofs.Marks.MarkMoves.{AreChars-parts}
 use Rattle.yaml_lexeme.specs.declared.runs.class_t.{class_t}
 use Rattle.yaml_lexeme.specs.declared.runs.class_t.TheVariants.{BLANK_OR_BREAK}
-use Rattle.yaml_lexeme.specs.Place.{Place, skip_from, skip, mark_after, width}
+use Rattle.yaml_lexeme.specs.Place.{Place, skip}
+use Rattle.yaml_lexeme.specs.inside.Moves.{skip_from, mark_after}
 use Rattle.yaml_lexeme.specs.inside.Runs.{class_test, is_line, is_quiet, begins, trim, Stands}
 use Rattle.yaml_lexeme.proofs.ManyBytes.QuietRuns.{along, Over, over, count_chars}
 use Rattle.yaml_lexeme.proofs.ManyBytes.TrimmedLists.{trimmed, trim_bytes}
@@ -35,9 +38,9 @@ line_from zero m cs l h =
 line_from (suc n) m [] l h = absurd (omega arith)
 line_from (suc n) m (c ∷ cs) l h =
     let none : is_break c ≡ false = h 0 (omega arith) in
-    let one : mark_after m c (get_or cs 0 0) ≡ along m (width c) 1 = rw none refl in
-    let more = line_from n (along m (width c) 1) cs (omega arith) (λ i l. h (suc i) (omega arith)) in
-    let i : m.index + width c + length (utf8 (take n cs)) ≡ m.index + length (utf8 (take (suc n) (c ∷ cs))) = omega (arith, length-append (encode c) (utf8 (take n cs)), length-encode c) in
+    let one : mark_after m c (get_or cs 0 0) ≡ along m (len_utf8 c) 1 = rw none refl in
+    let more = line_from n (along m (len_utf8 c) 1) cs (omega arith) (λ i l. h (suc i) (omega arith)) in
+    let i : m.index + len_utf8 c + length (utf8 (take n cs)) ≡ m.index + length (utf8 (take (suc n) (c ∷ cs))) = omega (arith, length-append (encode c) (utf8 (take n cs)), length-encode c) in
     let j : m.column + 1 + n ≡ m.column + suc n = omega arith in
     ap (λ (x : yaml_mark_t). skip_from n x cs) one ∙ more ∙ (λ t. record { mark = record { index = i t; line = m.line; column = j t }; rest = drop n cs })
 

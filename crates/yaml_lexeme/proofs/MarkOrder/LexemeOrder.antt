@@ -7,13 +7,15 @@ use Rattle.yaml_text.specs.Token.{TokenData as token}
 use Rattle.yaml_lexeme.proofs.MarkOrder.ReadingAhead.{ahead_here, ahead_some, ahead_on, Goes, Span}
 use Rattle.yaml_lexeme.proofs.MarkOrder.SmallReadersAhead.{after_trans, after_less, gap_order, marks_after, name_goes, tag_goes}
 use Rattle.yaml_lexeme.proofs.Places.PlaceMoves.{is_there, some_char}
+use Rattle.yaml_lexeme.proofs.Readers.BlocksAlike.{blocks_alike}
 use Rattle.yaml_lexeme.proofs.MarkOrder.ScalarsAhead.{quoted_goes, plain_span, directive_span, block_span}
 use Rattle.yaml_lexeme.specs.Block.{block}
 use Rattle.yaml_lexeme.specs.Classes.{ends}
 use Rattle.yaml_lexeme.specs.Directive.{directive}
 use Rattle.yaml_lexeme.specs.Gap.{gap}
 use Rattle.yaml_lexeme.specs.Kind.{is_marker_of, is_indicator, starts_plain, kind_at}
-use Rattle.yaml_lexeme.specs.Lex.{lex, in_flow, least, says_of, quoted_as}
+use Rattle.yaml_lexeme.specs.Lex.{lex, in_flow, least, says_of}
+use Rattle.yaml_lexeme.specs.KindSets.{quoted_as}
 use Rattle.yaml_lexeme.specs.Name.{name}
 use Rattle.yaml_lexeme.specs.Order.{IsAfter, Spans, LexemeSpans, LexemeOrder, is_stream_end, Follows, LexemeFollows}
 use Rattle.yaml_lexeme.specs.Place.{Place, first, peek, skip}
@@ -21,13 +23,13 @@ use Rattle.yaml_lexeme.specs.Plain.{is_chunk, plain}
 use Rattle.yaml_lexeme.specs.Quoted.{quoted}
 use Rattle.yaml_lexeme.specs.Reading.{Found, Read, found}
 use Rattle.yaml_lexeme.specs.Tag.{tag}
-use Rattle.yaml_lexeme.specs.Lexeme.{Directive as directive_t}
+use Rattle.yaml_lexeme.specs.Lexeme.{Directive}
 use Rattle.yaml_lexeme.specs.declared.kind.yaml_lexeme_kind_t.{yaml_lexeme_kind_t}
 use Rattle.yaml_lexeme.specs.declared.lex.yaml_context_t.{yaml_context_t}
-use Rattle.yaml_lexeme.specs.Lexeme.{Lexeme as yaml_lexeme_t, lexeme, whole, scalar_to, directive_to}
-use Rattle.yaml_lexeme.specs.Lexeme.{Scalar as scalar_t}
+use Rattle.yaml_lexeme.specs.Lexeme.{Lexeme, lexeme, whole, scalar_to, directive_to}
+use Rattle.yaml_lexeme.specs.Lexeme.{Scalar}
 use Rattle.yaml_text.specs.Classes.{is_z}
-use Rattle.yaml_text.specs.Token.{TokenData as unnamed_yaml_token_t_data}
+use Rattle.yaml_text.specs.Token.{TokenData}
 use Rattle.yaml_text.specs.declared.types.yaml_mark_t.{yaml_mark_t}
 use Rattle.yaml_text.specs.declared.types.yaml_scalar_style_t.{yaml_scalar_style_t}
 use Rattle.yaml_text.specs.declared.types.yaml_scalar_style_t.TheVariants.{YAML_PLAIN_SCALAR_STYLE, YAML_SINGLE_QUOTED_SCALAR_STYLE, YAML_DOUBLE_QUOTED_SCALAR_STYLE, YAML_LITERAL_SCALAR_STYLE, YAML_FOLDED_SCALAR_STYLE}
@@ -88,19 +90,19 @@ plain_starts : (flow : Bool) (p : Place) → kind_at flow p ≡ Some kind.PLAIN 
 plain_starts flow p h = let r = plain_rows flow p h in chunk_from flow (first p) (peek p 1) r.0 r.1
 
 -- a lexeme is at p
-abbrev Stands : Place → Read yaml_lexeme_t → Type 0
+abbrev Stands : Place → Read Lexeme → Type 0
 Stands p (Ok f) = (f.value.start_mark ≡ p.mark) × (f.value.reach ≡ f.end.mark) × Spans 1 p f.value.end_mark f.end
 Stands p (Err e) = Unit {0}
 
-whole_stands : {A : Type 0} → (says : A → unnamed_yaml_token_t_data) (p : Place) (r : Read A) → Goes 1 p r → Stands p (lexeme (whole says) p r)
+whole_stands : {A : Type 0} → (says : A → TokenData) (p : Place) (r : Read A) → Goes 1 p r → Stands p (lexeme (whole says) p r)
 whole_stands says p (Ok f) h = (refl, refl, record { between = f.end; is = refl; taken = h.goes; read = ahead_here f.end })
 whole_stands says p (Err e) h = tt
 
-scalar_stands : (style : yaml_scalar_style_t) (p : Place) (r : Read scalar_t) → Span (λ (s : scalar_t). s.end) 1 p r → Stands p (lexeme (scalar_to style) p r)
+scalar_stands : (style : yaml_scalar_style_t) (p : Place) (r : Read Scalar) → Span (λ (s : Scalar). s.end) 1 p r → Stands p (lexeme (scalar_to style) p r)
 scalar_stands style p (Ok f) h = (refl, refl, h.span)
 scalar_stands style p (Err e) h = tt
 
-ended_stands : (p : Place) (r : Read directive_t) → Span (λ (d : directive_t). d.end) 1 p r → Stands p (lexeme directive_to p r)
+ended_stands : (p : Place) (r : Read Directive) → Span (λ (d : Directive). d.end) 1 p r → Stands p (lexeme directive_to p r)
 ended_stands p (Ok f) h = (refl, refl, h.span)
 ended_stands p (Err e) h = tt
 
@@ -124,16 +126,16 @@ stands kind.VALUE c p h other t = some_stand kind.VALUE 1 p (omega arith) t
 stands kind.ALIAS c p h other t = whole_stands token.ALIAS p (name p) (name_goes p t)
 stands kind.ANCHOR c p h other t = whole_stands token.ANCHOR p (name p) (name_goes p t)
 stands kind.TAG c p h other t = whole_stands (λ t. t) p (tag (in_flow c) p) (tag_goes (in_flow c) p t)
-stands kind.LITERAL c p h other t = scalar_stands YAML_LITERAL_SCALAR_STYLE p (block false c.level p) (block_span false c.level p t)
-stands kind.FOLDED c p h other t = scalar_stands YAML_FOLDED_SCALAR_STYLE p (block true c.level p) (block_span true c.level p t)
+stands kind.LITERAL c p h other t = scalar_stands YAML_LITERAL_SCALAR_STYLE p (block false c.level p) (rw (blocks_alike false c.level p) (block_span false c.level p t))
+stands kind.FOLDED c p h other t = scalar_stands YAML_FOLDED_SCALAR_STYLE p (block true c.level p) (rw (blocks_alike true c.level p) (block_span true c.level p t))
 stands kind.SINGLE_QUOTED c p h other t = whole_stands (quoted_as YAML_SINGLE_QUOTED_SCALAR_STYLE) p (quoted true p) (quoted_goes true p t)
 stands kind.DOUBLE_QUOTED c p h other t = whole_stands (quoted_as YAML_DOUBLE_QUOTED_SCALAR_STYLE) p (quoted false p) (quoted_goes false p t)
 stands kind.PLAIN c p h other t = scalar_stands YAML_PLAIN_SCALAR_STYLE p (plain (in_flow c) (least c) p) (plain_span (in_flow c) (least c) p (plain_starts (in_flow c) p h))
 
 pub lexeme_spans : LexemeSpans
-lexeme_spans k c p f h other e = subst (λ (r : Read yaml_lexeme_t). Stands p r) e (stands k c p h other (there (in_flow c) k p h other))
+lexeme_spans k c p f h other e = subst (λ (r : Read Lexeme). Stands p r) e (stands k c p h other (there (in_flow c) k p h other))
 
-in_order : (p : Place) (l : yaml_lexeme_t) (q : Place) → l.start_mark ≡ p.mark → l.reach ≡ q.mark → Spans 1 p l.end_mark q → IsAfter 1 l.start_mark l.end_mark × IsAfter 0 l.end_mark l.reach × IsAfter 1 l.start_mark l.reach
+in_order : (p : Place) (l : Lexeme) (q : Place) → l.start_mark ≡ p.mark → l.reach ≡ q.mark → Spans 1 p l.end_mark q → IsAfter 1 l.start_mark l.end_mark × IsAfter 0 l.end_mark l.reach × IsAfter 1 l.start_mark l.reach
 in_order p l q s r t =
     rw (s, r, t.is) (marks_after 1 p t.between t.taken, marks_after 0 t.between q t.read, marks_after 1 p q (ahead_on 1 p t.between q t.taken t.read))
 
@@ -141,7 +143,7 @@ pub lexeme_order : LexemeOrder
 lexeme_order k c p f h other e = let s = lexeme_spans k c p f h other e in in_order p f.value f.end s.0 s.1 s.2
 
 -- a lexeme after a gap that ends at p
-follows_other : (k : yaml_lexeme_kind_t) (c : yaml_context_t) (so_far : yaml_mark_t) (p : Place) (f : Found yaml_lexeme_t) → (k ≡ kind.STREAM_END → ⊥) → is_stream_end k ≡ false → IsAfter 0 so_far p.mark → kind_at (in_flow c) p ≡ Some k → lex k c p ≡ Ok f → Follows k so_far f.value
+follows_other : (k : yaml_lexeme_kind_t) (c : yaml_context_t) (so_far : yaml_mark_t) (p : Place) (f : Found Lexeme) → (k ≡ kind.STREAM_END → ⊥) → is_stream_end k ≡ false → IsAfter 0 so_far p.mark → kind_at (in_flow c) p ≡ Some k → lex k c p ≡ Ok f → Follows k so_far f.value
 follows_other k c so_far p f other no_end a h e =
     let s = lexeme_spans k c p f h other e in
     let o = lexeme_order k c p f h other e in
@@ -156,7 +158,7 @@ follows_other k c so_far p f other no_end a h e =
 same_mark : (a b : yaml_mark_t) → b ≡ a → IsAfter 0 a b
 same_mark a b e = rw e (record { index = omega arith; line = omega arith; column = λ x. omega arith })
 
-follows : (k : yaml_lexeme_kind_t) (c : yaml_context_t) (so_far : yaml_mark_t) (p : Place) (f : Found yaml_lexeme_t) → IsAfter 0 so_far p.mark → kind_at (in_flow c) p ≡ Some k → lex k c p ≡ Ok f → Follows k so_far f.value
+follows : (k : yaml_lexeme_kind_t) (c : yaml_context_t) (so_far : yaml_mark_t) (p : Place) (f : Found Lexeme) → IsAfter 0 so_far p.mark → kind_at (in_flow c) p ≡ Some k → lex k c p ≡ Ok f → Follows k so_far f.value
 follows kind.STREAM_END c so_far p f a h e =
     let s = stream_end_order c p f e in
     record {

@@ -9,19 +9,25 @@ use Rattle.yaml_lexeme.proofs.Parts.PartByPart.{many_turn, Shortens}
 use Rattle.yaml_lexeme.proofs.MarkOrder.SmallReadersAhead.{comment_ahead, on, next, named_goes}
 use Rattle.yaml_lexeme.proofs.Places.PlaceMoves.{is_there, break_within, after_run_more, after_none, some_char, in_or_break, is_break_len}
 use Rattle.yaml_lexeme.proofs.Readers.PlainLinks.{chunk_more, chunk_there}
-use Rattle.yaml_lexeme.specs.Block.{is_sign, digit_at, header_at, after_line, is_indenting, indent_len, after_indent, blank_line, Blanks, blank_lines, Line, line_at, is_text, text_line, end_of, block, block_indent, set_indent}
+use Rattle.yaml_lexeme.specs.Block.{is_sign, digit_at, header_at, after_line, indent_len, after_indent}
+use Rattle.yaml_lexeme.specs.Block.{empty_line, is_text, block_indent, set_indent}
+use Rattle.yaml_lexeme.specs.inside.BlockAhead.{Blanks, blank_lines, Line, line_at, text_line, end_of, block_ahead}
+use Rattle.yaml_lexeme.specs.inside.BlockAhead.{is_indenting}
 use Rattle.yaml_lexeme.specs.Classes.{ends, is_white, is_in_line}
 use Rattle.yaml_lexeme.specs.Directive.{directive}
-use Rattle.yaml_lexeme.specs.Escape.{escape, hex_escape, simple_at, hex_len, simple_escape, is_scalar}
+use Rattle.yaml_lexeme.specs.Escape.{escape, hex_escape, hex_len, simple_escape}
+use Rattle.yaml_lexeme.specs.inside.CommonEscapes.{simple_at}
+use Rattle.yaml_text.specs.Utf8.{is_scalar}
 use Rattle.yaml_lexeme.specs.Gap.{after_comment}
 use Rattle.yaml_lexeme.specs.Kind.{is_marker}
 use Rattle.yaml_lexeme.specs.Order.{IsAhead, Spans}
 use Rattle.yaml_lexeme.specs.Place.{Place, first, peek, skip, run, after_run, break_len}
-use Rattle.yaml_lexeme.specs.Plain.{is_chunk, is_bad_colon, chunk_len, chunk, bad_tab, untabbed, separator, is_over, link, plain}
+use Rattle.yaml_lexeme.specs.Plain.{is_chunk, is_bad_colon, chunk_len, chunk, bad_tab, separator, is_over, link, plain}
+use Rattle.yaml_lexeme.specs.inside.Words.{untabbed}
 use Rattle.yaml_lexeme.specs.Quoted.{quote, unmarked, body_part, quoted}
 use Rattle.yaml_lexeme.specs.Reading.{Read, ◌>>=◌, Part, part, over, many, with_front, go_on}
-use Rattle.yaml_lexeme.specs.Lexeme.{Directive as directive_t}
-use Rattle.yaml_lexeme.specs.Lexeme.{Scalar as scalar_t}
+use Rattle.yaml_lexeme.specs.Lexeme.{Directive}
+use Rattle.yaml_lexeme.specs.Lexeme.{Scalar}
 use Rattle.yaml_text.specs.Classes.{is_z, is_break, is_alpha, is_blank, is_hex, is_digit}
 use Rattle.yaml_text.specs.declared.types.yaml_mark_t.{yaml_mark_t}
 
@@ -96,7 +102,7 @@ link_goes flow least p =
     part_bind 1 (then_goes 1 0 a (chunk_goes flow gap.end)) (λ c b.
     part_if (length c.value == 0) (λ z. over_goes) (λ z. part_goes b)))))
 
-pub plain_span : (flow : Bool) (least : ℕ) (p : Place) → is_chunk flow (first p) (peek p 1) ≡ true → Span (λ (s : scalar_t). s.end) 1 p (plain flow least p)
+pub plain_span : (flow : Bool) (least : ℕ) (p : Place) → is_chunk flow (first p) (peek p 1) ≡ true → Span (λ (s : Scalar). s.end) 1 p (plain flow least p)
 unfolding plain
 plain_span flow least p h =
     bind_span 1 (chunk_some flow p h) (λ head a.
@@ -112,7 +118,7 @@ line_end_goes p =
     let a : IsAhead 0 p q = ahead_trans 0 0 p b q (ahead_after is_blank p) (comment_ahead b) in
     to_if (is_break (first q) || is_z (first q)) (to_goes (on (break_len q) p q a)) refuse_to
 
-pub directive_span : (p : Place) → 0 < length p.rest → Span (λ (e : directive_t). e.end) 1 p (directive p)
+pub directive_span : (p : Place) → 0 < length p.rest → Span (λ (e : Directive). e.end) 1 p (directive p)
 unfolding directive
 directive_span p h =
     let letters = run is_alpha (skip 1 p) in
@@ -133,7 +139,7 @@ header_goes p =
     if_goes (is_sign (first p)) (bind_goes 0 (then_goes 0 0 (ahead_any 1 p) (digit_goes (skip 1 p))) (λ x a. found_goes a))
     (bind_goes 0 (digit_goes p) (λ x a. if_goes (is_some x.value && is_sign (first x.end)) (found_goes (on 1 p x.end a)) (found_goes a)))
 
-indent_goes : (limit : Option ℕ) (p : Place) → GoesTo 0 p (after_indent limit p)
+pub indent_goes : (limit : Option ℕ) (p : Place) → GoesTo 0 p (after_indent limit p)
 unfolding after_indent
 indent_goes limit p =
     let q = skip (indent_len limit p) p in
@@ -145,8 +151,8 @@ some_break p h = grind (arith, nat_tests)
 break_some : (p : Place) → 0 < break_len p → IsAhead 1 p (skip (break_len p) p)
 break_some p h = ahead_some 1 (break_len p) p (omega arith) (omega (arith, break_within p h))
 
-pub blank_goes : (limit : Option ℕ) (p : Place) → PartGoes 1 p (blank_line limit p)
-unfolding blank_line
+pub blank_goes : (limit : Option ℕ) (p : Place) → PartGoes 1 p (empty_line limit p)
+unfolding empty_line
 blank_goes limit p =
     to_part_bind 0 (ahead_here p) (indent_goes limit p) (λ q a.
     part_if (nat_lt 0 (break_len q)) (λ b. part_goes (ahead_trans 0 1 p q (skip (break_len q) q) a (break_some q (some_break q b)))) (λ b. over_goes))
@@ -154,11 +160,11 @@ blank_goes limit p =
 blanks_span : (limit : Option ℕ) (p : Place) → Span (λ (b : Blanks). b.end) 0 p (blank_lines limit p)
 unfolding blank_lines
 blanks_span limit p =
-    bind_span 0 (many_goes (blank_line limit) (blank_goes limit) p) (λ lines a.
+    bind_span 0 (many_goes (empty_line limit) (blank_goes limit) p) (λ lines a.
     to_span 0 a (indent_goes limit lines.end) (λ x b c. found_span (record { between = lines.end; is = refl; taken = a; read = c })))
 
 -- a line that does not begin at the end
-line_some : (p : Place) → is_z (first p) ≡ false → let q = after_run is_in_line p in IsAhead 1 p (skip (break_len q) q)
+pub line_some : (p : Place) → is_z (first p) ≡ false → let q = after_run is_in_line p in IsAhead 1 p (skip (break_len q) q)
 line_some p h =
     let q = after_run is_in_line p in
     elim (cases_Bool (is_in_line (first p))) [
@@ -173,7 +179,7 @@ line_span indent p h =
     span_span 1 (then_span 1 0 (blank_lines (Some indent) (skip (break_len q) q)) (line_some p h) (blanks_span (Some indent) (skip (break_len q) q)))
     (λ x s. found_span s)
 
-inner : (a b : Bool) → (a && not b) ≡ true → b ≡ false
+pub inner : (a b : Bool) → (a && not b) ≡ true → b ≡ false
 inner true true h = sym h
 inner true false h = refl
 inner false b h = absurd cc
@@ -220,8 +226,8 @@ lines_within (suc k) n indent start m p h s =
 lines_span : (n indent : ℕ) (start : Place) (m : yaml_mark_t) (p : Place) → Spans n start m p → Span (end_of m) n start (many (text_line indent) p)
 lines_span n indent start m p s = lines_within (length p.rest + 1) n indent start m p (omega arith) s
 
-pub block_span : (folded : Bool) (level : Option ℕ) (p : Place) → 0 < length p.rest → Span (λ (s : scalar_t). s.end) 1 p (block folded level p)
-unfolding block
+pub block_span : (folded : Bool) (level : Option ℕ) (p : Place) → 0 < length p.rest → Span (λ (s : Scalar). s.end) 1 p (block_ahead folded level p)
+unfolding block_ahead
 block_span folded level p h =
     bind_span 1 (then_goes 1 0 (ahead_skip 1 p (omega arith)) (header_goes (skip 1 p))) (λ header a.
     to_span 1 a (line_end_goes header.end) (λ start b c.
@@ -229,8 +235,8 @@ block_span folded level p h =
     span_span 1 (lines_span 1 (block_indent level (set_indent level header.value.digit) leading.value.column leading.end.mark.column) p leading.value.end leading.end s) (λ lines t. found_span t))))
 
 -- empty lines and text lines take a character or more
-pub blank_shortens : (limit : Option ℕ) → Shortens (blank_line limit)
-blank_shortens limit p = part_shorter p (blank_line limit p) (blank_goes limit p).goes
+pub blank_shortens : (limit : Option ℕ) → Shortens (empty_line limit)
+blank_shortens limit p = part_shorter p (empty_line limit p) (blank_goes limit p).goes
 
 pub text_shortens : (indent : ℕ) → Shortens (text_line indent)
 text_shortens indent p = part_shorter p (text_line indent p) (line_goes_of p (text_line indent p) (line_spans indent p)).goes

@@ -2,6 +2,7 @@
 use Rattle.std.proofs.Common.{◌≡◌, ℕ, zero, suc, ◌+◌, ◌<◌, ◌≤◌, Bool, true, false, cond, not, ◌==◌, ◌&&◌, ◌||◌, nat_lt, List, length, codes, sym, subst, arith}
 use Rattle.std.proofs.lemmas.Bool.Decides.{nat_tests}
 use Rattle.std.specs.Str.{bytes_eq}
+use Rattle.std.specs.Char.{len_utf8}
 use Rattle.yaml_lexeme.proofs.MarkOrder.ReadingAhead.{ahead_here, ahead_trans, ahead_skip, ahead_any, ahead_after, ahead_if, many_ahead, Goes, found_goes, refuse_goes, if_goes, bind_goes, then_goes}
 use Rattle.yaml_lexeme.proofs.Places.PlaceMoves.{skip_one, skip_none, skip_more, length_one}
 use Rattle.yaml_lexeme.proofs.Readers.UriOctets.{uri_ahead}
@@ -10,7 +11,8 @@ use Rattle.yaml_lexeme.specs.Directive.{number, version_at, handle_at, tag_direc
 use Rattle.yaml_lexeme.specs.Gap.{byte_order_mark, is_gap_blank, after_mark, after_comment, after_gap_line, after_gap_lines, gap}
 use Rattle.yaml_lexeme.specs.Name.{is_after_name, name}
 use Rattle.yaml_lexeme.specs.Order.{IsAhead, IsAfter, GapOrder}
-use Rattle.yaml_lexeme.specs.Place.{Place, first, peek, width, ends_line, skip, run, run_len, after_run, break_len}
+use Rattle.yaml_lexeme.specs.Place.{Place, first, peek, skip, run, run_len, after_run, break_len}
+use Rattle.yaml_lexeme.specs.inside.Moves.{ends_line}
 use Rattle.yaml_lexeme.specs.Tag.{angled, handled, tag}
 use Rattle.yaml_lexeme.specs.Uri.{uri, uri_part, some_uri}
 use Rattle.yaml_text.specs.Classes.{is_alpha, is_blank, is_digit}
@@ -32,7 +34,7 @@ after_here a = record { index = omega arith; line = omega arith; column = λ e. 
 pub after_less : (m n : ℕ) (a b : yaml_mark_t) → m ≤ n → IsAfter n a b → IsAfter m a b
 after_less m n a b h x = record { index = omega (arith, x.index); line = x.line; column = λ e. omega (arith, x.column e) }
 
-width_some : (c : ℕ) → 1 ≤ width c
+width_some : (c : ℕ) → 1 ≤ len_utf8 c
 width_some c = grind (arith, nat_tests)
 
 after_after : (b : Bool) (m : yaml_mark_t) (w : ℕ) → 1 ≤ w → IsAfter 1 m (cond b (record { index = m.index + w; line = m.line + 1; column = 0 }) (record { index = m.index + w; line = m.line; column = m.column + 1 }))
@@ -40,7 +42,7 @@ after_after true m w h = record { index = omega arith; line = omega arith; colum
 after_after false m w h = record { index = omega arith; line = omega arith; column = λ e. omega arith }
 
 one_after : (p : Place) → 0 < length p.rest → IsAfter 1 p.mark (skip 1 p).mark
-one_after p h = rw (skip_one p h) (after_after (ends_line (peek p 0) (peek p 1)) p.mark (width (peek p 0)) (width_some (peek p 0)))
+one_after p h = rw (skip_one p h) (after_after (ends_line (peek p 0) (peek p 1)) p.mark (len_utf8 (peek p 0)) (width_some (peek p 0)))
 
 skip_after : (k : ℕ) (p : Place) → k ≤ length p.rest → IsAfter k p.mark (skip k p).mark
 skip_after zero p h = rw (skip_none p) (after_here p.mark)

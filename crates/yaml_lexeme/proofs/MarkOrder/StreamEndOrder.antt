@@ -9,11 +9,11 @@ use Rattle.yaml_lexeme.specs.Order.{IsAfter, StreamEndOrder}
 use Rattle.yaml_lexeme.specs.Place.{Place}
 use Rattle.yaml_lexeme.specs.Reading.{Read}
 use Rattle.yaml_lexeme.specs.declared.lex.yaml_context_t.{yaml_context_t}
-use Rattle.yaml_lexeme.specs.Lexeme.{Lexeme as yaml_lexeme_t}
+use Rattle.yaml_lexeme.specs.Lexeme.{Lexeme}
 use Rattle.yaml_text.specs.declared.types.yaml_mark_t.{yaml_mark_t}
 
 -- a stream end at p
-abbrev Ends : Place → Read yaml_lexeme_t → Type 0
+abbrev Ends : Place → Read Lexeme → Type 0
 Ends p (Ok f) = (f.value.end_mark ≡ f.value.start_mark) × (f.value.reach ≡ f.value.start_mark) × IsAfter 0 p.mark f.value.start_mark × (f.value.start_mark.column ≡ 0)
 Ends p (Err e) = Unit {0}
 
@@ -29,4 +29,4 @@ unfolding lex
 end_ends c p = let e = end_after p.mark in (refl, refl, e.0, e.1)
 
 pub stream_end_order : StreamEndOrder
-stream_end_order c p f e = subst (λ (r : Read yaml_lexeme_t). Ends p r) e (end_ends c p)
+stream_end_order c p f e = subst (λ (r : Read Lexeme). Ends p r) e (end_ends c p)

@@ -7,14 +7,18 @@ use Rattle.std.proofs.lemmas.List.Sums.{prefix_len-le-length}
 use Rattle.std.proofs.lemmas.Bool.Decides.{nat_tests}
 use Rattle.std.proofs.lemmas.List.{take-append-drop, take_at, drop_at, length-append}
 use Rattle.std.proofs.lemmas.Str.{encodes-append, length-encode, len_utf8_bounds}
+use Rattle.std.specs.Char.{len_utf8}
 use lib.Utf8.{encode}
 use Rattle.yaml_text.specs.declared.types.yaml_mark_t.{yaml_mark_t}
-use Rattle.yaml_text.specs.Chars.{AreChars, IsText, utf8}
+use Rattle.yaml_text.specs.Chars.{utf8}
+use Rattle.yaml_text.specs.TextBytes.{AreChars, IsText}
 use Rattle.yaml_text.specs.Classes.{is_break}
 use Rattle.yaml_text.proofs.Decodings.DecodeFronts.{chars-utf8, IsText-utf8}
 use Rattle.yaml_text.proofs.Marks.MarkMoves.{AreChars-parts}
 use Rattle.yaml_text.proofs.Characters.ClassTables.{Leads, leads}
-use Rattle.yaml_lexeme.specs.Place.{first, Place, place_at, IsMarkOf, ends_line, skip_from, skip, after_run, run, run_len, mark_after, width}
+use Rattle.yaml_lexeme.specs.Place.{first, Place, place_at, skip, after_run, run, run_len}
+use Rattle.yaml_lexeme.specs.inside.Moves.{ends_line, skip_from, mark_after}
+use Rattle.yaml_lexeme.specs.Counted.{IsMarkOf}
 use Rattle.yaml_lexeme.specs.declared.runs.class_t.{class_t}
 use Rattle.yaml_lexeme.specs.inside.Runs.{is_quiet, class_test, begins}
 use Rattle.yaml_lexeme.proofs.Places.PlaceMoves.{skip_skip, moved, rest_skip, is_there}
@@ -118,7 +122,7 @@ finds bytes cs m n e each at =
       place = λ i. record { mark = mark i; rest = left i };
     }
 
-pub index_after : (m : yaml_mark_t) (c next : ℕ) → (mark_after m c next).index ≡ m.index + width c
+pub index_after : (m : yaml_mark_t) (c next : ℕ) → (mark_after m c next).index ≡ m.index + len_utf8 c
 index_after m c next = elim (cases_Bool (ends_line c next)) [ inl t ↦ rw t refl | inr f ↦ rw f refl ]
 
 -- a character of ASCII that is no break is one byte and one column
@@ -129,7 +133,7 @@ pub record AsciiMove (m : yaml_mark_t) (bytes : List ℕ) : Type 0 where
 ascii_mark : (m : yaml_mark_t) (c next : ℕ) → c < 128 → (c ≡ 10 → ⊥) → (c ≡ 13 → ⊥) → along m 1 1 ≡ mark_after m c next
 ascii_mark m c next low a b =
     let none : is_break c ≡ false = grind (arith, nat_tests) in
-    let one : width c ≡ 1 = grind (arith, nat_tests) in
+    let one : len_utf8 c ≡ 1 = grind (arith, nat_tests) in
     rw (none, one) refl
 
 pub ascii_moves : (m : yaml_mark_t) (bytes : List ℕ) → IsText bytes → 0 < length bytes → get_or bytes 0 0 < 128 → (get_or bytes 0 0 ≡ 10 → ⊥) → (get_or bytes 0 0 ≡ 13 → ⊥) → AsciiMove m bytes

@@ -7,7 +7,8 @@ use Rattle.std.proofs.lemmas.Bool.Decides.{nat_tests}
 use Rattle.std.proofs.lemmas.List.{drop_at, length-append}
 use Rattle.std.proofs.lemmas.Str.{length-encode, len_utf8_bounds}
 use lib.Utf8.{encode}
-use Rattle.yaml_text.specs.Chars.{AreChars, IsText, utf8}
+use Rattle.yaml_text.specs.Chars.{utf8}
+use Rattle.yaml_text.specs.TextBytes.{AreChars, IsText}
 use Rattle.yaml_text.specs.Utf8.{width_of, value_of}
 use Rattle.yaml_text.proofs.Characters.CharRanges.{char_range}
 use Rattle.yaml_text.proofs.Characters.Utf8Spelling.{stands}

@@ -7,7 +7,8 @@ use Rattle.std.specs.List.{prefix_len}
 use Rattle.yaml_text.specs.declared.types.yaml_mark_t.{yaml_mark_t}
 use Rattle.yaml_lexeme.specs.declared.runs.class_t.{class_t}
 use Rattle.yaml_lexeme.specs.declared.runs.class_t.TheVariants.{BLANK, GAP_BLANK, SPACE, BLANK_OR_BREAK, ALPHA, IN_LINE, DOUBLE, SINGLE, PLAIN, FLOW}
-use Rattle.yaml_lexeme.specs.Place.{Place, peek, first, mark_after, skip_from, skip, after_run, break_len}
+use Rattle.yaml_lexeme.specs.Place.{Place, peek, first, skip, after_run, break_len}
+use Rattle.yaml_lexeme.specs.inside.Moves.{mark_after, skip_from}
 use Rattle.yaml_lexeme.specs.inside.Runs.{class_test}
 use Rattle.yaml_lexeme.specs.Classes.{is_white, is_in_line}
 use Rattle.yaml_text.specs.Classes.{is_blank, is_break, is_z}

@@ -14,9 +14,16 @@ use Rattle.yaml_lexeme.proofs.Places.PlaceMoves.{length_skip, break_within}
 use Rattle.yaml_lexeme.proofs.Readers.FoldSeparators.{run_more, run_none, encode_some}
 use Rattle.yaml_lexeme.proofs.MarkOrder.ScalarsAhead.{blank_shortens, text_shortens}
 use Rattle.yaml_lexeme.proofs.Parts.ReadResults.{value_or, end_or}
-use Rattle.yaml_lexeme.specs.Block.{is_indenting, indent_len, after_indent, Blank, blank_line, Blanks, blanks_of, blank_lines, Line, break_at, line_at, is_text, text_line, header_at, after_line, set_indent, block_indent, between, chomped, value_after, block_value, end_of as end_of_lines, block, or_none, or_space, is_line_feed, is_more_indented}
+use Rattle.yaml_lexeme.specs.Block.{indent_len, after_indent, EmptyLine, empty_line, break_at, is_text}
+use Rattle.yaml_lexeme.specs.Block.{header_at, after_line, set_indent, block_indent, block, or_none}
+use Rattle.yaml_lexeme.specs.Greatest.{greatest}
+use Rattle.yaml_lexeme.specs.Block.{is_line_feed}
+use Rattle.yaml_lexeme.specs.inside.BlockAhead.{Blanks, blanks_of, blank_lines, Line, line_at, text_line, between}
+use Rattle.yaml_lexeme.specs.inside.BlockAhead.{chomped, value_after, block_value, end_of as end_of_lines}
+use Rattle.yaml_lexeme.specs.inside.BlockAhead.{is_more_indented, block_ahead, is_indenting}
+use Rattle.yaml_lexeme.proofs.Readers.BlocksAlike.{blocks_alike}
 use Rattle.yaml_lexeme.specs.Classes.{is_in_line}
-use Rattle.yaml_lexeme.specs.Fold.{written}
+use Rattle.yaml_lexeme.specs.Fold.{written, or_space}
 use Rattle.yaml_lexeme.specs.inside.Gives.{Refuses}
 use Rattle.yaml_lexeme.specs.Place.{Place, first, skip, run, after_run, break_len}
 use Rattle.yaml_lexeme.specs.Reading.{Offence, Found, Read, found, Part, part, refuse, over, many, ◌>>=◌}
@@ -27,7 +34,7 @@ use Rattle.yaml_lexeme.specs.declared.block.tail_t.{tail_t}
 use Rattle.yaml_lexeme.specs.declared.block.chomp_t.{chomp_t}
 use Rattle.yaml_lexeme.specs.declared.block.chomp_t.TheVariants.{STRIP, CLIP, KEEP}
 use Rattle.yaml_lexeme.specs.declared.block.header_t.{header_t}
-use Rattle.yaml_lexeme.specs.Lexeme.{Scalar as scalar_t}
+use Rattle.yaml_lexeme.specs.Lexeme.{Scalar}
 
 -- the place after indentation
 abbrev pub indent_end : Option ℕ → Place → Place
@@ -43,41 +50,43 @@ unfolding after_indent
 indent_within limit p q e = indent_if (is_indenting 0x09 limit (indent_end limit p)) p q (indent_end limit p) (omega (arith, length_skip (indent_len limit p) p)) e
 
 -- what follows indentation
-abbrev pub blank_at : Place → Part Blank
+abbrev pub blank_at : Place → Part EmptyLine
 blank_at q = if nat_lt 0 (break_len q) then part (record { column = q.mark.column; break = written (first q) }) (skip (break_len q) q) else over
 
-blank_is : (limit : Option ℕ) (p : Place) → blank_line limit p ≡ after_indent limit p >>= blank_at
-unfolding blank_line
+blank_is : (limit : Option ℕ) (p : Place) → empty_line limit p ≡ after_indent limit p >>= blank_at
+unfolding empty_line
 blank_is limit p = refl
 
-pub blank_some : (limit : Option ℕ) (p q : Place) → after_indent limit p ≡ Ok q → 0 < break_len q → blank_line limit p ≡ part (record { column = q.mark.column; break = written (first q) }) (skip (break_len q) q)
+pub blank_some : (limit : Option ℕ) (p q : Place) → after_indent limit p ≡ Ok q → 0 < break_len q → empty_line limit p ≡ part (record { column = q.mark.column; break = written (first q) }) (skip (break_len q) q)
 blank_some limit p q e h = blank_is limit p ∙ ap (λ (r : Result Place Offence). r >>= blank_at) e ∙ rw (lt-ltb 0 (break_len q) h) refl
 
-pub blank_none : (limit : Option ℕ) (p q : Place) → after_indent limit p ≡ Ok q → break_len q ≡ 0 → blank_line limit p ≡ over
+pub blank_none : (limit : Option ℕ) (p q : Place) → after_indent limit p ≡ Ok q → break_len q ≡ 0 → empty_line limit p ≡ over
 blank_none limit p q e h = blank_is limit p ∙ ap (λ (r : Result Place Offence). r >>= blank_at) e ∙ rw h refl
 
-pub blank_refused : (limit : Option ℕ) (p : Place) (o : Offence) → after_indent limit p ≡ Err o → blank_line limit p ≡ Err o
+pub blank_refused : (limit : Option ℕ) (p : Place) (o : Offence) → after_indent limit p ≡ Err o → empty_line limit p ≡ Err o
 blank_refused limit p o e = blank_is limit p ∙ ap (λ (r : Result Place Offence). r >>= blank_at) e
 
 -- the breaks and the greatest column of the empty lines so far
 abbrev pub State : Type 0
 State = List ℕ × ℕ
 
-abbrev pub add_blank : State → Blank → State
+abbrev pub add_blank : State → EmptyLine → State
 add_blank s b = (s.0 ++ encode_utf8 b.break, max s.1 b.column)
 
-added : (lines : List Blank) (out : List ℕ) (column : ℕ) → fold_list add_blank (out, column) lines ≡ (out ++ utf8 (map (λ b. b.break) lines), fold_list max column (map (λ b. b.column) lines))
-added [] out column = ap (λ (xs : List ℕ). (xs, column)) (sym (append-nil out))
+added : (lines : List EmptyLine) (out : List ℕ) (column : ℕ) → fold_list add_blank (out, column) lines ≡ (out ++ utf8 (map (λ b. b.break) lines), max column (greatest (map (λ b. b.column) lines)))
+added [] out column = let e : column ≡ max column 0 = omega arith in (λ i. (sym (append-nil out) i, e i))
 added (b ∷ bs) out column =
-    added bs (out ++ encode_utf8 b.break) (max column b.column)
-    ∙ ap (λ (xs : List ℕ). (xs, fold_list max (max column b.column) (map (λ b. b.column) bs))) (append_assoc out (encode_utf8 b.break) (utf8 (map (λ b. b.break) bs)))
+    let g = greatest (map (λ b. b.column) bs) in
+    let e : max (max column b.column) g ≡ max column (max b.column g) = omega arith in
+    let o = append_assoc out (encode_utf8 b.break) (utf8 (map (λ b. b.break) bs)) in
+    added bs (out ++ encode_utf8 b.break) (max column b.column) ∙ (λ i. (o i, e i))
 
 -- Empty lines are being read: those up to p are, and the indentation there, up to q.
 pub record Blanking (limit : Option ℕ) (start : Place) (old : List ℕ) (q : Place) (out : List ℕ) (column : ℕ) (end : yaml_mark_t) : Type 0 where
   pub line : Place
   pub indent : after_indent limit line ≡ Ok q
   pub mark : end ≡ line.mark
-  pub so_far : gather add_blank (out, column) (many (blank_line limit) line) ≡ gather add_blank (old, 0) (many (blank_line limit) start)
+  pub so_far : gather add_blank (out, column) (many (empty_line limit) line) ≡ gather add_blank (old, 0) (many (empty_line limit) start)
 
 pub blanking_begins : (limit : Option ℕ) (start q : Place) (old : List ℕ) (end : yaml_mark_t) → end ≡ start.mark → after_indent limit start ≡ Ok q → Blanking limit start old q old 0 end
 blanking_begins limit start q old end m e = record { line = start; indent = e; mark = m; so_far = refl }
@@ -85,32 +94,32 @@ blanking_begins limit start q old end m e = record { line = start; indent = e; m
 -- after the next break
 pub next_blank : (limit : Option ℕ) (start : Place) (old : List ℕ) (q : Place) (out : List ℕ) (column : ℕ) (end : yaml_mark_t) → 0 < break_len q → Blanking limit start old q out column end
     → let p = skip (break_len q) q in
-    (length p.rest < length q.rest) × (gather add_blank (out ++ encode_utf8 (written (first q)), max column q.mark.column) (many (blank_line limit) p) ≡ gather add_blank (old, 0) (many (blank_line limit) start))
+    (length p.rest < length q.rest) × (gather add_blank (out ++ encode_utf8 (written (first q)), max column q.mark.column) (many (empty_line limit) p) ≡ gather add_blank (old, 0) (many (empty_line limit) start))
 next_blank limit start old q out column end h b =
-    let found' : Found Blank = record { value = record { column = q.mark.column; break = written (first q) }; end = skip (break_len q) q } in
-    let t = gathers_more add_blank (blank_line limit) (blank_shortens limit) b.line (out, column) found' (gather add_blank (old, 0) (many (blank_line limit) start)) (blank_some limit b.line q b.indent h) b.so_far in
+    let found' : Found EmptyLine = record { value = record { column = q.mark.column; break = written (first q) }; end = skip (break_len q) q } in
+    let t = gathers_more add_blank (empty_line limit) (blank_shortens limit) b.line (out, column) found' (gather add_blank (old, 0) (many (empty_line limit) start)) (blank_some limit b.line q b.indent h) b.so_far in
     (omega (arith, length_skip (break_len q) q, break_within q h), t.1)
 
-from_gather : (m : Read (List Blank)) (old : List ℕ) (o : Offence) → gather add_blank (old, 0) m ≡ Err o → m ≡ Err o
+from_gather : (m : Read (List EmptyLine)) (old : List ℕ) (o : Offence) → gather add_blank (old, 0) m ≡ Err o → m ≡ Err o
 from_gather (Ok r) old o h = absurd cc
 from_gather (Err e) old o h = let same : e ≡ o = cc in ap (λ x. Err x) same
 
 -- what follows a list of empty lines
-abbrev pub after_blanks : Option ℕ → Read (List Blank) → Read Blanks
+abbrev pub after_blanks : Option ℕ → Read (List EmptyLine) → Read Blanks
 after_blanks limit m = m >>= λ lines. after_indent limit lines.end >>= λ next. found (blanks_of lines.value lines.end.mark) next
 
-pub blanks_is : (limit : Option ℕ) (p : Place) → blank_lines limit p ≡ after_blanks limit (many (blank_line limit) p)
+pub blanks_is : (limit : Option ℕ) (p : Place) → blank_lines limit p ≡ after_blanks limit (many (empty_line limit) p)
 unfolding blank_lines
 blanks_is limit p = refl
 
 -- indentation is refused
-pub blanks_refused : (limit : Option ℕ) (start p : Place) (old : List ℕ) (s : State) (o : Offence) → gather add_blank s (many (blank_line limit) p) ≡ gather add_blank (old, 0) (many (blank_line limit) start)
+pub blanks_refused : (limit : Option ℕ) (start p : Place) (old : List ℕ) (s : State) (o : Offence) → gather add_blank s (many (empty_line limit) p) ≡ gather add_blank (old, 0) (many (empty_line limit) start)
     → after_indent limit p ≡ Err o → blank_lines limit start ≡ Err o
 blanks_refused limit start p old s o h e =
-    let none = gathers_none add_blank (blank_line limit) (blank_shortens limit) p s (gather add_blank (old, 0) (many (blank_line limit) start)) o (blank_refused limit p o e) h in
-    blanks_is limit start ∙ ap (after_blanks limit) (from_gather (many (blank_line limit) start) old o none)
+    let none = gathers_none add_blank (empty_line limit) (blank_shortens limit) p s (gather add_blank (old, 0) (many (empty_line limit) start)) o (blank_refused limit p o e) h in
+    blanks_is limit start ∙ ap (after_blanks limit) (from_gather (many (empty_line limit) start) old o none)
 
-taken : (limit : Option ℕ) (m : Read (List Blank)) (old out : List ℕ) (column : ℕ) (p q : Place) (end : yaml_mark_t) → gather add_blank (old, 0) m ≡ found (out, column) p → after_indent limit p ≡ Ok q → end ≡ p.mark
+taken : (limit : Option ℕ) (m : Read (List EmptyLine)) (old out : List ℕ) (column : ℕ) (p q : Place) (end : yaml_mark_t) → gather add_blank (old, 0) m ≡ found (out, column) p → after_indent limit p ≡ Ok q → end ≡ p.mark
     → TakesBlanks (Ok column) old out end q (after_blanks limit m)
 taken limit (Err e) old out column p q end h i m = absurd cc
 taken limit (Ok r) old out column p q end h i m =
@@ -118,16 +127,17 @@ taken limit (Ok r) old out column p q end h i m =
     let place : r.end ≡ p = ap (end_or p) h in
     let both = sym state ∙ added r.value old 0 in
     let here : after_indent limit r.end ≡ Ok q = ap (after_indent limit) place ∙ i in
-    rw here (ap (λ (s : State). s.1) both, ap (λ (s : State). s.0) both, m ∙ ap (λ (x : Place). x.mark) (sym place), refl)
+    let none : max 0 (greatest (map (λ b. b.column) r.value)) ≡ greatest (map (λ b. b.column) r.value) = omega arith in
+    rw here (ap (λ (s : State). s.1) both ∙ none, ap (λ (s : State). s.0) both, m ∙ ap (λ (x : Place). x.mark) (sym place), refl)
 
 -- the empty lines are over
 pub blanks_taken : (limit : Option ℕ) (start : Place) (old : List ℕ) (q : Place) (out : List ℕ) (column : ℕ) (end : yaml_mark_t) → break_len q ≡ 0 → Blanking limit start old q out column end
     → TakesBlanks (Ok column) old out end q (blank_lines limit start)
 blanks_taken limit start old q out column end h b =
-    let all = gathers_all add_blank (blank_line limit) (blank_shortens limit) b.line (out, column) (gather add_blank (old, 0) (many (blank_line limit) start)) (blank_none limit b.line q b.indent h) b.so_far in
-    rw (blanks_is limit start) (taken limit (many (blank_line limit) start) old out column b.line q end all b.indent b.mark)
+    let all = gathers_all add_blank (empty_line limit) (blank_shortens limit) b.line (out, column) (gather add_blank (old, 0) (many (empty_line limit) start)) (blank_none limit b.line q b.indent h) b.so_far in
+    rw (blanks_is limit start) (taken limit (many (empty_line limit) start) old out column b.line q end all b.indent b.mark)
 
-blanks_offence : (error : yaml_refusal_t) (limit : Option ℕ) (start p q : Place) (old : List ℕ) (s : State) → gather add_blank s (many (blank_line limit) p) ≡ gather add_blank (old, 0) (many (blank_line limit) start)
+blanks_offence : (error : yaml_refusal_t) (limit : Option ℕ) (start p q : Place) (old : List ℕ) (s : State) → gather add_blank s (many (empty_line limit) p) ≡ gather add_blank (old, 0) (many (empty_line limit) start)
     → Refuses error q (after_indent limit p) → Refuses error q (blank_lines limit start)
 blanks_offence errors.MEMORY limit start p q old s h e = tt
 blanks_offence (errors.OFFENCE problem) limit start p q old s h e = blanks_refused limit start p old s (record { problem = problem; at = q }) h e
@@ -198,7 +208,7 @@ abbrev pub before_lines : List ℕ → yaml_mark_t → Line
 before_lines leading m = record { text = []; break = None; empties = leading; end = m }
 
 -- what the lines that were gathered make
-abbrev pub finish : chomp_t → Read Lines → Read scalar_t
+abbrev pub finish : chomp_t → Read Lines → Read Scalar
 finish chomp r = r >>= λ s. found (record { value = s.value.0 ++ utf8 (chomped chomp s.value.1); end = s.value.1.end; passed_break = false }) s.end
 
 gathered : (folded : Bool) (chomp : chomp_t) (ls : List Line) (out : List ℕ) (last : Line)
@@ -296,7 +306,7 @@ blocks_all folded level start chomp indent p out new tail h b e =
     rw (value, b.keeps.end) (sym b.so_far ∙ ap (finish chomp) all)
 
 -- what a block scalar is after its header and leading empty lines
-abbrev pub tail_of : Bool → chomp_t → Blanks → Read (List Line) → Read scalar_t
+abbrev pub tail_of : Bool → chomp_t → Blanks → Read (List Line) → Read Scalar
 tail_of folded chomp b m = m >>= λ lines. found (record { value = utf8 (block_value folded chomp b.breaks lines.value); end = end_of_lines b.end lines.value; passed_break = false }) lines.end
 
 tail_is : (folded : Bool) (chomp : chomp_t) (b : Blanks) (m : Read (List Line)) → finish chomp (gather (add_line folded) ([], before_lines b.breaks b.end) m) ≡ tail_of folded chomp b m
@@ -306,18 +316,21 @@ tail_is folded chomp b (Ok r) =
     let value = t.0 ∙ ap utf8 (first_of folded chomp b.breaks b.end r.value) in
     rw (value, t.1) refl
 
-abbrev pub after_leading : Bool → Option ℕ → header_t → Read Blanks → Read scalar_t
+abbrev pub after_leading : Bool → Option ℕ → header_t → Read Blanks → Read Scalar
 after_leading folded level h r = r >>= λ leading. tail_of folded h.chomp leading.value (many (text_line (block_indent level (set_indent level h.digit) leading.value.column leading.end.mark.column)) leading.end)
 
-abbrev pub after_start : Bool → Option ℕ → header_t → Result Place Offence → Read scalar_t
+abbrev pub after_start : Bool → Option ℕ → header_t → Result Place Offence → Read Scalar
 after_start folded level h r = r >>= λ start. after_leading folded level h (blank_lines (set_indent level h.digit) start)
 
-abbrev pub after_header : Bool → Option ℕ → Read header_t → Read scalar_t
+abbrev pub after_header : Bool → Option ℕ → Read header_t → Read Scalar
 after_header folded level r = r >>= λ header. after_start folded level header.value (after_line header.end)
 
+pub ahead_is : (folded : Bool) (level : Option ℕ) (p : Place) → block_ahead folded level p ≡ after_header folded level (header_at (skip 1 p))
+unfolding block_ahead
+ahead_is folded level p = refl
+
 pub block_is : (folded : Bool) (level : Option ℕ) (p : Place) → block folded level p ≡ after_header folded level (header_at (skip 1 p))
-unfolding block
-block_is folded level p = refl
+block_is folded level p = blocks_alike folded level p ∙ ahead_is folded level p
 
 pub header_refused : (error : yaml_refusal_t) (folded : Bool) (level : Option ℕ) (p q : Place) → Refuses error q (header_at (skip 1 p)) → Refuses error q (block folded level p)
 header_refused errors.MEMORY folded level p q h = tt

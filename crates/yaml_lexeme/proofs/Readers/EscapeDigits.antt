@@ -12,7 +12,8 @@ use Rattle.std.specs.List.{list_all}
 use Rattle.std.specs.Str.Parse.{digits_value}
 use Rattle.yaml_lexeme.specs.declared.problem.yaml_problem_t.TheVariants.{NO_HEX_DIGIT, NO_SCALAR_VALUE}
 use Rattle.yaml_lexeme.proofs.Places.PlaceMoves.{is_there}
-use Rattle.yaml_lexeme.specs.Escape.{hex_escape, is_scalar}
+use Rattle.yaml_lexeme.specs.Escape.{hex_escape}
+use Rattle.yaml_text.specs.Utf8.{is_scalar}
 use Rattle.yaml_lexeme.specs.Place.{Place, peek, skip}
 use Rattle.yaml_lexeme.specs.Reading.{found, refuse}
 use Rattle.yaml_text.specs.Classes.{is_hex, is_break}

@@ -5,7 +5,7 @@ use Rattle.std.proofs.Common.{eqb-true}
 use Rattle.yaml_text.specs.Classes.{is_break, is_z}
 use Rattle.yaml_lexeme.specs.Classes.{ends}
 use Rattle.yaml_lexeme.specs.Kind.{is_marker_of, starts_plain, kind_at}
-use Rattle.yaml_lexeme.specs.Lex.{is_character}
+use Rattle.yaml_lexeme.specs.KindSets.{is_character}
 use Rattle.yaml_lexeme.specs.Place.{Place, first, peek}
 use Rattle.yaml_lexeme.specs.declared.kind.yaml_lexeme_kind_t.{yaml_lexeme_kind_t}
 use Rattle.yaml_lexeme.specs.declared.kind.yaml_lexeme_kind_t.TheVariants as kind

@@ -1,5 +1,7 @@
 -- Separators are read and folded a character or a break at a time.
-use Rattle.std.proofs.Common.{ne_eqb, length-append, get_or-drop, ◌≡◌, ℕ, zero, suc, ◌+◌, ◌<◌, ◌≤◌, Bool, true, false, cond, not, ◌==◌, ◌&&◌, inl, inr, List, [], ◌∷◌, ◌++◌, length, take, slice_index, refl, sym, ap, ◌∙◌, arith, append_assoc}
+use Rattle.std.proofs.Common.{ne_eqb, length-append, get_or-drop, ◌≡◌, ℕ, zero, suc, ◌+◌, ◌<◌, ◌≤◌, Bool, true, false}
+use Rattle.std.proofs.Common.{cond, not, ◌==◌, ◌&&◌, inl, inr, List, [], ◌∷◌, ◌++◌, length, take, slice_index, refl}
+use Rattle.std.proofs.Common.{sym, ap, ◌∙◌, arith, append_assoc, if◌then◌else◌}
 use Rattle.std.proofs.lemmas.Bool.{cases_Bool, true≢false}
 use Rattle.std.proofs.lemmas.Bool.Decides.{nat_tests}
 use Rattle.std.proofs.lemmas.List.{append-nil, nil_from_length}
@@ -8,11 +10,15 @@ use Rattle.std.specs.List.{prefix_len}
 use Rattle.std.specs.Char.{encode_utf8}
 use Rattle.yaml_text.specs.declared.types.yaml_mark_t.{yaml_mark_t}
 use Rattle.yaml_lexeme.proofs.Places.PlaceMoves.{skip_one, skip_more, after_run_more, after_none, length_skip, length_one, break_within}
-use Rattle.yaml_lexeme.specs.Classes.{is_white}
-use Rattle.yaml_lexeme.specs.Fold.{written, breaks, fold, join_breaks}
+use Rattle.yaml_lexeme.specs.Classes.{is_white, line_feed}
+use Rattle.yaml_lexeme.specs.Fold.{written, breaks, fold, or_space}
 use Rattle.yaml_lexeme.specs.Place.{Place, first, peek, skip, run, run_len, after_run, break_len}
 use Rattle.yaml_text.specs.Chars.{utf8}
 use Rattle.yaml_text.specs.Classes.{is_blank, is_break}
+
+-- the breaks of a separator, joined
+abbrev pub join_breaks : ℕ → List ℕ → List ℕ
+join_breaks b bs = if b == line_feed then or_space bs else b ∷ bs
 
 passes : (test : ℕ → Bool) (m : yaml_mark_t) (cs : List ℕ) → test (slice_index cs 0) ≡ true → test 0 ≡ false
     → let p : Place = record { mark = m; rest = cs } in run test p ≡ first p ∷ run test (skip 1 p)

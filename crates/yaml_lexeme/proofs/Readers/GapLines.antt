@@ -5,10 +5,12 @@ use Rattle.std.proofs.lemmas.Bool.{cases_lt, cases_Bool, and_right}
 use Rattle.std.specs.Prelude.{nat_lt}
 use Rattle.yaml_text.specs.Classes.{is_break}
 use Rattle.yaml_lexeme.specs.declared.runs.class_t.TheVariants.{SPACE}
-use Rattle.yaml_lexeme.specs.inside.Runs.{class_test}
+use Rattle.yaml_lexeme.specs.inside.Runs.{class_test, is_solid}
 use Rattle.yaml_lexeme.proofs.Places.PlaceMoves.{length_skip, length_one, within_if, break_within, after_none, after_run_more, first_on}
 use Rattle.yaml_lexeme.specs.Classes.{is_in_line}
-use Rattle.yaml_lexeme.specs.Gap.{byte_order_mark, is_gap_blank, is_solid, after_mark, after_comment, after_gap_line, after_gap_lines, gap, IsGap}
+use Rattle.yaml_lexeme.specs.Gap.{byte_order_mark, is_gap_blank, after_mark, after_comment, after_gap_line}
+use Rattle.yaml_lexeme.specs.Gap.{after_gap_lines, gap}
+use Rattle.yaml_lexeme.specs.Decider.{IsGap}
 use Rattle.yaml_lexeme.specs.Place.{Place, first, peek, skip, after_run, run_len, break_len}
 
 pub within_line : (tabs : Bool) (p : Place) → length (after_gap_line tabs p).rest ≤ length p.rest

@@ -2,7 +2,7 @@
 use Rattle.std.proofs.Common.{◌≡◌, ◌==◌, ◌&&◌, ◌||◌, not, ℕ, zero, suc, ◌+◌, ◌-◌, ◌<◌, ◌≤◌, inl, inr, Bool, true, false, List, [], ◌∷◌, ◌++◌, length, get_or, take, drop, None, Ok, Err, refl, sym, ap, ◌∙◌, subst, arith, add-zero, append_assoc, take-add, le-ltb, ne_eqb, if◌then◌else◌}
 use Rattle.std.specs.Prelude.{IsTrue, nat_le, nat_lt}
 use Rattle.std.specs.List.{prefix_len, list_any}
-use Rattle.std.specs.Char.{encode_utf8}
+use Rattle.std.specs.Char.{encode_utf8, len_utf8}
 use Rattle.std.proofs.lemmas.Bool.{cases_Bool, cases_lt, leb-true, le-leb, and_right}
 use Rattle.std.proofs.lemmas.Bool.Decides.{nat_tests}
 use Rattle.std.proofs.lemmas.List.{append-nil, get_or-drop, length-drop}
@@ -23,12 +23,12 @@ use Rattle.yaml_lexeme.specs.Classes.{is_white}
 use Rattle.yaml_lexeme.specs.Fold.{fold}
 use Rattle.yaml_lexeme.specs.inside.Gives.{Refuses, TakesPart}
 use Rattle.yaml_lexeme.specs.Kind.{is_marker}
-use Rattle.yaml_lexeme.specs.Place.{Place, first, peek, skip, run, run_len, after_run, width}
+use Rattle.yaml_lexeme.specs.Place.{Place, first, peek, skip, run, run_len, after_run}
 use Rattle.yaml_lexeme.specs.declared.runs.class_t.TheVariants.{SPACE}
-use Rattle.yaml_lexeme.specs.Plain.{is_bad_tab, untabbed, is_bad_colon, is_chunk, chunk, separator, is_over, link, plain}
+use Rattle.yaml_lexeme.specs.Plain.{is_bad_colon, is_chunk, chunk, separator, is_over, link, plain}
 use Rattle.yaml_lexeme.specs.Reading.{Offence, Read, found, refuse, Part, part, over, many, with_front, go_on, ◌>>=◌}
 use Rattle.yaml_lexeme.specs.inside.Runs.{class_test, trim, Stands}
-use Rattle.yaml_lexeme.specs.inside.Words.{links, words, plain_of, Goes}
+use Rattle.yaml_lexeme.specs.inside.Words.{links, words, plain_of, Goes, is_bad_tab, untabbed}
 
 two_fronts : (a b : List ℕ) (r : Read (List ℕ)) → with_front a (with_front b r) ≡ with_front (a ++ b) r
 two_fronts a b (Ok f) = ap (λ (xs : List ℕ). found xs f.end) (sym (append_assoc a b f.value))
@@ -94,7 +94,7 @@ tab_none least m (c ∷ cs) h =
       | inl w ↦
           let k : prefix_len is_white (c ∷ cs) ≡ 1 + prefix_len is_white cs = rw w refl in
           let b : is_break c ≡ false = h 0 (omega (arith, k)) in
-          let m' : yaml_mark_t = record { index = m.index + width c; line = m.line; column = m.column + 1 } in
+          let m' : yaml_mark_t = record { index = m.index + len_utf8 c; line = m.line; column = m.column + 1 } in
           rw (w, and_right (c == 0x09) false refl, b) (tab_none least m' cs (λ i l. h (suc i) (omega (arith, k))))
       | inr o ↦ rw o refl
     ]

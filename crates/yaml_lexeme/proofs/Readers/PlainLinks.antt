@@ -7,7 +7,7 @@ use Rattle.yaml_text.specs.declared.types.yaml_mark_t.{yaml_mark_t}
 use Rattle.yaml_lexeme.specs.declared.problem.yaml_refusal_t.{yaml_refusal_t}
 use Rattle.yaml_lexeme.specs.declared.problem.yaml_refusal_t.TheVariants as errors
 use Rattle.yaml_lexeme.specs.declared.problem.yaml_problem_t.{yaml_problem_t}
-use Rattle.yaml_lexeme.specs.Lexeme.{Scalar as scalar_t}
+use Rattle.yaml_lexeme.specs.Lexeme.{Scalar}
 use Rattle.yaml_lexeme.specs.declared.problem.yaml_problem_t.TheVariants.{COLON_IN_FLOW, TAB_IN_PLAIN}
 use Rattle.yaml_lexeme.proofs.Parts.PartByPart.{IsShorter, Shortens, joined}
 use Rattle.yaml_lexeme.proofs.Places.PlaceMoves.{length_skip, length_one, is_there, after_run_more, after_none, blank_white, first_on, rest_skip, skip_none, skip_skip}
@@ -16,8 +16,11 @@ use Rattle.yaml_lexeme.proofs.Parts.ReadResults.{value_or, end_or}
 use Rattle.yaml_lexeme.specs.Classes.{is_white, ends}
 use Rattle.yaml_lexeme.specs.Fold.{fold}
 use Rattle.yaml_lexeme.specs.inside.Gives.{Refuses, TakesPart, TakesRead}
-use Rattle.yaml_lexeme.specs.Place.{Place, first, peek, skip, skip_from, run, run_len, after_run, mark_after}
-use Rattle.yaml_lexeme.specs.Plain.{is_bad_tab, has_bad_tab, bad_tab, is_flow_indicator, is_bad_colon, is_chunk, chunk_len, chunk, untabbed, separator, is_over, link, plain}
+use Rattle.yaml_lexeme.specs.Place.{Place, first, peek, skip, run, run_len, after_run}
+use Rattle.yaml_lexeme.specs.inside.Moves.{skip_from, mark_after}
+use Rattle.yaml_lexeme.specs.Plain.{has_bad_tab, bad_tab, is_flow_indicator, is_bad_colon, is_chunk, chunk_len, chunk}
+use Rattle.yaml_lexeme.specs.Plain.{separator, is_over, link, plain}
+use Rattle.yaml_lexeme.specs.inside.Words.{is_bad_tab, untabbed}
 use Rattle.yaml_lexeme.specs.Reading.{Read, found, Part, part, refuse, over, many, with_front, ◌>>=◌}
 use Rattle.yaml_text.specs.Chars.{utf8}
 use Rattle.yaml_text.specs.Classes.{is_break, is_blank}
@@ -318,22 +321,22 @@ link_shortens flow least p =
     ]
 
 -- a scalar, from the bytes and the place where its last chunk ends
-abbrev pub scalar_at : List ℕ → Place → Read scalar_t
+abbrev pub scalar_at : List ℕ → Place → Read Scalar
 scalar_at bytes q = found (record { value = bytes; end = q.mark; passed_break = list_any is_break (run is_white q) }) (after_run is_white q)
 
 -- what follows the bytes of the first chunk
-abbrev pub tail_of : List ℕ → Read (List (List ℕ)) → Read scalar_t
+abbrev pub tail_of : List ℕ → Read (List (List ℕ)) → Read Scalar
 tail_of v r = r >>= λ links. scalar_at (utf8 v ++ flat_map utf8 links.value) links.end
 
 -- what follows the first chunk
-abbrev pub after_head : Bool → ℕ → Read (List ℕ) → Read scalar_t
+abbrev pub after_head : Bool → ℕ → Read (List ℕ) → Read Scalar
 after_head flow least r = r >>= λ head. tail_of head.value (many (link flow least) head.end)
 
 pub plain_is : (flow : Bool) (least : ℕ) (p : Place) → plain flow least p ≡ after_head flow least (chunk flow p)
 unfolding plain
 plain_is flow least p = refl
 
-abbrev refusal : Read (List ℕ) → Read scalar_t
+abbrev refusal : Read (List ℕ) → Read Scalar
 refusal (Ok r) = scalar_at r.value r.end
 refusal (Err e) = Err e
 

@@ -10,7 +10,9 @@ use Rattle.yaml_lexeme.proofs.Parts.PartByPart.{IsShorter, Shortens}
 use Rattle.yaml_lexeme.proofs.Places.PlaceMoves.{length_skip, is_there, after_run_more, some_char}
 use Rattle.yaml_lexeme.proofs.Readers.FoldSeparators.{breaks_at}
 use Rattle.yaml_lexeme.specs.Classes.{is_white}
-use Rattle.yaml_lexeme.specs.Escape.{escape, hex_escape, simple_at, hex_len, simple_escape, is_scalar}
+use Rattle.yaml_lexeme.specs.Escape.{escape, hex_escape, hex_len, simple_escape}
+use Rattle.yaml_lexeme.specs.inside.CommonEscapes.{simple_at}
+use Rattle.yaml_text.specs.Utf8.{is_scalar}
 use Rattle.yaml_lexeme.specs.Fold.{fold}
 use Rattle.yaml_lexeme.specs.inside.Gives.{Refuses, TakesPart, Takes}
 use Rattle.yaml_lexeme.specs.Kind.{is_marker}

@@ -12,10 +12,10 @@ use Rattle.yaml_lexeme.proofs.Readers.QuotedBody.{at_space, body_shortens}
 use Rattle.yaml_lexeme.proofs.Parts.PartByPart.{Reading, joined, many_turn}
 use Rattle.yaml_lexeme.proofs.Readers.QuotedRuns.{Whole, parts_over, in_quotes, stop_le}
 use Rattle.yaml_lexeme.proofs.Places.PlaceMoves.{class_end, skip_skip, after_none, rest_skip, is_break_len, solid, blank_white}
-use Rattle.yaml_lexeme.proofs.Readers.FoldSeparators.{fold_breaks, breaks_at}
+use Rattle.yaml_lexeme.proofs.Readers.FoldSeparators.{fold_breaks, breaks_at, join_breaks}
 use Rattle.yaml_lexeme.proofs.ManyBytes.TrimmedLists.{trimmed, trims_at}
 use Rattle.yaml_lexeme.specs.Classes.{is_white}
-use Rattle.yaml_lexeme.specs.Fold.{fold, join_breaks, written}
+use Rattle.yaml_lexeme.specs.Fold.{fold, written}
 use Rattle.yaml_lexeme.specs.Kind.{is_marker}
 use Rattle.yaml_lexeme.specs.Place.{Place, first, skip, run, after_run, break_len}
 use Rattle.yaml_lexeme.specs.Quoted.{body_part, unmarked}

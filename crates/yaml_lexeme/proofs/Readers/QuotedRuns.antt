@@ -15,7 +15,8 @@ use Rattle.yaml_lexeme.specs.Classes.{is_white}
 use Rattle.yaml_lexeme.specs.Fold.{fold, breaks}
 use Rattle.yaml_lexeme.specs.inside.Gives.{TakesPart}
 use Rattle.yaml_lexeme.specs.Kind.{is_marker}
-use Rattle.yaml_lexeme.specs.Place.{Place, first, skip_from, skip, mark_after}
+use Rattle.yaml_lexeme.specs.Place.{Place, first, skip}
+use Rattle.yaml_lexeme.specs.inside.Moves.{skip_from, mark_after}
 use Rattle.yaml_lexeme.specs.Quoted.{body_part, quote}
 use Rattle.yaml_lexeme.specs.Reading.{Read, Part, part}
 use Rattle.yaml_lexeme.specs.inside.Runs.{class_test, line_of}

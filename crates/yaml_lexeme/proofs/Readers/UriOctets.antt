@@ -1,5 +1,6 @@
 -- The octets, escapes and characters of a uri are read one by one.
-use Rattle.std.proofs.Common.{◌≡◌, ℕ, zero, suc, ◌-◌, ◌<◌, ◌≤◌, Bool, true, false, cond, ◌==◌, ◌&&◌, inl, inr, List, [], ◌∷◌, ◌++◌, length, Result, Ok, Err, refl, sym, ap, ◌∙◌, arith, append_assoc}
+use Rattle.std.proofs.Common.{◌≡◌, ℕ, zero, suc, ◌-◌, ◌<◌, ◌≤◌, Bool, true, false, cond, ◌==◌, ◌&&◌, inl, inr, List, []}
+use Rattle.std.proofs.Common.{◌∷◌, ◌++◌, length, Result, Ok, Err, refl, sym, ap, ◌∙◌, arith, append_assoc, not}
 use Rattle.std.proofs.lemmas.Bool.{cases_Bool}
 use Rattle.std.proofs.lemmas.Bool.Decides.{nat_tests}
 use Rattle.std.proofs.lemmas.List.{append-nil}
@@ -16,8 +17,9 @@ use Rattle.yaml_lexeme.proofs.Parts.ReadResults.{value_or, end_or}
 use Rattle.yaml_lexeme.specs.inside.Gives.{Refuses, TakesRead, Appends}
 use Rattle.yaml_lexeme.specs.Place.{Place, first, peek, skip}
 use Rattle.yaml_lexeme.specs.Reading.{Read, found, part, refuse, over, many, with_front, ◌>>=◌}
-use Rattle.yaml_lexeme.specs.Uri.{octet, octet_width, is_bad_next, next_octets, uri_escape, uri_part, is_uri, uri}
+use Rattle.yaml_lexeme.specs.Uri.{octet, next_octets, uri_escape, uri_part, is_uri, uri}
 use Rattle.yaml_text.specs.Classes.{is_hex}
+use Rattle.yaml_text.specs.Utf8.{width_of, continues}
 
 -- what was appended to `old` is what was read
 pub appended : (r : Read (List ℕ)) (old new : List ℕ) (q : Place) → with_front old r ≡ found new q → TakesRead (λ cs. cs) r old new q
@@ -29,14 +31,14 @@ not_appended errors.MEMORY r old q h = tt
 not_appended (errors.OFFENCE problem) (Ok f) old q h = absurd cc
 not_appended (errors.OFFENCE problem) (Err o) old q h = h
 
-next_is : (n : ℕ) (p : Place) → next_octets (suc n) p ≡ octet p >>= λ c. cond (is_bad_next c.value) (refuse BAD_NEXT_OCTET p) (with_front (c.value ∷ []) (next_octets n c.end))
+next_is : (n : ℕ) (p : Place) → next_octets (suc n) p ≡ octet p >>= λ c. cond (not (continues c.value)) (refuse BAD_NEXT_OCTET p) (with_front (c.value ∷ []) (next_octets n c.end))
 unfolding next_octets
 next_is n p = refl
 
-pub one_next : (n c : ℕ) (p : Place) → octet p ≡ found c (skip 3 p) → is_bad_next c ≡ false → next_octets (suc n) p ≡ with_front (c ∷ []) (next_octets n (skip 3 p))
+pub one_next : (n c : ℕ) (p : Place) → octet p ≡ found c (skip 3 p) → not (continues c) ≡ false → next_octets (suc n) p ≡ with_front (c ∷ []) (next_octets n (skip 3 p))
 one_next n c p e h = next_is n p ∙ rw (e, h) refl
 
-pub bad_next : (n c : ℕ) (p : Place) → octet p ≡ found c (skip 3 p) → is_bad_next c ≡ true → next_octets (suc n) p ≡ refuse BAD_NEXT_OCTET p
+pub bad_next : (n c : ℕ) (p : Place) → octet p ≡ found c (skip 3 p) → not (continues c) ≡ true → next_octets (suc n) p ≡ refuse BAD_NEXT_OCTET p
 bad_next n c p e h = next_is n p ∙ rw (e, h) refl
 
 pub no_next : (e : yaml_refusal_t) (n : ℕ) (p : Place) → Refuses e p (octet p) → Refuses e p (next_octets (suc n) p)
@@ -55,11 +57,11 @@ push out c (Err e) = refl
 abbrev pub Octets : ℕ → Place → List ℕ → Read (List ℕ) → Type 0
 Octets n p out whole = with_front out (next_octets n p) ≡ whole
 
-pub octets_more : (n m c : ℕ) (p : Place) (out : List ℕ) (whole : Read (List ℕ)) → n ≡ suc m → octet p ≡ found c (skip 3 p) → is_bad_next c ≡ false → Octets n p out whole → Octets m (skip 3 p) (out ++ c ∷ []) whole
+pub octets_more : (n m c : ℕ) (p : Place) (out : List ℕ) (whole : Read (List ℕ)) → n ≡ suc m → octet p ≡ found c (skip 3 p) → not (continues c) ≡ false → Octets n p out whole → Octets m (skip 3 p) (out ++ c ∷ []) whole
 octets_more n m c p out whole k e h so_far =
     sym (push out c (next_octets m (skip 3 p))) ∙ ap (with_front out) (sym (one_next m c p e h)) ∙ ap (λ (i : ℕ). with_front out (next_octets i p)) (sym k) ∙ so_far
 
-pub octets_bad : (n m c : ℕ) (p : Place) (out : List ℕ) (whole : Read (List ℕ)) → n ≡ suc m → octet p ≡ found c (skip 3 p) → is_bad_next c ≡ true → Octets n p out whole → whole ≡ refuse BAD_NEXT_OCTET p
+pub octets_bad : (n m c : ℕ) (p : Place) (out : List ℕ) (whole : Read (List ℕ)) → n ≡ suc m → octet p ≡ found c (skip 3 p) → not (continues c) ≡ true → Octets n p out whole → whole ≡ refuse BAD_NEXT_OCTET p
 octets_bad n m c p out whole k e h so_far =
     sym so_far ∙ ap (λ (i : ℕ). with_front out (next_octets i p)) k ∙ ap (with_front out) (bad_next m c p e h)
 
@@ -72,34 +74,34 @@ pub octets_all : (n : ℕ) (p : Place) (out : List ℕ) (whole : Read (List ℕ)
 octets_all n p out whole k so_far =
     sym so_far ∙ ap (λ (i : ℕ). with_front out (next_octets i p)) k ∙ ap (with_front out) (no_octets p) ∙ ap (λ (bs : List ℕ). found bs p) (append-nil out)
 
-escape_is : (p : Place) → uri_escape p ≡ octet p >>= λ lead. cond (octet_width lead.value == 0) (refuse BAD_LEAD_OCTET p) (with_front (lead.value ∷ []) (next_octets (octet_width lead.value - 1) lead.end))
+escape_is : (p : Place) → uri_escape p ≡ octet p >>= λ lead. cond (width_of lead.value == 0) (refuse BAD_LEAD_OCTET p) (with_front (lead.value ∷ []) (next_octets (width_of lead.value - 1) lead.end))
 unfolding uri_escape
 escape_is p = refl
 
-pub bad_lead : (c : ℕ) (p : Place) → octet p ≡ found c (skip 3 p) → octet_width c ≡ 0 → uri_escape p ≡ refuse BAD_LEAD_OCTET p
+pub bad_lead : (c : ℕ) (p : Place) → octet p ≡ found c (skip 3 p) → width_of c ≡ 0 → uri_escape p ≡ refuse BAD_LEAD_OCTET p
 bad_lead c p e h = escape_is p ∙ rw (e, h) refl
 
 pub no_lead : (e : yaml_refusal_t) (p : Place) → Refuses e p (octet p) → Refuses e p (uri_escape p)
 no_lead errors.MEMORY p h = tt
 no_lead (errors.OFFENCE problem) p h = escape_is p ∙ rw h refl
 
-lead_then : (c : ℕ) (p : Place) → octet p ≡ found c (skip 3 p) → (octet_width c == 0) ≡ false → uri_escape p ≡ with_front (c ∷ []) (next_octets (octet_width c - 1) (skip 3 p))
+lead_then : (c : ℕ) (p : Place) → octet p ≡ found c (skip 3 p) → (width_of c == 0) ≡ false → uri_escape p ≡ with_front (c ∷ []) (next_octets (width_of c - 1) (skip 3 p))
 lead_then c p e h = escape_is p ∙ rw (e, h) refl
 
 front_takes : (c : ℕ) (r : Read (List ℕ)) (old mid new : List ℕ) (q : Place) → mid ≡ old ++ c ∷ [] → TakesRead (λ cs. cs) r mid new q → TakesRead (λ cs. cs) (with_front (c ∷ []) r) old new q
 front_takes c (Ok f) old mid new q m h = (h.0 ∙ ap (λ (bs : List ℕ). bs ++ f.value) m ∙ append_assoc old (c ∷ []) f.value, h.1)
 front_takes c (Err e) old mid new q m h = absurd h
 
-escape_taken : (c : ℕ) (p q : Place) (old mid new : List ℕ) → octet p ≡ found c (skip 3 p) → (octet_width c == 0) ≡ false → mid ≡ old ++ c ∷ []
-    → TakesRead (λ cs. cs) (next_octets (octet_width c - 1) (skip 3 p)) mid new q → TakesRead (λ cs. cs) (uri_escape p) old new q
-escape_taken c p q old mid new e h m t = rw (lead_then c p e h) (front_takes c (next_octets (octet_width c - 1) (skip 3 p)) old mid new q m t)
+escape_taken : (c : ℕ) (p q : Place) (old mid new : List ℕ) → octet p ≡ found c (skip 3 p) → (width_of c == 0) ≡ false → mid ≡ old ++ c ∷ []
+    → TakesRead (λ cs. cs) (next_octets (width_of c - 1) (skip 3 p)) mid new q → TakesRead (λ cs. cs) (uri_escape p) old new q
+escape_taken c p q old mid new e h m t = rw (lead_then c p e h) (front_takes c (next_octets (width_of c - 1) (skip 3 p)) old mid new q m t)
 
-escape_refused : (error : yaml_refusal_t) (c : ℕ) (p q : Place) → octet p ≡ found c (skip 3 p) → (octet_width c == 0) ≡ false → Refuses error q (next_octets (octet_width c - 1) (skip 3 p)) → Refuses error q (uri_escape p)
+escape_refused : (error : yaml_refusal_t) (c : ℕ) (p q : Place) → octet p ≡ found c (skip 3 p) → (width_of c == 0) ≡ false → Refuses error q (next_octets (width_of c - 1) (skip 3 p)) → Refuses error q (uri_escape p)
 escape_refused errors.MEMORY c p q e h r = tt
 escape_refused (errors.OFFENCE problem) c p q e h r = lead_then c p e h ∙ ap (with_front (c ∷ [])) r
 
-pub escape_done : (r : Result (Unit {0}) yaml_refusal_t) (c : ℕ) (p q : Place) (old mid new : List ℕ) → octet p ≡ found c (skip 3 p) → (octet_width c == 0) ≡ false → mid ≡ old ++ c ∷ []
-    → Appends (λ cs. cs) r mid new q (next_octets (octet_width c - 1) (skip 3 p)) → Appends (λ cs. cs) r old new q (uri_escape p)
+pub escape_done : (r : Result (Unit {0}) yaml_refusal_t) (c : ℕ) (p q : Place) (old mid new : List ℕ) → octet p ≡ found c (skip 3 p) → (width_of c == 0) ≡ false → mid ≡ old ++ c ∷ []
+    → Appends (λ cs. cs) r mid new q (next_octets (width_of c - 1) (skip 3 p)) → Appends (λ cs. cs) r old new q (uri_escape p)
 escape_done (Ok x) c p q old mid new e h m t = escape_taken c p q old mid new e h m t
 escape_done (Err error) c p q old mid new e h m t = escape_refused error c p q e h t
 
@@ -130,15 +132,15 @@ octet_ahead m p k h =
 next_ahead : (n : ℕ) (p : Place) → Ahead 0 p (next_octets n p)
 next_ahead zero p = rw (no_octets p) (ahead_here p)
 next_ahead (suc n) p =
-    rw (next_is n p) (bind_ahead 0 0 p (octet p) (λ c. cond (is_bad_next c.value) (refuse BAD_NEXT_OCTET p) (with_front (c.value ∷ []) (next_octets n c.end))) (octet_ahead 0 p (omega arith) (omega arith))
-    (λ x a. if_ahead (is_bad_next x.value) 0 p (refuse BAD_NEXT_OCTET p) (with_front (x.value ∷ []) (next_octets n x.end)) tt
+    rw (next_is n p) (bind_ahead 0 0 p (octet p) (λ c. cond (not (continues c.value)) (refuse BAD_NEXT_OCTET p) (with_front (c.value ∷ []) (next_octets n c.end))) (octet_ahead 0 p (omega arith) (omega arith))
+    (λ x a. if_ahead (not (continues x.value)) 0 p (refuse BAD_NEXT_OCTET p) (with_front (x.value ∷ []) (next_octets n x.end)) tt
     (bind_ahead 0 0 p (next_octets n x.end) (λ r. found (x.value ∷ r.value) r.end) (then_ahead 0 0 p x.end (next_octets n x.end) a (next_ahead n x.end)) (λ y b. b))))
 
 pub escape_ahead : (p : Place) → 0 < length p.rest → Ahead 1 p (uri_escape p)
 escape_ahead p h =
-    rw (escape_is p) (bind_ahead 1 1 p (octet p) (λ c. cond (octet_width c.value == 0) (refuse BAD_LEAD_OCTET p) (with_front (c.value ∷ []) (next_octets (octet_width c.value - 1) c.end))) (octet_ahead 1 p (omega arith) (omega arith))
-    (λ x a. if_ahead (octet_width x.value == 0) 1 p (refuse BAD_LEAD_OCTET p) (with_front (x.value ∷ []) (next_octets (octet_width x.value - 1) x.end)) tt
-    (bind_ahead 1 1 p (next_octets (octet_width x.value - 1) x.end) (λ r. found (x.value ∷ r.value) r.end) (then_ahead 1 0 p x.end (next_octets (octet_width x.value - 1) x.end) a (next_ahead (octet_width x.value - 1) x.end)) (λ y b. b))))
+    rw (escape_is p) (bind_ahead 1 1 p (octet p) (λ c. cond (width_of c.value == 0) (refuse BAD_LEAD_OCTET p) (with_front (c.value ∷ []) (next_octets (width_of c.value - 1) c.end))) (octet_ahead 1 p (omega arith) (omega arith))
+    (λ x a. if_ahead (width_of x.value == 0) 1 p (refuse BAD_LEAD_OCTET p) (with_front (x.value ∷ []) (next_octets (width_of x.value - 1) x.end)) tt
+    (bind_ahead 1 1 p (next_octets (width_of x.value - 1) x.end) (λ r. found (x.value ∷ r.value) r.end) (then_ahead 1 0 p x.end (next_octets (width_of x.value - 1) x.end) a (next_ahead (width_of x.value - 1) x.end)) (λ y b. b))))
 
 -- each part takes a character or more
 pub uri_ahead : (listed : Bool) (p : Place) → PartAhead 1 p (uri_part listed p)

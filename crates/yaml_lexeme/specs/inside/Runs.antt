@@ -1,6 +1,6 @@
 -- Runs of characters of a class, and of the bytes that spell them.
 use Rattle.std.specs.Prelude.{ℕ, ◌≡◌, ◌≤◌, ◌/◌, Bool, true, false, not, ◌&&◌, ◌||◌, ◌==◌, if◌then◌else◌, List, []}
-use Rattle.std.specs.Prelude.{◌∷◌, codes, length, take}
+use Rattle.std.specs.Prelude.{◌∷◌, codes, length, take, nat_lt}
 use Rattle.std.specs.List.{list_all}
 use Rattle.yaml_text.specs.Classes.{is_blank, is_alpha}
 use Rattle.yaml_lexeme.specs.declared.runs.class_t.{class_t}
@@ -72,3 +72,7 @@ trim (c ∷ cs) = if list_all is_blank (c ∷ cs) then [] else c ∷ trim cs
 -- q is the place after some of the characters from p on that pass, without the blanks at their end.
 abbrev pub Stands : (ℕ → Bool) → Place → Place → Type 0
 Stands test p q = (n : ℕ) × ((n ≤ run_len test p) × (q ≡ skip (length (trim (take n p.rest))) p))
+
+-- characters of ASCII that belong to no gap
+abbrev pub is_solid : ℕ → Bool
+is_solid c = nat_lt 0x20 c && (nat_lt c 0x80 && not (c == 0x23))

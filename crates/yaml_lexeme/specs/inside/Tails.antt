@@ -9,7 +9,9 @@ use Rattle.yaml_lexeme.specs.declared.problem.yaml_refusal_t.{yaml_refusal_t}
 use Rattle.yaml_lexeme.specs.Place.{Place}
 use Rattle.yaml_lexeme.specs.Reading.{Read}
 use Rattle.yaml_lexeme.specs.inside.Gives.{Refuses}
-use Rattle.yaml_lexeme.specs.Block.{Blanks, Line, is_more_indented, or_none, or_space, is_line_feed}
+use Rattle.yaml_lexeme.specs.Block.{or_none, is_line_feed}
+use Rattle.yaml_lexeme.specs.Fold.{or_space}
+use Rattle.yaml_lexeme.specs.inside.BlockAhead.{Blanks, Line, is_more_indented}
 
 -- empty lines were read up to a mark: the greatest column of their spaces, and their breaks appended to `old`
 abbrev pub TakesBlanks : Result ℕ yaml_refusal_t → List ℕ → List ℕ → yaml_mark_t → Place → Read Blanks → Type 0

@@ -1,14 +1,16 @@
 -- Parts of a quoted body, and words of a plain scalar, that are read at once.
-use Rattle.std.specs.Prelude.{◌≡◌, ℕ, Bool, true, false, List, [], take, Result, Ok, Err}
+use Rattle.std.specs.Prelude.{◌≡◌, ℕ, Bool, true, false, List, [], take, Result, Ok, Err, ◌&&◌, ◌==◌, nat_lt, Option}
+use Rattle.std.specs.Prelude.{option_map, unwrap_or}
 use Rattle.yaml_text.specs.Chars.{utf8}
 use Rattle.yaml_lexeme.specs.declared.problem.yaml_refusal_t.{yaml_refusal_t}
 use Rattle.yaml_lexeme.specs.declared.runs.class_t.{class_t}
 use Rattle.yaml_lexeme.specs.declared.runs.class_t.TheVariants.{PLAIN, FLOW}
-use Rattle.yaml_lexeme.specs.Place.{Place, skip}
-use Rattle.yaml_lexeme.specs.Reading.{Read, found, ◌>>=◌, many, with_front}
+use Rattle.yaml_lexeme.specs.Place.{Place, skip, first}
+use Rattle.yaml_lexeme.specs.Reading.{Read, found, ◌>>=◌, many, with_front, refuse}
 use Rattle.yaml_lexeme.specs.Quoted.{body_part, spelled}
 use Rattle.yaml_lexeme.specs.Plain.{chunk, link}
 use Rattle.yaml_lexeme.specs.inside.Gives.{Refuses}
+use Rattle.yaml_lexeme.specs.declared.problem.yaml_problem_t.TheVariants.{TAB_IN_PLAIN}
 
 -- What is still to be read makes the same whole: after `old` from p on, and after `new` from q on.
 abbrev pub GoesOn : Bool → Place → List ℕ → Place → List ℕ → Type 0
@@ -54,3 +56,11 @@ abbrev pub LeavesMore : Result Bool yaml_refusal_t → Read (List ℕ) → Read 
 LeavesMore (Ok true) before after out q = before ≡ after
 LeavesMore (Ok false) before after out q = before ≡ found out q
 LeavesMore (Err e) before after out q = Refuses e q before
+
+-- a tab in indentation: at a column below `least`, in a separator with a break before it
+abbrev pub is_bad_tab : ℕ → Bool → Place → Bool
+is_bad_tab least broken p = (first p == 0x09 && broken) && nat_lt p.mark.column least
+
+-- this value, unless there is a tab in indentation
+abbrev pub untabbed : Option Place → List ℕ → Place → Read (List ℕ)
+untabbed tab value p = unwrap_or (option_map (λ t. refuse TAB_IN_PLAIN t) tab) (found value p)

@@ -2,7 +2,7 @@
 use Rattle.std.proofs.Common.{◌≡◌, ℕ, Bool, true, false, List, length, Option, Some, Ok, Err, refl, ap, sym, ◌∙◌, subst, arith, inl}
 use Rattle.std.specs.Prelude.{Result, nat_lt}
 use Rattle.std.proofs.lemmas.Bool.{false≢true}
-use Rattle.yaml_text.specs.Chars.{AreChars}
+use Rattle.yaml_text.specs.TextBytes.{AreChars}
 use Rattle.yaml_text.specs.Mark.{IsPlaceAt, mark_at, column}
 use Rattle.yaml_text.specs.declared.types.yaml_mark_t.{yaml_mark_t}
 use Rattle.yaml_lexeme.specs.declared.kind.yaml_lexeme_kind_t.TheVariants.{STREAM_END}

@@ -2,23 +2,21 @@
 use Rattle.std.proofs.Common.{◌≡◌, ℕ, zero, suc, ◌+◌, Bool, true, false, List, [], ◌∷◌, ◌++◌, Option, Some, None, Ok, Err, refl, sym, subst, arith, inl, inr}
 use Rattle.std.specs.Prelude.{◌⊎◌, ◌&&◌, Result, nat_lt, nat_eq, option_map, IfSome, if◌then◌else◌}
 use Rattle.std.proofs.lemmas.Bool.{cases_Bool}
+use Rattle.yaml_text.specs.Fault.{Fault}
 use Rattle.yaml_text.specs.declared.types.yaml_mark_t.{yaml_mark_t}
+use Rattle.yaml_scan.specs.inside.StepParts.{kind_step, read_step, after_read}
+use Rattle.yaml_scan.specs.Course.{ended, Cut, cut_from, cut_on, Input, Course, next, course, course_from}
 use Rattle.yaml_scan.specs.Kind.{Kind, is_stream_end, is_candidate_kind}
-use Rattle.yaml_scan.specs.Lexeme.{Lexeme}
-use Rattle.yaml_scan.specs.Laid.{Laid}
+use Rattle.yaml_scan.specs.Laid.{Laid, Lexeme}
 use Rattle.yaml_scan.specs.Keys.{candidate, live, only_live}
 use Rattle.yaml_scan.specs.Depth.{depth}
 use Rattle.yaml_scan.specs.Allowed.{allowed, allowed_after}
 use Rattle.yaml_scan.specs.Levels.{level, laid, is_required}
-use Rattle.yaml_scan.specs.Steps.{ended}
-use Rattle.yaml_scan.specs.Fault.{Fault}
 use Rattle.yaml_scan.specs.Source.{Source, Reading, Offence}
-use Rattle.yaml_scan.specs.Step.{Outcome, step, kind_step, read_step, after_read, front_of, place_after, unless}
+use Rattle.yaml_scan.specs.Step.{Outcome, step, front_of, place_after, unless}
 use Rattle.yaml_scan.specs.Step.{refuse, stale, only_stale, required, only_required, clears, replaces, refused}
 use Rattle.yaml_scan.specs.Step.{start_at, end_of, lexeme_of}
 use Rattle.yaml_scan.specs.Step.Outcome.{Reads, Faults}
-use Rattle.yaml_scan.specs.Steps.{Cut, cut_from, cut_on}
-use Rattle.yaml_scan.specs.Answers.{Input, Course, next, course, course_from}
 use Rattle.yaml_scan.specs.Near.{unless_near, is_near, place_of, starts_near}
 use Rattle.yaml_scan.specs.CountedMarks.{IsCounted, IsStreamEnd, FaultIsCounted}
 use Rattle.yaml_scan.proofs.History.KeyCandidates.{candidate_split}
@@ -165,7 +163,7 @@ module _ (cs : List ℕ) where
         go (i ∷ G) m e = (m.0.other e).3
 
     step_marked : ended H ≡ false → OutcomeMarked (step S limit H)
-    unfolding step
+    unfolding step read_step
     step_marked e =
         let w = s.gap (nat_lt 0 (depth H)) (allowed_after H) (place_after H) (after_whole e) in
         let p = front_of S H in

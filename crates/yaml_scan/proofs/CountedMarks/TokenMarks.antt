@@ -2,35 +2,35 @@
 use Rattle.std.proofs.Common.{◌≡◌, ℕ, zero, suc, ◌-◌, Bool, true, false, List, [], ◌∷◌, ◌++◌, map, drop, length, slice_get, Option, Some, None, refl, sym, ◌∙◌, subst, arith, inl, inr}
 use Rattle.std.specs.Prelude.{◌&&◌, nat_lt, nat_eq, IfSome, if◌then◌else◌}
 use Rattle.std.proofs.lemmas.Bool.{cases_Bool, false≢true}
+use Rattle.yaml_text.specs.Fault.{Fault}
 use Rattle.yaml_text.specs.Decode.{front, refusal, refusal_of, encoding_of, front_len}
 use Rattle.yaml_text.specs.declared.types.yaml_encoding_t.{yaml_encoding_t}
 use Rattle.yaml_text.specs.declared.types.yaml_mark_t.{yaml_mark_t}
 use Rattle.yaml_text.specs.declared.types.yaml_token_type_t.{yaml_token_type_t}
 use Rattle.yaml_text.specs.declared.types.yaml_token_type_t.TheVariants.{YAML_STREAM_END_TOKEN, YAML_BLOCK_END_TOKEN}
 use Rattle.yaml_text.proofs.Decodings.DecodeResults.{front_is}
+use Rattle.yaml_scan.specs.Course.{ended, Input, Course, course}
 use Rattle.yaml_scan.specs.Kind.{Kind, is_stream_end, is_block_entry, is_key, is_value}
-use Rattle.yaml_scan.specs.Lexeme.{Lexeme}
-use Rattle.yaml_scan.specs.Laid.{Laid, column, reach}
+use Rattle.yaml_scan.specs.Laid.{Laid, column, reach, Lexeme}
 use Rattle.yaml_scan.specs.Levels.{opens, is_above, is_completed}
 use Rattle.yaml_scan.specs.Order.{IsHistory}
-use Rattle.yaml_scan.specs.Steps.{ended}
-use Rattle.yaml_scan.specs.Fault.{Fault}
 use Rattle.yaml_scan.specs.Token.{type_of, empty, zero_mark}
 use Rattle.yaml_scan.specs.TokenTypes.{is_last_type}
 use Rattle.yaml_scan.specs.Groups.{Token, handed_out, offline, groups, group, block_ends, inserted, end_mark}
 use Rattle.yaml_scan.specs.Settled.{before}
 use Rattle.yaml_scan.specs.Groups.Token.{StreamStart, BlockEnd, BlockSequenceStart, BlockMappingStart, InsertedKey, OfLexeme}
-use Rattle.yaml_scan.specs.Answers.{Input, Course, course, tokens_of, answers}
+use Rattle.yaml_scan.specs.Answers.{answers}
 use Rattle.yaml_scan.specs.Inputs.{answers_to}
 use Rattle.yaml_scan.specs.Decoded.{decoded_input}
-use Rattle.yaml_scan.specs.Session.{Session, Call, next_token, answer, after, scan_answer, peek_answer, why}
+use Rattle.yaml_scan.specs.Session.{Session, Call, next_token, answer, after, why}
 use Rattle.yaml_scan.specs.Sessions.{session}
-use Rattle.yaml_scan.specs.Settled.{first_steps}
+use Rattle.yaml_scan.specs.Settled.{first_steps, tokens_of}
 use Rattle.yaml_scan.specs.Session.Call.{SCAN, PEEK, SKIP}
 use Rattle.yaml_scan.specs.Session.Answer.{TOKEN, PEEKED, SKIPPED, NOTHING}
 use Rattle.yaml_scan.specs.CountedMarks.{IsCounted, IsStreamEnd, HasMark, TokenIsCounted, TokensAreCounted}
 use Rattle.yaml_scan.specs.CountedMarks.{FaultIsCounted, AnswersAreCounted, AnswerIsCounted, AllAreCounted}
 use Rattle.yaml_scan.specs.CountedMarks.{SessionsAreCounted, ReachIsCounted}
+use Rattle.yaml_scan.proofs.SessionCalls.CallCases.{scan_answer, peek_answer}
 use Rattle.yaml_scan.proofs.Course.AnswerOrder.{Fits, TokenFits, TokensFit, fit_course}
 use Rattle.yaml_scan.proofs.History.LevelColumns.{completed_self, opens_self, opens_itself}
 use Rattle.yaml_scan.proofs.Course.CourseSteps.{course_is_history}

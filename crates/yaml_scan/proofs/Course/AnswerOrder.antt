@@ -7,20 +7,20 @@ use Rattle.std.proofs.lemmas.Bool.{cases_Bool, cases_lt, and_parts, or_left, or_
 use Rattle.std.proofs.lemmas.List.{take-map, take-append-le, take_all}
 use Rattle.yaml_text.specs.declared.types.yaml_mark_t.{yaml_mark_t}
 use Rattle.yaml_text.specs.declared.types.yaml_encoding_t.{yaml_encoding_t}
+use Rattle.yaml_scan.specs.Course.{Input, Course, course, course_from, next}
 use Rattle.yaml_scan.specs.Kind.{is_stream_end, is_key}
-use Rattle.yaml_scan.specs.Lexeme.{Lexeme}
 use Rattle.yaml_scan.specs.Token.{yaml_token_t, type_of}
 use Rattle.yaml_scan.specs.TokenTypes.{is_end_type, is_start_type, is_key_type}
-use Rattle.yaml_scan.specs.Laid.{Laid}
+use Rattle.yaml_scan.specs.Laid.{Laid, Lexeme}
 use Rattle.yaml_scan.specs.Groups.{Token, handed_out, group, groups, offline}
-use Rattle.yaml_scan.specs.Settled.{before}
+use Rattle.yaml_scan.specs.Settled.{before, tokens_of}
 use Rattle.yaml_scan.specs.Groups.Token.{StreamStart, BlockEnd, BlockSequenceStart, BlockMappingStart, InsertedKey}
 use Rattle.yaml_scan.specs.Groups.Token.{OfLexeme}
 use Rattle.yaml_scan.specs.Order.{IsHistory}
 use Rattle.yaml_scan.specs.Begins.{Begins}
 use Rattle.yaml_scan.specs.Step.{Outcome}
 use Rattle.yaml_scan.specs.Cut.{SaysKind, IsRun, KeepsOrder}
-use Rattle.yaml_scan.specs.Answers.{Input, Course, course, course_from, tokens_of, next, answers}
+use Rattle.yaml_scan.specs.Answers.{answers}
 use Rattle.yaml_scan.specs.Near.{starts_near}
 use Rattle.yaml_scan.specs.Laws.{is_block_end, is_block_start, ends_in, starts_in}
 use Rattle.yaml_scan.specs.TokenLaws.{start_of, end_of, AreInOrder, is_value_near, HasValue, KeysHaveValues}

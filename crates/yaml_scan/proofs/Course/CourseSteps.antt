@@ -1,25 +1,22 @@
 -- The steps of an input: how they end, which are near, and what they have to do with the cut.
+use Rattle.yaml_text.specs.Fault.{Fault}
 use Rattle.std.proofs.Common.{◌≡◌, ℕ, zero, suc, ◌+◌, ◌≤◌, ◌<◌, Bool, true, false, List, [], ◌∷◌, ◌++◌, length, length-append, slice_get, Option, Some, None, refl, ap, sym, ◌∙◌, subst, arith, inl, inr, lt-ltb, ltb-true, ltb-false, append_assoc}
 use Rattle.std.specs.Prelude.{option_map}
 use Rattle.std.proofs.lemmas.Bool.{cases_Bool, cases_lt, cond_both, false≢true}
-use Rattle.yaml_scan.specs.Lexeme.{Lexeme}
-use Rattle.yaml_scan.specs.Laid.{Laid}
+use Rattle.yaml_scan.specs.Course.{ended, Cut, cut_from, cut_on, oldest, Input, Course, next, course, course_from}
+use Rattle.yaml_scan.specs.Laid.{Laid, Lexeme}
 use Rattle.yaml_scan.specs.Levels.{laid}
 use Rattle.yaml_scan.specs.Groups.{Token, group, groups, offline, block_ends, inserted}
-use Rattle.yaml_scan.specs.Settled.{before}
+use Rattle.yaml_scan.specs.Settled.{before, tokens_of}
 use Rattle.yaml_scan.specs.Groups.Token.{OfLexeme}
 use Rattle.yaml_scan.specs.Order.{IsHistory}
-use Rattle.yaml_scan.specs.Steps.{ended}
-use Rattle.yaml_scan.specs.Fault.{Fault}
 use Rattle.yaml_scan.specs.Begins.{Begins}
 use Rattle.yaml_scan.specs.Source.{Offence}
 use Rattle.yaml_scan.specs.Step.{Outcome, step}
 use Rattle.yaml_scan.specs.Step.Outcome.{Reads, Faults}
 use Rattle.yaml_scan.specs.Cut.{cut, IsRun, EndsWith, KeepsOrder}
-use Rattle.yaml_scan.specs.Steps.{Cut, cut_from, cut_on, oldest}
-use Rattle.yaml_scan.specs.Answers.{Input, Course, next, course, course_from, tokens_of}
 use Rattle.yaml_scan.specs.Near.{unless_near, is_near, place_of, starts_near}
-use Rattle.yaml_scan.specs.Session.{Call, Session, next_token, is_last, after_scan, after_peek, after_skip}
+use Rattle.yaml_scan.specs.Session.{Call, Session, next_token, is_last}
 use Rattle.yaml_scan.specs.Sessions.{new_session}
 use Rattle.yaml_scan.specs.Session.{after}
 use Rattle.yaml_scan.specs.Sessions.{after_all}
@@ -28,6 +25,7 @@ use Rattle.yaml_scan.specs.Laws.{StepsBeginCut, CutIsOnly}
 use Rattle.yaml_scan.specs.SessionLaws.{CourseIsHistory, EndsOrFaults, NearStepIsRefused, FarStepIsItself, CourseIsRun}
 use Rattle.yaml_scan.specs.SessionLaws.{FaultOfRefused, RefusedHasFault, AcceptedIsCut, FrontIsCut, NoneIsStuck}
 use Rattle.yaml_scan.specs.SessionLaws.FaultOfRefused.{at_once, near, far}
+use Rattle.yaml_scan.proofs.SessionCalls.CallCases.{after_scan, after_peek, after_skip}
 use Rattle.yaml_scan.proofs.Course.LongestCut.{IsOrderly, orderly, IsHistory-from_run, cut_of, cut_is_longest}
 use Rattle.yaml_scan.proofs.TokenList.SettledStays.{before-before}
 use Rattle.yaml_scan.proofs.TokenList.OneLexemeMore.{all_is_handed_out}

@@ -1,16 +1,18 @@
 -- They hold for any bytes and setting.
 use Rattle.std.proofs.Common.{◌≡◌, ℕ, zero, suc, ◌+◌, ◌<◌, ◌≤◌, List, [], ◌∷◌, ◌++◌, map, length, slice_get, Option, Some, refl, ap, sym, ◌∙◌, arith, inl, inr}
 use Rattle.std.proofs.lemmas.List.{map-append}
+use Rattle.yaml_text.specs.Fault.{Fault}
 use Rattle.yaml_text.specs.declared.types.yaml_encoding_t.{yaml_encoding_t}
 use Rattle.yaml_text.specs.Decode.{front}
-use Rattle.yaml_text.specs.Chars.{AreChars}
+use Rattle.yaml_text.specs.TextBytes.{AreChars}
 use Rattle.yaml_text.proofs.Decodings.DecodeResults.{front_is}
-use Rattle.yaml_scan.specs.Fault.{Fault}
+use Rattle.yaml_scan.specs.Settled.{tokens_of}
+use Rattle.yaml_scan.specs.Course.{Input, course}
 use Rattle.yaml_scan.specs.Token.{yaml_token_t}
 use Rattle.yaml_scan.specs.Groups.{Token, handed_out}
 use Rattle.yaml_scan.specs.Begins.{Begins}
 use Rattle.yaml_scan.specs.SourceOf.{source_of}
-use Rattle.yaml_scan.specs.Answers.{Input, course, answers, tokens_of}
+use Rattle.yaml_scan.specs.Answers.{answers}
 use Rattle.yaml_scan.specs.Locality.{SameBelow, AgreesWith}
 use Rattle.yaml_scan.specs.Inputs.{answers_to, InputsKeepOrder, AllStandInOrder, AllEndFewer, AllEndAll}
 use Rattle.yaml_scan.specs.Decoded.{decoded_input}

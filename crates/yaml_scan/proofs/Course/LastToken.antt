@@ -3,15 +3,14 @@ use Rattle.std.proofs.Common.{◌≡◌, ℕ, zero, suc, ◌+◌, Bool, true, fa
 use Rattle.std.proofs.Common.{Some, None, refl, ap, sym, ◌∙◌, subst, arith, inl, inr, append_assoc}
 use Rattle.std.specs.Prelude.{option_map, if◌then◌else◌}
 use Rattle.std.proofs.lemmas.Bool.{cases_Bool, false≢true}
+use Rattle.yaml_scan.specs.Course.{ended, Input, course, course_from, next}
 use Rattle.yaml_scan.specs.Laid.{Laid}
 use Rattle.yaml_scan.specs.Order.{IsHistory}
-use Rattle.yaml_scan.specs.Steps.{ended}
 use Rattle.yaml_scan.specs.Groups.{Token, offline, groups, group, block_ends, inserted}
-use Rattle.yaml_scan.specs.Settled.{before}
+use Rattle.yaml_scan.specs.Settled.{before, tokens_of}
 use Rattle.yaml_scan.specs.Groups.Token.{OfLexeme}
 use Rattle.yaml_scan.specs.Source.{Offence}
 use Rattle.yaml_scan.specs.Cut.{EndsWith, KeepsOrder}
-use Rattle.yaml_scan.specs.Answers.{Input, course, course_from, tokens_of, next}
 use Rattle.yaml_scan.specs.Near.{starts_near}
 use Rattle.yaml_scan.specs.Session.{is_last}
 use Rattle.yaml_scan.proofs.TokenList.EveryToken.{Every, HoldsPutIn, every_append, every_front, every_lead}

@@ -3,20 +3,21 @@ use Rattle.std.proofs.Common.{◌≡◌, ℕ, Bool, true, false, not, ◌&&◌, 
 use Rattle.std.proofs.lemmas.Bool.{cases_Bool, and_parts, and_from}
 use Rattle.std.proofs.lemmas.List.{map-append}
 use Rattle.std.proofs.lemmas.List.Elements.{filter-append}
+use Rattle.yaml_text.specs.Fault.{Fault}
 use Rattle.yaml_text.specs.declared.types.yaml_mark_t.{yaml_mark_t}
 use Rattle.yaml_text.specs.declared.types.yaml_encoding_t.{yaml_encoding_t}
+use Rattle.yaml_scan.specs.Settled.{tokens_of}
+use Rattle.yaml_scan.specs.Course.{Input, course}
 use Rattle.yaml_scan.specs.Kind.{is_key}
-use Rattle.yaml_scan.specs.Lexeme.{Lexeme}
 use Rattle.yaml_scan.specs.Token.{yaml_token_t, type_of}
 use Rattle.yaml_scan.specs.TokenTypes.{is_key_type}
-use Rattle.yaml_scan.specs.Fault.{Fault}
-use Rattle.yaml_scan.specs.Laid.{Laid}
+use Rattle.yaml_scan.specs.Laid.{Laid, Lexeme}
 use Rattle.yaml_scan.specs.Groups.{Token, handed_out, offline}
 use Rattle.yaml_scan.specs.Groups.Token.{StreamStart, BlockEnd, BlockSequenceStart, BlockMappingStart, InsertedKey}
 use Rattle.yaml_scan.specs.Groups.Token.{OfLexeme}
 use Rattle.yaml_scan.specs.Begins.{Begins}
 use Rattle.yaml_scan.specs.Cut.{cut, KeepsOrder}
-use Rattle.yaml_scan.specs.Answers.{Input, course, tokens_of, answers}
+use Rattle.yaml_scan.specs.Answers.{answers}
 use Rattle.yaml_scan.specs.Laws.{is_of_lexeme}
 use Rattle.yaml_scan.specs.SessionLaws.{FaultOfRefused}
 use Rattle.yaml_scan.specs.SessionLaws.FaultOfRefused.{at_once, near, far}

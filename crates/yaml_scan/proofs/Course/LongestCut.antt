@@ -3,21 +3,20 @@ use Rattle.std.proofs.Common.{◌≡◌, ℕ, zero, suc, ◌+◌, ◌≤◌, ◌
 use Rattle.std.specs.Prelude.{nat_lt, Result, Ok, Err}
 use Rattle.std.proofs.lemmas.Bool.{cases_Bool}
 use Rattle.yaml_text.specs.declared.types.yaml_mark_t.{yaml_mark_t}
+use Rattle.yaml_scan.specs.inside.StepParts.{kind_step, read_step, after_read}
+use Rattle.yaml_scan.specs.Course.{ended, Cut, cut_from, cut_on}
 use Rattle.yaml_scan.specs.Kind.{Kind, is_stream_end}
-use Rattle.yaml_scan.specs.Lexeme.{Lexeme}
-use Rattle.yaml_scan.specs.Laid.{Laid, reach}
+use Rattle.yaml_scan.specs.Laid.{Laid, reach, Lexeme}
 use Rattle.yaml_scan.specs.Depth.{depth}
 use Rattle.yaml_scan.specs.Allowed.{allowed_after}
 use Rattle.yaml_scan.specs.Levels.{laid, level}
 use Rattle.yaml_scan.specs.Order.{Follows, IsHistory}
-use Rattle.yaml_scan.specs.Steps.{ended}
 use Rattle.yaml_scan.specs.Source.{Source, Reading, Offence}
-use Rattle.yaml_scan.specs.Step.{Outcome, place_after, step, kind_step, read_step, after_read, unless, refuse, stale}
+use Rattle.yaml_scan.specs.Step.{Outcome, place_after, step, unless, refuse, stale}
 use Rattle.yaml_scan.specs.Step.{refused, clears, start_at, lexeme_of, front_of}
 use Rattle.yaml_scan.specs.Laws.{CutIsLongest, CutIsHistory, CutIsShort}
 use Rattle.yaml_scan.specs.Step.Outcome.{Reads, Faults}
 use Rattle.yaml_scan.specs.Cut.{SaysKind, cut, IsRun, EndsWith, KeepsOrder}
-use Rattle.yaml_scan.specs.Steps.{Cut, cut_from, cut_on}
 
 -- WHAT A STEP READS
 unless_reads : (o : Option Laid) (m : yaml_mark_t) (p : ℕ) (y : Outcome) (x : Lexeme) → unless o m p y ≡ Reads x → y ≡ Reads x
@@ -60,7 +59,7 @@ module _ (S : Source) (limit : ℕ) (H : List Laid) (x : Lexeme) where
       of_reading k q _ refl b
 
   pub step_is : step S limit H ≡ Reads x → IsStepOf S H x
-  unfolding step
+  unfolding step read_step
   step_is e = of_kind _ refl (unless_reads (stale limit H (S.mark (front_of S H))) (S.mark (front_of S H)) (front_of S H) _ x e)
 
 -- THE ORDER OF STEPS

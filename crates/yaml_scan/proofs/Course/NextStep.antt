@@ -1,12 +1,10 @@
 -- The step after the first lexemes of a cut gives the next one of them, or its fault.
 use Rattle.std.proofs.Common.{◌≡◌, ℕ, suc, ◌+◌, ◌-◌, ◌≤◌, ◌<◌, false, List, [], ◌∷◌, length, Option, Some, None, refl, ap, sym, ◌∙◌, subst, arith, inl, inr}
 use Rattle.std.proofs.lemmas.Bool.{cases_eq, false≢true}
-use Rattle.yaml_scan.specs.Lexeme.{Lexeme}
-use Rattle.yaml_scan.specs.Laid.{Laid}
+use Rattle.yaml_scan.specs.Course.{ended, oldest}
+use Rattle.yaml_scan.specs.Laid.{Laid, Lexeme}
 use Rattle.yaml_scan.specs.Levels.{laid}
-use Rattle.yaml_scan.specs.Steps.{ended}
 use Rattle.yaml_scan.specs.Cut.{IsRun, EndsWith}
-use Rattle.yaml_scan.specs.Steps.{oldest}
 use Rattle.yaml_scan.specs.Source.{Offence}
 use Rattle.yaml_scan.specs.Step.{Outcome}
 use Rattle.yaml_scan.specs.Step.Outcome.{Reads, Faults}

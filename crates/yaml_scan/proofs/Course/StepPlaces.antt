@@ -3,14 +3,15 @@ use Rattle.std.proofs.Common.{◌≡◌, ℕ, ◌≤◌, false, List, [], ◌∷
 use Rattle.std.specs.Prelude.{nat_lt, Result, Ok, Err}
 use Rattle.std.proofs.lemmas.Bool.{cases_Bool}
 use Rattle.yaml_text.specs.declared.types.yaml_mark_t.{yaml_mark_t}
+use Rattle.yaml_scan.specs.inside.StepParts.{kind_step, read_step, after_read}
+use Rattle.yaml_scan.specs.Course.{ended}
 use Rattle.yaml_scan.specs.Kind.{Kind, is_stream_end}
 use Rattle.yaml_scan.specs.Laid.{Laid}
 use Rattle.yaml_scan.specs.Depth.{depth}
 use Rattle.yaml_scan.specs.Allowed.{allowed_after}
 use Rattle.yaml_scan.specs.Levels.{laid, level}
-use Rattle.yaml_scan.specs.Steps.{ended}
 use Rattle.yaml_scan.specs.Source.{Source, Reading, Offence}
-use Rattle.yaml_scan.specs.Step.{Outcome, place_after, step, kind_step, read_step, after_read, unless, refuse, stale}
+use Rattle.yaml_scan.specs.Step.{Outcome, place_after, step, unless, refuse, stale}
 use Rattle.yaml_scan.specs.Step.{refused, clears, start_at, lexeme_of, front_of}
 use Rattle.yaml_scan.specs.Step.Outcome.{Reads}
 use Rattle.yaml_scan.specs.Cut.{IsRun, KeepsOrder, IsReadInOrder}
@@ -55,7 +56,7 @@ module _ (S : Source) (k : KeepsOrder S) (limit : ℕ) (H : List Laid) (a : IsRe
       (unless_place (clears limit H c (S.mark G)) (start_at c (S.mark G)) G G (read_step S limit H c G) (omega arith) r)
 
   step_on : G ≤ place_of (step S limit H)
-  unfolding step
+  unfolding step read_step
   step_on = unless_place (stale limit H (S.mark G)) (S.mark G) G G _ (omega arith) (kind_place (S.kind (nat_lt 0 (depth H)) G) refl)
 
   pub step_place : place_after H ≤ place_of (step S limit H)

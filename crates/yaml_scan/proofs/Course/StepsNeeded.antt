@@ -1,13 +1,13 @@
 -- How many steps a token needs.
-use Rattle.std.proofs.Common.{◌≡◌, ℕ, ◌+◌, ◌-◌, ◌≤◌, ◌<◌, max, true, List, [], ◌∷◌, ◌++◌, length, length-append, length-drop, drop-drop, drop, refl, ap, sym, ◌∙◌, subst, arith, inl, inr, ltb, ltb-true, ltb-false, lt-ltb}
-use Rattle.std.specs.Prelude.{nat_lt}
-use Rattle.std.proofs.lemmas.Bool.{cases_Bool, cases_eq, cases_lt, and_from, and_parts}
+use Rattle.std.proofs.Common.{◌≡◌, ℕ, zero, suc, ◌+◌, ◌-◌, ◌≤◌, ◌<◌, max, true, false, List, [], ◌∷◌, ◌++◌, length, length-append, length-drop, drop-drop, drop, refl, ap, sym, ◌∙◌, subst, arith, inl, inr, append_assoc, ltb-true, ltb-false, lt-ltb}
+use Rattle.std.specs.Prelude.{nat_lt, Bool}
+use Rattle.std.proofs.lemmas.Bool.{cases_Bool, cases_eq, cases_lt, and_from, and_parts, false≢true}
 use Rattle.std.proofs.lemmas.List.{drop_at}
+use Rattle.yaml_scan.specs.Course.{oldest}
 use Rattle.yaml_scan.specs.Laid.{Laid}
 use Rattle.yaml_scan.specs.Settled.{before}
 use Rattle.yaml_scan.specs.Order.{IsHistory}
-use Rattle.yaml_scan.specs.Steps.{oldest}
-use Rattle.yaml_scan.specs.Settled.{settled, steps_for, pace, first_steps}
+use Rattle.yaml_scan.specs.Settled.{settled, least, steps_for, pace, first_steps}
 use Rattle.yaml_scan.specs.SessionLaws.{PaceSettles, PaceIsLeast}
 use Rattle.yaml_scan.proofs.TokenList.QueueBound.{length-begins}
 use Rattle.yaml_scan.proofs.TokenList.SettledStays.{before-before}
@@ -37,59 +37,7 @@ pub record IsPace (limit : ℕ) (H : List Laid) (t : ℕ) (s : ℕ) : Type 0 whe
   pub steps : s ≡ length done + 1
   pub settled : t < length (before limit H) → t < length (before limit done)
 
-pub steps_for_is : (limit : ℕ) (H : List Laid) (t : ℕ) → IsPace limit H t (steps_for limit H t)
-unfolding steps_for
-steps_for_is limit [] t = record { later = []; done = []; is = refl; steps = omega arith; settled = λ l. l }
-steps_for_is limit (i ∷ H) t = elim (cases_Bool (ltb t (length (before limit H)))) [
-  | inl q ↦ (let r = steps_for_is limit H t in rw q record { later = i ∷ r.later; done = r.done; is = ap (λ (X : List Laid). i ∷ X) r.is; steps = r.steps; settled = λ l. r.settled (ltb-true _ _ q) })
-  | inr q ↦ rw q record { later = []; done = i ∷ H; is = refl; steps = omega arith; settled = λ l. l }
-]
-
-pub steps_for_least : (limit : ℕ) (Y : List Laid) (i : Laid) (P : List Laid) (t : ℕ) → steps_for limit (Y ++ i ∷ P) t ≡ length P + 2 → length (before limit P) ≤ t
-unfolding steps_for
-steps_for_least limit [] i P t e = elim (cases_Bool (ltb t (length (before limit P)))) [
-  | inl q ↦ (let r = steps_for_is limit P t in let f : steps_for limit P t ≡ length P + 2 = rw q at e in let l = length-append r.later r.done in let m = ap (λ (X : List Laid). length X) r.is in absurd (omega (arith, r.steps)))
-  | inr q ↦ ltb-false _ _ q
-]
-steps_for_least limit (j ∷ Y) i P t e = elim (cases_Bool (ltb t (length (before limit (Y ++ i ∷ P))))) [
-  | inl q ↦ steps_for_least limit Y i P t (rw q at e)
-  | inr q ↦ (let f : length (Y ++ i ∷ P) + 2 ≡ length P + 2 = rw q at e in let l = length-append Y (i ∷ P) in absurd (omega arith))
-]
-
-pub at_most : (limit : ℕ) (H : List Laid) (t : ℕ) → steps_for limit H t ≤ length H + 1
-unfolding steps_for
-at_most limit [] t = omega arith
-at_most limit (i ∷ H) t = let r = at_most limit H t in elim (cases_Bool (ltb t (length (before limit H)))) [ inl q ↦ rw q (omega arith) | inr q ↦ rw q (omega arith) ]
-
--- settled after k lexemes: as many steps are enough
-pub enough : (limit : ℕ) (H : List Laid) (t k : ℕ) → IsHistory limit H → k ≤ length H → t < length (before limit (oldest k H)) → steps_for limit H t ≤ k + 1
-unfolding steps_for
-enough limit [] t k h l s = omega arith
-enough limit (i ∷ H) t k h l s = elim (cases_eq k (length (i ∷ H))) [
-  | inl e ↦ (let m = at_most limit (i ∷ H) t in omega arith)
-  | inr e ↦ (let o = oldest_tail i H k (omega arith) in
-      let u : t < length (before limit (oldest k H)) = rw o at s in
-      let g = grows limit H k h.2 (omega arith) in
-      let v : ltb t (length (before limit H)) ≡ true = lt-ltb _ _ (omega arith) in
-      rw v (enough limit H t k h.2 (omega arith) u))
-]
-
--- and not settled: more are needed
-pub needs_more : (limit : ℕ) (H : List Laid) (t k : ℕ) → k < length H → length (before limit (oldest k H)) ≤ t → k + 1 < steps_for limit H t
-unfolding steps_for
-needs_more limit [] t k l s = absurd (omega arith)
-needs_more limit (i ∷ H) t k l s = elim (cases_Bool (ltb t (length (before limit H)))) [
-  | inr q ↦ rw q (omega arith)
-  | inl q ↦ (let o = oldest_tail i H k (omega arith) in
-      let u : length (before limit (oldest k H)) ≤ t = rw o at s in
-      let b = ltb-true _ _ q in
-      rw q (elim (cases_eq k (length H)) [
-        | inl e ↦ (let w : length (before limit H) ≤ t = subst (λ (X : List Laid). length (before limit X) ≤ t) (oldest_all H k e) u in absurd (omega arith))
-        | inr e ↦ needs_more limit H t k (omega arith) u
-      ]))
-]
-
--- THE LAWS
+-- HISTORIES
 drop_none : (n : ℕ) (H : List Laid) → n ≡ 0 → drop n H ≡ H
 drop_none n H e = rw e refl
 
@@ -118,6 +66,109 @@ settled_from limit H t k s h p l a b = and_from _ _ (lt-ltb 0 s p) (lt-ltb t (le
       omega arith)
 ]))
 
+-- THE LEAST NUMBER
+least_range : (test : ℕ → Bool) (n k : ℕ) → (n ≤ least test n k) × (least test n k ≤ n + k)
+unfolding least
+least_range test n zero = (omega arith, omega arith)
+least_range test n (suc k) = let r = least_range test (n + 1) k in elim (cases_Bool (test n)) [ inl q ↦ rw q (omega arith, omega arith) | inr q ↦ rw q (omega arith, omega arith) ]
+
+least_passes : (test : ℕ → Bool) (n k : ℕ) → least test n k < n + k → test (least test n k) ≡ true
+unfolding least
+least_passes test n zero l = absurd (omega arith)
+least_passes test n (suc k) l = elim (cases_Bool (test n)) [
+  | inl q ↦ rw q q
+  | inr q ↦ (let m : least test (n + 1) k < n + suc k = rw q at l in rw q (least_passes test (n + 1) k (omega arith)))
+]
+
+least_first : (test : ℕ → Bool) (n k m : ℕ) → n ≤ m → m < least test n k → test m ≡ false
+unfolding least
+least_first test n zero m a l = absurd (omega arith)
+least_first test n (suc k) m a l = elim (cases_Bool (test n)) [
+  | inl q ↦ (let b : m < n = rw q at l in absurd (omega arith))
+  | inr q ↦ (let b : m < least test (n + 1) k = rw q at l in elim (cases_eq m n) [
+    | inl e ↦ rw e q
+    | inr e ↦ least_first test (n + 1) k m (omega arith) b
+  ])
+]
+
+pub at_least : (limit : ℕ) (H : List Laid) (t : ℕ) → 1 ≤ steps_for limit H t
+unfolding steps_for
+at_least limit H t = (least_range (settled limit H t) 1 (length H)).0
+
+pub at_most : (limit : ℕ) (H : List Laid) (t : ℕ) → steps_for limit H t ≤ length H + 1
+unfolding steps_for
+at_most limit H t = let r = (least_range (settled limit H t) 1 (length H)).1 in omega arith
+
+-- unless these are all steps, they settle the token
+settles : (limit : ℕ) (H : List Laid) (t : ℕ) → steps_for limit H t ≤ length H → settled limit H t (steps_for limit H t) ≡ true
+unfolding steps_for
+settles limit H t l = least_passes (settled limit H t) 1 (length H) (omega arith)
+
+-- fewer do not
+not_before : (limit : ℕ) (H : List Laid) (t n : ℕ) → 1 ≤ n → n < steps_for limit H t → settled limit H t n ≡ false
+unfolding steps_for
+not_before limit H t n a l = least_first (settled limit H t) 1 (length H) n a l
+
+-- in the words of lists
+settled_is : (limit : ℕ) (H : List Laid) (t n : ℕ) → settled limit H t n ≡ true → t < length (before limit (oldest (n - 1) H))
+settled_is limit H t n e = ltb-true t (length (before limit (oldest (n - 1) H))) (and_parts (nat_lt 0 n) (nat_lt t (length (before limit (first_steps n H)))) e).1
+
+unsettled_is : (limit : ℕ) (H : List Laid) (t n : ℕ) → 0 < n → settled limit H t n ≡ false → length (before limit (oldest (n - 1) H)) ≤ t
+unsettled_is limit H t n p e = elim (cases_Bool (nat_lt t (length (before limit (first_steps n H))))) [
+  | inl q ↦ absurd (false≢true (sym e ∙ and_from _ _ (lt-ltb 0 n p) q))
+  | inr q ↦ ltb-false _ _ q
+]
+
+pub steps_for_is : (limit : ℕ) (H : List Laid) (t : ℕ) → IsPace limit H t (steps_for limit H t)
+steps_for_is limit H t =
+    let s = steps_for limit H t in
+    let a = at_least limit H t in
+    let b = at_most limit H t in
+    let r = split H (s - 1) (omega arith) in
+    let n = oldest_length H (s - 1) (omega arith) in
+    record {
+      later = r.0;
+      done = oldest (s - 1) H;
+      is = r.1;
+      steps = omega arith;
+      settled = λ l. elim (cases_lt (length H) s) [
+        | inl x ↦ (let e : oldest (s - 1) H ≡ H = oldest_all H (s - 1) (omega arith) in rw e l)
+        | inr x ↦ settled_is limit H t s (settles limit H t x)
+      ];
+    }
+
+pub steps_for_least : (limit : ℕ) (Y : List Laid) (i : Laid) (P : List Laid) (t : ℕ) → steps_for limit (Y ++ i ∷ P) t ≡ length P + 2 → length (before limit P) ≤ t
+steps_for_least limit Y i P t e =
+    let H : List Laid = Y ++ i ∷ P in
+    let f = unsettled_is limit H t (length P + 1) (omega arith) (not_before limit H t (length P + 1) (omega arith) (omega arith)) in
+    let g : oldest (length P) ((Y ++ i ∷ []) ++ P) ≡ P = oldest_of (Y ++ i ∷ []) P in
+    let h : (Y ++ i ∷ []) ++ P ≡ H = append_assoc Y (i ∷ []) P in
+    let m : length P + 1 - 1 ≡ length P = omega arith in
+    subst (λ (X : List Laid). length (before limit X) ≤ t) (ap (λ (n : ℕ). oldest n H) m ∙ ap (λ (X : List Laid). oldest (length P) X) (sym h) ∙ g) f
+
+-- settled after k lexemes: as many steps are enough
+pub enough : (limit : ℕ) (H : List Laid) (t k : ℕ) → k ≤ length H → t < length (before limit (oldest k H)) → steps_for limit H t ≤ k + 1
+enough limit H t k l s = elim (cases_lt (k + 1) (steps_for limit H t)) [
+  | inr x ↦ x
+  | inl x ↦ (let u = unsettled_is limit H t (k + 1) (omega arith) (not_before limit H t (k + 1) (omega arith) x) in
+      let m : k + 1 - 1 ≡ k = omega arith in
+      let v = ap (λ (n : ℕ). length (before limit (oldest n H))) m in
+      absurd (omega arith))
+]
+
+-- and not settled: more are needed
+pub needs_more : (limit : ℕ) (H : List Laid) (t k : ℕ) → IsHistory limit H → k < length H → length (before limit (oldest k H)) ≤ t → k + 1 < steps_for limit H t
+needs_more limit H t k h l s = elim (cases_lt (k + 1) (steps_for limit H t)) [
+  | inl x ↦ x
+  | inr x ↦ (let a = at_least limit H t in
+      let b = settled_is limit H t (steps_for limit H t) (settles limit H t (omega arith)) in
+      let c = settled_is limit H t (k + 1) (settled_from limit H t (steps_for limit H t - 1) (k + 1) h (omega arith) (omega arith) b (omega arith)) in
+      let m : k + 1 - 1 ≡ k = omega arith in
+      let v = ap (λ (n : ℕ). length (before limit (oldest n H))) m in
+      absurd (omega arith))
+]
+
+-- THE LAWS
 pub pace_settles : PaceSettles
 unfolding pace
 pace_settles limit H t s h l =
@@ -134,5 +185,5 @@ pace_is_least limit H t s r h l e m =
     let p = and_parts (nat_lt 0 r) (nat_lt t (length (before limit (first_steps r H)))) e in
     let a = ltb-true 0 r p.0 in
     let b = ltb-true t (length (before limit (first_steps r H))) p.1 in
-    let f = enough limit H t (r - 1) h (omega arith) b in
+    let f = enough limit H t (r - 1) (omega arith) b in
     (omega arith, omega arith)

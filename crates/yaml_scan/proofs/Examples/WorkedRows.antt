@@ -1,15 +1,17 @@
 -- What the definitions give for lexemes that are written as data.
 use Rattle.std.specs.Prelude.{◌≡◌, ℕ, ◌+◌, ◌-◌, pos, Bool, true, false, List, [], ◌∷◌, Option, Some, None, Result, Ok, Err, codes, nat_eq, nat_le, if◌then◌else◌}
 use Rattle.std.proofs.Common.{refl}
+use Rattle.yaml_text.specs.Fault.{Fault, scanner_fault}
 use Rattle.yaml_text.specs.declared.types.yaml_mark_t.{yaml_mark_t}
 use Rattle.yaml_text.specs.declared.types.yaml_encoding_t.TheVariants.{YAML_UTF8_ENCODING}
 use Rattle.yaml_text.specs.declared.types.yaml_error_type_t.TheVariants.{YAML_READER_ERROR}
 use Rattle.yaml_text.specs.declared.types.yaml_scalar_style_t.TheVariants.{YAML_PLAIN_SCALAR_STYLE, YAML_DOUBLE_QUOTED_SCALAR_STYLE}
 use Rattle.yaml_text.specs.Token.{TokenData as token}
+use Rattle.yaml_scan.specs.inside.StepParts.{read_step}
+use Rattle.yaml_scan.specs.Course.{next, course}
 use Rattle.yaml_scan.specs.Kind.{Kind}
 use Rattle.yaml_lexeme.specs.declared.kind.yaml_lexeme_kind_t.TheVariants.{STREAM_END, FLOW_SEQUENCE_START, FLOW_MAPPING_START, FLOW_SEQUENCE_END, FLOW_MAPPING_END, FLOW_ENTRY, BLOCK_ENTRY, KEY, VALUE, ANCHOR, TAG, DOUBLE_QUOTED, PLAIN}
 use Rattle.yaml_scan.specs.Token.{yaml_token_t, unnamed_yaml_token_t_data, zero_mark, at_mark, empty}
-use Rattle.yaml_scan.specs.Fault.{Fault, scanner_fault}
 use Rattle.yaml_scan.specs.Source.{Source, Reading, Offence}
 use Rattle.yaml_scan.specs.Depth.{depth}
 use Rattle.yaml_scan.specs.Allowed.{allowed}
@@ -18,11 +20,11 @@ use Rattle.yaml_scan.specs.Levels.{is_completed, opens, still_open, open_columns
 use Rattle.yaml_scan.specs.Groups.{block_ends, inserted, group, groups, offline}
 use Rattle.yaml_scan.specs.Settled.{is_current, waiting, up_to, before}
 use Rattle.yaml_scan.specs.Sessions.{queued}
-use Rattle.yaml_scan.specs.Step.{required, stale, refused, clears, read_step, step, end_of}
-use Rattle.yaml_scan.specs.Answers.{Answers, next, course, answers}
+use Rattle.yaml_scan.specs.Step.{required, stale, refused, clears, step, end_of}
+use Rattle.yaml_scan.specs.Answers.{Answers, answers}
 use Rattle.yaml_scan.specs.Session.{Call, Answer}
 use Rattle.yaml_scan.specs.Sessions.{new_session, session, after_all, session_queued, session_reach}
-use Rattle.yaml_scan.specs.Settled.{steps_for, pace}
+use Rattle.yaml_scan.specs.Settled.{least, steps_for, pace}
 use Rattle.yaml_scan.specs.Session.Call.{SCAN, PEEK, SKIP}
 use Rattle.yaml_scan.specs.Session.Answer.{TOKEN, PEEKED, SKIPPED, NOTHING, FAULT}
 
@@ -702,12 +704,12 @@ limit_one_required = refl
 
 -- SESSIONS
 called : ℕ → ℕ → List ℕ → List Entry → List Call → List Answer
-unfolding session pace steps_for answers course next step read_step required stale refused clears before up_to waiting is_current offline groups group inserted block_ends laid level kept_columns open_columns still_open opens is_completed completed_by candidate allowed depth
+unfolding session pace steps_for least answers course next step read_step required stale refused clears before up_to waiting is_current offline groups group inserted block_ends laid level kept_columns open_columns still_open opens is_completed completed_by candidate allowed depth
 called limit size starts es calls = session YAML_UTF8_ENCODING limit (course limit (record { encoding = YAML_UTF8_ENCODING; source = source size starts es; refusal = None })) calls new_session
 
 -- how many steps are queued, and how far the last one was read
 seen : ℕ → ℕ → List ℕ → List Entry → List Call → ℕ × yaml_mark_t
-unfolding after_all queued pace steps_for course next step read_step required stale refused clears before up_to waiting is_current offline groups group inserted block_ends laid level kept_columns open_columns still_open opens is_completed completed_by candidate allowed depth
+unfolding after_all queued pace steps_for least course next step read_step required stale refused clears before up_to waiting is_current offline groups group inserted block_ends laid level kept_columns open_columns still_open opens is_completed completed_by candidate allowed depth
 seen limit size starts es calls =
     let c = course limit (record { encoding = YAML_UTF8_ENCODING; source = source size starts es; refusal = None }) in
     let s = after_all limit c calls new_session in

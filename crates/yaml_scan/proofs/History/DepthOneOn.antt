@@ -2,7 +2,8 @@
 use Rattle.std.proofs.Common.{◌≡◌, ℕ, suc, ◌+◌, ◌-◌, max, true, false, List, [], ◌∷◌, map, length, filter, refl, ap, arith}
 use Rattle.yaml_scan.specs.Kind.{is_flow_start, is_flow_end}
 use Rattle.yaml_scan.specs.Laid.{Laid}
-use Rattle.yaml_scan.specs.Depth.{depth, ends, unclosed, greatest}
+use Rattle.yaml_lexeme.specs.Greatest.{greatest}
+use Rattle.yaml_scan.specs.Depth.{depth, ends, unclosed}
 
 step_more : (s e g h : ℕ) → max 1 g ≡ max 1 (h + 1) → max 1 (max (suc s - e) g) ≡ max 1 (max (s - e) h + 1)
 step_more s e g h k = omega arith

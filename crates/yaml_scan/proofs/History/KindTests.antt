@@ -3,7 +3,7 @@ use Rattle.std.proofs.Common.{◌≡◌, Bool, true, false, arith}
 use Rattle.yaml_scan.specs.Kind.{Kind, is_key, is_value, is_plain, is_stream_end, is_block_entry, is_candidate_kind}
 use Rattle.yaml_scan.specs.Kind.{is_flow_start, is_flow_end, closes_all, invites_key}
 use Rattle.yaml_scan.specs.Levels.{opens_level}
-use Rattle.yaml_lexeme.specs.Lex.{decides}
+use Rattle.yaml_lexeme.specs.Decider.{decides}
 
 pub value_not_candidate : (k : Kind) → is_value k ≡ true → is_candidate_kind k ≡ false
 value_not_candidate k e = grind arith

@@ -5,9 +5,8 @@ use Rattle.std.proofs.lemmas.Bool.{cases_Bool, and_parts, and_from, eqb-false, f
 use Rattle.std.proofs.lemmas.List.{map-append}
 use Rattle.std.proofs.lemmas.List.Elements.{filter-append}
 use Rattle.yaml_scan.specs.Kind.{is_value, closes_all}
-use Rattle.yaml_scan.specs.Lexeme.{Lexeme}
 use Rattle.yaml_text.specs.declared.types.yaml_mark_t.{yaml_mark_t}
-use Rattle.yaml_scan.specs.Laid.{Laid, column, reach}
+use Rattle.yaml_scan.specs.Laid.{Laid, column, reach, Lexeme}
 use Rattle.yaml_scan.specs.Depth.{depth}
 use Rattle.yaml_scan.specs.Keys.{live, is_candidate}
 use Rattle.yaml_scan.specs.Order.{IsHistory, IsNotBefore}

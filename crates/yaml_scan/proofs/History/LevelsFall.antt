@@ -3,11 +3,10 @@ use Rattle.std.proofs.Common.{◌≡◌, ℕ, ◌≤◌, ◌<◌, max, not, ◌&
 use Rattle.std.specs.Prelude.{if◌then◌else◌, nat_eq}
 use Rattle.std.proofs.lemmas.Bool.{cases_Bool, and_parts, false≢true, leb-true, le-leb, lt-ltb, or_right}
 use Rattle.yaml_scan.specs.Kind.{is_value, closes_all}
-use Rattle.yaml_scan.specs.Lexeme.{Lexeme}
 use Rattle.yaml_scan.specs.Levels.{is_opener, is_above, keeps, open_columns, kept_columns, level}
 use Rattle.yaml_scan.specs.Falling.{AllLess, IsFalling}
 use Rattle.yaml_scan.specs.Levels.{greatest_level, greater_of}
-use Rattle.yaml_scan.specs.Laid.{Laid, column}
+use Rattle.yaml_scan.specs.Laid.{Laid, column, Lexeme}
 use Rattle.yaml_scan.specs.Depth.{depth}
 use Rattle.yaml_scan.specs.Keys.{is_candidate}
 use Rattle.yaml_scan.specs.Order.{IsHistory}

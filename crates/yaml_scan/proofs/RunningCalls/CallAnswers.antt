@@ -4,31 +4,30 @@ use Rattle.std.specs.Prelude.{◌⊎◌, if◌then◌else◌}
 use Rattle.std.proofs.lemmas.Bool.{cases_lt, false≢true}
 use Rattle.yaml_text.specs.declared.types.yaml_encoding_t.{yaml_encoding_t}
 use Rattle.yaml_text.specs.declared.fault.yaml_fault_t.{yaml_fault_t}
-use Rattle.yaml_text.specs.Fault.{Fault, fault_of}
+use Rattle.yaml_text.specs.Fault.{Fault, fault_of, memory_fault}
+use Rattle.yaml_scan.specs.Course.{ended, Input, Course, course}
 use Rattle.yaml_scan.specs.declared.scanner.scanner_t.{scanner_t}
 use Rattle.yaml_scan.specs.Token.{yaml_token_t, empty, type_of}
 use Rattle.yaml_scan.specs.TokenTypes.{is_last_type}
 use Rattle.yaml_scan.specs.Laid.{Laid, reach}
-use Rattle.yaml_scan.specs.Steps.{ended}
 use Rattle.yaml_scan.specs.Groups.{Token, offline, groups, group, block_ends, inserted, handed_out}
 use Rattle.yaml_scan.specs.Settled.{before}
 use Rattle.yaml_scan.specs.Groups.Token.{StreamStart, BlockEnd, BlockSequenceStart, BlockMappingStart, InsertedKey, OfLexeme}
-use Rattle.yaml_scan.specs.Answers.{Input, Course, course, tokens_of}
 use Rattle.yaml_scan.specs.Near.{starts_near}
-use Rattle.yaml_scan.specs.Session.{Session, Call, Answer, all_steps, next_token, is_last, after, took, paced}
-use Rattle.yaml_scan.specs.Session.{looked, why, scan_answer, peek_answer, after_scan, after_peek, after_skip}
-use Rattle.yaml_scan.specs.Settled.{pace, first_steps}
+use Rattle.yaml_scan.specs.Session.{Session, Call, Answer, all_steps, next_token, is_last, after}
+use Rattle.yaml_scan.specs.Session.{why}
+use Rattle.yaml_scan.specs.Settled.{pace, first_steps, tokens_of}
 use Rattle.yaml_scan.specs.Session.Call.{SCAN, PEEK, SKIP}
 use Rattle.yaml_scan.specs.Session.Answer.{TOKEN, PEEKED, FAULT}
 use Rattle.yaml_scan.specs.Decoded.{decoded_input}
 use Rattle.yaml_scan.specs.inside.Scanning.{IsOpen, history, course_of, input_of}
 use Rattle.yaml_scan.specs.inside.Ready.{IsIn, IsShown, IsSettled, IsStopped, IsShort, IsEnded, Pops, course_in}
-use Rattle.yaml_scan.specs.Parser.{Parser, answered, after_call}
-use Rattle.yaml_scan.specs.ParserCalls.{told, IsThere, IsRefusedEarly}
+use Rattle.yaml_scan.specs.Parser.{Parser, course_by}
+use Rattle.yaml_scan.specs.ParserCalls.{scan_result, IsThere, IsRefusedEarly, input_read, course_read, answered, after_call}
 use Rattle.yaml_scan.specs.Headline.{Calls, WantsMemory}
 use Rattle.yaml_scan.specs.inside.Shown.{Shows}
-use Rattle.yaml_scan.specs.Parser.{course_read, input_read}
 use Rattle.yaml_scan.specs.ParserCalls.{token_shown, token_or_empty}
+use Rattle.yaml_scan.proofs.SessionCalls.CallCases.{took, paced, looked, scan_answer, peek_answer, after_scan, after_peek, after_skip}
 use Rattle.yaml_scan.proofs.Course.AnswerOrder.{TokenFits, TokensFit, AllFit, course_fits, fit_before}
 use Rattle.yaml_scan.proofs.TokenList.OneLexemeMore.{all_is_handed_out}
 use Rattle.yaml_scan.proofs.RunningCalls.StepsMade.{enough_made}
@@ -151,11 +150,11 @@ module _ (setting : yaml_encoding_t) (input : List ℕ) (s t u : scanner_t) (x :
     P = record { input = input; setting = setting; limit = s.limit; session = showing }
 
     pub take_told : x ≡ token_shown P
-    unfolding course_read
+    unfolding course_by
     take_told = token_told ∙ sym (ap (λ (o : Option Token). token_or_empty (decoded_input setting input).encoding o) token_next)
 
     pub take_left : (o : Bool) → o ≡ is_last_type (type_of x.token_data) → record { input = input; setting = setting; limit = u.limit; session = record { taken = u.taken; steps = u.made; peeked = false; over = o; fault = fault } } ≡ after_call P SKIP
-    unfolding course_read
+    unfolding course_by
     take_left o e =
         same_parser input setting u.limit s.limit u.taken (s.taken + 1) u.made s.made o (is_last p.token) fault (p.limit ∙ k.limit) (let a = p.taken in let b = k.taken in omega arith) (p.made ∙ m) (e ∙ last_is)
         ∙ ap (λ (z : Session). record { input = input; setting = setting; limit = s.limit; session = z }) (sym (ap (λ (z : Option Token). after_skip showing z) token_next))
@@ -221,16 +220,16 @@ module _ (setting : yaml_encoding_t) (input : List ℕ) (s t : scanner_t) (k : I
     same_shown l l' n n' m m' a b c = λ i. record { input = input; setting = setting; limit = a i; session = record { taken = b i; steps = c i; peeked = true; over = false; fault = fault } }
 
     show_left : now_shown ≡ after_call O PEEK
-    unfolding course_read
+    unfolding course_by
     show_left = same_shown t.limit s.limit t.taken s.taken t.made (pace s.limit D.read s.taken s.made) k.limit k.taken k.made
         ∙ ap (λ (z : Session). record { input = input; setting = setting; limit = s.limit; session = z }) (sym (ap (λ (z : Option Token). after_peek s.limit D opened z) token_some.1))
 
     answer_is : answered O PEEK ≡ PEEKED (handed_out (decoded_input setting input).encoding token_some.0)
-    unfolding course_read
+    unfolding course_by
     answer_is = ap (λ (z : Option Token). peek_answer (decoded_input setting input).encoding D z) token_some.1
 
     shown_is : token_shown now_shown ≡ handed_out (decoded_input setting input).encoding token_some.0
-    unfolding course_read
+    unfolding course_by
     shown_is = ap (λ (n : ℕ). token_or_empty (decoded_input setting input).encoding (slice_get (tokens_of n (course_in n setting input)) t.taken)) k.limit
         ∙ ap (λ (n : ℕ). token_or_empty (decoded_input setting input).encoding (slice_get (tokens_of s.limit D) n)) k.taken
         ∙ ap (λ (z : Option Token). token_or_empty (decoded_input setting input).encoding z) token_some.1
@@ -255,7 +254,7 @@ module _ (setting : yaml_encoding_t) (input : List ℕ) (s : scanner_t) (k : IsS
       ∙ sym (ap (λ (o : Option Token). token_or_empty (decoded_input setting input).encoding o) next_is)
 
   pub head_shown : (peeked over : Bool) (fault : Option Fault) → peeked ≡ true → (q : Parser) → q ≡ record { input = input; setting = setting; limit = s.limit; session = record { taken = s.taken; steps = s.made; peeked = peeked; over = over; fault = fault } } → x ≡ token_shown q
-  unfolding course_read
+  unfolding course_by
   head_shown peeked over fault e q r = told_is
       ∙ sym (ap (λ (b : Bool). if b then token_or_empty (decoded_input setting input).encoding (slice_get (tokens_of s.limit (course_in s.limit setting input)) s.taken) else empty) e)
       ∙ ap token_shown (sym r)
@@ -264,15 +263,18 @@ module _ (setting : yaml_encoding_t) (input : List ℕ) (s : scanner_t) (k : IsS
 pub show_over : (p : Parser) → p.session.over ≡ true → p.session.peeked ≡ false → Shows p true p
 show_over p o k = inl (rw (k, o) refl, rw o refl)
 
-pub scan_over : (p : Parser) → p.session.over ≡ true → Calls SCAN p (TOKEN empty) p
+pub scan_over : (p : Parser) → p.session.over ≡ true → Calls decoded_input SCAN p (TOKEN empty) p
 scan_over p o = inl (rw o refl, rw o refl)
+
+otherwise : {A : Type 0} (b : Bool) (x y : A) → b ≡ false → (if b then x else y) ≡ y
+otherwise b x y e = rw e refl
 
 -- a scan is a peek and a skip
 take_after_peek : (limit : ℕ) (c : Course) (s : Session) (y : Token) → s.over ≡ false → next_token limit c s ≡ Some y → after limit c SKIP (after limit c PEEK s) ≡ after limit c SCAN s
 take_after_peek limit c s y o n =
-    let a : after limit c PEEK s ≡ looked (paced limit c s) = rw (o, n) refl in
-    let b : after limit c SKIP (looked (paced limit c s)) ≡ took y (paced limit c s) = rw n refl in
-    let d : after limit c SCAN s ≡ took y (paced limit c s) = rw (o, n) refl in
+    let a : after limit c PEEK s ≡ looked (paced limit c s) = otherwise s.over s (after_peek limit c s (next_token limit c s)) o ∙ ap (λ (z : Option Token). after_peek limit c s z) n in
+    let b : after limit c SKIP (looked (paced limit c s)) ≡ took y (paced limit c s) = ap (λ (z : Option Token). after_skip (looked (paced limit c s)) z) n in
+    let d : after limit c SCAN s ≡ took y (paced limit c s) = otherwise s.over s (after_scan limit c s (next_token limit c s)) o ∙ ap (λ (z : Option Token). after_scan limit c s z) n in
     ap (λ (z : Session). after limit c SKIP z) a ∙ b ∙ sym d
 
 peeked_token : (e : yaml_encoding_t) (c : Course) (o : Option Token) (x : yaml_token_t) → PEEKED x ≡ peek_answer e c o → (y : Token) × (o ≡ Some y) × (x ≡ handed_out e y)
@@ -286,9 +288,6 @@ peeked_token e c (Some y) x q = (y, refl, cc)
 no_token : (e : yaml_encoding_t) (c : Course) (o : Option Token) (f : Fault) → FAULT f ≡ peek_answer e c o → o ≡ None
 no_token e c None f q = refl
 no_token e c (Some y) f q = absurd (cc)
-
-otherwise : {A : Type 0} (b : Bool) (x y : A) → b ≡ false → (if b then x else y) ≡ y
-otherwise b x y e = rw e refl
 
 module _ (p q : Parser) (o : p.session.over ≡ false) where
   abbrev next : Option Token
@@ -315,10 +314,10 @@ module _ (p q : Parser) (o : p.session.over ≡ false) where
   is_peeked (inr a) = absurd (let n = a.0 in cc)
 
   taken_after : (y : Token) → next ≡ Some y → after_call (after_call p PEEK) SKIP ≡ after_call p SCAN
-  unfolding course_read
+  unfolding course_by
   taken_after y n = ap (λ (z : Session). record { input = p.input; setting = p.setting; limit = p.limit; session = z }) (take_after_peek p.limit (course_read p) p.session y o n)
 
-  pub scan_shown : (x : yaml_token_t) (r : Parser) → Shows p true q → x ≡ token_shown q → r ≡ after_call q SKIP → Calls SCAN p (TOKEN x) r
+  pub scan_shown : (x : yaml_token_t) (r : Parser) → Shows p true q → x ≡ token_shown q → r ≡ after_call q SKIP → Calls decoded_input SCAN p (TOKEN x) r
   scan_shown x r (inl a) e f = (let y = shown_token (token_shown q) a.0 in
       inl (
         ap TOKEN (e ∙ y.2) ∙ sym (open_scan ∙ ap (λ (n : Option Token). scan_answer (input_read p).encoding (course_read p) n) y.1),
@@ -336,7 +335,7 @@ module _ (p q : Parser) (o : p.session.over ≡ false) where
       (left_peek ∙ ap (λ (z : Option Token). after_peek p.limit (course_read p) p.session z) n
       ∙ sym (left_scan ∙ ap (λ (z : Option Token). after_scan p.limit (course_read p) p.session z) n))
 
-  pub scan_not_shown : (f : yaml_fault_t) → Calls PEEK p (FAULT (fault_of f)) q → Calls SCAN p (told (Err f)) q
+  pub scan_not_shown : (f : yaml_fault_t) → Calls decoded_input PEEK p (FAULT (fault_of f)) q → Calls decoded_input SCAN p (scan_result (Err f)) q
   scan_not_shown f (inr a) = inr (a.0, a.1, λ e. absurd (cc))
   scan_not_shown f (inl a) = (let n = no_token (input_read p).encoding (course_read p) next (fault_of f) (a.0 ∙ open_peek) in inl (a.0 ∙ same_answer n, a.1 ∙ same_left n))
 
@@ -344,8 +343,8 @@ some_fault : (a b : Fault) → Some a ≡ Some b → a ≡ b
 some_fault a b e = cc
 
 -- the fault that ended the session is the answer to the peek
-pub fault_shown : (p q : Parser) (f : Fault) → Shows p false q → q.session.fault ≡ Some f → Calls PEEK p (FAULT f) q
-fault_shown p q f w e = subst (λ (x : Fault). Calls PEEK p (FAULT x) q) (some_fault w.0 f (sym w.1 ∙ e)) w.2
+pub fault_shown : (p q : Parser) (f : Fault) → Shows p false q → q.session.fault ≡ Some f → Calls decoded_input PEEK p (FAULT f) q
+fault_shown p q f w e = subst (λ (x : Fault). Calls decoded_input PEEK p (FAULT x) q) (some_fault w.0 f (sym w.1 ∙ e)) w.2
 
 get_none : (xs : List Token) (n : ℕ) → length xs ≤ n → slice_get xs n ≡ None
 get_none [] n l = refl
@@ -367,25 +366,34 @@ module _ (setting : yaml_encoding_t) (input : List ℕ) (s t : scanner_t) (peeke
     none_next = get_none (tokens_of s.limit (course_in s.limit setting input)) s.taken e.none
 
     fault_told : FAULT (fault_of f) ≡ answered open_parser PEEK
-    unfolding course_read
+    unfolding course_by
     fault_told = ap why (sym e.fault) ∙ sym (ap (λ (o : Option Token). peek_answer (decoded_input setting input).encoding (course_in s.limit setting input) o) none_next)
 
     fault_left : stopped ≡ after_call open_parser PEEK
-    unfolding course_read
+    unfolding course_by
     fault_left =
         same_stopped input setting t.limit s.limit t.taken s.taken t.made (all_steps (course_in s.limit setting input)) (Some (fault_of f)) (course_in s.limit setting input).fault z.limit z.taken e.made (sym e.fault)
         ∙ ap (λ (x : Session). record { input = input; setting = setting; limit = s.limit; session = x }) (sym (ap (λ (x : Option Token). after_peek s.limit (course_in s.limit setting input) before_fault x) none_next))
 
-  wants : IsShort setting input s (fault_of f) → peeked ≡ false → WantsMemory open_parser stopped
-  unfolding course_read
-  wants m n = record { input = refl; setting = refl; limit = z.limit; taken = z.taken; least = z.least; most = z.most; unsettled = z.unsettled; peeked = refl; over = refl; fault = ap Some m.fault; in_utf8 = m.in_utf8; was_open = refl; was_not_peeked = n }
+  wants : IsShort setting input s (fault_of f) → peeked ≡ false → WantsMemory decoded_input open_parser stopped
+  unfolding course_by
+  wants m n = record {
+    steps = t.made;
+    is = same_stopped input setting t.limit s.limit t.taken s.taken t.made t.made (Some (fault_of f)) (Some memory_fault) z.limit z.taken refl (ap Some m.fault);
+    least = z.least;
+    most = z.most;
+    unsettled = z.unsettled;
+    in_utf8 = m.in_utf8;
+    was_open = refl;
+    was_not_peeked = n;
+  }
 
-  pub show_fault : IsShort setting input s (fault_of f) ⊎ IsEnded setting input s t (fault_of f) → peeked ≡ false → Calls PEEK open_parser (FAULT (fault_of f)) stopped
+  pub show_fault : IsShort setting input s (fault_of f) ⊎ IsEnded setting input s t (fault_of f) → peeked ≡ false → Calls decoded_input PEEK open_parser (FAULT (fault_of f)) stopped
   show_fault (inl m) n = inr (ap FAULT m.fault, wants m n, λ e. absurd (cc))
   show_fault (inr e) n = inl (fault_told e, fault_left e)
 
-  pub show_fault_on : (q : Parser) → q ≡ open_parser → IsShort setting input s (fault_of f) ⊎ IsEnded setting input s t (fault_of f) → peeked ≡ false → Calls PEEK q (FAULT (fault_of f)) stopped
-  show_fault_on q r e n = subst (λ (x : Parser). Calls PEEK x (FAULT (fault_of f)) stopped) (sym r) (show_fault e n)
+  pub show_fault_on : (q : Parser) → q ≡ open_parser → IsShort setting input s (fault_of f) ⊎ IsEnded setting input s t (fault_of f) → peeked ≡ false → Calls decoded_input PEEK q (FAULT (fault_of f)) stopped
+  show_fault_on q r e n = subst (λ (x : Parser). Calls decoded_input PEEK x (FAULT (fault_of f)) stopped) (sym r) (show_fault e n)
 
   pub show_fault_of : (q : Parser) → q ≡ open_parser → IsShort setting input s (fault_of f) ⊎ IsEnded setting input s t (fault_of f) → peeked ≡ false → Shows q false stopped
   show_fault_of q r e n = (fault_of f, refl, show_fault_on q r e n)
@@ -397,7 +405,7 @@ pub shown_session : (p : Parser) → p.session.over ≡ false → p.session.peek
 shown_session p o k = λ i. record { input = p.input; setting = p.setting; limit = p.limit; session = record { taken = p.session.taken; steps = p.session.steps; peeked = k i; over = o i; fault = p.session.fault } }
 
 -- no memory is taken for what is there
-pub bare : (call : Call) (p : Parser) (a : Answer) (q : Parser) → Calls call p a q → IsThere p → (a ≡ answered p call) × (q ≡ after_call p call)
+pub bare : (call : Call) (p : Parser) (a : Answer) (q : Parser) → Calls decoded_input call p a q → IsThere p → (a ≡ answered p call) × (q ≡ after_call p call)
 bare call p a q (inl r) t = r
 bare call p a q (inr r) (inl t) = absurd (let w = r.1 in false≢true (sym w.was_not_peeked ∙ t))
 bare call p a q (inr r) (inr t) = absurd (let w = r.1 in false≢true (sym w.was_open ∙ t))
@@ -407,10 +415,10 @@ pub not_begun : (limit : ℕ) (input : Input) → starts_near input.source.size 
 unfolding course
 not_begun limit input e = rw e refl
 
-pub wants_late : (p q : Parser) → WantsMemory p q → IsRefusedEarly (input_read p) → ⊥
-unfolding course_read
+pub wants_late : (p q : Parser) → WantsMemory decoded_input p q → IsRefusedEarly (input_read p) → ⊥
+unfolding course_by
 wants_late p q w e = false≢true (sym (not_begun p.limit (input_read p) e.1) ∙ w.in_utf8 e.0)
 
-pub early : (call : Call) (p : Parser) (a : Answer) (q : Parser) → Calls call p a q → IsRefusedEarly (input_read p) → (a ≡ answered p call) × (q ≡ after_call p call)
+pub early : (call : Call) (p : Parser) (a : Answer) (q : Parser) → Calls decoded_input call p a q → IsRefusedEarly (input_read p) → (a ≡ answered p call) × (q ≡ after_call p call)
 early call p a q (inl r) e = r
 early call p a q (inr r) e = absurd (wants_late p q r.1 e)

@@ -7,21 +7,20 @@ use Rattle.yaml_text.specs.declared.fault.yaml_fault_t.{yaml_fault_t}
 use Rattle.yaml_text.specs.declared.types.yaml_encoding_t.{yaml_encoding_t}
 use Rattle.yaml_text.specs.Fault.{Fault, memory_fault}
 use Rattle.yaml_text.specs.Text.{Text}
+use Rattle.yaml_scan.specs.Course.{oldest, ended, Course, Input, course}
 use Rattle.yaml_scan.specs.declared.fault.stop_t.{stop_t}
 use Rattle.yaml_scan.specs.declared.fault.stop_t.TheVariants.{SINK}
 use Rattle.yaml_scan.specs.declared.scanner.scanner_t.{scanner_t}
 use Rattle.yaml_scan.specs.All.{AllOf, AreSettled, ReadsAll}
-use Rattle.yaml_scan.specs.Answers.{Course, Input, course, tokens_of, answers}
+use Rattle.yaml_scan.specs.Answers.{answers}
 use Rattle.yaml_scan.specs.Begins.{Begins}
-use Rattle.yaml_scan.specs.Steps.{oldest}
 use Rattle.yaml_scan.specs.Groups.{Token, handed_out, offline}
 use Rattle.yaml_scan.specs.Inputs.{answers_to}
 use Rattle.yaml_scan.specs.Decoded.{decoded_input}
 use Rattle.yaml_scan.specs.Laid.{Laid}
-use Rattle.yaml_scan.specs.Steps.{ended}
 use Rattle.yaml_scan.specs.Session.{is_last}
 use Rattle.yaml_scan.specs.Sessions.{settled_tokens}
-use Rattle.yaml_scan.specs.Settled.{before}
+use Rattle.yaml_scan.specs.Settled.{before, tokens_of}
 use Rattle.yaml_scan.specs.Sink.{IsGivenAll, IsGivenFront}
 use Rattle.yaml_scan.specs.Token.{yaml_token_t, type_of}
 use Rattle.yaml_scan.specs.TokenTypes.{is_last_type}

@@ -6,27 +6,28 @@ use Rattle.std.proofs.lemmas.Bool.{false≢true}
 use Rattle.std.proofs.lemmas.List.Folds.{list_any-append}
 use Rattle.yaml_text.specs.declared.types.yaml_encoding_t.{yaml_encoding_t}
 use Rattle.yaml_text.specs.declared.fault.yaml_fault_t.{yaml_fault_t}
-use Rattle.yaml_scan.specs.Fault.{Fault, memory_fault}
-use Rattle.yaml_text.specs.Fault.{fault_of}
+use Rattle.yaml_scan.specs.Course.{Input, Course, course}
+use Rattle.yaml_text.specs.Fault.{fault_of, Fault, memory_fault}
 use Rattle.yaml_scan.specs.Token.{yaml_token_t, type_of}
 use Rattle.yaml_scan.specs.TokenTypes.{is_last_type}
 use Rattle.yaml_scan.specs.Begins.{Begins}
 use Rattle.yaml_scan.specs.Groups.{Token, handed_out}
-use Rattle.yaml_scan.specs.Answers.{Input, Course, course, tokens_of, answers}
+use Rattle.yaml_scan.specs.Answers.{answers}
 use Rattle.yaml_scan.specs.Inputs.{answers_to}
 use Rattle.yaml_scan.specs.Decoded.{decoded_input}
 use Rattle.yaml_scan.specs.Session.{Session, Call, Answer, all_steps, is_last, next_token}
 use Rattle.yaml_scan.specs.Sessions.{settled_tokens, new_session}
-use Rattle.yaml_scan.specs.Session.{why, scan_answer, after_scan, paced, took, after}
+use Rattle.yaml_scan.specs.Session.{why, after}
 use Rattle.yaml_scan.specs.Sessions.{after_all}
-use Rattle.yaml_scan.specs.Settled.{settled, pace}
+use Rattle.yaml_scan.specs.Settled.{settled, pace, tokens_of}
 use Rattle.yaml_scan.specs.Session.Call.{SCAN}
 use Rattle.yaml_scan.specs.Session.Answer.{TOKEN, FAULT}
-use Rattle.yaml_scan.specs.Parser.{Parser, answered, after_call, course_read, input_read}
-use Rattle.yaml_scan.specs.ParserCalls.{told}
+use Rattle.yaml_scan.specs.Parser.{Parser, course_by}
+use Rattle.yaml_scan.specs.ParserCalls.{scan_result, input_read, course_read, answered, after_call}
 use Rattle.yaml_scan.specs.Headline.{WantsMemory, Calls}
 use Rattle.yaml_scan.specs.Scanned.{Scanned}
 use Rattle.yaml_scan.specs.All.{AllOf, AreSettled, ReadsAll}
+use Rattle.yaml_scan.proofs.SessionCalls.CallCases.{scan_answer, after_scan, paced, took}
 use Rattle.yaml_scan.proofs.Course.AnswerOrder.{fit_course}
 use Rattle.yaml_scan.proofs.Course.CourseSteps.{none_is_stuck}
 use Rattle.yaml_scan.proofs.Course.InputLaws.{inputs_keep_order}
@@ -126,7 +127,7 @@ module _ (limit : ℕ) (setting : yaml_encoding_t) (input : List ℕ) where
     input_same = rw (h.input_is, h.setting_is) refl
 
     course_same : course_read q ≡ C
-    unfolding course_read
+    unfolding course_by
     course_same = rw (h.input_is, h.setting_is, h.limit_is) refl
 
     -- the answer, with the parser's own words
@@ -157,7 +158,7 @@ module _ (limit : ℕ) (setting : yaml_encoding_t) (input : List ℕ) where
       is : x ≡ handed_out I.encoding token
       left : r ≡ after_call q SCAN
 
-    next_is : (x : yaml_token_t) (r : Parser) → Calls SCAN q (TOKEN x) r → IsNextToken x r
+    next_is : (x : yaml_token_t) (r : Parser) → Calls decoded_input SCAN q (TOKEN x) r → IsNextToken x r
     next_is x r (inr w) = absurd (no_fault x memory_fault w.0)
     next_is x r (inl w) = go (next_token limit C S) refl (w.0 ∙ answer_same)
       where
@@ -166,7 +167,7 @@ module _ (limit : ℕ) (setting : yaml_encoding_t) (input : List ℕ) where
         go None e k = let f = stuck e in absurd (no_fault x f.0 (k ∙ ap why f.1))
 
     -- one token more
-    pub scans_on : (x : yaml_token_t) (r : Parser) (last : Bool) → last ≡ is_last_type (type_of x.token_data) → Calls SCAN q (TOKEN x) r → HasScanned r (tokens ++ x ∷ []) last × (r.session.taken ≡ S.taken + 1)
+    pub scans_on : (x : yaml_token_t) (r : Parser) (last : Bool) → last ≡ is_last_type (type_of x.token_data) → Calls decoded_input SCAN q (TOKEN x) r → HasScanned r (tokens ++ x ∷ []) last × (r.session.taken ≡ S.taken + 1)
     scans_on x r last l w = (
       record {
         input_is = ap (λ (z : Parser). z.input) n.left ∙ h.input_is;
@@ -212,22 +213,22 @@ module _ (limit : ℕ) (setting : yaml_encoding_t) (input : List ℕ) where
     no_token x f e = cc
 
     -- a growth was refused
-    scans_short : (r : Parser) → WantsMemory q r → AreSettled limit setting input tokens
+    scans_short : (r : Parser) → WantsMemory decoded_input q r → AreSettled limit setting input tokens
     unfolding answers_to answers
     scans_short r w = record {
       steps = S.steps;
       within = h.steps_within;
-      tokens_are = h.tokens_are ∙ ap (λ (z : List Token). map (handed_out I.encoding) z) (all_taken limit I (inputs_keep_order setting input) S.taken S.steps r.session.steps h.steps_within w.least h.are_settled unsettled);
+      tokens_are = h.tokens_are ∙ ap (λ (z : List Token). map (handed_out I.encoding) z) (all_taken limit I (inputs_keep_order setting input) S.taken S.steps w.steps h.steps_within w.least h.are_settled unsettled);
       beginning = scans_begin q tokens false h;
       in_utf8 = λ u. sym (ap (λ (c : Course). c.begun) course_same) ∙ w.in_utf8 (ap (λ (i : Input). i.encoding) input_same ∙ u);
       no_end = h.no_end refl;
     }
       where
-        unsettled : settled limit C.read S.taken r.session.steps ≡ false
-        unsettled = sym (ap (λ (c : Course). settled q.limit c.read S.taken r.session.steps) course_same ∙ ap (λ (n : ℕ). settled n C.read S.taken r.session.steps) h.limit_is) ∙ w.unsettled
+        unsettled : settled limit C.read S.taken w.steps ≡ false
+        unsettled = sym (ap (λ (c : Course). settled q.limit c.read S.taken w.steps) course_same ∙ ap (λ (n : ℕ). settled n C.read S.taken w.steps) h.limit_is) ∙ w.unsettled
 
     -- a fault
-    pub scans_fault : (f : yaml_fault_t) (r : Parser) → Calls SCAN q (told (Err f)) r → ReadsAll limit setting input tokens (Some (fault_of f))
+    pub scans_fault : (f : yaml_fault_t) (r : Parser) → Calls decoded_input SCAN q (scan_result (Err f)) r → ReadsAll limit setting input tokens (Some (fault_of f))
     unfolding answers_to answers
     scans_fault f r (inr w) = inr (scans_short r w.1, ap Some (fault_same (fault_of f) memory_fault w.0))
     scans_fault f r (inl w) = inl (go (next_token limit C S) refl (w.0 ∙ answer_same))

@@ -3,16 +3,14 @@ use Rattle.std.proofs.Common.{◌≡◌, ℕ, ◌-◌, ◌≤◌, ◌<◌, Bool,
 use Rattle.std.specs.Prelude.{◌⊎◌, Ok, Err}
 use Rattle.std.proofs.lemmas.Bool.{cases_lt}
 use Rattle.yaml_text.specs.Fault.{memory_fault}
+use Rattle.yaml_scan.specs.Course.{oldest, ended, Course}
 use Rattle.yaml_scan.specs.declared.fault.stop_t.{stop_t}
 use Rattle.yaml_scan.specs.declared.groups.group_t.{group_t}
 use Rattle.yaml_scan.specs.declared.scanner.scanner_t.{scanner_t}
 use Rattle.yaml_scan.specs.Begins.{Begins}
-use Rattle.yaml_scan.specs.Steps.{oldest}
-use Rattle.yaml_scan.specs.Answers.{Course}
 use Rattle.yaml_scan.specs.Groups.{Token, offline}
 use Rattle.yaml_scan.specs.Laid.{Laid}
 use Rattle.yaml_scan.specs.Order.{IsHistory}
-use Rattle.yaml_scan.specs.Steps.{ended}
 use Rattle.yaml_scan.specs.Settled.{before, pace, steps_for}
 use Rattle.yaml_scan.specs.Token.{yaml_token_t}
 use Rattle.yaml_scan.specs.inside.Given.{HasGiven}
@@ -117,7 +115,7 @@ module _ (a s : scanner_t) (g : Goes a s) (o : IsOpen a) (l : length (before s.l
         let n = e.made in
         let w = h.runs.within in
         let f = fewer_before (t.made - 2) (omega arith) in
-        let k = needs_more t.limit (course_of t).read (t.taken - 1) (t.made - 2) (omega arith) (omega arith) in
+        let k = needs_more t.limit (course_of t).read (t.taken - 1) (t.made - 2) (read_history t h.runs) (omega arith) (omega arith) in
         omega arith
 
     last_has : steps_for t.limit (course_of t).read (t.taken - 1) ≤ t.made
@@ -128,7 +126,7 @@ module _ (a s : scanner_t) (g : Goes a s) (o : IsOpen a) (l : length (before s.l
         let i = ap (λ (n : ℕ). length (before n (history m))) e.limit in
         let w = ap (λ (X : List Token). length X) whole in
         let v = all_taken in
-        let k = enough t.limit (course_of t).read (t.taken - 1) (t.made - 1) (read_history t h.runs) (inside t h.runs) (omega arith) in
+        let k = enough t.limit (course_of t).read (t.taken - 1) (t.made - 1) (inside t h.runs) (omega arith) in
         let b = h.runs.begun in
         omega arith
 

@@ -6,24 +6,24 @@ use Rattle.std.proofs.lemmas.Bool.{false≢true}
 use Rattle.std.proofs.lemmas.List.{append_cancel_left, length-map, length-take-le, map-append}
 use Rattle.std.proofs.lemmas.List.Folds.{list_any-append}
 use Rattle.yaml_text.specs.declared.types.yaml_encoding_t.{yaml_encoding_t}
+use Rattle.yaml_scan.specs.Course.{oldest, Course, Input, course}
 use Rattle.yaml_scan.specs.declared.scanner.scanner_t.{scanner_t}
-use Rattle.yaml_scan.specs.Answers.{Course, Input, course, tokens_of}
-use Rattle.yaml_scan.specs.Steps.{oldest}
 use Rattle.yaml_scan.specs.Groups.{Token, handed_out}
 use Rattle.yaml_scan.specs.Decoded.{decoded_input}
 use Rattle.yaml_scan.specs.Order.{IsHistory}
 use Rattle.yaml_scan.specs.Parser.{Parser}
 use Rattle.yaml_scan.specs.Scanned.{Scanned}
-use Rattle.yaml_scan.specs.Session.{Call, Session, after, after_scan, all_steps, is_last, next_token, paced, took}
+use Rattle.yaml_scan.specs.Session.{Call, Session, after, all_steps, is_last, next_token}
 use Rattle.yaml_scan.specs.Sessions.{after_all, new_session}
 use Rattle.yaml_scan.specs.Session.Call.{SCAN}
-use Rattle.yaml_scan.specs.Settled.{before, pace, steps_for}
+use Rattle.yaml_scan.specs.Settled.{before, pace, steps_for, tokens_of}
 use Rattle.yaml_scan.specs.Token.{yaml_token_t}
 use Rattle.yaml_scan.specs.inside.Given.{all_in}
 use Rattle.yaml_scan.specs.inside.Handed.{is_end}
 use Rattle.yaml_scan.specs.inside.Ready.{course_in}
 use Rattle.yaml_scan.specs.inside.Scanning.{course_of, history}
 use Rattle.yaml_scan.specs.inside.Sent.{HasSent}
+use Rattle.yaml_scan.proofs.SessionCalls.CallCases.{after_scan, paced, took}
 use Rattle.yaml_scan.proofs.Course.AnswerOrder.{TokensFit, fit_course}
 use Rattle.yaml_scan.proofs.Course.InputLaws.{inputs_keep_order}
 use Rattle.yaml_scan.proofs.Course.StepsNeeded.{enough, grows}
@@ -162,7 +162,7 @@ module _ (limit : ℕ) (setting : yaml_encoding_t) (input : List ℕ) (s t : sca
   steps_few i l =
       let h = subst (λ (c : Course). IsHistory t.limit c.read) course_t (read_history t k.stands.runs) in
       let a = settled_t in
-      let b = enough limit C.read i (t.made - 1) (subst (λ (n : ℕ). IsHistory n C.read) (k.limit ∙ e) h) inside_t (omega arith) in
+      let b = enough limit C.read i (t.made - 1) inside_t (omega arith) in
       let d = k.stands.runs.begun in
       omega arith
 

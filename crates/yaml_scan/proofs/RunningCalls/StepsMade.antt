@@ -2,15 +2,13 @@
 use Rattle.std.proofs.Common.{◌≡◌, ℕ, ◌+◌, ◌-◌, ◌≤◌, ◌<◌, true, false, List, [], ◌∷◌, length, refl, ap, sym, ◌∙◌, subst, arith, inl, inr}
 use Rattle.std.proofs.lemmas.Bool.{cases_Bool, cases_eq, false≢true}
 use Rattle.yaml_text.specs.Fault.{Fault}
+use Rattle.yaml_scan.specs.Course.{ended, oldest, Course, next}
 use Rattle.yaml_scan.specs.declared.scanner.scanner_t.{scanner_t}
 use Rattle.yaml_scan.specs.Laid.{Laid, reach}
-use Rattle.yaml_scan.specs.Steps.{ended}
 use Rattle.yaml_scan.specs.Settled.{before}
 use Rattle.yaml_scan.specs.Groups.{offline}
 use Rattle.yaml_scan.specs.Step.{Outcome}
 use Rattle.yaml_scan.specs.Cut.{IsRun}
-use Rattle.yaml_scan.specs.Steps.{oldest}
-use Rattle.yaml_scan.specs.Answers.{Course, next}
 use Rattle.yaml_scan.specs.Settled.{steps_for, pace}
 use Rattle.yaml_scan.specs.inside.Scanning.{IsRunning, Steps, StepsOn, StepsTwice, IsLast, Stays, Same, IsOpen, Fails, Stops, history, course_of}
 use Rattle.yaml_scan.specs.inside.Scanning.{input_of}
@@ -48,7 +46,7 @@ module _ (s : scanner_t) (r : IsRunning s) where
 
   pub enough_made : s.taken < length (before s.limit (history s)) → steps_for s.limit (course_of s).read s.taken ≤ s.made
   unfolding history
-  enough_made l = let e = enough s.limit (course_of s).read s.taken (s.made - 1) (read_history s r) (inside s r) l in let b = r.begun in omega arith
+  enough_made l = let e = enough s.limit (course_of s).read s.taken (s.made - 1) (inside s r) l in let b = r.begun in omega arith
 
   more_needed : (t : scanner_t) → Steps s t → length (before s.limit (history s)) ≤ s.taken → s.made + 1 ≤ steps_for s.limit (course_of s).read s.taken
   unfolding history
@@ -57,7 +55,7 @@ module _ (s : scanner_t) (r : IsRunning s) where
       let c = ap (λ (x : Course). length x.read) (course_same s t u.same) in
       let m = u.made in
       let b = r.begun in
-      let m = needs_more s.limit (course_of s).read s.taken (s.made - 1) (omega arith) l in omega arith
+      let m = needs_more s.limit (course_of s).read s.taken (s.made - 1) (read_history s r) (omega arith) l in omega arith
 
 module _ (s t : scanner_t) (r : IsRunning t) (S : Same s t) where
   course_is : course_of t ≡ course_of s
@@ -93,7 +91,7 @@ module _ (s t : scanner_t) (r : IsRunning t) (S : Same s t) where
       let w = k.runs.within in
       let c = ap (λ (x : Course). length x.read) (course_same t u k.same) in
       let m = k.made in
-      let e = needs_more t.limit (course_of t).read t.taken t.made (omega arith) k.needed in
+      let e = needs_more t.limit (course_of t).read t.taken t.made (read_history t r) (omega arith) k.needed in
       let d = steps_is in
       omega arith
 

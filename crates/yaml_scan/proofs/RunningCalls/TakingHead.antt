@@ -1,5 +1,6 @@
 -- The head of the queue is the next token of the list, and taking it leaves the rest.
 use Rattle.std.proofs.Common.{◌≡◌, ℕ, zero, suc, ◌+◌, ◌-◌, ◌<◌, ◌^◌, List, [], ◌∷◌, ◌++◌, length, drop, slice_get, Some, refl, ap, sym, ◌∙◌, subst, arith}
+use Rattle.yaml_scan.specs.Course.{Course}
 use Rattle.yaml_scan.specs.declared.scanner.scanner_t.{scanner_t}
 use Rattle.yaml_scan.specs.Token.{yaml_token_t}
 use Rattle.yaml_scan.specs.Laid.{Laid}
@@ -8,7 +9,6 @@ use Rattle.yaml_scan.specs.Groups.{Token, offline}
 use Rattle.yaml_scan.specs.Settled.{before}
 use Rattle.yaml_scan.specs.inside.Queue.{IsQueue, Takes}
 use Rattle.yaml_scan.specs.inside.Scanning.{Holds, IsRunning, history, course_of}
-use Rattle.yaml_scan.specs.Answers.{Course}
 use Rattle.yaml_scan.specs.inside.Ready.{Pops}
 use Rattle.yaml_scan.proofs.TokenList.QueueBound.{length-begins}
 use Rattle.yaml_scan.proofs.TokenList.SettledStays.{before-before, before-offline}

@@ -1,13 +1,12 @@
 -- From a scanner that is ready to its next token.
-use Rattle.std.proofs.Common.{◌≡◌, ℕ, ◌+◌, ◌-◌, ◌≤◌, ◌<◌, ◌&&◌, Bool, true, false, List, [], ◌∷◌, ◌++◌, length, refl, ap, sym, ◌∙◌, arith, inl, inr, ltb, le-ltb}
-use Rattle.std.proofs.lemmas.Bool.{cases_Bool}
+use Rattle.std.proofs.Common.{◌≡◌, ℕ, ◌+◌, ◌-◌, ◌≤◌, ◌<◌, ◌&&◌, Bool, true, false, List, ◌++◌, length, refl, ap, sym, ◌∙◌, arith, inl, inr, le-ltb}
 use Rattle.yaml_text.specs.declared.types.yaml_encoding_t.{yaml_encoding_t}
 use Rattle.yaml_text.specs.Fault.{Fault}
+use Rattle.yaml_scan.specs.Course.{Input, Course, course}
 use Rattle.yaml_scan.specs.declared.scanner.scanner_t.{scanner_t}
-use Rattle.yaml_scan.specs.Laid.{Laid, reach}
+use Rattle.yaml_scan.specs.Laid.{reach}
 use Rattle.yaml_scan.specs.Settled.{before}
-use Rattle.yaml_scan.specs.Answers.{Input, Course, course, tokens_of}
-use Rattle.yaml_scan.specs.Settled.{settled, steps_for, pace, first_steps}
+use Rattle.yaml_scan.specs.Settled.{settled, steps_for, pace, first_steps, tokens_of}
 use Rattle.yaml_scan.specs.Session.{all_steps}
 use Rattle.yaml_scan.specs.Decoded.{decoded_input}
 use Rattle.yaml_scan.specs.inside.Scanning.{Settles, Fails, Stops, Same, history, course_of, input_of}
@@ -15,12 +14,8 @@ use Rattle.yaml_scan.specs.inside.Ready.{IsNew, IsReady, Begins, IsStarted, IsSe
 use Rattle.yaml_scan.specs.Token.{yaml_token_t}
 use Rattle.yaml_scan.specs.inside.Sent.{HasSent, Sends}
 use Rattle.yaml_scan.proofs.RunningCalls.GivenTokens.{taken_is}
+use Rattle.yaml_scan.proofs.Course.StepsNeeded.{at_least}
 use Rattle.yaml_scan.proofs.RunningCalls.StepsMade.{open_too}
-
-one_step : (limit : ℕ) (H : List Laid) (t : ℕ) → 1 ≤ steps_for limit H t
-unfolding steps_for
-one_step limit [] t = omega arith
-one_step limit (i ∷ H) t = let r = one_step limit H t in elim (cases_Bool (ltb t (length (before limit H)))) [ inl q ↦ rw q r | inr q ↦ rw q (omega arith) ]
 
 both_false : (a b : Bool) → b ≡ false → (a && b) ≡ false
 both_false true b e = e
@@ -49,7 +44,7 @@ module _ (setting : yaml_encoding_t) (input : List ℕ) (s t u : scanner_t) (b :
   unfolding pace
   pace_is =
       let e : steps_for t.limit (course_of t).read t.taken ≡ steps_for s.limit (course_in s.limit setting input).read s.taken = rw (course_t, b.limit, b.taken) refl in
-      let o = one_step s.limit (course_in s.limit setting input).read s.taken in
+      let o = at_least s.limit (course_in s.limit setting input).read s.taken in
       let m = b.made in omega arith
 
   input_same : Same t u → input_of u ≡ input_of t
@@ -114,7 +109,7 @@ module _ (setting : yaml_encoding_t) (input : List ℕ) (s t u : scanner_t) (b :
     told = k.told ∙ ap (λ (z : List yaml_token_t). z ++ tokens) (taken_is u t (sym k.text) (sym k.refusal) (sym k.limit) s.taken b.taken);
     least = (let n = k.least in let m = b.made in omega arith);
     made = (let e : steps_for t.limit (course_of t).read (u.taken - 1) ≡ steps_for s.limit (course_in s.limit setting input).read (u.taken - 1) = rw (course_t, b.limit) refl in
-        let o = one_step s.limit (course_in s.limit setting input).read (u.taken - 1) in
+        let o = at_least s.limit (course_in s.limit setting input).read (u.taken - 1) in
         let m = b.made in
         let n = k.made in
         omega arith);

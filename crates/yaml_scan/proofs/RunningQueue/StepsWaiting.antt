@@ -4,6 +4,7 @@ use Rattle.std.specs.Prelude.{if◌then◌else◌, nat_eq}
 use Rattle.std.proofs.lemmas.Bool.{cases_Bool, cases_eq, cases_lt}
 use Rattle.std.proofs.lemmas.List.{take-append-le, drop_all, length-map, length-reverse}
 use Rattle.std.proofs.lemmas.List.Elements.{filter-append}
+use Rattle.yaml_scan.specs.Course.{oldest}
 use Rattle.yaml_scan.specs.declared.scanner.scanner_t.{scanner_t}
 use Rattle.yaml_scan.specs.Laid.{Laid}
 use Rattle.yaml_scan.specs.Laws.{is_of_lexeme}
@@ -13,7 +14,6 @@ use Rattle.yaml_scan.specs.Groups.{Token, offline, groups}
 use Rattle.yaml_scan.specs.Settled.{before}
 use Rattle.yaml_scan.specs.Sessions.{queued}
 use Rattle.yaml_scan.specs.Groups.Token.{OfLexeme}
-use Rattle.yaml_scan.specs.Steps.{oldest}
 use Rattle.yaml_scan.specs.Settled.{steps_for, pace, first_steps}
 use Rattle.yaml_scan.specs.inside.Scanning.{IsRunning, history}
 use Rattle.yaml_scan.proofs.TokenList.QueueBound.{queued_few}
@@ -140,7 +140,7 @@ module _ (limit : ℕ) (H : List Laid) (h : IsHistory limit H) where
         let g : IsHistory limit (r.0 ∷ oldest (m - 2) H) = subst (λ (X : List Laid). IsHistory limit X) o (first_history m (omega arith)) in
         let b : length (before limit (oldest (m - 2) H)) ≤ t = elim (cases_lt t (length (before limit (oldest (m - 2) H)))) [
           | inr x ↦ x
-          | inl x ↦ (let y = enough limit H t (m - 2) h (omega arith) x in absurd (omega arith))
+          | inl x ↦ (let y = enough limit H t (m - 2) (omega arith) x in absurd (omega arith))
         ] in
         rw (some_made H m t z, o) (queued_few limit r.0 (oldest (m - 2) H) t g b))
   ]

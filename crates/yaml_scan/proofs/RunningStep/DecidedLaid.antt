@@ -10,9 +10,10 @@ use Rattle.std.proofs.lemmas.List.{length-reverse, reverse-reverse}
 use Rattle.yaml_text.specs.declared.types.yaml_mark_t.{yaml_mark_t}
 use Rattle.yaml_text.specs.declared.token.yaml_token_t.{yaml_token_t}
 use Rattle.yaml_text.specs.Token.{token_of}
-use Rattle.yaml_lexeme.specs.Lex.{decides}
+use Rattle.yaml_lexeme.specs.Decider.{decides}
 use Rattle.yaml_lexeme.specs.Lexeme.{Lexeme as yaml_lexeme_t}
-use Rattle.yaml_lexeme.specs.Place.{IsMarkOf}
+use Rattle.yaml_lexeme.specs.Counted.{IsMarkOf}
+use Rattle.yaml_scan.specs.Course.{ended}
 use Rattle.yaml_scan.specs.declared.groups.block_t.TheVariants.{MAPPING, NONE}
 use Rattle.yaml_scan.specs.declared.groups.group_t.{group_t}
 use Rattle.yaml_scan.specs.declared.slots.slots_t.{slots_t}
@@ -26,7 +27,6 @@ use Rattle.yaml_scan.specs.Laid.{Laid}
 use Rattle.yaml_scan.specs.Levels.{greatest_level, laid, stays}
 use Rattle.yaml_scan.specs.Falling.{IsFalling}
 use Rattle.yaml_scan.specs.Order.{IsNotBefore}
-use Rattle.yaml_scan.specs.Steps.{ended}
 use Rattle.yaml_scan.specs.Settled.{before}
 use Rattle.yaml_scan.specs.SourceOf.{source_of}
 use Rattle.yaml_scan.specs.Step.{front_of, place_after, problem_of, replaces}

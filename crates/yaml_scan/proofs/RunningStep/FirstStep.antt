@@ -6,9 +6,12 @@ use Rattle.std.proofs.Common.{length-append}
 use Rattle.yaml_text.specs.declared.types.yaml_encoding_t.{yaml_encoding_t}
 use Rattle.yaml_text.specs.Fault.{Fault, zero_mark}
 use Rattle.yaml_text.specs.Text.{Text}
-use Rattle.yaml_text.specs.Chars.{AreChars}
-use Rattle.yaml_text.specs.Decode.{front, refusal, refusal_seen, encoding_of}
-use Rattle.yaml_lexeme.specs.Place.{IsMarkOf, skip}
+use Rattle.yaml_text.specs.TextBytes.{AreChars}
+use Rattle.yaml_text.specs.Decode.{front, refusal, encoding_of}
+use Rattle.yaml_text.specs.Decoding.{refusal_seen}
+use Rattle.yaml_lexeme.specs.Place.{skip}
+use Rattle.yaml_lexeme.specs.Counted.{IsMarkOf}
+use Rattle.yaml_scan.specs.Course.{oldest, course}
 use Rattle.yaml_scan.specs.declared.scanner.scanner_t.{scanner_t}
 use Rattle.yaml_scan.specs.SourceOf.{source_of}
 use Rattle.yaml_scan.specs.Laid.{Laid, reach}
@@ -19,8 +22,6 @@ use Rattle.yaml_scan.specs.inside.Slots.{held, outer_to}
 use Rattle.yaml_scan.specs.Step.{stale, required}
 use Rattle.yaml_scan.specs.Groups.{Token, offline, groups}
 use Rattle.yaml_scan.specs.Groups.Token.{StreamStart}
-use Rattle.yaml_scan.specs.Steps.{oldest}
-use Rattle.yaml_scan.specs.Answers.{course}
 use Rattle.yaml_scan.specs.Near.{starts_near}
 use Rattle.yaml_scan.specs.inside.NearFault.{near_fault}
 use Rattle.yaml_scan.specs.inside.Queue.{IsQueue}

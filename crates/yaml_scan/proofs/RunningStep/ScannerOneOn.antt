@@ -8,11 +8,10 @@ use Rattle.yaml_text.specs.declared.types.yaml_mark_t.{yaml_mark_t}
 use Rattle.yaml_scan.specs.inside.Slots.{Held, held, held_of, still_held, outer_to, slot_after, nested_outer}
 use Rattle.yaml_scan.specs.inside.Slots.{nested_top, or_top, is_level}
 use Rattle.yaml_scan.specs.Token.{yaml_token_t}
-use Rattle.yaml_scan.specs.Lexeme.{Lexeme}
 use Rattle.yaml_scan.specs.Groups.{Token, end_at, start_token, block_ends, group, inserted, offline}
 use Rattle.yaml_scan.specs.Settled.{before, up_to}
 use Rattle.yaml_scan.specs.Groups.Token.{BlockEnd, BlockSequenceStart, BlockMappingStart, InsertedKey, OfLexeme}
-use Rattle.yaml_scan.specs.Laid.{Laid, reach, is_none, column}
+use Rattle.yaml_scan.specs.Laid.{Laid, reach, is_none, column, Lexeme}
 use Rattle.yaml_scan.specs.Depth.{depth}
 use Rattle.yaml_scan.specs.Keys.{live, completed_by, is_candidate, enters}
 use Rattle.yaml_scan.specs.Allowed.{allowed, allowed_after, allows}

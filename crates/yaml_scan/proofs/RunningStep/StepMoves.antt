@@ -3,10 +3,11 @@ use Rattle.std.proofs.Common.{◌≡◌, ℕ, ◌+◌, ◌≤◌, Bool, true, fa
 use Rattle.std.specs.Prelude.{OnOk, Result}
 use Rattle.yaml_text.specs.Fault.{Fault}
 use Rattle.yaml_lexeme.specs.Lexeme.{Lexeme as yaml_lexeme_t}
-use Rattle.yaml_lexeme.specs.Place.{IsMarkOf}
+use Rattle.yaml_lexeme.specs.Counted.{IsMarkOf}
 use Rattle.yaml_lexeme.specs.declared.lex.yaml_context_t.{yaml_context_t}
 use Rattle.yaml_lexeme.specs.declared.lexeme.yaml_lexeme_t.{yaml_lexeme_t as code_lexeme_t}
 use Rattle.yaml_lexeme.specs.declared.problem.yaml_refusal_t.{yaml_refusal_t}
+use Rattle.yaml_scan.specs.Course.{ended}
 use Rattle.yaml_scan.specs.declared.fault.stop_t.{stop_t}
 use Rattle.yaml_scan.specs.declared.groups.group_t.{group_t}
 use Rattle.yaml_scan.specs.declared.met.step_t.{step_t}
@@ -14,7 +15,6 @@ use Rattle.yaml_scan.specs.declared.scanner.scanner_t.{scanner_t}
 use Rattle.yaml_scan.specs.Kind.{Kind}
 use Rattle.yaml_scan.specs.Laid.{Laid}
 use Rattle.yaml_scan.specs.Levels.{greatest_level, laid, stays}
-use Rattle.yaml_scan.specs.Steps.{ended}
 use Rattle.yaml_scan.specs.Settled.{before}
 use Rattle.yaml_scan.specs.inside.TextReads.{IsRead}
 use Rattle.yaml_scan.specs.inside.Scanning.{AdvancesTwice, AdvancesWith, Beside, CanRead, CanStep, Comes, Ends, HasRead, HasRoom, Holds, IsLaidBy, IsMet, IsNewHeld, IsReadIn, IsStep, Makes, Needs, Refuses, Same, Stays}

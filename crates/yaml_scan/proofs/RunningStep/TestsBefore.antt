@@ -4,11 +4,13 @@ use Rattle.std.specs.Option.{is_some}
 use Rattle.std.specs.Prelude.{if◌then◌else◌, option_map, nat_eq, nat_lt}
 use Rattle.yaml_text.specs.declared.types.yaml_mark_t.{yaml_mark_t}
 use Rattle.yaml_text.specs.Fault.{Fault, scanner_fault}
-use Rattle.yaml_lexeme.specs.Place.{IsMarkOf}
+use Rattle.yaml_lexeme.specs.Counted.{IsMarkOf}
+use Rattle.yaml_scan.specs.Step.{no_token, in_next_token}
+use Rattle.yaml_scan.specs.inside.StepParts.{kind_step, read_step}
+use Rattle.yaml_scan.specs.Course.{ended}
 use Rattle.yaml_scan.specs.declared.groups.group_t.{group_t}
 use Rattle.yaml_scan.specs.declared.scanner.scanner_t.{scanner_t}
 use Rattle.yaml_scan.specs.Kind.{Kind}
-use Rattle.yaml_scan.specs.Fault.{no_token, in_next_token}
 use Rattle.yaml_scan.specs.Source.{Source, Offence}
 use Rattle.yaml_scan.specs.SourceOf.{source_of}
 use Rattle.yaml_scan.specs.inside.Slots.{Held, held, held_of, lost_held, needed, root_of, completed_held}
@@ -17,8 +19,7 @@ use Rattle.yaml_scan.specs.Depth.{depth}
 use Rattle.yaml_scan.specs.Keys.{only_live, completed_by}
 use Rattle.yaml_scan.specs.Allowed.{allowed, allowed_after}
 use Rattle.yaml_scan.specs.Order.{IsNotBefore}
-use Rattle.yaml_scan.specs.Steps.{ended}
-use Rattle.yaml_scan.specs.Step.{Outcome, step, kind_step, read_step, unless, refuse, stale, required, refused, clears}
+use Rattle.yaml_scan.specs.Step.{Outcome, step, unless, refuse, stale, required, refused, clears}
 use Rattle.yaml_scan.specs.Step.{lost, no_kind, not_allowed, problem_of, replaces, start_at, front_of, place_after}
 use Rattle.yaml_scan.specs.Step.Outcome.{Faults}
 use Rattle.yaml_scan.specs.inside.StepFaults.{IsLost, IsRefused}
@@ -110,7 +111,7 @@ module _ (H : List Laid) (n : ℕ) (s : scanner_t) {ys : List group_t} (r : Hold
     kinds_same (Some k) = refl
 
     step_is : step S s.limit H ≡ step_from g
-    unfolding step
+    unfolding step read_step
     step_is = ap (λ (o : Outcome). unless (stale s.limit H (S.mark P)) (S.mark P) P o) (kinds_same (S.kind (nat_lt 0 (depth H)) P)) ∙ ap step_from (sym mark_is)
 
     -- an offence there

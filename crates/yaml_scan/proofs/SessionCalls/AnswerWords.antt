@@ -1,9 +1,12 @@
 -- Every token and every fault that is returned can be put in words.
 use Rattle.std.proofs.Common.{◌≡◌, ◌≢◌, ℕ, zero, suc, ◌+◌, Bool, true, false, ◌||◌, if◌then◌else◌, List, [], ◌∷◌, map}
 use Rattle.std.proofs.Common.{filter, drop, length, Option, Some, None, Ok, Err, slice_get, refl, subst}
+use Rattle.yaml_scan.specs.inside.StepParts.{kind_step, read_step, after_read}
+use Rattle.yaml_scan.specs.Course.{ended, Cut, cut_from, cut_on, Input, Course, course, course_from, next}
 use Rattle.yaml_scan.specs.inside.TextReads.{IsRead}
 use Rattle.std.specs.Prelude.{Result, IfSome, nat_lt, option_map}
 use Rattle.std.proofs.lemmas.Bool.{or_left, or_right}
+use Rattle.yaml_text.specs.Fault.{Fault}
 use Rattle.yaml_text.specs.declared.types.yaml_mark_t.{yaml_mark_t}
 use Rattle.yaml_text.specs.declared.types.yaml_encoding_t.{yaml_encoding_t}
 use Rattle.yaml_text.specs.declared.types.yaml_encoding_t.TheVariants.{YAML_ANY_ENCODING}
@@ -27,35 +30,33 @@ use Rattle.yaml_lexeme.specs.Quoted.{quoted}
 use Rattle.yaml_lexeme.specs.Name.{name}
 use Rattle.yaml_lexeme.specs.Tag.{tag}
 use Rattle.yaml_lexeme.specs.Directive.{directive}
-use Rattle.yaml_lexeme.specs.Lex.{lex, in_flow, least, quoted_as}
+use Rattle.yaml_lexeme.specs.Lex.{lex, in_flow, least}
+use Rattle.yaml_lexeme.specs.KindSets.{quoted_as}
 use Rattle.yaml_scan.specs.Kind.{Kind}
-use Rattle.yaml_scan.specs.Lexeme.{Lexeme}
 use Rattle.yaml_scan.specs.Token.{empty, type_of}
-use Rattle.yaml_scan.specs.Fault.{Fault}
-use Rattle.yaml_scan.specs.Laid.{Laid}
+use Rattle.yaml_scan.specs.Laid.{Laid, Lexeme}
 use Rattle.yaml_scan.specs.Depth.{depth}
 use Rattle.yaml_scan.specs.Levels.{laid, level}
-use Rattle.yaml_scan.specs.Steps.{ended}
 use Rattle.yaml_scan.specs.Groups.{Token, handed_out, block_ends, group, groups, offline}
-use Rattle.yaml_scan.specs.Settled.{up_to, waiting, before}
+use Rattle.yaml_scan.specs.Settled.{up_to, waiting, before, tokens_of}
 use Rattle.yaml_scan.specs.Groups.Token.{StreamStart, BlockEnd, BlockSequenceStart, BlockMappingStart, InsertedKey}
 use Rattle.yaml_scan.specs.Groups.Token.{OfLexeme}
 use Rattle.yaml_scan.specs.Source.{Source, Reading, Offence}
 use Rattle.yaml_scan.specs.SourceOf.{source_of, reading_of}
-use Rattle.yaml_scan.specs.Step.{Outcome, step, kind_step, read_step, after_read, unless, refuse, stale, refused}
+use Rattle.yaml_scan.specs.Step.{Outcome, step, unless, refuse, stale, refused}
 use Rattle.yaml_scan.specs.Step.{clears, start_at, front_of, lexeme_of}
 use Rattle.yaml_scan.specs.Step.Outcome.{Reads, Faults}
-use Rattle.yaml_scan.specs.Steps.{Cut, cut_from, cut_on}
-use Rattle.yaml_scan.specs.Answers.{Input, Course, course, course_from, tokens_of, next, answers}
+use Rattle.yaml_scan.specs.Answers.{answers}
 use Rattle.yaml_scan.specs.Near.{starts_near, is_near, place_of, unless_near}
 use Rattle.yaml_scan.specs.Inputs.{answers_to}
 use Rattle.yaml_scan.specs.Decoded.{decoded_input}
-use Rattle.yaml_scan.specs.Session.{Session, Call, answer, scan_answer, peek_answer, after, next_token, why}
+use Rattle.yaml_scan.specs.Session.{Session, Call, answer, after, next_token, why}
 use Rattle.yaml_scan.specs.Sessions.{session}
 use Rattle.yaml_scan.specs.Session.Call.{SCAN, PEEK, SKIP}
 use Rattle.yaml_scan.specs.Session.Answer.{TOKEN, PEEKED, SKIPPED, NOTHING}
 use Rattle.yaml_scan.specs.Words.{HasWords, HasLine, HaveWords, AllHaveLines, AnswerHasLine, AnswersHaveLines}
 use Rattle.yaml_scan.specs.Words.{SessionsHaveLines}
+use Rattle.yaml_scan.proofs.SessionCalls.CallCases.{scan_answer, peek_answer}
 use Rattle.yaml_scan.proofs.TokenList.EveryToken.{Every, HoldsPutIn, every_append, every_block_end, every_of_group}
 use Rattle.yaml_scan.proofs.Texts.LexemeReads.{is_tag_type, is_directive_type, tag_gives, directive_gives}
 
@@ -180,7 +181,7 @@ module _ (S : Source) (s : SourceTold S) (limit : ℕ) (H : List Laid) where
       refuse_told (refused limit H k g) g p (unless (clears limit H k g) (start_at k g) p (read_step S limit H k p)) (unless_told (clears limit H k g) (start_at k g) p (read_step S limit H k p) r)
 
   step_told : OutcomeTold (step S limit H)
-  unfolding step
+  unfolding step read_step
   step_told =
       let p = front_of S H in
       let k = S.kind (nat_lt 0 (depth H)) p in

@@ -1,16 +1,17 @@
 -- So can the answers to a list of calls.
+use Rattle.yaml_text.specs.Fault.{Fault, memory_fault}
 use Rattle.std.proofs.Common.{◌≡◌, ◌+◌, List, [], ◌∷◌, ◌++◌, map, take, drop, sym, subst, inl, inr}
-use Rattle.yaml_scan.specs.Fault.{Fault, memory_fault}
+use Rattle.yaml_scan.specs.Decoded.{decoded_input}
 use Rattle.yaml_scan.specs.Session.{Call, Answer}
 use Rattle.yaml_scan.specs.Sessions.{session}
 use Rattle.yaml_scan.specs.Session.Call.{SCAN, PEEK, SKIP}
 use Rattle.yaml_scan.specs.Session.{Answer as says}
-use Rattle.yaml_scan.specs.Parser.{Parser, course_read}
+use Rattle.yaml_scan.specs.Parser.{Parser, course_by}
 use Rattle.yaml_scan.specs.Headline.{Calls, Runs}
-use Rattle.yaml_scan.specs.Puts.{answered_all, OfSession}
+use Rattle.yaml_scan.specs.Puts.{answered_all, OfSession, idle}
 use Rattle.yaml_scan.specs.Token.{yaml_token_t}
 use Rattle.yaml_scan.specs.Words.{HasWords, AnswerHasLine, AnswersHaveLines}
-use Rattle.yaml_scan.specs.Seen.{Seen, seen, idle}
+use Rattle.yaml_scan.specs.Seen.{Seen, seen}
 use Rattle.yaml_scan.specs.Seen.Seen.{FAULT}
 use Rattle.yaml_scan.specs.CallWords.{SeenHasLine, SeenHaveLines}
 use Rattle.yaml_scan.proofs.SessionCalls.AnswerWords.{sessions_have_lines}
@@ -41,23 +42,23 @@ joined_told [] b f g = g
 joined_told (x ∷ a) b f g = (f.0, joined_told a b f.1 g)
 
 answered_told : (p : Parser) (calls : List Call) → SeenHaveLines (map seen (answered_all p calls))
-unfolding course_read
+unfolding course_by
 answered_told p calls = all_seen_told (answered_all p calls) (sessions_have_lines p.limit p.setting p.input calls p.session)
 
 -- the answers to any calls of a parser
-pub run_has_lines : (p : Parser) (calls : List Call) (answers : List Seen) (q : Parser) → Runs p calls answers q → SeenHaveLines answers
+pub run_has_lines : (p : Parser) (calls : List Call) (answers : List Seen) (q : Parser) → Runs decoded_input p calls answers q → SeenHaveLines answers
 run_has_lines p calls answers q w = go (of_session p calls answers q w)
   where
     go : OfSession p calls answers q → SeenHaveLines answers
     go (inl r) = subst (λ (z : List Seen). SeenHaveLines z) (sym r.0) (answered_told p calls)
-    go (inr r) = subst (λ (z : List Seen). SeenHaveLines z) (sym r.answers)
-        (joined_told (map seen (answered_all p (take r.n calls))) (FAULT memory_fault ∷ map idle (drop (r.n + 1) calls)) (answered_told p (take r.n calls)) (tt, all_idle_told (drop (r.n + 1) calls)))
+    go (inr r) = subst (λ (z : List Seen). SeenHaveLines z) (sym r.stops.answers_are)
+        (joined_told (map seen (answered_all p (take r.stops.n calls))) (FAULT memory_fault ∷ map idle (drop (r.stops.n + 1) calls)) (answered_told p (take r.stops.n calls)) (tt, all_idle_told (drop (r.stops.n + 1) calls)))
 
 -- a token that a scan returns
 no_fault : (t : yaml_token_t) (f : Fault) → says.TOKEN t ≡ says.FAULT f → ⊥
 no_fault t f e = cc
 
-pub scan_has_words : (p : Parser) (t : yaml_token_t) (q : Parser) → Calls SCAN p (says.TOKEN t) q → HasWords t.token_data
-unfolding session course_read
+pub scan_has_words : (p : Parser) (t : yaml_token_t) (q : Parser) → Calls decoded_input SCAN p (says.TOKEN t) q → HasWords t.token_data
+unfolding session course_by
 scan_has_words p t q (inl k) = subst (λ (a : Answer). AnswerHasLine a) (sym k.0) ((sessions_have_lines p.limit p.setting p.input (SCAN ∷ []) p.session).0)
 scan_has_words p t q (inr k) = absurd (no_fault t memory_fault k.0)

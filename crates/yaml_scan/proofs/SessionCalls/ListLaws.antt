@@ -1,8 +1,8 @@
 -- The laws of tokens hold of what one call for all tokens returns.
 use Rattle.std.proofs.Common.{◌≡◌, ℕ, zero, suc, ◌≤◌, List, [], ◌∷◌, ◌++◌, take, Option, Some, None, refl, ap, sym, ◌∙◌, subst, inl, inr}
 use Rattle.std.proofs.lemmas.Bool.{false≢true}
+use Rattle.yaml_text.specs.Fault.{Fault, memory_fault}
 use Rattle.yaml_text.specs.declared.types.yaml_encoding_t.{yaml_encoding_t}
-use Rattle.yaml_scan.specs.Fault.{Fault, memory_fault}
 use Rattle.yaml_scan.specs.Token.{yaml_token_t}
 use Rattle.yaml_scan.specs.Begins.{Begins}
 use Rattle.yaml_scan.specs.Inputs.{answers_to}

@@ -1,8 +1,8 @@
 -- So can what one call for all tokens returns.
 use Rattle.std.proofs.Common.{ℕ, List, [], ◌∷◌, ◌++◌, Option, sym, subst, inl, inr}
 use Rattle.std.specs.Prelude.{IfSome}
+use Rattle.yaml_text.specs.Fault.{Fault}
 use Rattle.yaml_text.specs.declared.types.yaml_encoding_t.{yaml_encoding_t}
-use Rattle.yaml_scan.specs.Fault.{Fault}
 use Rattle.yaml_scan.specs.Token.{yaml_token_t}
 use Rattle.yaml_scan.specs.Words.{HasLine, HaveWords, HaveLines}
 use Rattle.yaml_scan.specs.All.{ReadsAll}

@@ -2,21 +2,21 @@
 use Rattle.std.proofs.Common.{◌≡◌, ℕ, suc, ◌+◌, ◌≤◌, Bool, true, false, List, [], ◌∷◌, ◌++◌, map, take, drop, length, Option, Some, None, refl, ap, sym, ◌∙◌, subst, arith, inl, inr}
 use Rattle.std.specs.Prelude.{filter, ◌⊎◌, if◌then◌else◌}
 use Rattle.std.proofs.lemmas.Bool.{cases_Bool, false≢true}
+use Rattle.yaml_text.specs.Fault.{Fault, memory_fault}
 use Rattle.yaml_text.specs.declared.types.yaml_encoding_t.{yaml_encoding_t}
+use Rattle.yaml_scan.specs.Course.{Course, course}
+use Rattle.yaml_scan.specs.ParserCalls.{input_read, course_read}
 use Rattle.yaml_scan.specs.Token.{empty}
-use Rattle.yaml_scan.specs.Fault.{Fault, memory_fault}
 use Rattle.yaml_scan.specs.Groups.{Token}
-use Rattle.yaml_scan.specs.Answers.{Course, course}
 use Rattle.yaml_scan.specs.Decoded.{decoded_input}
-use Rattle.yaml_scan.specs.Session.{Session, Call, answer, after, next_token, finished, why}
+use Rattle.yaml_scan.specs.Session.{Session, Call, answer, after, next_token, why}
 use Rattle.yaml_scan.specs.Sessions.{session, after_all}
-use Rattle.yaml_scan.specs.Session.{scan_answer, peek_answer, after_scan, after_peek, after_skip}
 use Rattle.yaml_scan.specs.Session.Call.{SCAN, PEEK, SKIP}
 use Rattle.yaml_scan.specs.Session.Answer.{TOKEN, PEEKED, SKIPPED, NOTHING}
-use Rattle.yaml_scan.specs.Parser.{course_read, input_read}
-use Rattle.yaml_scan.specs.Seen.{Seen, seen, idle, Seen as sight}
-use Rattle.yaml_scan.specs.Puts.{answered_all, OfSession}
+use Rattle.yaml_scan.specs.Seen.{Seen, seen, Seen as sight}
+use Rattle.yaml_scan.specs.Puts.{answered_all, OfSession, idle}
 use Rattle.yaml_scan.specs.ReadingOn.{is_fault, HaveOneFault, FaultIsToldOnce, RunsFaultOnce}
+use Rattle.yaml_scan.proofs.SessionCalls.CallCases.{finished, scan_answer, peek_answer, after_scan, after_peek, after_skip}
 use Rattle.yaml_scan.proofs.SessionCalls.CallByCall.{of_session}
 
 abbrev faults_in : List Seen → ℕ
@@ -124,10 +124,10 @@ runs_fault_once p calls answers q r = go (of_session p calls answers q r)
     go : OfSession p calls answers q → HaveOneFault answers
     go (inl g) = subst HaveOneFault (sym g.0) (once (input_read p).encoding p.limit (course_read p) calls p.session)
     go (inr o) =
-        let a : List Seen = map seen (answered_all p (take o.n calls)) in
-        let b : List Seen = map idle (drop (o.n + 1) calls) in
-        let x : faults_in a ≡ 0 = open_none (input_read p).encoding p.limit (course_read p) (take o.n calls) p.session o.wants.was_open in
-        let y : faults_in b ≡ 0 = idle_faults (drop (o.n + 1) calls) in
+        let a : List Seen = map seen (answered_all p (take o.stops.n calls)) in
+        let b : List Seen = map idle (drop (o.stops.n + 1) calls) in
+        let x : faults_in a ≡ 0 = open_none (input_read p).encoding p.limit (course_read p) (take o.stops.n calls) p.session o.wants.was_open in
+        let y : faults_in b ≡ 0 = idle_faults (drop (o.stops.n + 1) calls) in
         let z : faults_in (a ++ (sight.FAULT memory_fault ∷ b)) ≡ faults_in a + suc (faults_in b) = both a (sight.FAULT memory_fault ∷ b) in
         let w : faults_in (a ++ (sight.FAULT memory_fault ∷ b)) ≤ 1 = omega arith in
-        subst HaveOneFault (sym o.answers) w
+        subst HaveOneFault (sym o.stops.answers_are) w

@@ -2,15 +2,16 @@
 use Rattle.std.proofs.Common.{◌≡◌, ℕ, Bool, true, false, Option, Some, None, refl, sym}
 use Rattle.std.specs.Prelude.{if◌then◌else◌}
 use Rattle.std.proofs.lemmas.Bool.{false≢true}
+use Rattle.yaml_text.specs.Fault.{Fault}
 use Rattle.yaml_text.specs.declared.types.yaml_encoding_t.{yaml_encoding_t}
-use Rattle.yaml_scan.specs.Fault.{Fault}
+use Rattle.yaml_scan.specs.Course.{Course}
 use Rattle.yaml_scan.specs.Token.{yaml_token_t, empty}
 use Rattle.yaml_scan.specs.Groups.{Token}
-use Rattle.yaml_scan.specs.Answers.{Course}
-use Rattle.yaml_scan.specs.Session.{Session, next_token, after, answer, after_scan, after_peek, peek_answer, why}
+use Rattle.yaml_scan.specs.Session.{Session, next_token, after, answer, why}
 use Rattle.yaml_scan.specs.Session.Call.{SCAN, SKIP}
 use Rattle.yaml_scan.specs.Session.Answer.{TOKEN, PEEKED}
 use Rattle.yaml_scan.specs.SessionLaws.{PeekShowsNext, SkipTakesPeeked}
+use Rattle.yaml_scan.proofs.SessionCalls.CallCases.{after_scan, after_peek, peek_answer}
 
 -- where there is no next token, a peek shows none
 none_shown : (f : Option Fault) (t : yaml_token_t) → why f ≡ PEEKED t → ⊥

@@ -1,28 +1,31 @@
 -- More scans than there are tokens left return all that is left.
 use Rattle.std.proofs.Common.{◌≡◌, ℕ, zero, suc, ◌+◌, ◌-◌, ◌<◌, ◌≤◌, Bool, true, false, List, [], ◌∷◌, ◌++◌, map, drop, replicate, length, slice_get, Option, Some, None, refl, ap, sym, ◌∙◌, subst, arith, inl, inr}
 use Rattle.std.specs.Prelude.{◌⊎◌, Result, Ok, Err, if◌then◌else◌}
+use Rattle.yaml_text.specs.Fault.{Fault}
 use Rattle.yaml_text.specs.declared.types.yaml_encoding_t.{yaml_encoding_t}
 use Rattle.yaml_text.specs.declared.fault.yaml_fault_t.{yaml_fault_t}
 use Rattle.yaml_text.specs.declared.token.yaml_token_t.{yaml_token_t as code_token_t}
+use Rattle.yaml_scan.specs.Settled.{tokens_of}
+use Rattle.yaml_scan.specs.Course.{Input, Course, course}
 use Rattle.yaml_scan.specs.declared.calls.yaml_answer_t.{yaml_answer_t}
 use Rattle.yaml_scan.specs.Token.{yaml_token_t, empty}
-use Rattle.yaml_scan.specs.Fault.{Fault}
 use Rattle.yaml_scan.specs.Groups.{Token, handed_out}
 use Rattle.yaml_scan.specs.Cut.{KeepsOrder}
-use Rattle.yaml_scan.specs.Answers.{Input, Course, Answers, course, tokens_of, answers}
+use Rattle.yaml_scan.specs.Answers.{Answers, answers}
 use Rattle.yaml_scan.specs.Inputs.{answers_to}
 use Rattle.yaml_scan.specs.Decoded.{decoded_input}
 use Rattle.yaml_scan.specs.Session.{Session, Call, Answer, after, next_token, is_last}
 use Rattle.yaml_scan.specs.Sessions.{new_session, session}
-use Rattle.yaml_scan.specs.Session.{took, paced, finished, why, scan_answer, after_scan}
+use Rattle.yaml_scan.specs.Session.{why}
 use Rattle.yaml_scan.specs.Session.Call.{SCAN}
 use Rattle.yaml_scan.specs.Session.Answer.{TOKEN, PEEKED, SKIPPED, NOTHING, FAULT}
-use Rattle.yaml_scan.specs.Parser.{Parser, course_read}
-use Rattle.yaml_scan.specs.ParserCalls.{told}
+use Rattle.yaml_scan.specs.Parser.{Parser, course_by}
+use Rattle.yaml_scan.specs.ParserCalls.{scan_result}
 use Rattle.yaml_scan.specs.Headline.{Runs, PutsAnswers}
 use Rattle.yaml_scan.specs.Puts.{answered_all, RunsOut, OfSession}
 use Rattle.yaml_scan.specs.Seen.{Seen, seen, seen_of}
 use Rattle.yaml_scan.specs.ReadingOn.{scans, fault_told, all_told, left_to, AllIsTold, RestIsTold, ReadsOn, ScansReadOn}
+use Rattle.yaml_scan.proofs.SessionCalls.CallCases.{took, paced, finished, scan_answer, after_scan}
 use Rattle.yaml_scan.proofs.Course.InputLaws.{inputs_keep_order}
 use Rattle.yaml_scan.proofs.Course.LastToken.{stream_end_is_last}
 use Rattle.yaml_scan.proofs.SessionCalls.CallByCall.{of_session}
@@ -145,11 +148,11 @@ all_is_told limit setting input n l = rest_is_told limit setting input new_sessi
 
 -- what is left to a parser
 rest_of : (p : Parser) (n : ℕ) → length (left_to p).tokens < n → answered_all p (scans n) ≡ all_told (left_to p) n
-unfolding course_read
+unfolding course_by
 rest_of p n l = rest_is_told p.limit p.setting p.input p.session n l
 
-pub reads_on : (p : Parser) (calls : List Call) (old new : List yaml_answer_t) (q : Parser) → PutsAnswers p calls old new q → ReadsOn p calls old new q
-reads_on p calls old new q g n e l = record { more = g.more; is = g.is; told = go (of_session p (scans n) (map seen_of g.more) q (subst (λ (z : List Call). Runs p z (map seen_of g.more) q) e g.runs)) }
+pub reads_on : (p : Parser) (calls : List Call) (old new : List yaml_answer_t) (q : Parser) → PutsAnswers decoded_input p calls old new q → ReadsOn p calls old new q
+reads_on p calls old new q g n e l = record { more = g.more; is = g.is; told = go (of_session p (scans n) (map seen_of g.more) q (subst (λ (z : List Call). Runs decoded_input p z (map seen_of g.more) q) e g.runs)) }
   where
     go : OfSession p (scans n) (map seen_of g.more) q → (map seen_of g.more ≡ map seen (all_told (left_to p) n)) ⊎ RunsOut p (scans n) (map seen_of g.more) q
     go (inl r) = inl (r.0 ∙ ap (λ (z : List Answer). map seen z) (rest_of p n l))
@@ -157,7 +160,7 @@ reads_on p calls old new q g n e l = record { more = g.more; is = g.is; told = g
 
 -- SCANS ONE BY ONE
 -- a token or a fault is seen whole
-seen_whole : (result : Result code_token_t yaml_fault_t) (a : Answer) → seen (told result) ≡ seen a → told result ≡ a
+seen_whole : (result : Result code_token_t yaml_fault_t) (a : Answer) → seen (scan_result result) ≡ seen a → scan_result result ≡ a
 seen_whole (Ok t) (TOKEN x) e = cc
 seen_whole (Ok t) (PEEKED x) e = absurd (cc)
 seen_whole (Ok t) SKIPPED e = absurd (cc)
@@ -175,18 +178,18 @@ one_seen x y xs ys e = (cc, cc)
 no_seen : (x : Seen) (xs : List Seen) → x ∷ xs ≡ [] → ⊥
 no_seen x xs e = cc
 
-all_whole : (results : List (Result code_token_t yaml_fault_t)) (answers : List Answer) → map seen (map told results) ≡ map seen answers → map told results ≡ answers
+all_whole : (results : List (Result code_token_t yaml_fault_t)) (answers : List Answer) → map seen (map scan_result results) ≡ map seen answers → map scan_result results ≡ answers
 all_whole [] [] e = refl
 all_whole [] (a ∷ answers) e = absurd (no_seen (seen a) (map seen answers) (sym e))
-all_whole (x ∷ results) [] e = absurd (no_seen (seen (told x)) (map seen (map told results)) e)
+all_whole (x ∷ results) [] e = absurd (no_seen (seen (scan_result x)) (map seen (map scan_result results)) e)
 all_whole (x ∷ results) (a ∷ answers) e =
-    let z = one_seen (seen (told x)) (seen a) (map seen (map told results)) (map seen answers) e in
-    ap (λ (y : Answer). y ∷ map told results) (seen_whole x a z.0) ∙ ap (λ (y : List Answer). a ∷ y) (all_whole results answers z.1)
+    let z = one_seen (seen (scan_result x)) (seen a) (map seen (map scan_result results)) (map seen answers) e in
+    ap (λ (y : Answer). y ∷ map scan_result results) (seen_whole x a z.0) ∙ ap (λ (y : List Answer). a ∷ y) (all_whole results answers z.1)
 
 pub scans_read_on : ScansReadOn
-scans_read_on p results q w l = go (of_session p (scans (length results)) (map seen (map told results)) q w)
+scans_read_on p results q w l = go (of_session p (scans (length results)) (map seen (map scan_result results)) q w)
   where
-    go : OfSession p (scans (length results)) (map seen (map told results)) q
-        → (map told results ≡ all_told (left_to p) (length results)) ⊎ RunsOut p (scans (length results)) (map seen (map told results)) q
+    go : OfSession p (scans (length results)) (map seen (map scan_result results)) q
+        → (map scan_result results ≡ all_told (left_to p) (length results)) ⊎ RunsOut p (scans (length results)) (map seen (map scan_result results)) q
     go (inl r) = inl (all_whole results (answered_all p (scans (length results))) r.0 ∙ rest_of p (length results) l)
     go (inr o) = inr o

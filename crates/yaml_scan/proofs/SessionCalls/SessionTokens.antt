@@ -4,20 +4,21 @@ use Rattle.std.specs.Prelude.{if◌then◌else◌, nat_eq}
 use Rattle.std.specs.Option.{option_to_list}
 use Rattle.std.proofs.lemmas.Bool.{cases_lt, cond_both, false≢true, and_parts}
 use Rattle.std.proofs.lemmas.List.{drop_all}
+use Rattle.yaml_scan.specs.Course.{Course}
 use Rattle.yaml_scan.specs.Laid.{Laid}
 use Rattle.yaml_scan.specs.Groups.{Token, groups}
 use Rattle.yaml_scan.specs.Settled.{before}
 use Rattle.yaml_scan.specs.Sessions.{queued}
 use Rattle.yaml_scan.specs.Order.{IsHistory}
-use Rattle.yaml_scan.specs.Answers.{Course, tokens_of}
-use Rattle.yaml_scan.specs.Session.{Call, Session, next_token, is_last, paced, looked, took, finished}
+use Rattle.yaml_scan.specs.Session.{Call, Session, next_token, is_last}
 use Rattle.yaml_scan.specs.Sessions.{new_session}
-use Rattle.yaml_scan.specs.Session.{after_scan, after_peek, after_skip, after}
+use Rattle.yaml_scan.specs.Session.{after}
 use Rattle.yaml_scan.specs.Sessions.{after_all, session_queued}
-use Rattle.yaml_scan.specs.Settled.{first_steps, steps_for, pace}
+use Rattle.yaml_scan.specs.Settled.{first_steps, steps_for, pace, tokens_of}
 use Rattle.yaml_scan.specs.Session.Call.{SCAN, PEEK, SKIP}
 use Rattle.yaml_scan.specs.SessionLaws.{token_taken, taken_by, tokens_in, TakenAreBeginning, without_peeks}
 use Rattle.yaml_scan.specs.SessionLaws.{skips_peeked, PeeksChangeNothing, FewStepsQueued}
+use Rattle.yaml_scan.proofs.SessionCalls.CallCases.{paced, looked, took, finished, after_scan, after_peek, after_skip}
 use Rattle.yaml_scan.proofs.TokenList.QueueBound.{queued_few}
 use Rattle.yaml_scan.proofs.TokenList.OneLexemeMore.{few_wait}
 use Rattle.yaml_scan.proofs.Course.StepsNeeded.{steps_for_is, steps_for_least, oldest_of}

@@ -2,23 +2,29 @@
 use Rattle.std.proofs.Common.{◌≡◌, ℕ, zero, suc, ◌+◌, Bool, true, false, List, [], ◌∷◌, ◌++◌, map, take, drop, replicate, slice_get, Option, Some, None, refl, ap, sym, ◌∙◌, subst, arith, inl, inr}
 use Rattle.std.specs.Prelude.{if◌then◌else◌}
 use Rattle.std.proofs.lemmas.Bool.{cases_Bool, cond_both, false≢true}
+use Rattle.yaml_text.specs.Fault.{Fault, memory_fault}
 use Rattle.yaml_text.specs.declared.types.yaml_encoding_t.{yaml_encoding_t}
+use Rattle.yaml_scan.specs.Settled.{tokens_of}
+use Rattle.yaml_scan.specs.Course.{Course}
+use Rattle.yaml_scan.specs.Puts.{idle}
+use Rattle.yaml_scan.specs.Decoded.{decoded_input}
+use Rattle.yaml_scan.specs.ParserCalls.{input_read, course_read}
 use Rattle.yaml_scan.specs.declared.calls.yaml_answer_t.{yaml_answer_t}
 use Rattle.yaml_scan.specs.Token.{yaml_token_t, empty}
-use Rattle.yaml_scan.specs.Fault.{Fault, memory_fault}
 use Rattle.yaml_scan.specs.Groups.{Token, handed_out}
-use Rattle.yaml_scan.specs.Answers.{Course, tokens_of, answers}
+use Rattle.yaml_scan.specs.Answers.{answers}
 use Rattle.yaml_scan.specs.Inputs.{answers_to}
-use Rattle.yaml_scan.specs.Session.{Session, Call, Answer, answer, after, next_token, took, paced}
+use Rattle.yaml_scan.specs.Session.{Session, Call, Answer, answer, after, next_token}
 use Rattle.yaml_scan.specs.Sessions.{session, after_all}
-use Rattle.yaml_scan.specs.Session.{looked, finished, why, scan_answer, peek_answer, after_scan, after_peek, after_skip}
+use Rattle.yaml_scan.specs.Session.{why}
 use Rattle.yaml_scan.specs.Session.Call.{SCAN, PEEK, SKIP}
 use Rattle.yaml_scan.specs.Session.{Answer as says}
-use Rattle.yaml_scan.specs.Parser.{Parser, course_read, input_read}
-use Rattle.yaml_scan.specs.Seen.{Seen, seen, seen_of, idle}
+use Rattle.yaml_scan.specs.Parser.{Parser, course_by}
+use Rattle.yaml_scan.specs.Seen.{Seen, seen, seen_of}
 use Rattle.yaml_scan.specs.Headline.{Runs, PutsAnswers}
 use Rattle.yaml_scan.specs.Seen.Seen.{TOKEN, PEEKED, SKIPPED, NOTHING, FAULT}
 use Rattle.yaml_scan.specs.Puts.{Puts, answered_all, after_calls, taken_told, AreTold, TakesOn, TakesNext, HasNext, OfSession}
+use Rattle.yaml_scan.proofs.SessionCalls.CallCases.{took, paced, looked, finished, scan_answer, peek_answer, after_scan, after_peek, after_skip}
 use Rattle.yaml_scan.proofs.SessionCalls.ReadingOn.{drop_next}
 use Rattle.yaml_scan.proofs.SessionCalls.CallByCall.{of_session}
 
@@ -203,20 +209,20 @@ takes_no_more tokens n m a b k g f = record {
 }
 
 session_takes : (p : Parser) (calls : List Call) → (p.session.peeked ≡ true → HasNext p) → TakesOn (answers_to p.limit p.setting p.input).tokens p.session.taken (map seen (answered_all p calls)) (after_calls p calls).session.taken
-unfolding answers_to answers course_read
+unfolding answers_to answers course_by
 session_takes p calls h = takes (input_read p).encoding p.limit (course_read p) calls p.session h
 
-pub takes_next : (p : Parser) (calls : List Call) (answers : List Seen) (q : Parser) → (p.session.peeked ≡ true → HasNext p) → Runs p calls answers q → TakesNext p answers q
+pub takes_next : (p : Parser) (calls : List Call) (answers : List Seen) (q : Parser) → (p.session.peeked ≡ true → HasNext p) → Runs decoded_input p calls answers q → TakesNext p answers q
 takes_next p calls answers q h w = go (of_session p calls answers q w)
   where
     go : OfSession p calls answers q → TakesNext p answers q
     go (inl r) = subst (λ (z : List Seen). TakesNext p z q) (sym r.0) (subst (λ (z : Parser). TakesNext p (map seen (answered_all p calls)) z) (sym r.1) (session_takes p calls h))
     go (inr o) =
-        let k = idle_told (drop (o.n + 1) calls) in
-        let g = takes_no_more (answers_to p.limit p.setting p.input).tokens p.session.taken (after_calls p (take o.n calls)).session.taken (map seen (answered_all p (take o.n calls))) (FAULT memory_fault ∷ map idle (drop (o.n + 1) calls)) k.0 (session_takes p (take o.n calls) h) k.1 in
-        subst (λ (z : List Seen). TakesNext p z q) (sym o.answers)
-        (subst (λ (z : ℕ). TakesOn (answers_to p.limit p.setting p.input).tokens p.session.taken (map seen (answered_all p (take o.n calls)) ++ (FAULT memory_fault ∷ map idle (drop (o.n + 1) calls))) z) (sym o.wants.taken) g)
+        let k = idle_told (drop (o.stops.n + 1) calls) in
+        let g = takes_no_more (answers_to p.limit p.setting p.input).tokens p.session.taken (after_calls p (take o.stops.n calls)).session.taken (map seen (answered_all p (take o.stops.n calls))) (FAULT memory_fault ∷ map idle (drop (o.stops.n + 1) calls)) k.0 (session_takes p (take o.stops.n calls) h) k.1 in
+        subst (λ (z : List Seen). TakesNext p z q) (sym o.stops.answers_are)
+        (subst (λ (z : ℕ). TakesOn (answers_to p.limit p.setting p.input).tokens p.session.taken (map seen (answered_all p (take o.stops.n calls)) ++ (FAULT memory_fault ∷ map idle (drop (o.stops.n + 1) calls))) z) (sym (ap (λ (z : Parser). z.session.taken) o.wants.is)) g)
 
 -- what holds of all answers of a run holds of those that were appended
-pub puts : (Holds : List Seen → Type 0) (p : Parser) (calls : List Call) (old new : List yaml_answer_t) (q : Parser) → PutsAnswers p calls old new q → ((answers : List Seen) → Runs p calls answers q → Holds answers) → Puts Holds old new
+pub puts : (Holds : List Seen → Type 0) (p : Parser) (calls : List Call) (old new : List yaml_answer_t) (q : Parser) → PutsAnswers decoded_input p calls old new q → ((answers : List Seen) → Runs decoded_input p calls answers q → Holds answers) → Puts Holds old new
 puts Holds p calls old new q g h = record { more = g.more; is = g.is; holds = h (map seen_of g.more) g.runs }

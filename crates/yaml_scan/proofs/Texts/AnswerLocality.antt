@@ -1,31 +1,37 @@
 -- The answers to a refused input are those to every accepted one that agrees with it up to the refused character.
-use Rattle.std.proofs.Common.{◌≡◌, ℕ, zero, suc, ◌+◌, ◌<◌, Bool, true, false, List, [], ◌∷◌, ◌++◌, map, take, drop, length, slice_get, Option, Some, None, refl, ap, sym, ◌∙◌, subst, arith, inl, inr, append_assoc}
+use Rattle.std.proofs.Common.{◌≡◌, ℕ, zero, suc, ◌+◌, ◌<◌, Bool, true, false, List, [], ◌∷◌, ◌++◌, map, take, drop, length, slice_get, Option, Some, None, refl, ap, sym, ◌∙◌, subst, arith, inl, inr}
 use Rattle.std.specs.Prelude.{◌⊎◌, if◌then◌else◌}
 use Rattle.std.proofs.lemmas.Bool.{false≢true}
+use Rattle.yaml_text.specs.Fault.{Fault, memory_fault}
 use Rattle.yaml_text.specs.declared.types.yaml_encoding_t.{yaml_encoding_t}
+use Rattle.yaml_scan.specs.Settled.{tokens_of}
+use Rattle.yaml_scan.specs.Course.{Input, Course, course}
+use Rattle.yaml_scan.specs.Puts.{idle}
+use Rattle.yaml_scan.specs.ParserCalls.{answered}
 use Rattle.yaml_scan.specs.Token.{yaml_token_t, empty}
-use Rattle.yaml_scan.specs.Fault.{Fault, memory_fault}
 use Rattle.yaml_scan.specs.Begins.{Begins}
 use Rattle.yaml_scan.specs.Groups.{Token, handed_out}
-use Rattle.yaml_scan.specs.Answers.{Input, Course, Answers, course, tokens_of, answers}
+use Rattle.yaml_scan.specs.Answers.{Answers, answers}
 use Rattle.yaml_scan.specs.Inputs.{answers_to, GoesOn}
 use Rattle.yaml_scan.specs.Decoded.{decoded_input}
-use Rattle.yaml_scan.specs.Session.{Session, Call, Answer, answer, after, next_token, took, paced}
+use Rattle.yaml_scan.specs.Session.{Session, Call, Answer, answer, after, next_token}
 use Rattle.yaml_scan.specs.Sessions.{session, after_all}
-use Rattle.yaml_scan.specs.Session.{looked, finished, why, scan_answer, peek_answer, after_scan, after_peek, after_skip}
+use Rattle.yaml_scan.specs.Session.{why}
 use Rattle.yaml_scan.specs.Session.Call.{SCAN, PEEK, SKIP}
 use Rattle.yaml_scan.specs.Session.Answer.{TOKEN, PEEKED, SKIPPED, NOTHING, FAULT}
 use Rattle.yaml_scan.specs.SessionLaws.{FaultOfRefused}
 use Rattle.yaml_scan.specs.SessionLaws.FaultOfRefused.{at_once, near, far}
-use Rattle.yaml_scan.specs.Parser.{Parser, answered, course_read}
+use Rattle.yaml_scan.specs.Parser.{Parser, course_by}
 use Rattle.yaml_scan.specs.Headline.{Calls, Runs}
-use Rattle.yaml_scan.specs.Seen.{Seen, seen, idle, Seen as sight}
+use Rattle.yaml_scan.specs.Seen.{Seen, seen, Seen as sight}
 use Rattle.yaml_scan.specs.All.{ReadsAll}
 use Rattle.yaml_scan.specs.Puts.{answered_all, HasNext, of_input, IsAnsweredAlike, StopsWith, AreAnsweredAlike, AreReadAlike, OfSession}
+use Rattle.yaml_scan.proofs.SessionCalls.CallCases.{took, paced, looked, finished, scan_answer, peek_answer, after_scan, after_peek, after_skip}
 use Rattle.yaml_scan.proofs.Course.CourseSteps.{refused_has_fault}
 use Rattle.yaml_scan.proofs.Course.InputLaws.{inputs_keep_order, agree, encoding_is, late_faults}
 use Rattle.yaml_scan.proofs.Texts.StepLocality.{tokens_before_refusal, fault_before_refusal}
 use Rattle.yaml_scan.proofs.SessionCalls.TokensTaken.{IsQuiet, quiet_calls, IsShowing, showing_after}
+use Rattle.yaml_scan.proofs.TokenList.NeverRevised.{Begins-trans}
 use Rattle.yaml_scan.proofs.SessionCalls.CallByCall.{of_session}
 
 get_front : (xs ys : List Token) (n : ℕ) (x : Token) → Begins xs ys → slice_get xs n ≡ Some x → slice_get ys n ≡ Some x
@@ -208,16 +214,16 @@ of_both : (limit : ℕ) (s : yaml_encoding_t) (a : List ℕ) (t : yaml_encoding_
 of_both limit s a t b refused g w x y u v e (inl k) = inl (e ∙ k.answer_is)
 of_both limit s a t b refused g w x y u v e (inr k) = inr (inl (e ∙ k.answer_is))
 
-pub scanned_alike : (p : Parser) (a : Answer) (q : Parser) → Calls SCAN p a q → IsAnsweredAlike p SCAN a
-unfolding course_read
+pub scanned_alike : (p : Parser) (a : Answer) (q : Parser) → Calls decoded_input SCAN p a q → IsAnsweredAlike p SCAN a
+unfolding course_by
 scanned_alike p a q (inr w) t b fault g = inr (inr w.0)
 scanned_alike p a q (inl w) t b fault g =
     let u = p.session in
     of_both p.limit p.setting p.input t b fault g a (answered p SCAN) (answered (of_input p t b) SCAN) _ _ w.0
     (scan_both p.limit p.setting p.input t b fault g u u (like_self p.limit p.setting p.input t b fault g u) u.over (next_token p.limit (course p.limit (decoded_input p.setting p.input)) u) refl refl)
 
-pub peeked_alike : (p : Parser) (a : Answer) (q : Parser) → Calls PEEK p a q → IsAnsweredAlike p PEEK a
-unfolding course_read
+pub peeked_alike : (p : Parser) (a : Answer) (q : Parser) → Calls decoded_input PEEK p a q → IsAnsweredAlike p PEEK a
+unfolding course_by
 peeked_alike p a q (inr w) t b fault g = inr (inr w.0)
 peeked_alike p a q (inl w) t b fault g =
     let u = p.session in
@@ -226,37 +232,34 @@ peeked_alike p a q (inl w) t b fault g =
 
 -- LISTS OF CALLS
 run_alike : (p : Parser) (calls : List Call) (t : yaml_encoding_t) (b : List ℕ) (fault : Fault) (g : GoesOn p.setting p.input t b fault) → (p.session.peeked ≡ true → HasNext p) → Alike p.limit p.setting p.input t b fault g calls p.session p.session
-unfolding course_read
+unfolding course_by
 run_alike p calls t b fault g h = alike p.limit p.setting p.input t b fault g calls p.session p.session (like_self p.limit p.setting p.input t b fault g p.session) h
 
 runs_of_session : (p : Parser) (calls : List Call) (answers : List Seen) (q : Parser) → (p.session.peeked ≡ true → HasNext p) → OfSession p calls answers q → AreAnsweredAlike p calls answers
-unfolding course_read
+unfolding course_by
 runs_of_session p calls answers q h (inl r) t b fault g = go (run_alike p calls t b fault g h)
   where
     go : Alike p.limit p.setting p.input t b fault g calls p.session p.session
         → (answers ≡ map seen (answered_all (of_input p t b) calls)) ⊎ (StopsWith fault (of_input p t b) calls answers ⊎ StopsWith memory_fault (of_input p t b) calls answers)
     go (inl e) = inl (r.0 ∙ e)
     go (inr k) = inr (inl (record { n = k.n; within = k.within; answers_are = r.0 ∙ k.is }))
-runs_of_session p calls answers q h (inr o) t b fault g = go (run_alike p (take o.n calls) t b fault g h)
+runs_of_session p calls answers q h (inr o) t b fault g = go (run_alike p (take o.stops.n calls) t b fault g h)
   where
-    go : Alike p.limit p.setting p.input t b fault g (take o.n calls) p.session p.session
+    go : Alike p.limit p.setting p.input t b fault g (take o.stops.n calls) p.session p.session
         → (answers ≡ map seen (answered_all (of_input p t b) calls)) ⊎ (StopsWith fault (of_input p t b) calls answers ⊎ StopsWith memory_fault (of_input p t b) calls answers)
-    go (inl e) = inr (inr (record { n = o.n; within = o.within; answers_are = o.answers ∙ ap (λ (z : List Seen). z ++ (sight.FAULT memory_fault ∷ map idle (drop (o.n + 1) calls))) e }))
+    go (inl e) = inr (inr (record { n = o.stops.n; within = o.stops.within; answers_are = o.stops.answers_are ∙ ap (λ (z : List Seen). z ++ (sight.FAULT memory_fault ∷ map idle (drop (o.stops.n + 1) calls))) e }))
     go (inr k) = absurd (false≢true (sym o.wants.was_open ∙ k.over))
 
-pub runs_alike : (p : Parser) (calls : List Call) (answers : List Seen) (q : Parser) → (p.session.peeked ≡ true → HasNext p) → Runs p calls answers q → AreAnsweredAlike p calls answers
+pub runs_alike : (p : Parser) (calls : List Call) (answers : List Seen) (q : Parser) → (p.session.peeked ≡ true → HasNext p) → Runs decoded_input p calls answers q → AreAnsweredAlike p calls answers
 runs_alike p calls answers q h w = runs_of_session p calls answers q h (of_session p calls answers q w)
 
 -- ALL TOKENS
-begins_on : {A : Type 0} (xs ys zs : List A) → Begins xs ys → Begins ys zs → Begins xs zs
-begins_on xs ys zs f g = record { rest = f.rest ++ g.rest; is = g.is ∙ ap (λ z. z ++ g.rest) f.is ∙ append_assoc xs f.rest g.rest }
-
 fault_to : (limit : ℕ) (setting : yaml_encoding_t) (input : List ℕ) → (answers_to limit setting input).fault ≡ (course limit (decoded_input setting input)).fault
 unfolding answers_to answers
 fault_to limit setting input = refl
 
 pub reads_alike : (limit : ℕ) (s : yaml_encoding_t) (a : List ℕ) (tokens : List yaml_token_t) (fault : Option Fault) → ReadsAll limit s a tokens fault → AreReadAlike limit s a tokens fault
-reads_alike limit s a tokens fault (inr k) t b refused g = (begins_on tokens (answers_to limit s a).tokens (answers_to limit t b).tokens k.0.beginning (late_faults limit s a t b refused g).0, inr (inr k.1))
+reads_alike limit s a tokens fault (inr k) t b refused g = (Begins-trans tokens (answers_to limit s a).tokens (answers_to limit t b).tokens k.0.beginning (late_faults limit s a t b refused g).0, inr (inr k.1))
 reads_alike limit s a tokens fault (inl k) t b refused g =
     let z = late_faults limit s a t b refused g in
     let f = ends_with limit s a t b refused g in

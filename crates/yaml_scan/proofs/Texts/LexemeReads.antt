@@ -22,7 +22,9 @@ use Rattle.yaml_lexeme.specs.Uri.{uri, some_uri}
 use Rattle.yaml_lexeme.specs.Tag.{tag, angled, handled, lone}
 use Rattle.yaml_lexeme.specs.Directive.{directive, named, version_at, tag_directive_at, number, handle_at}
 use Rattle.std.proofs.lemmas.Bool.{false≢true}
-use Rattle.yaml_lexeme.specs.Lex.{decides, lex, in_flow, least, quoted_as}
+use Rattle.yaml_lexeme.specs.Lex.{lex, in_flow, least}
+use Rattle.yaml_lexeme.specs.KindSets.{quoted_as}
+use Rattle.yaml_lexeme.specs.Decider.{decides}
 use Rattle.yaml_lexeme.specs.Lexeme.{whole_of, scalar_to, directive_to}
 use Rattle.yaml_lexeme.specs.StreamEnd.{stream_end}
 use Rattle.yaml_lexeme.specs.Locality.{reach}

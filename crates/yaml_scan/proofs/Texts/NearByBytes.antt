@@ -8,13 +8,15 @@ use Rattle.std.proofs.lemmas.List.{drop_at}
 use Rattle.std.proofs.lemmas.List.Elements.{filter-append}
 use Rattle.std.proofs.lemmas.Str.{encode_ascii, encodes-append, length-encode}
 use lib.Utf8.{encode, next}
-use Rattle.yaml_text.specs.Chars.{AreChars, IsChar, utf8}
+use Rattle.yaml_text.specs.Chars.{utf8}
+use Rattle.yaml_text.specs.TextBytes.{AreChars, IsChar}
 use Rattle.yaml_text.specs.Utf8.{continues}
 use Rattle.yaml_text.specs.declared.types.yaml_mark_t.{yaml_mark_t}
 use Rattle.yaml_text.proofs.Characters.Utf8Spelling.{two, three, four}
 use Rattle.yaml_text.proofs.Characters.CharRanges.{char_range}
 use Rattle.yaml_text.proofs.Marks.MarkMoves.{AreChars-parts}
-use Rattle.yaml_lexeme.specs.Place.{skip, skip_from, mark_after, ends_line, width}
+use Rattle.yaml_lexeme.specs.Place.{skip}
+use Rattle.yaml_lexeme.specs.inside.Moves.{skip_from, mark_after, ends_line}
 use Rattle.yaml_scan.specs.SourceOf.{source_of}
 use Rattle.yaml_scan.specs.Near.{is_near}
 use Rattle.yaml_scan.specs.inside.NearFault.{starts}
@@ -69,13 +71,13 @@ short [] = omega arith
 short (c ∷ cs) = let a = length-append (encode c) (utf8 cs) in let b = length-encode c in let d : 1 ≤ len_utf8 c = grind (arith, nat_tests) in let r = short cs in omega arith
 
 -- THE INDEX OF A PLACE
-width_is : (c : ℕ) → width c ≡ length (encode c)
+width_is : (c : ℕ) → len_utf8 c ≡ length (encode c)
 width_is c = (grind (arith, nat_tests)) ∙ sym (length-encode c)
 
-index_after : (m : yaml_mark_t) (c after : ℕ) → (mark_after m c after).index ≡ m.index + width c
+index_after : (m : yaml_mark_t) (c after : ℕ) → (mark_after m c after).index ≡ m.index + len_utf8 c
 index_after m c after = go (ends_line c after)
   where
-    go : (b : Bool) → let n : yaml_mark_t = (if b then record { index = m.index + width c; line = m.line + 1; column = 0 } else record { index = m.index + width c; line = m.line; column = m.column + 1 }) in n.index ≡ m.index + width c
+    go : (b : Bool) → let n : yaml_mark_t = (if b then record { index = m.index + len_utf8 c; line = m.line + 1; column = 0 } else record { index = m.index + len_utf8 c; line = m.line; column = m.column + 1 }) in n.index ≡ m.index + len_utf8 c
     go true = refl
     go false = refl
 

@@ -4,12 +4,14 @@ use Rattle.std.specs.Prelude.{if◌then◌else◌, nat_lt, nat_eq, slice_index, 
 use Rattle.std.proofs.lemmas.Bool.{cases_Bool, cases_lt, false≢true}
 use Rattle.yaml_text.specs.declared.types.yaml_mark_t.{yaml_mark_t}
 use Rattle.yaml_text.specs.Token.{TokenData as token}
-use Rattle.yaml_text.specs.Chars.{AreChars, IsChar, is_char}
+use Rattle.yaml_text.specs.Chars.{is_char}
+use Rattle.yaml_text.specs.TextBytes.{AreChars, IsChar}
 use Rattle.yaml_text.specs.Classes.{is_z}
 use Rattle.yaml_lexeme.specs.declared.kind.yaml_lexeme_kind_t.TheVariants as kind
 use Rattle.yaml_lexeme.specs.declared.lex.yaml_context_t.{yaml_context_t}
 use Rattle.yaml_lexeme.specs.Lexeme.{Lexeme as yaml_lexeme_t}
-use Rattle.yaml_lexeme.specs.Place.{Place, place_at, start, skip, skip_from, first, peek}
+use Rattle.yaml_lexeme.specs.Place.{Place, place_at, start, skip, first, peek}
+use Rattle.yaml_lexeme.specs.inside.Moves.{skip_from}
 use Rattle.yaml_lexeme.specs.Reading.{Found, Read}
 use Rattle.yaml_lexeme.specs.Gap.{gap}
 use Rattle.yaml_lexeme.specs.Kind.{kind_at, is_marker_of, starts_plain}
@@ -45,7 +47,7 @@ zero_char x h z = let e : x ≡ 0 = eqb-true x 0 z in subst (λ (y : ℕ). IsCha
 chars_left : (n : ℕ) (m : yaml_mark_t) (cs : List ℕ) → AreChars cs → AreChars (skip_from n m cs).rest
 chars_left zero m cs c = c
 chars_left (suc n) m [] c = c
-chars_left (suc n) m (x ∷ cs) c = chars_left n _ cs c.1
+chars_left (suc n) m (x ∷ cs) c = chars_left n m cs c.1
 
 first_char : (cs : List ℕ) → AreChars cs → 0 < length cs → is_z (slice_index cs 0) ≡ true → ⊥
 first_char [] c l z = omega arith

@@ -2,22 +2,23 @@
 use Rattle.std.proofs.Common.{◌≡◌, ℕ, ◌+◌, ◌≤◌, Bool, true, false, List, [], ◌∷◌, ◌++◌, Option, Some, None, refl, ap, sym, ◌∙◌, subst, arith, inl, inr, ltb-false}
 use Rattle.std.specs.Prelude.{◌⊎◌, nat_lt, Result, Ok, Err, option_map}
 use Rattle.std.proofs.lemmas.Bool.{cases_Bool, false≢true}
+use Rattle.yaml_text.specs.Fault.{Fault}
 use Rattle.yaml_text.specs.declared.types.yaml_mark_t.{yaml_mark_t}
+use Rattle.yaml_scan.specs.inside.StepParts.{gap_step, kind_step, read_step, after_read}
+use Rattle.yaml_scan.specs.Course.{Input, Course, next, course, course_from}
 use Rattle.yaml_scan.specs.Kind.{Kind, is_stream_end}
 use Rattle.yaml_scan.specs.Laid.{Laid}
 use Rattle.yaml_scan.specs.Depth.{depth}
 use Rattle.yaml_scan.specs.Allowed.{allowed_after}
 use Rattle.yaml_scan.specs.Levels.{laid, level}
-use Rattle.yaml_scan.specs.Settled.{before}
+use Rattle.yaml_scan.specs.Settled.{before, tokens_of}
 use Rattle.yaml_scan.specs.Order.{IsHistory}
-use Rattle.yaml_scan.specs.Fault.{Fault}
 use Rattle.yaml_scan.specs.Begins.{Begins}
 use Rattle.yaml_scan.specs.Source.{Source, Reading, Offence}
-use Rattle.yaml_scan.specs.Step.{Outcome, step, gap_step, kind_step, read_step, after_read, unless, refuse, stale}
+use Rattle.yaml_scan.specs.Step.{Outcome, step, unless, refuse, stale}
 use Rattle.yaml_scan.specs.Step.{refused, clears, start_at, lexeme_of, place_after, front_of}
 use Rattle.yaml_scan.specs.Step.Outcome.{Reads, Faults}
 use Rattle.yaml_scan.specs.Cut.{cut, IsRun, EndsWith, KeepsOrder}
-use Rattle.yaml_scan.specs.Answers.{Input, Course, next, course, course_from, tokens_of}
 use Rattle.yaml_scan.specs.Near.{unless_near, is_near, place_of, starts_near}
 use Rattle.yaml_scan.specs.Locality.{place_read, ReadsSame, StepIsLocal, AgreesWith, TokensBeforeRefusal}
 use Rattle.yaml_scan.specs.Locality.{FaultBeforeRefusal}
@@ -78,7 +79,7 @@ module _ (S : Source) (limit : ℕ) (H : List Laid) (k : KeepsOrder S) (w : plac
       (unless_from (clears limit H j (S.mark (front_of S H))) (start_at j (S.mark (front_of S H))) (front_of S H) (read_step S limit H j (front_of S H)) b)
 
   pub step_from : front_of S H ≤ place_of (step S limit H)
-  unfolding step
+  unfolding step read_step
   step_from = unless_from (stale limit H (S.mark (front_of S H))) (S.mark (front_of S H)) (front_of S H) _ (kind_from (S.kind (nat_lt 0 (depth H)) (front_of S H)) refl)
 
   module _ (T : Source) (r : ℕ) (e : ReadsSame r S T) (l : place_of (step S limit H) ≤ r) where
@@ -105,7 +106,7 @@ module _ (S : Source) (limit : ℕ) (H : List Laid) (k : KeepsOrder S) (w : plac
         (λ n. unless_same r (clears limit H j (S.mark (front_of S H))) (start_at j (S.mark (front_of S H))) (front_of S H) _ _ n (read_same j))
 
     pub step_same : step T limit H ≡ step S limit H
-    unfolding step
+    unfolding step read_step
     step_same =
         ap (gap_step T limit H) front_same
         ∙ ap (λ (o : Option Kind). unless (stale limit H (T.mark (front_of S H))) (T.mark (front_of S H)) (front_of S H) (kind_step T limit H (front_of S H) o)) kind_same

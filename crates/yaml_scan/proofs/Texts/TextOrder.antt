@@ -2,10 +2,11 @@
 use Rattle.std.proofs.Common.{◌≡◌, ℕ, zero, suc, ◌+◌, ◌≤◌, Bool, true, false, List, [], ◌∷◌, length, Option, Some, Ok, Err, refl, ap, sym, ◌∙◌, arith, inl, inr}
 use Rattle.std.specs.Prelude.{nat_lt, ◌==◌, if◌then◌else◌, slice_index}
 use Rattle.std.proofs.lemmas.Bool.{cases_Bool}
-use Rattle.yaml_text.specs.Chars.{AreChars}
+use Rattle.yaml_text.specs.TextBytes.{AreChars}
 use Rattle.yaml_text.specs.declared.types.yaml_mark_t.{yaml_mark_t}
 use Rattle.yaml_lexeme.specs.declared.kind.yaml_lexeme_kind_t.TheVariants.{STREAM_END}
-use Rattle.yaml_lexeme.specs.Place.{Place, place_at, start, skip, skip_from, mark_after, ends_line}
+use Rattle.yaml_lexeme.specs.Place.{place_at, start, skip}
+use Rattle.yaml_lexeme.specs.inside.Moves.{skip_from, mark_after, ends_line}
 use Rattle.yaml_lexeme.specs.Lex.{lex}
 use Rattle.yaml_lexeme.specs.StreamEnd.{stream_end}
 use Rattle.yaml_lexeme.proofs.Places.PlaceMoves.{length_skip}
@@ -35,7 +36,7 @@ text_problem cs c k d l p o w h e =
 sums_after : (m : yaml_mark_t) (c next : ℕ) → (mark_after m c next).line + (mark_after m c next).column ≤ m.line + m.column + 1
 sums_after m c next = go (ends_line c next)
   where
-    go : (b : Bool) → let n : yaml_mark_t = (if b then record { index = m.index + Rattle.yaml_lexeme.specs.Place.width c; line = m.line + 1; column = 0 } else record { index = m.index + Rattle.yaml_lexeme.specs.Place.width c; line = m.line; column = m.column + 1 }) in n.line + n.column ≤ m.line + m.column + 1
+    go : (b : Bool) → let n : yaml_mark_t = (if b then record { index = m.index + Rattle.std.specs.Char.len_utf8 c; line = m.line + 1; column = 0 } else record { index = m.index + Rattle.std.specs.Char.len_utf8 c; line = m.line; column = m.column + 1 }) in n.line + n.column ≤ m.line + m.column + 1
     go true = omega arith
     go false = omega arith
 

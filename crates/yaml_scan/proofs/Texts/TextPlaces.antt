@@ -2,17 +2,20 @@
 use Rattle.std.proofs.Common.{◌≡◌, ℕ, ◌+◌, ◌-◌, ◌≤◌, Bool, true, false, List, length, Option, Some, None, Result, Ok, Err, refl, ap, sym, ◌∙◌, arith, inl, inr}
 use Rattle.yaml_text.specs.declared.types.yaml_mark_t.{yaml_mark_t}
 use Rattle.yaml_text.specs.Fault.{Fault}
-use Rattle.yaml_lexeme.specs.Lexeme.{Lexeme as yaml_lexeme_t, lexeme_of}
+use Rattle.yaml_lexeme.specs.Lexeme.{Lexeme as yaml_lexeme_t}
+use Rattle.yaml_lexeme.specs.LexemeOf.{lexeme_of}
 use Rattle.yaml_lexeme.specs.declared.lexeme.yaml_lexeme_t.{yaml_lexeme_t as code_lexeme_t}
-use Rattle.yaml_lexeme.specs.Place.{Place, place_at, start, IsMarkOf}
+use Rattle.yaml_lexeme.specs.Place.{Place, place_at, start}
+use Rattle.yaml_lexeme.specs.Counted.{IsMarkOf}
 use Rattle.yaml_lexeme.specs.Order.{IsAhead}
-use Rattle.yaml_lexeme.specs.Answers.{ReadsAs, refused_at}
+use Rattle.yaml_lexeme.specs.Answers.{ReadsAs, refused_at, lexeme_at, answer}
 use Rattle.yaml_lexeme.specs.declared.problem.yaml_refusal_t.{yaml_refusal_t}
 use Rattle.yaml_lexeme.specs.Reading as lexemes
-use Rattle.yaml_lexeme.specs.Gap.{gap, IsGap}
+use Rattle.yaml_lexeme.specs.Gap.{gap}
+use Rattle.yaml_lexeme.specs.Decider.{IsGap, decides}
 use Rattle.yaml_lexeme.specs.Kind.{kind_at}
 use Rattle.yaml_lexeme.specs.declared.lex.yaml_context_t.{yaml_context_t}
-use Rattle.yaml_lexeme.specs.Lex.{lex, lexeme_at, answer, decides}
+use Rattle.yaml_lexeme.specs.Lex.{lex}
 use Rattle.yaml_lexeme.proofs.Places.PlaceMoves.{skip_skip, length_skip}
 use Rattle.std.specs.Option.{IfSome}
 use Rattle.std.specs.Prelude.{is_err}

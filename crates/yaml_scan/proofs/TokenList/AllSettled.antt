@@ -2,13 +2,13 @@
 use Rattle.std.proofs.Common.{◌≡◌, ℕ, ◌+◌, ◌≤◌, ◌<◌, Bool, true, false, List, [], ◌∷◌, ◌++◌, length, length-append, filter, Some, None, refl, ap, sym, ◌∙◌, subst, arith, eqb, eq-eqb, eqb-true, inl, inr}
 use Rattle.std.specs.Prelude.{◌⊎◌}
 use Rattle.std.proofs.lemmas.Bool.{cases_Bool, cases_eq, cases_order, and_parts, and_from, eqb-false, false≢true}
+use Rattle.yaml_scan.specs.Course.{ended}
 use Rattle.yaml_scan.specs.Kind.{is_stream_end, is_flow_start, is_flow_end}
 use Rattle.yaml_text.specs.declared.types.yaml_mark_t.{yaml_mark_t}
 use Rattle.yaml_scan.specs.Laid.{Laid, reach}
 use Rattle.yaml_scan.specs.Keys.{candidate, live, enters, is_candidate}
 use Rattle.yaml_scan.specs.Depth.{depth}
 use Rattle.yaml_scan.specs.Order.{IsHistory, IsNotBefore}
-use Rattle.yaml_scan.specs.Steps.{ended}
 use Rattle.yaml_scan.specs.Groups.{offline}
 use Rattle.yaml_scan.specs.Settled.{waiting, before, is_current, last_of}
 use Rattle.yaml_scan.proofs.History.DepthOneOn.{depth-start, depth-end, depth-same}

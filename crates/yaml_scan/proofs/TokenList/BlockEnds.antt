@@ -5,11 +5,10 @@ use Rattle.std.proofs.lemmas.Bool.{cases_Bool, cases_lt, false≢true, or_right}
 use Rattle.std.proofs.lemmas.List.{map-append, reverse-append, take-append-le}
 use Rattle.std.proofs.lemmas.List.Elements.{filter-append}
 use Rattle.yaml_scan.specs.Kind.{is_block_entry, is_stream_end, closes_all}
-use Rattle.yaml_scan.specs.Lexeme.{Lexeme}
 use Rattle.yaml_scan.specs.Groups.{Token, inserted, group, groups, block_ends, block_start, end_mark, offline}
 use Rattle.yaml_scan.specs.Groups.Token.{StreamStart, BlockEnd, BlockSequenceStart, BlockMappingStart, InsertedKey, OfLexeme}
 use Rattle.yaml_scan.specs.Laws.{is_of_lexeme, is_block_end, is_block_start, ends_in, starts_in, key_tokens}
-use Rattle.yaml_scan.specs.Laid.{is_none, Laid, column}
+use Rattle.yaml_scan.specs.Laid.{is_none, Laid, column, Lexeme}
 use Rattle.yaml_scan.specs.Depth.{depth}
 use Rattle.yaml_scan.specs.Order.{IsHistory}
 use Rattle.yaml_scan.specs.Levels.{opens, is_completed, open_columns, kept_columns, keeps, is_opener, is_above}

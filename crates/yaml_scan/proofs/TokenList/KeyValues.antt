@@ -4,8 +4,7 @@ use Rattle.std.specs.Prelude.{◌⊎◌, if◌then◌else◌, nat_eq}
 use Rattle.std.specs.List.{list_any}
 use Rattle.std.proofs.lemmas.Bool.{cases_Bool, cases_lt, and_from, and_parts, or_left, or_right, false≢true}
 use Rattle.yaml_scan.specs.Kind.{is_block_entry}
-use Rattle.yaml_scan.specs.Lexeme.{Lexeme}
-use Rattle.yaml_scan.specs.Laid.{Laid, column, reach}
+use Rattle.yaml_scan.specs.Laid.{Laid, column, reach, Lexeme}
 use Rattle.yaml_scan.specs.Keys.{candidate, live}
 use Rattle.yaml_scan.specs.Depth.{depth}
 use Rattle.yaml_scan.specs.Levels.{opens, is_completed, is_above}

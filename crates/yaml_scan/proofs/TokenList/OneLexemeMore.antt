@@ -4,6 +4,7 @@ use Rattle.std.proofs.Common.{Some, None, refl, ap, sym, ◌∙◌, subst, arith
 use Rattle.std.specs.Prelude.{if◌then◌else◌, option_map, nat_eq}
 use Rattle.std.proofs.lemmas.Bool.{cases_Bool, false≢true}
 use Rattle.std.proofs.lemmas.List.{take_at, drop_at}
+use Rattle.yaml_scan.specs.Course.{ended}
 use Rattle.yaml_scan.specs.Laid.{Laid}
 use Rattle.yaml_scan.specs.Depth.{depth}
 use Rattle.yaml_scan.specs.Keys.{candidate, is_candidate, enters, completed_by}
@@ -14,7 +15,6 @@ use Rattle.yaml_scan.specs.Laws.{put_in}
 use Rattle.yaml_scan.specs.Settled.{up_to}
 use Rattle.yaml_scan.specs.Groups.Token.{OfLexeme}
 use Rattle.yaml_scan.specs.Order.{IsHistory}
-use Rattle.yaml_scan.specs.Steps.{ended}
 use Rattle.yaml_scan.specs.Laws.{CandidatesGoOn, CandidatesAreNested, new_column, ColumnsGoOn, ColumnsFall, first_of}
 use Rattle.yaml_scan.specs.Laws.{LevelIsFirst, LevelStays, key_tokens, with_key, OfflineGoesOn, CandidateStandsThere}
 use Rattle.yaml_scan.specs.Laws.{NeverRevised, FewWait, FewWaitOneStepOn, AllIsHandedOut, LexemesComeInOrder}

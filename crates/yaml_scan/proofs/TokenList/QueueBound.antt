@@ -2,13 +2,13 @@
 use Rattle.std.proofs.Common.{◌≡◌, ℕ, ◌+◌, ◌≤◌, ◌<◌, Bool, true, false, List, [], ◌∷◌, ◌++◌, length, length-append, Option, Some, None, refl, ap, sym, subst, arith, eqb, leb, leb-true, le-ltb, ltb, append_assoc}
 use Rattle.std.specs.Prelude.{if◌then◌else◌}
 use Rattle.std.proofs.lemmas.Bool.{and_parts}
+use Rattle.yaml_scan.specs.Course.{ended}
 use Rattle.yaml_scan.specs.Settled.{is_current, waiting, before}
 use Rattle.yaml_scan.specs.Sessions.{queued}
 use Rattle.yaml_scan.specs.Groups.{Token, groups, block_ends}
 use Rattle.yaml_scan.specs.Laid.{Laid, reach}
 use Rattle.yaml_scan.specs.Keys.{live}
 use Rattle.yaml_scan.specs.Order.{IsHistory}
-use Rattle.yaml_scan.specs.Steps.{ended}
 use Rattle.yaml_scan.proofs.History.HistoryOrder.{to_start, byte_taken}
 use Rattle.yaml_scan.specs.Begins.{Begins}
 use Rattle.yaml_scan.proofs.TokenList.NeverRevised.{groups-append, is_live_candidate, IsEarliest}

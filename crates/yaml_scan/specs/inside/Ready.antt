@@ -5,6 +5,7 @@ use Rattle.yaml_text.specs.declared.types.yaml_encoding_t.{yaml_encoding_t}
 use Rattle.yaml_text.specs.declared.types.yaml_encoding_t.TheVariants.{YAML_UTF8_ENCODING}
 use Rattle.yaml_text.specs.Decode.{front}
 use Rattle.yaml_text.specs.Fault.{Fault, memory_fault, zero_mark, fault_of}
+use Rattle.yaml_scan.specs.Course.{Course, course}
 use Rattle.yaml_scan.specs.declared.scanner.scanner_t.{scanner_t}
 use Rattle.yaml_scan.specs.declared.parser.yaml_parser_t.TheInside.{Inside}
 use Rattle.yaml_text.specs.Token.{token_of}
@@ -12,8 +13,7 @@ use Rattle.yaml_scan.specs.KeyLimits.{most_key_limit}
 use Rattle.yaml_scan.specs.Laid.{reach}
 use Rattle.yaml_scan.specs.Token.{yaml_token_t, empty}
 use Rattle.yaml_scan.specs.Groups.{Token, handed_out}
-use Rattle.yaml_scan.specs.Settled.{before, settled, pace, first_steps}
-use Rattle.yaml_scan.specs.Answers.{Course, course, tokens_of}
+use Rattle.yaml_scan.specs.Settled.{before, settled, pace, first_steps, tokens_of}
 use Rattle.yaml_scan.specs.Session.{all_steps}
 use Rattle.yaml_scan.specs.Sessions.{session_queued}
 use Rattle.yaml_scan.specs.Decoded.{decoded_input}

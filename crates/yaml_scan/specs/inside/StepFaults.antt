@@ -2,8 +2,8 @@
 use Rattle.std.specs.Prelude.{◌≡◌, ℕ, List, Option, None, Some}
 use Rattle.yaml_text.specs.declared.types.yaml_mark_t.{yaml_mark_t}
 use Rattle.yaml_text.specs.Fault.{Fault, scanner_fault}
+use Rattle.yaml_scan.specs.Step.{no_colon, in_simple_key}
 use Rattle.yaml_scan.specs.inside.Slots.{Held}
-use Rattle.yaml_scan.specs.Fault.{no_colon, in_simple_key}
 
 -- the fault of a lost candidate
 abbrev pub IsLost : Option Held → yaml_mark_t → Fault → Type 0

@@ -2,7 +2,7 @@
 use Rattle.std.specs.Prelude.{◌≡◌, ℕ, ◌≤◌, Bool, true, List, Option, Some, Ok, Err}
 use Rattle.yaml_text.specs.declared.types.yaml_error_type_t.TheVariants.{YAML_SCANNER_ERROR}
 use Rattle.yaml_text.specs.Fault.{Fault}
-use Rattle.yaml_lexeme.specs.Lex.{decides}
+use Rattle.yaml_lexeme.specs.Decider.{decides}
 use Rattle.yaml_lexeme.specs.Lexeme.{Lexeme as yaml_lexeme_t}
 use Rattle.yaml_scan.specs.Kind.{Kind}
 use Rattle.yaml_scan.specs.Source.{Source, Offence}

@@ -5,10 +5,14 @@ use Rattle.std.proofs.lemmas.Bool.Decides.{nat_tests}
 use Rattle.std.proofs.lemmas.List.{get_or-append-add}
 use Rattle.std.proofs.lemmas.Str.{encode_ascii}
 use lib.Utf8.{encode}
-use Rattle.yaml_text.specs.Chars.{AreChars, utf8, is_char}
+use Rattle.yaml_text.specs.Chars.{utf8, is_char}
+use Rattle.yaml_text.specs.TextBytes.{AreChars}
 use Rattle.std.specs.Char.{len_utf8}
 use Rattle.yaml_text.specs.Utf8.{width_of}
-use Rattle.yaml_text.specs.Classes.{Stands, is_digit, is_hex, is_alpha, is_ascii, is_z, is_space, is_tab, is_bom, is_bom_by, is_bom_at, is_breakz, is_breakz_at, is_blankz, is_blankz_at, is_break, is_break_by, is_break_at, is_blank, is_crlf, is_crlf_at, is_printable, is_printable_by, is_printable_at}
+use Rattle.yaml_text.specs.Classes.{is_digit, is_hex, is_alpha, is_z, is_space, is_tab, is_break, is_blank, is_crlf}
+use Rattle.yaml_text.specs.ClassCalls.{Stands, is_ascii, is_bom, is_bom_by, is_bom_at, is_breakz, is_breakz_at}
+use Rattle.yaml_text.specs.ClassCalls.{is_blankz, is_blankz_at, is_break_by, is_break_at, is_crlf_at, is_printable}
+use Rattle.yaml_text.specs.ClassCalls.{is_printable_by, is_printable_at}
 use Rattle.yaml_text.proofs.Characters.Utf8Spelling.{two, three, four}
 use Rattle.yaml_text.proofs.Characters.CharRanges.{char_range}
 

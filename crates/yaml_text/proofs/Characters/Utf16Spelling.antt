@@ -2,7 +2,8 @@
 use Rattle.std.proofs.Common.{◌≡◌, ℕ, ◌+◌, ◌-◌, ◌*◌, ◌/◌, ◌%◌, ◌<◌, ◌≤◌, ◌⊎◌, Bool, true, false, List, [], ◌∷◌, ◌++◌, length, get_or, take, drop, refl, sym, ap, ◌∙◌, subst, append_assoc, inl, inr, arith, lt-ltb, le-ltb}
 use Rattle.std.proofs.lemmas.Bool.{cases_lt, cases_Bool, true≢false}
 use Rattle.std.proofs.lemmas.Bool.Decides.{nat_tests}
-use Rattle.yaml_text.specs.Chars.{is_char, IsChar, AreChars, IsText, utf8}
+use Rattle.yaml_text.specs.Chars.{is_char, utf8}
+use Rattle.yaml_text.specs.TextBytes.{IsChar, AreChars, IsText}
 use Rattle.yaml_text.specs.Utf16.{unit, unit_of, unit_at, spelling16, value16, is_low, is_high, pair_of, utf16}
 use Rattle.yaml_text.specs.inside.Units.{Begins16, BeginsWithNone16, Reads16}
 use Rattle.std.specs.Str.{chars}

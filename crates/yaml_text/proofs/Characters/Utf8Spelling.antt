@@ -6,9 +6,10 @@ use Rattle.std.proofs.lemmas.Bool.Decides.{nat_tests}
 use Rattle.std.proofs.lemmas.Str.{encode_ascii}
 use lib.Utf8.{encode, next}
 use Rattle.yaml_text.specs.declared.types.yaml_encoding_t.TheVariants.{YAML_UTF8_ENCODING}
-use Rattle.yaml_text.specs.Chars.{is_char, IsChar}
+use Rattle.yaml_text.specs.Chars.{is_char}
+use Rattle.yaml_text.specs.TextBytes.{IsChar}
 use Rattle.yaml_text.proofs.Characters.CharRanges.{char_range}
-use Rattle.yaml_text.specs.Decode.{Begins}
+use Rattle.yaml_text.specs.Decoding.{Begins}
 use Rattle.yaml_text.specs.Utf8.{width_of, continues, stray_at, value_of, is_scalar}
 
 pub two : (c : ℕ) → 128 ≤ c → c < 2048 → encode c ≡ (192 + c / 64) ∷ next c ∷ []

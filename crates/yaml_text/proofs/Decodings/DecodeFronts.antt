@@ -9,8 +9,9 @@ use Rattle.std.proofs.lemmas.List.{append-nil, take-append-drop, take_at, length
 use Rattle.std.proofs.lemmas.Str.{chars-encodes, encodes-append, length-encode, len_utf8_bounds}
 use lib.Utf8.{encode, encodes, scalar, scalars}
 use Rattle.yaml_text.specs.declared.types.yaml_encoding_t.TheVariants.{YAML_UTF8_ENCODING}
-use Rattle.yaml_text.specs.Chars.{IsChar, AreChars, IsText, is_char, utf8}
-use Rattle.yaml_text.specs.Decode.{Begins, BeginsWithNone}
+use Rattle.yaml_text.specs.Chars.{is_char, utf8}
+use Rattle.yaml_text.specs.TextBytes.{IsChar, AreChars, IsText}
+use Rattle.yaml_text.specs.Decoding.{Begins, BeginsWithNone}
 use Rattle.yaml_text.proofs.Characters.CharRanges.{char_range}
 
 scalar_range : (c : ℕ) → (c < 0xD800) ⊎ ((0xE000 ≤ c) × (c < 0x110000)) → scalar c ≡ true

@@ -5,9 +5,10 @@ use Rattle.std.proofs.lemmas.Str.{length-encode, len_utf8_bounds}
 use lib.Utf8.{encode}
 use Rattle.yaml_text.specs.declared.types.yaml_encoding_t.{yaml_encoding_t}
 use Rattle.yaml_text.specs.declared.types.yaml_encoding_t.TheVariants.{YAML_ANY_ENCODING, YAML_UTF8_ENCODING, YAML_UTF16LE_ENCODING, YAML_UTF16BE_ENCODING}
-use Rattle.yaml_text.specs.Chars.{IsChar, AreChars}
+use Rattle.yaml_text.specs.TextBytes.{IsChar, AreChars}
 use Rattle.yaml_text.specs.Utf8.{value_of, value8}
-use Rattle.yaml_text.specs.Decode.{spelling, spellings, Begins, BeginsWithNone, IsFront, value_in_front}
+use Rattle.yaml_text.specs.Decode.{spelling, spellings, value_in_front}
+use Rattle.yaml_text.specs.Decoding.{Begins, BeginsWithNone, IsFront}
 use Rattle.yaml_text.proofs.Characters.Utf8Spelling.{Stands, stands}
 use Rattle.yaml_text.proofs.Characters.CharRanges.{char_range}
 use Rattle.yaml_text.proofs.Characters.Utf16Spelling.{value16_is, some_units}

@@ -9,13 +9,17 @@ use Rattle.yaml_text.specs.declared.types.yaml_encoding_t.{yaml_encoding_t}
 use Rattle.yaml_text.specs.declared.types.yaml_encoding_t.TheVariants.{YAML_ANY_ENCODING, YAML_UTF8_ENCODING, YAML_UTF16LE_ENCODING, YAML_UTF16BE_ENCODING}
 use Rattle.yaml_text.specs.declared.fault.yaml_fault_t.{yaml_fault_t}
 use Rattle.yaml_text.specs.declared.offence.offence_t.{offence_t}
-use Rattle.yaml_text.specs.Chars.{is_char, IsChar, AreChars, IsText, utf8}
+use Rattle.yaml_text.specs.Chars.{is_char, utf8}
+use Rattle.yaml_text.specs.TextBytes.{IsChar, AreChars, IsText}
 use Rattle.yaml_text.specs.Utf8.{offence8}
 use Rattle.yaml_text.specs.Utf16.{offence16}
 use Rattle.yaml_text.specs.inside.Units.{Reads16, BeginsWithNone16}
 use Rattle.yaml_text.specs.Fault.{Fault, fault_of, reader_fault}
 use Rattle.yaml_text.specs.Text.{Text}
-use Rattle.yaml_text.specs.Decode.{spelling, spellings, Begins, BeginsWithNone, IsFront, value_in_front, first, and_then_list, first_chars, encoding_of, bom_len, after_bom, offence, front, front_len, refusal, refusal_of, refusal_seen, unless_refused, decoding, IsLongestFront, Spells, IsRefused}
+use Rattle.yaml_text.specs.Decode.{spelling, spellings, value_in_front, first, and_then_list, first_chars, encoding_of}
+use Rattle.yaml_text.specs.Decode.{bom_len, after_bom, offence, front, front_len, refusal, refusal_of}
+use Rattle.yaml_text.specs.Decoding.{Begins, BeginsWithNone, IsFront, refusal_seen, unless_refused, decoding}
+use Rattle.yaml_text.specs.Decoding.{IsLongestFront, Spells, IsRefused}
 use Rattle.yaml_text.specs.inside.Fronts.{order, Fronts}
 use Rattle.yaml_text.proofs.Decodings.DecodeReadings.{longest, value_is, some_spelling, spellings-cons, spellings-nil, none_at_end, one_front}
 

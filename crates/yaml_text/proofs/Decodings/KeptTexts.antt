@@ -6,7 +6,8 @@ use Rattle.std.proofs.Math.Seq.{take-append_seam}
 use Rattle.std.proofs.lemmas.List.{length-append, length-drop}
 use Rattle.yaml_text.specs.declared.types.yaml_encoding_t.{yaml_encoding_t}
 use Rattle.yaml_text.specs.declared.types.yaml_encoding_t.TheVariants.{YAML_UTF8_ENCODING}
-use Rattle.yaml_text.specs.Chars.{utf8, IsText}
+use Rattle.yaml_text.specs.Chars.{utf8}
+use Rattle.yaml_text.specs.TextBytes.{IsText}
 use Rattle.yaml_text.specs.Text.{Text}
 use Rattle.yaml_text.specs.Decode.{front, bom_len, spellings}
 use Rattle.yaml_text.specs.Kept.{IsKeptOf}

@@ -7,7 +7,8 @@ use Rattle.std.proofs.lemmas.Bool.Decides.{nat_tests}
 use Rattle.std.proofs.lemmas.List.{take-append-drop, take_at, length-append, length-take, length-drop}
 use Rattle.std.proofs.lemmas.List.Sums.{prefix_len-le-length}
 use Rattle.std.proofs.lemmas.Str.{encodes-append, encode_ascii}
-use Rattle.yaml_text.specs.Chars.{AreChars, IsText, is_char, utf8}
+use Rattle.yaml_text.specs.Chars.{is_char, utf8}
+use Rattle.yaml_text.specs.TextBytes.{AreChars, IsText}
 use Rattle.yaml_text.specs.inside.Singles.{is_single}
 use Rattle.yaml_text.proofs.Decodings.DecodeFronts.{IsText-nil, IsText-utf8, AreChars-append}
 

@@ -5,8 +5,9 @@ use Rattle.std.proofs.lemmas.Bool.Decides.{nat_tests}
 use Rattle.std.proofs.lemmas.List.{length-drop, drop-drop, get_or-drop}
 use Rattle.std.specs.Char.{len_utf8}
 use Rattle.yaml_text.specs.declared.types.yaml_encoding_t.TheVariants.{YAML_UTF8_ENCODING}
-use Rattle.yaml_text.specs.Chars.{is_char, IsText}
-use Rattle.yaml_text.specs.Decode.{Begins}
+use Rattle.yaml_text.specs.Chars.{is_char}
+use Rattle.yaml_text.specs.TextBytes.{IsText}
+use Rattle.yaml_text.specs.Decoding.{Begins}
 use Rattle.yaml_text.specs.Utf8.{continues}
 use Rattle.yaml_text.specs.inside.Windows.{is_control, is_rare_lead, is_awaited, is_misplaced, differ, is_suspect, AreClean, Starts}
 use Rattle.yaml_text.proofs.Characters.Utf8Spelling.{stray_two, stray_three, stray_four, reads1, reads2, reads3, reads4}

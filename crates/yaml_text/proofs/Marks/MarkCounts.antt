@@ -8,9 +8,11 @@ use Rattle.std.proofs.lemmas.List.{append-nil, length-append, take_at, drop_at}
 use Rattle.std.proofs.lemmas.Str.{encodes-append, length-encode}
 use lib.Utf8.{encode}
 use Rattle.yaml_text.specs.declared.types.yaml_mark_t.{yaml_mark_t}
-use Rattle.yaml_text.specs.Chars.{AreChars, utf8}
+use Rattle.yaml_text.specs.Chars.{utf8}
+use Rattle.yaml_text.specs.TextBytes.{AreChars}
 use Rattle.yaml_text.specs.Classes.{is_break, is_crlf}
-use Rattle.yaml_text.specs.Mark.{ends_break, breaks, column, mark_of, cuts_break, mark_after, mark_on}
+use Rattle.yaml_text.specs.MarkOn.{ends_break, mark_after, mark_on}
+use Rattle.yaml_text.specs.Mark.{break_count, column, mark_of, cuts_break}
 use Rattle.yaml_text.proofs.Decodings.DecodeFronts.{chars-utf8}
 use Rattle.yaml_text.proofs.Marks.MarkMoves.{breaks-append, column-push, last_push, ends_whole, ends_last, two_bytes, AreChars-parts}
 
@@ -20,12 +22,12 @@ same_mark i i' l l' c c' p q r = λ k. record { index = p k; line = q k; column 
 index-push : (before : List ℕ) (c : ℕ) → length (utf8 (before ++ c ∷ [])) ≡ length (utf8 before) + len_utf8 c
 index-push before c = omega (arith, ap length (encodes-append before (c ∷ [])), length-append (utf8 before) (utf8 (c ∷ [])), ap length (append-nil (encode c)), length-encode c)
 
-breaks_one : (c : ℕ) (b : Bool) → is_break c ≡ b → breaks (c ∷ []) ≡ cond b 1 0
+breaks_one : (c : ℕ) (b : Bool) → is_break c ≡ b → break_count (c ∷ []) ≡ cond b 1 0
 breaks_one c true h = rw (ends_last c, h) refl
 breaks_one c false h = rw (ends_last c, h) refl
 
-line-push : (before : List ℕ) (c : ℕ) (b : Bool) → cuts_break before (c ∷ []) ≡ false → is_break c ≡ b → breaks (before ++ c ∷ []) ≡ breaks before + cond b 1 0
-line-push before c b whole h = breaks-append before (c ∷ []) whole ∙ ap (λ n. breaks before + n) (breaks_one c b h)
+line-push : (before : List ℕ) (c : ℕ) (b : Bool) → cuts_break before (c ∷ []) ≡ false → is_break c ≡ b → break_count (before ++ c ∷ []) ≡ break_count before + cond b 1 0
+line-push before c b whole h = breaks-append before (c ∷ []) whole ∙ ap (λ n. break_count before + n) (breaks_one c b h)
 
 pub one_step : (before cs : List ℕ) (c : ℕ) → cuts_break before (c ∷ cs) ≡ false → is_crlf c (get_or cs 0 0) ≡ false → mark_after (mark_of before) c cs ≡ mark_of (before ++ c ∷ [])
 one_step before cs c whole single =
@@ -36,7 +38,7 @@ one_step before cs c whole single =
           rw e (same_mark _ _ _ _ _ _ (sym (index-push before c)) (sym (line-push before c true whole breaks-here)) (sym (column-push before c ∙ ap (λ (b : Bool). cond b 0 (suc (column before))) breaks-here)))
       | inr stays ↦
           let e : ends_break c cs ≡ false = ends ∙ stays in
-          let line : breaks before ≡ breaks (before ++ c ∷ []) = omega (arith, line-push before c false whole stays) in
+          let line : break_count before ≡ break_count (before ++ c ∷ []) = omega (arith, line-push before c false whole stays) in
           let col : column before + 1 ≡ column (before ++ c ∷ []) = omega (arith, column-push before c ∙ ap (λ (b : Bool). cond b 0 (suc (column before))) stays) in
           rw e (same_mark _ _ _ _ _ _ (sym (index-push before c)) line col)
     ]
@@ -48,7 +50,7 @@ cuts-push before cs c = ap (λ x. is_crlf x (get_or cs 0 0)) (last_push before c
 pub two_steps : (before cs : List ℕ) → cuts_break before (13 ∷ []) ≡ false → mark_on 2 (mark_of before) (13 ∷ 10 ∷ cs) ≡ mark_of (before ++ 13 ∷ 10 ∷ [])
 two_steps before cs whole =
     let index : length (utf8 before) + 1 + 1 ≡ length (utf8 (before ++ 13 ∷ 10 ∷ [])) = omega (arith, ap length (encodes-append before (13 ∷ 10 ∷ [])), length-append (utf8 before) (utf8 (13 ∷ 10 ∷ [])), two_bytes) in
-    let line : breaks before + 1 ≡ breaks (before ++ 13 ∷ 10 ∷ []) = omega (arith, breaks-append before (13 ∷ 10 ∷ []) whole) in
+    let line : break_count before + 1 ≡ break_count (before ++ 13 ∷ 10 ∷ []) = omega (arith, breaks-append before (13 ∷ 10 ∷ []) whole) in
     let col : 0 ≡ column (before ++ 13 ∷ 10 ∷ []) = sym (ap column (sym (append_assoc before (13 ∷ []) (10 ∷ []))) ∙ column-push (before ++ 13 ∷ []) 10) in
     same_mark _ _ _ _ _ _ index line col
 

@@ -11,11 +11,14 @@ use Rattle.std.proofs.lemmas.Str.{encodes-append, length-encode, length-le-encod
 use Rattle.std.proofs.Math.Seq.{get_or-append_seam}
 use lib.Utf8.{encode}
 use Rattle.yaml_text.specs.declared.types.yaml_mark_t.{yaml_mark_t}
-use Rattle.yaml_text.specs.Chars.{AreChars, IsText, utf8}
+use Rattle.yaml_text.specs.Chars.{utf8}
+use Rattle.yaml_text.specs.TextBytes.{AreChars, IsText}
 use Rattle.yaml_text.specs.Utf8.{width_of}
-use Rattle.yaml_text.specs.Classes.{Stands, is_break, is_crlf, is_crlf_at, is_z}
-use Rattle.yaml_text.specs.Mark.{breaks, one_more_if, column, cuts_break, ends_break, mark_of}
-use Rattle.yaml_text.specs.inside.Cursor.{At, IsAt, at_of, past, break_len}
+use Rattle.yaml_text.specs.Classes.{is_break, is_crlf, is_z}
+use Rattle.yaml_text.specs.ClassCalls.{Stands, is_crlf_at}
+use Rattle.yaml_text.specs.MarkOn.{ends_break}
+use Rattle.yaml_text.specs.Mark.{break_count, one_more_if, column, cuts_break, mark_of}
+use Rattle.yaml_text.specs.inside.Cursor.{At, IsAt, at_of, past, first_break_len}
 use Rattle.yaml_text.proofs.Characters.CharRanges.{char_range}
 use Rattle.yaml_text.proofs.Characters.Utf8Spelling.{stands}
 use Rattle.yaml_text.proofs.Characters.ClassTables.{crlf_law}
@@ -39,13 +42,13 @@ more_plus false m n = refl
 last_tail : (x y : ℕ) (ys : List ℕ) → get_or (x ∷ y ∷ ys) (length (x ∷ y ∷ ys) - 1) 0 ≡ get_or (y ∷ ys) (length (y ∷ ys) - 1) 0
 last_tail x y ys = let e : length (x ∷ y ∷ ys) - 1 ≡ suc (length (y ∷ ys) - 1) = omega arith in ap (λ n. get_or (x ∷ y ∷ ys) n 0) e
 
-pub breaks-append : (xs ys : List ℕ) → cuts_break xs ys ≡ false → breaks (xs ++ ys) ≡ breaks xs + breaks ys
+pub breaks-append : (xs ys : List ℕ) → cuts_break xs ys ≡ false → break_count (xs ++ ys) ≡ break_count xs + break_count ys
 breaks-append [] ys whole = omega arith
 breaks-append (x ∷ []) ys whole =
-    ap (λ b. one_more_if b (breaks ys)) (ends_whole x ys whole ∙ sym (ends_last x)) ∙ ap (λ n. one_more_if (ends_break x []) n) (sym (zero-add (breaks ys))) ∙ more_plus (ends_break x []) 0 (breaks ys)
+    ap (λ b. one_more_if b (break_count ys)) (ends_whole x ys whole ∙ sym (ends_last x)) ∙ ap (λ n. one_more_if (ends_break x []) n) (sym (zero-add (break_count ys))) ∙ more_plus (ends_break x []) 0 (break_count ys)
 breaks-append (x ∷ y ∷ zs) ys whole =
     let whole_tail : cuts_break (y ∷ zs) ys ≡ false = ap (λ n. is_crlf n (get_or ys 0 0)) (sym (last_tail x y zs)) ∙ whole in
-    ap (λ n. one_more_if (ends_break x (y ∷ zs)) n) (breaks-append (y ∷ zs) ys whole_tail) ∙ more_plus (ends_break x (y ∷ zs)) (breaks (y ∷ zs)) (breaks ys)
+    ap (λ n. one_more_if (ends_break x (y ∷ zs)) n) (breaks-append (y ∷ zs) ys whole_tail) ∙ more_plus (ends_break x (y ∷ zs)) (break_count (y ∷ zs)) (break_count ys)
 
 pub last_push : (xs : List ℕ) (c : ℕ) → get_or (xs ++ c ∷ []) (length (xs ++ c ∷ []) - 1) 0 ≡ c
 last_push xs c =
@@ -116,7 +119,7 @@ moved mark w line column = record { index = mark.index + w; line = line; column 
 
 -- over the characters cs, with the count of breaks and the column after them
 moves : (bytes : List ℕ) (mark : yaml_mark_t) (cs rest : List ℕ) (w n line col : ℕ) → IsAt bytes mark → chars (drop mark.index bytes) ≡ cs ++ rest → w ≡ length (utf8 cs) → n ≡ length cs
-    → line ≡ breaks (chars (take mark.index bytes) ++ cs) → col ≡ column (chars (take mark.index bytes) ++ cs) → cuts_break (chars (take mark.index bytes) ++ cs) rest ≡ false
+    → line ≡ break_count (chars (take mark.index bytes) ++ cs) → col ≡ column (chars (take mark.index bytes) ++ cs) → cuts_break (chars (take mark.index bytes) ++ cs) rest ≡ false
     → Moves bytes mark (moved mark w line col) n
 moves bytes mark cs rest w n line col h e w-is n-is line-is col-is whole =
     let g = goes bytes mark.index w cs rest h.within h.front h.rest e w-is in
@@ -127,7 +130,7 @@ moves bytes mark cs rest w n line col h e w-is n-is line-is col-is whole =
         within = g.within;
         front = g.front;
         rest = g.rest_is;
-        line = line-is ∙ ap breaks (sym g.before);
+        line = line-is ∙ ap break_count (sym g.before);
         column = col-is ∙ ap column (sym g.before);
         whole = rw (g.before, g.left) whole;
       };
@@ -156,7 +159,7 @@ skips bytes mark [] h e some other = absurd (omega arith)
 skips bytes mark (c ∷ cs) h e some other =
     let before = chars (take mark.index bytes) in
     let here : cuts_break before (c ∷ []) ≡ false = ap (λ (x : List ℕ). is_crlf (get_or before (length before - 1) 0) (get_or x 0 0)) (sym e) ∙ h.whole in
-    let line : breaks (before ++ c ∷ []) ≡ breaks before = breaks-append before (c ∷ []) here ∙ ap (λ b. breaks before + one_more_if b 0) (ends_last c ∙ other) ∙ add-zero (breaks before) in
+    let line : break_count (before ++ c ∷ []) ≡ break_count before = breaks-append before (c ∷ []) here ∙ ap (λ b. break_count before + one_more_if b 0) (ends_last c ∙ other) ∙ add-zero (break_count before) in
     let col : column (before ++ c ∷ []) ≡ suc (column before) = column-push before c ∙ ap (λ b. cond b 0 (suc (column before))) other in
     let end : cuts_break (before ++ c ∷ []) cs ≡ false = rw (last_push before c, break_not_cr c other) refl in
     moves bytes mark (c ∷ []) cs _ 1 _ _ h e (front_width bytes mark.index c cs h.rest e ∙ sym (length-utf8-one c)) refl (h.line ∙ sym line) (omega (arith, h.column, col)) end
@@ -171,7 +174,7 @@ line_of_one : (bytes : List ℕ) (mark : yaml_mark_t) (c : ℕ) (cs : List ℕ) 
 line_of_one bytes mark c cs h e is single =
     let before = chars (take mark.index bytes) in
     let here : cuts_break before (c ∷ []) ≡ false = ap (λ (x : List ℕ). is_crlf (get_or before (length before - 1) 0) (get_or x 0 0)) (sym e) ∙ h.whole in
-    let line : breaks (before ++ c ∷ []) ≡ breaks before + 1 = breaks-append before (c ∷ []) here ∙ ap (λ b. breaks before + one_more_if b 0) (ends_last c ∙ is) in
+    let line : break_count (before ++ c ∷ []) ≡ break_count before + 1 = breaks-append before (c ∷ []) here ∙ ap (λ b. break_count before + one_more_if b 0) (ends_last c ∙ is) in
     let col : column (before ++ c ∷ []) ≡ 0 = column-push before c ∙ ap (λ b. cond b 0 (suc (column before))) is in
     let end : cuts_break (before ++ c ∷ []) cs ≡ false = rw (last_push before c) single in
     moves bytes mark (c ∷ []) cs _ 1 _ _ h e (front_width bytes mark.index c cs h.rest e ∙ sym (length-utf8-one c)) refl (omega (arith, h.line, line)) (sym col) end
@@ -186,7 +189,7 @@ line_of_two bytes mark cs h e =
     let before = chars (take mark.index bytes) in
     let both : List ℕ = 13 ∷ 10 ∷ [] in
     let here : cuts_break before both ≡ false = ap (λ (x : List ℕ). is_crlf (get_or before (length before - 1) 0) (get_or x 0 0)) (sym e) ∙ h.whole in
-    let line : breaks (before ++ both) ≡ breaks before + 1 = breaks-append before both here in
+    let line : break_count (before ++ both) ≡ break_count before + 1 = breaks-append before both here in
     let regrouped : before ++ both ≡ (before ++ 13 ∷ []) ++ 10 ∷ [] = sym (append_assoc before (13 ∷ []) (10 ∷ [])) in
     let col : column (before ++ both) ≡ 0 = ap column regrouped ∙ column-push (before ++ 13 ∷ []) 10 in
     let end : cuts_break (before ++ both) cs ≡ false = ap (λ (x : List ℕ). cuts_break x cs) regrouped ∙ rw (last_push (before ++ 13 ∷ []) 10) refl in
@@ -198,17 +201,17 @@ crlf_is c [] h = absurd (let p = and_parts (c == 13) (0 == 10) h in false≢true
 crlf_is c (d ∷ cs) h = let p = and_parts (c == 13) (d == 10) h in λ k. eqb-true c 13 p.0 k ∷ eqb-true d 10 p.1 k ∷ cs
 
 lines_by : (bytes : List ℕ) (mark : yaml_mark_t) (c : ℕ) (cs : List ℕ) (crlf : Bool) → is_crlf c (get_or cs 0 0) ≡ crlf → IsAt bytes mark → chars (drop mark.index bytes) ≡ c ∷ cs → is_break c ≡ true
-    → Moves bytes mark (moved mark (cond (is_crlf c (get_or cs 0 0)) 2 (width_of (get_or bytes mark.index 0))) (mark.line + 1) 0) (break_len (c ∷ cs))
+    → Moves bytes mark (moved mark (cond (is_crlf c (get_or cs 0 0)) 2 (width_of (get_or bytes mark.index 0))) (mark.line + 1) 0) (first_break_len (c ∷ cs))
 lines_by bytes mark c cs true t h e is = rw t (line_of_two bytes mark (drop 1 cs) h (e ∙ crlf_is c cs t))
 lines_by bytes mark c cs false t h e is = rw t (line_of_one bytes mark c cs h e is t)
 
 lines : (bytes : List ℕ) (mark : yaml_mark_t) (left : List ℕ) → IsAt bytes mark → chars (drop mark.index bytes) ≡ left → is_break (get_or left 0 0) ≡ true
-    → Moves bytes mark (moved mark (cond (is_crlf (get_or left 0 0) (get_or left 1 0)) 2 (width_of (get_or bytes mark.index 0))) (mark.line + 1) 0) (break_len left)
+    → Moves bytes mark (moved mark (cond (is_crlf (get_or left 0 0) (get_or left 1 0)) 2 (width_of (get_or bytes mark.index 0))) (mark.line + 1) 0) (first_break_len left)
 lines bytes mark [] h e is = absurd (false≢true is)
 lines bytes mark (c ∷ cs) h e is = lines_by bytes mark c cs (is_crlf c (get_or cs 0 0)) refl h e is
 
 pub line_moves : (bytes : List ℕ) (mark : yaml_mark_t) → IsAt bytes mark → is_break (get_or (chars (drop mark.index bytes)) 0 0) ≡ true
-    → Moves bytes mark (moved mark (cond (is_crlf (get_or (chars (drop mark.index bytes)) 0 0) (get_or (chars (drop mark.index bytes)) 1 0)) 2 (width_of (get_or bytes mark.index 0))) (mark.line + 1) 0) (break_len (chars (drop mark.index bytes)))
+    → Moves bytes mark (moved mark (cond (is_crlf (get_or (chars (drop mark.index bytes)) 0 0) (get_or (chars (drop mark.index bytes)) 1 0)) 2 (width_of (get_or bytes mark.index 0))) (mark.line + 1) 0) (first_break_len (chars (drop mark.index bytes)))
 line_moves bytes mark h = lines bytes mark (chars (drop mark.index bytes)) h refl
 
 -- ---- the front of a text, and bounds
@@ -217,7 +220,7 @@ pub front_of : (bytes : List ℕ) → IsText bytes → IsAt bytes (record { inde
 unfolding chars column
 front_of bytes t = record { within = omega arith; front = record { each = tt; spelled = refl }; rest = t; line = refl; column = refl; whole = refl }
 
-breaks-le : (cs : List ℕ) → breaks cs ≤ length cs
+breaks-le : (cs : List ℕ) → break_count cs ≤ length cs
 breaks-le [] = omega arith
 breaks-le (c ∷ cs) = elim (cases_Bool (ends_break c cs)) [ inl e ↦ rw e (omega (arith, breaks-le cs)) | inr e ↦ rw e (omega (arith, breaks-le cs)) ]
 
@@ -254,12 +257,12 @@ skip_lands bytes mark at w h e some other w-is =
     rw w-is (landed bytes mark _ 1 at e (skip_moves bytes mark h some_there other_there))
 
 pub line_lands : (bytes : List ℕ) (mark : yaml_mark_t) (at : At) (w : ℕ) → IsAt bytes mark → at_of bytes mark ≡ at → is_break (get_or at.left 0 0) ≡ true
-    → w ≡ cond (is_crlf_at bytes mark.index) 2 (width_of (get_or bytes mark.index 0)) → Lands bytes (moved mark w (mark.line + 1) 0) (past (break_len at.left) at)
+    → w ≡ cond (is_crlf_at bytes mark.index) 2 (width_of (get_or bytes mark.index 0)) → Lands bytes (moved mark w (mark.line + 1) 0) (past (first_break_len at.left) at)
 line_lands bytes mark at w h e is w-is =
     let there = at_of bytes mark in
-    let goal : At → Type 0 = λ a. is_break (get_or a.left 0 0) ≡ true → Lands bytes (moved mark w (mark.line + 1) 0) (past (break_len a.left) a) in
+    let goal : At → Type 0 = λ a. is_break (get_or a.left 0 0) ≡ true → Lands bytes (moved mark w (mark.line + 1) 0) (past (first_break_len a.left) a) in
     let w-there = w-is ∙ ap (λ b. cond b 2 (width_of (get_or bytes mark.index 0))) (crlf_law bytes there.left mark.index (stands_there bytes mark h)) in
-    subst goal e (λ x. rw w-there (landed bytes mark _ (break_len there.left) there refl (line_moves bytes mark h x))) is
+    subst goal e (λ x. rw w-there (landed bytes mark _ (first_break_len there.left) there refl (line_moves bytes mark h x))) is
 
 end_by : (bytes : List ℕ) (mark : yaml_mark_t) (left : List ℕ) → IsAt bytes mark → chars (drop mark.index bytes) ≡ left → leb (length bytes) mark.index ≡ is_z (get_or left 0 0)
 end_by bytes mark [] h e =

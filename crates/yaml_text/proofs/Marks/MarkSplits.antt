@@ -7,9 +7,10 @@ use Rattle.std.proofs.lemmas.Bool.Decides.{nat_tests}
 use Rattle.std.proofs.lemmas.List.{append-nil, length-take, length-append, get_or-drop, get_or-take, get_or-append-add, take-append-drop, take_at, drop_at}
 use Rattle.std.proofs.lemmas.Str.{encodes-append, length-encode, len_utf8_bounds, encodes_same, IsUtf8-take, IsUtf8-drop, encode_ascii}
 use lib.Utf8.{encode, encodes}
-use Rattle.yaml_text.specs.Chars.{AreChars, IsText, utf8}
+use Rattle.yaml_text.specs.Chars.{utf8}
+use Rattle.yaml_text.specs.TextBytes.{AreChars, IsText}
 use Rattle.yaml_text.specs.Utf8.{continues}
-use Rattle.yaml_text.specs.Classes.{is_crlf_at}
+use Rattle.yaml_text.specs.ClassCalls.{is_crlf_at}
 use Rattle.yaml_text.specs.Mark.{cuts_break, IsPlaceAt, IsPlace}
 use Rattle.yaml_text.specs.inside.Cursor.{is_place_by}
 use Rattle.yaml_text.proofs.Characters.Utf8Spelling.{two, three, four}

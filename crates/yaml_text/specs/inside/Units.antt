@@ -1,7 +1,7 @@
 -- What was read of UTF-16 so far.
 use Rattle.std.specs.Prelude.{ℕ, ◌≡◌, ◌≤◌, Bool, List, ◌++◌, length, take}
 use Rattle.std.specs.Str.{chars}
-use Rattle.yaml_text.specs.Chars.{IsChar, IsText}
+use Rattle.yaml_text.specs.TextBytes.{IsChar, IsText}
 use Rattle.yaml_text.specs.Utf16.{spelling16, utf16}
 
 -- The bytes begin with the spelling of c.

@@ -1,5 +1,5 @@
 use Rattle.std.proofs.Common.{ℕ}
-use Rattle.yaml_lexeme.specs.Place.{IsMarkOf}
+use Rattle.yaml_lexeme.specs.Counted.{IsMarkOf}
 use Rattle.testbench.proofs.measure.walk.Given as goal
 
 abbrev pub invariant-lexemes : goal.invariant-lexemes

@@ -1,4 +1,4 @@
-use Rattle.std.proofs.Common.{length, ◌-◌, ℕ, List}
+use Rattle.std.proofs.Common.{length, ◌-◌, ◌≤◌, ℕ, List}
 use Rattle.yaml_text.specs.declared.types.yaml_encoding_t.{yaml_encoding_t}
 use Rattle.yaml_text.specs.Token.{Token}
 use Rattle.yaml_c.specs.Ahead.Ahead.{NONE}
@@ -11,6 +11,7 @@ invariant-tokens l = KeepsSizes l.fn.rooms l.rooms
     × ((first : token_rooms_t) (e : yaml_encoding_t) (limit : ℕ) (input : List ℕ) (given : List Token)
     → GoesOn limit e input given first l.fn.parser l.fn.rooms NONE
     → GoesOn limit e input given first l.parser l.rooms NONE)
+    × (l.fn.rooms.token_count ≤ l.rooms.token_count)
 
 abbrev pub decreases-tokens : goal.decreases-tokens
 decreases-tokens l = length l.rooms.tokens.now - l.rooms.token_count

@@ -1,6 +1,7 @@
 use Rattle.std.proofs.Common.{rules, ◌<◌, length, refl, sym, ap, ◌∙◌, subst, arith, inl, inr}
 use Rattle.yaml_c.specs.Ahead.{Ahead, ahead_of}
 use Rattle.yaml_c.specs.Held.{Stands}
+use Rattle.yaml_c.specs.inside.Batch.{KeepsAhead}
 use Rattle.yaml_c.proofs.TokensPut.{Fits}
 use Rattle.yaml_c.proofs.BatchEnds.{nothing_given, over_is, batch_is, same_rooms, spelled_is}
 use Rattle.yaml_c.proofs.held.next_batch.Goals as goal
@@ -17,9 +18,10 @@ pub returns-clause-next : goal.returns-clause-next
 returns-clause-next c = λ s same at.
     let some : 0 < length c.args.rooms.now.tokens.now = omega (arith, c.if-rooms-eq0.false) in
     let fits : Fits c.args.rooms.now = record { tokens = search rules; texts = search rules; token_count = omega (arith, c.requires.none); text_len = omega (arith, c.requires.no_text) } in
-    let r = c.read_on-ahead.ensures s same at.kept (subst (λ (z : Ahead). Stands s.limit s.setting s.input s.parser s.given z) (sym (ap ahead_of c.replace-ahead.ensures.value ∙ at.ahead)) at.stands) in
+    let r = c.read_on-ahead.ensures.next s same at.kept (subst (λ (z : Ahead). Stands s.limit s.setting s.input s.parser s.given z) (sym (ap ahead_of c.replace-ahead.ensures.value ∙ at.ahead)) at.stands) in
     batch_is s c.args.rooms.now c.read_on-ahead.new.rooms c.read_on-ahead.new.kept (ahead_of c.read_on-ahead.result) _ fits c.requires.none c.requires.no_text some (λ e. c.in_default.not-OVER (over_is _ (at.ahead ∙ e)))
     r refl at.encoding at.skipped (spelled_is s c.args.rooms.now.spelled c.args.held.now same at c.requires.skipped)
+    at.stands (subst (λ (z : Ahead). KeepsAhead z c.args.rooms.now c.read_on-ahead.new.rooms (ahead_of c.read_on-ahead.result)) (ap ahead_of c.replace-ahead.ensures.value ∙ at.ahead) c.read_on-ahead.ensures.ahead)
     c.end_batch-ahead.new.rooms (ahead_of c.end_batch-ahead.result.0) _ _ refl c.end_batch-ahead.ensures
 
 pub returns-clause-same_tokens : goal.returns-clause-same_tokens
@@ -27,7 +29,7 @@ returns-clause-same_tokens c = let w = c.requires.at in
     let s = w.0 in
     let at = w.2 in
     let fits : Fits c.args.rooms.now = record { tokens = search rules; texts = search rules; token_count = omega (arith, c.requires.none); text_len = omega (arith, c.requires.no_text) } in
-    let r = c.read_on-ahead.ensures s w.1 at.kept (subst (λ (z : Ahead). Stands s.limit s.setting s.input s.parser s.given z) (sym (ap ahead_of c.replace-ahead.ensures.value ∙ at.ahead)) at.stands) in
+    let r = c.read_on-ahead.ensures.next s w.1 at.kept (subst (λ (z : Ahead). Stands s.limit s.setting s.input s.parser s.given z) (sym (ap ahead_of c.replace-ahead.ensures.value ∙ at.ahead)) at.stands) in
     (same_rooms s c.args.rooms.now c.read_on-ahead.new.rooms c.end_batch-ahead.new.rooms c.read_on-ahead.new.kept (ahead_of c.read_on-ahead.result) (ahead_of c.end_batch-ahead.result.0) _ _ fits r c.end_batch-ahead.ensures).0
 
 pub returns-clause-same_texts : goal.returns-clause-same_texts
@@ -35,5 +37,5 @@ returns-clause-same_texts c = let w = c.requires.at in
     let s = w.0 in
     let at = w.2 in
     let fits : Fits c.args.rooms.now = record { tokens = search rules; texts = search rules; token_count = omega (arith, c.requires.none); text_len = omega (arith, c.requires.no_text) } in
-    let r = c.read_on-ahead.ensures s w.1 at.kept (subst (λ (z : Ahead). Stands s.limit s.setting s.input s.parser s.given z) (sym (ap ahead_of c.replace-ahead.ensures.value ∙ at.ahead)) at.stands) in
+    let r = c.read_on-ahead.ensures.next s w.1 at.kept (subst (λ (z : Ahead). Stands s.limit s.setting s.input s.parser s.given z) (sym (ap ahead_of c.replace-ahead.ensures.value ∙ at.ahead)) at.stands) in
     (same_rooms s c.args.rooms.now c.read_on-ahead.new.rooms c.end_batch-ahead.new.rooms c.read_on-ahead.new.kept (ahead_of c.read_on-ahead.result) (ahead_of c.end_batch-ahead.result.0) _ _ fits r c.end_batch-ahead.ensures).1

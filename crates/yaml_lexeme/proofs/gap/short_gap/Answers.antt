@@ -1,6 +1,6 @@
 use Rattle.std.proofs.Common.{◌≡◌, true, sym, arith, ◌∙◌}
 use Rattle.yaml_lexeme.proofs.Readers.GapLines.{gap_none, gap_space}
-use Rattle.yaml_lexeme.specs.Gap.{is_solid}
+use Rattle.yaml_lexeme.specs.inside.Runs.{is_solid}
 use Rattle.yaml_lexeme.specs.Place.{first, peek, skip}
 use Rattle.yaml_lexeme.proofs.gap.short_gap.Goals as goal
 

@@ -1,7 +1,9 @@
 use Rattle.std.proofs.Common.{◌≡◌, Bool, true, false, refl, subst}
-use Rattle.yaml_lexeme.specs.Answers.{ReadsAs}
-use Rattle.yaml_lexeme.specs.Lex.{lex, lexeme_at, quoted_kind, quoted_as, quoted_style}
-use Rattle.yaml_lexeme.specs.Lexeme.{lexeme, lexeme_of, whole}
+use Rattle.yaml_lexeme.specs.Answers.{ReadsAs, lexeme_at}
+use Rattle.yaml_lexeme.specs.Lex.{lex}
+use Rattle.yaml_lexeme.specs.KindSets.{quoted_kind, quoted_as, quoted_style}
+use Rattle.yaml_lexeme.specs.Lexeme.{lexeme, whole}
+use Rattle.yaml_lexeme.specs.LexemeOf.{lexeme_of}
 use Rattle.yaml_lexeme.specs.Place.{Place}
 use Rattle.yaml_lexeme.specs.Quoted.{quoted}
 use Rattle.yaml_lexeme.specs.declared.lex.yaml_context_t.{yaml_context_t}

@@ -1,6 +1,6 @@
 use Rattle.std.proofs.Common.{◌∙◌, ap, sym, subst, arith}
 use Rattle.std.specs.Str.{chars}
-use Rattle.yaml_text.specs.Chars.{IsText}
+use Rattle.yaml_text.specs.TextBytes.{IsText}
 use Rattle.std.proofs.lemmas.Grind.{common_steps}
 use Rattle.yaml_lexeme.proofs.Places.FirstCharacters.{past}
 use Rattle.yaml_lexeme.proofs.place.past_wide.Goals as goal

@@ -4,7 +4,8 @@ use Rattle.yaml_lexeme.proofs.Readers.PlainLinks.{Passes, passes_more, passes_sp
 use Rattle.yaml_lexeme.specs.Classes.{is_white}
 use Rattle.yaml_lexeme.specs.Fold.{fold}
 use Rattle.yaml_lexeme.specs.Place.{Place, first, run, run_len, after_run}
-use Rattle.yaml_lexeme.specs.Plain.{is_bad_tab, separator}
+use Rattle.yaml_lexeme.specs.Plain.{separator}
+use Rattle.yaml_lexeme.specs.inside.Words.{is_bad_tab}
 use Rattle.yaml_text.specs.Classes.{is_break}
 use Rattle.yaml_lexeme.specs.declared.runs.class_t.TheVariants.{SPACE}
 use Rattle.yaml_lexeme.specs.inside.Runs.{class_test}

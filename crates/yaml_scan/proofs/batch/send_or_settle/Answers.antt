@@ -1,6 +1,6 @@
 use Rattle.std.proofs.Common.{rules, ◌<◌, ◌∙◌, [], refl, sym, ap, arith, inl, inr, ltb-true, ltb-false, length}
 use Rattle.std.proofs.lemmas.Result.{err_from_is_err_and}
-use Rattle.yaml_scan.specs.Answers.{Course}
+use Rattle.yaml_scan.specs.Course.{Course}
 use Rattle.yaml_scan.specs.Settled.{before}
 use Rattle.yaml_scan.specs.inside.Scanning.{history}
 use Rattle.yaml_scan.proofs.RunningCalls.NextOfInput.{course_same}

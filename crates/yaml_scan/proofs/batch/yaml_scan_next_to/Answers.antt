@@ -3,12 +3,13 @@ use Rattle.std.specs.Prelude.{◌⊎◌, option_map}
 use Rattle.std.proofs.lemmas.Bool.{false≢true}
 use Rattle.yaml_text.specs.Fault.{Fault, fault_of}
 use Rattle.yaml_text.specs.Token.{token_of}
+use Rattle.yaml_scan.specs.Decoded.{decoded_input}
 use Rattle.yaml_scan.specs.Scanned.{GoesOnBy}
 use Rattle.yaml_scan.specs.Token.{type_of}
 use Rattle.yaml_scan.specs.TokenTypes.{is_last_type}
 use Rattle.yaml_scan.specs.Session.Answer.{TOKEN}
 use Rattle.yaml_scan.specs.Parser.{Parser}
-use Rattle.yaml_scan.specs.ParserCalls.{told}
+use Rattle.yaml_scan.specs.ParserCalls.{scan_result}
 use Rattle.yaml_scan.specs.Headline.{Calls}
 use Rattle.yaml_scan.specs.inside.Ready.{parser_of, IsEnded, IsShort, IsShown}
 use Rattle.yaml_scan.specs.inside.Sent.{HasSentOrSettled}
@@ -106,7 +107,7 @@ returns-clause-next g c = let i = c.parser-2.inside in
     let q : Parser = record { input = i.input.now; setting = i.setting; limit = t.limit; session = record { taken = t.taken; steps = t.made; peeked = true; over = false; fault = fault } } in
     let s = show_token i.setting i.input.now i.scanner t n i.session.peeked fault c.args.parser.now (e ∙ open_session (parser_of i) over) false refl in
     let r : Parser = record { input = i.input.now; setting = i.setting; limit = u.limit; session = record { taken = u.taken; steps = u.made; peeked = false; over = is_last_type (type_of x.token_data); fault = fault } } in
-    let a : Calls SCAN c.args.parser.now (TOKEN x) r = scan_shown c.args.parser.now q o x r s (take_told_of i.setting i.input.now t t u x k p refl fault q refl) (take_left_of i.setting i.input.now t t u x k p refl fault q refl (is_last_type (type_of x.token_data)) refl) in
+    let a : Calls decoded_input SCAN c.args.parser.now (TOKEN x) r = scan_shown c.args.parser.now q o x r s (take_told_of i.setting i.input.now t t u x k p refl fault q refl) (take_left_of i.setting i.input.now t t u x k p refl fault q refl (is_last_type (type_of x.token_data)) refl) in
     let d = c.args.parser.now in
     rw c.pass.ensures (z.1, λ given h. (scans_on d.limit d.setting d.input d given h x r (is_last_type (type_of x.token_data)) refl a).0)
 
@@ -145,7 +146,7 @@ returns-in-Err-send-clause-fault g c = λ given h. let i = c.parser-2.inside in
           let o = sym (ap (λ (p : Parser). p.session.over) c.parser-2.view_is) ∙ over in
           let r : Parser = record { input = i.input.now; setting = i.setting; limit = t.limit; session = record { taken = t.taken; steps = t.made; peeked = false; over = true; fault = Some (fault_of w) } } in
           let s = show_fault_on i.setting i.input.now i.scanner t i.session.peeked (option_map fault_of i.session.fault) w f.1 c.args.parser.now (e ∙ open_session (parser_of i) over) (subst (λ (x : Fault). IsShort i.setting i.input.now i.scanner x ⊎ IsEnded i.setting i.input.now i.scanner t x) (sym c.fault_at-fault.ensures) f.0) peeked in
-          let a : Calls SCAN c.args.parser.now (told (Err w)) r = scan_not_shown c.args.parser.now r o w s in
+          let a : Calls decoded_input SCAN c.args.parser.now (scan_result (Err w)) r = scan_not_shown c.args.parser.now r o w s in
           let d = c.args.parser.now in
           scans_fault d.limit d.setting d.input d given h w r a)
     ]

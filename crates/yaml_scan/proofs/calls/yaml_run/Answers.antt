@@ -1,6 +1,7 @@
 use Rattle.std.proofs.Common.{List, map, subst}
+use Rattle.yaml_scan.specs.ParserCalls.{call_of}
+use Rattle.yaml_scan.specs.Decoded.{decoded_input}
 use Rattle.yaml_scan.specs.declared.calls.yaml_answer_t.{yaml_answer_t}
-use Rattle.yaml_scan.specs.Seen.{call_of}
 use Rattle.yaml_scan.specs.Headline.{PutsAnswers}
 use Rattle.yaml_scan.specs.CallWords.{SeenHaveLines}
 use Rattle.yaml_scan.specs.ReadingOn.{HaveOneFault}
@@ -17,12 +18,12 @@ use Rattle.yaml_scan.proofs.calls.yaml_run.Goals as goal
 
 pub returns-clause-early : goal.returns-clause-early
 returns-clause-early c = λ e. puts_session c.args.parser.now (map call_of c.args.calls.now) c.args.out.now.items c.answer_all.new.out.items c.answer_all.new.parser
-    (subst (λ (z : List yaml_answer_t). PutsAnswers c.args.parser.now (map call_of c.args.calls.now) z c.answer_all.new.out.items c.answer_all.new.parser) c.in_ok-reserve.ensures.items c.answer_all.ensures) e
+    (subst (λ (z : List yaml_answer_t). PutsAnswers decoded_input c.args.parser.now (map call_of c.args.calls.now) z c.answer_all.new.out.items c.answer_all.new.parser) c.in_ok-reserve.ensures.items c.answer_all.ensures) e
 
 -- the answers, appended to what was there when the call began
 pub returns-clause-answers : goal.returns-clause-answers
 returns-clause-answers c =
-    subst (λ (z : List yaml_answer_t). PutsAnswers c.args.parser.now (map call_of c.args.calls.now) z c.answer_all.new.out.items c.answer_all.new.parser) c.in_ok-reserve.ensures.items c.answer_all.ensures
+    subst (λ (z : List yaml_answer_t). PutsAnswers decoded_input c.args.parser.now (map call_of c.args.calls.now) z c.answer_all.new.out.items c.answer_all.new.parser) c.in_ok-reserve.ensures.items c.answer_all.ensures
 
 pub returns-clause-reads_on : goal.returns-clause-reads_on
 returns-clause-reads_on c = reads_on c.args.parser.now (map call_of c.args.calls.now) c.args.out.now.items c.answer_all.new.out.items c.answer_all.new.parser (returns-clause-answers c)

@@ -1,5 +1,5 @@
 use Rattle.std.proofs.Common.{refl}
-use Rattle.yaml_lexeme.specs.Lexeme.{lexeme_of}
+use Rattle.yaml_lexeme.specs.LexemeOf.{lexeme_of}
 use Rattle.yaml_scan.proofs.RunningStep.DecidedLaid.{falls, not_last, twice}
 use Rattle.yaml_scan.proofs.decided.lay_decided.Goals as goal
 

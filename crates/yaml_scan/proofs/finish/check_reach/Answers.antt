@@ -1,6 +1,6 @@
 use Rattle.std.proofs.Common.{◌⊎◌, ◌≤◌, ◌≡◌, ◌∙◌, ℕ, refl, ap, sym, subst, inl, inr, true, Option}
 use Rattle.std.specs.Option.{is_some}
-use Rattle.yaml_lexeme.specs.Lexeme.{lexeme_of}
+use Rattle.yaml_lexeme.specs.LexemeOf.{lexeme_of}
 use Rattle.yaml_scan.specs.SourceOf.{source_of}
 use Rattle.yaml_scan.specs.Step.{front_of}
 use Rattle.yaml_scan.specs.inside.Scanning.{lost_after, met_in}

@@ -1,5 +1,5 @@
 use Rattle.std.proofs.Common.{◌≡◌, List, ◌++◌, ap, ◌∙◌, refl, subst, arith, length, Ok, Err, inl, inr}
-use Rattle.yaml_lexeme.specs.Lexeme.{lexeme_of}
+use Rattle.yaml_lexeme.specs.LexemeOf.{lexeme_of}
 use Rattle.yaml_scan.specs.declared.groups.group_t.{group_t}
 use Rattle.yaml_scan.specs.Sink.{said_len}
 use Rattle.yaml_scan.specs.Token.{yaml_token_t}

@@ -1,4 +1,4 @@
-use Rattle.yaml_lexeme.specs.Lexeme.{lexeme_of}
+use Rattle.yaml_lexeme.specs.LexemeOf.{lexeme_of}
 use Rattle.yaml_scan.proofs.RunningStep.StepHanded.{done_there, far_there, few_there, known_after, one_handed, says_there, words_there}
 use Rattle.yaml_scan.proofs.RunningStep.StepTests.{can_put}
 use Rattle.yaml_scan.proofs.finish.put_lexeme.Goals as goal

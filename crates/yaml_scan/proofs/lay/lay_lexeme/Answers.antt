@@ -5,7 +5,7 @@ use Rattle.yaml_scan.specs.declared.groups.group_t.{group_t}
 use Rattle.yaml_scan.specs.Levels.{greatest_level}
 use Rattle.yaml_scan.specs.inside.Scanning.{groups_in, met_in}
 use Rattle.yaml_scan.specs.inside.Slots.{Held, AreNested}
-use Rattle.yaml_lexeme.specs.Lexeme.{lexeme_of}
+use Rattle.yaml_lexeme.specs.LexemeOf.{lexeme_of}
 use Rattle.yaml_scan.proofs.RunningStep.StepLaid.{levels_fall, l_falls, fitting}
 use Rattle.yaml_scan.proofs.RunningStep.StepPut.{put_advances}
 use Rattle.yaml_scan.proofs.RunningQueue.SlotOrder.{outer_nested}

@@ -5,7 +5,7 @@ use Rattle.yaml_text.specs.declared.types.yaml_encoding_t.{yaml_encoding_t}
 use Rattle.yaml_scan.specs.Groups.Token.{StreamStart}
 use Rattle.yaml_scan.specs.inside.Queue.{IsQueue}
 use Rattle.yaml_text.specs.Fault.{fault_of}
-use Rattle.yaml_text.specs.Decode.{refusal_seen}
+use Rattle.yaml_text.specs.Decoding.{refusal_seen}
 use Rattle.yaml_scan.proofs.Texts.NearByBytes.{short}
 use Rattle.yaml_scan.proofs.RunningStep.FirstStep.{new_stopped, new_ended, begins, begun_in, encoding_in}
 use Rattle.yaml_scan.proofs.parser.begin.Goals as goal

@@ -1,13 +1,13 @@
 use Rattle.std.proofs.Common.{◌≡◌, true, subst}
 use Rattle.yaml_scan.specs.declared.parser.yaml_parser_t.TheInside.{Inside}
-use Rattle.yaml_scan.specs.Parser.{Parser, course_read}
+use Rattle.yaml_scan.specs.Parser.{Parser, course_by}
 use Rattle.yaml_scan.specs.inside.Ready.{Sound, parser_of}
 use Rattle.yaml_scan.specs.Puts.{HasNext}
 use Rattle.yaml_scan.proofs.RunningCalls.CallAnswers.{shown_settled, token_some}
 use Rattle.yaml_scan.proofs.parser.yaml_parser_has_token.Goals as goal
 
 has_next : (i : Inside) → Sound i → (parser_of i).session.peeked ≡ true → HasNext (parser_of i)
-unfolding course_read
+unfolding course_by
 has_next i s q =
     let k = s.peeked q in
     (k.0, token_some i.setting i.input.now i.scanner i.scanner (shown_settled i.setting i.input.now i.scanner k.1))

@@ -1,4 +1,5 @@
 use Rattle.std.proofs.Common.{Bool, refl, sym, subst}
+use Rattle.yaml_scan.specs.Decoded.{decoded_input}
 use Rattle.yaml_scan.specs.Token.{yaml_token_t}
 use Rattle.yaml_scan.specs.Headline.{Calls}
 use Rattle.yaml_scan.specs.inside.Shown.{Shows}
@@ -17,7 +18,7 @@ last_fault-requires c = let w = subst (λ (b : Bool). Shows c.args.parser.now b 
 pub returns-then-show : goal.returns-then-show
 returns-then-show c = let p = c.args.parser.now in let q = c.show.new.parser in
     let s = subst (λ (b : Bool). Shows p b q) c.if-show.true c.show.ensures in
-    let k = subst (λ (t : yaml_token_t). Calls PEEK p (PEEKED t) q) (sym c.shown.ensures) s in
+    let k = subst (λ (t : yaml_token_t). Calls decoded_input PEEK p (PEEKED t) q) (sym c.shown.ensures) s in
     ((refl, (λ _. tt), k), record { answers = tt; shows = (q, k); bare = λ n. (bare PEEK p (PEEKED (token_of c.shown.result.now)) q k n).0; early = λ n. (early PEEK p (PEEKED (token_of c.shown.result.now)) q k n).0; local = peeked_alike p (PEEKED (token_of c.shown.result.now)) q k; marks = call_is_counted PEEK p (PEEKED (token_of c.shown.result.now)) q k })
 
 pub returns-else-show : goal.returns-else-show

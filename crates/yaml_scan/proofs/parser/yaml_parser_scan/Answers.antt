@@ -3,11 +3,12 @@ use Rattle.std.specs.Prelude.{◌⊎◌, option_map}
 use Rattle.std.proofs.lemmas.Bool.{false≢true}
 use Rattle.yaml_text.specs.Fault.{Fault, fault_of}
 use Rattle.yaml_text.specs.Token.{token_of}
+use Rattle.yaml_scan.specs.Decoded.{decoded_input}
 use Rattle.yaml_scan.specs.Token.{yaml_token_t, type_of}
 use Rattle.yaml_scan.specs.TokenTypes.{is_last_type}
 use Rattle.yaml_scan.specs.Session.Answer.{TOKEN}
 use Rattle.yaml_scan.specs.Parser.{Parser}
-use Rattle.yaml_scan.specs.ParserCalls.{told}
+use Rattle.yaml_scan.specs.ParserCalls.{scan_result}
 use Rattle.yaml_scan.specs.Headline.{Calls}
 use Rattle.yaml_scan.specs.inside.Ready.{parser_of, IsShown, IsShort, IsEnded}
 use Rattle.yaml_scan.specs.Session.Call.{SCAN}
@@ -62,7 +63,7 @@ returns-in-Ok c = let i = c.parser.inside in let g = c.in-Ok.ensures in
     let q : Parser = record { input = i.input.now; setting = i.setting; limit = t.limit; session = record { taken = t.taken; steps = t.made; peeked = true; over = false; fault = fault } } in
     let s = show_token i.setting i.input.now i.scanner t g i.session.peeked fault c.args.parser.now (e ∙ open_session (parser_of i) c.if-parser.false) false refl in
     let r : Parser = record { input = i.input.now; setting = i.setting; limit = u.limit; session = record { taken = u.taken; steps = u.made; peeked = false; over = is_last_type (type_of x.token_data); fault = fault } } in
-    let a : Calls SCAN c.args.parser.now (TOKEN x) r = scan_shown c.args.parser.now q o x r s (take_told_of i.setting i.input.now t t u x k p refl fault q refl) (take_left_of i.setting i.input.now t t u x k p refl fault q refl (is_last_type (type_of x.token_data)) refl) in
+    let a : Calls decoded_input SCAN c.args.parser.now (TOKEN x) r = scan_shown c.args.parser.now q o x r s (take_told_of i.setting i.input.now t t u x k p refl fault q refl) (take_left_of i.setting i.input.now t t u x k p refl fault q refl (is_last_type (type_of x.token_data)) refl) in
     rw c.pass.ensures (record { answers = a; bare = bare SCAN c.args.parser.now (TOKEN x) r a; early = early SCAN c.args.parser.now (TOKEN x) r a; local = scanned_alike c.args.parser.now (TOKEN x) r a; marks = call_is_counted SCAN c.args.parser.now (TOKEN x) r a })
 
 pub returns-in-Err : goal.returns-in-Err
@@ -71,17 +72,17 @@ returns-in-Err c = let i = c.parser.inside in let f = c.in-Err.ensures in let t 
     let o = sym (ap (λ (p : Parser). p.session.over) c.parser.view_is) ∙ c.if-parser.false in
     let r : Parser = record { input = i.input.now; setting = i.setting; limit = t.limit; session = record { taken = t.taken; steps = t.made; peeked = false; over = true; fault = Some (fault_of w) } } in
     let s = show_fault_on i.setting i.input.now i.scanner t i.session.peeked (option_map fault_of i.session.fault) w f.1 c.args.parser.now (e ∙ open_session (parser_of i) c.if-parser.false) (subst (λ (x : Fault). IsShort i.setting i.input.now i.scanner x ⊎ IsEnded i.setting i.input.now i.scanner t x) (sym c.fault_at-fault.ensures) f.0) f.2 in
-    let a : Calls SCAN c.args.parser.now (told (Err w)) r = scan_not_shown c.args.parser.now r o w s in
-    rw c.end.ensures (record { answers = a; bare = bare SCAN c.args.parser.now (told (Err w)) r a; early = early SCAN c.args.parser.now (told (Err w)) r a; local = scanned_alike c.args.parser.now (told (Err w)) r a; marks = call_is_counted SCAN c.args.parser.now (told (Err w)) r a })
+    let a : Calls decoded_input SCAN c.args.parser.now (scan_result (Err w)) r = scan_not_shown c.args.parser.now r o w s in
+    rw c.end.ensures (record { answers = a; bare = bare SCAN c.args.parser.now (scan_result (Err w)) r a; early = early SCAN c.args.parser.now (scan_result (Err w)) r a; local = scanned_alike c.args.parser.now (scan_result (Err w)) r a; marks = call_is_counted SCAN c.args.parser.now (scan_result (Err w)) r a })
 
 pub returns-then-parser-clause-local : goal.returns-then-parser-clause-local
 returns-then-parser-clause-local c =
     let p = c.args.parser.now in
     let o = sym (ap (λ (p : Parser). p.session.over) c.parser.view_is) ∙ c.if-parser.true in
-    scanned_alike p (TOKEN (token_of c.empty.result)) p (subst (λ (x : yaml_token_t). Calls SCAN p (TOKEN x) p) (sym c.empty.ensures) (scan_over p o))
+    scanned_alike p (TOKEN (token_of c.empty.result)) p (subst (λ (x : yaml_token_t). Calls decoded_input SCAN p (TOKEN x) p) (sym c.empty.ensures) (scan_over p o))
 
 pub returns-then-parser-clause-marks : goal.returns-then-parser-clause-marks
 returns-then-parser-clause-marks c =
     let p = c.args.parser.now in
     let o = sym (ap (λ (p : Parser). p.session.over) c.parser.view_is) ∙ c.if-parser.true in
-    call_is_counted SCAN p (TOKEN (token_of c.empty.result)) p (subst (λ (x : yaml_token_t). Calls SCAN p (TOKEN x) p) (sym c.empty.ensures) (scan_over p o))
+    call_is_counted SCAN p (TOKEN (token_of c.empty.result)) p (subst (λ (x : yaml_token_t). Calls decoded_input SCAN p (TOKEN x) p) (sym c.empty.ensures) (scan_over p o))

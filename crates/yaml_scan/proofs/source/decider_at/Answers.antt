@@ -1,4 +1,4 @@
-use Rattle.yaml_lexeme.specs.Lexeme.{lexeme_of}
+use Rattle.yaml_lexeme.specs.LexemeOf.{lexeme_of}
 use Rattle.yaml_scan.proofs.Texts.TextPlaces.{decider_there}
 use Rattle.yaml_scan.proofs.source.decider_at.Goals as goal
 

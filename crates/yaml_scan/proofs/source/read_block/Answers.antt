@@ -1,5 +1,5 @@
 use Rattle.std.proofs.Common.{◌∙◌, refl, sym}
-use Rattle.yaml_lexeme.specs.Lex.{block_kind}
+use Rattle.yaml_lexeme.specs.KindSets.{block_kind}
 use Rattle.yaml_scan.proofs.Texts.TextPlaces.{level_bytes, reads_in, reads_well}
 use Rattle.yaml_scan.proofs.source.read_block.Goals as goal
 

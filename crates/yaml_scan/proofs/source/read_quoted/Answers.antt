@@ -1,5 +1,5 @@
 use Rattle.std.proofs.Common.{◌∙◌, refl, sym}
-use Rattle.yaml_lexeme.specs.Lex.{quoted_kind}
+use Rattle.yaml_lexeme.specs.KindSets.{quoted_kind}
 use Rattle.yaml_scan.proofs.Texts.TextPlaces.{reads_in, reads_well}
 use Rattle.yaml_scan.proofs.source.read_quoted.Goals as goal
 

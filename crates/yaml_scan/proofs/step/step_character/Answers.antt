@@ -1,5 +1,5 @@
 use Rattle.std.proofs.Common.{rules}
-use Rattle.yaml_lexeme.specs.Lexeme.{lexeme_of}
+use Rattle.yaml_lexeme.specs.LexemeOf.{lexeme_of}
 use Rattle.yaml_scan.proofs.RunningStep.StepMoves.{read_as_met, step_to_from}
 use Rattle.yaml_scan.proofs.step.step_character.Goals as goal
 

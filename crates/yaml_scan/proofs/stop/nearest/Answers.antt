@@ -1,5 +1,5 @@
 use Rattle.std.proofs.Common.{ap, arith}
-use Rattle.yaml_text.specs.Decode.{refusal_seen}
+use Rattle.yaml_text.specs.Decoding.{refusal_seen}
 use Rattle.yaml_text.specs.Fault.{fault_of}
 use Rattle.yaml_scan.proofs.RunningCalls.NextOfInput.{ends_far, ends_near, ends_unrefused}
 use Rattle.yaml_scan.proofs.stop.nearest.Goals as goal

@@ -1,10 +1,10 @@
 use Rattle.std.proofs.Common.{◌+◌, ◌∙◌, ◌≤◌, ◌≡◌, ap, sym, subst, Option, Some, None, true, arith, inl, inr}
 use Rattle.std.specs.Option.{is_some}
 use Rattle.std.proofs.lemmas.Bool.{false≢true}
+use Rattle.yaml_scan.specs.Step.{no_colon, in_simple_key}
 use Rattle.yaml_scan.specs.inside.Slots.{Held}
 use Rattle.yaml_text.specs.declared.types.yaml_mark_t.{yaml_mark_t}
 use Rattle.yaml_text.specs.Fault.{scanner_fault}
-use Rattle.yaml_scan.specs.Fault.{no_colon, in_simple_key}
 use Rattle.yaml_scan.specs.inside.Scanning.{Offends, lost_after, met_in}
 use Rattle.yaml_scan.proofs.RunningStep.StepTests.{falls_in, front_line, lost_again, near_there, stale_there}
 use Rattle.yaml_scan.proofs.stop.stop_after.Goals as goal

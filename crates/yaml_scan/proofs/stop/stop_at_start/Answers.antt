@@ -1,7 +1,7 @@
 use Rattle.std.proofs.Common.{◌∙◌, Bool, ap, sym, subst, Some}
 use Rattle.yaml_text.specs.declared.types.yaml_mark_t.{yaml_mark_t}
 use Rattle.yaml_text.specs.Fault.{scanner_fault}
-use Rattle.yaml_scan.specs.Fault.{no_colon, in_simple_key}
+use Rattle.yaml_scan.specs.Step.{no_colon, in_simple_key}
 use Rattle.yaml_scan.specs.inside.Scanning.{Offends, cleared_in}
 use Rattle.yaml_scan.proofs.RunningStep.StepTests.{cleared_there, front_line}
 use Rattle.yaml_scan.proofs.stop.stop_at_start.Goals as goal

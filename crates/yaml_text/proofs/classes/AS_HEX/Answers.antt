@@ -1,7 +1,7 @@
 use Rattle.std.proofs.Common.{◌≡◌, ◌∙◌, ◌-◌, ap, arith}
 use Rattle.std.proofs.lemmas.Int.{ints}
 use Rattle.std.specs.Prelude.{slice_index}
-use Rattle.yaml_text.specs.Classes.{hex_value}
+use Rattle.yaml_text.specs.ClassCalls.{hex_value}
 use Rattle.yaml_text.proofs.Characters.ClassTables.{same_hex}
 use Rattle.yaml_text.proofs.classes.AS_HEX.Goals as goal
 

@@ -1,5 +1,5 @@
 use Rattle.std.proofs.Common.{◌-◌, ◌≤◌, length, take}
-use Rattle.yaml_text.specs.Chars.{IsText}
+use Rattle.yaml_text.specs.TextBytes.{IsText}
 use Rattle.yaml_text.proofs.decode.front8.Given as goal
 
 abbrev pub invariant-loop-at : goal.invariant-loop-at

@@ -1,9 +1,10 @@
 -- The answers are those to the calls of the word.
 use Rattle.std.proofs.Common.{◌≡◌, ◌++◌, List, [], ◌∷◌, map, Bool, ◌||◌, refl, ap, ◌∙◌, subst}
 use Rattle.std.specs.List.{list_any}
+use Rattle.yaml_scan.specs.ParserCalls.{call_of}
 use Rattle.yaml_scan.specs.declared.calls.yaml_call_t.{yaml_call_t}
 use Rattle.yaml_scan.specs.declared.calls.yaml_answer_t.{yaml_answer_t}
-use Rattle.yaml_scan.specs.Seen.{call_of, seen_of}
+use Rattle.yaml_scan.specs.Seen.{seen_of}
 use Rattle.yamltok.specs.Listing.{answer_lines, is_fault}
 use Rattle.yamltok.specs.Run.{AnswersCalls, calls_in}
 use Rattle.yamltok.proofs.answer.list_called.Goals as goal

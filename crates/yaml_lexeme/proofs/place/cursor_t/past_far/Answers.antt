@@ -1,6 +1,7 @@
 use Rattle.std.proofs.Common.{◌∙◌, length, arith, ap, ℕ}
 use Rattle.std.specs.Char.{len_utf8}
-use Rattle.yaml_lexeme.specs.Place.{Place, mark_after}
+use Rattle.yaml_lexeme.specs.Place.{Place}
+use Rattle.yaml_lexeme.specs.inside.Moves.{mark_after}
 use Rattle.yaml_lexeme.proofs.Places.PlaceMoves.{moved}
 use Rattle.yaml_text.specs.declared.types.yaml_mark_t.{yaml_mark_t}
 use Rattle.yaml_lexeme.proofs.Places.CursorMoves.{index_after}

@@ -1,0 +1,96 @@
+"""What the headline stands on, in docs/ARCHITECTURE.md: the files that Headline.antt reaches by its `use` lines, through all
+crates, and those that only what bytes spell reaches. Types of the code are not counted.
+
+Chosen by hand are the order in which to read the first, and the file from which the second go. What each file has is its first
+sentence.
+"""
+
+import functools
+import os
+import re
+
+from folders import sentence
+
+TOP = os.path.dirname(os.path.dirname(os.path.dirname(os.path.abspath(__file__))))
+PAGE = os.path.join(TOP, "docs", "ARCHITECTURE.md")
+BEGIN, END = "<!-- listed by ./dev folders -->", "<!-- end of what is listed -->"
+HEADLINE, BYTES, READING = ("yaml_scan", "Headline"), ("yaml_scan", "Decoded"), ("yaml_scan", "SourceOf")
+# Names of yaml_scan, and others by crate and name.
+ORDER = """
+Headline Seen Parser Session Settled Groups Laid Levels Keys Depth yaml_lexeme/Greatest Allowed Course Near Step Kind Token
+yaml_text/Token yaml_text/Fault yaml_text/Offence Source
+"""
+USE = re.compile(r"^(?:pub )?use Rattle\.(\w+)\.specs\.((?:inside\.)?[A-Z]\w*)", re.M)
+
+
+def path_of(place):
+    return f"crates/{place[0]}/specs/{place[1].replace('.', '/')}.antt"
+
+
+def read(path):
+    with open(os.path.join(TOP, path), encoding="utf-8") as text:
+        return text.read()
+
+
+@functools.cache
+def closure(start):
+    """A file of definitions and all that it reaches."""
+    found, left = [], [start]
+    while left:
+        place = left.pop(0)
+        if place not in found and os.path.exists(os.path.join(TOP, path_of(place))):
+            found.append(place)
+            left += USE.findall(read(path_of(place)))
+    return found
+
+
+def ordered():
+    """The places of ORDER."""
+    return [tuple(name.split("/")) if "/" in name else (HEADLINE[0], name) for name in ORDER.split()]
+
+
+def unlisted():
+    """What is in ORDER or is reached by the headline, and not both."""
+    return sorted(path_of(place) for place in set(ordered()) ^ set(closure(HEADLINE)))
+
+
+def lines(places):
+    return sum(read(path_of(place)).count("\n") for place in places)
+
+
+def entry(place):
+    name = path_of(place) if place[0] != HEADLINE[0] else f"{place[1]}.antt"
+    return f"`{name}`, {lines([place])} lines: {sentence(*os.path.split(path_of(place)))}"
+
+
+def listed():
+    """The two lists, from mark to mark."""
+    first = ordered()
+    more = [place for place in closure(BYTES) if place not in first]
+    crates = list(dict.fromkeys(crate for crate, _ in more))
+    rows = [f"{number}. {entry(place)}" for number, place in enumerate(first, 1)]
+    total = f"These are {len(first)} files with {lines(first):,} lines."
+    of_bytes = [
+        f"- `crates/{crate}/specs/`, {len(own)} files with {lines(own):,} lines: " + ", ".join(f"`{name}.antt`" for _, name in own)
+        for crate in crates for own in [[place for place in more if place[0] == crate]]
+    ]
+    further = f"What bytes spell is in {len(more)} further files with {lines(more):,} lines:"
+    return "\n".join([BEGIN, "", *rows, "", total, "", further, "", *of_bytes, "", END])
+
+
+def is_stale():
+    """Whether the page has not these lists, or has them twice."""
+    return read(PAGE).count(listed()) != 1
+
+
+def list_all():
+    """Writes the lists between their two marks, if they are stale, and returns the path of the page then."""
+    if not is_stale():
+        return []
+    before, begun, rest = read(PAGE).partition(BEGIN)
+    _, ended, after = rest.partition(END)
+    if not begun or not ended:
+        raise ValueError("docs/ARCHITECTURE.md: the two marks of the lists are not there")
+    with open(PAGE, "w", encoding="utf-8") as out:
+        out.write(before + listed() + after)
+    return ["docs/ARCHITECTURE.md"]
