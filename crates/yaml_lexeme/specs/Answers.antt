@@ -35,5 +35,6 @@ abbrev pub answer : yaml_lexeme_kind_t → Place → Read Lexeme → Result Lexe
 answer k p (Ok f) = Ok f.value
 answer k p (Err e) = Err (scanner_fault (problem_text e.problem) e.at.mark (Some (context_text k e.problem)) p.mark)
 
+-- the answer at a place
 abbrev pub lexeme_at : yaml_lexeme_kind_t → yaml_context_t → Place → Result Lexeme Fault
 lexeme_at k context p = answer k p (lex k context p)

@@ -8,8 +8,7 @@ use Rattle.yaml_lexeme.specs.declared.block.chomp_t.{chomp_t}
 use Rattle.yaml_lexeme.specs.declared.block.chomp_t.TheVariants.{STRIP, CLIP, KEEP}
 use Rattle.yaml_lexeme.specs.declared.block.header_t.{header_t}
 use Rattle.yaml_lexeme.specs.Lexeme.{Scalar}
-use Rattle.yaml_lexeme.specs.declared.problem.yaml_problem_t.TheVariants.{NO_COMMENT_OR_BREAK, INDICATOR_ZERO}
-use Rattle.yaml_lexeme.specs.declared.problem.yaml_problem_t.TheVariants.{TAB_IN_INDENTATION}
+use Rattle.yaml_lexeme.specs.declared.problem.yaml_problem_t.TheVariants as problem
 use Rattle.yaml_lexeme.specs.Classes.{is_in_line, line_feed}
 use Rattle.yaml_lexeme.specs.Place.{Place, first, skip, run, run_len, after_run, break_len}
 use Rattle.yaml_lexeme.specs.Greatest.{greatest}
@@ -17,6 +16,7 @@ use Rattle.yaml_lexeme.specs.Gap.{after_comment}
 use Rattle.yaml_lexeme.specs.Fold.{written, or_space}
 use Rattle.yaml_lexeme.specs.Reading.{Offence, Read, found, refuse, ◌>>=◌, Part, part, over, many}
 
+-- a sign of a header: `+` or `-`
 abbrev pub is_sign : ℕ → Bool
 is_sign c = c == 0x2B || c == 0x2D
 
@@ -28,9 +28,10 @@ sign_of c = if c == 0x2B then KEEP else STRIP
 unfoldable pub digit_at : Place → Read (Option ℕ)
 digit_at p =
     if not (is_digit (first p)) then found None p
-    else if first p == 0x30 then refuse INDICATOR_ZERO p
+    else if first p == 0x30 then refuse problem.INDICATOR_ZERO p
     else found (Some (first p - 0x30)) (skip 1 p)
 
+-- a header
 abbrev pub header_of : chomp_t → Option ℕ → header_t
 header_of chomp digit = record { chomp = chomp; digit = digit }
 
@@ -46,7 +47,7 @@ header_at p =
 unfoldable pub after_line : Place → Result Place Offence
 after_line p =
     let q = after_comment (after_run is_blank p) in
-    if is_break (first q) || is_z (first q) then Ok (skip (break_len q) q) else refuse NO_COMMENT_OR_BREAK q
+    if is_break (first q) || is_z (first q) then Ok (skip (break_len q) q) else refuse problem.NO_COMMENT_OR_BREAK q
 
 -- A bound on columns, or none.
 abbrev pub is_below : Option ℕ → ℕ → Bool
@@ -62,7 +63,7 @@ indent_len (Some n) p = min (run_len (λ c. c == 0x20) p) (n - p.mark.column)
 unfoldable pub after_indent : Option ℕ → Place → Result Place Offence
 after_indent limit p =
     let q = skip (indent_len limit p) p in
-    if first q == 0x09 && is_below limit q.mark.column then refuse TAB_IN_INDENTATION q else Ok q
+    if first q == 0x09 && is_below limit q.mark.column then refuse problem.TAB_IN_INDENTATION q else Ok q
 
 -- LINES
 
@@ -71,6 +72,7 @@ pub record EmptyLine : Type 0 where
   pub column : ℕ
   pub break : ℕ
 
+-- the empty line at p, if one is there
 unfoldable pub empty_line : Option ℕ → Place → Part EmptyLine
 empty_line limit p = after_indent limit p >>= λ q.
     if nat_lt 0 (break_len q)
@@ -86,6 +88,7 @@ pub record TextLine : Type 0 where
   pub break : Option ℕ
   pub empties : List ℕ
 
+-- the break at q as it is written, if one is there
 abbrev pub break_at : Place → Option ℕ
 break_at q = if nat_lt 0 (break_len q) then Some (written (first q)) else None
 
@@ -97,6 +100,7 @@ is_text indent p = p.mark.column == indent && not (is_z (first p))
 abbrev pub next_line : Place → Place
 next_line p = let q = after_run is_in_line p in skip (break_len q) q
 
+-- the text line at p, if one is there, and as many empty lines as possible after it
 unfoldable pub text_line : ℕ → Place → Part TextLine
 text_line indent p =
     after_indent (Some indent) p >>= λ q.
@@ -111,10 +115,12 @@ text_line indent p =
 abbrev pub is_more_indented : TextLine → Bool
 is_more_indented l = is_blank (slice_index l.text 0)
 
+-- a break, if there is one
 abbrev pub or_none : Option ℕ → List ℕ
 or_none None = []
 or_none (Some b) = b ∷ []
 
+-- the break is written as a line feed
 abbrev pub is_line_feed : Option ℕ → Bool
 is_line_feed None = false
 is_line_feed (Some b) = b == line_feed
@@ -130,6 +136,7 @@ abbrev pub joined : Bool → TextLine → List TextLine → List ℕ
 joined folded a [] = a.text
 joined folded a (b ∷ ls) = a.text ++ between folded a b ++ joined folded b ls
 
+-- the last of a line and those after it
 abbrev pub last_of : TextLine → List TextLine → TextLine
 last_of a [] = a
 last_of a (b ∷ ls) = last_of b ls

@@ -26,6 +26,7 @@ abbrev pub is_chunk : Bool → ℕ → ℕ → Bool
 is_chunk flow c next =
     (not (ends c || (c == 0x3A && ends next)) && not (flow && is_flow_indicator c)) && not (is_bad_colon flow c next)
 
+-- how many characters belong to a chunk
 abbrev pub chunk_len : Bool → List ℕ → ℕ
 chunk_len flow [] = 0
 chunk_len flow (c ∷ cs) = if is_chunk flow c (slice_index cs 0) then 1 + chunk_len flow cs else 0

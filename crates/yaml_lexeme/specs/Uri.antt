@@ -5,8 +5,7 @@ use Rattle.std.specs.List.{concat}
 use Rattle.std.specs.Str.Parse.{digits_value}
 use Rattle.yaml_text.specs.Classes.{is_alpha, is_hex}
 use Rattle.yaml_text.specs.Utf8.{width_of, continues}
-use Rattle.yaml_lexeme.specs.declared.problem.yaml_problem_t.TheVariants.{NO_URI, NO_OCTET}
-use Rattle.yaml_lexeme.specs.declared.problem.yaml_problem_t.TheVariants.{BAD_LEAD_OCTET, BAD_NEXT_OCTET}
+use Rattle.yaml_lexeme.specs.declared.problem.yaml_problem_t.TheVariants as problem
 use Rattle.yaml_lexeme.specs.Classes.{is_one_of}
 use Rattle.yaml_lexeme.specs.Place.{Place, peek, first, skip}
 use Rattle.yaml_lexeme.specs.Reading.{Read, found, refuse, ◌>>=◌, Part, part, over, many}
@@ -24,20 +23,20 @@ abbrev pub octet_value : Place → ℕ
 octet_value p = digits_value 16 (peek p 1 ∷ peek p 2 ∷ [])
 
 unfoldable pub octet : Place → Read ℕ
-octet p = if is_octet p then found (octet_value p) (skip 3 p) else refuse NO_OCTET p
+octet p = if is_octet p then found (octet_value p) (skip 3 p) else refuse problem.NO_OCTET p
 
 unfoldable pub next_octets : ℕ → Place → Read (List ℕ)
 next_octets zero p = found [] p
 next_octets (suc n) p =
     octet p >>= λ c.
-    if not (continues c.value) then refuse BAD_NEXT_OCTET p
+    if not (continues c.value) then refuse problem.BAD_NEXT_OCTET p
     else next_octets n c.end >>= λ more. found (c.value ∷ more.value) more.end
 
 -- a lead octet and as many later ones as it needs
 unfoldable pub uri_escape : Place → Read (List ℕ)
 uri_escape p =
     octet p >>= λ lead.
-    if width_of lead.value == 0 then refuse BAD_LEAD_OCTET p
+    if width_of lead.value == 0 then refuse problem.BAD_LEAD_OCTET p
     else next_octets (width_of lead.value - 1) lead.end >>= λ more. found (lead.value ∷ more.value) more.end
 
 unfoldable pub uri_part : Bool → Place → Part (List ℕ)
@@ -52,4 +51,5 @@ uri listed p = many (uri_part listed) p >>= λ parts. found (concat parts.value)
 
 -- a uri of a character or more
 unfoldable pub some_uri : Bool → Place → Read (List ℕ)
-some_uri listed p = uri listed p >>= λ r. if length r.value == 0 then refuse NO_URI r.end else found r.value r.end
+some_uri listed p =
+    uri listed p >>= λ r. if length r.value == 0 then refuse problem.NO_URI r.end else found r.value r.end

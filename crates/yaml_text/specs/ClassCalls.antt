@@ -7,6 +7,7 @@ use Rattle.yaml_text.specs.Classes.{is_z, is_blank, is_break, is_crlf}
 
 -- CHARACTERS
 
+-- A character of ASCII.
 abbrev pub is_ascii : ℕ → Bool
 is_ascii c = nat_le c 0x7F
 
@@ -20,6 +21,7 @@ is_printable c =
 abbrev pub is_bom : ℕ → Bool
 is_bom c = c == 0xFEFF
 
+-- A break or the end, and also a blank.
 abbrev pub is_breakz : ℕ → Bool
 is_breakz c = is_break c || is_z c
 

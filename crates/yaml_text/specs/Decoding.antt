@@ -22,6 +22,7 @@ pub record IsFront (e : yaml_encoding_t) (bytes chars rest : List ℕ) : Type 0 
   pub each : AreChars chars
   pub longest : BeginsWithNone e rest
 
+-- The text, or the fault if there is one.
 abbrev pub unless_refused : Option Fault → Text → Result Text Fault
 unless_refused None text = Ok text
 unless_refused (Some fault) text = Err fault

@@ -4,9 +4,11 @@ use Rattle.std.specs.List.{AllByRecursion}
 use Rattle.std.specs.Str.{chars}
 use Rattle.yaml_text.specs.Chars.{is_char, utf8}
 
+-- A text may hold the character.
 abbrev pub IsChar : ℕ → Type 0
 IsChar c = IsTrue (is_char c)
 
+-- A text may hold each of them.
 abbrev pub AreChars : List ℕ → Type 0
 AreChars cs = AllByRecursion IsChar cs
 
