@@ -558,10 +558,30 @@ fn block_headers(rt: HostRuntime) -> Result<(), Fail> {
             None,
             "while scanning a block scalar 0:0:0; did not find expected comment or line break 2:0:2",
         ),
-        ("|-2\n  a\n\n", 0, None, "literal 61 0:0:0 9:3:0 9:3:0 false"),
-        ("|2-\n  a\n\n", 0, None, "literal 61 0:0:0 9:3:0 9:3:0 false"),
-        (">+1\n a\n\n", 0, None, "folded 610a0a 0:0:0 8:3:0 8:3:0 false"),
-        (">1+\n a\n\n", 0, None, "folded 610a0a 0:0:0 8:3:0 8:3:0 false"),
+        (
+            "|-2\n  a\n\n",
+            0,
+            None,
+            "literal 61 0:0:0 9:3:0 9:3:0 false",
+        ),
+        (
+            "|2-\n  a\n\n",
+            0,
+            None,
+            "literal 61 0:0:0 9:3:0 9:3:0 false",
+        ),
+        (
+            ">+1\n a\n\n",
+            0,
+            None,
+            "folded 610a0a 0:0:0 8:3:0 8:3:0 false",
+        ),
+        (
+            ">1+\n a\n\n",
+            0,
+            None,
+            "folded 610a0a 0:0:0 8:3:0 8:3:0 false",
+        ),
     ];
     expect_rows(&rt, rt.alloc(), &rows)
 }
