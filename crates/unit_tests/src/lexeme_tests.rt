@@ -175,6 +175,24 @@ fn lexed(alloc: Global, bytes: &[u8], depth: u64, level: Option<u64>) -> Result<
     }
 }
 
+/// The lexeme after so many bytes of a text, outside of flow and with no level open.
+fn lexed_after(alloc: Global, bytes: &[u8], index: usize) -> Result<String, Fail> {
+    let Ok(text) = yaml_decode(alloc, bytes, ANY) else {
+        return Err("refused".into());
+    };
+    if !yaml_is_place(&text, index) {
+        return Err("no place".into());
+    }
+    let at = yaml_mark_at(&text, index);
+    let Some(kind) = yaml_lexeme_kind(&text, at, false) else {
+        return Ok(String::from_str(alloc, "no kind")?);
+    };
+    match yaml_lexeme_at(alloc, &text, at, kind, OUTSIDE) {
+        Ok(lexeme) => show_lexeme(alloc, &lexeme),
+        Err(fault) => show_fault(alloc, &fault),
+    }
+}
+
 /// What a reader of a kind returned at the front of a text: the lexeme, or the fault of its refusal.
 fn show_read(
     alloc: Global,
@@ -368,6 +386,8 @@ fn kinds_of_fixed_length(rt: HostRuntime) -> Result<(), Fail> {
 fn stream_end(rt: HostRuntime) -> Result<(), Fail> {
     let rows: [(&str, u64, Option<u64>, &str); 1] = [("", 0, None, "end 0:0:0 0:0:0 0:0:0 false")];
     assert!(rt; kind_after(rt.alloc(), b"a", 1, false)? == Some(yaml_lexeme_kind_t::STREAM_END));
+    let shown = lexed_after(rt.alloc(), b"a", 1)?;
+    assert_eq!(rt; shown.as_str(), "end 1:1:0 1:1:0 1:1:0 false");
     expect_rows(&rt, rt.alloc(), &rows)
 }
 
@@ -432,7 +452,7 @@ fn quoted_scalars(rt: HostRuntime) -> Result<(), Fail> {
 
 #[test]
 fn escapes(rt: HostRuntime) -> Result<(), Fail> {
-    let rows: [(&str, u64, Option<u64>, &str); 8] = [
+    let rows: [(&str, u64, Option<u64>, &str); 9] = [
         (
             "\"a\\\n\n b\"",
             0,
@@ -481,6 +501,12 @@ fn escapes(rt: HostRuntime) -> Result<(), Fail> {
             None,
             "while parsing a quoted scalar 0:0:0; did not find expected hexadecimal number 3:0:3",
         ),
+        (
+            "\"\\0\\a\\b\\t\\\t\\n\\v\\f\\r\\e\\ \\\"\\/\\\\\\N\\_\\L\\P\"",
+            0,
+            None,
+            "double 00070809090a0b0c0d1b20222f5cc285c2a0e280a8e280a9 0:0:0 38:0:38 38:0:38 false",
+        ),
     ];
     expect_rows(&rt, rt.alloc(), &rows)
 }
@@ -511,7 +537,7 @@ fn plain_scalars(rt: HostRuntime) -> Result<(), Fail> {
 
 #[test]
 fn block_headers(rt: HostRuntime) -> Result<(), Fail> {
-    let rows: [(&str, u64, Option<u64>, &str); 5] = [
+    let rows: [(&str, u64, Option<u64>, &str); 9] = [
         ("|", 0, None, "literal - 0:0:0 1:0:1 1:0:1 false"),
         ("|#c\n a\n", 0, None, "literal 610a 0:0:0 7:2:0 7:2:0 false"),
         (
@@ -531,6 +557,30 @@ fn block_headers(rt: HostRuntime) -> Result<(), Fail> {
             0,
             None,
             "while scanning a block scalar 0:0:0; did not find expected comment or line break 2:0:2",
+        ),
+        (
+            "|-2\n  a\n\n",
+            0,
+            None,
+            "literal 61 0:0:0 9:3:0 9:3:0 false",
+        ),
+        (
+            "|2-\n  a\n\n",
+            0,
+            None,
+            "literal 61 0:0:0 9:3:0 9:3:0 false",
+        ),
+        (
+            ">+1\n a\n\n",
+            0,
+            None,
+            "folded 610a0a 0:0:0 8:3:0 8:3:0 false",
+        ),
+        (
+            ">1+\n a\n\n",
+            0,
+            None,
+            "folded 610a0a 0:0:0 8:3:0 8:3:0 false",
         ),
     ];
     expect_rows(&rt, rt.alloc(), &rows)
@@ -604,7 +654,7 @@ fn block_values(rt: HostRuntime) -> Result<(), Fail> {
 /// Anchors and aliases.
 #[test]
 fn names(rt: HostRuntime) -> Result<(), Fail> {
-    let rows: [(&str, u64, Option<u64>, &str); 4] = [
+    let rows: [(&str, u64, Option<u64>, &str); 11] = [
         ("&a]", 0, None, "anchor 61 0:0:0 2:0:2 2:0:2 false"),
         ("*a]", 0, None, "alias 61 0:0:0 2:0:2 2:0:2 false"),
         (
@@ -619,13 +669,20 @@ fn names(rt: HostRuntime) -> Result<(), Fail> {
             None,
             "while scanning an alias 0:0:0; did not find expected alphabetic or numeric character 2:0:2",
         ),
+        ("&a?", 0, None, "anchor 61 0:0:0 2:0:2 2:0:2 false"),
+        ("&a:", 0, None, "anchor 61 0:0:0 2:0:2 2:0:2 false"),
+        ("&a,", 0, None, "anchor 61 0:0:0 2:0:2 2:0:2 false"),
+        ("&a}", 0, None, "anchor 61 0:0:0 2:0:2 2:0:2 false"),
+        ("&a%", 0, None, "anchor 61 0:0:0 2:0:2 2:0:2 false"),
+        ("*a@", 0, None, "alias 61 0:0:0 2:0:2 2:0:2 false"),
+        ("*a`", 0, None, "alias 61 0:0:0 2:0:2 2:0:2 false"),
     ];
     expect_rows(&rt, rt.alloc(), &rows)
 }
 
 #[test]
 fn uris(rt: HostRuntime) -> Result<(), Fail> {
-    let rows: [(&str, u64, Option<u64>, &str); 6] = [
+    let rows: [(&str, u64, Option<u64>, &str); 8] = [
         ("!%00 x", 0, None, "tag 21 00 0:0:0 4:0:4 4:0:4 false"),
         ("!%C0%80 x", 0, None, "tag 21 c080 0:0:0 7:0:7 7:0:7 false"),
         (
@@ -651,6 +708,18 @@ fn uris(rt: HostRuntime) -> Result<(), Fail> {
             0,
             None,
             "while parsing a tag 0:0:0; did not find URI escaped octet 4:0:4",
+        ),
+        (
+            "!<09AZaz_-;/?:@&=+$.!~*'(),[]> x",
+            0,
+            None,
+            "tag - 3039415a617a5f2d3b2f3f3a40263d2b242e217e2a2728292c5b5d 0:0:0 30:0:30 30:0:30 false",
+        ),
+        (
+            "!09AZaz_-!09AZaz_-;/?:@&=+$.!~*'() x",
+            0,
+            None,
+            "tag 213039415a617a5f2d21 3039415a617a5f2d3b2f3f3a40263d2b242e217e2a272829 0:0:0 34:0:34 34:0:34 false",
         ),
     ];
     expect_rows(&rt, rt.alloc(), &rows)
