@@ -4,7 +4,7 @@
 --
 -- First one call: `Calls decode call p a q` says that `a` is the answer to the call on the parser p, and that q is the
 -- parser after it. The answer is `answer_by decode p call`, that of the session (Session.antt) on the steps of the
--- input (Answers.antt), unless memory was refused. Then a list of calls: `Runs decode p calls answers q` says that of
+-- input (Course.antt), unless memory was refused. Then a list of calls: `Runs decode p calls answers q` says that of
 -- each call in turn, so it is the same for calls that are made one by one. Last `PutsAnswers`, the contract of
 -- `yaml_run`: such answers are appended.
 use Rattle.std.specs.Prelude.{◌≡◌, ◌≢◌, ◌⊎◌, ◌≤◌, false, true, List, [], ◌∷◌, ◌++◌, ℕ, map, Some}
