@@ -7,7 +7,8 @@ the end; all calls on an input that is no text from its first lexeme on; and on 
 deciders, lexemes of one character, document markers, stream ends and character classes at every place.
 
 Every block is given back by the end, whichever request is refused. Valgrind counts no block and no wrong access at the
-end of each worked row. Needs a C compiler; valgrind is skipped if there is none.
+end of each worked row, and how many bytes a session of it requests in all, which are at most 8 KB and 8 bytes for each
+of the input. Needs a C compiler; valgrind is skipped if there is none.
 """
 
 import os
@@ -25,6 +26,8 @@ from worked import Session, build_refuser, is_utf8, rows, run_counted, takes_no_
 WANTED = "FAULT memory"
 VALGRIND = ["valgrind", "--leak-check=full", "--error-exitcode=99"]
 NOTHING_HELD = re.compile(rb"in use at exit: 0 bytes in 0 blocks\n")
+REQUESTED = re.compile(rb"total heap usage: .* frees, ([\d,]+) bytes allocated\n")
+MOST_BYTES, MOST_FOR_A_BYTE = 8192, 8
 BARE = {"STREAM_END", "DOCUMENT_START", "DOCUMENT_END", "FLOW_SEQUENCE_START", "FLOW_MAPPING_START", "FLOW_SEQUENCE_END",
         "FLOW_MAPPING_END", "FLOW_ENTRY", "BLOCK_ENTRY", "KEY", "VALUE"}
 
@@ -87,22 +90,30 @@ def count_bare(testbench, refuser):
     return lines, wrong, kinds
 
 
-def is_freed(command):
-    """Whether valgrind counts no block at a program's end, and no wrong access."""
+def blocks_of(command):
+    """Whether valgrind counts no block at a program's end, and no wrong access, and how many bytes were requested."""
     words, data = command
     done = subprocess.run([*VALGRIND, *words], input=data, capture_output=True, timeout=300)
-    return done.returncode < 2 and NOTHING_HELD.search(done.stderr) is not None
+    requested = REQUESTED.search(done.stderr)
+    freed = done.returncode < 2 and NOTHING_HELD.search(done.stderr) is not None
+    return freed and requested is not None, int(requested[1].replace(b",", b"")) if requested else 0
 
 
 def count_blocks(program, testbench):
-    """Runs each worked row, and its session, under valgrind: how many were run, and how many are wrong."""
-    commands = [([program, *words], data) for words, data, _ in rows()]
-    commands += [([testbench, *words], data) for words, data, _ in list(sessions())[::3]]
+    """Runs each worked row, and its session, under valgrind: how many were run, how many are wrong, and how many of the
+    sessions request more bytes than they may.
+    """
+    listings = [([program, *words], data) for words, data, _ in rows()]
+    asked = [([testbench, *words], data) for words, data, _ in list(sessions())[::3]]
+    commands, wrong, more = [*listings, *asked], 0, 0
     with ThreadPoolExecutor(max_workers=os.cpu_count()) as pool:
-        wrong = [command for command, freed in zip(commands, pool.map(is_freed, commands)) if not freed]
-    for words, data in wrong[:10]:
-        print(f"{words[1:]}, {data[:80]!r}: blocks are left, or a wrong access")
-    return len(commands), len(wrong)
+        for number, (command, (freed, requested)) in enumerate(zip(commands, pool.map(blocks_of, commands))):
+            words, data = command
+            is_more = number >= len(listings) and requested > MOST_BYTES + MOST_FOR_A_BYTE * len(data)
+            if not freed or is_more:
+                print(f"{words[1:]}, {data[:80]!r}: blocks are left, a wrong access, or {requested} bytes are too many")
+            wrong, more = wrong + (not freed), more + is_more
+    return len(commands), wrong, more
 
 
 def main(program):
@@ -122,9 +133,10 @@ def main(program):
     if shutil.which("valgrind") is None:
         print("counts: blocks are not counted: no valgrind")
         return 1 if is_wrong else 0
-    commands, held = count_blocks(program, testbench)
-    print(f"counts: {commands} runs under valgrind, {held} with blocks that are not freed or a wrong access")
-    return 1 if is_wrong or held else 0
+    commands, held, more = count_blocks(program, testbench)
+    print(f"counts: {commands} runs under valgrind, {held} with blocks that are not freed or a wrong access, {more} sessions "
+          "that request too many bytes")
+    return 1 if is_wrong or held or more else 0
 
 
 if __name__ == "__main__":
