@@ -11,7 +11,7 @@ use Rattle.yaml_scan.specs.declared.kept.yaml_kept_parser_t.{yaml_kept_parser_t}
 use Rattle.yaml_c.specs.Ahead.{Ahead, ahead_of, need}
 use Rattle.yaml_c.specs.Ahead.Ahead.{NONE, TOKEN, FAULT, OVER}
 use Rattle.yaml_c.specs.Answer.{answer_of, answer_with, fault_texts}
-use Rattle.yaml_c.specs.Held.{Scan, Stands, IsAt, Why, Tells, ComesFirst, IsNext}
+use Rattle.yaml_c.specs.Held.{Scan, IsEndedBy, Stands, IsAt, Why, Tells, ComesFirst, IsNext}
 use Rattle.yaml_c.specs.inside.Batch.{Stops, KeepsAhead, ReadsOn, rooms_of, GivesFault, TellsCounts, Ends}
 use Rattle.yaml_text.specs.Types.{encoding_number}
 use Rattle.yaml_c.specs.Record.{held, records_of, all_texts}
@@ -149,8 +149,9 @@ module _ (s : Scan) (old mid : token_rooms_t) (kept : Option yaml_kept_parser_t)
       let f = g.fault in
       let ft = fault_texts (Some f) in
       let room : length mid.texts.now < 2 ^ 63 = omega (arith, fits.texts, long) in
-      let reads : ReadsAll s.limit s.setting s.input (s.given ++ r.gives.list) (Some f) =
+      let ended : IsEndedBy s.limit s.setting s.input r.parser (s.given ++ r.gives.list) f =
       subst (λ (z : Ahead). Stands s.limit s.setting s.input r.parser (s.given ++ r.gives.list) z) g.is r.gives.stands in
+      let reads = ended.reads in
       record {
         parser = r.parser;
         list = r.gives.list;
@@ -159,7 +160,7 @@ module _ (s : Scan) (old mid : token_rooms_t) (kept : Option yaml_kept_parser_t)
         at = record {
           kept = keeps_it;
           ahead = is ∙ g.after;
-          stands = (Some f, reads);
+          stands = inr (f, ended);
           encoding = encoding;
           skipped = skipped;
         };

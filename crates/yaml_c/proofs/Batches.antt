@@ -108,7 +108,7 @@ module _ (limit : ℕ) (setting : yaml_encoding_t) (input : List ℕ) (given : L
         (subst (λ (z : Bool). Scanned limit setting input q (given ++ (g.list ++ t ∷ [])) z) e longer)
 
     pub goes_end : is_end t ≡ true → GoesOn limit setting input given old q next OVER
-    goes_end e = given_more OVER (None, all_given e)
+    goes_end e = given_more OVER (inl (subst (λ (z : Bool). Scanned limit setting input q (given ++ (g.list ++ t ∷ [])) z) e longer))
 
   -- the batch ends there
   pub batch_ends : (b : Ahead) (q : Parser) → KeepsSizes old new → Stands limit setting input q (given ++ g.list) b
@@ -135,8 +135,14 @@ all_begin limit setting input given f (inr w) = w.0.beginning
 pub begins : (limit : ℕ) (setting : yaml_encoding_t) (input : List ℕ) (p : Parser) (given : List Token) (a : Ahead) → Stands limit setting input p given a → Begins given (answers_to limit setting input).tokens
 begins limit setting input p given NONE w = scans_begin limit setting input p given _ w
 begins limit setting input p given (TOKEN t) w = without_last given _ t (scans_begin limit setting input p (given ++ t ∷ []) (is_end t) w)
-begins limit setting input p given (FAULT f) w = all_begin limit setting input given (Some f) w
-begins limit setting input p given OVER w = all_begin limit setting input given w.0 w.1
+begins limit setting input p given (FAULT f) w = all_begin limit setting input given (Some f) w.reads
+begins limit setting input p given OVER (inl w) = scans_begin limit setting input p given true w
+begins limit setting input p given OVER (inr w) = all_begin limit setting input given (Some w.0) w.1.reads
+
+-- if nothing comes any more, all was given
+pub all_read : (limit : ℕ) (setting : yaml_encoding_t) (input : List ℕ) (p : Parser) (given : List Token) → Stands limit setting input p given OVER → (fault : Option Fault) × ReadsAll limit setting input given fault
+all_read limit setting input p given (inl w) = (None, scans_end limit setting input p given w)
+all_read limit setting input p given (inr w) = (Some w.0, w.1.reads)
 
 -- so the next token is one
 same_next : (given all : List Token) (t x : Token) (ys : List Token) → Begins (given ++ t ∷ []) all → Begins (given ++ x ∷ ys) all → x ≡ t

@@ -1,14 +1,18 @@
 -- A scanner that is held between calls, and what the calls give of it.
 use Rattle.std.specs.Prelude.{◌≡◌, ◌≢◌, ◌⊎◌, ◌++◌, ◌∷◌, [], ℕ, ◌+◌, ◌≤◌, ◌<◌, List, length, Option, Some, None, false}
-use Rattle.std.specs.Prelude.{IsSomeAnd}
+use Rattle.std.specs.Prelude.{IsSomeAnd, true}
 use Rattle.yaml_text.specs.declared.types.yaml_encoding_t.{yaml_encoding_t}
 use Rattle.yaml_text.specs.Decode.{encoding_of}
 use Rattle.yaml_text.specs.Fault.{Fault}
 use Rattle.yaml_text.specs.Token.{Token}
 use Rattle.yaml_text.specs.Types.{encoding_number}
 use Rattle.yaml_scan.specs.All.{ReadsAll}
+use Rattle.yaml_scan.specs.Decoded.{decoded_input}
+use Rattle.yaml_scan.specs.Headline.{Calls}
 use Rattle.yaml_scan.specs.Parser.{Parser}
 use Rattle.yaml_scan.specs.Scanned.{Scanned}
+use Rattle.yaml_scan.specs.Session.Answer.{FAULT as FAULT_ANSWER}
+use Rattle.yaml_scan.specs.Session.Call.{SCAN}
 use Rattle.yaml_scan.specs.Sessions.{new_session}
 use Rattle.yaml_scan.specs.inside.Kept.{IsKept}
 use Rattle.yaml_c.specs.Ahead.{Ahead, ahead_of, is_end, need}
@@ -32,12 +36,22 @@ pub record Scan : Type 0 where
   pub given : List Token
   pub ahead : Ahead
 
+-- These are all tokens before the fault, and the parser was left by the scan that returned it.
+pub record IsEndedBy
+    (limit : ℕ) (setting : yaml_encoding_t) (input : List ℕ) (p : Parser) (given : List Token) (f : Fault) : Type 0
+  where
+    pub reads : ReadsAll limit setting input given (Some f)
+    pub before : Parser
+    pub scanned : Scanned limit setting input before given false
+    pub ended : Calls decoded_input SCAN before (FAULT_ANSWER f) p
+
 -- The tokens are those that a parser of the input returned, or the input has no more of them.
 abbrev pub Stands : ℕ → yaml_encoding_t → List ℕ → Parser → List Token → Ahead → Type 0
 Stands limit setting input p given NONE = Scanned limit setting input p given false
 Stands limit setting input p given (TOKEN t) = Scanned limit setting input p (given ++ t ∷ []) (is_end t)
-Stands limit setting input p given (FAULT f) = ReadsAll limit setting input given (Some f)
-Stands limit setting input p given OVER = (fault : Option Fault) × ReadsAll limit setting input given fault
+Stands limit setting input p given (FAULT f) = IsEndedBy limit setting input p given f
+Stands limit setting input p given OVER = Scanned limit setting input p given true
+    ⊎ ((f : Fault) × IsEndedBy limit setting input p given f)
 
 -- A new one.
 abbrev pub opened : List ℕ → yaml_encoding_t → ℕ → Scan

@@ -4,6 +4,10 @@ ghost use Rattle.yaml_text.specs.Fault.{fault_of};
 ghost use Rattle.yaml_text.specs.Token.{Token};
 ghost use Rattle.yaml_scan.specs.All.{ReadsAll};
 ghost use Rattle.yaml_scan.specs.Scanned.{ReadsNext, Scanned};
+ghost use Rattle.yaml_scan.specs.Decoded.{decoded_input};
+ghost use Rattle.yaml_scan.specs.Headline.{Calls};
+ghost use Rattle.yaml_scan.specs.Session.Call.{SCAN};
+ghost use Rattle.yaml_scan.specs.Session.Answer.{FAULT};
 ghost use Rattle.yaml_scan.specs.inside.Ready.{IsReady};
 ghost use Rattle.yaml_scan.specs.inside.Scanning.{IsOpen, IsRunning};
 ghost use Rattle.yaml_scan.specs.inside.Sent.{HasSentOrSettled, SendsOrSettles};
@@ -77,6 +81,7 @@ pub fn yaml_scan_next_to<S: yaml_token_sink_t>(
     ensures fault { IfErr result (λ fault. (given : List Token)
         → Scanned parser.old.limit parser.old.setting parser.old.input parser.old given false
         → ReadsAll parser.old.limit parser.old.setting parser.old.input given (Some (fault_of fault))) }
+    ensures ended { IfErr result (λ fault. Calls decoded_input SCAN parser.old (FAULT (fault_of fault)) parser.new) }
     ensures none { IfErr result (λ _. S.took sink.old [] sink.new) }
     ensures within { S.within sink.old → S.within sink.new }
 {

@@ -28,7 +28,8 @@ returns-in-Err-clause-next c = λ first e limit input given l h.
     let f = fault_of c.in-Err.fault in
     let s = of_input limit e input c.tokens.parser (given ++ g.list) g.stands (λ n x i. ReadsAll n x i (given ++ g.list) (Some f)) (c.in-Err.ensures.fault (given ++ g.list) (own limit e input c.tokens.parser (given ++ g.list) g.stands)) in
     batch_ends limit e input given first c.tokens.parser c.yaml_scan_next_to.new.sink NONE (beside_goes limit e input given first c.tokens.parser c.tokens.rooms g c.yaml_scan_next_to.new.sink c.in-Err.ensures.none)
-    (FAULT f) c.yaml_scan_next_to.new.parser (beside_sizes first c.tokens.rooms c.yaml_scan_next_to.new.sink k c.in-Err.ensures.none) s tt (λ z. absurd (cc))
+    (FAULT f) c.yaml_scan_next_to.new.parser (beside_sizes first c.tokens.rooms c.yaml_scan_next_to.new.sink k c.in-Err.ensures.none)
+    (record { reads = s; before = c.tokens.parser; scanned = g.stands; ended = c.in-Err.ensures.ended }) tt (λ z. absurd (cc))
 
 -- tokens went straight into the rooms
 pub tokens-smaller-in-Ok-None : goal.tokens-smaller-in-Ok-None

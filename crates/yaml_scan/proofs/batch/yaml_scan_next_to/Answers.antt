@@ -150,3 +150,20 @@ returns-in-Err-send-clause-fault g c = λ given h. let i = c.parser-2.inside in
           let d = c.args.parser.now in
           scans_fault d.limit d.setting d.input d given h w r a)
     ]
+
+-- what is left after a fault
+pub returns-in-Err-send-clause-ended : goal.returns-in-Err-send-clause-ended
+returns-in-Err-send-clause-ended g c = let i = c.parser-2.inside in
+    let both = c.parser-2.view_is ∙ sym c.parser.view_is in
+    let over : i.session.over ≡ false = ap (λ (p : Parser). p.session.over) both ∙ c.if-parser.false in
+    let peeked : i.session.peeked ≡ false = ap (λ (p : Parser). p.session.peeked) both ∙ c.if-parser-2.false in
+    let t = c.send.new.scanner in let w = c.fault_at-fault.result in
+    elim c.in-Err-send.ensures.sends [
+      | inr z ↦ absurd (c.requires z)
+      | inl f ↦ (let e : c.args.parser.now ≡ parser_of i = sym c.parser-2.view_is in
+          let o = sym (ap (λ (p : Parser). p.session.over) c.parser-2.view_is) ∙ over in
+          let r : Parser = record { input = i.input.now; setting = i.setting; limit = t.limit; session = record { taken = t.taken; steps = t.made; peeked = false; over = true; fault = Some (fault_of w) } } in
+          let s = show_fault_on i.setting i.input.now i.scanner t i.session.peeked (option_map fault_of i.session.fault) w f.1 c.args.parser.now (e ∙ open_session (parser_of i) over) (subst (λ (x : Fault). IsShort i.setting i.input.now i.scanner x ⊎ IsEnded i.setting i.input.now i.scanner t x) (sym c.fault_at-fault.ensures) f.0) peeked in
+          let a : Calls decoded_input SCAN c.args.parser.now (scan_result (Err w)) r = scan_not_shown c.args.parser.now r o w s in
+          rw c.end.ensures a)
+    ]
