@@ -326,15 +326,15 @@ fn shelved(alloc: Global, room: u128) -> Result<(shelf_t, usize, usize), Fail> {
     Err("no stream end".into())
 }
 
-/// A sink with little room gets fewer tokens, and the others are returned.
+/// A sink without room gets no token, and all are returned. One with room for a token gets all but the stream end, which
+/// is returned.
 #[test]
 fn tokens_go_to_a_sink_with_room(rt: HostRuntime) -> Result<(), Fail> {
-    for (room, least) in [(0, 0), (2, 0), (3, 1), (1000, 11)] {
+    for (room, put) in [(0, 0), (1, 34), (3, 34), (1000, 34)] {
         let (shelf, returned, bytes) = shelved(rt.alloc(), room)?;
+        assert_eq!(rt; shelf.tokens, put, "{room}");
         assert_eq!(rt; shelf.tokens.wrapping_add(returned), 35, "{room}");
         assert_eq!(rt; shelf.bytes.wrapping_add(bytes), 13, "{room}");
-        assert!(rt; shelf.tokens >= least, "{room}: {}", shelf.tokens);
-        assert!(rt; room > 0 || shelf.tokens == 0);
     }
     Ok(())
 }

@@ -1,7 +1,7 @@
 //! The next tokens of a parser, given to a sink while it has room for them.
 ghost use Rattle.std.specs.Prelude.{◌≡◌, [], List, IfErr, IfOk, true, false, ◌⊎◌, Some};
 ghost use Rattle.yaml_text.specs.Fault.{fault_of};
-ghost use Rattle.yaml_text.specs.Token.{Token};
+ghost use Rattle.yaml_text.specs.Token.{Token, token_of};
 ghost use Rattle.yaml_scan.specs.All.{ReadsAll};
 ghost use Rattle.yaml_scan.specs.Scanned.{ReadsNext, Scanned};
 ghost use Rattle.yaml_scan.specs.Decoded.{decoded_input};
@@ -10,13 +10,14 @@ ghost use Rattle.yaml_scan.specs.Session.Call.{SCAN};
 ghost use Rattle.yaml_scan.specs.Session.Answer.{FAULT};
 ghost use Rattle.yaml_scan.specs.inside.Ready.{IsReady};
 ghost use Rattle.yaml_scan.specs.inside.Scanning.{IsOpen, IsRunning};
-ghost use Rattle.yaml_scan.specs.inside.Sent.{HasSentOrSettled, SendsOrSettles};
+ghost use Rattle.yaml_scan.specs.Words.{HasWords};
+ghost use Rattle.yaml_scan.specs.inside.Sent.{HasSentOrSettled, IsPutOrReturned, SendsOrSettles};
 
 use crate::fault::{fault_at, stop_t};
 use crate::parser::{start, take_head, yaml_parser_t};
 use crate::scanned::yaml_scan_next;
 use crate::scanner::scanner_t;
-use crate::session::{end, pass};
+use crate::session::{end, is_stream_end, pass};
 use crate::settled::is_settled;
 use crate::step::step_to;
 use crate::target::yaml_token_sink_t;
@@ -63,8 +64,36 @@ fn send<'a, S: yaml_token_sink_t>(
     send_or_settle(scanner, sink)
 }
 
-/// Takes the next tokens. Those of a step go to the sink, at least one, if they need not wait and it has room for all
-/// of them, and then nothing is returned. Else the next token is returned, and the sink was given none.
+/// A token that is returned. This is called and not inlined, since else what goes to the sink is put together a few bytes
+/// at a time, as a part of the result.
+#[cold]
+#[inline(never)]
+fn returned(token: yaml_token_t) -> Option<yaml_token_t>
+    ensures { result ≡ Some token }
+{
+    Some(token)
+}
+
+/// Gives a token to a sink, if the sink has room for it and it is not the stream end. Else returns it.
+#[inline(always)]
+fn put_or_return<S: yaml_token_sink_t>(sink: &mut S, token: yaml_token_t) -> Option<yaml_token_t>
+    requires words { HasWords (token_of token).token_data }
+    requires takes { S.may_refuse → ⊥ }
+    ensures put { IsPutOrReturned (token_of token) (λ tokens. S.took sink.old tokens sink.new) result }
+    ensures within { S.within sink.old → S.within sink.new }
+{
+    if is_stream_end(&token) || !sink.has_room(1, &token.token_data) {
+        return returned(token);
+    }
+    match sink.put(token) {
+        Ok(_) => None,
+        Err(_) => unreachable!(),
+    }
+}
+
+/// Takes the next tokens, at least one. They go to the sink, and nothing is returned: those of a step if they need not
+/// wait and it has room for all of them, and else the next token alone. If it has no room for that, or if that is the
+/// stream end, it is returned, and the sink was given none.
 ///
 /// If a new parser is asked so again and again, the tokens that the sink got and those that were returned are together
 /// those that [`yaml_scan_to`](crate::yaml_scan_to) gives, in order, to the stream end or before the fault. The stream
@@ -104,5 +133,5 @@ pub fn yaml_scan_next_to<S: yaml_token_sink_t>(
     }
     let token = take_head(&mut parser.scanner);
     pass(&mut parser.session, &token);
-    Ok(Some(token))
+    Ok(put_or_return(sink, token))
 }

@@ -1,14 +1,17 @@
 -- What a running scanner has given to a sink that is asked whether it has room, as calls would have returned it.
 use Rattle.std.specs.Prelude.{◌≡◌, ◌⊎◌, ℕ, ◌+◌, ◌-◌, ◌≤◌, ◌<◌, Bool, true, false, List, [], ◌++◌, map, take, length}
-use Rattle.std.specs.Prelude.{Result, Ok, Err}
+use Rattle.std.specs.Prelude.{◌∷◌, Option, Some, None, Result, Ok, Err}
 use Rattle.std.specs.List.{list_any}
 use Rattle.yaml_text.specs.Fault.{memory_fault}
+use Rattle.yaml_text.specs.Token.{token_of}
+use Rattle.yaml_text.specs.declared.token.yaml_token_t.{yaml_token_t as code_token_t}
 use Rattle.yaml_text.specs.declared.types.yaml_encoding_t.{yaml_encoding_t}
 use Rattle.yaml_scan.specs.declared.fault.stop_t.{stop_t}
 use Rattle.yaml_scan.specs.declared.scanner.scanner_t.{scanner_t}
 use Rattle.yaml_scan.specs.Groups.{handed_out}
 use Rattle.yaml_scan.specs.Settled.{pace}
-use Rattle.yaml_scan.specs.Token.{yaml_token_t}
+use Rattle.yaml_scan.specs.Token.{yaml_token_t, type_of}
+use Rattle.yaml_scan.specs.TokenTypes.{is_last_type}
 use Rattle.yaml_scan.specs.inside.Given.{all_in, told_taken}
 use Rattle.yaml_scan.specs.inside.Handed.{is_end}
 use Rattle.yaml_scan.specs.inside.Ready.{IsEnded, IsIn, IsSettled, IsShort, IsStopped, course_in}
@@ -62,3 +65,8 @@ HasSentOrSettled setting input s t took refuses (Ok false) = (tokens : List yaml
     × HasSent setting input s t tokens × took tokens
 HasSentOrSettled setting input s t took refuses (Err stop) = ((IsShort setting input s (fault_at stop t.kept)
     ⊎ IsEnded setting input s t (fault_at stop t.kept)) × IsStopped setting input s t × took []) ⊎ refuses
+
+-- A token that is not the stream end was given to a sink, which took it; or the token is returned, and the sink took none.
+abbrev pub IsPutOrReturned : yaml_token_t → (List yaml_token_t → Type 0) → Option code_token_t → Type 0
+IsPutOrReturned x took None = took (x ∷ []) × (is_last_type (type_of x.token_data) ≡ false)
+IsPutOrReturned x took (Some t) = took [] × (token_of t ≡ x)

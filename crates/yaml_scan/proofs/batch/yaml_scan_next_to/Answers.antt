@@ -1,24 +1,26 @@
 use Rattle.std.proofs.Common.{◌≡◌, Bool, Err, Ok, Some, true, false, refl, sym, ap, ◌∙◌, inl, inr, subst, arith}
-use Rattle.std.specs.Prelude.{◌⊎◌, option_map}
+use Rattle.std.specs.Prelude.{◌⊎◌, List, [], ◌∷◌, Option, None, option_map}
 use Rattle.std.proofs.lemmas.Bool.{false≢true}
 use Rattle.yaml_text.specs.Fault.{Fault, fault_of}
 use Rattle.yaml_text.specs.Token.{token_of}
+use Rattle.yaml_text.specs.declared.token.yaml_token_t.{yaml_token_t as code_token_t}
 use Rattle.yaml_scan.specs.Decoded.{decoded_input}
-use Rattle.yaml_scan.specs.Scanned.{GoesOnBy}
-use Rattle.yaml_scan.specs.Token.{type_of}
+use Rattle.yaml_scan.specs.Scanned.{GoesOnBy, ReadsNext}
+use Rattle.yaml_scan.specs.Token.{yaml_token_t, type_of}
 use Rattle.yaml_scan.specs.TokenTypes.{is_last_type}
 use Rattle.yaml_scan.specs.Session.Answer.{TOKEN}
 use Rattle.yaml_scan.specs.Parser.{Parser}
 use Rattle.yaml_scan.specs.ParserCalls.{scan_result}
 use Rattle.yaml_scan.specs.Headline.{Calls}
 use Rattle.yaml_scan.specs.inside.Ready.{parser_of, IsEnded, IsShort, IsShown}
-use Rattle.yaml_scan.specs.inside.Sent.{HasSentOrSettled}
+use Rattle.yaml_scan.specs.inside.Sent.{HasSentOrSettled, IsPutOrReturned}
 use Rattle.yaml_scan.specs.Session.Call.{SCAN}
 use Rattle.yaml_scan.proofs.RunningCalls.CallAnswers.{show_token, show_fault_on, open_session, shown_settled, stands_u, open_u, last_is, take_told_of, take_left_of, scan_shown, scan_not_shown}
 use Rattle.yaml_scan.proofs.RunningCalls.ParserInvariant.{stands_ready, keeps_sent, keeps_settled, keeps_stopped, keeps_taken, reach_in, reach_stopped}
 use Rattle.yaml_scan.proofs.RunningCalls.ScansToTheEnd.{scans_fault, scans_on}
 use Rattle.yaml_scan.proofs.RunningCalls.SeveralScans.{several_scans}
 use Rattle.yaml_scan.proofs.RunningQueue.StepsWaiting.{done_is}
+use Rattle.yaml_scan.proofs.SessionCalls.CallWords.{scan_has_words}
 use Rattle.yaml_scan.proofs.batch.yaml_scan_next_to.Goals as goal
 
 -- THE TOKENS OF A STEP WENT TO THE SINK
@@ -65,7 +67,12 @@ returns-then-not-settled-clause-next g c =
           (λ given h. several_scans i.scanner.limit i.setting i.input.now i.scanner t w.0 k refl (parser_of i) given h refl refl)),
     )
 
--- THE NEXT TOKEN IS RETURNED
+-- THE NEXT TOKEN GOES TO THE SINK, OR IS RETURNED
+read_next : (p q : Parser) (x : yaml_token_t) (took more : List yaml_token_t → Type 0) (o : Option code_token_t) → GoesOnBy p (x ∷ []) q (is_last_type (type_of x.token_data)) → ((ts : List yaml_token_t) → more ts → took ts)
+    → IsPutOrReturned x more o → ReadsNext p q took o
+read_next p q x took more None n f w = (x ∷ [], omega arith, f (x ∷ []) w.0, subst (λ (b : Bool). GoesOnBy p (x ∷ []) q b) w.1 n)
+read_next p q x took more (Some t) n f w = (f [] w.0, subst (λ (y : yaml_token_t). GoesOnBy p (y ∷ []) q (is_last_type (type_of y.token_data))) (sym w.1) n)
+
 pub invariant_of-parser-2 : goal.invariant_of-parser-2
 invariant_of-parser-2 g c = let i = c.parser-2.inside in
     let both = c.parser-2.view_is ∙ sym c.parser.view_is in
@@ -91,6 +98,25 @@ invariant_of-parser-2 g c = let i = c.parser-2.inside in
       few = w.few;
     })
 
+pub put_or_return-requires-clause-words : goal.put_or_return-requires-clause-words
+put_or_return-requires-clause-words g c = let i = c.parser-2.inside in
+    let both = c.parser-2.view_is ∙ sym c.parser.view_is in
+    let over : i.session.over ≡ false = ap (λ (p : Parser). p.session.over) both ∙ c.if-parser.false in
+    let peeked : i.session.peeked ≡ false = ap (λ (p : Parser). p.session.peeked) both ∙ c.if-parser-2.false in
+    let t = c.send.new.scanner in let u = c.take_head-token.new.scanner in let x = token_of c.take_head-token.result in let p = c.take_head-token.ensures in
+    let z = subst (λ (b : Bool). HasSentOrSettled i.setting i.input.now i.scanner t (λ ts. g.S.yaml_token_sink_t.took c.args.sink.now ts c.send.new.sink) g.S.yaml_token_sink_t.may_refuse (Ok b)) c.if-not-settled.false c.in-Ok-send.ensures.sends in
+    let n = z.0 in
+    let e : c.args.parser.now ≡ parser_of i = sym c.parser-2.view_is in
+    let o = sym (ap (λ (p : Parser). p.session.over) c.parser-2.view_is) ∙ over in
+    let h : IsShown i.setting i.input.now t = record { stands = n.stands; still_open = n.still_open; settled = n.settled } in
+    let k = shown_settled i.setting i.input.now t h in
+    let fault = option_map fault_of i.session.fault in
+    let q : Parser = record { input = i.input.now; setting = i.setting; limit = t.limit; session = record { taken = t.taken; steps = t.made; peeked = true; over = false; fault = fault } } in
+    let s = show_token i.setting i.input.now i.scanner t n i.session.peeked fault c.args.parser.now (e ∙ open_session (parser_of i) over) false refl in
+    let r : Parser = record { input = i.input.now; setting = i.setting; limit = u.limit; session = record { taken = u.taken; steps = u.made; peeked = false; over = is_last_type (type_of x.token_data); fault = fault } } in
+    let a : Calls decoded_input SCAN c.args.parser.now (TOKEN x) r = scan_shown c.args.parser.now q o x r s (take_told_of i.setting i.input.now t t u x k p refl fault q refl) (take_left_of i.setting i.input.now t t u x k p refl fault q refl (is_last_type (type_of x.token_data)) refl) in
+    scan_has_words c.args.parser.now x r a
+
 pub returns-clause-next : goal.returns-clause-next
 returns-clause-next g c = let i = c.parser-2.inside in
     let both = c.parser-2.view_is ∙ sym c.parser.view_is in
@@ -109,7 +135,11 @@ returns-clause-next g c = let i = c.parser-2.inside in
     let r : Parser = record { input = i.input.now; setting = i.setting; limit = u.limit; session = record { taken = u.taken; steps = u.made; peeked = false; over = is_last_type (type_of x.token_data); fault = fault } } in
     let a : Calls decoded_input SCAN c.args.parser.now (TOKEN x) r = scan_shown c.args.parser.now q o x r s (take_told_of i.setting i.input.now t t u x k p refl fault q refl) (take_left_of i.setting i.input.now t t u x k p refl fault q refl (is_last_type (type_of x.token_data)) refl) in
     let d = c.args.parser.now in
-    rw c.pass.ensures (z.1, λ given h. (scans_on d.limit d.setting d.input d given h x r (is_last_type (type_of x.token_data)) refl a).0)
+    let b = c.args.sink.now in
+    let f = c.put_or_return.new.sink in
+    rw c.pass.ensures (read_next d r x (λ ts. g.S.yaml_token_sink_t.took b ts f) (λ ts. g.S.yaml_token_sink_t.took c.send.new.sink ts f) c.put_or_return.result
+    (λ given h. (scans_on d.limit d.setting d.input d given h x r (is_last_type (type_of x.token_data)) refl a).0)
+    (λ ts w. g.met.S.yaml_token_sink_t.took_more b c.send.new.sink f [] ts z.1 w) c.put_or_return.ensures.put)
 
 -- NO TOKEN COMES
 pub invariant_of-parser : goal.invariant_of-parser
