@@ -326,8 +326,8 @@ fn shelved(alloc: Global, room: u128) -> Result<(shelf_t, usize, usize), Fail> {
     Err("no stream end".into())
 }
 
-/// A sink without room gets no token, and all are returned. One with room for a token gets all but the stream end, which
-/// is returned.
+/// A sink without room gets no token, and all are returned. One with room for a token gets all but the stream end,
+/// which is returned.
 #[test]
 fn tokens_go_to_a_sink_with_room(rt: HostRuntime) -> Result<(), Fail> {
     for (room, put) in [(0, 0), (1, 34), (3, 34), (1000, 34)] {

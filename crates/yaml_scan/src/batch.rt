@@ -64,8 +64,8 @@ fn send<'a, S: yaml_token_sink_t>(
     send_or_settle(scanner, sink)
 }
 
-/// A token that is returned. This is called and not inlined, since else what goes to the sink is put together a few bytes
-/// at a time, as a part of the result.
+/// A token that is returned. This is called and not inlined, since else what goes to the sink is put together a few
+/// bytes at a time, as a part of the result.
 #[cold]
 #[inline(never)]
 fn returned(token: yaml_token_t) -> Option<yaml_token_t>

@@ -66,7 +66,8 @@ HasSentOrSettled setting input s t took refuses (Ok false) = (tokens : List yaml
 HasSentOrSettled setting input s t took refuses (Err stop) = ((IsShort setting input s (fault_at stop t.kept)
     ⊎ IsEnded setting input s t (fault_at stop t.kept)) × IsStopped setting input s t × took []) ⊎ refuses
 
--- A token that is not the stream end was given to a sink, which took it; or the token is returned, and the sink took none.
+-- A token that is not the stream end was given to a sink, which took it; or the token is returned, and the sink took
+-- none.
 abbrev pub IsPutOrReturned : yaml_token_t → (List yaml_token_t → Type 0) → Option code_token_t → Type 0
 IsPutOrReturned x took None = took (x ∷ []) × (is_last_type (type_of x.token_data) ≡ false)
 IsPutOrReturned x took (Some t) = took [] × (token_of t ≡ x)
