@@ -92,8 +92,8 @@ fn put_or_return<S: yaml_token_sink_t>(sink: &mut S, token: yaml_token_t) -> Opt
 }
 
 /// Takes the next tokens, at least one. They go to the sink, and nothing is returned: those of a step if they need not
-/// wait and it has room for all of them, and else the next token alone. If it has no room for that, or if that is the
-/// stream end, it is returned, and the sink was given none.
+/// wait and the sink has room for all of them, and else the next token alone. If the sink has no room for that token,
+/// or if it is the stream end, the token is returned, and the sink was given none.
 ///
 /// If a new parser is asked so again and again, the tokens that the sink got and those that were returned are together
 /// those that [`yaml_scan_to`](crate::yaml_scan_to) gives, in order, to the stream end or before the fault. The stream

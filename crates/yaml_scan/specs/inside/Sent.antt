@@ -10,8 +10,7 @@ use Rattle.yaml_scan.specs.declared.fault.stop_t.{stop_t}
 use Rattle.yaml_scan.specs.declared.scanner.scanner_t.{scanner_t}
 use Rattle.yaml_scan.specs.Groups.{handed_out}
 use Rattle.yaml_scan.specs.Settled.{pace}
-use Rattle.yaml_scan.specs.Token.{yaml_token_t, type_of}
-use Rattle.yaml_scan.specs.TokenTypes.{is_last_type}
+use Rattle.yaml_scan.specs.Token.{yaml_token_t}
 use Rattle.yaml_scan.specs.inside.Given.{all_in, told_taken}
 use Rattle.yaml_scan.specs.inside.Handed.{is_end}
 use Rattle.yaml_scan.specs.inside.Ready.{IsEnded, IsIn, IsSettled, IsShort, IsStopped, course_in}
@@ -69,5 +68,5 @@ HasSentOrSettled setting input s t took refuses (Err stop) = ((IsShort setting i
 -- A token that is not the stream end was given to a sink, which took it; or the token is returned, and the sink took
 -- none.
 abbrev pub IsPutOrReturned : yaml_token_t → (List yaml_token_t → Type 0) → Option code_token_t → Type 0
-IsPutOrReturned x took None = took (x ∷ []) × (is_last_type (type_of x.token_data) ≡ false)
+IsPutOrReturned x took None = took (x ∷ []) × (is_end x ≡ false)
 IsPutOrReturned x took (Some t) = took [] × (token_of t ≡ x)
