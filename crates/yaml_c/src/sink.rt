@@ -130,9 +130,8 @@ impl<'a> token_rooms_t<'a> {
         }
     }
 
-    /// Puts the record of a token with a text, and its texts, and keeps the room of a scalar's text. It is called and
-    /// not inlined, so that what puts a token stays small.
-    #[inline(never)]
+    /// Puts the record of a token with a text, and its texts, and keeps the room of a scalar's text.
+    #[inline(always)]
     fn put_with_text(&mut self, token: yaml_token_t)
         ensures { IsPut self.old (token_of token) self.new }
     {
@@ -179,6 +178,7 @@ impl yaml_token_sink_t for token_rooms_t<'_> {
 
     ghost within = { IsWithin };
 
+    #[inline(always)]
     fn put(&mut self, token: yaml_token_t) -> Result<(), AllocError> {
         self.put_token(token);
         Ok(())

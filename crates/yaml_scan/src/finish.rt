@@ -1,10 +1,11 @@
 //! What comes after a lexeme was read: the step may have to stop, or the lexeme is laid.
-ghost use Rattle.std.specs.Prelude.{ℕ, ◌≡◌, false, List, [], MatchResult, OnOk};
+ghost use Rattle.std.specs.Prelude.{ℕ, ◌≡◌, false, List, [], IfOk, MatchResult, OnOk};
 ghost use Rattle.yaml_lexeme.specs.LexemeOf.{lexeme_of};
 ghost use Rattle.yaml_lexeme.specs.Counted.{IsMarkOf};
 ghost use Rattle.yaml_scan.specs.Laid.{Laid};
+ghost use Rattle.yaml_scan.specs.declared.scanner.scanner_t.{scanner_t};
 ghost use Rattle.yaml_scan.specs.Kind.{is_stream_end};
-ghost use Rattle.yaml_scan.specs.inside.Handed.{LaysTo, StepsTo, group_tokens, made_by};
+ghost use Rattle.yaml_scan.specs.inside.Handed.{FindsRoom, IsLaidAlone, LaysTo, StepsTo, WasLaid, group_tokens};
 ghost use Rattle.yaml_scan.specs.inside.Scanning.{CanLayAll, CanRead, IsReadIn, IsStep, Refuses};
 ghost use Rattle.yaml_scan.specs.inside.TextReads.{IsRead};
 
@@ -19,9 +20,22 @@ use crate::met::step_t;
 use crate::scanner::scanner_t;
 use crate::stop::{stop_after, stop_in_lexeme};
 use crate::target::{
-    hand_on, hand_token, has_room_for, has_room_for_both, no_sink_t, yaml_token_sink_t,
+    hand_keyless, hand_on, hand_token, has_room_for, has_room_for_both, no_sink_t,
+    yaml_token_sink_t,
 };
 use yaml_lexeme::{yaml_lexeme_kind_t, yaml_lexeme_t, yaml_refusal_t};
+use yaml_text::yaml_token_t;
+
+/// What a step has laid, and has not handed on yet.
+#[derive(Drop)]
+pub(crate) struct laid_t {
+    /// The group of its lexeme.
+    pub group: group_t,
+    /// Whether that has to wait in the queue.
+    pub waits: bool,
+    /// The token of what decides whether the lexeme is a key, if that was laid with it. It waits with the group.
+    pub decider: Option<yaml_token_t>,
+}
 
 /// Whether the group of a lexeme of a kind that was laid has to wait: the stream end always does, and any other if
 /// groups before it do, if a candidate may yet become a key, or if the sink has no room for it.
@@ -44,56 +58,57 @@ fn has_to_wait<S: yaml_token_sink_t>(
         || !has_room_for(sink, group)
 }
 
-/// Lays the lexeme of a step, and hands on its group.
+/// Lays the lexeme of a step. Returns its group, and whether that has to wait in the queue.
 #[inline(always)]
-fn put_lexeme<const DIRECT: bool, S: yaml_token_sink_t>(
+fn lay_alone<S: yaml_token_sink_t>(
     scanner: &mut scanner_t,
-    sink: &mut S,
+    sink: &S,
     step: step_t,
     lexeme: yaml_lexeme_t,
-) -> Result<(), stop_t>
+) -> (group_t, bool)
     ghost before: { List Laid }
     requires { CanLayAll before scanner.old step (lexeme_of lexeme) }
-    ensures steps { LaysTo before scanner.old scanner.new DIRECT (λ tokens. S.took sink.old tokens sink.new)
-        S.may_refuse (made_by 1 result) }
-    ensures within { OnOk result (S.within sink.old → S.within sink.new) }
+    ensures laid { IsLaidAlone before scanner.old scanner.new step.kind result.1 result.0 }
+    ensures room { result.1 ≡ false → S.within sink.now → (after : S) → S.took sink.now (group_tokens result.0) after
+        → S.within after }
 {
     let group = lay_lexeme(scanner, step, lexeme);
     let waits = has_to_wait(scanner, sink, step.kind, &group);
-    hand_on::<DIRECT, S>(scanner, sink, waits, group)
+    (group, waits)
 }
 
-/// Lays the lexeme of a step, and with it what decides whether it is a key, if the next token needs both. Returns how
-/// many steps that makes.
+/// Lays the lexeme of a step, and with it what decides whether it is a key, if the next token needs both.
 #[inline(always)]
 fn lay_all<const DIRECT: bool, S: yaml_token_sink_t>(
     scanner: &mut scanner_t,
-    sink: &mut S,
+    sink: &S,
     step: step_t,
     lexeme: yaml_lexeme_t,
-) -> Result<u64, stop_t>
+) -> laid_t
     ghost before: { List Laid }
     requires { CanLayAll before scanner.old step (lexeme_of lexeme) }
-    ensures steps { LaysTo before scanner.old scanner.new DIRECT (λ tokens. S.took sink.old tokens sink.new)
-        S.may_refuse result }
-    ensures within { OnOk result (S.within sink.old → S.within sink.new) }
+    ensures laid { WasLaid before scanner.old scanner.new DIRECT result }
+    ensures room { FindsRoom result (S.within sink.now) (λ tokens. (after : S) → S.took sink.now tokens after
+        → S.within after) }
 {
     let direct = has_room_for_both::<DIRECT, S>(sink, &scanner.layout.levels, &lexeme);
     match decided_by(scanner, !direct, step, lexeme.reach) {
         Some(decider) => {
-            let (first, second) = lay_decided(scanner, step, lexeme, decider);
-            match hand_on::<DIRECT, S>(scanner, sink, !direct, first) {
-                Ok(_) => match hand_token::<DIRECT, S>(scanner, sink, !direct, second) {
-                    Ok(_) => Ok(2),
-                    Err(stop) => Err(stopped(stop)),
-                },
-                Err(stop) => Err(stopped(stop)),
+            let (group, second) = lay_decided(scanner, step, lexeme, decider);
+            laid_t {
+                group,
+                waits: !direct,
+                decider: Some(second),
             }
         }
-        None => match put_lexeme::<DIRECT, S>(scanner, sink, step, lexeme) {
-            Ok(_) => Ok(1),
-            Err(stop) => Err(stopped(stop)),
-        },
+        None => {
+            let (group, waits) = lay_alone(scanner, sink, step, lexeme);
+            laid_t {
+                group,
+                waits,
+                decider: None,
+            }
+        }
     }
 }
 
@@ -133,62 +148,96 @@ pub(crate) fn end_character<const DIRECT: bool, S: yaml_token_sink_t>(
     ensures within { OnOk result (S.within sink.old → S.within sink.new) }
 {
     match check_reach(scanner, step, &lexeme) {
-        Ok(_) => match put_lexeme::<DIRECT, S>(scanner, sink, step, lexeme) {
-            Ok(_) => {
-                scanner.made += 1;
-                Ok(())
+        Ok(_) => {
+            let (group, waits) = lay_alone(scanner, sink, step, lexeme);
+            match hand_keyless::<DIRECT, S>(scanner, sink, waits, group) {
+                Ok(_) => {
+                    scanner.made += 1;
+                    Ok(())
+                }
+                Err(stop) => Err(stopped(stop)),
             }
-            Err(stop) => Err(stopped(stop)),
-        },
+        }
         Err(stop) => Err(stopped(stop)),
     }
 }
 
-/// Ends a step with the lexeme that was read. Stops if it is near the reader's fault, or a candidate is lost.
+/// Lays what was read for a step. Stops if it was refused, if it is near the reader's fault, or if a candidate is lost.
 #[inline(always)]
-fn end_step<const DIRECT: bool, S: yaml_token_sink_t>(
+pub(crate) fn lay_read<const DIRECT: bool, S: yaml_token_sink_t>(
     scanner: &mut scanner_t,
-    sink: &mut S,
-    step: step_t,
-    lexeme: yaml_lexeme_t,
-) -> Result<(), stop_t>
-    ghost before: { List Laid }
-    requires { CanRead before scanner.old step × ((p : ℕ) → IsMarkOf scanner.old.text.chars scanner.old.front p
-        → IsRead scanner.old.text.chars step.kind step.context.depth step.context.level p (lexeme_of lexeme)) }
-    ensures steps { StepsTo before scanner.old scanner.new DIRECT (λ tokens. S.took sink.old tokens sink.new)
-        S.may_refuse result }
-    ensures within { OnOk result (S.within sink.old → S.within sink.new) }
-{
-    match check_reach(scanner, step, &lexeme) {
-        Ok(_) => match lay_all::<DIRECT, S>(scanner, sink, step, lexeme) {
-            Ok(made) => {
-                scanner.made += made;
-                Ok(())
-            }
-            Err(stop) => Err(stopped(stop)),
-        },
-        Err(stop) => Err(stopped(stop)),
-    }
-}
-
-/// Ends a step with what was read. Stops if it was refused.
-#[inline(always)]
-pub(crate) fn end_read<const DIRECT: bool, S: yaml_token_sink_t>(
-    scanner: &mut scanner_t,
-    sink: &mut S,
+    sink: &S,
     step: step_t,
     read: Result<yaml_lexeme_t, yaml_refusal_t>,
-) -> Result<(), stop_t>
+) -> Result<laid_t, stop_t>
     ghost before: { List Laid }
     requires { CanRead before scanner.old step
         × IsReadIn scanner.old step.kind step.context scanner.old.there read }
-    ensures steps { StepsTo before scanner.old scanner.new DIRECT (λ tokens. S.took sink.old tokens sink.new)
-        S.may_refuse result }
-    ensures within { OnOk result (S.within sink.old → S.within sink.new) }
+    ensures laid { MatchResult result (λ laid. WasLaid before scanner.old scanner.new DIRECT laid)
+        (λ stop. Refuses before scanner.old scanner.new stop) }
+    ensures room { IfOk result (λ laid. FindsRoom laid (S.within sink.now) (λ tokens. (after : S)
+        → S.took sink.now tokens after → S.within after)) }
 {
     match read {
-        Ok(lexeme) => end_step::<DIRECT, S>(scanner, sink, step, lexeme),
+        Ok(lexeme) => match check_reach(scanner, step, &lexeme) {
+            Ok(_) => Ok(lay_all::<DIRECT, S>(scanner, sink, step, lexeme)),
+            Err(stop) => Err(stopped(stop)),
+        },
         Err(refusal) => Err(stop_in_lexeme(scanner, step.kind, refusal)),
+    }
+}
+
+/// Hands on what a step has laid. Returns how many steps that makes.
+#[inline(always)]
+fn hand_laid<const DIRECT: bool, S: yaml_token_sink_t>(
+    scanner: &mut scanner_t,
+    sink: &mut S,
+    laid: laid_t,
+) -> Result<u64, stop_t>
+    requires laid { (before : List Laid) × ((start : scanner_t) × WasLaid before start scanner.old DIRECT laid) }
+    requires room { FindsRoom laid (S.within sink.old) (λ tokens. (after : S) → S.took sink.old tokens after
+        → S.within after) }
+    ensures steps { (before : List Laid) (start : scanner_t) → WasLaid before start scanner.old DIRECT laid
+        → LaysTo before start scanner.new DIRECT (λ tokens. S.took sink.old tokens sink.new) S.may_refuse result }
+    ensures within { OnOk result (S.within sink.old → S.within sink.new) }
+{
+    let laid_t {
+        group,
+        waits,
+        decider,
+    } = laid;
+    match hand_on::<DIRECT, S>(scanner, sink, waits, group) {
+        Ok(_) => match decider {
+            Some(token) => match hand_token::<DIRECT, S>(scanner, sink, waits, token) {
+                Ok(_) => Ok(2),
+                Err(stop) => Err(stopped(stop)),
+            },
+            None => Ok(1),
+        },
+        Err(stop) => Err(stopped(stop)),
+    }
+}
+
+/// Ends a step with what it has laid, and hands that on.
+#[inline(always)]
+pub(crate) fn end_laid<const DIRECT: bool, S: yaml_token_sink_t>(
+    scanner: &mut scanner_t,
+    sink: &mut S,
+    laid: laid_t,
+) -> Result<(), stop_t>
+    requires laid { (before : List Laid) × ((start : scanner_t) × WasLaid before start scanner.old DIRECT laid) }
+    requires room { FindsRoom laid (S.within sink.old) (λ tokens. (after : S) → S.took sink.old tokens after
+        → S.within after) }
+    ensures steps { (before : List Laid) (start : scanner_t) → WasLaid before start scanner.old DIRECT laid
+        → StepsTo before start scanner.new DIRECT (λ tokens. S.took sink.old tokens sink.new) S.may_refuse result }
+    ensures within { OnOk result (S.within sink.old → S.within sink.new) }
+{
+    match hand_laid::<DIRECT, S>(scanner, sink, laid) {
+        Ok(made) => {
+            scanner.made += made;
+            Ok(())
+        }
+        Err(stop) => Err(stopped(stop)),
     }
 }
 
@@ -204,5 +253,8 @@ pub(crate) fn end_queued(
         × IsReadIn scanner.old step.kind step.context scanner.old.there read }
     ensures { IsStep before scanner.old scanner.new result }
 {
-    end_read::<false, no_sink_t>(scanner, &mut no_sink_t {}, step, read)
+    match lay_read::<false, no_sink_t>(scanner, &no_sink_t {}, step, read) {
+        Ok(laid) => end_laid::<false, no_sink_t>(scanner, &mut no_sink_t {}, laid),
+        Err(stop) => Err(stopped(stop)),
+    }
 }

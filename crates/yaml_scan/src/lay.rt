@@ -1,5 +1,5 @@
 //! What the layout makes of a lexeme.
-ghost use Rattle.std.specs.Prelude.{◌≡◌, ◌<◌, ◌++◌, ◌∷◌, List, [], length, map, nat_lt, vec_len};
+ghost use Rattle.std.specs.Prelude.{◌≡◌, ◌<◌, ◌++◌, ◌∷◌, List, [], false, length, map, nat_lt, vec_len};
 ghost use Rattle.std.specs.Vec.{vec_capacity};
 ghost use Rattle.std.specs.VecDeque.{deque_capacity};
 ghost use Rattle.yaml_text.specs.Token.{data_of, token_of};
@@ -67,6 +67,7 @@ pub(crate) fn lay_lexeme(scanner: &mut scanner_t, step: step_t, lexeme: yaml_lex
     ensures laid { IsLaidAs before scanner.old step.kind scanner.new (groups_in scanner.new ++ result ∷ []) }
     ensures reach { scanner.new.reach ≡ (lexeme_of lexeme).reach }
     ensures says { (token_of result.token).token_data ≡ (lexeme_of lexeme).token_data }
+    ensures keyless { result.key ≡ false }
     ensures room { length scanner.new.layout.queue.groups.items < deque_capacity scanner.new.layout.queue.groups }
 {
     let kind = step.kind;

@@ -8,7 +8,7 @@ ghost use Rattle.yaml_scan.specs.inside.Scanning.{CanStep, Comes, IsStep};
 
 use crate::begin::begin_step;
 use crate::fault::{stop_t, stopped};
-use crate::finish::{end_character, end_queued, end_read};
+use crate::finish::{end_character, end_laid, end_queued, lay_read};
 use crate::keys::{is_lost, root_at};
 use crate::scanner::scanner_t;
 use crate::source::{
@@ -46,7 +46,10 @@ fn step_plain<const IN_FLOW: bool, const DIRECT: bool, S: yaml_token_sink_t>(
         Ok(step) => {
             let room = sink.room(scanner.alloc);
             let read = read_plain(room, scanner, step.context);
-            end_read::<DIRECT, S>(scanner, sink, step, read)
+            match lay_read::<DIRECT, S>(scanner, sink, step, read) {
+                Ok(laid) => end_laid::<DIRECT, S>(scanner, sink, laid),
+                Err(stop) => Err(stopped(stop)),
+            }
         }
         Err(stop) => Err(stopped(stop)),
     }
@@ -68,7 +71,10 @@ fn step_quoted<const IN_FLOW: bool, const SINGLE: bool, const DIRECT: bool, S: y
         Ok(step) => {
             let room = sink.room(scanner.alloc);
             let read = read_quoted(room, scanner, SINGLE, step.context);
-            end_read::<DIRECT, S>(scanner, sink, step, read)
+            match lay_read::<DIRECT, S>(scanner, sink, step, read) {
+                Ok(laid) => end_laid::<DIRECT, S>(scanner, sink, laid),
+                Err(stop) => Err(stopped(stop)),
+            }
         }
         Err(stop) => Err(stopped(stop)),
     }
@@ -90,7 +96,10 @@ fn step_literal<const IN_FLOW: bool, const DIRECT: bool, S: yaml_token_sink_t>(
         Ok(step) => {
             let room = sink.room(scanner.alloc);
             let read = read_block(room, scanner, false, step.context);
-            end_read::<DIRECT, S>(scanner, sink, step, read)
+            match lay_read::<DIRECT, S>(scanner, sink, step, read) {
+                Ok(laid) => end_laid::<DIRECT, S>(scanner, sink, laid),
+                Err(stop) => Err(stopped(stop)),
+            }
         }
         Err(stop) => Err(stopped(stop)),
     }

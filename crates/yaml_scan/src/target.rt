@@ -210,6 +210,19 @@ fn give_group<S: yaml_token_sink_t>(sink: &mut S, group: group_t) -> Result<(), 
     }
 }
 
+/// Gives all that a group without a key hands out to a sink.
+#[inline(always)]
+fn give_keyless<S: yaml_token_sink_t>(sink: &mut S, group: group_t) -> Result<(), stop_t>
+    requires key { group.key ≡ false }
+    requires words { HasWords (token_of group.token).token_data }
+    ensures { Gives (λ tokens. S.took sink.old tokens sink.new) S.may_refuse (group_tokens group) result }
+{
+    match give_front(sink, &group) {
+        Ok(_) => give(sink, group.token),
+        Err(stop) => Err(stopped(stop)),
+    }
+}
+
 /// 1 if the start of a block collection is handed out, and else 0.
 #[inline]
 fn starts_of(opens: block_t) -> u128
@@ -283,6 +296,38 @@ pub(crate) fn hand_on<const DIRECT: bool, S: yaml_token_sink_t>(
     }
     let count = count_of(&group);
     match give_group(sink, group) {
+        Ok(_) => {
+            scanner.layout.queue.done += 1;
+            scanner.taken += count;
+            Ok(())
+        }
+        Err(stop) => Err(stopped(stop)),
+    }
+}
+
+/// Hands on the group of a step that hands out no key: straight to the sink if it need not wait, and else into the
+/// queue, which has room.
+#[inline(always)]
+pub(crate) fn hand_keyless<const DIRECT: bool, S: yaml_token_sink_t>(
+    scanner: &mut scanner_t,
+    sink: &mut S,
+    waits: bool,
+    group: group_t,
+) -> Result<(), stop_t>
+    requires key { group.key ≡ false }
+    requires room { length scanner.old.layout.queue.groups.items < deque_capacity scanner.old.layout.queue.groups }
+    requires words { HasWords (token_of group.token).token_data }
+    requires done { scanner.old.layout.queue.done + 1 < 2 ^ 64 }
+    requires taken { scanner.old.taken + length (group_tokens group) < 2 ^ 128 }
+    ensures { IsHandedOn DIRECT waits scanner.old scanner.new group (λ tokens. S.took sink.old tokens sink.new)
+        S.may_refuse result }
+{
+    if !DIRECT || waits {
+        scanner.layout.queue.groups.push_back_reserved(group);
+        return Ok(());
+    }
+    let count = count_of(&group);
+    match give_keyless(sink, group) {
         Ok(_) => {
             scanner.layout.queue.done += 1;
             scanner.taken += count;

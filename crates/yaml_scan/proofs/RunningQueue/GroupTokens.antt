@@ -1,5 +1,5 @@
 -- What a group hands out, and that a sink was given it token by token.
-use Rattle.std.proofs.Common.{◌≡◌, ℕ, zero, suc, ◌+◌, ◌≤◌, ◌<◌, Bool, true, false, List, [], ◌∷◌, ◌++◌, length, length-append, append_assoc, Ok, Err, refl, ap, sym, ◌∙◌, subst, arith}
+use Rattle.std.proofs.Common.{◌≡◌, ℕ, zero, suc, ◌+◌, ◌≤◌, ◌<◌, Bool, true, false, List, [], ◌∷◌, ◌++◌, length, length-append, append-nil, append_assoc, Ok, Err, refl, ap, sym, ◌∙◌, subst, arith}
 use Rattle.std.specs.Prelude.{Result, if◌then◌else◌}
 use Rattle.yaml_text.specs.declared.types.yaml_mark_t.{yaml_mark_t}
 use Rattle.yaml_text.specs.Token.{token_of}
@@ -104,3 +104,7 @@ module _ {S : Type 0} (took : S → List yaml_token_t → S → Type 0) (more : 
   pub cut_ends : (k n : ℕ) (m : yaml_mark_t) (x : yaml_token_t) → x ≡ block_end m → k < n → took a (told_leads (ends_at k m)) b → IsCut (λ ts. took b ts c) (x ∷ []) → IsCut (λ ts. took a ts c) (told_leads (ends_at n m))
   cut_ends k n m x e l t q = cut_begins (λ ts. took a ts c) (told_leads (ends_at k m) ++ x ∷ []) (told_leads (ends_at n m)) (subst (λ (z : yaml_token_t). Begins (told_leads (ends_at k m) ++ z ∷ []) (told_leads (ends_at n m))) (sym e) (ends_within k n m l))
       (cut_after (told_leads (ends_at k m)) (x ∷ []) t q)
+
+-- what a group without a key hands out before its token
+pub keyless_leads : (y : group_t) → y.key ≡ false → leads y ≡ ends_at y.ends y.token.start_mark ++ start_at y.opens y.token.start_mark
+keyless_leads y e = rw e (ap (λ (xs : List Token). ends_at y.ends y.token.start_mark ++ xs) (append-nil (start_at y.opens y.token.start_mark)))

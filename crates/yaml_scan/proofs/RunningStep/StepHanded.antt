@@ -1,5 +1,5 @@
 -- What was laid is handed on: into the queue, or straight to a sink.
-use Rattle.std.proofs.Common.{◌≡◌, ℕ, ◌+◌, ◌^◌, ◌≤◌, ◌<◌, not, Bool, true, false, List, [], ◌∷◌, ◌++◌, drop, length, length-append, length-drop, append-nil, append_assoc, None, Ok, Err, refl, ap, sym, ◌∙◌, subst, arith, inl, inr}
+use Rattle.std.proofs.Common.{◌≡◌, ℕ, ◌+◌, ◌^◌, ◌≤◌, ◌<◌, not, Bool, true, false, List, [], ◌∷◌, ◌++◌, drop, length, length-append, length-drop, append-nil, append_assoc, Option, None, Some, Ok, Err, refl, ap, sym, ◌∙◌, subst, arith, inl, inr}
 use Rattle.std.specs.Prelude.{◌⊎◌, OnOk, Result}
 use Rattle.std.specs.List.{list_any}
 use Rattle.std.specs.VecDeque.{deque_capacity}
@@ -7,6 +7,7 @@ use Rattle.std.proofs.lemmas.Bool.{false≢true}
 use Rattle.std.proofs.lemmas.List.Folds.{list_any-append}
 use Rattle.yaml_text.specs.declared.types.yaml_encoding_t.{yaml_encoding_t}
 use Rattle.yaml_text.specs.declared.types.yaml_mark_t.{yaml_mark_t}
+use Rattle.yaml_text.specs.declared.token.yaml_token_t.{yaml_token_t as code_token_t}
 use Rattle.yaml_text.specs.Token.{token_of}
 use Rattle.yaml_scan.specs.Course.{ended}
 use Rattle.yaml_scan.specs.declared.fault.stop_t.{stop_t}
@@ -32,7 +33,7 @@ use Rattle.yaml_lexeme.specs.Lexeme.{Lexeme as yaml_lexeme_t}
 use Rattle.yaml_scan.specs.declared.met.step_t.{step_t}
 use Rattle.yaml_scan.proofs.SessionCalls.AnswerWords.{read_has_words}
 use Rattle.yaml_scan.proofs.Texts.LexemeReads.{decider_silent, read_says}
-use Rattle.yaml_scan.specs.inside.Handed.{AllSettled, Empties, IsCut, IsHanded, IsHandedOn, IsLaidAs, IsPushed, LaysTo, group_tokens, groups_tokens, is_end, keys_of, made_by, one_done, set_queue, starts_of, told_leads, with_queue}
+use Rattle.yaml_scan.specs.inside.Handed.{AllSettled, Empties, HandsOut, IsCut, IsHanded, IsHandedOn, IsLaidAlone, IsLaidAs, IsLaidBoth, IsPushed, LaysTo, WasLaidWith, group_tokens, groups_tokens, is_end, keys_of, lone, made_by, one_done, set_queue, starts_of, told_leads, with_queue}
 use Rattle.yaml_scan.specs.inside.Queue.{IsQueue, early_before, leads, pending}
 use Rattle.yaml_scan.specs.inside.Scanning.{AdvancesTwice, AdvancesWith, CanLayAll, HoldsWith, IsDecided, IsLaidBy, LaysTwo, counted, groups_in}
 use Rattle.yaml_scan.proofs.History.KindTests.{candidate_not_end, decider_not_end}
@@ -208,24 +209,27 @@ module _ (H : List Laid) (s : scanner_t) (r : step_t) (x : yaml_lexeme_t) (c : C
   far_there m e = subst (λ (z : yaml_mark_t). z.index < s.near) (sym e) c.far
 
 -- A LEXEME AND WHAT DECIDES IT
--- groups that go into the queue though they need not wait are of steps that the next token needs
-is_sparing : (direct : Bool) → (direct ≡ true → false ≡ true) → not direct ≡ true
-is_sparing false f = refl
-is_sparing true f = absurd (false≢true (f refl))
+-- groups that go into the queue are of steps that the next token needs
+is_sparing : (direct waits : Bool) → (waits ≡ false → direct ≡ true) → (direct ≡ true → waits ≡ true) → waits ≡ true
+is_sparing direct true f g = refl
+is_sparing direct false f g = g (f refl)
 
-module _ (direct : Bool) (H : List Laid) (s u : scanner_t) (y z : group_t) (L : LaysTwo (not direct) H s u (groups_in u ++ y ∷ (z ∷ []))) (FEW : s.made + 2 < 2 ^ 64) (ALONE : groups_in u ≡ []) where
+module _ (H : List Laid) (s u : scanner_t) (direct waits : Bool) (y : group_t) (second : code_token_t) (B : IsLaidBoth H s u direct waits y second) where
+  abbrev z : group_t
+  z = lone second
+
   abbrev both : List group_t
   both = groups_in u ++ y ∷ (z ∷ [])
 
   abbrev a : AdvancesTwice H s (counted u) both
-  a = L.0.0
+  a = B.laid.0.0
 
   abbrev H1 : List Laid
   H1 = laid s.limit H a.first.lexeme ∷ H
 
   both_long : length (groups_tokens both) ≡ length (group_tokens y) + length (group_tokens z)
   both_long =
-      let e = ap (λ (ys : List group_t). length (groups_tokens (ys ++ y ∷ (z ∷ [])))) ALONE in
+      let e = ap (λ (ys : List group_t). length (groups_tokens (ys ++ y ∷ (z ∷ [])))) B.alone in
       let b = length-append (group_tokens y) (groups_tokens (z ∷ [])) in
       let c = length-append (group_tokens z) [] in omega arith
 
@@ -234,6 +238,7 @@ module _ (direct : Bool) (H : List Laid) (s u : scanner_t) (y z : group_t) (L : 
       let b = both_long in
       let d = group_some y in
       let m = a.first.made in
+      let few = B.few in
       let f = few_tokens (laid a.between.limit H1 a.second.lexeme ∷ H1) ((counted a.between).made + 1 + 1) (counted u) both a.second.holds (omega arith) (omega arith) in omega arith
 
   pub done_both : u.layout.queue.done + 2 < 2 ^ 64
@@ -242,99 +247,137 @@ module _ (direct : Bool) (H : List Laid) (s u : scanner_t) (y z : group_t) (L : 
       let h = a.second.holds in
       let e = h.count in
       let n = h.number in
+      let few = B.few in
       let b = length-append (groups_in u) (y ∷ (z ∷ [])) in omega arith
 
-  module _ (EARLY : u.layout.queue.early ≡ 0) (AWAITED : u.slots.awaited ≡ 0) (FIRST : is_end (token_of y.token) ≡ false) (SECOND : is_end (token_of z.token) ≡ false) where
-    both_settled : AllSettled u both (group_tokens y ++ group_tokens z)
-    both_settled = record {
-      awaited = AWAITED;
-      early = EARLY;
-      tokens_are = rw ALONE (ap (λ (l : List yaml_token_t). group_tokens y ++ l) (sym (append-nil (group_tokens z))));
-      no_end = list_any-append is_end (group_tokens y) (group_tokens z) ∙ (rw (group_no_end y FIRST, group_no_end z SECOND) refl);
-    }
+  both_settled : AllSettled u both (group_tokens y ++ group_tokens z)
+  both_settled = record {
+    awaited = B.awaited;
+    early = B.early;
+    tokens_are = rw B.alone (ap (λ (l : List yaml_token_t). group_tokens y ++ l) (sym (append-nil (group_tokens z))));
+    no_end = list_any-append is_end (group_tokens y) (group_tokens z) ∙ (rw (group_no_end y B.no_end, group_no_end z B.decider_no_end) refl);
+  }
 
-    both_laid : IsLaidBy (not direct) H s u both 2
-    both_laid = inr (refl, L)
+  laid_all : waits ≡ false → IsLaidBy false H s u both 2
+  laid_all w = subst (λ (b : Bool). IsLaidBy b H s u both 2) w (inr (refl, B.laid))
 
-    laid_all : direct ≡ true → IsLaidBy false H s u both 2
-    laid_all d = subst (λ (b : Bool). IsLaidBy (not b) H s u both 2) d both_laid
+  module _ (t v : scanner_t) (took : List yaml_token_t → Type 0) (refuses : Type 0) where
+    both_queued : IsPushed u.layout.queue y t.layout.queue → t ≡ with_queue u t.layout.queue → IsPushed t.layout.queue z v.layout.queue → v ≡ with_queue t v.layout.queue → IsLaidBy waits H s v (groups_in v) 2
+    both_queued p e q f =
+        let G : groups_in v ≡ both = q.groups ∙ ap (λ (ys : List group_t). ys ++ z ∷ []) p.groups ∙ append_assoc (groups_in u) (y ∷ []) (z ∷ []) in
+        let w : LaysTwo waits H s (with_queue u v.layout.queue) (groups_in v) = subst (λ (zs : List group_t). LaysTwo waits H s (with_queue u v.layout.queue) zs) (sym G) (queue_two waits H s u both v.layout.queue (q.done ∙ p.done) (q.early ∙ p.early) (q.front ∙ p.front) B.laid) in
+        let F : v ≡ with_queue u v.layout.queue = f ∙ ap (λ (x : scanner_t). with_queue x v.layout.queue) e in
+        inr (refl, subst (λ (x : scanner_t). LaysTwo waits H s x (groups_in v)) (sym F) w)
 
-    module _ (t v : scanner_t) (took : List yaml_token_t → Type 0) (refuses : Type 0) where
-      both_queued : IsPushed u.layout.queue y t.layout.queue → t ≡ with_queue u t.layout.queue → IsPushed t.layout.queue z v.layout.queue → v ≡ with_queue t v.layout.queue → IsLaidBy (not direct) H s v (groups_in v) 2
-      both_queued p e q f =
-          let G : groups_in v ≡ both = q.groups ∙ ap (λ (ys : List group_t). ys ++ z ∷ []) p.groups ∙ append_assoc (groups_in u) (y ∷ []) (z ∷ []) in
-          let w : LaysTwo (not direct) H s (with_queue u v.layout.queue) (groups_in v) = subst (λ (zs : List group_t). LaysTwo (not direct) H s (with_queue u v.layout.queue) zs) (sym G) (queue_two (not direct) H s u both v.layout.queue (q.done ∙ p.done) (q.early ∙ p.early) (q.front ∙ p.front) L) in
-          let F : v ≡ with_queue u v.layout.queue = f ∙ ap (λ (x : scanner_t). with_queue x v.layout.queue) e in
-          inr (refl, subst (λ (x : scanner_t). LaysTwo (not direct) H s x (groups_in v)) (sym F) w)
+    both_emptied : (k l : List yaml_token_t) → k ≡ group_tokens y → l ≡ group_tokens z → t ≡ set_queue u (one_done u.layout.queue) (u.taken + length k) → v ≡ set_queue t (one_done t.layout.queue) (t.taken + length l) → Empties u both v (k ++ l)
+    both_emptied k l K M e f =
+        let S : AllSettled u both (k ++ l) = subst (λ (ts : List yaml_token_t). AllSettled u both ts) (sym (ap (λ (ts : List yaml_token_t). ts ++ l) K ∙ ap (λ (ts : List yaml_token_t). group_tokens y ++ ts) M)) both_settled in
+        let F : v ≡ set_queue (set_queue u (one_done u.layout.queue) (u.taken + length k)) (one_done (one_done u.layout.queue)) (u.taken + length k + length l) = f ∙ ap (λ (x : scanner_t). set_queue x (one_done x.layout.queue) (x.taken + length l)) e in
+        let n = length-append k l in
+        let alone = ap (λ (ys : List group_t). length ys) B.alone in
+        let w : Empties u both (set_queue (set_queue u (one_done u.layout.queue) (u.taken + length k)) (one_done (one_done u.layout.queue)) (u.taken + length k + length l)) (k ++ l) = record {
+          all = S;
+          text = refl;
+          refusal = refl;
+          near = refl;
+          limit = refl;
+          slots = refl;
+          allowed = refl;
+          levels = refl;
+          reach = refl;
+          made = refl;
+          early = B.early;
+          groups = B.alone;
+          done = rw B.alone (omega arith);
+          taken = omega arith;
+        } in subst (λ (x : scanner_t). Empties u both x (k ++ l)) (sym F) w
 
-      both_emptied : (k l : List yaml_token_t) → k ≡ group_tokens y → l ≡ group_tokens z → t ≡ set_queue u (one_done u.layout.queue) (u.taken + length k) → v ≡ set_queue t (one_done t.layout.queue) (t.taken + length l) → Empties u both v (k ++ l)
-      both_emptied k l K M e f =
-          let S : AllSettled u both (k ++ l) = subst (λ (ts : List yaml_token_t). AllSettled u both ts) (sym (ap (λ (ts : List yaml_token_t). ts ++ l) K ∙ ap (λ (ts : List yaml_token_t). group_tokens y ++ ts) M)) both_settled in
-          let F : v ≡ set_queue (set_queue u (one_done u.layout.queue) (u.taken + length k)) (one_done (one_done u.layout.queue)) (u.taken + length k + length l) = f ∙ ap (λ (x : scanner_t). set_queue x (one_done x.layout.queue) (x.taken + length l)) e in
-          let n = length-append k l in
-          let w : Empties u both (set_queue (set_queue u (one_done u.layout.queue) (u.taken + length k)) (one_done (one_done u.layout.queue)) (u.taken + length k + length l)) (k ++ l) = record {
-            all = S;
-            text = refl;
-            refusal = refl;
-            near = refl;
-            limit = refl;
-            slots = refl;
-            allowed = refl;
-            levels = refl;
-            reach = refl;
-            made = refl;
-            early = EARLY;
-            groups = ALONE;
-            done = rw ALONE (omega arith);
-            taken = omega arith;
-          } in subst (λ (x : scanner_t). Empties u both x (k ++ l)) (sym F) w
+    both_handed : (k l : List yaml_token_t) → IsHanded direct waits u t y k → IsHanded direct waits t v z l → took (k ++ l) → LaysTo H s v direct took refuses (Ok 2)
+    both_handed k l (inl p) (inl q) g = ([], v, groups_in v, waits, both_queued p.2 p.3 q.2 q.3, inl (is_sparing direct waits B.straight p.0, refl, refl, refl), subst took (ap (λ (ts : List yaml_token_t). ts ++ l) p.1 ∙ q.1) g)
+    both_handed k l (inl p) (inr q) g = absurd (false≢true (sym q.1 ∙ p.0 q.0))
+    both_handed k l (inr p) (inl q) g = absurd (false≢true (sym p.1 ∙ q.0 p.0))
+    both_handed k l (inr p) (inr q) g = (k ++ l, u, both, waits, inr (refl, B.laid), inr (p.0, both_emptied k l p.2 q.2 p.3 q.3), g)
 
-      pub both_handed : (k l : List yaml_token_t) → IsHanded direct false u t y k → IsHanded direct false t v z l → took (k ++ l) → LaysTo H s v direct took refuses (Ok 2)
-      both_handed k l (inl p) (inl q) g = ([], v, groups_in v, not direct, both_queued p.2 p.3 q.2 q.3, inl (is_sparing direct p.0, refl, refl, refl), subst took (ap (λ (ts : List yaml_token_t). ts ++ l) p.1 ∙ q.1) g)
-      both_handed k l (inl p) (inr q) g = absurd (false≢true (p.0 q.0))
-      both_handed k l (inr p) (inl q) g = absurd (false≢true (q.0 p.0))
-      both_handed k l (inr p) (inr q) g = (k ++ l, u, both, not direct, both_laid, inr (p.0, both_emptied k l p.2 q.2 p.3 q.3), g)
+    cut : (stop : stop_t) → direct ≡ true → waits ≡ false → stop ≡ SINK → IsCut took (group_tokens y ++ group_tokens z) → refuses → LaysTo H s v direct took refuses (Err stop)
+    cut stop d w e c r = (e, (2, group_tokens y ++ group_tokens z, u, both, laid_all w, d, both_settled, c), r)
 
-      pub first_cut : (stop : stop_t) → direct ≡ true → stop ≡ SINK → IsCut took (group_tokens y) → refuses → LaysTo H s v direct took refuses (Err stop)
-      first_cut stop d e c r = (e, (2, group_tokens y ++ group_tokens z, u, both, laid_all d, d, both_settled, cut_longer took (group_tokens y) (group_tokens z) c), r)
+    -- a token of the first was refused
+    pub first_cut : (stop : stop_t) → IsHandedOn direct waits u v y took refuses (Err stop) → LaysTo H s v direct took refuses (Err stop)
+    first_cut stop c = cut stop c.0 c.1 c.2 (cut_longer took (group_tokens y) (group_tokens z) c.3) c.4
 
-      pub second_cut : (stop : stop_t) → direct ≡ true → stop ≡ SINK → IsCut took (group_tokens y ++ group_tokens z) → refuses → LaysTo H s v direct took refuses (Err stop)
-      second_cut stop d e c r = (e, (2, group_tokens y ++ group_tokens z, u, both, laid_all d, d, both_settled, c), r)
+  -- what was given of the first
+  first_given : (v : scanner_t) (k : List yaml_token_t) → direct ≡ true → waits ≡ false → IsHanded direct waits u v y k → k ≡ group_tokens y
+  first_given v k d w (inl p) = absurd (false≢true (sym w ∙ p.0 d))
+  first_given v k d w (inr p) = p.2
 
--- what was given of the first
-first_given : (direct : Bool) (u t : scanner_t) (y : group_t) (k : List yaml_token_t) → direct ≡ true → IsHanded direct false u t y k → k ≡ group_tokens y
-first_given direct u t y k d (inl p) = absurd (false≢true (p.0 d))
-first_given direct u t y k d (inr p) = p.2
+  -- the scanner after the first
+  pub first_done : (v : scanner_t) (k : List yaml_token_t) → IsHanded direct waits u v y k → (length (groups_in v) < deque_capacity v.layout.queue.groups) × (v.layout.queue.done + 1 < 2 ^ 64) × (v.taken + length (group_tokens z) < 2 ^ 128)
+  first_done v k (inl p) =
+      let q = p.2 in
+      let g : groups_in v ≡ y ∷ [] = q.groups ∙ ap (λ (ys : List group_t). ys ++ y ∷ []) B.alone in
+      let n = ap (λ (ys : List group_t). length ys) g in
+      let c = q.capacity in
+      let d = q.done in
+      let e = ap (λ (x : scanner_t). x.taken) p.3 in
+      let R = B.room in
+      let D = done_both in
+      let T = few_both in
+      (omega arith, omega arith, omega arith)
+  first_done v k (inr p) =
+      let n = ap (λ (x : scanner_t). length (groups_in x)) p.3 in
+      let m = ap (λ (ys : List group_t). length ys) B.alone in
+      let c = ap (λ (x : scanner_t). deque_capacity x.layout.queue.groups) p.3 in
+      let d = ap (λ (x : scanner_t). x.layout.queue.done) p.3 in
+      let e = ap (λ (x : scanner_t). x.taken) p.3 in
+      let l = ap (λ (ts : List yaml_token_t). length ts) p.2 in
+      let R = B.room in
+      let D = done_both in
+      let T = few_both in
+      (omega arith, omega arith, omega arith)
 
-module _ (direct : Bool) (H : List Laid) (s u : scanner_t) (y z : group_t) (L : LaysTwo (not direct) H s u (groups_in u ++ y ∷ (z ∷ []))) (FEW : s.made + 2 < 2 ^ 64) (ALONE : groups_in u ≡ [])
-    (EARLY : u.layout.queue.early ≡ 0) (AWAITED : u.slots.awaited ≡ 0) (FIRST : is_end (token_of y.token) ≡ false) (SECOND : is_end (token_of z.token) ≡ false)
-    (t v : scanner_t) {S : Type 0} (took : S → List yaml_token_t → S → Type 0) (more : (a b c : S) (xs ys : List yaml_token_t) → took a xs b → took b ys c → took a (xs ++ ys) c) (a b c : S) (refuses : Type 0) where
-  -- the second was handed on, or a token of it was refused
-  pub both_done : (k : List yaml_token_t) → IsHanded direct false u t y k → took a k b → (o : Result (Unit {0}) stop_t) → IsHandedOn direct false t v z (λ ts. took b ts c) refuses o → LaysTo H s v direct (λ ts. took a ts c) refuses (made_by 2 o)
-  both_done k p g (Ok x) e = both_handed direct H s u y z L FEW ALONE EARLY AWAITED FIRST SECOND t v (λ ts. took a ts c) refuses k e.0 p e.1 (more a b c k e.0 g e.2)
-  both_done k p g (Err stop) e =
-      let q : IsCut (λ ts. took a ts c) (k ++ group_tokens z) = cut_after took more a b c k (group_tokens z) g e.3 in
-      second_cut direct H s u y z L FEW ALONE EARLY AWAITED FIRST SECOND t v (λ ts. took a ts c) refuses stop e.0 e.2 (subst (λ (l : List yaml_token_t). IsCut (λ ts. took a ts c) (l ++ group_tokens z)) (first_given direct u t y k e.0 p) q) e.4
+  module _ (v w : scanner_t) {S : Type 0} (took : S → List yaml_token_t → S → Type 0) (more : (a b c : S) (xs ys : List yaml_token_t) → took a xs b → took b ys c → took a (xs ++ ys) c) (a b c : S) (refuses : Type 0) where
+    -- the second was handed on, or it was refused
+    pub both_done : (k : List yaml_token_t) → IsHanded direct waits u v y k → took a k b → (o : Result (Unit {0}) stop_t) → IsHandedOn direct waits v w z (λ ts. took b ts c) refuses o → LaysTo H s w direct (λ ts. took a ts c) refuses (made_by 2 o)
+    both_done k p g (Ok x) e = both_handed v w (λ ts. took a ts c) refuses k e.0 p e.1 (more a b c k e.0 g e.2)
+    both_done k p g (Err stop) e =
+        let q : IsCut (λ ts. took a ts c) (k ++ group_tokens z) = cut_after took more a b c k (group_tokens z) g e.3 in
+        cut v w (λ ts. took a ts c) refuses stop e.0 e.1 e.2 (subst (λ (l : List yaml_token_t). IsCut (λ ts. took a ts c) (l ++ group_tokens z)) (first_given v k e.0 e.1 p) q) e.4
 
--- the scanner after the first
-pub first_done : (direct : Bool) (u t : scanner_t) (y z : group_t) (k : List yaml_token_t) → IsHanded direct false u t y k → groups_in u ≡ [] → 1 < deque_capacity u.layout.queue.groups → u.layout.queue.done + 2 < 2 ^ 64 → u.taken + (length (group_tokens y) + length (group_tokens z)) < 2 ^ 128
-    → (length (groups_in t) < deque_capacity t.layout.queue.groups) × (t.layout.queue.done + 1 < 2 ^ 64) × (t.taken + length (group_tokens z) < 2 ^ 128)
-first_done direct u t y z k (inl p) A R D T =
-    let q = p.2 in
-    let g : groups_in t ≡ y ∷ [] = q.groups ∙ ap (λ (ys : List group_t). ys ++ y ∷ []) A in
-    let n = ap (λ (ys : List group_t). length ys) g in
-    let c = q.capacity in
-    let d = q.done in
-    let e = ap (λ (x : scanner_t). x.taken) p.3 in
-    (omega arith, omega arith, omega arith)
-first_done direct u t y z k (inr p) A R D T =
-    let n = ap (λ (x : scanner_t). length (groups_in x)) p.3 in
-    let m = ap (λ (ys : List group_t). length ys) A in
-    let c = ap (λ (x : scanner_t). deque_capacity x.layout.queue.groups) p.3 in
-    let d = ap (λ (x : scanner_t). x.layout.queue.done) p.3 in
-    let e = ap (λ (x : scanner_t). x.taken) p.3 in
-    let l = ap (λ (ts : List yaml_token_t). length ts) p.2 in
-    (omega arith, omega arith, omega arith)
+-- WHAT A STEP HAS LAID
+-- its group can be handed on
+pub can_hand : (H : List Laid) (s u : scanner_t) (direct waits : Bool) (y : group_t) (o : Option code_token_t) → WasLaidWith H s u direct waits y o → (length (groups_in u) < deque_capacity u.layout.queue.groups) × HasWords (token_of y.token).token_data × (u.layout.queue.done + 1 < 2 ^ 64) × (u.taken + length (group_tokens y) < 2 ^ 128)
+can_hand H s u direct waits y None w = let A = w.1 in (A.room, A.words, done_there H s u w.0 y A.laid A.far A.says A.few, few_there H s u w.0 y A.laid A.far A.says A.few)
+can_hand H s u direct waits y (Some t) B =
+    let n = ap (λ (ys : List group_t). length ys) B.alone in
+    let r = B.room in
+    let d = done_both H s u direct waits y t B in
+    let f = few_both H s u direct waits y t B in
+    (omega arith, B.words, omega arith, omega arith)
+
+-- with what decides it
+pub both_laid : (H : List Laid) (s u : scanner_t) (direct waits : Bool) (y : group_t) (o : Option code_token_t) (z : code_token_t) → o ≡ Some z → WasLaidWith H s u direct waits y o → IsLaidBoth H s u direct waits y z
+both_laid H s u direct waits y o z e w = subst (λ (p : Option code_token_t). WasLaidWith H s u direct waits y p) e w
+
+-- it was handed on alone
+pub alone_handed : (H : List Laid) (s u : scanner_t) (direct : Bool) (k : Kind) (waits : Bool) (y : group_t) → IsLaidAlone H s u k waits y → (t : scanner_t) (took : List yaml_token_t → Type 0) (refuses : Type 0) (o : Result (Unit {0}) stop_t) → IsHandedOn direct waits u t y took refuses o → LaysTo H s t direct took refuses (made_by 1 o)
+alone_handed H s u direct k waits y A t took refuses o g = one_handed H s u k y A.laid A.far A.says direct waits A.last A.awaited A.alone t took refuses o g
+
+pub alone_done : (H : List Laid) (s u : scanner_t) (direct waits : Bool) (y : group_t) (o : Option code_token_t) → o ≡ None → WasLaidWith H s u direct waits y o → (t : scanner_t) (took : List yaml_token_t → Type 0) (refuses : Type 0) (r : Result (Unit {0}) stop_t) → IsHandedOn direct waits u t y took refuses r → LaysTo H s t direct took refuses (made_by 1 r)
+alone_done H s u direct waits y o e w t took refuses r g =
+    let v : WasLaidWith H s u direct waits y None = subst (λ (p : Option code_token_t). WasLaidWith H s u direct waits y p) e w in
+    alone_handed H s u direct v.0 waits y v.1 t took refuses r g
+
+-- or a token of it was refused
+pub cut_done : (H : List Laid) (s u : scanner_t) (direct waits : Bool) (y : group_t) (o : Option code_token_t) → WasLaidWith H s u direct waits y o → (t : scanner_t) (took : List yaml_token_t → Type 0) (refuses : Type 0) (stop : stop_t) → IsHandedOn direct waits u t y took refuses (Err stop) → LaysTo H s t direct took refuses (Err stop)
+cut_done H s u direct waits y None w t took refuses stop g = alone_done H s u direct waits y None refl w t took refuses (Err stop) g
+cut_done H s u direct waits y (Some z) B t took refuses stop g = first_cut H s u direct waits y z B u t took refuses stop g
+
+-- what was given of both: nothing, or all, for which there was room
+pub both_given : (direct waits : Bool) (u t v : scanner_t) (y z : group_t) (k l : List yaml_token_t) → IsHanded direct waits u t y k → IsHanded direct waits t v z l → ((k ≡ []) × (l ≡ [])) ⊎ ((waits ≡ false) × (k ≡ group_tokens y) × (l ≡ group_tokens z))
+both_given direct waits u t v y z k l (inl p) (inl q) = inl (p.1, q.1)
+both_given direct waits u t v y z k l (inl p) (inr q) = absurd (false≢true (sym q.1 ∙ p.0 q.0))
+both_given direct waits u t v y z k l (inr p) (inl q) = absurd (false≢true (sym p.1 ∙ q.0 p.0))
+both_given direct waits u t v y z k l (inr p) (inr q) = inr (p.1, p.2, q.2)
 
 -- WHAT DECIDES
 module _ (direct : Bool) (H : List Laid) (s : scanner_t) (r : step_t) (x : yaml_lexeme_t) (c : CanLayAll H s r x) (k : Kind) (w : yaml_lexeme_t) (d : IsDecided s (not direct) r x.reach k w) where
@@ -367,29 +410,6 @@ module _ (direct : Bool) (H : List Laid) (s : scanner_t) (r : step_t) (x : yaml_
   room_there q e = let u = d.undecided in let l = u.room in let m = ap (λ (z : queue_t). deque_capacity z.groups) e in omega arith
 
 -- GROUPS THAT GO TO A SINK IF IT HAS ROOM
--- whether they go straight is known when they are laid
-pub handed_as : (D d : Bool) → (d ≡ true → D ≡ true) → (u t : scanner_t) (y : group_t) (k : List yaml_token_t) → IsHanded D (not d) u t y k → IsHanded d false u t y k
-handed_as D true f u t y k (inl p) = absurd (false≢true (p.0 (f refl)))
-handed_as D true f u t y k (inr p) = inr (refl, refl, p.2, p.3)
-handed_as D false f u t y k (inl p) = inl (λ z. absurd (false≢true z), p.1, p.2, p.3)
-handed_as D false f u t y k (inr p) = absurd (false≢true (sym p.1))
-
-pub handed_on_as : (D d : Bool) → (d ≡ true → D ≡ true) → (u t : scanner_t) (y : group_t) (took : List yaml_token_t → Type 0) (refuses : Type 0) (o : Result (Unit {0}) stop_t) → IsHandedOn D (not d) u t y took refuses o → IsHandedOn d false u t y took refuses o
-handed_on_as D d f u t y took refuses (Ok x) w = (w.0, handed_as D d f u t y w.0 w.1, w.2)
-handed_on_as D true f u t y took refuses (Err stop) w = (refl, refl, w.2, w.3, w.4)
-handed_on_as D false f u t y took refuses (Err stop) w = absurd (false≢true (sym w.1))
-
-pub lays_as : (D d : Bool) → (d ≡ true → D ≡ true) → (H : List Laid) (s t : scanner_t) (took : List yaml_token_t → Type 0) (refuses : Type 0) (o : Result ℕ stop_t) → LaysTo H s t d took refuses o → LaysTo H s t D took refuses o
-lays_as D d f H s t took refuses (Ok n) w = (w.0, w.1, w.2, w.3, w.4, elim w.5 [ inl p ↦ inl p | inr p ↦ inr (f p.0, p.1) ], w.6)
-lays_as D d f H s t took refuses (Err stop) w = let c = w.1 in (w.0, (c.0, c.1, c.2, c.3, c.4, f c.5, c.6, c.7), w.2)
-
--- what was given of both: nothing, or all, for which there was room
-pub both_given : (d : Bool) (u t v : scanner_t) (y z : group_t) (k l : List yaml_token_t) → IsHanded d false u t y k → IsHanded d false t v z l → ((k ≡ []) × (l ≡ [])) ⊎ ((d ≡ true) × (k ≡ group_tokens y) × (l ≡ group_tokens z))
-both_given d u t v y z k l (inl p) (inl q) = inl (p.1, q.1)
-both_given d u t v y z k l (inl p) (inr q) = absurd (false≢true (p.0 q.0))
-both_given d u t v y z k l (inr p) (inl q) = absurd (false≢true (q.0 p.0))
-both_given d u t v y z k l (inr p) (inr q) = inr (p.0, p.2, q.2)
-
 module _ (direct : Bool) (H : List Laid) (s : scanner_t) (r : step_t) (x : yaml_lexeme_t) (c : CanLayAll H s r x) (k : Kind) (w : yaml_lexeme_t) (d : IsDecided s (not direct) r x.reach k w) where
   -- what decides has no text
   pub decider_len : (t : unnamed_yaml_token_t_data) → t ≡ w.token_data → said_len t ≡ 0
@@ -421,3 +441,33 @@ known_after D waits u t y took refuses W none all (Ok x) w = elim w.1 [
   | inr p ↦ all p.1 (subst took p.2 w.2)
 ]
 known_after D waits u t y took refuses W none all (Err stop) w = tt
+
+-- what need not wait goes straight
+pub is_straight : (direct : Bool) → not direct ≡ false → direct ≡ true
+is_straight true e = refl
+is_straight false e = absurd (false≢true (sym e))
+
+-- THE NUMBER OF STEPS
+pub laid_few : (H : List Laid) (s u : scanner_t) (direct waits : Bool) (y : group_t) (o : Option code_token_t) → WasLaidWith H s u direct waits y o → s.made + 2 < 2 ^ 64
+laid_few H s u direct waits y None w = let A = w.1 in A.few
+laid_few H s u direct waits y (Some z) B = B.few
+
+made_by_laid : (sparing : Bool) (H : List Laid) (s t : scanner_t) (zs : List group_t) (n : ℕ) → IsLaidBy sparing H s t zs n → (t.made ≡ s.made) × (n ≤ 2)
+made_by_laid sparing H s t zs n (inl w) = let a = w.1 in let e = a.made in let f = w.0 in (e, omega arith)
+made_by_laid sparing H s t zs n (inr w) =
+    let a = w.1.0.0 in
+    let e = a.first.made in
+    let f = a.second.made in
+    let g = w.0 in (omega arith, omega arith)
+
+made_of : (direct sparing : Bool) (m : scanner_t) (zs : List group_t) (t : scanner_t) (tokens : List yaml_token_t) → HandsOut direct sparing m zs t tokens → t.made ≡ m.made
+made_of direct sparing m zs t tokens (inl w) = ap (λ (z : scanner_t). z.made) w.2
+made_of direct sparing m zs t tokens (inr w) = let e = w.1 in e.made
+
+-- there is room for what is counted
+pub few_made : (H : List Laid) (s t : scanner_t) (direct : Bool) (took : List yaml_token_t → Type 0) (refuses : Type 0) (n : ℕ) → LaysTo H s t direct took refuses (Ok n) → s.made + 2 < 2 ^ 64 → t.made + n < 2 ^ 64
+few_made H s t direct took refuses n w l =
+    let a = made_by_laid w.3 H s w.1 w.2 n w.4 in
+    let b = made_of direct w.3 w.1 w.2 t w.0 w.5 in
+    let c = a.0 in
+    let d = a.1 in omega arith

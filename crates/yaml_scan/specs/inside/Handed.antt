@@ -1,12 +1,13 @@
 -- Where the groups of a step go: into the queue, or straight to a sink.
 use Rattle.std.specs.Prelude.{◌≡◌, ◌⊎◌, ℕ, ◌+◌, Bool, true, false, List, [], ◌∷◌, ◌++◌, map, length}
-use Rattle.std.specs.Prelude.{Result, Ok, Err, MatchResult}
+use Rattle.std.specs.Prelude.{Result, Ok, Err, MatchResult, ◌<◌, ◌^◌, Option, None, Some}
 use Rattle.std.specs.List.{list_any}
 use Rattle.std.specs.VecDeque.{deque_capacity}
 use Rattle.yaml_text.specs.declared.types.yaml_encoding_t.TheVariants.{YAML_UTF8_ENCODING}
 use Rattle.yaml_text.specs.declared.token.yaml_token_t.{yaml_token_t as code_token_t}
 use Rattle.yaml_text.specs.Token.{token_of}
 use Rattle.yaml_scan.specs.declared.fault.stop_t.{stop_t}
+use Rattle.yaml_scan.specs.declared.finish.laid_t.{laid_t}
 use Rattle.yaml_scan.specs.declared.fault.stop_t.TheVariants.{SINK}
 use Rattle.yaml_scan.specs.declared.groups.block_t.{block_t}
 use Rattle.yaml_scan.specs.declared.groups.block_t.TheVariants.{NONE, SEQUENCE, MAPPING}
@@ -15,12 +16,13 @@ use Rattle.yaml_scan.specs.declared.groups.queue_t.{queue_t}
 use Rattle.yaml_scan.specs.declared.scanner.scanner_t.{scanner_t}
 use Rattle.yaml_scan.specs.Begins.{Begins}
 use Rattle.yaml_scan.specs.Groups.{Token, handed_out}
-use Rattle.yaml_scan.specs.Kind.{Kind}
+use Rattle.yaml_scan.specs.Kind.{Kind, is_stream_end}
 use Rattle.yaml_scan.specs.Laid.{Laid}
 use Rattle.yaml_scan.specs.Token.{yaml_token_t, type_of}
 use Rattle.yaml_scan.specs.TokenTypes.{is_last_type}
+use Rattle.yaml_scan.specs.Words.{HasWords}
 use Rattle.yaml_scan.specs.inside.Queue.{leads}
-use Rattle.yaml_scan.specs.inside.Scanning.{AdvancesWith, IsLaidBy, Makes, Refuses, groups_in}
+use Rattle.yaml_scan.specs.inside.Scanning.{AdvancesWith, IsLaidBy, LaysTwo, Makes, Refuses, groups_in}
 
 -- some tokens of a group before that of its lexeme, as they are handed out
 abbrev pub told_leads : List Token → List yaml_token_t
@@ -173,3 +175,48 @@ StepsTo H s t direct took refuses o = MatchResult o
     (λ stop. (Refuses H s t stop × took []) ⊎ ((stop ≡ SINK) × ((tokens : List yaml_token_t) × (m : scanner_t)
     × (zs : List group_t) × Makes false H s m zs × (direct ≡ true) × AllSettled m zs tokens
     × IsCut took tokens) × refuses))
+
+-- A lexeme of kind k was laid as the group y, which is not handed on yet. Unless it has to wait, no token is before it.
+pub record IsLaidAlone (H : List Laid) (s t : scanner_t) (k : Kind) (waits : Bool) (y : group_t) : Type 0 where
+  pub laid : IsLaidAs H s k t (groups_in t ++ y ∷ [])
+  pub far : t.reach.index < s.near
+  pub few : s.made + 2 < 2 ^ 64
+  pub room : length (groups_in t) < deque_capacity t.layout.queue.groups
+  pub words : HasWords (token_of y.token).token_data
+  pub says : is_end (token_of y.token) ≡ is_stream_end k
+  pub keyless : y.key ≡ false
+  pub last : waits ≡ false → is_stream_end k ≡ false
+  pub awaited : waits ≡ false → t.slots.awaited ≡ 0
+  pub alone : waits ≡ false → groups_in t ≡ []
+
+-- A candidate was laid as the group y, and what decides whether it is a key as the token z. They are not handed on yet.
+pub record IsLaidBoth (H : List Laid) (s t : scanner_t) (direct waits : Bool) (y : group_t) (z : code_token_t)
+    : Type 0 where
+  pub laid : LaysTwo waits H s t (groups_in t ++ y ∷ (lone z ∷ []))
+  pub few : s.made + 2 < 2 ^ 64
+  pub room : 1 < deque_capacity t.layout.queue.groups
+  pub words : HasWords (token_of y.token).token_data
+  pub decider_words : HasWords (token_of z).token_data
+  pub no_end : is_end (token_of y.token) ≡ false
+  pub decider_no_end : is_end (token_of z) ≡ false
+  pub straight : waits ≡ false → direct ≡ true
+  pub awaited : t.slots.awaited ≡ 0
+  pub early : t.layout.queue.early ≡ 0
+  pub alone : groups_in t ≡ []
+
+-- what a step has laid, which is not handed on yet
+abbrev pub WasLaidWith : List Laid → scanner_t → scanner_t → Bool → Bool → group_t → Option code_token_t → Type 0
+WasLaidWith H s t direct waits y None = (k : Kind) × IsLaidAlone H s t k waits y
+WasLaidWith H s t direct waits y (Some z) = IsLaidBoth H s t direct waits y z
+
+abbrev pub WasLaid : List Laid → scanner_t → scanner_t → Bool → laid_t → Type 0
+WasLaid H s t direct l = WasLaidWith H s t direct l.waits l.group l.decider
+
+-- all tokens of a group and of what decides it
+abbrev pub tokens_with : group_t → Option code_token_t → List yaml_token_t
+tokens_with y None = group_tokens y
+tokens_with y (Some z) = group_tokens y ++ token_of z ∷ []
+
+-- unless it has to wait, all of what was laid finds room
+abbrev pub FindsRoom : laid_t → Type 0 → (List yaml_token_t → Type 0) → Type 0
+FindsRoom l within fits = l.waits ≡ false → within → fits (tokens_with l.group l.decider)

@@ -1,12 +1,38 @@
-use Rattle.std.proofs.Common.{inl}
+use Rattle.std.proofs.Common.{inl, Ok, Err}
 use Rattle.yaml_scan.proofs.RunningStep.StepMoves.{cut_all, steps_all}
+use Rattle.yaml_scan.proofs.RunningStep.StepHanded.{alone_handed, done_there, few_there, known_after}
 use Rattle.yaml_scan.proofs.finish.end_character.Goals as goal
 
-pub returns-in-Ok-put_lexeme-clause-steps : goal.returns-in-Ok-put_lexeme-clause-steps
-returns-in-Ok-put_lexeme-clause-steps g c = rw (← c.in-Ok.ensures.0) (steps_all g.before c.check_reach.new.scanner c.put_lexeme.new.scanner _ _ 1 c.in-Ok-put_lexeme.ensures.steps)
+pub hand_keyless-requires : goal.hand_keyless-requires
+hand_keyless-requires g c =
+    let A = c.lay_alone-group.ensures.laid in
+    let s = c.check_reach.new.scanner in
+    record {
+      key = A.keyless;
+      room = A.room;
+      words = A.words;
+      done = done_there g.before s c.lay_alone-group.new.scanner c.args.step.kind c.lay_alone-group.result.0 A.laid A.far A.says A.few;
+      taken = few_there g.before s c.lay_alone-group.new.scanner c.args.step.kind c.lay_alone-group.result.0 A.laid A.far A.says A.few;
+    }
 
-pub returns-in-Err-put_lexeme-clause-steps : goal.returns-in-Err-put_lexeme-clause-steps
-returns-in-Err-put_lexeme-clause-steps g c = rw (← c.in-Ok.ensures.0) (cut_all g.before c.check_reach.new.scanner c.put_lexeme.new.scanner _ _ _ c.stopped.result (rw c.stopped.ensures c.in-Err-put_lexeme.ensures.steps))
+pub returns-in-Ok-hand_keyless-clause-steps : goal.returns-in-Ok-hand_keyless-clause-steps
+returns-in-Ok-hand_keyless-clause-steps g c =
+    let A = c.lay_alone-group.ensures.laid in
+    let s = c.check_reach.new.scanner in
+    rw (← c.in-Ok.ensures.0) (steps_all g.before s c.hand_keyless.new.scanner _ _ 1
+    (alone_handed g.before s c.lay_alone-group.new.scanner _ c.args.step.kind c.lay_alone-group.result.1 c.lay_alone-group.result.0 A c.hand_keyless.new.scanner (λ ts. g.S.yaml_token_sink_t.took c.args.sink.now ts c.hand_keyless.new.sink) g.S.yaml_token_sink_t.may_refuse (Ok _) c.in-Ok-hand_keyless.ensures))
+
+pub returns-in-Ok-hand_keyless-clause-within : goal.returns-in-Ok-hand_keyless-clause-within
+returns-in-Ok-hand_keyless-clause-within g c =
+    known_after _ _ _ _ _ (λ ts. g.S.yaml_token_sink_t.took c.args.sink.now ts c.hand_keyless.new.sink) g.S.yaml_token_sink_t.may_refuse _ (λ w within. g.met.S.yaml_token_sink_t.within_none c.args.sink.now c.hand_keyless.new.sink w within)
+    (λ e w within. c.lay_alone-group.ensures.room e within c.hand_keyless.new.sink w) (Ok _) c.in-Ok-hand_keyless.ensures
+
+pub returns-in-Err-hand_keyless-clause-steps : goal.returns-in-Err-hand_keyless-clause-steps
+returns-in-Err-hand_keyless-clause-steps g c =
+    let A = c.lay_alone-group.ensures.laid in
+    let s = c.check_reach.new.scanner in
+    rw (← c.in-Ok.ensures.0) (cut_all g.before s c.hand_keyless.new.scanner _ _ _ c.stopped.result
+    (alone_handed g.before s c.lay_alone-group.new.scanner _ c.args.step.kind c.lay_alone-group.result.1 c.lay_alone-group.result.0 A c.hand_keyless.new.scanner (λ ts. g.S.yaml_token_sink_t.took c.args.sink.now ts c.hand_keyless.new.sink) g.S.yaml_token_sink_t.may_refuse (Err c.stopped.result) (rw c.stopped.ensures c.in-Err-hand_keyless.ensures)))
 
 pub returns-in-Err-clause-steps : goal.returns-in-Err-clause-steps
 returns-in-Err-clause-steps g c = inl (rw c.stopped-in-Err.ensures c.in-Err.ensures, g.met.S.yaml_token_sink_t.took_none c.args.sink.now)

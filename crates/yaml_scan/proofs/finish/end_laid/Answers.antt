@@ -1,0 +1,17 @@
+use Rattle.std.proofs.Common.{Err, arith}
+use Rattle.yaml_scan.proofs.RunningStep.StepHanded.{few_made, laid_few}
+use Rattle.yaml_scan.proofs.RunningStep.StepMoves.{cut_all, steps_all}
+use Rattle.yaml_scan.proofs.finish.end_laid.Goals as goal
+
+pub overflow_add-scanner : goal.overflow_add-scanner
+overflow_add-scanner g c =
+    let r = c.requires.laid in
+    let w = r.1.1 in
+    let l = few_made r.0 r.1.0 c.hand_laid.new.scanner _ _ g.S.yaml_token_sink_t.may_refuse c.in-Ok.made (c.in-Ok.ensures.steps r.0 r.1.0 w) (laid_few r.0 r.1.0 c.args.scanner.now _ c.args.laid.waits c.args.laid.group c.args.laid.decider w) in
+    omega arith
+
+pub returns-in-Ok-clause-steps : goal.returns-in-Ok-clause-steps
+returns-in-Ok-clause-steps g c = λ H s w. steps_all H s c.hand_laid.new.scanner _ _ c.in-Ok.made (c.in-Ok.ensures.steps H s w)
+
+pub returns-in-Err-clause-steps : goal.returns-in-Err-clause-steps
+returns-in-Err-clause-steps g c = λ H s w. cut_all H s c.hand_laid.new.scanner _ _ _ c.stopped.result (rw c.stopped.ensures (c.in-Err.ensures.steps H s w))
