@@ -168,7 +168,7 @@ impl yaml_token_sink_t for counter_t {
     }
 
     #[inline(always)]
-    fn has_room(&self, _count: u128, _said: &unnamed_yaml_token_t_data) -> bool {
+    fn has_room(&self, _count: u128, _texts: u128) -> bool {
         true
     }
 

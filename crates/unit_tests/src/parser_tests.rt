@@ -277,7 +277,7 @@ impl yaml_token_sink_t for shelf_t {
         Vec::new(alloc)
     }
 
-    fn has_room(&self, count: u128, _said: &unnamed_yaml_token_t_data) -> bool {
+    fn has_room(&self, count: u128, _texts: u128) -> bool {
         count <= self.room
     }
 

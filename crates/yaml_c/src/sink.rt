@@ -190,10 +190,10 @@ impl yaml_token_sink_t for token_rooms_t<'_> {
     }
 
     #[inline(always)]
-    fn has_room(&self, count: u128, said: &unnamed_yaml_token_t_data) -> bool {
-        let tokens = (self.tokens.len() as u64).saturating_sub(self.token_count);
-        let texts = (self.texts.len() as u64).saturating_sub(self.text_len);
-        count <= tokens as u128 && texts_len(said) <= texts
+    fn has_room(&self, count: u128, texts: u128) -> bool {
+        let records = (self.tokens.len() as u64).saturating_sub(self.token_count);
+        let bytes = (self.texts.len() as u64).saturating_sub(self.text_len);
+        count <= records as u128 && texts <= bytes as u128
     }
 
     ghost took_none = { none_put };

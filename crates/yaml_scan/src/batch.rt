@@ -20,7 +20,7 @@ use crate::scanner::scanner_t;
 use crate::session::{end, is_stream_end, pass};
 use crate::settled::is_settled;
 use crate::step::step_to;
-use crate::target::yaml_token_sink_t;
+use crate::target::{said_len, yaml_token_sink_t};
 use yaml_text::{yaml_encoding_t, yaml_fault_t, yaml_token_t};
 
 /// Makes steps until the head of the queue is the next token, or until the tokens of a step went to the sink. Returns
@@ -82,7 +82,7 @@ fn put_or_return<S: yaml_token_sink_t>(sink: &mut S, token: yaml_token_t) -> Opt
     ensures put { IsPutOrReturned (token_of token) (λ tokens. S.took sink.old tokens sink.new) result }
     ensures within { S.within sink.old → S.within sink.new }
 {
-    if is_stream_end(&token) || !sink.has_room(1, &token.token_data) {
+    if is_stream_end(&token) || !sink.has_room(1, said_len(&token.token_data)) {
         return returned(token);
     }
     match sink.put(token) {

@@ -11,10 +11,13 @@ ghost use Rattle.yaml_scan.specs.Kind.{is_candidate_kind};
 ghost use Rattle.yaml_scan.specs.Laid.{Laid};
 ghost use Rattle.yaml_scan.specs.Falling.{IsFalling};
 ghost use Rattle.yaml_scan.specs.declared.groups.block_t.TheVariants.{MAPPING, NONE};
-ghost use Rattle.yaml_scan.specs.inside.Handed.{lone};
+ghost use Rattle.yaml_scan.specs.inside.Handed.{IsTokenOf, group_with, lone, read_to};
 ghost use Rattle.yaml_scan.specs.inside.Opened.{is_new};
 ghost use Rattle.yaml_scan.specs.inside.Queue.{closing};
-ghost use Rattle.yaml_text.specs.Token.{token_of};
+ghost use Rattle.yaml_text.specs.declared.token.yaml_token_t.{yaml_token_t as code_token_t};
+ghost use Rattle.yaml_text.specs.declared.types.yaml_mark_t.{yaml_mark_t};
+ghost use Rattle.yaml_text.specs.Token.{TokenData};
+ghost use Rattle.yaml_lexeme.specs.Lexeme.{Lexeme};
 ghost use Rattle.yaml_scan.specs.Groups.Token.{BlockEnd};
 ghost use Rattle.yaml_scan.specs.Kind.{is_stream_end};
 ghost use Rattle.yaml_scan.specs.Levels.{stays};
@@ -24,17 +27,16 @@ ghost use Rattle.yaml_scan.specs.inside.Slots.{nested_outer, nested_top};
 
 use crate::allowed::is_allowed_after;
 use crate::depth::{is_flow_start, nest};
-use crate::groups::{block_t, group_t, queue_t};
+use crate::groups::{block_t, queue_t};
 use crate::keys::is_still_live;
 use crate::kind::{is_candidate, is_colon};
-use crate::lay::token_of;
 use crate::levels::{close_levels, closing, is_new_level, open_level};
 use crate::met::step_t;
 use crate::scanner::scanner_t;
 use crate::slots::slots_t;
 use crate::source::{decider_at, decider_t};
-use yaml_lexeme::{yaml_lexeme_kind_t, yaml_lexeme_t};
-use yaml_text::{yaml_mark_t, yaml_token_t};
+use yaml_lexeme::yaml_lexeme_kind_t;
+use yaml_text::yaml_mark_t;
 
 /// Whether the queue is empty, and has room for two groups.
 #[inline(always)]
@@ -147,41 +149,35 @@ fn drop_candidate(slots: &mut slots_t, kind: yaml_lexeme_kind_t)
     slots.awaited = 0;
 }
 
-/// Lays the lexeme of a step, which was read, and what decides whether it is a key. Both start at the end of a gap.
-/// Returns the group of the lexeme, and the token after it, which is a group alone.
+/// Lays the lexeme of a step, which was read to a mark, and what decides whether it is a key. Both start at the end of
+/// a gap. Returns how many levels end at the token of the lexeme, what it opens, and whether it is a key. What decides is
+/// a group alone.
 #[inline(always)]
 pub(crate) fn lay_decided(
     scanner: &mut scanner_t,
     step: step_t,
-    lexeme: yaml_lexeme_t,
-    decider: decider_t,
-) -> (group_t, yaml_token_t)
+    at: yaml_mark_t,
+    decider: &decider_t,
+) -> (usize, block_t, bool)
     ghost before: { List Laid }
-    requires { CanLayAll before scanner.old step (lexeme_of lexeme)
-        × ((sparing : Bool) × IsDecided scanner.old sparing step lexeme.reach decider.kind
-        (lexeme_of decider.lexeme)) }
-    ensures laid { (sparing : Bool) → IsDecided scanner.old sparing step lexeme.reach decider.kind
-        (lexeme_of decider.lexeme)
-        → LaysTwo sparing before scanner.old scanner.new (groups_in scanner.new ++ result.0 ∷ (lone result.1 ∷ [])) }
+    requires { (x : Lexeme) × ((x.reach ≡ at) × CanLayAll before scanner.old step x)
+        × ((sparing : Bool) × IsDecided scanner.old sparing step at decider.now.kind (lexeme_of decider.now.lexeme)) }
+    ensures laid { (sparing : Bool) (d : TokenData) (b e : yaml_mark_t) (passed : Bool) (t z : code_token_t)
+        → CanLayAll before scanner.old step (read_to d b e at passed)
+        → IsDecided scanner.old sparing step at decider.now.kind (lexeme_of decider.now.lexeme)
+        → IsTokenOf t d step.new.start e
+        → IsTokenOf z (lexeme_of decider.now.lexeme).token_data at (lexeme_of decider.now.lexeme).end_mark
+        → LaysTwo sparing before scanner.old scanner.new (groups_in scanner.new
+        ++ group_with result.0 result.1 result.2 t ∷ (lone z ∷ [])) }
     ensures queue { scanner.new.layout.queue ≡ scanner.old.layout.queue }
     ensures awaited { scanner.new.slots.awaited ≡ 0 }
-    ensures first { (token_of result.0.token).token_data ≡ (lexeme_of lexeme).token_data }
-    ensures second { (token_of result.1).token_data ≡ (lexeme_of decider.lexeme).token_data }
-    ensures few { result.0.ends ≤ length scanner.old.layout.levels.items }
+    ensures few { result.0 ≤ length scanner.old.layout.levels.items }
 {
     let kind = decider.kind;
     let key = is_colon(kind);
-    let at = lexeme.reach;
-    let reach = decider.lexeme.reach;
     let (ends, opens) = lay_candidate(&mut scanner.layout.levels, step, key);
     drop_candidate(&mut scanner.slots, kind);
     scanner.allowed = is_allowed_after(kind, step.in_flow, !key, false);
-    scanner.reach = reach;
-    let first = group_t {
-        ends,
-        opens,
-        key,
-        token: token_of(step.new.start, lexeme),
-    };
-    (first, token_of(at, decider.lexeme))
+    scanner.reach = decider.lexeme.reach;
+    (ends, opens, key)
 }

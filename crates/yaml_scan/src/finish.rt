@@ -1,110 +1,138 @@
 //! What comes after a lexeme was read: the step may have to stop, or the lexeme is laid.
-ghost use Rattle.std.specs.Prelude.{ℕ, ◌≡◌, false, List, [], IfOk, MatchResult, OnOk};
+ghost use Rattle.std.specs.Prelude.{ℕ, ◌≡◌, ◌≤◌, false, List, [], IfOk, MatchResult, None, OnOk};
+ghost use Rattle.yaml_text.specs.declared.token.yaml_token_t.{yaml_token_t as code_token_t};
+ghost use Rattle.yaml_text.specs.declared.types.yaml_mark_t.{yaml_mark_t};
+ghost use Rattle.yaml_text.specs.Token.{TokenData, data_of, token_of};
+ghost use Rattle.yaml_lexeme.specs.Lexeme.{Lexeme};
+ghost use Rattle.yaml_scan.specs.Sink.{said_len};
+ghost use Rattle.yaml_scan.specs.declared.groups.group_t.{group_t};
 ghost use Rattle.yaml_lexeme.specs.LexemeOf.{lexeme_of};
 ghost use Rattle.yaml_lexeme.specs.Counted.{IsMarkOf};
 ghost use Rattle.yaml_scan.specs.Laid.{Laid};
 ghost use Rattle.yaml_scan.specs.declared.scanner.scanner_t.{scanner_t};
 ghost use Rattle.yaml_scan.specs.Kind.{is_stream_end};
-ghost use Rattle.yaml_scan.specs.inside.Handed.{FindsRoom, IsLaidAlone, LaysTo, StepsTo, WasLaid, group_tokens};
+ghost use Rattle.yaml_scan.specs.inside.Handed.{FindsRoom, IsLaidAlone, IsReadTo, IsTokenOf, LaysTo};
+ghost use Rattle.yaml_scan.specs.inside.Handed.{StepsTo, WasLaid, group_tokens, group_with, read_to};
 ghost use Rattle.yaml_scan.specs.inside.Scanning.{CanLayAll, CanRead, IsReadIn, IsStep, Refuses};
 ghost use Rattle.yaml_scan.specs.inside.TextReads.{IsRead};
 
 use crate::decided::{decided_by, lay_decided};
 use crate::fault::{stop_t, stopped};
-use crate::groups::group_t;
+use crate::groups::{block_t, group_t};
 use crate::keys::is_lost;
 use crate::kind::is_last;
-use crate::lay::lay_lexeme;
+use crate::lay::{lay_lexeme, token_of};
 use crate::look::root_after;
 use crate::met::step_t;
 use crate::scanner::scanner_t;
 use crate::stop::{stop_after, stop_in_lexeme};
 use crate::target::{
-    hand_keyless, hand_on, hand_token, has_room_for, has_room_for_both, no_sink_t,
+    hand_keyless, hand_on, hand_token, has_room_for, has_room_for_both, no_sink_t, said_len,
     yaml_token_sink_t,
 };
 use yaml_lexeme::{yaml_lexeme_kind_t, yaml_lexeme_t, yaml_refusal_t};
-use yaml_text::yaml_token_t;
+use yaml_text::{yaml_mark_t, yaml_token_t};
 
-/// What a step has laid, and has not handed on yet.
+/// What a step has laid, and has not handed on yet. Its token goes with it.
 #[derive(Drop)]
 pub(crate) struct laid_t {
-    /// The group of its lexeme.
-    pub group: group_t,
-    /// Whether that has to wait in the queue.
+    /// How many block ends its group hands out.
+    pub ends: usize,
+    /// The start of a block collection that its group hands out, or none.
+    pub opens: block_t,
+    /// Whether its group hands out a key.
+    pub key: bool,
+    /// Whether all of it has to wait in the queue.
     pub waits: bool,
-    /// The token of what decides whether the lexeme is a key, if that was laid with it. It waits with the group.
+    /// The token of what decides whether its lexeme is a key, if that was laid too.
     pub decider: Option<yaml_token_t>,
 }
 
 /// Whether the group of a lexeme of a kind that was laid has to wait: the stream end always does, and any other if
-/// groups before it do, if a candidate may yet become a key, or if the sink has no room for it.
+/// groups before it do, if a candidate may yet become a key, or if the sink has no room for it. Its texts have so many
+/// bytes.
 #[inline(always)]
 fn has_to_wait<S: yaml_token_sink_t>(
     scanner: &scanner_t,
     sink: &S,
     kind: yaml_lexeme_kind_t,
-    group: &group_t,
+    ends: usize,
+    texts: u128,
 ) -> bool
     ensures last { result ≡ false → is_stream_end kind ≡ false }
     ensures awaited { result ≡ false → scanner.now.slots.awaited ≡ 0 }
     ensures lone { result ≡ false → scanner.now.layout.queue.groups.items ≡ [] }
-    ensures room { result ≡ false → S.within sink.now → (after : S) → S.took sink.now (group_tokens group.now) after
+    ensures room { result ≡ false → S.within sink.now → (group : group_t) (after : S) → group.ends ≡ ends
+        → said_len (token_of group.token).token_data ≤ texts → S.took sink.now (group_tokens group) after
         → S.within after }
 {
     is_last(kind)
         || scanner.slots.awaited > 0
         || !scanner.layout.queue.groups.is_empty()
-        || !has_room_for(sink, group)
+        || !has_room_for(sink, ends, texts)
 }
 
-/// Lays the lexeme of a step. Returns its group, and whether that has to wait in the queue.
+/// Lays the lexeme of a step, which was read to a mark, and whose texts have so many bytes. Returns how many block ends
+/// its group hands out, what that opens, and whether it has to wait.
 #[inline(always)]
 fn lay_alone<S: yaml_token_sink_t>(
     scanner: &mut scanner_t,
     sink: &S,
     step: step_t,
-    lexeme: yaml_lexeme_t,
-) -> (group_t, bool)
+    reach: yaml_mark_t,
+    passed_break: bool,
+    texts: u128,
+) -> (usize, block_t, bool)
     ghost before: { List Laid }
-    requires { CanLayAll before scanner.old step (lexeme_of lexeme) }
-    ensures laid { IsLaidAlone before scanner.old scanner.new step.kind result.1 result.0 }
-    ensures room { result.1 ≡ false → S.within sink.now → (after : S) → S.took sink.now (group_tokens result.0) after
-        → S.within after }
+    requires { (x : Lexeme) × (IsReadTo x reach passed_break × CanLayAll before scanner.old step x) }
+    ensures laid { (d : TokenData) (b e : yaml_mark_t) (t : code_token_t)
+        → CanLayAll before scanner.old step (read_to d b e reach passed_break) → IsTokenOf t d step.new.start e
+        → IsLaidAlone before scanner.old scanner.new step.kind result.2 (group_with result.0 result.1 false t) }
+    ensures room { result.2 ≡ false → S.within sink.now → (t : code_token_t) → said_len (token_of t).token_data ≤ texts
+        → (after : S) → S.took sink.now (group_tokens (group_with result.0 result.1 false t)) after → S.within after }
 {
-    let group = lay_lexeme(scanner, step, lexeme);
-    let waits = has_to_wait(scanner, sink, step.kind, &group);
-    (group, waits)
+    let (ends, opens) = lay_lexeme(scanner, step, reach, passed_break);
+    let waits = has_to_wait(scanner, sink, step.kind, ends, texts);
+    (ends, opens, waits)
 }
 
-/// Lays the lexeme of a step, and with it what decides whether it is a key, if the next token needs both.
+/// Lays the lexeme of a step, which was read to a mark, and with it what decides whether it is a key, if the next token
+/// needs both. Its texts have so many bytes.
 #[inline(always)]
 fn lay_all<const DIRECT: bool, S: yaml_token_sink_t>(
     scanner: &mut scanner_t,
     sink: &S,
     step: step_t,
-    lexeme: yaml_lexeme_t,
+    reach: yaml_mark_t,
+    passed_break: bool,
+    texts: u128,
 ) -> laid_t
     ghost before: { List Laid }
-    requires { CanLayAll before scanner.old step (lexeme_of lexeme) }
-    ensures laid { WasLaid before scanner.old scanner.new DIRECT result }
-    ensures room { FindsRoom result (S.within sink.now) (λ tokens. (after : S) → S.took sink.now tokens after
+    requires { (x : Lexeme) × (IsReadTo x reach passed_break × CanLayAll before scanner.old step x) }
+    ensures laid { (d : TokenData) (b e : yaml_mark_t) (t : code_token_t)
+        → CanLayAll before scanner.old step (read_to d b e reach passed_break) → IsTokenOf t d step.new.start e
+        → WasLaid before scanner.old scanner.new DIRECT result t }
+    ensures room { FindsRoom result texts (S.within sink.now) (λ tokens. (after : S) → S.took sink.now tokens after
         → S.within after) }
 {
-    let direct = has_room_for_both::<DIRECT, S>(sink, &scanner.layout.levels, &lexeme);
-    match decided_by(scanner, !direct, step, lexeme.reach) {
+    let direct = has_room_for_both::<DIRECT, S>(sink, &scanner.layout.levels, texts);
+    match decided_by(scanner, !direct, step, reach) {
         Some(decider) => {
-            let (group, second) = lay_decided(scanner, step, lexeme, decider);
+            let (ends, opens, key) = lay_decided(scanner, step, reach, &decider);
             laid_t {
-                group,
+                ends,
+                opens,
+                key,
                 waits: !direct,
-                decider: Some(second),
+                decider: Some(token_of(reach, decider.lexeme)),
             }
         }
         None => {
-            let (group, waits) = lay_alone(scanner, sink, step, lexeme);
+            let (ends, opens, waits) = lay_alone(scanner, sink, step, reach, passed_break, texts);
             laid_t {
-                group,
+                ends,
+                opens,
+                key: false,
                 waits,
                 decider: None,
             }
@@ -149,7 +177,16 @@ pub(crate) fn end_character<const DIRECT: bool, S: yaml_token_sink_t>(
 {
     match check_reach(scanner, step, &lexeme) {
         Ok(_) => {
-            let (group, waits) = lay_alone(scanner, sink, step, lexeme);
+            let texts = said_len(&lexeme.token_data);
+            let reach = lexeme.reach;
+            let passed_break = lexeme.passed_break;
+            let (ends, opens, waits) = lay_alone(scanner, sink, step, reach, passed_break, texts);
+            let group = group_t {
+                ends,
+                opens,
+                key: false,
+                token: token_of(step.new.start, lexeme),
+            };
             match hand_keyless::<DIRECT, S>(scanner, sink, waits, group) {
                 Ok(_) => {
                     scanner.made += 1;
@@ -162,53 +199,74 @@ pub(crate) fn end_character<const DIRECT: bool, S: yaml_token_sink_t>(
     }
 }
 
-/// Lays what was read for a step. Stops if it was refused, if it is near the reader's fault, or if a candidate is lost.
+/// Lays what was read for a step. Returns what was laid, and its token. Stops if it was refused, if it is near the
+/// reader's fault, or if a candidate is lost.
 #[inline(always)]
 pub(crate) fn lay_read<const DIRECT: bool, S: yaml_token_sink_t>(
     scanner: &mut scanner_t,
     sink: &S,
     step: step_t,
     read: Result<yaml_lexeme_t, yaml_refusal_t>,
-) -> Result<laid_t, stop_t>
+) -> Result<(laid_t, yaml_token_t), stop_t>
     ghost before: { List Laid }
     requires { CanRead before scanner.old step
         × IsReadIn scanner.old step.kind step.context scanner.old.there read }
-    ensures laid { MatchResult result (λ laid. WasLaid before scanner.old scanner.new DIRECT laid)
+    ensures laid { MatchResult result (λ r. WasLaid before scanner.old scanner.new DIRECT r.0 r.1)
         (λ stop. Refuses before scanner.old scanner.new stop) }
-    ensures room { IfOk result (λ laid. FindsRoom laid (S.within sink.now) (λ tokens. (after : S)
-        → S.took sink.now tokens after → S.within after)) }
+    ensures room { IfOk result (λ r. FindsRoom r.0 (said_len (data_of r.1.token_data)) (S.within sink.now) (λ tokens.
+        (after : S) → S.took sink.now tokens after → S.within after)) }
 {
     match read {
         Ok(lexeme) => match check_reach(scanner, step, &lexeme) {
-            Ok(_) => Ok(lay_all::<DIRECT, S>(scanner, sink, step, lexeme)),
+            Ok(_) => {
+                let texts = said_len(&lexeme.token_data);
+                let laid = lay_all::<DIRECT, S>(
+                    scanner,
+                    sink,
+                    step,
+                    lexeme.reach,
+                    lexeme.passed_break,
+                    texts,
+                );
+                Ok((laid, token_of(step.new.start, lexeme)))
+            }
             Err(stop) => Err(stopped(stop)),
         },
         Err(refusal) => Err(stop_in_lexeme(scanner, step.kind, refusal)),
     }
 }
 
-/// Hands on what a step has laid. Returns how many steps that makes.
+/// Hands on what a step has laid, with its token. Returns how many steps that makes.
 #[inline(always)]
 fn hand_laid<const DIRECT: bool, S: yaml_token_sink_t>(
     scanner: &mut scanner_t,
     sink: &mut S,
     laid: laid_t,
+    token: yaml_token_t,
 ) -> Result<u64, stop_t>
-    requires laid { (before : List Laid) × ((start : scanner_t) × WasLaid before start scanner.old DIRECT laid) }
-    requires room { FindsRoom laid (S.within sink.old) (λ tokens. (after : S) → S.took sink.old tokens after
-        → S.within after) }
-    ensures steps { (before : List Laid) (start : scanner_t) → WasLaid before start scanner.old DIRECT laid
+    requires laid { (before : List Laid) × ((start : scanner_t) × WasLaid before start scanner.old DIRECT laid token) }
+    requires room { FindsRoom laid (said_len (data_of token.token_data)) (S.within sink.old) (λ tokens. (after : S)
+        → S.took sink.old tokens after → S.within after) }
+    ensures steps { (before : List Laid) (start : scanner_t) → WasLaid before start scanner.old DIRECT laid token
         → LaysTo before start scanner.new DIRECT (λ tokens. S.took sink.old tokens sink.new) S.may_refuse result }
     ensures within { OnOk result (S.within sink.old → S.within sink.new) }
 {
     let laid_t {
-        group,
+        ends,
+        opens,
+        key,
         waits,
         decider,
     } = laid;
+    let group = group_t {
+        ends,
+        opens,
+        key,
+        token,
+    };
     match hand_on::<DIRECT, S>(scanner, sink, waits, group) {
         Ok(_) => match decider {
-            Some(token) => match hand_token::<DIRECT, S>(scanner, sink, waits, token) {
+            Some(second) => match hand_token::<DIRECT, S>(scanner, sink, waits, second) {
                 Ok(_) => Ok(2),
                 Err(stop) => Err(stopped(stop)),
             },
@@ -218,21 +276,22 @@ fn hand_laid<const DIRECT: bool, S: yaml_token_sink_t>(
     }
 }
 
-/// Ends a step with what it has laid, and hands that on.
+/// Ends a step with what it has laid, and hands that on, with its token.
 #[inline(always)]
 pub(crate) fn end_laid<const DIRECT: bool, S: yaml_token_sink_t>(
     scanner: &mut scanner_t,
     sink: &mut S,
     laid: laid_t,
+    token: yaml_token_t,
 ) -> Result<(), stop_t>
-    requires laid { (before : List Laid) × ((start : scanner_t) × WasLaid before start scanner.old DIRECT laid) }
-    requires room { FindsRoom laid (S.within sink.old) (λ tokens. (after : S) → S.took sink.old tokens after
-        → S.within after) }
-    ensures steps { (before : List Laid) (start : scanner_t) → WasLaid before start scanner.old DIRECT laid
+    requires laid { (before : List Laid) × ((start : scanner_t) × WasLaid before start scanner.old DIRECT laid token) }
+    requires room { FindsRoom laid (said_len (data_of token.token_data)) (S.within sink.old) (λ tokens. (after : S)
+        → S.took sink.old tokens after → S.within after) }
+    ensures steps { (before : List Laid) (start : scanner_t) → WasLaid before start scanner.old DIRECT laid token
         → StepsTo before start scanner.new DIRECT (λ tokens. S.took sink.old tokens sink.new) S.may_refuse result }
     ensures within { OnOk result (S.within sink.old → S.within sink.new) }
 {
-    match hand_laid::<DIRECT, S>(scanner, sink, laid) {
+    match hand_laid::<DIRECT, S>(scanner, sink, laid, token) {
         Ok(made) => {
             scanner.made += made;
             Ok(())
@@ -254,7 +313,7 @@ pub(crate) fn end_queued(
     ensures { IsStep before scanner.old scanner.new result }
 {
     match lay_read::<false, no_sink_t>(scanner, &no_sink_t {}, step, read) {
-        Ok(laid) => end_laid::<false, no_sink_t>(scanner, &mut no_sink_t {}, laid),
+        Ok((laid, token)) => end_laid::<false, no_sink_t>(scanner, &mut no_sink_t {}, laid, token),
         Err(stop) => Err(stopped(stop)),
     }
 }

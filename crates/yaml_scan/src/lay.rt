@@ -2,16 +2,18 @@
 ghost use Rattle.std.specs.Prelude.{◌≡◌, ◌<◌, ◌++◌, ◌∷◌, List, [], false, length, map, nat_lt, vec_len};
 ghost use Rattle.std.specs.Vec.{vec_capacity};
 ghost use Rattle.std.specs.VecDeque.{deque_capacity};
-ghost use Rattle.yaml_text.specs.Token.{data_of, token_of};
-ghost use Rattle.yaml_lexeme.specs.LexemeOf.{lexeme_of};
+ghost use Rattle.yaml_text.specs.declared.token.yaml_token_t.{yaml_token_t as code_token_t};
+ghost use Rattle.yaml_text.specs.declared.types.yaml_mark_t.{yaml_mark_t};
+ghost use Rattle.yaml_text.specs.Token.{TokenData, data_of, token_of};
+ghost use Rattle.yaml_lexeme.specs.Lexeme.{Lexeme};
 ghost use Rattle.yaml_scan.specs.Laid.{Laid};
-ghost use Rattle.yaml_scan.specs.inside.Handed.{IsLaidAs};
+ghost use Rattle.yaml_scan.specs.inside.Handed.{IsLaidAs, IsReadTo, IsTokenOf, group_with, read_to};
 ghost use Rattle.yaml_scan.specs.inside.Scanning.{CanPut, HasRoom, groups_in, met_in};
 ghost use Rattle.yaml_scan.specs.inside.Slots.{AreNested, empty_slots, lowest, nested_outer, nested_top, slot_after};
 ghost use Rattle.yaml_scan.specs.inside.Slots.{step_of, still_held};
 
 use crate::allowed::is_allowed_after;
-use crate::groups::group_t;
+use crate::groups::block_t;
 use crate::keys::{completed_by, move_slots, settle};
 use crate::levels::{close_levels, keep_early, put_key};
 use crate::met::step_t;
@@ -56,25 +58,31 @@ fn keep_candidates(slots: &mut slots_t, step: step_t, limit: u64, mark: yaml_mar
     move_slots(slots, step, limit, mark);
 }
 
-/// Lays the lexeme of a step, which was read: changes levels and candidates, and marks the group that it completes.
-/// Returns its own group, which then goes into the queue or is handed out. There is room, and no candidate is lost.
+/// Lays the lexeme of a step, which was read to a mark: changes levels and candidates, and marks the group that it
+/// completes. Returns how many levels end at its token, and what it opens. Its group then goes into the queue or is
+/// handed out. There is room, and no candidate is lost.
 #[inline(always)]
-pub(crate) fn lay_lexeme(scanner: &mut scanner_t, step: step_t, lexeme: yaml_lexeme_t) -> group_t
+pub(crate) fn lay_lexeme(
+    scanner: &mut scanner_t,
+    step: step_t,
+    reach: yaml_mark_t,
+    passed_break: bool,
+) -> (usize, block_t)
     ghost before: { List Laid }
-    requires can { CanPut before scanner.old (groups_in scanner.old) (met_in scanner.old step) step.in_flow step.new
-        (lexeme_of lexeme) }
+    requires can { (x : Lexeme) × (IsReadTo x reach passed_break × CanPut before scanner.old (groups_in scanner.old)
+        (met_in scanner.old step) step.in_flow step.new x) }
     requires room { HasRoom scanner.old }
-    ensures laid { IsLaidAs before scanner.old step.kind scanner.new (groups_in scanner.new ++ result ∷ []) }
-    ensures reach { scanner.new.reach ≡ (lexeme_of lexeme).reach }
-    ensures says { (token_of result.token).token_data ≡ (lexeme_of lexeme).token_data }
-    ensures keyless { result.key ≡ false }
+    ensures laid { (d : TokenData) (b e : yaml_mark_t) (t : code_token_t)
+        → CanPut before scanner.old (groups_in scanner.old) (met_in scanner.old step) step.in_flow step.new
+        (read_to d b e reach passed_break) → IsTokenOf t d step.new.start e
+        → IsLaidAs before scanner.old step.kind scanner.new
+        (groups_in scanner.new ++ group_with result.0 result.1 false t ∷ []) }
+    ensures reach { scanner.new.reach ≡ reach }
     ensures room { length scanner.new.layout.queue.groups.items < deque_capacity scanner.new.layout.queue.groups }
 {
     let kind = step.kind;
     let front = scanner.front;
     let start = step.new.start;
-    let reach = lexeme.reach;
-    let passed_break = lexeme.passed_break;
     let closed = close_levels(&mut scanner.layout.levels, step, front);
     let completed = completed_by(kind, scanner.slots.top, scanner.limit, start);
     keep_candidates(&mut scanner.slots, step, scanner.limit, reach);
@@ -82,10 +90,5 @@ pub(crate) fn lay_lexeme(scanner: &mut scanner_t, step: step_t, lexeme: yaml_lex
     keep_early(&mut scanner.layout.queue, closed, front);
     scanner.allowed = is_allowed_after(kind, step.in_flow, completed.is_none(), passed_break);
     scanner.reach = reach;
-    group_t {
-        ends: closed.ends,
-        opens,
-        key: false,
-        token: token_of(start, lexeme),
-    }
+    (closed.ends, opens)
 }

@@ -47,7 +47,7 @@ fn step_plain<const IN_FLOW: bool, const DIRECT: bool, S: yaml_token_sink_t>(
             let room = sink.room(scanner.alloc);
             let read = read_plain(room, scanner, step.context);
             match lay_read::<DIRECT, S>(scanner, sink, step, read) {
-                Ok(laid) => end_laid::<DIRECT, S>(scanner, sink, laid),
+                Ok((laid, token)) => end_laid::<DIRECT, S>(scanner, sink, laid, token),
                 Err(stop) => Err(stopped(stop)),
             }
         }
@@ -72,7 +72,7 @@ fn step_quoted<const IN_FLOW: bool, const SINGLE: bool, const DIRECT: bool, S: y
             let room = sink.room(scanner.alloc);
             let read = read_quoted(room, scanner, SINGLE, step.context);
             match lay_read::<DIRECT, S>(scanner, sink, step, read) {
-                Ok(laid) => end_laid::<DIRECT, S>(scanner, sink, laid),
+                Ok((laid, token)) => end_laid::<DIRECT, S>(scanner, sink, laid, token),
                 Err(stop) => Err(stopped(stop)),
             }
         }
@@ -97,7 +97,7 @@ fn step_literal<const IN_FLOW: bool, const DIRECT: bool, S: yaml_token_sink_t>(
             let room = sink.room(scanner.alloc);
             let read = read_block(room, scanner, false, step.context);
             match lay_read::<DIRECT, S>(scanner, sink, step, read) {
-                Ok(laid) => end_laid::<DIRECT, S>(scanner, sink, laid),
+                Ok((laid, token)) => end_laid::<DIRECT, S>(scanner, sink, laid, token),
                 Err(stop) => Err(stopped(stop)),
             }
         }

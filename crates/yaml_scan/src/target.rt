@@ -5,7 +5,6 @@ ghost use Rattle.std.specs.Prelude.{if◌then◌else◌, OnErr, OnOk};
 ghost use Rattle.std.specs.VecDeque.{deque_capacity};
 ghost use Rattle.yaml_text.specs.Token.{Token, data_of, token_of};
 ghost use Rattle.yaml_scan.specs.Sink.{said_len, texts_len};
-ghost use Rattle.yaml_lexeme.specs.LexemeOf.{lexeme_of};
 ghost use Rattle.yaml_scan.specs.Words.{HasWords};
 ghost use Rattle.yaml_scan.specs.declared.fault.stop_t.TheVariants.{SINK};
 ghost use Rattle.yaml_scan.specs.inside.Queue.{ends_at, leads, start_at};
@@ -16,7 +15,6 @@ use crate::fault::{stop_by_sink, stop_t, stopped};
 use crate::groups::{block_t, group_t, token_at};
 use crate::scanner::scanner_t;
 use std::alloc::{AllocError, Global};
-use yaml_lexeme::yaml_lexeme_t;
 use yaml_text::{unnamed_yaml_token_t_data, yaml_mark_t, yaml_token_t};
 
 /// Takes the tokens of an input, one after the other.
@@ -41,10 +39,10 @@ pub trait yaml_token_sink_t {
     fn room(&mut self, alloc: Global) -> Vec<u8>
         ensures { took self.old [] self.new };
 
-    /// Whether so many more tokens find room, if only one of them has texts, which says this.
-    fn has_room(&self, count: u128, said: &unnamed_yaml_token_t_data) -> bool
+    /// Whether so many more tokens find room, whose texts have so many bytes.
+    fn has_room(&self, count: u128, texts: u128) -> bool
         ensures { result ≡ true → within self.now → (tokens : List Token) (after : Self) → length tokens ≤ count
-            → texts_len tokens ≤ said_len (data_of said.now) → took self.now tokens after → within after };
+            → texts_len tokens ≤ texts → took self.now tokens after → within after };
 
     ghost took_none: { (s : Self) → took s [] s };
 
@@ -74,7 +72,7 @@ impl yaml_token_sink_t for no_sink_t {
     }
 
     #[inline(always)]
-    fn has_room(&self, _count: u128, _said: &unnamed_yaml_token_t_data) -> bool {
+    fn has_room(&self, _count: u128, _texts: u128) -> bool {
         true
     }
 
@@ -250,29 +248,50 @@ fn count_of(group: &group_t) -> u128
     group.ends as u128 + starts_of(group.opens) + keys_of(group.key) + 1
 }
 
-/// Whether a sink has room for all that a group hands out.
+/// How many bytes the texts have of what a token says.
 #[inline(always)]
-pub(crate) fn has_room_for<S: yaml_token_sink_t>(sink: &S, group: &group_t) -> bool
-    ensures { result ≡ true → S.within sink.now → (after : S) → S.took sink.now (group_tokens group.now) after
-        → S.within after }
+pub(crate) fn said_len(said: &unnamed_yaml_token_t_data) -> u128
+    ensures { result ≡ said_len (data_of said.now) }
 {
-    sink.has_room(group.ends as u128 + 3, &group.token.token_data)
+    match said {
+        unnamed_yaml_token_t_data::SCALAR { value, style: _ }
+        | unnamed_yaml_token_t_data::ANCHOR { value }
+        | unnamed_yaml_token_t_data::ALIAS { value } => value.len() as u128,
+        unnamed_yaml_token_t_data::TAG { handle, suffix } => {
+            handle.len() as u128 + suffix.len() as u128
+        }
+        unnamed_yaml_token_t_data::TAG_DIRECTIVE { handle, prefix } => {
+            handle.len() as u128 + prefix.len() as u128
+        }
+        _ => 0,
+    }
 }
 
-/// Whether a sink that takes groups straight has room for that of a lexeme, which may close all levels, and for a token
-/// without texts after it.
+/// Whether a sink has room for the group of a token that has so many bytes of texts, and before which so many block ends
+/// are handed out.
+#[inline(always)]
+pub(crate) fn has_room_for<S: yaml_token_sink_t>(sink: &S, ends: usize, texts: u128) -> bool
+    ensures { result ≡ true → S.within sink.now → (group : group_t) (after : S) → group.ends ≡ ends
+        → said_len (token_of group.token).token_data ≤ texts → S.took sink.now (group_tokens group) after
+        → S.within after }
+{
+    sink.has_room(ends as u128 + 3, texts)
+}
+
+/// Whether a sink that takes groups straight has room for that of a lexeme, which may close all levels and whose texts
+/// have so many bytes, and for a token without texts after it.
 #[inline(always)]
 pub(crate) fn has_room_for_both<const DIRECT: bool, S: yaml_token_sink_t>(
     sink: &S,
     levels: &[u64],
-    lexeme: &yaml_lexeme_t,
+    texts: u128,
 ) -> bool
     ensures direct { result ≡ true → DIRECT ≡ true }
     ensures room { result ≡ true → S.within sink.now → (tokens : List Token) (after : S)
-        → length tokens ≤ length levels.now + 4 → texts_len tokens ≤ said_len (lexeme_of lexeme.now).token_data
-        → S.took sink.now tokens after → S.within after }
+        → length tokens ≤ length levels.now + 4 → texts_len tokens ≤ texts → S.took sink.now tokens after
+        → S.within after }
 {
-    DIRECT && sink.has_room(levels.len() as u128 + 4, &lexeme.token_data)
+    DIRECT && sink.has_room(levels.len() as u128 + 4, texts)
 }
 
 /// Hands on the group of a step: straight to the sink if it need not wait, and else into the queue, which has room.

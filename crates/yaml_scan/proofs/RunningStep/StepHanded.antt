@@ -419,7 +419,7 @@ module _ (direct : Bool) (H : List Laid) (s : scanner_t) (r : step_t) (x : yaml_
       ap said_len e ∙ decider_silent s.text.chars r.in_flow k 0 None p.0 w q.decides (q.read 0 None)
 
 -- as many tokens as are counted on, with no more texts
-pub few_given : (y z : group_t) (n m : ℕ) → z.ends ≡ 0 → z.opens ≡ NONE → z.key ≡ false → y.ends ≤ n → said_len (token_of y.token).token_data ≡ m → said_len (token_of z.token).token_data ≡ 0
+pub few_given : (y z : group_t) (n m : ℕ) → z.ends ≡ 0 → z.opens ≡ NONE → z.key ≡ false → y.ends ≤ n → said_len (token_of y.token).token_data ≤ m → said_len (token_of z.token).token_data ≡ 0
     → (length (group_tokens y ++ group_tokens z) ≤ n + 4) × (texts_len (group_tokens y ++ group_tokens z) ≤ m)
 few_given y z n m E O K f a b =
     let p = count_is y in

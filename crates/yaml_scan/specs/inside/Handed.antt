@@ -1,11 +1,13 @@
 -- Where the groups of a step go: into the queue, or straight to a sink.
-use Rattle.std.specs.Prelude.{◌≡◌, ◌⊎◌, ℕ, ◌+◌, Bool, true, false, List, [], ◌∷◌, ◌++◌, map, length}
+use Rattle.std.specs.Prelude.{◌≡◌, ◌⊎◌, ℕ, ◌+◌, ◌≤◌, Bool, true, false, List, [], ◌∷◌, ◌++◌, map, length}
 use Rattle.std.specs.Prelude.{Result, Ok, Err, MatchResult, ◌<◌, ◌^◌, Option, None, Some}
 use Rattle.std.specs.List.{list_any}
 use Rattle.std.specs.VecDeque.{deque_capacity}
 use Rattle.yaml_text.specs.declared.types.yaml_encoding_t.TheVariants.{YAML_UTF8_ENCODING}
 use Rattle.yaml_text.specs.declared.token.yaml_token_t.{yaml_token_t as code_token_t}
-use Rattle.yaml_text.specs.Token.{token_of}
+use Rattle.yaml_text.specs.declared.types.yaml_mark_t.{yaml_mark_t}
+use Rattle.yaml_text.specs.Token.{TokenData, token_of}
+use Rattle.yaml_lexeme.specs.Lexeme.{Lexeme as yaml_lexeme_t}
 use Rattle.yaml_scan.specs.declared.fault.stop_t.{stop_t}
 use Rattle.yaml_scan.specs.declared.finish.laid_t.{laid_t}
 use Rattle.yaml_scan.specs.declared.fault.stop_t.TheVariants.{SINK}
@@ -18,6 +20,7 @@ use Rattle.yaml_scan.specs.Begins.{Begins}
 use Rattle.yaml_scan.specs.Groups.{Token, handed_out}
 use Rattle.yaml_scan.specs.Kind.{Kind, is_stream_end}
 use Rattle.yaml_scan.specs.Laid.{Laid}
+use Rattle.yaml_scan.specs.Sink.{said_len}
 use Rattle.yaml_scan.specs.Token.{yaml_token_t, type_of}
 use Rattle.yaml_scan.specs.TokenTypes.{is_last_type}
 use Rattle.yaml_scan.specs.Words.{HasWords}
@@ -176,6 +179,22 @@ StepsTo H s t direct took refuses o = MatchResult o
     × (zs : List group_t) × Makes false H s m zs × (direct ≡ true) × AllSettled m zs tokens
     × IsCut took tokens) × refuses))
 
+-- a lexeme that says d, from b to e, for which was read to `reach`
+abbrev pub read_to : TokenData → yaml_mark_t → yaml_mark_t → yaml_mark_t → Bool → yaml_lexeme_t
+read_to d b e reach passed =
+    record { token_data = d; start_mark = b; end_mark = e; reach = reach; passed_break = passed }
+
+abbrev pub IsReadTo : yaml_lexeme_t → yaml_mark_t → Bool → Type 0
+IsReadTo x reach passed = (x.reach ≡ reach) × (x.passed_break ≡ passed)
+
+-- the token of what says d, from b to e
+abbrev pub IsTokenOf : code_token_t → TokenData → yaml_mark_t → yaml_mark_t → Type 0
+IsTokenOf t d b e = token_of t ≡ record { token_data = d; start_mark = b; end_mark = e }
+
+-- the group of a token
+abbrev pub group_with : ℕ → block_t → Bool → code_token_t → group_t
+group_with ends opens key t = record { ends = ends; opens = opens; key = key; token = t }
+
 -- A lexeme of kind k was laid as the group y, which is not handed on yet. Unless it has to wait, no token is before it.
 pub record IsLaidAlone (H : List Laid) (s t : scanner_t) (k : Kind) (waits : Bool) (y : group_t) : Type 0 where
   pub laid : IsLaidAs H s k t (groups_in t ++ y ∷ [])
@@ -209,14 +228,15 @@ abbrev pub WasLaidWith : List Laid → scanner_t → scanner_t → Bool → Bool
 WasLaidWith H s t direct waits y None = (k : Kind) × IsLaidAlone H s t k waits y
 WasLaidWith H s t direct waits y (Some z) = IsLaidBoth H s t direct waits y z
 
-abbrev pub WasLaid : List Laid → scanner_t → scanner_t → Bool → laid_t → Type 0
-WasLaid H s t direct l = WasLaidWith H s t direct l.waits l.group l.decider
+abbrev pub WasLaid : List Laid → scanner_t → scanner_t → Bool → laid_t → code_token_t → Type 0
+WasLaid H s t direct l token = WasLaidWith H s t direct l.waits (group_with l.ends l.opens l.key token) l.decider
 
 -- all tokens of a group and of what decides it
 abbrev pub tokens_with : group_t → Option code_token_t → List yaml_token_t
 tokens_with y None = group_tokens y
 tokens_with y (Some z) = group_tokens y ++ token_of z ∷ []
 
--- unless it has to wait, all of what was laid finds room
-abbrev pub FindsRoom : laid_t → Type 0 → (List yaml_token_t → Type 0) → Type 0
-FindsRoom l within fits = l.waits ≡ false → within → fits (tokens_with l.group l.decider)
+-- unless it has to wait, all of what was laid finds room, if the texts of its token have at most so many bytes
+abbrev pub FindsRoom : laid_t → ℕ → Type 0 → (List yaml_token_t → Type 0) → Type 0
+FindsRoom l texts within fits = l.waits ≡ false → within → (t : code_token_t) → said_len (token_of t).token_data ≤ texts
+    → fits (tokens_with (group_with l.ends l.opens l.key t) l.decider)

@@ -1,4 +1,5 @@
 use Rattle.std.proofs.Common.{Err, arith}
+use Rattle.yaml_scan.specs.inside.Handed.{group_with}
 use Rattle.yaml_scan.proofs.RunningStep.StepHanded.{few_made, laid_few}
 use Rattle.yaml_scan.proofs.RunningStep.StepMoves.{cut_all, steps_all}
 use Rattle.yaml_scan.proofs.finish.end_laid.Goals as goal
@@ -7,7 +8,7 @@ pub overflow_add-scanner : goal.overflow_add-scanner
 overflow_add-scanner g c =
     let r = c.requires.laid in
     let w = r.1.1 in
-    let l = few_made r.0 r.1.0 c.hand_laid.new.scanner _ _ g.S.yaml_token_sink_t.may_refuse c.in-Ok.made (c.in-Ok.ensures.steps r.0 r.1.0 w) (laid_few r.0 r.1.0 c.args.scanner.now _ c.args.laid.waits c.args.laid.group c.args.laid.decider w) in
+    let l = few_made r.0 r.1.0 c.hand_laid.new.scanner _ _ g.S.yaml_token_sink_t.may_refuse c.in-Ok.made (c.in-Ok.ensures.steps r.0 r.1.0 w) (laid_few r.0 r.1.0 c.args.scanner.now _ c.args.laid.waits (group_with c.args.laid.ends c.args.laid.opens c.args.laid.key c.args.token) c.args.laid.decider w) in
     omega arith
 
 pub returns-in-Ok-clause-steps : goal.returns-in-Ok-clause-steps

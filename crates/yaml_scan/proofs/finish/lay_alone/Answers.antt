@@ -1,27 +1,32 @@
-use Rattle.yaml_lexeme.specs.LexemeOf.{lexeme_of}
+use Rattle.std.proofs.Common.{false, refl, ap}
+use Rattle.yaml_scan.specs.Token.{yaml_token_t}
+use Rattle.yaml_scan.specs.inside.Handed.{group_with, read_to}
 use Rattle.yaml_scan.proofs.RunningStep.StepHanded.{far_there, says_there, words_there}
 use Rattle.yaml_scan.proofs.RunningStep.StepTests.{can_put}
 use Rattle.yaml_scan.proofs.finish.lay_alone.Goals as goal
 
-pub lay_lexeme-group-requires : goal.lay_lexeme-group-requires
-lay_lexeme-group-requires g c = (can_put g.before c.args.scanner.now c.args.step (lexeme_of c.args.lexeme) c.requires.1, c.requires.1.can.room)
+pub lay_lexeme-ends-requires : goal.lay_lexeme-ends-requires
+lay_lexeme-ends-requires g c = let r = c.requires.1 in ((r.0, (r.1.0, can_put g.before c.args.scanner.now c.args.step r.0 r.1.1)), r.1.1.can.room)
 
 pub returns-clause-laid : goal.returns-clause-laid
-returns-clause-laid g c =
+returns-clause-laid g c = λ d b e t p T.
     let s = c.args.scanner.now in
-    let x = lexeme_of c.args.lexeme in
-    let r = c.requires.1 in
-    let l = c.lay_lexeme-group.ensures in
+    let x = read_to d b e c.args.reach c.args.passed_break in
+    let l = c.lay_lexeme-ends.ensures in
     let w = c.has_to_wait-waits.ensures in
+    let says = ap (λ (z : yaml_token_t). z.token_data) T in
     record {
-      laid = l.laid;
-      far = far_there g.before s c.args.step x r _ l.reach;
-      few = r.can.can.few_steps;
+      laid = l.laid d b e t (can_put g.before s c.args.step x p) T;
+      far = far_there g.before s c.args.step x p _ l.reach;
+      few = p.can.can.few_steps;
       room = l.room;
-      words = words_there g.before s c.args.step x r _ l.says;
-      says = says_there g.before s c.args.step x r _ l.says;
-      keyless = l.keyless;
+      words = words_there g.before s c.args.step x p _ says;
+      says = says_there g.before s c.args.step x p _ says;
+      keyless = refl;
       last = w.last;
       awaited = w.awaited;
       alone = w.lone;
     }
+
+pub returns-clause-room : goal.returns-clause-room
+returns-clause-room g c = λ e within t few after w. c.has_to_wait-waits.ensures.room e within (group_with c.lay_lexeme-ends.result.0 c.lay_lexeme-ends.result.1 false t) after refl few w

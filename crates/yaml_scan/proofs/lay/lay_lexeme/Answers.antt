@@ -5,48 +5,48 @@ use Rattle.yaml_scan.specs.declared.groups.group_t.{group_t}
 use Rattle.yaml_scan.specs.Levels.{greatest_level}
 use Rattle.yaml_scan.specs.inside.Scanning.{groups_in, met_in}
 use Rattle.yaml_scan.specs.inside.Slots.{Held, AreNested}
-use Rattle.yaml_lexeme.specs.LexemeOf.{lexeme_of}
+use Rattle.yaml_scan.specs.inside.Handed.{read_to}
 use Rattle.yaml_scan.proofs.RunningStep.StepLaid.{levels_fall, l_falls, fitting}
 use Rattle.yaml_scan.proofs.RunningStep.StepPut.{put_advances}
 use Rattle.yaml_scan.proofs.RunningQueue.SlotOrder.{outer_nested}
 use Rattle.yaml_scan.proofs.lay.lay_lexeme.Goals as goal
 
 pub close_levels-closed-requires : goal.close_levels-closed-requires
-close_levels-closed-requires g c = levels_fall g.before (c.args.scanner.now.made + 1) c.args.scanner.now c.requires.0.can.holds c.requires.0.can.running (met_in c.args.scanner.now c.args.step) c.requires.0.can.met c.args.step.in_flow c.requires.0.is_new.flow c.args.step.new.start c.requires.0.is_new.start
+close_levels-closed-requires g c = levels_fall g.before (c.args.scanner.now.made + 1) c.args.scanner.now c.requires.0.1.1.can.holds c.requires.0.1.1.can.running (met_in c.args.scanner.now c.args.step) c.requires.0.1.1.can.met c.args.step.in_flow c.requires.0.1.1.is_new.flow c.args.step.new.start c.requires.0.1.1.is_new.start
 
 pub keep_candidates-requires-clause-nested : goal.keep_candidates-requires-clause-nested
-keep_candidates-requires-clause-nested g c = let r = c.requires.0.can.holds in subst (λ (hs : List (Option Held)). AreNested hs) (sym r.outer) (outer_nested c.args.scanner.now.limit g.before r.is_history)
+keep_candidates-requires-clause-nested g c = let r = c.requires.0.1.1.can.holds in subst (λ (hs : List (Option Held)). AreNested hs) (sym r.outer) (outer_nested c.args.scanner.now.limit g.before r.is_history)
 
 pub put_key-opens-requires-clause-falls : goal.put_key-opens-requires-clause-falls
-put_key-opens-requires-clause-falls g c = l_falls g.before (c.args.scanner.now.made + 1) c.args.scanner.now c.requires.0.can.holds c.requires.0.can.running (met_in c.args.scanner.now c.args.step) c.requires.0.can.met c.args.step.in_flow c.requires.0.is_new.flow c.args.step.new.start c.requires.0.is_new.start c.close_levels-closed.new.levels.items c.close_levels-closed.ensures.levels
+put_key-opens-requires-clause-falls g c = l_falls g.before (c.args.scanner.now.made + 1) c.args.scanner.now c.requires.0.1.1.can.holds c.requires.0.1.1.can.running (met_in c.args.scanner.now c.args.step) c.requires.0.1.1.can.met c.args.step.in_flow c.requires.0.1.1.is_new.flow c.args.step.new.start c.requires.0.1.1.is_new.start c.close_levels-closed.new.levels.items c.close_levels-closed.ensures.levels
 
 pub put_key-opens-requires-clause-fits : goal.put_key-opens-requires-clause-fits
-put_key-opens-requires-clause-fits g c = fitting g.before (c.args.scanner.now.made + 1) c.args.scanner.now c.requires.0.can.holds c.requires.0.can.running (met_in c.args.scanner.now c.args.step) c.requires.0.can.met c.args.step.in_flow c.requires.0.is_new.flow c.args.step.new.start c.requires.0.is_new.start c.close_levels-closed.new.levels.items c.close_levels-closed.ensures.levels c.requires.0.level (c.requires.0.is_new.is_greatest ∙ ap greatest_level (sym c.close_levels-closed.ensures.levels)) (vec_len c.args.scanner.now.slots.outer) refl (lexeme_of c.args.lexeme) c.requires.0.read c.completed_by-completed.result c.completed_by-completed.ensures
+put_key-opens-requires-clause-fits g c = fitting g.before (c.args.scanner.now.made + 1) c.args.scanner.now c.requires.0.1.1.can.holds c.requires.0.1.1.can.running (met_in c.args.scanner.now c.args.step) c.requires.0.1.1.can.met c.args.step.in_flow c.requires.0.1.1.is_new.flow c.args.step.new.start c.requires.0.1.1.is_new.start c.close_levels-closed.new.levels.items c.close_levels-closed.ensures.levels c.requires.0.1.1.level (c.requires.0.1.1.is_new.is_greatest ∙ ap greatest_level (sym c.close_levels-closed.ensures.levels)) (vec_len c.args.scanner.now.slots.outer) refl c.requires.0.0 c.requires.0.1.1.read c.completed_by-completed.result c.completed_by-completed.ensures
 
 pub keep_early-requires : goal.keep_early-requires
-keep_early-requires g c = let k = c.put_key-opens.ensures.rest in record { none = k.early ∙ c.requires.0.can.holds.early c.requires.0.can.running }
+keep_early-requires g c = let k = c.put_key-opens.ensures.rest in record { none = k.early ∙ c.requires.0.1.1.can.holds.early c.requires.0.1.1.can.running }
 
 pub returns-clause-laid : goal.returns-clause-laid
-returns-clause-laid g c =
+returns-clause-laid g c = λ d b e t p T.
     let k = c.put_key-opens.ensures.rest in
-    let e = c.keep_early.ensures in
-    let new : group_t = record { ends = c.close_levels-closed.result.ends; opens = c.put_key-opens.result; key = false; token = c.token_of.result } in
-    let kept : c.keep_early.new.queue.groups.items ≡ c.put_key-opens.new.layout.queue.groups.items = ap (λ (d : VecDeque group_t Global). d.items) e.groups in
-    put_advances g.before c.args.scanner.now (groups_in c.args.scanner.now) (met_in c.args.scanner.now c.args.step) c.args.step.in_flow c.args.step.new (lexeme_of c.args.lexeme) c.requires.0 c.keep_candidates.new.slots c.is_allowed_after-scanner.result
+    let y = c.keep_early.ensures in
+    let new : group_t = record { ends = c.close_levels-closed.result.ends; opens = c.put_key-opens.result; key = false; token = t } in
+    let kept : c.keep_early.new.queue.groups.items ≡ c.put_key-opens.new.layout.queue.groups.items = ap (λ (q : VecDeque group_t Global). q.items) y.groups in
+    put_advances g.before c.args.scanner.now (groups_in c.args.scanner.now) (met_in c.args.scanner.now c.args.step) c.args.step.in_flow c.args.step.new (read_to d b e c.args.reach c.args.passed_break) p c.keep_candidates.new.slots c.is_allowed_after-scanner.result
     record { levels = c.put_key-opens.new.layout.levels; queue = c.keep_early.new.queue } (c.keep_early.new.queue.groups.items ++ new ∷ []) record {
       kept = c.close_levels-closed.new.levels.items;
       kept_is = c.close_levels-closed.ensures.levels;
       early = c.close_levels-closed.result.early;
       early_none = c.close_levels-closed.ensures.none;
-      early_is = e.early;
-      front = e.front;
+      early_is = y.early;
+      front = y.front;
       completed = c.completed_by-completed.result;
       completed_is = c.completed_by-completed.ensures;
       none = c.is_none.result;
       none_is = c.is_none.ensures;
       group = new;
       ends_are = c.close_levels-closed.ensures.ends;
-      token = c.token_of.ensures;
+      token = T;
       key = refl;
       opens = c.put_key-opens.ensures.opens;
       levels = c.put_key-opens.ensures.levels;
@@ -55,7 +55,7 @@ returns-clause-laid g c =
           let m = ap (λ (ys : List group_t). length ys) kept in
           let o = length-append c.keep_early.new.queue.groups.items (new ∷ []) in
           omega arith);
-      done = e.done ∙ k.done;
+      done = y.done ∙ k.done;
       outer = c.keep_candidates.ensures.outer;
       top = c.keep_candidates.ensures.top;
       empty = c.keep_candidates.ensures.empty;

@@ -5,8 +5,7 @@ use Rattle.yaml_scan.proofs.RunningQueue.GroupTokens.{count_is, keys_few, starts
 use Rattle.yaml_scan.proofs.target.has_room_for.Goals as goal
 
 pub returns : goal.returns
-returns g c = λ e w after t.
-    let y = c.args.group.now in
+returns g c = λ e w y after E T t.
     let n = count_is y in
     let i = starts_few y.opens in
     let j = keys_few y.key in

@@ -1,10 +1,9 @@
 use Rattle.std.proofs.Common.{rules, ◌<◌, ◌^◌, length, leb-true, arith}
-use Rattle.yaml_text.specs.Token.{data_of}
-use Rattle.yaml_c.proofs.TokensPut.{Fits, have_put, said_is, same_sizes, texts_are}
+use Rattle.yaml_c.proofs.TokensPut.{Fits, have_put, same_sizes, texts_are}
 use Rattle.yaml_c.proofs.sink.Token_rooms_tyaml_token_sink_t.has_room.Goals as goal
 
-pub returns-then-count-tokens : goal.returns-then-count-tokens
-returns-then-count-tokens c = λ e within tokens after few short put.
+pub returns-then-count-records : goal.returns-then-count-records
+returns-then-count-records c = λ e within tokens after few short put.
     let a = c.args.self.now in
     let one : length a.tokens.now < 2 ^ 63 = search rules in
     let two : length a.texts.now < 2 ^ 63 = search rules in
@@ -13,8 +12,7 @@ returns-then-count-tokens c = λ e within tokens after few short put.
     let q = same_sizes a after tokens p in
     let t = texts_are tokens in
     let n = leb-true _ _ e in
-    let d = said_is (data_of c.args.said.now) in
     record {
-      few = omega (arith, p.token_count, q.0, within.few, few, c.if-count-tokens.true, c.saturating_sub-tokens.ensures);
-      fit = omega (arith, p.text_len, q.1, within.fit, short, t, n, d, c.texts_len.ensures, c.saturating_sub-texts.ensures);
+      few = omega (arith, p.token_count, q.0, within.few, few, c.if-count-records.true, c.saturating_sub-records.ensures);
+      fit = omega (arith, p.text_len, q.1, within.fit, short, t, n, c.saturating_sub-bytes.ensures);
     }
