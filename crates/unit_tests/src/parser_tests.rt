@@ -338,3 +338,35 @@ fn tokens_go_to_a_sink_with_room(rt: HostRuntime) -> Result<(), Fail> {
     }
     Ok(())
 }
+
+/// How many tokens went to a sink in the first two calls.
+fn put_in_two(alloc: Global, input: &[u8], room: u128) -> Result<usize, Fail> {
+    let any = yaml_encoding_t::YAML_ANY_ENCODING;
+    let mut parser = yaml_parser_t::new(alloc, input, any);
+    let mut shelf = shelf_t {
+        room,
+        tokens: 0,
+        bytes: 0,
+    };
+    'calls: for _ in 0..2 {
+        match yaml_scan_next_to(&mut parser, &mut shelf) {
+            Ok(_) => {}
+            Err(_) => return Err("a fault".into()),
+        }
+    }
+    Ok(shelf.tokens)
+}
+
+/// The start of the stream goes to a sink alone. Then go all tokens that waited for the one that decides whether a flow
+/// sequence is a key, and with a key the start of a block mapping, the key and the value's mark too. Of a sink that has
+/// room for one of them alone, each call gives it one.
+#[test]
+fn waiting_tokens_go_to_a_sink_at_once(rt: HostRuntime) -> Result<(), Fail> {
+    let sequence: &[u8] = b"[a, b, c]";
+    let key: &[u8] = b"[a]: b";
+    for (input, room, put) in [(sequence, 3, 8), (key, 3, 7), (sequence, 1, 2), (key, 1, 2)] {
+        let tokens = put_in_two(rt.alloc(), input, room)?;
+        assert_eq!(rt; tokens, put, "{room}");
+    }
+    Ok(())
+}

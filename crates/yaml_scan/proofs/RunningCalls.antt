@@ -25,3 +25,8 @@ pub mod KeptParser
 pub mod SentTokens
 -- Several scans at once: the tokens that a sink was given are those that as many scans return.
 pub mod SeveralScans
+-- No token of the group at the head of the queue waits, if it is not that of the candidate which is awaited, and taking
+-- the group leaves the rest.
+pub mod HeadGroup
+-- Tokens of the queue that were given to a sink are those that as many scans return, which make no step more.
+pub mod DrainedTokens

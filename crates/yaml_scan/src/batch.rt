@@ -1,5 +1,5 @@
 //! The next tokens of a parser, given to a sink while it has room for them.
-ghost use Rattle.std.specs.Prelude.{◌≡◌, [], List, IfErr, IfOk, true, false, ◌⊎◌, Some};
+ghost use Rattle.std.specs.Prelude.{◌≡◌, ◌∷◌, [], List, IfErr, IfOk, true, false, ◌⊎◌, Some};
 ghost use Rattle.yaml_text.specs.Fault.{fault_of};
 ghost use Rattle.yaml_text.specs.Token.{Token, token_of};
 ghost use Rattle.yaml_scan.specs.All.{ReadsAll};
@@ -9,18 +9,22 @@ ghost use Rattle.yaml_scan.specs.Headline.{Calls};
 ghost use Rattle.yaml_scan.specs.Session.Call.{SCAN};
 ghost use Rattle.yaml_scan.specs.Session.Answer.{FAULT};
 ghost use Rattle.yaml_scan.specs.inside.Ready.{IsReady};
-ghost use Rattle.yaml_scan.specs.inside.Scanning.{IsOpen, IsRunning};
-ghost use Rattle.yaml_scan.specs.Words.{HasWords};
-ghost use Rattle.yaml_scan.specs.inside.Sent.{HasSentOrSettled, IsPutOrReturned, SendsOrSettles};
+ghost use Rattle.yaml_scan.specs.inside.Scanning.{IsOpen, IsRunning, groups_in};
+ghost use Rattle.yaml_scan.specs.Words.{HasWords, HaveWords};
+ghost use Rattle.yaml_scan.specs.inside.Given.{told_all};
+ghost use Rattle.yaml_scan.specs.inside.Handed.{group_tokens};
+ghost use Rattle.yaml_scan.specs.inside.Sent.{Drains, DrainsOrStays, HasSentOrSettled, IsPutOrReturned, IsReadyGroup};
+ghost use Rattle.yaml_scan.specs.inside.Sent.{SendsOrSettles};
 
 use crate::fault::{fault_at, stop_t};
+use crate::groups::group_t;
 use crate::parser::{start, take_head, yaml_parser_t};
 use crate::scanned::yaml_scan_next;
 use crate::scanner::scanner_t;
 use crate::session::{end, is_stream_end, pass};
 use crate::settled::is_settled;
 use crate::step::step_to;
-use crate::target::{said_len, yaml_token_sink_t};
+use crate::target::{count_of, give_group, has_room_for, said_len, yaml_token_sink_t};
 use yaml_text::{yaml_encoding_t, yaml_fault_t, yaml_token_t};
 
 /// Makes steps until the head of the queue is the next token, or until the tokens of a step went to the sink. Returns
@@ -46,8 +50,66 @@ fn send_or_settle<S: yaml_token_sink_t>(
     Ok(true)
 }
 
+/// Whether all tokens of the group at the head of the queue are settled, and the sink has room for them. The stream end
+/// is not among them.
+#[inline(always)]
+fn is_ready<S: yaml_token_sink_t>(scanner: &scanner_t, sink: &S) -> bool
+    requires runs { IsRunning scanner.now }
+    ensures { result ≡ true → (y : group_t) × IsReadyGroup scanner.now y
+        × (S.within sink.now → (after : S) → S.took sink.now (group_tokens y) after → S.within after) }
+{
+    let queue = &scanner.layout.queue;
+    if queue.early > 0 || scanner.slots.awaited == queue.done + 1 {
+        return false;
+    }
+    match queue.groups.front() {
+        Some(head) => !is_stream_end(&head.token) && has_room_for(sink, head.ends, said_len(&head.token.token_data)),
+        None => false,
+    }
+}
+
+/// Takes the group at the head of the queue.
+#[inline(always)]
+fn take_group(scanner: &mut scanner_t) -> group_t
+    requires runs { IsRunning scanner.old }
+    requires still_open { IsOpen scanner.old }
+    requires ready { (y : group_t) × IsReadyGroup scanner.old y }
+    requires words { HaveWords (told_all scanner.old) }
+    ensures head { groups_in scanner.old ≡ result ∷ groups_in scanner.new }
+    ensures drains { Drains scanner.old scanner.new (group_tokens result) }
+    ensures words { HasWords (token_of result.token).token_data }
+{
+    let group = scanner.layout.queue.groups.pop_front().unwrap();
+    scanner.layout.queue.done += 1;
+    scanner.taken += count_of(&group);
+    group
+}
+
+/// Gives groups from the head of the queue to a sink, while all tokens of the group there are settled and the sink has
+/// room for them. Returns whether it gave any.
+#[inline(always)]
+fn drain<S: yaml_token_sink_t>(scanner: &mut scanner_t, sink: &mut S) -> bool
+    requires runs { IsRunning scanner.old }
+    requires still_open { IsOpen scanner.old }
+    requires words { HaveWords (told_all scanner.old) }
+    requires takes { S.may_refuse → ⊥ }
+    ensures drains { DrainsOrStays scanner.old scanner.new (λ tokens. S.took sink.old tokens sink.new) result }
+    ensures within { S.within sink.old → S.within sink.new }
+{
+    let mut any = false;
+    'groups: while is_ready(scanner, sink) {
+        let group = take_group(scanner);
+        match give_group(sink, group) {
+            Ok(_) => any = true,
+            Err(_) => unreachable!(),
+        }
+    }
+    any
+}
+
 /// Makes the first step, if it was not made, and the steps that the next token needs, or has the tokens of a step go to
-/// the sink. Returns whether none went there.
+/// the sink. Once the next token is in the queue, it goes there with all of its group, and so do those after it, if they
+/// need not wait either. Returns whether no token went there.
 #[inline(always)]
 fn send<'a, S: yaml_token_sink_t>(
     scanner: &mut scanner_t<'a>,
@@ -55,13 +117,17 @@ fn send<'a, S: yaml_token_sink_t>(
     setting: yaml_encoding_t,
     sink: &mut S,
 ) -> Result<bool, stop_t>
-    requires { IsReady setting input.now scanner.old }
+    requires ready { IsReady setting input.now scanner.old }
+    requires takes { S.may_refuse → ⊥ }
     ensures sends { HasSentOrSettled setting input.now scanner.old scanner.new
         (λ tokens. S.took sink.old tokens sink.new) S.may_refuse result }
     ensures within { IfOk result (λ _. S.within sink.old → S.within sink.new) }
 {
     start(scanner, input, setting)?;
-    send_or_settle(scanner, sink)
+    if !send_or_settle(scanner, sink)? {
+        return Ok(false);
+    }
+    Ok(!drain(scanner, sink))
 }
 
 /// A token that is returned. This is called and not inlined, since else what goes to the sink is put together a few
@@ -91,9 +157,10 @@ fn put_or_return<S: yaml_token_sink_t>(sink: &mut S, token: yaml_token_t) -> Opt
     }
 }
 
-/// Takes the next tokens, at least one. They go to the sink, and nothing is returned: those of a step if they need not
-/// wait and the sink has room for all of them, and else the next token alone. If the sink has no room for that token,
-/// or if it is the stream end, the token is returned, and the sink was given none.
+/// Takes the next tokens, at least one. They go to the sink, and nothing is returned. They are those of a step if they
+/// need not wait, or those of steps that have waited and need not any more, while the sink has room for all tokens of a
+/// step. Else the next token goes there alone. If the sink has no room for that token, or if it is the stream end, the
+/// token is returned, and the sink was given none.
 ///
 /// If a new parser is asked so again and again, the tokens that the sink got and those that were returned are together
 /// those that [`yaml_scan_to`](crate::yaml_scan_to) gives, in order, to the stream end or before the fault. The stream

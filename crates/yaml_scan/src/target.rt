@@ -198,7 +198,7 @@ fn give_leads<S: yaml_token_sink_t>(sink: &mut S, group: &group_t) -> Result<(),
 
 /// Gives all that a group hands out to a sink.
 #[inline(always)]
-fn give_group<S: yaml_token_sink_t>(sink: &mut S, group: group_t) -> Result<(), stop_t>
+pub(crate) fn give_group<S: yaml_token_sink_t>(sink: &mut S, group: group_t) -> Result<(), stop_t>
     requires { HasWords (token_of group.token).token_data }
     ensures { Gives (λ tokens. S.took sink.old tokens sink.new) S.may_refuse (group_tokens group) result }
 {
@@ -242,7 +242,7 @@ fn keys_of(key: bool) -> u128
 
 /// How many tokens a group hands out.
 #[inline(always)]
-fn count_of(group: &group_t) -> u128
+pub(crate) fn count_of(group: &group_t) -> u128
     ensures { result ≡ length (group_tokens group.now) }
 {
     group.ends as u128 + starts_of(group.opens) + keys_of(group.key) + 1

@@ -133,7 +133,7 @@ pub all_fit : (s : scanner_t) → IsRunning s → AllFit (course_of s).read
 all_fit s r = all_fit_with s (groups_in s) (runs_with s r)
 
 -- the token of the stream end is the last one
-end_is_told : (e : yaml_encoding_t) (H : List Laid) (n : ℕ) → ended H ≡ true → AllFit H → n < length (offline H) → list_any is_end (map (handed_out e) (drop n (offline H))) ≡ true
+pub end_is_told : (e : yaml_encoding_t) (H : List Laid) (n : ℕ) → ended H ≡ true → AllFit H → n < length (offline H) → list_any is_end (map (handed_out e) (drop n (offline H))) ≡ true
 end_is_told e [] n q f l = absurd (false≢true q)
 end_is_told e (i ∷ H) n q f l =
     let front : List Token = groups (i ∷ H) H ++ (block_ends i ++ inserted (i ∷ H) i) in

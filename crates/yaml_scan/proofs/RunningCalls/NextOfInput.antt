@@ -334,13 +334,15 @@ history_length s r = oldest_length (course_of s).read (s.made - 1) (inside s r)
 few_are_few : (t n : ℕ) → t ≤ 4 * (n + 3) → n < 9223372036854775808 → t + 4 ≤ 2 ^ 100
 few_are_few t n l m = omega arith
 
-pub few_taken : (s : scanner_t) → IsRunning s → s.taken + 4 ≤ 2 ^ 100
-few_taken s r =
-    let a = r.holds.taken in
+pub few_settled : (s : scanner_t) → IsRunning s → length (before s.limit (history s)) + 4 ≤ 2 ^ 100
+few_settled s r =
     let b = length-begins _ _ (before-offline s.limit (history s) r.holds.is_history) in
     let c = four_tokens_a_step s.limit (history s) r.holds.is_history in
     let d = history_length s r in
     let e = read_short s r in
     let f = inside s r in
     let g = r.small in
-    few_are_few s.taken (length s.text.chars) (omega arith) (omega arith)
+    few_are_few (length (before s.limit (history s))) (length s.text.chars) (omega arith) (omega arith)
+
+pub few_taken : (s : scanner_t) → IsRunning s → s.taken + 4 ≤ 2 ^ 100
+few_taken s r = let a = r.holds.taken in let b = few_settled s r in omega arith

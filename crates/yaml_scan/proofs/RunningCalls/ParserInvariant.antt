@@ -1,5 +1,5 @@
 -- What a call keeps: how many steps wait, and that they are few.
-use Rattle.std.proofs.Common.{◌≡◌, ℕ, ◌+◌, ◌≤◌, ◌<◌, List, length, refl, ap, sym, ◌∙◌, subst, arith, inl, inr}
+use Rattle.std.proofs.Common.{◌≡◌, ℕ, ◌+◌, ◌-◌, ◌≤◌, ◌<◌, List, length, refl, ap, sym, ◌∙◌, subst, arith, inl, inr}
 use Rattle.std.specs.Prelude.{◌⊎◌}
 use Rattle.yaml_text.specs.declared.types.yaml_encoding_t.{yaml_encoding_t}
 use Rattle.yaml_scan.specs.Course.{Course}
@@ -13,11 +13,12 @@ use Rattle.yaml_scan.specs.Settled.{pace, first_steps}
 use Rattle.yaml_scan.specs.Decoded.{decoded_input}
 use Rattle.yaml_scan.specs.inside.Scanning.{history}
 use Rattle.yaml_scan.specs.inside.Ready.{IsIn, IsReady, IsSettled, IsStopped, Pops, course_in}
+use Rattle.yaml_scan.specs.inside.Sent.{HasSent}
 use Rattle.yaml_scan.proofs.Course.CourseSteps.{course_is_history}
 use Rattle.yaml_scan.proofs.Course.InputLaws.{inputs_keep_order}
 use Rattle.yaml_scan.proofs.Course.StepsNeeded.{at_most}
 use Rattle.yaml_scan.proofs.RunningCalls.ToNextToken.{course_is}
-use Rattle.yaml_scan.proofs.RunningQueue.StepsWaiting.{waiting_at, waiting_new, waiting_more, waiting_fewer, some_made, few_wait_on}
+use Rattle.yaml_scan.proofs.RunningQueue.StepsWaiting.{waiting_at, waiting_new, waiting_more, waiting_fewer, waiting_later, some_made, few_wait_on}
 
 -- so many steps wait, d steps do not, and they are few
 pub record Keeps (limit : ℕ) (H : List Laid) (n t d : ℕ) : Type 0 where
@@ -96,11 +97,24 @@ module _ (setting : yaml_encoding_t) (input : List ℕ) (s : scanner_t) where
       let l = p.limit in
       record { queued = omega arith; few = omega arith }
 
-  -- what was made was all given to a sink
-  pub keeps_sent : (u : scanner_t) → IsIn setting input u → u.layout.queue.done ≡ u.made → queued (history u) u.taken (history u) + u.layout.queue.done ≡ u.made → Keeps u.limit (course_in u.limit setting input).read u.made u.taken u.layout.queue.done
+  -- tokens were given to a sink
+  pub keeps_sent : (u : scanner_t) (tokens : List yaml_token_t) → HasSent setting input s u tokens → (n : ℕ) → Keeps s.limit H s.made s.taken n → queued (history u) u.taken (history u) + u.layout.queue.done ≡ u.made
+      → Keeps u.limit (course_in u.limit setting input).read u.made u.taken u.layout.queue.done
   unfolding history
-  keeps_sent u i z q =
+  keeps_sent u tokens k n w q =
+      let i = k.stands in
       let c = course_is setting input u i.reads in
       let a = ap (λ (y : Course). queued (first_steps u.made y.read) u.taken (first_steps u.made y.read)) c in
       let b = some_made (course_in u.limit setting input).read u.made u.taken i.runs.begun in
+      let some = k.some in
+      let taken = k.taken in
+      let f = waiting_later H s.made s.taken (length tokens - 1) in
+      let e = ap (λ (x : ℕ). waiting_at H s.made x) (let z : s.taken + (length tokens - 1) ≡ u.taken - 1 = omega arith in z) in
+      let few = w.few in
+      let m = k.made in
+      let g = few_wait_on s.limit H read_is_history s.made u.made (u.taken - 1) k.least (omega arith) (omega arith) in
+      let l = waiting_fewer H u.made (u.taken - 1) in
+      let d = ap (λ (x : ℕ). waiting_at H u.made x) (let z : u.taken - 1 + 1 ≡ u.taken = omega arith in z) in
+      let z : waiting_at (course_in u.limit setting input).read u.made u.taken ≡ waiting_at H u.made u.taken = rw k.limit refl in
+      let v = k.limit in
       record { queued = omega arith; few = omega arith }

@@ -164,7 +164,6 @@ module _ (a s : scanner_t) (g : Goes a s) (o : IsOpen a) (l : length (before s.l
               let v = last_has in
               let q = p.1 in let n = e.made in let z = g.least in
               omega arith);
-          done = (let k = h.runs.holds.count in let v = history_length t h.runs in let w = ap (λ (ys : List group_t). length ys) e.groups in let b = h.runs.begun in omega arith);
           no_end = e.all.no_end;
         }
 

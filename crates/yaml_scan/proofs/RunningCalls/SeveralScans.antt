@@ -107,7 +107,7 @@ module _ (limit : ℕ) (c : Course) (N : ℕ) (e : yaml_encoding_t) (f : TokensF
         subst (λ (k : ℕ). AreNext limit c N k xs) (let d : length (front ++ x ∷ []) ≡ length front + 1 = omega arith in d) r,
       )
 
-take-more : (n m : ℕ) (xs : List Token) → take (n + m) xs ≡ take n xs ++ take m (drop n xs)
+pub take-more : (n m : ℕ) (xs : List Token) → take (n + m) xs ≡ take n xs ++ take m (drop n xs)
 take-more zero m xs = let e : 0 + m ≡ m = omega arith in rw e refl
 take-more (suc n) m [] = let e : suc n + m ≡ suc (n + m) = omega arith in rw e (none m)
   where

@@ -113,6 +113,5 @@ module _ (setting : yaml_encoding_t) (input : List ℕ) (s t u : scanner_t) (b :
         let m = b.made in
         let n = k.made in
         omega arith);
-    done = k.done;
     no_end = k.no_end;
   }

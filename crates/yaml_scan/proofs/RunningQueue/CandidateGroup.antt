@@ -248,13 +248,13 @@ same_made (a ∷ cs) [] x y r s p q l m e = absurd (let z : a ≡ y = cc in fals
 same_made (a ∷ cs) (b ∷ bs) x y r s p q l m e = let t : cs ++ x ∷ r ≡ bs ++ y ∷ s = cc in let u : a ≡ b = cc in let v = same_made cs bs x y r s p.1 q.1 l m t in (ap (λ (z : Token). z ∷ cs) u ∙ ap (λ (z : List Token). b ∷ z) v.0, v.1)
 
 -- a whole list that begins otherwise than with nothing begins with what is made and that token
-record Splits (a : List Token) (x : Token) (r w q : List Token) : Type 0 where
-  more : List Token
-  is : w ≡ a ++ x ∷ more
+pub record Splits (a : List Token) (x : Token) (r w q : List Token) : Type 0 where
+  pub more : List Token
+  pub is : w ≡ a ++ x ∷ more
   is_whole : IsWhole more
   rest : r ≡ more ++ q
 
-split_made : (a : List Token) (x : Token) (r : List Token) (w q : List Token) → AreMade a → is_of_lexeme x ≡ true → IsWhole w → 0 < count w → a ++ x ∷ r ≡ w ++ q → Splits a x r w q
+pub split_made : (a : List Token) (x : Token) (r : List Token) (w q : List Token) → AreMade a → is_of_lexeme x ≡ true → IsWhole w → 0 < count w → a ++ x ∷ r ≡ w ++ q → Splits a x r w q
 split_made a x r [] q p l u n e = absurd (omega arith)
 split_made [] x r (y ∷ w) q p l u n e = record { more = w; is = (let z : y ≡ x = cc in ap (λ (t : Token). t ∷ w) z); is_whole = whole_tail y w u; rest = cc }
 split_made (a ∷ cs) x r (y ∷ w) q p l u n e =

@@ -1,6 +1,10 @@
 -- What a group hands out, and that a sink was given it token by token.
 use Rattle.std.proofs.Common.{◌≡◌, ℕ, zero, suc, ◌+◌, ◌≤◌, ◌<◌, Bool, true, false, List, [], ◌∷◌, ◌++◌, length, length-append, append-nil, append_assoc, Ok, Err, refl, ap, sym, ◌∙◌, subst, arith}
 use Rattle.std.specs.Prelude.{Result, if◌then◌else◌}
+use Rattle.std.specs.List.{list_any}
+use Rattle.std.proofs.lemmas.Bool.{false≢true}
+use Rattle.std.proofs.lemmas.List.Folds.{list_any-append}
+use Rattle.yaml_text.specs.declared.types.yaml_encoding_t.TheVariants.{YAML_UTF8_ENCODING}
 use Rattle.yaml_text.specs.declared.types.yaml_mark_t.{yaml_mark_t}
 use Rattle.yaml_text.specs.Token.{token_of}
 use Rattle.yaml_text.specs.Token.{TokenData as says}
@@ -9,11 +13,13 @@ use Rattle.yaml_scan.specs.declared.groups.block_t.{block_t}
 use Rattle.yaml_scan.specs.declared.groups.block_t.TheVariants.{NONE, SEQUENCE, MAPPING}
 use Rattle.yaml_scan.specs.declared.groups.group_t.{group_t}
 use Rattle.yaml_scan.specs.Begins.{Begins}
-use Rattle.yaml_scan.specs.Groups.{Token}
-use Rattle.yaml_scan.specs.Groups.Token.{BlockEnd, InsertedKey}
+use Rattle.yaml_scan.specs.Groups.{Token, handed_out}
+use Rattle.yaml_scan.specs.Groups.Token.{StreamStart, BlockEnd, BlockSequenceStart, BlockMappingStart, InsertedKey, OfLexeme}
+use Rattle.yaml_scan.specs.Laws.{is_of_lexeme}
 use Rattle.yaml_scan.specs.Token.{yaml_token_t, at_mark}
-use Rattle.yaml_scan.specs.inside.Handed.{Gives, IsCut, group_tokens, keys_of, starts_of, told_leads}
+use Rattle.yaml_scan.specs.inside.Handed.{Gives, IsCut, group_tokens, is_end, keys_of, starts_of, told_leads}
 use Rattle.yaml_scan.specs.inside.Queue.{ends_at, leads, start_at}
+use Rattle.yaml_scan.proofs.RunningQueue.CandidateGroup.{AreMade, leads_made}
 
 -- BLOCK ENDS
 abbrev block_end : yaml_mark_t → yaml_token_t
@@ -31,7 +37,7 @@ ends_within (suc k) (suc n) m l = let b = ends_within k n m (omega arith) in rec
 
 pub told_append : (xs ys : List Token) → told_leads (xs ++ ys) ≡ told_leads xs ++ told_leads ys
 told_append [] ys = refl
-told_append (x ∷ xs) ys = ap (λ (zs : List yaml_token_t). Rattle.yaml_scan.specs.Groups.handed_out Rattle.yaml_text.specs.declared.types.yaml_encoding_t.TheVariants.YAML_UTF8_ENCODING x ∷ zs) (told_append xs ys)
+told_append (x ∷ xs) ys = ap (λ (zs : List yaml_token_t). handed_out YAML_UTF8_ENCODING x ∷ zs) (told_append xs ys)
 
 -- HOW MANY
 pub ends_count : (n : ℕ) (m : yaml_mark_t) → length (ends_at n m) ≡ n
@@ -71,6 +77,25 @@ count_is y =
     let f = told_count (leads y) in
     let g = length-append (told_leads (leads y)) (token_of y.token ∷ []) in
     omega arith
+
+pub group_some : (y : group_t) → 0 < length (group_tokens y)
+group_some y = let a = count_is y in omega arith
+
+-- NO STREAM END
+made_no_end : (x : Token) → is_of_lexeme x ≡ false → is_end (handed_out YAML_UTF8_ENCODING x) ≡ false
+made_no_end StreamStart e = refl
+made_no_end (BlockEnd m) e = refl
+made_no_end (BlockSequenceStart m) e = refl
+made_no_end (BlockMappingStart m) e = refl
+made_no_end (InsertedKey m) e = refl
+made_no_end (OfLexeme x) e = absurd (false≢true (sym e))
+
+no_end_leads : (xs : List Token) → AreMade xs → list_any is_end (told_leads xs) ≡ false
+no_end_leads [] a = refl
+no_end_leads (x ∷ xs) a = rw (made_no_end x a.0, no_end_leads xs a.1) refl
+
+pub group_no_end : (y : group_t) → is_end (token_of y.token) ≡ false → list_any is_end (group_tokens y) ≡ false
+group_no_end y e = list_any-append is_end (told_leads (leads y)) (token_of y.token ∷ []) ∙ (rw (no_end_leads (leads y) (leads_made y), e) refl)
 
 -- A SINK
 begins_longer : (xs ys zs : List yaml_token_t) → Begins xs ys → Begins xs (ys ++ zs)

@@ -31,10 +31,10 @@ module _ (limit : ℕ) (H : List Laid) (h : IsHistory limit H) (t : ℕ) (l : t 
   none_open r m = open_head m (λ k c s v o e. not_held k c s v (r.below k (omega arith)))
 
   module _ (r : IsLowest limit H (depth H + 1)) where
-    here : IsHeld limit H r.at r.here
+    pub here : IsHeld limit H r.at r.here
     here = held_is limit H r.at r.here r.is
 
-    lowest_open : (t ≡ length (up_to H (Some here.laid)) → ⊥) → t < length (offline H) → t < length (before limit H)
+    pub lowest_open : (t ≡ length (up_to H (Some here.laid)) → ⊥) → t < length (offline H) → t < length (before limit H)
     lowest_open n m = open_head m (λ k c s v o e. elim (cases_lt k r.at) [
       | inl a ↦ not_held k c s v (r.below k a)
       | inr a ↦ elim (cases_eq k r.at) [

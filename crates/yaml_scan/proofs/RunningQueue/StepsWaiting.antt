@@ -90,6 +90,14 @@ some_made H n t l = elim (cases_Bool (eqb n 0)) [ inl q ↦ (let e = eqb-true n 
 pub waiting_fewer : (H : List Laid) (n t : ℕ) → waiting_at H n (t + 1) ≤ waiting_at H n t
 waiting_fewer H n t = elim (cases_Bool (eqb n 0)) [ inl q ↦ rw q (omega arith) | inr q ↦ rw q (queued_fewer (first_steps n H) (first_steps n H) t) ]
 
+pub waiting_later : (H : List Laid) (n t k : ℕ) → waiting_at H n (t + k) ≤ waiting_at H n t
+waiting_later H n t zero = let e = ap (λ (x : ℕ). waiting_at H n x) (let z : t + 0 ≡ t = omega arith in z) in omega arith
+waiting_later H n t (suc k) =
+    let e = ap (λ (x : ℕ). waiting_at H n x) (let z : t + suc k ≡ t + k + 1 = omega arith in z) in
+    let f = waiting_fewer H n (t + k) in
+    let r = waiting_later H n t k in
+    omega arith
+
 module _ (limit : ℕ) (H : List Laid) (h : IsHistory limit H) where
   first_history : (n : ℕ) → n ≤ length H + 1 → IsHistory limit (first_steps n H)
   first_history n l = let s = split H (n - 1) (omega arith) in older limit s.0 (first_steps n H) (subst (λ (X : List Laid). IsHistory limit X) s.1 h)

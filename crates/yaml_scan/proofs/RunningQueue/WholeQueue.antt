@@ -47,7 +47,7 @@ module _ (e : yaml_encoding_t) where
   key_told true m = refl
   key_told false m = refl
 
-  leads_told : (y : group_t) → hand_out (leads y) ≡ told_leads (leads y)
+  pub leads_told : (y : group_t) → hand_out (leads y) ≡ told_leads (leads y)
   leads_told y =
       let m = y.token.start_mark in
       let start = start_at y.opens m in
@@ -56,7 +56,7 @@ module _ (e : yaml_encoding_t) where
       ap (λ (z : List yaml_token_t). told_leads (ends_at y.ends m) ++ z) (sym (map-append _ start key)) ∙ sym (map-append _ (ends_at y.ends m) (start ++ key))
       )
 
-  none_early : (front : yaml_mark_t) (ys : List group_t) (y : group_t) → pending 0 front (y ∷ ys) ≡ leads y
+  pub none_early : (front : yaml_mark_t) (ys : List group_t) (y : group_t) → pending 0 front (y ∷ ys) ≡ leads y
   none_early front [] y = refl
   none_early front (z ∷ ys) y = refl
 

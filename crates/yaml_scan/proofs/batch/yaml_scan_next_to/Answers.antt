@@ -34,7 +34,7 @@ invariant_of-parser-then-not-settled g c =
     let t = c.send.new.scanner in
     let w = subst (λ (b : Bool). HasSentOrSettled i.setting i.input.now i.scanner t (λ ts. g.S.yaml_token_sink_t.took c.args.sink.now ts c.send.new.sink) g.S.yaml_token_sink_t.may_refuse (Ok b)) c.if-not-settled.true c.in-Ok-send.ensures.sends in
     let k = w.1 in
-    let n = keeps_sent i.setting i.input.now i.scanner t k.stands k.done (done_is t k.stands.runs) in
+    let n = keeps_sent i.setting i.input.now i.scanner t w.0 k i.scanner.layout.queue.done (record { queued = v.queued; few = v.few }) (done_is t k.stands.runs) in
     record {
       ready = λ n. inr (k.stands, k.still_open);
       peeked = λ n. absurd (false≢true (sym peeked ∙ n));
