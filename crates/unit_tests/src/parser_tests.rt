@@ -296,8 +296,8 @@ fn text_len(token: &yaml_token_t) -> usize {
     }
 }
 
-/// A block mapping with a sequence in it, whose end closes levels, a flow mapping as a key, and all styles of scalars.
-const MANY: &[u8] = b"a:\n  - [b, c]: dd\n  - 'e'\nf: |\n  gg\n{h: \"i\"}: j\n";
+/// A block mapping with a sequence in it, which ends at a key, flow collections as keys, and all styles of scalars.
+const MANY: &[u8] = b"a:\n  - [b, c]: dd\n  - 'e'\n[f]: |\n  gg\n{h: \"i\"}: j\n";
 
 /// The tokens that went to a sink and those that were returned, until the stream end, which is returned.
 fn shelved(alloc: Global, room: u128) -> Result<(shelf_t, usize, usize), Fail> {
@@ -330,10 +330,10 @@ fn shelved(alloc: Global, room: u128) -> Result<(shelf_t, usize, usize), Fail> {
 /// which is returned.
 #[test]
 fn tokens_go_to_a_sink_with_room(rt: HostRuntime) -> Result<(), Fail> {
-    for (room, put) in [(0, 0), (1, 34), (3, 34), (1000, 34)] {
+    for (room, put) in [(0, 0), (1, 36), (3, 36), (1000, 36)] {
         let (shelf, returned, bytes) = shelved(rt.alloc(), room)?;
         assert_eq!(rt; shelf.tokens, put, "{room}");
-        assert_eq!(rt; shelf.tokens.wrapping_add(returned), 35, "{room}");
+        assert_eq!(rt; shelf.tokens.wrapping_add(returned), 37, "{room}");
         assert_eq!(rt; shelf.bytes.wrapping_add(bytes), 13, "{room}");
     }
     Ok(())

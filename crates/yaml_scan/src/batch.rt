@@ -108,8 +108,8 @@ fn drain<S: yaml_token_sink_t>(scanner: &mut scanner_t, sink: &mut S) -> bool
 }
 
 /// Makes the first step, if it was not made, and the steps that the next token needs, or has the tokens of a step go to
-/// the sink. Once the next token is in the queue, it goes there with all of its group, and so do those after it, if they
-/// need not wait either. Returns whether no token went there.
+/// the sink. Once the next token is in the queue, it goes there with all of its group, and so do those after it, if
+/// they need not wait either. Returns whether no token went there.
 #[inline(always)]
 fn send<'a, S: yaml_token_sink_t>(
     scanner: &mut scanner_t<'a>,

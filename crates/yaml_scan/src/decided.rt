@@ -150,8 +150,8 @@ fn drop_candidate(slots: &mut slots_t, kind: yaml_lexeme_kind_t)
 }
 
 /// Lays the lexeme of a step, which was read to a mark, and what decides whether it is a key. Both start at the end of
-/// a gap. Returns how many levels end at the token of the lexeme, what it opens, and whether it is a key. What decides is
-/// a group alone.
+/// a gap. Returns how many levels end at the token of the lexeme, what it opens, and whether it is a key. What decides
+/// is a group alone.
 #[inline(always)]
 pub(crate) fn lay_decided(
     scanner: &mut scanner_t,

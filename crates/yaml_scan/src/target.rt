@@ -267,8 +267,8 @@ pub(crate) fn said_len(said: &unnamed_yaml_token_t_data) -> u128
     }
 }
 
-/// Whether a sink has room for the group of a token that has so many bytes of texts, and before which so many block ends
-/// are handed out.
+/// Whether a sink has room for the group of a token that has so many bytes of texts, and before which so many block
+/// ends are handed out.
 #[inline(always)]
 pub(crate) fn has_room_for<S: yaml_token_sink_t>(sink: &S, ends: usize, texts: u128) -> bool
     ensures { result ≡ true → S.within sink.now → (group : group_t) (after : S) → group.ends ≡ ends
