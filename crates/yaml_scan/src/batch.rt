@@ -63,7 +63,8 @@ fn is_ready<S: yaml_token_sink_t>(scanner: &scanner_t, sink: &S) -> bool
         return false;
     }
     match queue.groups.front() {
-        Some(head) => !is_stream_end(&head.token) && has_room_for(sink, head.ends, said_len(&head.token.token_data)),
+        Some(head) => !is_stream_end(&head.token)
+            && has_room_for(sink, head.ends, said_len(&head.token.token_data)),
         None => false,
     }
 }

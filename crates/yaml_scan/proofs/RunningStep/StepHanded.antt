@@ -1,7 +1,6 @@
 -- What was laid is handed on: into the queue, or straight to a sink.
 use Rattle.std.proofs.Common.{◌≡◌, ℕ, ◌+◌, ◌^◌, ◌≤◌, ◌<◌, not, Bool, true, false, List, [], ◌∷◌, ◌++◌, drop, length, length-append, length-drop, append-nil, append_assoc, Option, None, Some, Ok, Err, refl, ap, sym, ◌∙◌, subst, arith, inl, inr}
 use Rattle.std.specs.Prelude.{◌⊎◌, OnOk, Result}
-use Rattle.std.specs.List.{list_any}
 use Rattle.std.specs.VecDeque.{deque_capacity}
 use Rattle.std.proofs.lemmas.Bool.{false≢true}
 use Rattle.std.proofs.lemmas.List.Folds.{list_any-append}
@@ -15,10 +14,7 @@ use Rattle.yaml_scan.specs.declared.fault.stop_t.TheVariants.{SINK}
 use Rattle.yaml_scan.specs.declared.groups.group_t.{group_t}
 use Rattle.yaml_scan.specs.declared.groups.queue_t.{queue_t}
 use Rattle.yaml_scan.specs.declared.scanner.scanner_t.{scanner_t}
-use Rattle.yaml_text.specs.declared.types.yaml_encoding_t.TheVariants.{YAML_UTF8_ENCODING}
-use Rattle.yaml_scan.specs.Groups.{Token, handed_out, offline}
-use Rattle.yaml_scan.specs.Groups.Token.{StreamStart, BlockEnd, BlockSequenceStart, BlockMappingStart, InsertedKey, OfLexeme}
-use Rattle.yaml_scan.specs.Laws.{is_of_lexeme}
+use Rattle.yaml_scan.specs.Groups.{Token, offline}
 use Rattle.yaml_scan.specs.Kind.{Kind, is_stream_end}
 use Rattle.yaml_scan.specs.Laid.{Laid, Lexeme}
 use Rattle.yaml_scan.specs.Levels.{laid}
@@ -37,11 +33,10 @@ use Rattle.yaml_scan.specs.inside.Handed.{AllSettled, Empties, HandsOut, IsCut, 
 use Rattle.yaml_scan.specs.inside.Queue.{IsQueue, early_before, leads, pending}
 use Rattle.yaml_scan.specs.inside.Scanning.{AdvancesTwice, AdvancesWith, CanLayAll, HoldsWith, IsDecided, IsLaidBy, LaysTwo, counted, groups_in}
 use Rattle.yaml_scan.proofs.History.KindTests.{candidate_not_end, decider_not_end}
-use Rattle.yaml_scan.proofs.RunningQueue.CandidateGroup.{AreMade, leads_made}
 use Rattle.yaml_scan.specs.Sink.{said_len, texts_len}
 use Rattle.yaml_scan.specs.declared.groups.block_t.TheVariants.{NONE}
 use Rattle.yaml_scan.proofs.RunningQueue.GroupTexts.{group_len, texts_append}
-use Rattle.yaml_scan.proofs.RunningQueue.GroupTokens.{count_is, keys_few, starts_few, cut_after, cut_longer, told_count}
+use Rattle.yaml_scan.proofs.RunningQueue.GroupTokens.{count_is, group_no_end, group_some, keys_few, starts_few, cut_after, cut_longer, told_count}
 use Rattle.yaml_scan.proofs.TokenList.GroupSizes.{four_tokens_a_step}
 
 -- TOKENS OF GROUPS
@@ -70,25 +65,6 @@ few_tokens H n s ys h l z =
     let c = four_tokens_a_step s.limit H h.is_history in
     let d = h.number in
     omega arith
-
-group_some : (y : group_t) → 0 < length (group_tokens y)
-group_some y = let a = length-append (told_leads (leads y)) (token_of y.token ∷ []) in omega arith
-
--- no stream end is among what comes before a token
-made_no_end : (x : Token) → is_of_lexeme x ≡ false → is_end (handed_out YAML_UTF8_ENCODING x) ≡ false
-made_no_end StreamStart e = refl
-made_no_end (BlockEnd m) e = refl
-made_no_end (BlockSequenceStart m) e = refl
-made_no_end (BlockMappingStart m) e = refl
-made_no_end (InsertedKey m) e = refl
-made_no_end (OfLexeme x) e = absurd (false≢true (sym e))
-
-no_end_leads : (xs : List Token) → AreMade xs → list_any is_end (told_leads xs) ≡ false
-no_end_leads [] a = refl
-no_end_leads (x ∷ xs) a = rw (made_no_end x a.0, no_end_leads xs a.1) refl
-
-group_no_end : (y : group_t) → is_end (token_of y.token) ≡ false → list_any is_end (group_tokens y) ≡ false
-group_no_end y e = list_any-append is_end (told_leads (leads y)) (token_of y.token ∷ []) ∙ (rw (no_end_leads (leads y) (leads_made y), e) refl)
 
 -- THE SAME SCANNER WITH ANOTHER QUEUE
 queue_holds : (H : List Laid) (n : ℕ) (s : scanner_t) (zs : List group_t) (q : queue_t) → q.done ≡ s.layout.queue.done → q.early ≡ s.layout.queue.early → q.front ≡ s.layout.queue.front → HoldsWith H n s zs → HoldsWith H n (with_queue s q) zs

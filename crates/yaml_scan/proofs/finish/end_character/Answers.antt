@@ -53,5 +53,5 @@ overflow_add-scanner g c =
     let A = c.lay_alone-ends.ensures.laid x.token_data x.start_mark x.end_mark c.token_of.result (rw c.in-Ok.ensures.0 c.in-Ok.ensures.1) c.token_of.ensures in
     let s = c.check_reach.new.scanner in
     let l = few_made g.before s c.hand_keyless.new.scanner _ (λ ts. g.S.yaml_token_sink_t.took c.args.sink.now ts c.hand_keyless.new.sink) g.S.yaml_token_sink_t.may_refuse 1
-        (alone_handed g.before s c.lay_alone-ends.new.scanner _ c.args.step.kind c.lay_alone-ends.result.2 (group_with c.lay_alone-ends.result.0 c.lay_alone-ends.result.1 false c.token_of.result) A c.hand_keyless.new.scanner (λ ts. g.S.yaml_token_sink_t.took c.args.sink.now ts c.hand_keyless.new.sink) g.S.yaml_token_sink_t.may_refuse (Ok _) c.in-Ok-hand_keyless.ensures) A.few in
+    (alone_handed g.before s c.lay_alone-ends.new.scanner _ c.args.step.kind c.lay_alone-ends.result.2 (group_with c.lay_alone-ends.result.0 c.lay_alone-ends.result.1 false c.token_of.result) A c.hand_keyless.new.scanner (λ ts. g.S.yaml_token_sink_t.took c.args.sink.now ts c.hand_keyless.new.sink) g.S.yaml_token_sink_t.may_refuse (Ok _) c.in-Ok-hand_keyless.ensures) A.few in
     omega arith
