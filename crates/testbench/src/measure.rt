@@ -14,7 +14,7 @@ use yaml_lexeme::{
 use yaml_scan::{yaml_parser_scan, yaml_parser_t, yaml_scan_to, yaml_token_sink_t};
 use yaml_text::{
     unnamed_yaml_token_t_data, yaml_decode, yaml_decode_front, yaml_encoding_t, yaml_mark_t,
-    yaml_text_t, yaml_token_t,
+    yaml_scalar_style_t, yaml_text_t, yaml_token_t,
 };
 
 /// What is done with a text.
@@ -160,6 +160,25 @@ impl yaml_token_sink_t for counter_t {
     fn put(&mut self, _token: yaml_token_t) -> Result<(), AllocError> {
         self.tokens = self.tokens.wrapping_add(1);
         Ok(())
+    }
+
+    ghost copies = { true };
+
+    #[inline(always)]
+    fn copies(&self) -> bool {
+        true
+    }
+
+    #[inline(always)]
+    fn put_scalar(
+        &mut self,
+        _bytes: &[u8],
+        _len: usize,
+        _style: yaml_scalar_style_t,
+        _start: yaml_mark_t,
+        _end: yaml_mark_t,
+    ) {
+        self.tokens = self.tokens.wrapping_add(1);
     }
 
     #[inline(always)]

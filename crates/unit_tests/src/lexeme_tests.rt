@@ -4,8 +4,9 @@ use std::process::Abort;
 use std::test::Fail;
 use yaml_lexeme::{
     yaml_context_t, yaml_decider_at, yaml_gap, yaml_lexeme_at, yaml_lexeme_fault, yaml_lexeme_kind,
-    yaml_lexeme_kind_t, yaml_lexeme_t, yaml_read_block, yaml_read_character, yaml_read_lexeme,
-    yaml_read_plain, yaml_read_quoted, yaml_refusal_t, yaml_spot_t,
+    yaml_lexeme_kind_t, yaml_lexeme_t, yaml_plain_stretch, yaml_quoted_stretch, yaml_read_block,
+    yaml_read_character, yaml_read_lexeme, yaml_read_plain, yaml_read_quoted, yaml_refusal_t,
+    yaml_spot_t, yaml_stretch_t,
 };
 use yaml_text::{
     unnamed_yaml_token_t_data, yaml_decode, yaml_encoding_t, yaml_error_type_t, yaml_fault_t,
@@ -275,6 +276,39 @@ fn character_read(alloc: Global, bytes: &[u8], in_flow: bool) -> Result<String, 
         }
         _ => Ok(String::from_str(alloc, "no character")?),
     }
+}
+
+/// Length, end, reach and flag.
+fn show_stretch(alloc: Global, stretch: Option<yaml_stretch_t>) -> Result<String, Fail> {
+    let Some(stretch) = stretch else {
+        return Ok(String::from_str(alloc, "no stretch")?);
+    };
+    let (len, passed) = (stretch.len, stretch.passed_break);
+    let end = show_mark(alloc, stretch.end_mark)?;
+    let reach = show_mark(alloc, stretch.reach)?;
+    Ok(format!(in alloc; "{len} {end} {reach} {passed}")?)
+}
+
+/// The stretch of the plain or quoted scalar at the front of a text.
+fn stretch_read(alloc: Global, bytes: &[u8], context: yaml_context_t) -> Result<String, Fail> {
+    let Ok(text) = yaml_decode(alloc, bytes, ANY) else {
+        return Err("refused".into());
+    };
+    if let Some(column) = context.level
+        && column > text.bytes().len() as u64
+    {
+        return Ok(String::from_str(alloc, "no level")?);
+    }
+    let Some(kind) = yaml_lexeme_kind(&text, FRONT, context.depth > 0) else {
+        return Ok(String::from_str(alloc, "no kind")?);
+    };
+    let stretch = match kind {
+        yaml_lexeme_kind_t::PLAIN => yaml_plain_stretch(&text, FRONT, context),
+        yaml_lexeme_kind_t::SINGLE_QUOTED => yaml_quoted_stretch(&text, FRONT, true),
+        yaml_lexeme_kind_t::DOUBLE_QUOTED => yaml_quoted_stretch(&text, FRONT, false),
+        _ => return Ok(String::from_str(alloc, "no scalar")?),
+    };
+    show_stretch(alloc, stretch)
 }
 
 /// The kind at the front of a text, if it may decide there whether a scalar before it is a key.
@@ -1075,6 +1109,48 @@ fn characters_read(rt: HostRuntime) -> Result<(), Fail> {
     ];
     for (text, in_flow, want) in rows {
         let shown = character_read(alloc, text.as_bytes(), in_flow)?;
+        assert_eq!(rt; shown.as_str(), want, "{text}");
+    }
+    Ok(())
+}
+
+/// Plain scalars whose values stand in the text; and some that have two lines, or a `:` that is refused.
+#[test]
+fn plain_stretches(rt: HostRuntime) -> Result<(), Fail> {
+    let alloc = rt.alloc();
+    let rows: [(&str, u64, Option<u64>, &str); 8] = [
+        ("ab", 0, None, "2 2:0:2 2:0:2 false"),
+        ("a b: c", 0, None, "3 3:0:3 3:0:3 false"),
+        ("ab\nc", 0, Some(0), "2 2:0:2 3:1:0 true"),
+        ("\u{e9}, b]", 1, None, "2 2:0:1 2:0:1 false"),
+        ("a\nb", 0, None, "no stretch"),
+        ("a\n b", 0, Some(0), "no stretch"),
+        ("a:]", 1, None, "no stretch"),
+        ("[", 0, None, "no scalar"),
+    ];
+    for (text, depth, level, want) in rows {
+        let shown = stretch_read(alloc, text.as_bytes(), yaml_context_t { depth, level })?;
+        assert_eq!(rt; shown.as_str(), want, "{text}");
+    }
+    Ok(())
+}
+
+/// Quoted scalars whose values stand in the text; and some that have an escape, two lines or no end.
+#[test]
+fn quoted_stretches(rt: HostRuntime) -> Result<(), Fail> {
+    let alloc = rt.alloc();
+    let rows: [(&str, &str); 8] = [
+        ("'ab' ", "2 4:0:4 4:0:4 false"),
+        ("\"a b\"", "3 5:0:5 5:0:5 false"),
+        ("\"\u{e9}'\":", "3 5:0:4 5:0:4 false"),
+        ("''", "0 2:0:2 2:0:2 false"),
+        ("\"a\\tb\"", "no stretch"),
+        ("'it''s'", "no stretch"),
+        ("'a\nb'", "no stretch"),
+        ("\"a", "no stretch"),
+    ];
+    for (text, want) in rows {
+        let shown = stretch_read(alloc, text.as_bytes(), OUTSIDE)?;
         assert_eq!(rt; shown.as_str(), want, "{text}");
     }
     Ok(())

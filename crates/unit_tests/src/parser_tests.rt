@@ -9,7 +9,7 @@ use yaml_scan::{
 };
 use yaml_text::{
     unnamed_yaml_token_t_data, yaml_encoding_t, yaml_error_type_t, yaml_fault_t, yaml_mark_t,
-    yaml_token_t, yaml_token_type_t,
+    yaml_scalar_style_t, yaml_token_t, yaml_token_type_t,
 };
 
 fn scanned(parser: &mut yaml_parser_t) -> Result<yaml_token_t, Fail> {
@@ -271,6 +271,26 @@ impl yaml_token_sink_t for shelf_t {
         self.tokens = self.tokens.wrapping_add(1);
         self.bytes = self.bytes.wrapping_add(text_len(&token));
         Ok(())
+    }
+
+    ghost copies = { true };
+
+    #[inline(always)]
+    fn copies(&self) -> bool {
+        true
+    }
+
+    #[inline(always)]
+    fn put_scalar(
+        &mut self,
+        _bytes: &[u8],
+        len: usize,
+        _style: yaml_scalar_style_t,
+        _start: yaml_mark_t,
+        _end: yaml_mark_t,
+    ) {
+        self.tokens = self.tokens.wrapping_add(1);
+        self.bytes = self.bytes.wrapping_add(len);
     }
 
     fn room(&mut self, alloc: Global) -> Vec<u8> {

@@ -1,16 +1,18 @@
 //! Tokens as plain records.
 ghost use Rattle.std.specs.Prelude.{◌≡◌, true};
 ghost use Rattle.yaml_text.specs.Token.{data_of, token_of};
-ghost use Rattle.yaml_text.specs.Token.TokenData.{SCALAR};
 ghost use Rattle.yaml_c.specs.Record as records;
-ghost use Rattle.yaml_c.specs.Record.{record_of};
-ghost use Rattle.yaml_c.specs.Spelled.{Spelled};
+ghost use Rattle.yaml_c.specs.Record.{quote_len, record_of};
+ghost use Rattle.yaml_scan.specs.Sink.{scalar_token};
+ghost use Rattle.yaml_c.specs.Spelled.{Spelled, place_of};
 ghost use Rattle.yaml_c.specs.inside.Bare.{IsBare, with_marks};
 ghost use Rattle.yaml_c.specs.inside.Spelled.{spelled_of};
 
 use crate::numbers::{encoding_number, style_number, type_number};
 use crate::spelled::{NOWHERE, place_of, spelled_t};
-use yaml_scan::{unnamed_yaml_token_t_data, yaml_mark_t, yaml_scalar_style_t, yaml_token_t};
+use yaml_scan::{
+    unnamed_yaml_token_t_data, yaml_mark_t, yaml_scalar_style_t, yaml_token_t, yaml_token_type_t,
+};
 
 /// A place in a text.
 #[repr(C)]
@@ -148,19 +150,13 @@ fn input_at(spelled: spelled_t, token: &yaml_token_t) -> u64
     }
 }
 
-/// Where a scalar's value stands in the input as it is.
+/// Where a scalar's value stands in the input as it is. The scalar starts at an index.
 #[inline(always)]
-fn scalar_at(
-    spelled: spelled_t,
-    token: &yaml_token_t,
-    value: &[u8],
-    style: yaml_scalar_style_t,
-) -> u64
-    requires { (token_of token.now).token_data ≡ SCALAR value.now style }
-    ensures { result ≡ records.input_at (spelled_of spelled.entry) (token_of token.now) }
+fn scalar_at(spelled: spelled_t, index: u64, value: &[u8], style: yaml_scalar_style_t) -> u64
+    ensures { result ≡ place_of (spelled_of spelled.entry) value.now index (quote_len style) }
 {
     match quote_len(style) {
-        Some(len) => place_of(spelled, value, token.start_mark.index, len),
+        Some(len) => place_of(spelled, value, index, len),
         None => NOWHERE,
     }
 }
@@ -221,18 +217,24 @@ pub(crate) fn bare_record(text_at: u64, token: &yaml_token_t) -> bogzhami_token
 pub(crate) fn scalar_record(
     spelled: spelled_t,
     text_at: u64,
-    token: &yaml_token_t,
     value: &[u8],
     style: yaml_scalar_style_t,
+    start: yaml_mark_t,
+    end: yaml_mark_t,
 ) -> bogzhami_token
-    requires { (token_of token.now).token_data ≡ SCALAR value.now style }
-    ensures { result ≡ record_of (spelled_of spelled.entry) text_at (token_of token.now) }
+    ensures { result ≡ record_of (spelled_of spelled.entry) text_at (scalar_token value.now style start end) }
 {
     bogzhami_token {
+        token_type: type_number(yaml_token_type_t::YAML_SCALAR_TOKEN),
         detail: style_number(style),
+        major: 0,
+        minor: 0,
+        text_at,
         first_len: value.len() as u64,
-        input_at: scalar_at(spelled, token, value, style),
-        ..with_marks(text_at, token)
+        second_len: 0,
+        start_mark: mark_of(start),
+        end_mark: mark_of(end),
+        input_at: scalar_at(spelled, start.index, value, style),
     }
 }
 

@@ -1,5 +1,5 @@
 //! A caller's two rooms, as the sink of the tokens of an input.
-ghost use Rattle.std.specs.Prelude.{◌≡◌, ◌++◌, length};
+ghost use Rattle.std.specs.Prelude.{◌≡◌, true, ◌++◌, length};
 ghost use Rattle.yaml_text.specs.Token.{data_of};
 ghost use Rattle.yaml_c.specs.Record.{first_text, held, second_text};
 
@@ -12,7 +12,8 @@ use crate::spelled::spelled_t;
 use std::alloc::{AllocError, Global};
 use std::mem::replace;
 use yaml_scan::{
-    unnamed_yaml_token_t_data, yaml_fault_t, yaml_scalar_style_t, yaml_token_sink_t, yaml_token_t,
+    unnamed_yaml_token_t_data, yaml_fault_t, yaml_mark_t, yaml_scalar_style_t, yaml_token_sink_t,
+    yaml_token_t,
 };
 
 /// A room for records and a room for texts, and how much was put into each, also of what it had no room for.
@@ -50,7 +51,7 @@ impl<'a> token_rooms_t<'a> {
     ghost use Rattle.yaml_c.specs.Answer.{fault_texts};
     ghost use Rattle.yaml_c.specs.Room.{covered_from};
     ghost use Rattle.yaml_text.specs.Token.{token_of};
-    ghost use Rattle.yaml_text.specs.Token.TokenData.{SCALAR};
+    ghost use Rattle.yaml_scan.specs.Sink.{scalar_token};
     ghost use Rattle.yaml_c.specs.Record.{held};
     ghost use Rattle.yaml_c.specs.inside.Bare.{IsBare};
     ghost use Rattle.yaml_c.specs.inside.Sink.{IsBeside, IsPut};
@@ -89,11 +90,16 @@ impl<'a> token_rooms_t<'a> {
 
     /// Puts a scalar's record and its text.
     #[inline(always)]
-    fn put_scalar(&mut self, token: &yaml_token_t, value: &[u8], style: yaml_scalar_style_t)
-        requires { (token_of token.now).token_data ≡ SCALAR value.now style }
-        ensures { IsPut self.old (token_of token.now) self.new }
+    fn put_value(
+        &mut self,
+        value: &[u8],
+        style: yaml_scalar_style_t,
+        start: yaml_mark_t,
+        end: yaml_mark_t,
+    )
+        ensures { IsPut self.old (scalar_token value.now style start end) self.new }
     {
-        let record = scalar_record(self.spelled, self.text_len, token, value, style);
+        let record = scalar_record(self.spelled, self.text_len, value, style, start, end);
         put_record(self.tokens, self.token_count, record);
         put_bytes(self.texts, self.text_len, value);
         self.count_token(self.text_len.saturating_add(value.len() as u64));
@@ -136,7 +142,7 @@ impl<'a> token_rooms_t<'a> {
         ensures { IsPut self.old (token_of token) self.new }
     {
         if let unnamed_yaml_token_t_data::SCALAR { value, style } = &token.token_data {
-            self.put_scalar(&token, value.as_slice(), *style);
+            self.put_value(value.as_slice(), *style, token.start_mark, token.end_mark);
             self.spend(token);
             return;
         }
@@ -182,6 +188,25 @@ impl yaml_token_sink_t for token_rooms_t<'_> {
     fn put(&mut self, token: yaml_token_t) -> Result<(), AllocError> {
         self.put_token(token);
         Ok(())
+    }
+
+    ghost copies = { true };
+
+    #[inline(always)]
+    fn copies(&self) -> bool {
+        true
+    }
+
+    #[inline(always)]
+    fn put_scalar(
+        &mut self,
+        bytes: &[u8],
+        len: usize,
+        style: yaml_scalar_style_t,
+        start: yaml_mark_t,
+        end: yaml_mark_t,
+    ) {
+        self.put_value(&bytes[..len], style, start, end);
     }
 
     #[inline(always)]

@@ -30,5 +30,7 @@ pub mod NameBytes
 pub mod UriOctets
 -- The decimal digits of a version are read one by one.
 pub mod DirectiveNumbers
--- A lexeme of one character begins with one of ASCII that is no break.
+-- Scalars whose value stands in the text are the lexemes of the definitions, and their values are within the text.
+pub mod Stretches
+-- A lexeme of one character begins with one of ASCII that is no break, and a quoted scalar with its quote.
 pub mod FirstCharacter

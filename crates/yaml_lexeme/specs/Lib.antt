@@ -9,6 +9,7 @@ pub mod KindSets
 pub mod Fold
 pub mod Lexeme
 pub mod LexemeOf
+pub mod Stretch
 pub mod StreamEnd
 pub mod Escape
 pub mod Quoted

@@ -63,6 +63,16 @@ pub(crate) fn copied_front(room: Vec<u8>, bytes: &[u8], n: usize) -> Result<Vec<
     Ok(out)
 }
 
+/// A copy of the first `len` bytes of `left`, in `room`, in place of what that holds, if it fits. The only refusal is
+/// `MEMORY`.
+#[inline(always)]
+pub fn yaml_copied(room: Vec<u8>, left: &[u8], len: usize) -> Result<Vec<u8>, yaml_refusal_t>
+    requires { len ≤ length left.now }
+    ensures { MatchResult result (λ out. out.items ≡ take len left.now) (λ e. e ≡ MEMORY) }
+{
+    copied_front(room, left, len)
+}
+
 /// Writes a character that is not ASCII at the front of four bytes, and returns how many of them it takes.
 fn set_wide(place: &mut [u8], c: char) -> usize
     requires wide { 0x80 ≤ c }

@@ -1,5 +1,5 @@
 //! Lexemes of every kind.
-ghost use Rattle.std.specs.Prelude.{ℕ, Bool, ◌≡◌, ◌+◌, ◌<◌, ◌≤◌, ◌^◌, true, Some, Ok, IsOk, IfSome, length};
+ghost use Rattle.std.specs.Prelude.{ℕ, Bool, ◌≡◌, ◌+◌, ◌<◌, ◌≤◌, ◌^◌, true, Some, Ok, IsOk, IfSome, drop, length};
 ghost use Rattle.yaml_text.specs.Chars.{utf8};
 ghost use Rattle.yaml_text.specs.Fault.{fault_of};
 ghost use Rattle.yaml_lexeme.specs.Kind as kinds;
@@ -19,6 +19,7 @@ ghost use Rattle.yaml_lexeme.specs.inside.Gives.{Gives};
 ghost use Rattle.yaml_lexeme.specs.Answers.{Answers, ReadsAs, answer, lexeme_at, refused_at};
 ghost use Rattle.yaml_lexeme.specs.Lexeme.{Lexeme, lexeme, whole, scalar_to, directive_to};
 ghost use Rattle.yaml_lexeme.specs.LexemeOf.{lexeme_of};
+ghost use Rattle.yaml_lexeme.specs.Stretch.{stretch_lexeme};
 ghost use Rattle.yaml_lexeme.specs.declared.kind.yaml_lexeme_kind_t.{yaml_lexeme_kind_t as Kind};
 ghost use Rattle.yaml_lexeme.specs.declared.kind.yaml_lexeme_kind_t.TheVariants.{PLAIN};
 ghost use Rattle.yaml_lexeme.specs.declared.lex.yaml_context_t.{yaml_context_t};
@@ -32,10 +33,11 @@ use crate::kind::yaml_lexeme_kind_t;
 use crate::lexeme::{directive_to, scalar_to, whole_of, yaml_lexeme_t};
 use crate::name::take_name;
 use crate::place::cursor_t;
-use crate::plain::take_plain;
+use crate::plain::{take_plain, take_plain_stretch};
 use crate::problem::{refused, yaml_refusal_t};
-use crate::quoted::take_quoted;
+use crate::quoted::{take_quoted, take_quoted_stretch};
 use crate::stream_end::take_stream_end;
+use crate::stretch::yaml_stretch_t;
 use crate::tag::take_tag;
 use std::alloc::Global;
 use yaml_text::{
@@ -398,6 +400,52 @@ pub fn yaml_read_quoted(
     let mut cursor = cursor_t::at(spot.text, spot.at);
     let taken = take_quoted_scalar(room, &mut cursor, single);
     read_to(taken, &cursor, &mut spot.at)
+}
+
+/// The plain scalar at a place, if its value stands in the text as it is and that shows at once.
+///
+/// The place and the context are as for [`yaml_lexeme_at`]. The value starts at byte `at.index` of the text, and ends
+/// within the text. `None` says nothing about the scalar: it may be refused, or it may have more lines.
+#[inline(always)]
+pub fn yaml_plain_stretch(
+    text: &yaml_text_t,
+    at: yaml_mark_t,
+    context: yaml_context_t,
+) -> Option<yaml_stretch_t>
+    requires place { (n : ℕ) × IsMarkOf text.now.chars at n }
+    requires level { IfSome context.level (λ l. l ≤ length (utf8 text.now.chars)) }
+    ensures value { IfSome result (λ s. (n : ℕ) → IsMarkOf text.now.chars at n
+        → lexeme_at PLAIN context (place_at text.now.chars n)
+        ≡ Ok (stretch_lexeme YAML_PLAIN_SCALAR_STYLE at (drop at.index (utf8 text.now.chars)) s)) }
+    ensures within { IfSome result (λ s. at.index + s.len ≤ length (utf8 text.now.chars)) }
+    ensures small { IfSome result (λ s. s.len < 2 ^ 63) }
+{
+    let mut cursor = cursor_t::at(text, at);
+    take_plain_stretch(&mut cursor, context.depth > 0, least(context))
+}
+
+/// The quoted scalar at a place, if its value stands in the text as it is and that shows at once. `single`: it is in
+/// single quotes.
+///
+/// The place is as for [`yaml_lexeme_at`], and the kind that is there must be that of `single`. The value starts at
+/// byte `at.index + 1` of the text, after the opening quote, and ends within the text. `None` says nothing about the
+/// scalar: it may be refused, or it may have more lines or escapes.
+#[inline(always)]
+pub fn yaml_quoted_stretch(
+    text: &yaml_text_t,
+    at: yaml_mark_t,
+    single: bool,
+) -> Option<yaml_stretch_t>
+    requires { (n : ℕ) × IsMarkOf text.now.chars at n
+        × ((flow : Bool) × (kinds.kind_at flow (place_at text.now.chars n) ≡ Some (sets.quoted_kind single))) }
+    ensures value { IfSome result (λ s. (n : ℕ) (context : yaml_context_t) → IsMarkOf text.now.chars at n
+        → lexeme_at (sets.quoted_kind single) context (place_at text.now.chars n)
+        ≡ Ok (stretch_lexeme (sets.quoted_style single) at (drop (at.index + 1) (utf8 text.now.chars)) s)) }
+    ensures within { IfSome result (λ s. at.index + 1 + s.len ≤ length (utf8 text.now.chars)) }
+    ensures small { IfSome result (λ s. s.len < 2 ^ 63) }
+{
+    let mut cursor = cursor_t::at(text, at);
+    take_quoted_stretch(&mut cursor, single)
 }
 
 /// The literal or folded scalar at a place, or why there is none, as [`yaml_read_plain`] returns a plain one.

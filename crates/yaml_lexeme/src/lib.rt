@@ -20,14 +20,18 @@ mod problem;
 mod quoted;
 mod runs;
 mod stream_end;
+mod stretch;
 mod tag;
 mod uri;
 
+pub use fold::yaml_copied;
 pub use gap::yaml_gap;
 pub use kind::{yaml_decider_at, yaml_lexeme_kind, yaml_lexeme_kind_t};
 pub use lex::{
-    yaml_context_t, yaml_lexeme_at, yaml_lexeme_fault, yaml_read_block, yaml_read_character,
-    yaml_read_lexeme, yaml_read_plain, yaml_read_quoted, yaml_spot_t,
+    yaml_context_t, yaml_lexeme_at, yaml_lexeme_fault, yaml_plain_stretch, yaml_quoted_stretch,
+    yaml_read_block, yaml_read_character, yaml_read_lexeme, yaml_read_plain, yaml_read_quoted,
+    yaml_spot_t,
 };
 pub use lexeme::yaml_lexeme_t;
 pub use problem::{yaml_problem_t, yaml_refusal_t};
+pub use stretch::yaml_stretch_t;

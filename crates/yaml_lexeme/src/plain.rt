@@ -1,16 +1,19 @@
 //! Plain scalars.
-ghost use Rattle.std.specs.Prelude.{◌≡◌, ◌+◌, ◌||◌, ◌<◌, ◌≤◌, [], None, true, false, nat_le, length};
+ghost use Rattle.std.specs.Prelude.{◌≡◌, ◌+◌, ◌||◌, ◌<◌, ◌≤◌, ◌^◌, [], None, true, false, nat_le, length};
 ghost use Rattle.std.specs.Prelude.{OnOk, IfOk, IfSome, take};
 ghost use Rattle.std.specs.List.{list_any};
 ghost use Rattle.yaml_text.specs.Classes as classes;
 ghost use Rattle.yaml_text.specs.Chars.{utf8};
+ghost use Rattle.yaml_text.specs.declared.types.yaml_scalar_style_t.TheVariants.{YAML_PLAIN_SCALAR_STYLE};
 ghost use Rattle.yaml_lexeme.specs.Classes as sets;
 ghost use Rattle.yaml_lexeme.specs.Place.{Place, first, peek, run, after_run};
 ghost use Rattle.yaml_lexeme.specs.Plain as spec;
 ghost use Rattle.yaml_lexeme.specs.inside.Words as words;
 ghost use Rattle.yaml_lexeme.specs.inside.Gives.{Gives, Appends};
+ghost use Rattle.yaml_lexeme.specs.Lexeme.{lexeme, scalar_to};
 ghost use Rattle.yaml_lexeme.specs.LexemeOf.{scalar_of};
-ghost use Rattle.yaml_lexeme.specs.Reading.{with_front, over};
+ghost use Rattle.yaml_lexeme.specs.Reading.{found, with_front, over};
+ghost use Rattle.yaml_lexeme.specs.Stretch.{stretch_lexeme};
 ghost use Rattle.yaml_lexeme.specs.inside.Words.{links, words, plain_of, Goes, LeadsTo, Leaves, LeavesMore};
 
 use crate::classes::{ends, is_break, is_white};
@@ -19,6 +22,7 @@ use crate::kind::is_marker;
 use crate::place::{check_at, cursor_t, is_at};
 use crate::problem::{offence, refused, yaml_problem_t, yaml_refusal_t};
 use crate::runs::class_t;
+use crate::stretch::yaml_stretch_t;
 use yaml_text::yaml_mark_t;
 
 /// A scalar that was read.
@@ -312,5 +316,34 @@ pub(crate) fn take_plain(
             passed_break,
         }),
         None => take_lines(cursor, in_flow, least, value),
+    }
+}
+
+/// Takes a plain scalar, if its value stands in the text as it is and that shows at once.
+#[inline(always)]
+pub(crate) fn take_plain_stretch(
+    cursor: &mut cursor_t,
+    in_flow: bool,
+    least: u64,
+) -> Option<yaml_stretch_t>
+    ensures value { IfSome result (λ s. lexeme (scalar_to YAML_PLAIN_SCALAR_STYLE) cursor.old
+        (spec.plain in_flow least cursor.old)
+        ≡ found (stretch_lexeme YAML_PLAIN_SCALAR_STYLE cursor.old.mark (utf8 cursor.old.rest) s) cursor.new) }
+    ensures within { IfSome result (λ s. s.len ≤ length (utf8 cursor.old.rest)) }
+    ensures small { IfSome result (λ s. s.len < 2 ^ 63) }
+{
+    let len = line_words(cursor, in_flow, least).len();
+    if is_bad_colon(cursor, in_flow) {
+        return None;
+    }
+    let end_mark = cursor.mark();
+    match ends_at_once(cursor, in_flow, least) {
+        Some(passed_break) => Some(yaml_stretch_t {
+            len,
+            end_mark,
+            reach: cursor.mark(),
+            passed_break,
+        }),
+        None => None,
     }
 }

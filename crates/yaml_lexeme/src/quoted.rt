@@ -1,18 +1,22 @@
 //! Quoted scalars.
-ghost use Rattle.std.specs.Prelude.{ℕ, Bool, ◌≡◌, ◌≤◌, ◌++◌, false, true, List, Ok, Err, if◌then◌else◌, length};
-ghost use Rattle.std.specs.Prelude.{OnOk, take};
+ghost use Rattle.std.specs.Prelude.{ℕ, Bool, ◌≡◌, ◌<◌, ◌≤◌, ◌^◌, ◌++◌, false, true, List, Ok, Err, if◌then◌else◌, length};
+ghost use Rattle.std.specs.Prelude.{IfSome, OnOk, take};
 ghost use Rattle.yaml_text.specs.Chars.{utf8};
 ghost use Rattle.yaml_text.specs.Classes.{is_break};
 ghost use Rattle.yaml_lexeme.specs.Classes.{is_white};
 ghost use Rattle.yaml_lexeme.specs.declared.problem.yaml_refusal_t.TheVariants.{OFFENCE};
 ghost use Rattle.yaml_lexeme.specs.declared.problem.yaml_problem_t.TheVariants.{DOCUMENT_MARKER};
 ghost use Rattle.yaml_lexeme.specs.Kind as kind;
+ghost use Rattle.yaml_lexeme.specs.KindSets.{quoted_as, quoted_style};
+ghost use Rattle.yaml_lexeme.specs.Lexeme.{lexeme, whole};
 ghost use Rattle.yaml_lexeme.specs.Quoted as spec;
 ghost use Rattle.yaml_lexeme.specs.inside.Runs as runs;
 ghost use Rattle.yaml_lexeme.specs.inside.Gives.{Gives, Takes};
 ghost use Rattle.yaml_lexeme.specs.inside.Words.{GoesOn, LeadsOn};
 ghost use Rattle.yaml_lexeme.specs.Place.{Place, first, peek};
-ghost use Rattle.yaml_lexeme.specs.Reading.{over};
+ghost use Rattle.yaml_lexeme.specs.Place.{skip};
+ghost use Rattle.yaml_lexeme.specs.Reading.{found, over};
+ghost use Rattle.yaml_lexeme.specs.Stretch.{stretch_lexeme};
 ghost use Rattle.yaml_lexeme.specs.Escape.{backslash};
 
 use crate::classes::{is_break, is_white};
@@ -22,6 +26,7 @@ use crate::kind::is_marker;
 use crate::place::{check_at, cursor_t, is_at};
 use crate::problem::{offence, refused, yaml_problem_t, yaml_refusal_t};
 use crate::runs::{class_t, trimmed};
+use crate::stretch::yaml_stretch_t;
 use std::alloc::AllocError;
 
 /// A document marker here is an offence.
@@ -241,4 +246,29 @@ pub(crate) fn take_quoted(
     let taken = take_rest(room, &mut here, single, &left[..len]);
     *cursor = here;
     taken
+}
+
+/// Takes a quoted scalar, from its opening quote on, if its value stands in the text as it is and that shows at once.
+#[inline(always)]
+pub(crate) fn take_quoted_stretch(cursor: &mut cursor_t, single: bool) -> Option<yaml_stretch_t>
+    requires { first cursor.old ≡ spec.quote single }
+    ensures value { IfSome result (λ s. lexeme (whole (quoted_as (quoted_style single))) cursor.old
+        (spec.quoted single cursor.old)
+        ≡ found (stretch_lexeme (quoted_style single) cursor.old.mark (utf8 (skip 1 cursor.old).rest) s) cursor.new) }
+    ensures within { IfSome result (λ s. s.len ≤ length (utf8 (skip 1 cursor.old).rest)) }
+    ensures small { IfSome result (λ s. s.len < 2 ^ 63) }
+{
+    cursor.pass();
+    let len = line_piece(cursor, single).len();
+    if !closes(cursor, single) {
+        return None;
+    }
+    cursor.pass();
+    let end_mark = cursor.mark();
+    Some(yaml_stretch_t {
+        len,
+        end_mark,
+        reach: end_mark,
+        passed_break: false,
+    })
 }

@@ -25,3 +25,5 @@ pub mod StepTests
 pub mod StepMoves
 -- What was laid is handed on: into the queue, or straight to a sink.
 pub mod StepHanded
+-- A scalar whose value stands in the text is laid as its lexeme.
+pub mod StretchLaid

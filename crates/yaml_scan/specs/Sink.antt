@@ -2,11 +2,18 @@
 use Rattle.std.specs.Prelude.{◌++◌, [], ◌∷◌, ℕ, ◌+◌, List, length, Option}
 use Rattle.yaml_text.specs.Fault.{Fault}
 use Rattle.yaml_text.specs.declared.types.yaml_encoding_t.{yaml_encoding_t}
+use Rattle.yaml_text.specs.declared.types.yaml_mark_t.{yaml_mark_t}
+use Rattle.yaml_text.specs.declared.types.yaml_scalar_style_t.{yaml_scalar_style_t}
 use Rattle.yaml_scan.specs.Token.{yaml_token_t, unnamed_yaml_token_t_data}
 use Rattle.yaml_text.specs.Token.TokenData.{TAG_DIRECTIVE, ALIAS, ANCHOR, TAG, SCALAR}
 use Rattle.yaml_scan.specs.Begins.{Begins}
 use Rattle.yaml_scan.specs.Inputs.{answers_to}
 use Rattle.yaml_scan.specs.All.{ReadsAll}
+
+-- the token of a scalar
+abbrev pub scalar_token : List ℕ → yaml_scalar_style_t → yaml_mark_t → yaml_mark_t → yaml_token_t
+scalar_token value style start end =
+    record { token_data = SCALAR value style; start_mark = start; end_mark = end }
 
 -- how many bytes the texts of a token have: a handle, a name, a value, a prefix or a suffix
 abbrev pub said_len : unnamed_yaml_token_t_data → ℕ

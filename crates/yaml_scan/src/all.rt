@@ -1,5 +1,5 @@
 //! All tokens of an input, in one call.
-ghost use Rattle.std.specs.Prelude.{◌≡◌, ◌≤◌, IfOk, map, option_map};
+ghost use Rattle.std.specs.Prelude.{◌≡◌, ◌≤◌, false, IfOk, map, option_map};
 ghost use Rattle.yaml_text.specs.Fault.{fault_of};
 ghost use Rattle.yaml_text.specs.Token.{token_of};
 ghost use Rattle.yaml_scan.specs.KeyLimits.{key_limit, most_key_limit};
@@ -16,7 +16,7 @@ use crate::keys::KEY_LIMIT;
 use crate::sink::yaml_scan_to;
 use crate::target::yaml_token_sink_t;
 use std::alloc::{AllocError, Global};
-use yaml_text::{unnamed_yaml_token_t_data, yaml_encoding_t, yaml_fault_t, yaml_token_t};
+use yaml_text::{yaml_encoding_t, yaml_fault_t, yaml_mark_t, yaml_scalar_style_t, yaml_token_t};
 
 /// The tokens that were given, in a list.
 #[derive(Drop)]
@@ -38,6 +38,25 @@ impl yaml_token_sink_t for token_list_t {
     fn put(&mut self, token: yaml_token_t) -> Result<(), AllocError> {
         self.tokens.push(token)?;
         Ok(())
+    }
+
+    ghost copies = { false };
+
+    #[inline(always)]
+    fn copies(&self) -> bool {
+        false
+    }
+
+    #[inline(always)]
+    fn put_scalar(
+        &mut self,
+        _bytes: &[u8],
+        _len: usize,
+        _style: yaml_scalar_style_t,
+        _start: yaml_mark_t,
+        _end: yaml_mark_t,
+    ) {
+        unreachable!()
     }
 
     #[inline(always)]

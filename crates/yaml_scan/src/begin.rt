@@ -83,7 +83,8 @@ pub(crate) fn begin_step(
     ghost before: { List Laid }
     requires { Comes before scanner.old in_flow kind }
     ensures { MatchResult result
-        (λ step. CanRead before scanner.new step × (step.kind ≡ kind) × Stays scanner.old scanner.new)
+        (λ step. CanRead before scanner.new step × (step.kind ≡ kind) × Stays scanner.old scanner.new
+        × Comes before scanner.new in_flow kind)
         (λ stop. Refuses before scanner.old scanner.new stop) }
 {
     let allowed = is_key_allowed(scanner.allowed, in_flow, scanner.reach, scanner.front);

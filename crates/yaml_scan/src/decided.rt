@@ -170,6 +170,7 @@ pub(crate) fn lay_decided(
         → LaysTwo sparing before scanner.old scanner.new (groups_in scanner.new
         ++ group_with result.0 result.1 result.2 t ∷ (lone z ∷ [])) }
     ensures queue { scanner.new.layout.queue ≡ scanner.old.layout.queue }
+    ensures text { scanner.new.text ≡ scanner.old.text }
     ensures awaited { scanner.new.slots.awaited ≡ 0 }
     ensures few { result.0 ≤ length scanner.old.layout.levels.items }
 {

@@ -1,5 +1,6 @@
 //! What comes after a lexeme was read: the step may have to stop, or the lexeme is laid.
-ghost use Rattle.std.specs.Prelude.{ℕ, ◌≡◌, ◌≤◌, false, List, [], IfOk, MatchResult, None, OnOk};
+ghost use Rattle.std.specs.Prelude.{ℕ, ◌≡◌, ◌+◌, ◌<◌, ◌≤◌, ◌^◌, true, false, length, List, [], IfOk, MatchResult, OnOk};
+ghost use Rattle.yaml_text.specs.Chars.{utf8};
 ghost use Rattle.yaml_text.specs.declared.token.yaml_token_t.{yaml_token_t as code_token_t};
 ghost use Rattle.yaml_text.specs.declared.types.yaml_mark_t.{yaml_mark_t};
 ghost use Rattle.yaml_text.specs.Token.{TokenData, data_of, token_of};
@@ -12,8 +13,8 @@ ghost use Rattle.yaml_scan.specs.Laid.{Laid};
 ghost use Rattle.yaml_scan.specs.declared.scanner.scanner_t.{scanner_t};
 ghost use Rattle.yaml_scan.specs.Kind.{is_stream_end};
 ghost use Rattle.yaml_scan.specs.inside.Handed.{FindsRoom, IsLaidAlone, IsReadTo, IsTokenOf, LaysTo};
-ghost use Rattle.yaml_scan.specs.inside.Handed.{StepsTo, WasLaid, group_tokens, group_with, read_to};
-ghost use Rattle.yaml_scan.specs.inside.Scanning.{CanLayAll, CanRead, IsReadIn, IsStep, Refuses};
+ghost use Rattle.yaml_scan.specs.inside.Handed.{StepsTo, WasLaid, WasLaidAt, group_tokens, group_with, read_to};
+ghost use Rattle.yaml_scan.specs.inside.Scanning.{CanLayAll, CanRead, HasReadStep, IsReadIn, IsStep, Refuses};
 ghost use Rattle.yaml_scan.specs.inside.TextReads.{IsRead};
 
 use crate::decided::{decided_by, lay_decided};
@@ -27,11 +28,13 @@ use crate::met::step_t;
 use crate::scanner::scanner_t;
 use crate::stop::{stop_after, stop_in_lexeme};
 use crate::target::{
-    hand_keyless, hand_on, hand_token, has_room_for, has_room_for_both, no_sink_t, said_len,
-    yaml_token_sink_t,
+    hand_keyless, hand_on, hand_scalar, hand_token, has_room_for, has_room_for_both, leads_t,
+    no_sink_t, place_t, said_len, yaml_token_sink_t,
 };
-use yaml_lexeme::{yaml_lexeme_kind_t, yaml_lexeme_t, yaml_refusal_t};
-use yaml_text::{yaml_mark_t, yaml_token_t};
+use yaml_lexeme::{
+    yaml_copied, yaml_lexeme_kind_t, yaml_lexeme_t, yaml_refusal_t, yaml_stretch_t,
+};
+use yaml_text::{unnamed_yaml_token_t_data, yaml_mark_t, yaml_token_t};
 
 /// What a step has laid, and has not handed on yet. Its token goes with it.
 #[derive(Drop)]
@@ -88,6 +91,7 @@ fn lay_alone<S: yaml_token_sink_t>(
     ensures laid { (d : TokenData) (b e : yaml_mark_t) (t : code_token_t)
         → CanLayAll before scanner.old step (read_to d b e reach passed_break) → IsTokenOf t d step.new.start e
         → IsLaidAlone before scanner.old scanner.new step.kind result.2 (group_with result.0 result.1 false t) }
+    ensures text { scanner.new.text ≡ scanner.old.text }
     ensures room { result.2 ≡ false → S.within sink.now → (t : code_token_t) → said_len (token_of t).token_data ≤ texts
         → (after : S) → S.took sink.now (group_tokens (group_with result.0 result.1 false t)) after → S.within after }
 {
@@ -112,6 +116,7 @@ fn lay_all<const DIRECT: bool, S: yaml_token_sink_t>(
     ensures laid { (d : TokenData) (b e : yaml_mark_t) (t : code_token_t)
         → CanLayAll before scanner.old step (read_to d b e reach passed_break) → IsTokenOf t d step.new.start e
         → WasLaid before scanner.old scanner.new DIRECT result t }
+    ensures text { scanner.new.text ≡ scanner.old.text }
     ensures room { FindsRoom result texts (S.within sink.now) (λ tokens. (after : S) → S.took sink.now tokens after
         → S.within after) }
 {
@@ -140,17 +145,16 @@ fn lay_all<const DIRECT: bool, S: yaml_token_sink_t>(
     }
 }
 
-/// Stops if the lexeme of a step, which was read, reaches near the reader's fault, or if a candidate is lost there.
+/// Stops if the lexeme of a step, which was read to a mark, is near the reader's fault, or if a candidate is lost there.
 #[inline(always)]
-fn check_reach(scanner: &mut scanner_t, step: step_t, lexeme: &yaml_lexeme_t) -> Result<(), stop_t>
+fn check_reach(scanner: &mut scanner_t, step: step_t, reach: yaml_mark_t) -> Result<(), stop_t>
     ghost before: { List Laid }
-    requires { CanRead before scanner.old step × ((p : ℕ) → IsMarkOf scanner.old.text.chars scanner.old.front p
-        → IsRead scanner.old.text.chars step.kind step.context.depth step.context.level p (lexeme_of lexeme.now)) }
+    requires { CanRead before scanner.old step × ((x : Lexeme) × ((x.reach ≡ reach) × HasReadStep scanner.old step x)) }
     ensures { MatchResult result
-        (λ _. (scanner.new ≡ scanner.old) × CanLayAll before scanner.old step (lexeme_of lexeme.now))
+        (λ _. (scanner.new ≡ scanner.old) × ((x : Lexeme) → x.reach ≡ reach → HasReadStep scanner.old step x
+        → CanLayAll before scanner.old step x))
         (λ stop. Refuses before scanner.old scanner.new stop) }
 {
-    let reach = lexeme.reach;
     let lost = is_lost(root_after(scanner, step), scanner.limit, reach);
     if scanner.near <= reach.index || lost {
         scanner.there = reach;
@@ -175,7 +179,7 @@ pub(crate) fn end_character<const DIRECT: bool, S: yaml_token_sink_t>(
         S.may_refuse result }
     ensures within { OnOk result (S.within sink.old → S.within sink.new) }
 {
-    match check_reach(scanner, step, &lexeme) {
+    match check_reach(scanner, step, lexeme.reach) {
         Ok(_) => {
             let texts = said_len(&lexeme.token_data);
             let reach = lexeme.reach;
@@ -217,7 +221,7 @@ pub(crate) fn lay_read<const DIRECT: bool, S: yaml_token_sink_t>(
         (after : S) → S.took sink.now tokens after → S.within after)) }
 {
     match read {
-        Ok(lexeme) => match check_reach(scanner, step, &lexeme) {
+        Ok(lexeme) => match check_reach(scanner, step, lexeme.reach) {
             Ok(_) => {
                 let texts = said_len(&lexeme.token_data);
                 let laid = lay_all::<DIRECT, S>(
@@ -314,6 +318,149 @@ pub(crate) fn end_queued(
 {
     match lay_read::<false, no_sink_t>(scanner, &no_sink_t {}, step, read) {
         Ok((laid, token)) => end_laid::<false, no_sink_t>(scanner, &mut no_sink_t {}, laid, token),
+        Err(stop) => Err(stopped(stop)),
+    }
+}
+
+/// Lays a scalar of a step whose value stands in the text as it is. Stops if it is near the reader's fault, or if a
+/// candidate is lost.
+#[inline(always)]
+pub(crate) fn lay_stretch<S: yaml_token_sink_t>(
+    scanner: &mut scanner_t,
+    sink: &S,
+    step: step_t,
+    stretch: yaml_stretch_t,
+) -> Result<laid_t, stop_t>
+    ghost before: { List Laid }
+    requires { CanRead before scanner.old step × ((d : TokenData) × ((b : yaml_mark_t) × HasReadStep scanner.old step
+        (read_to d b stretch.end_mark stretch.reach stretch.passed_break))) }
+    ensures laid { MatchResult result (λ laid. (d : TokenData) (b e : yaml_mark_t) (t : code_token_t)
+        → HasReadStep scanner.old step (read_to d b e stretch.reach stretch.passed_break)
+        → IsTokenOf t d step.new.start e → WasLaid before scanner.old scanner.new true laid t)
+        (λ stop. Refuses before scanner.old scanner.new stop) }
+    ensures text { scanner.new.text ≡ scanner.old.text }
+    ensures room { IfOk result (λ laid. FindsRoom laid stretch.len (S.within sink.now) (λ tokens. (after : S)
+        → S.took sink.now tokens after → S.within after)) }
+{
+    match check_reach(scanner, step, stretch.reach) {
+        Ok(_) => Ok(lay_all::<true, S>(
+            scanner,
+            sink,
+            step,
+            stretch.reach,
+            stretch.passed_break,
+            stretch.len as u128,
+        )),
+        Err(stop) => Err(stopped(stop)),
+    }
+}
+
+/// Hands on what a step has laid of a scalar that stands in the text: straight to the sink, which copies it. Returns how
+/// many steps that makes.
+#[inline(always)]
+fn hand_stretch<S: yaml_token_sink_t>(
+    scanner: &mut scanner_t,
+    sink: &mut S,
+    laid: laid_t,
+    place: place_t,
+) -> Result<u64, stop_t>
+    requires copies { S.copies ≡ true }
+    requires goes { laid.waits ≡ false }
+    requires within { place.at + place.after + place.len ≤ length (utf8 scanner.old.text.chars) }
+    requires small { place.len < 2 ^ 63 }
+    requires laid { (before : List Laid) × ((start : scanner_t) × WasLaidAt before start scanner.old laid place) }
+    requires room { FindsRoom laid place.len (S.within sink.old) (λ tokens. (after : S) → S.took sink.old tokens after
+        → S.within after) }
+    ensures steps { (before : List Laid) (start : scanner_t) → WasLaidAt before start scanner.old laid place
+        → LaysTo before start scanner.new true (λ tokens. S.took sink.old tokens sink.new) S.may_refuse result }
+    ensures within { OnOk result (S.within sink.old → S.within sink.new) }
+{
+    let laid_t {
+        ends,
+        opens,
+        key,
+        waits: _,
+        decider,
+    } = laid;
+    match hand_scalar(scanner, sink, leads_t { ends, opens, key }, place) {
+        Ok(_) => match decider {
+            Some(second) => match hand_token::<true, S>(scanner, sink, false, second) {
+                Ok(_) => Ok(2),
+                Err(stop) => Err(stopped(stop)),
+            },
+            None => Ok(1),
+        },
+        Err(stop) => Err(stopped(stop)),
+    }
+}
+
+/// Puts what a step has laid of a scalar that stands in the text into the queue, with a copy of its value. If memory is
+/// refused, the step was not made: the last good one was read to `reach`.
+#[inline(always)]
+fn queue_stretch<S: yaml_token_sink_t>(
+    scanner: &mut scanner_t,
+    sink: &mut S,
+    laid: laid_t,
+    place: place_t,
+    reach: yaml_mark_t,
+) -> Result<(), stop_t>
+    requires waits { laid.waits ≡ true }
+    requires within { place.at + place.after + place.len ≤ length (utf8 scanner.old.text.chars) }
+    requires small { place.len < 2 ^ 63 }
+    requires laid { (before : List Laid) × ((start : scanner_t) × WasLaidAt before start scanner.old laid place) }
+    ensures steps { (before : List Laid) (start : scanner_t) → WasLaidAt before start scanner.old laid place
+        → reach ≡ start.reach → StepsTo before start scanner.new true (λ tokens. S.took sink.old tokens sink.new)
+        S.may_refuse result }
+    ensures within { OnOk result (S.within sink.old → S.within sink.new) }
+{
+    let room = sink.room(scanner.alloc);
+    let bytes = scanner.text.bytes();
+    match yaml_copied(room, &bytes[place.at + place.after..], place.len) {
+        Ok(value) => {
+            let style = place.style;
+            let token = yaml_token_t {
+                token_data: unnamed_yaml_token_t_data::SCALAR { value, style },
+                start_mark: place.start,
+                end_mark: place.end,
+            };
+            end_laid::<false, no_sink_t>(scanner, &mut no_sink_t {}, laid, token)
+        }
+        Err(_) => {
+            scanner.reach = reach;
+            Err(stopped(stop_t::MEMORY))
+        }
+    }
+}
+
+/// Ends a step with what it has laid of a scalar that stands in the text. It goes straight to the sink, which copies it,
+/// or into the queue. The last good step was read to `reach`.
+#[inline(always)]
+pub(crate) fn end_stretch<S: yaml_token_sink_t>(
+    scanner: &mut scanner_t,
+    sink: &mut S,
+    laid: laid_t,
+    place: place_t,
+    reach: yaml_mark_t,
+) -> Result<(), stop_t>
+    requires copies { S.copies ≡ true }
+    requires within { place.at + place.after + place.len ≤ length (utf8 scanner.old.text.chars) }
+    requires small { place.len < 2 ^ 63 }
+    requires laid { (before : List Laid) × ((start : scanner_t) × WasLaidAt before start scanner.old laid place) }
+    requires room { FindsRoom laid place.len (S.within sink.old) (λ tokens. (after : S) → S.took sink.old tokens after
+        → S.within after) }
+    ensures steps { (before : List Laid) (start : scanner_t) → WasLaidAt before start scanner.old laid place
+        → reach ≡ start.reach → StepsTo before start scanner.new true (λ tokens. S.took sink.old tokens sink.new)
+        S.may_refuse result }
+    ensures within { OnOk result (S.within sink.old → S.within sink.new) }
+{
+    if laid.waits {
+        return queue_stretch(scanner, sink, laid, place, reach);
+    }
+    match hand_stretch(scanner, sink, laid, place) {
+        Ok(made) => {
+            scanner.made += made;
+            Ok(())
+        }
         Err(stop) => Err(stopped(stop)),
     }
 }

@@ -78,6 +78,7 @@ pub(crate) fn lay_lexeme(
         → IsLaidAs before scanner.old step.kind scanner.new
         (groups_in scanner.new ++ group_with result.0 result.1 false t ∷ []) }
     ensures reach { scanner.new.reach ≡ reach }
+    ensures text { scanner.new.text ≡ scanner.old.text }
     ensures room { length scanner.new.layout.queue.groups.items < deque_capacity scanner.new.layout.queue.groups }
 {
     let kind = step.kind;

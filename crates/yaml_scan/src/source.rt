@@ -1,18 +1,20 @@
 //! The readers of `yaml_lexeme`, with contracts over places instead of marks.
 ghost use Rattle.std.specs.Prelude.{◌≡◌, ℕ, ◌≤◌, Bool, Option, Some, length, IfSome, true};
-ghost use Rattle.yaml_lexeme.specs.KindSets.{block_kind, is_character, quoted_kind};
+ghost use Rattle.yaml_lexeme.specs.KindSets.{block_kind, is_character, quoted_kind, quoted_style};
 ghost use Rattle.yaml_lexeme.specs.LexemeOf.{lexeme_of};
 ghost use Rattle.yaml_lexeme.specs.Counted.{IsMarkOf};
 ghost use Rattle.yaml_lexeme.specs.declared.kind.yaml_lexeme_kind_t.TheVariants.{PLAIN};
 ghost use Rattle.yaml_scan.specs.SourceOf.{source_of};
-ghost use Rattle.yaml_scan.specs.inside.Scanning.{HasRead};
+ghost use Rattle.yaml_scan.specs.inside.Scanning.{HasRead, IsStretch};
+ghost use Rattle.yaml_text.specs.declared.types.yaml_scalar_style_t.TheVariants.{YAML_PLAIN_SCALAR_STYLE};
 ghost use Rattle.yaml_scan.specs.inside.TextReads.{IsDecider, IsRead};
 
 use crate::scanner::scanner_t;
 use yaml_lexeme::{
     yaml_context_t, yaml_decider_at, yaml_gap, yaml_lexeme_kind, yaml_lexeme_kind_t, yaml_lexeme_t,
-    yaml_read_block, yaml_read_character, yaml_read_lexeme, yaml_read_plain, yaml_read_quoted,
-    yaml_refusal_t, yaml_spot_t,
+    yaml_plain_stretch, yaml_quoted_stretch, yaml_read_block, yaml_read_character,
+    yaml_read_lexeme, yaml_read_plain, yaml_read_quoted, yaml_refusal_t, yaml_spot_t,
+    yaml_stretch_t,
 };
 use yaml_text::{yaml_mark_t, yaml_text_t};
 
@@ -110,6 +112,30 @@ pub(crate) fn read_quoted(
         scanner.there = spot.at;
     }
     read
+}
+
+/// The plain scalar after the gap, if its value stands in the text as it is.
+#[inline(always)]
+pub(crate) fn plain_stretch(scanner: &scanner_t, context: yaml_context_t) -> Option<yaml_stretch_t>
+    requires place { (p : ℕ) × IsMarkOf scanner.now.text.chars scanner.now.front p }
+    requires level { IfSome context.level (λ l. l ≤ length scanner.now.text.chars) }
+    ensures { IfSome result (λ s. IsStretch scanner.now PLAIN YAML_PLAIN_SCALAR_STYLE context 0 s) }
+{
+    yaml_plain_stretch(&scanner.text, scanner.front, context)
+}
+
+/// The quoted scalar after the gap, if its value stands in the text as it is.
+#[inline(always)]
+pub(crate) fn quoted_stretch(
+    scanner: &scanner_t,
+    single: bool,
+    context: yaml_context_t,
+) -> Option<yaml_stretch_t>
+    requires { (p : ℕ) × IsMarkOf scanner.now.text.chars scanner.now.front p
+        × ((flow : Bool) × ((source_of scanner.now.text.chars).kind flow p ≡ Some (quoted_kind single))) }
+    ensures { IfSome result (λ s. IsStretch scanner.now (quoted_kind single) (quoted_style single) context 1 s) }
+{
+    yaml_quoted_stretch(&scanner.text, scanner.front, single)
 }
 
 /// The literal or folded scalar after the gap, or why it is refused. Its value is put into `room` if it fits.

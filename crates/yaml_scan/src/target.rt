@@ -1,21 +1,25 @@
 //! Where the group of a step goes: into the queue, or straight to a sink if nothing of it has to wait.
 ghost use Rattle.std.specs.Prelude.{◌≡◌, ◌+◌, ◌<◌, ◌≤◌, ◌^◌, List, [], ◌∷◌, ◌++◌, ◌⊎◌, true, false, length};
-ghost use Rattle.std.specs.Prelude.{MatchResult};
+ghost use Rattle.std.specs.Prelude.{Bool, MatchResult, take};
+ghost use Rattle.yaml_text.specs.Chars.{utf8};
+ghost use Rattle.yaml_text.specs.declared.token.yaml_token_t.{yaml_token_t as code_token_t};
+ghost use Rattle.yaml_text.specs.declared.types.yaml_mark_t.{yaml_mark_t};
 ghost use Rattle.std.specs.Prelude.{if◌then◌else◌, OnErr, OnOk};
 ghost use Rattle.std.specs.VecDeque.{deque_capacity};
 ghost use Rattle.yaml_text.specs.Token.{Token, data_of, token_of};
-ghost use Rattle.yaml_scan.specs.Sink.{said_len, texts_len};
+ghost use Rattle.yaml_scan.specs.Sink.{said_len, scalar_token, texts_len};
 ghost use Rattle.yaml_scan.specs.Words.{HasWords};
 ghost use Rattle.yaml_scan.specs.declared.fault.stop_t.TheVariants.{SINK};
-ghost use Rattle.yaml_scan.specs.inside.Queue.{ends_at, leads, start_at};
+ghost use Rattle.yaml_scan.specs.inside.Queue.{ends_at, leads, leads_at, start_at};
 ghost use Rattle.yaml_scan.specs.Groups.Token.{InsertedKey};
-ghost use Rattle.yaml_scan.specs.inside.Handed.{Gives, IsHandedOn, group_tokens, keys_of, lone, starts_of, told_leads};
+ghost use Rattle.yaml_scan.specs.inside.Handed.{Gives, IsHandedOn, group_tokens, group_with, keys_of, lone};
+ghost use Rattle.yaml_scan.specs.inside.Handed.{placed_token, starts_of, told_leads};
 
 use crate::fault::{stop_by_sink, stop_t, stopped};
 use crate::groups::{block_t, group_t, token_at};
 use crate::scanner::scanner_t;
 use std::alloc::{AllocError, Global};
-use yaml_text::{unnamed_yaml_token_t_data, yaml_mark_t, yaml_token_t};
+use yaml_text::{unnamed_yaml_token_t_data, yaml_mark_t, yaml_scalar_style_t, yaml_token_t};
 
 /// Takes the tokens of an input, one after the other.
 pub trait yaml_token_sink_t {
@@ -34,6 +38,26 @@ pub trait yaml_token_sink_t {
         ensures taken { OnOk result (took self.old (token_of token ∷ []) self.new) }
         ensures kept { OnErr result (took self.old [] self.new) }
         ensures refused { OnErr result may_refuse };
+
+    // Whether it copies the value of a scalar from the text, so that no list is made of it.
+    ghost copies: { Bool };
+
+    /// Whether it copies the value of a scalar from the text, so that no list is made of it.
+    fn copies(&self) -> bool
+        ensures { result ≡ copies };
+
+    /// Takes a scalar whose value is the first `len` bytes of these, and copies it.
+    fn put_scalar(
+        &mut self,
+        bytes: &[u8],
+        len: usize,
+        style: yaml_scalar_style_t,
+        start: yaml_mark_t,
+        end: yaml_mark_t,
+    )
+        requires copies { copies ≡ true }
+        requires len { len ≤ length bytes.now }
+        ensures { took self.old (scalar_token (take len bytes.now) style start end ∷ []) self.new };
 
     /// A list in whose room the text of a token to come may be put. What is in it is thrown away.
     fn room(&mut self, alloc: Global) -> Vec<u8>
@@ -66,6 +90,23 @@ impl yaml_token_sink_t for no_sink_t {
         Ok(())
     }
 
+    ghost copies = { false };
+
+    #[inline(always)]
+    fn copies(&self) -> bool {
+        false
+    }
+
+    fn put_scalar(
+        &mut self,
+        _bytes: &[u8],
+        _len: usize,
+        _style: yaml_scalar_style_t,
+        _start: yaml_mark_t,
+        _end: yaml_mark_t,
+    ) {
+    }
+
     #[inline(always)]
     fn room(&mut self, alloc: Global) -> Vec<u8> {
         Vec::new(alloc)
@@ -81,6 +122,25 @@ impl yaml_token_sink_t for no_sink_t {
     ghost took_more = { λ a b c xs ys e f. tt };
 
     ghost within_none = { λ a b e w. tt };
+}
+
+/// What a group hands out before its token.
+#[derive(Clone, Copy)]
+pub(crate) struct leads_t {
+    pub ends: usize,
+    pub opens: block_t,
+    pub key: bool,
+}
+
+/// A scalar that stands in the text from byte `at` on. Its value is the `len` bytes that come `after` so many.
+#[derive(Clone, Copy)]
+pub(crate) struct place_t {
+    pub at: usize,
+    pub after: usize,
+    pub len: usize,
+    pub style: yaml_scalar_style_t,
+    pub start: yaml_mark_t,
+    pub end: yaml_mark_t,
 }
 
 /// Gives a token to a sink.
@@ -149,24 +209,27 @@ fn give_blocks<S: yaml_token_sink_t>(
     give_start(sink, opens, mark)
 }
 
-/// Whether a group hands out a block end or the start of a block collection.
+/// Whether a block end or the start of a block collection is handed out.
 #[inline(always)]
-fn has_blocks(group: &group_t) -> bool
-    ensures { result ≡ false → ends_at group.now.ends group.now.token.start_mark
-        ++ start_at group.now.opens group.now.token.start_mark ≡ [] }
+fn has_blocks(ends: usize, opens: block_t) -> bool
+    ensures { result ≡ false → (mark : yaml_mark_t) → ends_at ends mark ++ start_at opens mark ≡ [] }
 {
-    group.ends > 0 || !matches!(group.opens, block_t::NONE)
+    ends > 0 || !matches!(opens, block_t::NONE)
 }
 
-/// Gives the block ends of a group and the start of a block collection to a sink, if it hands out any.
+/// Gives block ends and the start of a block collection to a sink, if any is handed out.
 #[inline(always)]
-fn give_front<S: yaml_token_sink_t>(sink: &mut S, group: &group_t) -> Result<(), stop_t>
-    ensures { let mark = group.now.token.start_mark in
-        Gives (λ tokens. S.took sink.old tokens sink.new) S.may_refuse
-        (told_leads (ends_at group.now.ends mark ++ start_at group.now.opens mark)) result }
+fn give_front<S: yaml_token_sink_t>(
+    sink: &mut S,
+    ends: usize,
+    opens: block_t,
+    mark: yaml_mark_t,
+) -> Result<(), stop_t>
+    ensures { Gives (λ tokens. S.took sink.old tokens sink.new) S.may_refuse
+        (told_leads (ends_at ends mark ++ start_at opens mark)) result }
 {
-    if has_blocks(group) {
-        give_blocks(sink, group.ends, group.opens, group.token.start_mark)
+    if has_blocks(ends, opens) {
+        give_blocks(sink, ends, opens, mark)
     } else {
         Ok(())
     }
@@ -185,13 +248,20 @@ fn give_key<S: yaml_token_sink_t>(sink: &mut S, key: bool, mark: yaml_mark_t) ->
     }
 }
 
-/// Gives what a group hands out before its token to a sink.
+/// Gives what is handed out before a token to a sink.
 #[inline(always)]
-fn give_leads<S: yaml_token_sink_t>(sink: &mut S, group: &group_t) -> Result<(), stop_t>
-    ensures { Gives (λ tokens. S.took sink.old tokens sink.new) S.may_refuse (told_leads (leads group.now)) result }
+fn give_leads<S: yaml_token_sink_t>(
+    sink: &mut S,
+    ends: usize,
+    opens: block_t,
+    key: bool,
+    mark: yaml_mark_t,
+) -> Result<(), stop_t>
+    ensures { Gives (λ tokens. S.took sink.old tokens sink.new) S.may_refuse (told_leads (leads_at ends opens key mark))
+        result }
 {
-    match give_front(sink, group) {
-        Ok(_) => give_key(sink, group.key, group.token.start_mark),
+    match give_front(sink, ends, opens, mark) {
+        Ok(_) => give_key(sink, key, mark),
         Err(stop) => Err(stopped(stop)),
     }
 }
@@ -202,7 +272,8 @@ pub(crate) fn give_group<S: yaml_token_sink_t>(sink: &mut S, group: group_t) -> 
     requires { HasWords (token_of group.token).token_data }
     ensures { Gives (λ tokens. S.took sink.old tokens sink.new) S.may_refuse (group_tokens group) result }
 {
-    match give_leads(sink, &group) {
+    let mark = group.token.start_mark;
+    match give_leads(sink, group.ends, group.opens, group.key, mark) {
         Ok(_) => give(sink, group.token),
         Err(stop) => Err(stopped(stop)),
     }
@@ -215,8 +286,33 @@ fn give_keyless<S: yaml_token_sink_t>(sink: &mut S, group: group_t) -> Result<()
     requires words { HasWords (token_of group.token).token_data }
     ensures { Gives (λ tokens. S.took sink.old tokens sink.new) S.may_refuse (group_tokens group) result }
 {
-    match give_front(sink, &group) {
+    let mark = group.token.start_mark;
+    match give_front(sink, group.ends, group.opens, mark) {
         Ok(_) => give(sink, group.token),
+        Err(stop) => Err(stopped(stop)),
+    }
+}
+
+/// Gives a scalar to a sink that copies its value, and before it what is handed out there. The value is the first bytes
+/// of these.
+#[inline(always)]
+fn give_scalar<S: yaml_token_sink_t>(
+    sink: &mut S,
+    leads: leads_t,
+    bytes: &[u8],
+    place: place_t,
+) -> Result<(), stop_t>
+    requires copies { S.copies ≡ true }
+    requires len { place.len ≤ length bytes.now }
+    ensures { (t : code_token_t) → token_of t ≡ scalar_token (take place.len bytes.now) place.style place.start place.end
+        → Gives (λ tokens. S.took sink.old tokens sink.new) S.may_refuse
+        (group_tokens (group_with leads.ends leads.opens leads.key t)) result }
+{
+    match give_leads(sink, leads.ends, leads.opens, leads.key, place.start) {
+        Ok(_) => {
+            sink.put_scalar(bytes, place.len, place.style, place.start, place.end);
+            Ok(())
+        }
         Err(stop) => Err(stopped(stop)),
     }
 }
@@ -240,12 +336,20 @@ fn keys_of(key: bool) -> u128
     if key { 1 } else { 0 }
 }
 
+/// How many tokens a group hands out that begins so.
+#[inline(always)]
+fn count_with(ends: usize, opens: block_t, key: bool) -> u128
+    ensures { result ≡ ends + starts_of opens + keys_of key + 1 }
+{
+    ends as u128 + starts_of(opens) + keys_of(key) + 1
+}
+
 /// How many tokens a group hands out.
 #[inline(always)]
 pub(crate) fn count_of(group: &group_t) -> u128
     ensures { result ≡ length (group_tokens group.now) }
 {
-    group.ends as u128 + starts_of(group.opens) + keys_of(group.key) + 1
+    count_with(group.ends, group.opens, group.key)
 }
 
 /// How many bytes the texts have of what a token says.
@@ -347,6 +451,34 @@ pub(crate) fn hand_keyless<const DIRECT: bool, S: yaml_token_sink_t>(
     }
     let count = count_of(&group);
     match give_keyless(sink, group) {
+        Ok(_) => {
+            scanner.layout.queue.done += 1;
+            scanner.taken += count;
+            Ok(())
+        }
+        Err(stop) => Err(stopped(stop)),
+    }
+}
+
+/// Hands on the group of a scalar whose value stands in the text. It goes straight to a sink that copies the value.
+#[inline(always)]
+pub(crate) fn hand_scalar<S: yaml_token_sink_t>(
+    scanner: &mut scanner_t,
+    sink: &mut S,
+    leads: leads_t,
+    place: place_t,
+) -> Result<(), stop_t>
+    requires copies { S.copies ≡ true }
+    requires within { place.at + place.after + place.len ≤ length (utf8 scanner.old.text.chars) }
+    requires done { scanner.old.layout.queue.done + 1 < 2 ^ 64 }
+    requires taken { scanner.old.taken + (leads.ends + starts_of leads.opens + keys_of leads.key + 1) < 2 ^ 128 }
+    ensures { (t : code_token_t) → token_of t ≡ placed_token (utf8 scanner.old.text.chars) place
+        → IsHandedOn true false scanner.old scanner.new (group_with leads.ends leads.opens leads.key t)
+        (λ tokens. S.took sink.old tokens sink.new) S.may_refuse result }
+{
+    let count = count_with(leads.ends, leads.opens, leads.key);
+    let bytes = scanner.text.bytes();
+    match give_scalar(sink, leads, &bytes[place.at + place.after..], place) {
         Ok(_) => {
             scanner.layout.queue.done += 1;
             scanner.taken += count;

@@ -16,7 +16,7 @@ use std::alloc::{AllocError, Global};
 use yaml_scan::{
     yaml_answer_t, yaml_call_t, yaml_parser_t, yaml_run, yaml_scan_to, yaml_token_sink_t,
 };
-use yaml_text::{unnamed_yaml_token_t_data, yaml_decode, yaml_encoding_t, yaml_token_t};
+use yaml_text::{yaml_decode, yaml_encoding_t, yaml_mark_t, yaml_scalar_style_t, yaml_token_t};
 
 /// The usual key limit, in bytes.
 const KEY_LIMIT: u32 = 1024;
@@ -82,6 +82,25 @@ impl yaml_token_sink_t for token_lines_t {
     fn put(&mut self, token: yaml_token_t) -> Result<(), AllocError> {
         self.len = put_line(&mut self.bytes, self.len, &mut self.kept, &token)?;
         Ok(())
+    }
+
+    ghost copies = { false };
+
+    #[inline(always)]
+    fn copies(&self) -> bool {
+        false
+    }
+
+    #[inline(always)]
+    fn put_scalar(
+        &mut self,
+        _bytes: &[u8],
+        _len: usize,
+        _style: yaml_scalar_style_t,
+        _start: yaml_mark_t,
+        _end: yaml_mark_t,
+    ) {
+        unreachable!()
     }
 
     #[inline(always)]

@@ -97,6 +97,23 @@ onward (suc n) m (c ∷ cs) h =
     let o = onward n m' cs (one_sums m c (get_or cs 0 0) h) in
     record { index = omega (arith, o.index, one_index m c (get_or cs 0 0), length-append (encode c) (utf8 (take n cs))); sums = o.sums }
 
+-- A mark is within the text, and the bytes from it on are those of what is left at its place.
+pub record BytesLeft (cs : List ℕ) (m : yaml_mark_t) (n : ℕ) : Type 0 where
+  pub within : m.index ≤ length (utf8 cs)
+  pub left : drop m.index (utf8 cs) ≡ utf8 (place_at cs n).rest
+
+pub bytes_left : (cs : List ℕ) (m : yaml_mark_t) (n : ℕ) → IsMarkOf cs m n → BytesLeft cs m n
+unfolding skip
+bytes_left cs m n at =
+    let z : yaml_mark_t = record { index = 0; line = 0; column = 0 } in
+    let o = onward n z cs (omega arith) in
+    let index : m.index ≡ length (utf8 (take n cs)) = omega (arith, ap (λ (x : yaml_mark_t). x.index) at.mark_is, o.index) in
+    let parts = take_parts n cs in
+    record {
+      within = omega (arith, index, ap length parts, length-append (utf8 (take n cs)) (utf8 (drop n cs)));
+      left = ap (λ (x : List ℕ). drop m.index x) parts ∙ drop_at (utf8 (take n cs)) (utf8 (drop n cs)) m.index (sym index) ∙ ap utf8 (sym (rest_skip n (record { mark = z; rest = cs })));
+    }
+
 -- the bytes from a mark on
 pub record Found (bytes : List ℕ) (m : yaml_mark_t) (p : Place) : Type 0 where
   pub within : m.index ≤ length bytes
@@ -110,13 +127,13 @@ finds bytes cs m n e each at =
     let z : yaml_mark_t = record { index = 0; line = 0; column = 0 } in
     let o = onward n z cs (omega arith) in
     let mark : m ≡ (skip_from n z cs).mark = at.mark_is in
-    let index : m.index ≡ length (utf8 (take n cs)) = omega (arith, ap (λ (x : yaml_mark_t). x.index) mark, o.index) in
-    let parts : bytes ≡ utf8 (take n cs) ++ utf8 (drop n cs) = e ∙ take_parts n cs in
-    let dr : drop m.index bytes ≡ utf8 (drop n cs) = ap (λ (x : List ℕ). drop m.index x) parts ∙ drop_at (utf8 (take n cs)) (utf8 (drop n cs)) m.index (sym index) in
+    let b = bytes_left cs m n at in
+    let rest : (skip_from n z cs).rest ≡ drop n cs = rest_skip n (record { mark = z; rest = cs }) in
+    let dr : drop m.index bytes ≡ utf8 (drop n cs) = ap (λ (x : List ℕ). drop m.index x) e ∙ b.left ∙ ap utf8 rest in
     let two = AreChars-parts (take n cs) (drop n cs) (subst AreChars (sym (take-append-drop n cs)) each) in
-    let left : chars (drop m.index bytes) ≡ (skip_from n z cs).rest = ap chars dr ∙ chars-utf8 (drop n cs) two.1 ∙ sym (rest_skip n (record { mark = z; rest = cs })) in
+    let left : chars (drop m.index bytes) ≡ (skip_from n z cs).rest = ap chars dr ∙ chars-utf8 (drop n cs) two.1 ∙ sym rest in
     record {
-      within = omega (arith, index, ap length parts, length-append (utf8 (take n cs)) (utf8 (drop n cs)));
+      within = omega (arith, b.within, ap length e);
       text = subst IsText (sym dr) (IsText-utf8 (drop n cs) two.1);
       sums = subst (λ (x : yaml_mark_t). x.line + x.column ≤ x.index) (sym mark) o.sums;
       place = λ i. record { mark = mark i; rest = left i };

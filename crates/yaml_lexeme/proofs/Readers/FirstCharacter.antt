@@ -1,11 +1,12 @@
--- A lexeme of one character begins with one of ASCII that is no break.
+-- A lexeme of one character begins with one of ASCII that is no break, and a quoted scalar with its quote.
 use Rattle.std.proofs.Common.{◌≡◌, ℕ, ◌<◌, Bool, true, false, not, ◌==◌, ◌&&◌, ◌||◌, if◌then◌else◌, Option, Some, refl, sym, ◌∙◌, subst, arith}
 use Rattle.std.proofs.lemmas.Bool.{and_parts, false≢true}
 use Rattle.std.proofs.Common.{eqb-true}
 use Rattle.yaml_text.specs.Classes.{is_break, is_z}
 use Rattle.yaml_lexeme.specs.Classes.{ends}
 use Rattle.yaml_lexeme.specs.Kind.{is_marker_of, starts_plain, kind_at}
-use Rattle.yaml_lexeme.specs.KindSets.{is_character}
+use Rattle.yaml_lexeme.specs.KindSets.{is_character, quoted_kind}
+use Rattle.yaml_lexeme.specs.Quoted.{quote}
 use Rattle.yaml_lexeme.specs.Place.{Place, first, peek}
 use Rattle.yaml_lexeme.specs.declared.kind.yaml_lexeme_kind_t.{yaml_lexeme_kind_t}
 use Rattle.yaml_lexeme.specs.declared.kind.yaml_lexeme_kind_t.TheVariants as kind
@@ -52,3 +53,70 @@ first_single flow p k h o =
     other (c == 0x27) kind.SINGLE_QUOTED k _ c h17 o refl (λ h18.
     other (c == 0x22) kind.DOUBLE_QUOTED k _ c h18 o refl (λ h19.
     other (starts_plain flow c) kind.PLAIN k _ c h19 o refl (λ h20. absurd (cc)))))))))))))))))))))
+
+-- ---- quotes
+
+-- a row of a kind that is not the one that was found, and the row of that one
+not_this : (b : Bool) (j k : yaml_lexeme_kind_t) (rest : Option yaml_lexeme_kind_t) → (if b then Some j else rest) ≡ Some k → (j ≡ k → ⊥) → rest ≡ Some k
+not_this true j k rest h differ = let same : j ≡ k = cc in absurd (differ same)
+not_this false j k rest h differ = h
+
+found_by : (b : Bool) (j k : yaml_lexeme_kind_t) (rest : Option yaml_lexeme_kind_t) → (if b then Some j else rest) ≡ Some k → (rest ≡ Some k → b ≡ true) → b ≡ true
+found_by true j k rest h f = refl
+found_by false j k rest h f = f h
+
+single_quote : (flow : Bool) (p : Place) → kind_at flow p ≡ Some kind.SINGLE_QUOTED → first p ≡ 0x27
+unfolding kind_at
+single_quote flow p h =
+    let c = first p in
+    let alone = ends (peek p 1) in
+    let k = kind.SINGLE_QUOTED in
+    let h1 = not_this (is_z c) kind.STREAM_END k _ h (λ e. cc) in
+    let h2 = not_this (p.mark.column == 0 && c == 0x25) kind.DIRECTIVE k _ h1 (λ e. cc) in
+    let h3 = not_this (is_marker_of 0x2D p) kind.DOCUMENT_START k _ h2 (λ e. cc) in
+    let h4 = not_this (is_marker_of 0x2E p) kind.DOCUMENT_END k _ h3 (λ e. cc) in
+    let h5 = not_this (c == 0x5B) kind.FLOW_SEQUENCE_START k _ h4 (λ e. cc) in
+    let h6 = not_this (c == 0x7B) kind.FLOW_MAPPING_START k _ h5 (λ e. cc) in
+    let h7 = not_this (c == 0x5D) kind.FLOW_SEQUENCE_END k _ h6 (λ e. cc) in
+    let h8 = not_this (c == 0x7D) kind.FLOW_MAPPING_END k _ h7 (λ e. cc) in
+    let h9 = not_this (c == 0x2C) kind.FLOW_ENTRY k _ h8 (λ e. cc) in
+    let h10 = not_this (c == 0x2D && alone) kind.BLOCK_ENTRY k _ h9 (λ e. cc) in
+    let h11 = not_this (c == 0x3F && (flow || alone)) kind.KEY k _ h10 (λ e. cc) in
+    let h12 = not_this (c == 0x3A && (flow || alone)) kind.VALUE k _ h11 (λ e. cc) in
+    let h13 = not_this (c == 0x2A) kind.ALIAS k _ h12 (λ e. cc) in
+    let h14 = not_this (c == 0x26) kind.ANCHOR k _ h13 (λ e. cc) in
+    let h15 = not_this (c == 0x21) kind.TAG k _ h14 (λ e. cc) in
+    let h16 = not_this (c == 0x7C && not flow) kind.LITERAL k _ h15 (λ e. cc) in
+    let h17 = not_this (c == 0x3E && not flow) kind.FOLDED k _ h16 (λ e. cc) in
+    eqb-true c 0x27 (found_by (c == 0x27) k k _ h17 (λ e. (let r = not_this (c == 0x22) kind.DOUBLE_QUOTED k _ e (λ e. cc) in let s = not_this (starts_plain flow c) kind.PLAIN k _ r (λ e. cc) in absurd cc)))
+
+double_quote : (flow : Bool) (p : Place) → kind_at flow p ≡ Some kind.DOUBLE_QUOTED → first p ≡ 0x22
+unfolding kind_at
+double_quote flow p h =
+    let c = first p in
+    let alone = ends (peek p 1) in
+    let k = kind.DOUBLE_QUOTED in
+    let h1 = not_this (is_z c) kind.STREAM_END k _ h (λ e. cc) in
+    let h2 = not_this (p.mark.column == 0 && c == 0x25) kind.DIRECTIVE k _ h1 (λ e. cc) in
+    let h3 = not_this (is_marker_of 0x2D p) kind.DOCUMENT_START k _ h2 (λ e. cc) in
+    let h4 = not_this (is_marker_of 0x2E p) kind.DOCUMENT_END k _ h3 (λ e. cc) in
+    let h5 = not_this (c == 0x5B) kind.FLOW_SEQUENCE_START k _ h4 (λ e. cc) in
+    let h6 = not_this (c == 0x7B) kind.FLOW_MAPPING_START k _ h5 (λ e. cc) in
+    let h7 = not_this (c == 0x5D) kind.FLOW_SEQUENCE_END k _ h6 (λ e. cc) in
+    let h8 = not_this (c == 0x7D) kind.FLOW_MAPPING_END k _ h7 (λ e. cc) in
+    let h9 = not_this (c == 0x2C) kind.FLOW_ENTRY k _ h8 (λ e. cc) in
+    let h10 = not_this (c == 0x2D && alone) kind.BLOCK_ENTRY k _ h9 (λ e. cc) in
+    let h11 = not_this (c == 0x3F && (flow || alone)) kind.KEY k _ h10 (λ e. cc) in
+    let h12 = not_this (c == 0x3A && (flow || alone)) kind.VALUE k _ h11 (λ e. cc) in
+    let h13 = not_this (c == 0x2A) kind.ALIAS k _ h12 (λ e. cc) in
+    let h14 = not_this (c == 0x26) kind.ANCHOR k _ h13 (λ e. cc) in
+    let h15 = not_this (c == 0x21) kind.TAG k _ h14 (λ e. cc) in
+    let h16 = not_this (c == 0x7C && not flow) kind.LITERAL k _ h15 (λ e. cc) in
+    let h17 = not_this (c == 0x3E && not flow) kind.FOLDED k _ h16 (λ e. cc) in
+    let h18 = not_this (c == 0x27) kind.SINGLE_QUOTED k _ h17 (λ e. cc) in
+    eqb-true c 0x22 (found_by (c == 0x22) k k _ h18 (λ e. (let s = not_this (starts_plain flow c) kind.PLAIN k _ e (λ e. cc) in absurd cc)))
+
+-- A quoted scalar begins with its quote.
+pub opening_quote : (flow : Bool) (p : Place) (single : Bool) → kind_at flow p ≡ Some (quoted_kind single) → first p ≡ quote single
+opening_quote flow p true h = single_quote flow p h
+opening_quote flow p false h = double_quote flow p h

@@ -1,9 +1,16 @@
 -- What was laid is handed on: into the queue, or straight to a sink.
-use Rattle.std.proofs.Common.{◌≡◌, ℕ, ◌+◌, ◌^◌, ◌≤◌, ◌<◌, not, Bool, true, false, List, [], ◌∷◌, ◌++◌, drop, length, length-append, length-drop, append-nil, append_assoc, Option, None, Some, Ok, Err, refl, ap, sym, ◌∙◌, subst, arith, inl, inr}
+use Rattle.std.proofs.Common.{◌≡◌, ℕ, ◌+◌, ◌^◌, ◌≤◌, ◌<◌, not, Bool, true, false, List, [], ◌∷◌, ◌++◌, drop, take, length, length-append, length-drop, append-nil, append_assoc, Option, None, Some, Ok, Err, refl, ap, sym, ◌∙◌, subst, arith, inl, inr}
 use Rattle.std.specs.Prelude.{◌⊎◌, OnOk, Result}
 use Rattle.std.specs.List.{list_any}
 use Rattle.std.specs.VecDeque.{deque_capacity}
+use Rattle.std.specs.declared.alloc.Global.{Global}
+use Rattle.std.specs.declared.vec.Vec.{Vec}
+use Rattle.yaml_text.specs.declared.token.unnamed_yaml_token_t_data.TheVariants as token_datas
+use Rattle.yaml_scan.specs.declared.target.place_t.{place_t}
+use Rattle.yaml_scan.specs.declared.finish.laid_t.{laid_t}
 use Rattle.std.proofs.lemmas.Bool.{false≢true}
+use Rattle.std.proofs.lemmas.List.{length-take-le}
+use Rattle.yaml_text.specs.Chars.{utf8}
 use Rattle.std.proofs.lemmas.List.Folds.{list_any-append}
 use Rattle.yaml_text.specs.declared.types.yaml_encoding_t.{yaml_encoding_t}
 use Rattle.yaml_text.specs.declared.types.yaml_mark_t.{yaml_mark_t}
@@ -11,7 +18,7 @@ use Rattle.yaml_text.specs.declared.token.yaml_token_t.{yaml_token_t as code_tok
 use Rattle.yaml_text.specs.Token.{token_of}
 use Rattle.yaml_scan.specs.Course.{ended}
 use Rattle.yaml_scan.specs.declared.fault.stop_t.{stop_t}
-use Rattle.yaml_scan.specs.declared.fault.stop_t.TheVariants.{SINK}
+use Rattle.yaml_scan.specs.declared.fault.stop_t.TheVariants.{MEMORY, SINK}
 use Rattle.yaml_scan.specs.declared.groups.group_t.{group_t}
 use Rattle.yaml_scan.specs.declared.groups.queue_t.{queue_t}
 use Rattle.yaml_scan.specs.declared.scanner.scanner_t.{scanner_t}
@@ -33,9 +40,9 @@ use Rattle.yaml_lexeme.specs.Lexeme.{Lexeme as yaml_lexeme_t}
 use Rattle.yaml_scan.specs.declared.met.step_t.{step_t}
 use Rattle.yaml_scan.proofs.SessionCalls.AnswerWords.{read_has_words}
 use Rattle.yaml_scan.proofs.Texts.LexemeReads.{decider_silent, read_says}
-use Rattle.yaml_scan.specs.inside.Handed.{AllSettled, Empties, HandsOut, IsCut, IsHanded, IsHandedOn, IsLaidAlone, IsLaidAs, IsLaidBoth, IsPushed, LaysTo, WasLaidWith, group_tokens, groups_tokens, is_end, keys_of, lone, made_by, one_done, set_queue, starts_of, told_leads, with_queue}
+use Rattle.yaml_scan.specs.inside.Handed.{AllSettled, Empties, HandsOut, IsCut, IsHanded, IsHandedOn, IsLaidAlone, IsLaidAs, IsLaidBoth, IsPushed, LaysTo, WasLaid, WasLaidWith, group_tokens, group_with, groups_tokens, is_end, keys_of, lone, made_by, one_done, placed_token, set_queue, starts_of, told_leads, with_queue}
 use Rattle.yaml_scan.specs.inside.Queue.{IsQueue, early_before, leads, pending}
-use Rattle.yaml_scan.specs.inside.Scanning.{AdvancesTwice, AdvancesWith, CanLayAll, HoldsWith, IsDecided, IsLaidBy, LaysTwo, counted, groups_in}
+use Rattle.yaml_scan.specs.inside.Scanning.{AdvancesTwice, AdvancesWith, CanLayAll, HoldsWith, IsDecided, IsLaidBy, LaysTwo, Refuses, Same, counted, groups_in}
 use Rattle.yaml_scan.proofs.History.KindTests.{candidate_not_end, decider_not_end}
 use Rattle.yaml_scan.proofs.RunningQueue.CandidateGroup.{AreMade, leads_made}
 use Rattle.yaml_scan.specs.Sink.{said_len, texts_len}
@@ -471,3 +478,65 @@ few_made H s t direct took refuses n w l =
     let b = made_of direct w.3 w.1 w.2 t w.0 w.5 in
     let c = a.0 in
     let d = a.1 in omega arith
+
+-- SCALARS THAT STAND IN THE TEXT
+-- there is a token with such a value
+placed : (v : Vec ℕ Global) (bytes : List ℕ) (p : place_t) → p.at + p.after + p.len ≤ length bytes → p.len < 2 ^ 63 → (t : code_token_t) × (token_of t ≡ placed_token bytes p)
+placed v bytes p w l =
+    let a = length-take-le p.len (drop (p.at + p.after) bytes) (let d = length-drop (p.at + p.after) bytes in omega arith) in
+    let value : Vec ℕ Global = record { ptr = v.ptr; len = length (take p.len (drop (p.at + p.after) bytes)); cap = length (take p.len (drop (p.at + p.after) bytes)); alloc = v.alloc; items = take p.len (drop (p.at + p.after) bytes); ok = (refl, omega arith); small = omega arith } in
+    (record { token_data = token_datas.SCALAR value p.style; start_mark = p.start; end_mark = p.end }, refl)
+
+pub placed_in : (s : scanner_t) (p : place_t) → p.at + p.after + p.len ≤ length (utf8 s.text.chars) → p.len < 2 ^ 63 → (t : code_token_t) × (token_of t ≡ placed_token (utf8 s.text.chars) p)
+placed_in s p w l = placed s.layout.levels (utf8 s.text.chars) p w l
+
+-- its text has as many bytes
+pub placed_len : (s : scanner_t) (p : place_t) → p.at + p.after + p.len ≤ length (utf8 s.text.chars) → (t : code_token_t) → token_of t ≡ placed_token (utf8 s.text.chars) p → said_len (token_of t).token_data ≤ p.len
+placed_len s p w t T =
+    let bytes = utf8 s.text.chars in
+    let d = length-drop (p.at + p.after) bytes in
+    let a = length-take-le p.len (drop (p.at + p.after) bytes) (omega arith) in
+    let e = ap (λ (z : yaml_token_t). said_len z.token_data) T in omega arith
+
+-- what was laid need not wait
+pub goes_on : (H : List Laid) (s u : scanner_t) (l : laid_t) (t : code_token_t) → l.waits ≡ false → WasLaid H s u true l t → WasLaidWith H s u true false (group_with l.ends l.opens l.key t) l.decider
+goes_on H s u l t e w = subst (λ (b : Bool). WasLaidWith H s u true b (group_with l.ends l.opens l.key t) l.decider) e w
+
+-- what laying leaves as it is
+pub stays_laid : (H : List Laid) (s u : scanner_t) (direct waits : Bool) (y : group_t) (o : Option code_token_t) → WasLaidWith H s u direct waits y o → (Same s u) × (u.made ≡ s.made)
+stays_laid H s u direct waits y None w = let A = w.1 in let a = A.laid.advances in (a.same, a.made)
+stays_laid H s u direct waits y (Some z) B =
+    let a = B.laid.0.0 in
+    let e = a.first.same in
+    let f = a.second.same in
+    let m = a.first.made in
+    let n = a.second.made in (
+      record { text = f.text ∙ e.text; refusal = f.refusal ∙ e.refusal; near = f.near ∙ e.near; limit = f.limit ∙ e.limit; taken = f.taken ∙ e.taken; done = f.done ∙ e.done },
+      omega arith,
+    )
+
+-- a step that was laid, but is not made since memory was refused
+pub refused_laid : (H : List Laid) (s u : scanner_t) (l : laid_t) (t : code_token_t) → WasLaid H s u true l t → (reach : yaml_mark_t) → reach ≡ s.reach → (stop : stop_t) → stop ≡ MEMORY → Refuses H s (record u { reach = reach }) stop
+refused_laid H s u l t w reach e stop m =
+    let a = stays_laid H s u true l.waits (group_with l.ends l.opens l.key t) l.decider w in
+    let x = a.0 in (
+      inl (rw m refl),
+      record { same = record { text = x.text; refusal = x.refusal; near = x.near; limit = x.limit; taken = x.taken; done = x.done }; made = a.1; reach = e },
+    )
+
+-- what waits is laid as for the queue
+pub laid_queued : (H : List Laid) (s u : scanner_t) (waits : Bool) (y : group_t) (o : Option code_token_t) → waits ≡ true → WasLaidWith H s u true waits y o → WasLaidWith H s u false waits y o
+laid_queued H s u waits y None e w = w
+laid_queued H s u waits y (Some z) e B = record {
+  laid = B.laid;
+  few = B.few;
+  room = B.room;
+  words = B.words;
+  decider_words = B.decider_words;
+  no_end = B.no_end;
+  decider_no_end = B.decider_no_end;
+  straight = λ f. absurd (false≢true (sym f ∙ e));
+  awaited = B.awaited;
+  early = B.early;
+  alone = B.alone;
+}

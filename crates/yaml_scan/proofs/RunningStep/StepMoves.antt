@@ -2,6 +2,8 @@
 use Rattle.std.proofs.Common.{◌≡◌, ℕ, ◌+◌, ◌≤◌, Bool, true, false, List, [], ◌∷◌, length, reverse, filter, Option, Ok, Err, refl, ap, sym, ◌∙◌, subst, arith, inl, inr, vec_len}
 use Rattle.std.specs.Prelude.{OnOk, Result}
 use Rattle.yaml_text.specs.Fault.{Fault}
+use Rattle.yaml_text.specs.declared.types.yaml_mark_t.{yaml_mark_t}
+use Rattle.yaml_lexeme.specs.LexemeOf.{lexeme_of}
 use Rattle.yaml_lexeme.specs.Lexeme.{Lexeme as yaml_lexeme_t}
 use Rattle.yaml_lexeme.specs.Counted.{IsMarkOf}
 use Rattle.yaml_lexeme.specs.declared.lex.yaml_context_t.{yaml_context_t}
@@ -17,7 +19,7 @@ use Rattle.yaml_scan.specs.Laid.{Laid}
 use Rattle.yaml_scan.specs.Levels.{greatest_level, laid, stays}
 use Rattle.yaml_scan.specs.Settled.{before}
 use Rattle.yaml_scan.specs.inside.TextReads.{IsRead}
-use Rattle.yaml_scan.specs.inside.Scanning.{AdvancesTwice, AdvancesWith, Beside, CanRead, CanStep, Comes, Ends, HasRead, HasRoom, Holds, IsLaidBy, IsMet, IsNewHeld, IsReadIn, IsStep, Makes, Needs, Refuses, Same, Stays}
+use Rattle.yaml_scan.specs.inside.Scanning.{AdvancesTwice, AdvancesWith, Beside, CanRead, CanStep, Comes, Ends, HasRead, HasRoom, Holds, IsLaidBy, IsMet, IsNewHeld, HasReadStep, IsReadIn, IsStep, Makes, Needs, Refuses, Same, Stays}
 use Rattle.yaml_scan.specs.inside.Scanning.{allowed_in, at_there, counted, groups_in, met_in}
 use Rattle.yaml_scan.specs.Token.{yaml_token_t}
 use Rattle.yaml_scan.specs.inside.Handed.{HandsOut, LaysTo, StepsTo}
@@ -56,6 +58,10 @@ read_as_met s k m x l e f = λ p i. subst (λ (z : Kind). IsRead s.text.chars z 
 read_as : (s : scanner_t) (k : Kind) (x : yaml_context_t) (t : scanner_t) (o : Result code_lexeme_t yaml_refusal_t) → IsReadIn s k x t.there o → IsReadIn (at_there s t) k x t.there o
 read_as s k x t (Ok l) f = f
 read_as s k x t (Err r) f = f
+
+-- what was read well
+pub read_well : (s : scanner_t) (r : step_t) (there : yaml_mark_t) (o : Result code_lexeme_t yaml_refusal_t) (l : code_lexeme_t) → o ≡ Ok l → IsReadIn s r.kind r.context there o → HasReadStep s r (lexeme_of l)
+read_well s r there o l e h = subst (λ (q : Result code_lexeme_t yaml_refusal_t). IsReadIn s r.kind r.context there q) e h
 
 pub read_then : (H : List Laid) (s t : scanner_t) (r : step_t) (k : Kind) (o : Result code_lexeme_t yaml_refusal_t) → CanRead H s r → r.kind ≡ k → HasRead s t k r.context o
     → CanRead H t r × IsReadIn t r.kind r.context t.there o
@@ -237,3 +243,32 @@ steps_all H s t direct took n w = (w.0, counted_by w.1 n, w.2, w.3, made_all w.3
 -- or a token of it was refused
 pub cut_all : (H : List Laid) (s t : scanner_t) (direct : Bool) (took : List yaml_token_t → Type 0) (refuses : Type 0) (stop : stop_t) → LaysTo H s t direct took refuses (Err stop) → StepsTo H s t direct took refuses (Err stop)
 cut_all H s t direct took refuses stop w = let c = w.1 in inr (w.0, (c.1, counted_by c.2 c.0, c.3, made_all false H s c.2 c.3 c.0 c.4, c.5, (let a = c.6 in record { awaited = a.awaited; early = a.early; tokens_are = a.tokens_are; no_end = a.no_end }), c.7), w.2)
+
+-- what comes, after room was made
+pub comes_on : (H : List Laid) (s t : scanner_t) (in_flow : Bool) (k : Kind) → Comes H s in_flow k → Beside s t → Comes H t in_flow k
+comes_on H s t in_flow k c b = let p = c.passes in let d = p.can in record {
+  passes = record {
+    can = record {
+      holds = subst (λ (z : ℕ). Holds H (z + 1) t) (sym b.made) (with_room H (s.made + 1) s t d.holds b.text b.limit b.outer b.empty b.top b.awaited b.allowed b.levels b.groups b.done b.early b.queue_front b.reach b.taken);
+      running = d.running;
+      small = rw b.text d.small;
+      few_steps = rw b.made d.few_steps;
+      near = rw (b.refusal, b.text, b.near) d.near;
+    };
+    flow = rw b.depth p.flow;
+    front = rw (b.text, b.front) p.front;
+    none_lost = rw (b.limit, b.front, b.outer, b.top) p.none_lost;
+  };
+  is_kind = rw b.text c.is_kind;
+}
+
+-- a step whose groups went into the queue, while a sink was given nothing
+pub queued_straight : (H : List Laid) (s t : scanner_t) (none took : List yaml_token_t → Type 0) (never refuses : Type 0) → took [] → (o : Result (Unit {0}) stop_t) → StepsTo H s t false none never o → StepsTo H s t true took refuses o
+queued_straight H s t none took never refuses nil (Ok x) w = elim w.5 [
+  | inl i ↦ (w.0, w.1, w.2, w.3, w.4, inl i, subst took (sym i.1) nil)
+  | inr h ↦ absurd (false≢true h.0)
+]
+queued_straight H s t none took never refuses nil (Err stop) w = elim w [
+  | inl r ↦ inl (r.0, nil)
+  | inr h ↦ absurd (false≢true h.1.4)
+]

@@ -1,5 +1,5 @@
 -- The places of a text, by how many characters are before them, and what is read there.
-use Rattle.std.proofs.Common.{◌≡◌, ℕ, ◌+◌, ◌-◌, ◌≤◌, Bool, true, false, List, length, Option, Some, None, Result, Ok, Err, refl, ap, sym, ◌∙◌, arith, inl, inr}
+use Rattle.std.proofs.Common.{◌≡◌, ℕ, ◌+◌, ◌-◌, ◌≤◌, ◌<◌, ◌^◌, Bool, true, false, List, length, Option, Some, None, Result, Ok, Err, refl, ap, sym, ◌∙◌, subst, drop, arith, inl, inr}
 use Rattle.yaml_text.specs.declared.types.yaml_mark_t.{yaml_mark_t}
 use Rattle.yaml_text.specs.Fault.{Fault}
 use Rattle.yaml_lexeme.specs.Lexeme.{Lexeme as yaml_lexeme_t}
@@ -25,7 +25,10 @@ use Rattle.yaml_lexeme.proofs.MarkOrder.SmallReadersAhead.{gap_order}
 use Rattle.yaml_scan.specs.declared.scanner.scanner_t.{scanner_t}
 use Rattle.yaml_scan.specs.Kind.{Kind}
 use Rattle.yaml_scan.specs.SourceOf.{source_of, count_to, reading, reading_of}
-use Rattle.yaml_scan.specs.inside.Scanning.{IsReadIn}
+use Rattle.yaml_text.specs.declared.types.yaml_scalar_style_t.{yaml_scalar_style_t}
+use Rattle.yaml_lexeme.specs.Stretch.{stretch_lexeme}
+use Rattle.yaml_lexeme.specs.declared.stretch.yaml_stretch_t.{yaml_stretch_t}
+use Rattle.yaml_scan.specs.inside.Scanning.{IsReadIn, IsStretch}
 use Rattle.yaml_scan.specs.inside.TextReads.{IsDecider, IsRead, IsOffence}
 
 -- a place further on is the place after so many characters
@@ -123,3 +126,21 @@ reads_well s k x there other (Err r) e f = cc
 pub level_bytes : (cs : List ℕ) (o : Option ℕ) → IfSome o (λ l. l ≤ length cs) → IfSome o (λ l. l ≤ length (utf8 cs))
 level_bytes cs None a = tt
 level_bytes cs (Some l) a = let s = short cs in omega arith
+
+-- a scalar that stands in the text
+pub stretch_there : (s : scanner_t) (k : Kind) (style : yaml_scalar_style_t) (c : yaml_context_t) (after m : ℕ) → s.front.index + after ≡ m → (o : Option yaml_stretch_t)
+    → IfSome o (λ x. (n : ℕ) → IsMarkOf s.text.chars s.front n → lexeme_at k c (place_at s.text.chars n) ≡ Ok (stretch_lexeme style s.front (drop m (utf8 s.text.chars)) x)) → IfSome o (λ x. m + x.len ≤ length (utf8 s.text.chars)) → IfSome o (λ x. x.len < 2 ^ 63)
+    → IfSome o (λ x. IsStretch s k style c after x)
+stretch_there s k style c after m e None v w l = tt
+stretch_there s k style c after m e (Some x) v w l = record {
+  read = λ p i. subst (λ (j : ℕ). IsRead s.text.chars k c.depth c.level p (stretch_lexeme style s.front (drop j (utf8 s.text.chars)) x)) (sym e) (read_there s.text.chars k c.depth c.level p (stretch_lexeme style s.front (drop m (utf8 s.text.chars)) x) (v p i));
+  within = omega arith;
+  small = l;
+}
+
+-- in one context, if it is read so in any
+pub in_context : (s : scanner_t) (k : Kind) (style : yaml_scalar_style_t) (c : yaml_context_t) (m : ℕ) (o : Option yaml_stretch_t)
+    → IfSome o (λ x. (n : ℕ) (d : yaml_context_t) → IsMarkOf s.text.chars s.front n → lexeme_at k d (place_at s.text.chars n) ≡ Ok (stretch_lexeme style s.front (drop m (utf8 s.text.chars)) x))
+    → IfSome o (λ x. (n : ℕ) → IsMarkOf s.text.chars s.front n → lexeme_at k c (place_at s.text.chars n) ≡ Ok (stretch_lexeme style s.front (drop m (utf8 s.text.chars)) x))
+in_context s k style c m None f = tt
+in_context s k style c m (Some x) f = λ n i. f n c i

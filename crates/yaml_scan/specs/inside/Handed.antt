@@ -1,11 +1,12 @@
 -- Where the groups of a step go: into the queue, or straight to a sink.
-use Rattle.std.specs.Prelude.{◌≡◌, ◌⊎◌, ℕ, ◌+◌, ◌≤◌, Bool, true, false, List, [], ◌∷◌, ◌++◌, map, length}
+use Rattle.std.specs.Prelude.{◌≡◌, ◌⊎◌, ℕ, ◌+◌, ◌≤◌, Bool, true, false, List, [], ◌∷◌, ◌++◌, map, length, take, drop}
 use Rattle.std.specs.Prelude.{Result, Ok, Err, MatchResult, ◌<◌, ◌^◌, Option, None, Some}
 use Rattle.std.specs.List.{list_any}
 use Rattle.std.specs.VecDeque.{deque_capacity}
 use Rattle.yaml_text.specs.declared.types.yaml_encoding_t.TheVariants.{YAML_UTF8_ENCODING}
 use Rattle.yaml_text.specs.declared.token.yaml_token_t.{yaml_token_t as code_token_t}
 use Rattle.yaml_text.specs.declared.types.yaml_mark_t.{yaml_mark_t}
+use Rattle.yaml_text.specs.Chars.{utf8}
 use Rattle.yaml_text.specs.Token.{TokenData, token_of}
 use Rattle.yaml_lexeme.specs.Lexeme.{Lexeme as yaml_lexeme_t}
 use Rattle.yaml_scan.specs.declared.fault.stop_t.{stop_t}
@@ -16,11 +17,12 @@ use Rattle.yaml_scan.specs.declared.groups.block_t.TheVariants.{NONE, SEQUENCE, 
 use Rattle.yaml_scan.specs.declared.groups.group_t.{group_t}
 use Rattle.yaml_scan.specs.declared.groups.queue_t.{queue_t}
 use Rattle.yaml_scan.specs.declared.scanner.scanner_t.{scanner_t}
+use Rattle.yaml_scan.specs.declared.target.place_t.{place_t}
 use Rattle.yaml_scan.specs.Begins.{Begins}
 use Rattle.yaml_scan.specs.Groups.{Token, handed_out}
 use Rattle.yaml_scan.specs.Kind.{Kind, is_stream_end}
 use Rattle.yaml_scan.specs.Laid.{Laid}
-use Rattle.yaml_scan.specs.Sink.{said_len}
+use Rattle.yaml_scan.specs.Sink.{said_len, scalar_token}
 use Rattle.yaml_scan.specs.Token.{yaml_token_t, type_of}
 use Rattle.yaml_scan.specs.TokenTypes.{is_last_type}
 use Rattle.yaml_scan.specs.Words.{HasWords}
@@ -191,6 +193,10 @@ IsReadTo x reach passed = (x.reach ≡ reach) × (x.passed_break ≡ passed)
 abbrev pub IsTokenOf : code_token_t → TokenData → yaml_mark_t → yaml_mark_t → Type 0
 IsTokenOf t d b e = token_of t ≡ record { token_data = d; start_mark = b; end_mark = e }
 
+-- the token of a scalar whose value stands in a text
+abbrev pub placed_token : List ℕ → place_t → yaml_token_t
+placed_token bytes p = scalar_token (take p.len (drop (p.at + p.after) bytes)) p.style p.start p.end
+
 -- the group of a token
 abbrev pub group_with : ℕ → block_t → Bool → code_token_t → group_t
 group_with ends opens key t = record { ends = ends; opens = opens; key = key; token = t }
@@ -230,6 +236,11 @@ WasLaidWith H s t direct waits y (Some z) = IsLaidBoth H s t direct waits y z
 
 abbrev pub WasLaid : List Laid → scanner_t → scanner_t → Bool → laid_t → code_token_t → Type 0
 WasLaid H s t direct l token = WasLaidWith H s t direct l.waits (group_with l.ends l.opens l.key token) l.decider
+
+-- the same of a scalar whose value stands in the text
+abbrev pub WasLaidAt : List Laid → scanner_t → scanner_t → laid_t → place_t → Type 0
+WasLaidAt H s t l p = (token : code_token_t) → token_of token ≡ placed_token (utf8 t.text.chars) p
+    → WasLaid H s t true l token
 
 -- all tokens of a group and of what decides it
 abbrev pub tokens_with : group_t → Option code_token_t → List yaml_token_t

@@ -16,6 +16,9 @@ use Rattle.yaml_lexeme.specs.Answers.{refused_at}
 use Rattle.yaml_lexeme.specs.LexemeOf.{lexeme_of}
 use Rattle.yaml_lexeme.specs.declared.lex.yaml_context_t.{yaml_context_t}
 use Rattle.yaml_lexeme.specs.declared.lexeme.yaml_lexeme_t.{yaml_lexeme_t as code_lexeme_t}
+use Rattle.yaml_lexeme.specs.Stretch.{stretch_lexeme}
+use Rattle.yaml_lexeme.specs.declared.stretch.yaml_stretch_t.{yaml_stretch_t}
+use Rattle.yaml_text.specs.declared.types.yaml_scalar_style_t.{yaml_scalar_style_t}
 use Rattle.yaml_lexeme.specs.declared.problem.yaml_refusal_t.{yaml_refusal_t}
 use Rattle.yaml_lexeme.specs.declared.problem.yaml_refusal_t.TheVariants.{MEMORY}
 use Rattle.yaml_scan.specs.inside.StepParts.{read_step}
@@ -216,6 +219,20 @@ IsReadIn s k x there (Ok l) = (p : ℕ) → IsMarkOf s.text.chars s.front p
     → IsRead s.text.chars k x.depth x.level p (lexeme_of l)
 IsReadIn s k x there (Err r) = (p : ℕ) → IsMarkOf s.text.chars s.front p
     → (r ≡ MEMORY) ⊎ IsOffence s.text.chars k x.depth x.level p (refused_at k s.front there r)
+
+-- the lexeme x was read after the gap
+abbrev pub HasReadStep : scanner_t → step_t → yaml_lexeme_t → Type 0
+HasReadStep s r x = (p : ℕ) → IsMarkOf s.text.chars s.front p
+    → IsRead s.text.chars r.kind r.context.depth r.context.level p x
+
+-- A scalar of kind k was read after the gap, whose value stands in the text, after so many bytes of the scalar.
+pub record IsStretch
+    (s : scanner_t) (k : Kind) (style : yaml_scalar_style_t) (c : yaml_context_t) (after : ℕ) (x : yaml_stretch_t)
+    : Type 0 where
+  pub read : (p : ℕ) → IsMarkOf s.text.chars s.front p → IsRead s.text.chars k c.depth c.level p
+      (stretch_lexeme style s.front (drop (s.front.index + after) (utf8 s.text.chars)) x)
+  pub within : s.front.index + after + x.len ≤ length (utf8 s.text.chars)
+  pub small : x.len < 2 ^ 63
 
 -- A step has to stop after the lexeme x, which was read to `there`.
 pub record StopsAfter (H : List Laid) (s : scanner_t) (r : step_t) (x : yaml_lexeme_t) : Type 0 where

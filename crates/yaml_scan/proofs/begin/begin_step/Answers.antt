@@ -3,6 +3,7 @@ use Rattle.yaml_scan.specs.declared.scanner.scanner_t.{scanner_t}
 use Rattle.yaml_scan.specs.inside.Scanning.{Beside, IsMet}
 use Rattle.yaml_scan.proofs.RunningStep.StepTests.{falls_in, front_line}
 use Rattle.yaml_scan.proofs.RunningStep.StepMoves.{ready, stays_same}
+use Rattle.yaml_scan.proofs.RunningStep.StepMoves.{comes_on}
 use Rattle.yaml_scan.proofs.begin.begin_step.Goals as goal
 
 pub step_of-requires-clause-falls : goal.step_of-requires-clause-falls
@@ -17,4 +18,5 @@ returns-in-Ok-ensure_room g c = let s = c.args.scanner.now in let t = c.ensure_r
       c.step_of.result r.kind (r.allowed ∙ c.is_key_allowed-allowed.ensures) r.new r.depth,
   r.kind,
   stays_same s t b,
+  comes_on g.before s t c.args.in_flow c.args.kind c.requires b,
 )

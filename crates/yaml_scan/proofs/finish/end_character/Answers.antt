@@ -8,12 +8,12 @@ use Rattle.yaml_scan.specs.inside.Handed.{group_with}
 use Rattle.yaml_scan.proofs.finish.end_character.Goals as goal
 
 pub lay_alone-ends-requires : goal.lay_alone-ends-requires
-lay_alone-ends-requires g c = λ κs w. (search rules, (lexeme_of c.args.lexeme, ((refl, refl), (rw c.in-Ok.ensures.0 c.in-Ok.ensures.1))))
+lay_alone-ends-requires g c = λ κs w. (search rules, (lexeme_of c.args.lexeme, ((refl, refl), (rw c.in-Ok.ensures.0 (c.in-Ok.ensures.1 (lexeme_of c.args.lexeme) refl c.requires.1.1.1)))))
 
 pub hand_keyless-requires : goal.hand_keyless-requires
 hand_keyless-requires g c =
     let x = lexeme_of c.args.lexeme in
-    let A = c.lay_alone-ends.ensures.laid x.token_data x.start_mark x.end_mark c.token_of.result (rw c.in-Ok.ensures.0 c.in-Ok.ensures.1) c.token_of.ensures in
+    let A = c.lay_alone-ends.ensures.laid x.token_data x.start_mark x.end_mark c.token_of.result (rw c.in-Ok.ensures.0 (c.in-Ok.ensures.1 (lexeme_of c.args.lexeme) refl c.requires.1.1.1)) c.token_of.ensures in
     let s = c.check_reach.new.scanner in
     record {
       key = A.keyless;
@@ -26,7 +26,7 @@ hand_keyless-requires g c =
 pub returns-in-Ok-hand_keyless-clause-steps : goal.returns-in-Ok-hand_keyless-clause-steps
 returns-in-Ok-hand_keyless-clause-steps g c =
     let x = lexeme_of c.args.lexeme in
-    let A = c.lay_alone-ends.ensures.laid x.token_data x.start_mark x.end_mark c.token_of.result (rw c.in-Ok.ensures.0 c.in-Ok.ensures.1) c.token_of.ensures in
+    let A = c.lay_alone-ends.ensures.laid x.token_data x.start_mark x.end_mark c.token_of.result (rw c.in-Ok.ensures.0 (c.in-Ok.ensures.1 (lexeme_of c.args.lexeme) refl c.requires.1.1.1)) c.token_of.ensures in
     let s = c.check_reach.new.scanner in
     rw (← c.in-Ok.ensures.0) (steps_all g.before s c.hand_keyless.new.scanner _ _ 1
     (alone_handed g.before s c.lay_alone-ends.new.scanner _ c.args.step.kind c.lay_alone-ends.result.2 (group_with c.lay_alone-ends.result.0 c.lay_alone-ends.result.1 false c.token_of.result) A c.hand_keyless.new.scanner (λ ts. g.S.yaml_token_sink_t.took c.args.sink.now ts c.hand_keyless.new.sink) g.S.yaml_token_sink_t.may_refuse (Ok _) c.in-Ok-hand_keyless.ensures))
@@ -39,7 +39,7 @@ returns-in-Ok-hand_keyless-clause-within g c =
 pub returns-in-Err-hand_keyless-clause-steps : goal.returns-in-Err-hand_keyless-clause-steps
 returns-in-Err-hand_keyless-clause-steps g c =
     let x = lexeme_of c.args.lexeme in
-    let A = c.lay_alone-ends.ensures.laid x.token_data x.start_mark x.end_mark c.token_of.result (rw c.in-Ok.ensures.0 c.in-Ok.ensures.1) c.token_of.ensures in
+    let A = c.lay_alone-ends.ensures.laid x.token_data x.start_mark x.end_mark c.token_of.result (rw c.in-Ok.ensures.0 (c.in-Ok.ensures.1 (lexeme_of c.args.lexeme) refl c.requires.1.1.1)) c.token_of.ensures in
     let s = c.check_reach.new.scanner in
     rw (← c.in-Ok.ensures.0) (cut_all g.before s c.hand_keyless.new.scanner _ _ _ c.stopped.result
     (alone_handed g.before s c.lay_alone-ends.new.scanner _ c.args.step.kind c.lay_alone-ends.result.2 (group_with c.lay_alone-ends.result.0 c.lay_alone-ends.result.1 false c.token_of.result) A c.hand_keyless.new.scanner (λ ts. g.S.yaml_token_sink_t.took c.args.sink.now ts c.hand_keyless.new.sink) g.S.yaml_token_sink_t.may_refuse (Err c.stopped.result) (rw c.stopped.ensures c.in-Err-hand_keyless.ensures)))
@@ -50,8 +50,11 @@ returns-in-Err-clause-steps g c = inl (rw c.stopped-in-Err.ensures c.in-Err.ensu
 pub overflow_add-scanner : goal.overflow_add-scanner
 overflow_add-scanner g c =
     let x = lexeme_of c.args.lexeme in
-    let A = c.lay_alone-ends.ensures.laid x.token_data x.start_mark x.end_mark c.token_of.result (rw c.in-Ok.ensures.0 c.in-Ok.ensures.1) c.token_of.ensures in
+    let A = c.lay_alone-ends.ensures.laid x.token_data x.start_mark x.end_mark c.token_of.result (rw c.in-Ok.ensures.0 (c.in-Ok.ensures.1 (lexeme_of c.args.lexeme) refl c.requires.1.1.1)) c.token_of.ensures in
     let s = c.check_reach.new.scanner in
     let l = few_made g.before s c.hand_keyless.new.scanner _ (λ ts. g.S.yaml_token_sink_t.took c.args.sink.now ts c.hand_keyless.new.sink) g.S.yaml_token_sink_t.may_refuse 1
         (alone_handed g.before s c.lay_alone-ends.new.scanner _ c.args.step.kind c.lay_alone-ends.result.2 (group_with c.lay_alone-ends.result.0 c.lay_alone-ends.result.1 false c.token_of.result) A c.hand_keyless.new.scanner (λ ts. g.S.yaml_token_sink_t.took c.args.sink.now ts c.hand_keyless.new.sink) g.S.yaml_token_sink_t.may_refuse (Ok _) c.in-Ok-hand_keyless.ensures) A.few in
     omega arith
+
+pub check_reach-requires : goal.check_reach-requires
+check_reach-requires g c = (c.requires.1.1.0, (lexeme_of c.args.lexeme, (refl, c.requires.1.1.1)))

@@ -1,4 +1,4 @@
-use Rattle.std.proofs.Common.{Err, arith}
+use Rattle.std.proofs.Common.{arith}
 use Rattle.yaml_scan.specs.inside.Handed.{group_with}
 use Rattle.yaml_scan.proofs.RunningStep.StepHanded.{few_made, laid_few}
 use Rattle.yaml_scan.proofs.RunningStep.StepMoves.{cut_all, steps_all}

@@ -1,24 +1,13 @@
-use Rattle.std.proofs.Common.{rules, [], inl, Err, ◌∙◌}
-use Rattle.yaml_scan.proofs.RunningStep.StepMoves.{on_ok_then, read_then, stays_on, stays_read, step_given, step_to_from}
+use Rattle.std.proofs.Common.{Bool, sym, subst}
+use Rattle.yaml_scan.specs.inside.Handed.{StepsTo}
+use Rattle.yaml_scan.proofs.RunningStep.StepMoves.{step_to_from}
 use Rattle.yaml_scan.proofs.step.step_quoted.Goals as goal
 
-pub lay_read-requires : goal.lay_read-requires
-lay_read-requires g c = λ κs w. let b = c.in-Ok.ensures in (search rules, (w, read_then g.before c.begin_step.new.scanner c.read_quoted-read.new.scanner c.in-Ok.step _ c.read_quoted-read.result b.0 (b.1 ∙ c.quoted_kind.ensures) c.read_quoted-read.ensures))
+pub returns-then-copies_straight-clause-steps : goal.returns-then-copies_straight-clause-steps
+returns-then-copies_straight-clause-steps g c = let b = c.in-Ok.ensures in
+    step_to_from g.before c.args.scanner.now c.begin_step.new.scanner c.copy_quoted.new.scanner _ _ _ c.copy_quoted.result b.2
+    (subst (λ (d : Bool). StepsTo g.before c.begin_step.new.scanner c.copy_quoted.new.scanner d (λ ts. g.S.yaml_token_sink_t.took c.args.sink.now ts c.copy_quoted.new.sink) g.S.yaml_token_sink_t.may_refuse c.copy_quoted.result) (sym (c.copies_straight.ensures.direct c.if-copies_straight.true)) c.copy_quoted.ensures.steps)
 
-pub end_laid-requires : goal.end_laid-requires
-end_laid-requires g c = record { laid = (g.before, (c.read_quoted-read.new.scanner, c.in-Ok-lay_read.ensures.laid)); room = c.in-Ok-lay_read.ensures.room }
-
-pub returns-in-Ok-lay_read-clause-steps : goal.returns-in-Ok-lay_read-clause-steps
-returns-in-Ok-lay_read-clause-steps g c = let b = c.in-Ok.ensures in
-    step_given g.before c.args.scanner.now c.end_laid.new.scanner _ (λ ys. g.S.yaml_token_sink_t.took c.args.sink.now ys c.end_laid.new.sink) (λ ys. g.S.yaml_token_sink_t.took c.room-room.new.self ys c.end_laid.new.sink)
-    (λ ys w. g.met.S.yaml_token_sink_t.took_more c.args.sink.now c.room-room.new.self c.end_laid.new.sink [] ys c.room-room.ensures w) _ c.end_laid.result
-    (step_to_from g.before c.args.scanner.now c.read_quoted-read.new.scanner c.end_laid.new.scanner _ _ _ c.end_laid.result
-    (stays_on c.args.scanner.now c.begin_step.new.scanner c.read_quoted-read.new.scanner b.2 (stays_read c.begin_step.new.scanner c.read_quoted-read.new.scanner _ c.in-Ok.step.context c.read_quoted-read.result c.read_quoted-read.ensures)) (c.end_laid.ensures.steps g.before c.read_quoted-read.new.scanner c.in-Ok-lay_read.ensures.laid))
-
-pub returns-in-Ok-lay_read-clause-within : goal.returns-in-Ok-lay_read-clause-within
-returns-in-Ok-lay_read-clause-within g c = on_ok_then (λ f within. f (g.met.S.yaml_token_sink_t.within_none c.args.sink.now c.room-room.new.self c.room-room.ensures within)) c.end_laid.result c.end_laid.ensures.within
-
-pub returns-in-Err-lay_read-clause-steps : goal.returns-in-Err-lay_read-clause-steps
-returns-in-Err-lay_read-clause-steps g c = let b = c.in-Ok.ensures in
-    step_to_from g.before c.args.scanner.now c.read_quoted-read.new.scanner c.lay_read.new.scanner _ (λ ys. g.S.yaml_token_sink_t.took c.args.sink.now ys c.room-room.new.self) g.S.yaml_token_sink_t.may_refuse (Err c.stopped.result)
-    (stays_on c.args.scanner.now c.begin_step.new.scanner c.read_quoted-read.new.scanner b.2 (stays_read c.begin_step.new.scanner c.read_quoted-read.new.scanner _ c.in-Ok.step.context c.read_quoted-read.result c.read_quoted-read.ensures)) (inl (rw c.stopped.ensures c.in-Err-lay_read.ensures.laid, c.room-room.ensures))
+pub returns-else-copies_straight-clause-steps : goal.returns-else-copies_straight-clause-steps
+returns-else-copies_straight-clause-steps g c = let b = c.in-Ok.ensures in
+    step_to_from g.before c.args.scanner.now c.begin_step.new.scanner c.list_quoted.new.scanner _ _ _ c.list_quoted.result b.2 c.list_quoted.ensures.steps
