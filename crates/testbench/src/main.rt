@@ -43,7 +43,9 @@ use measure::{measure, task_of, work_t};
 use session::{limit_or_usual, list_session, wrong_words};
 use std::io::{BufRead, BufReader, BufWriter, Read, Write};
 use std::{env, io};
-use words::word_at;
+use words::{bytes_of, word_at};
+use std::alloc::{AllocError, Global};
+use yaml_c::scan_batches;
 
 fn answer_lines(rt: &HostRuntime) -> io::Result<()> {
     let alloc = rt.alloc();
@@ -65,10 +67,34 @@ fn measure_input(rt: &HostRuntime, words: &[String]) -> io::Result<()> {
     io::writer(rt).write_all(text.as_bytes())
 }
 
+fn told(alloc: Global, input: &[u8], most: usize, room: usize) -> Result<String, AllocError> {
+    let (count, number) = scan_batches(alloc, input, 1024, most, room, true)?;
+    format!(in alloc; "{count} {number} ")
+}
+
+fn records(rt: &HostRuntime) -> io::Result<()> {
+    let alloc = rt.alloc();
+    let mut out = BufWriter::new(alloc, io::writer(rt))?;
+    for line in BufReader::new(alloc, rt.reader())?.lines(alloc) {
+        let line = line?;
+        if let Some(input) = bytes_of(alloc, line.as_str())? {
+            let mut text = told(alloc, &input, 256, 65536)?;
+            text.push_str(told(alloc, &input, 1, 8)?.as_str())?;
+            text.push_str(told(alloc, &input, 3, 40)?.as_str())?;
+            text.push_str(told(alloc, &input, 7, 20)?.as_str())?;
+            text.push_str(told(alloc, &input, 17, 300)?.as_str())?;
+            text.push_str("\n")?;
+            out.write_all(text.as_bytes())?;
+        }
+    }
+    out.flush()
+}
+
 fn main(rt: HostRuntime) -> io::Result<()> {
     let words: Vec<String> = env::args(&rt)?.skip(1).collect(rt.alloc())?;
     match words.first() {
         Some(word) if word.as_str() == "measure" => measure_input(&rt, &words),
+        Some(word) if word.as_str() == "records" => records(&rt),
         Some(_) => list_session(&rt, &words),
         None => answer_lines(&rt),
     }

@@ -8,13 +8,16 @@ use crate::session::MOST_KEY_LIMIT;
 use std::alloc::{AllocError, Global};
 use std::io;
 use std::time::Instant;
+use yaml_c::scan_batches;
 use yaml_lexeme::{
     yaml_context_t, yaml_gap, yaml_lexeme_at, yaml_lexeme_kind, yaml_lexeme_kind_t, yaml_lexeme_t,
 };
-use yaml_scan::{yaml_parser_scan, yaml_parser_t, yaml_scan_to, yaml_token_sink_t};
+use yaml_scan::{
+    yaml_parser_scan, yaml_parser_t, yaml_piece_t, yaml_scan_to, yaml_token_sink_t,
+};
 use yaml_text::{
     unnamed_yaml_token_t_data, yaml_decode, yaml_decode_front, yaml_encoding_t, yaml_mark_t,
-    yaml_text_t, yaml_token_t,
+    yaml_text_t, yaml_token_t, yaml_token_type_t,
 };
 
 /// What is done with a text.
@@ -28,6 +31,8 @@ pub enum task_t {
     SCAN,
     /// Its tokens are given to a sink.
     SINK,
+    /// Its tokens are put into rooms, in batches.
+    BATCH,
     /// It is decoded.
     DECODE,
 }
@@ -38,6 +43,7 @@ pub fn task_of(word: &str) -> task_t {
         "walk" => task_t::WALK,
         "scan" => task_t::SCAN,
         "sink" => task_t::SINK,
+        "c" => task_t::BATCH,
         "decode" => task_t::DECODE,
         _ => task_t::FRONT,
     }
@@ -163,6 +169,34 @@ impl yaml_token_sink_t for counter_t {
     }
 
     #[inline(always)]
+    fn put_bare(
+        &mut self,
+        _kind: yaml_token_type_t,
+        _start: yaml_mark_t,
+        _end: yaml_mark_t,
+    ) -> Result<(), AllocError> {
+        self.tokens = self.tokens.wrapping_add(1);
+        Ok(())
+    }
+
+    #[inline(always)]
+    fn put_scalar(&mut self, key: bool, _piece: yaml_piece_t) -> Result<(), AllocError> {
+        if key {
+            self.tokens = self.tokens.wrapping_add(1);
+        }
+        self.tokens = self.tokens.wrapping_add(1);
+        Ok(())
+    }
+
+    #[inline(always)]
+    fn spend(&mut self, _value: Vec<u8>) {}
+
+    #[inline(always)]
+    fn has_room_of(&self, _count: u64, _len: u64) -> bool {
+        true
+    }
+
+    #[inline(always)]
     fn room(&mut self, alloc: Global) -> Vec<u8> {
         Vec::new(alloc)
     }
@@ -190,6 +224,14 @@ fn give(alloc: Global, input: &[u8], limit: u32) -> u64
     counter.tokens
 }
 
+/// How many tokens an input has, put into rooms.
+fn batch(alloc: Global, input: &[u8], limit: u32) -> u64 {
+    match scan_batches(alloc, input, limit, 256, 65536, false) {
+        Ok((count, _)) => count,
+        Err(_) => 0,
+    }
+}
+
 /// How many bytes an input has in UTF-8, or 0 if it is no text.
 fn decode(alloc: Global, input: &[u8]) -> u64 {
     match yaml_decode(alloc, input, yaml_encoding_t::YAML_ANY_ENCODING) {
@@ -208,6 +250,7 @@ fn done(alloc: Global, work: work_t, input: &[u8], text: &yaml_text_t) -> u64
         task_t::WALK => walk(alloc, text),
         task_t::SCAN => scan(alloc, input, work.limit),
         task_t::SINK => give(alloc, input, work.limit),
+        task_t::BATCH => batch(alloc, input, work.limit),
         task_t::DECODE => decode(alloc, input),
     }
 }

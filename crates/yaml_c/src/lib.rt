@@ -7,6 +7,7 @@ ghost use Rattle.yaml_c.specs.Spelled.{skipped_of};
 ghost use Rattle.yaml_c.specs.inside.Batch.{rooms_of};
 
 mod answer;
+mod bench;
 mod calls;
 mod handle;
 mod held;
@@ -27,6 +28,7 @@ use crate::sink::token_rooms_t;
 use crate::spelled::{skipped_of, spelled_t};
 use crate::status::{DONE, FAULT, WRONG};
 pub use answer::bogzhami_answer;
+pub use bench::scan_batches;
 pub use calls::{
     bogzhami_close, bogzhami_encoding, bogzhami_next, bogzhami_open, bogzhami_peek, bogzhami_reach,
 };

@@ -10,7 +10,10 @@ ghost use Rattle.yaml_c.specs.inside.Spelled.{spelled_of};
 
 use crate::numbers::{encoding_number, style_number, type_number};
 use crate::spelled::{NOWHERE, place_of, spelled_t};
-use yaml_scan::{unnamed_yaml_token_t_data, yaml_mark_t, yaml_scalar_style_t, yaml_token_t};
+use yaml_scan::{
+    unnamed_yaml_token_t_data, yaml_mark_t, yaml_piece_t, yaml_scalar_style_t, yaml_token_t,
+    yaml_token_type_t,
+};
 
 /// A place in a text.
 #[repr(C)]
@@ -249,5 +252,61 @@ pub(crate) fn record_of(spelled: spelled_t, text_at: u64, token: &yaml_token_t) 
         second_len: second_text(&token.token_data).len() as u64,
         input_at: input_at(spelled, token),
         ..with_marks(text_at, token)
+    }
+}
+
+const COMPARED: bool = false;
+
+/// Where the value of a scalar stands in the input.
+#[inline(always)]
+pub(crate) fn piece_at(spelled: spelled_t, piece: yaml_piece_t) -> u64 {
+    let Some(quote) = quote_len(piece.style) else {
+        return NOWHERE;
+    };
+    if COMPARED || !piece.placed {
+        return place_of(spelled, &piece.left[..piece.len], piece.start.index, quote);
+    }
+    match spelled.skipped {
+        Some(skipped) => skipped.saturating_add(piece.start.index).saturating_add(quote),
+        None => NOWHERE,
+    }
+}
+
+/// The record of a token that says nothing besides its type.
+#[inline(always)]
+pub(crate) fn marks_record(
+    text_at: u64,
+    kind: yaml_token_type_t,
+    start: yaml_mark_t,
+    end: yaml_mark_t,
+) -> bogzhami_token {
+    bogzhami_token {
+        token_type: type_number(kind),
+        detail: 0,
+        major: 0,
+        minor: 0,
+        text_at,
+        first_len: 0,
+        second_len: 0,
+        start_mark: mark_of(start),
+        end_mark: mark_of(end),
+        input_at: NOWHERE,
+    }
+}
+
+/// The record of a scalar whose value stands in the text as it is.
+#[inline(always)]
+pub(crate) fn piece_record(spelled: spelled_t, text_at: u64, piece: yaml_piece_t) -> bogzhami_token {
+    bogzhami_token {
+        token_type: type_number(yaml_token_type_t::YAML_SCALAR_TOKEN),
+        detail: style_number(piece.style),
+        major: 0,
+        minor: 0,
+        text_at,
+        first_len: piece.len as u64,
+        second_len: 0,
+        start_mark: mark_of(piece.start),
+        end_mark: mark_of(piece.end),
+        input_at: piece_at(spelled, piece),
     }
 }

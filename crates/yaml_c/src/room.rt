@@ -28,3 +28,21 @@ pub(crate) fn put_record(room: &mut [bogzhami_token], at: u64, token: bogzhami_t
         room[at as usize] = token;
     }
 }
+
+/// So many bytes are copied as one.
+const STAGE: usize = 32;
+
+/// Puts the first bytes of a text into a room from a place on, where there is room. If they are few, a stage of bytes is copied as one.
+/// Returns the place after them.
+#[inline(always)]
+pub(crate) fn put_front(room: &mut [u8], at: u64, left: &[u8], len: usize) -> u64 {
+    let size = room.len() as u64;
+    if len <= STAGE && left.len() >= STAGE && size - at >= STAGE as u64 {
+        let start = at as usize;
+        room[start..start + STAGE].copy_from_slice(&left[..STAGE]);
+        return at + len as u64;
+    }
+    let start = at as usize;
+    room[start..start + len].copy_from_slice(&left[..len]);
+    at + len as u64
+}

@@ -7,12 +7,14 @@ use crate::answer::put_fault_texts;
 use crate::record::{
     bare_record, bogzhami_token, first_text, is_bare, record_of, scalar_record, second_text,
 };
-use crate::room::{put_bytes, put_record};
+use crate::record::{marks_record, piece_record};
+use crate::room::{put_bytes, put_front, put_record};
 use crate::spelled::spelled_t;
 use std::alloc::{AllocError, Global};
 use std::mem::replace;
 use yaml_scan::{
-    unnamed_yaml_token_t_data, yaml_fault_t, yaml_scalar_style_t, yaml_token_sink_t, yaml_token_t,
+    unnamed_yaml_token_t_data, yaml_fault_t, yaml_mark_t, yaml_piece_t, yaml_scalar_style_t,
+    yaml_token_sink_t, yaml_token_t, yaml_token_type_t,
 };
 
 /// A room for records and a room for texts, and how much was put into each, also of what it had no room for.
@@ -120,7 +122,7 @@ impl<'a> token_rooms_t<'a> {
 
     /// Keeps the room of a scalar's text, which was put. If it is large it is freed.
     #[inline(always)]
-    fn spend(&mut self, token: yaml_token_t)
+    fn spend_token(&mut self, token: yaml_token_t)
         ensures { IsBeside self.old self.new }
     {
         if let unnamed_yaml_token_t_data::SCALAR { value, style: _ } = token.token_data {
@@ -138,10 +140,35 @@ impl<'a> token_rooms_t<'a> {
     {
         if let unnamed_yaml_token_t_data::SCALAR { value, style } = &token.token_data {
             self.put_scalar(&token, value.as_slice(), *style);
-            self.spend(token);
+            self.spend_token(token);
             return;
         }
         self.put_any(token);
+    }
+
+    /// Puts a record after those that were put. There is room for it.
+    #[inline(always)]
+    fn put_next(&mut self, record: bogzhami_token) {
+        let at = self.token_count;
+        self.tokens[at as usize] = record;
+        self.token_count = at + 1;
+    }
+
+    /// Puts the record of a token that says nothing besides its type.
+    #[inline(always)]
+    fn put_marks(&mut self, kind: yaml_token_type_t, start: yaml_mark_t, end: yaml_mark_t) {
+        self.put_next(marks_record(self.text_len, kind, start, end));
+    }
+
+    /// Puts a key or none, and a scalar. There is room for both.
+    #[inline(always)]
+    fn put_piece(&mut self, key: bool, piece: yaml_piece_t) {
+        if key {
+            self.put_marks(yaml_token_type_t::YAML_KEY_TOKEN, piece.start, piece.start);
+        }
+        let record = piece_record(self.spelled, self.text_len, piece);
+        self.put_next(record);
+        self.text_len = put_front(self.texts, self.text_len, piece.left, piece.len);
     }
 
     /// Puts a token's record and its texts. Most tokens say nothing besides their type, or are scalars.
@@ -182,6 +209,37 @@ impl yaml_token_sink_t for token_rooms_t<'_> {
     fn put(&mut self, token: yaml_token_t) -> Result<(), AllocError> {
         self.put_token(token);
         Ok(())
+    }
+
+    #[inline(always)]
+    fn put_bare(
+        &mut self,
+        kind: yaml_token_type_t,
+        start: yaml_mark_t,
+        end: yaml_mark_t,
+    ) -> Result<(), AllocError> {
+        self.put_marks(kind, start, end);
+        Ok(())
+    }
+
+    #[inline(always)]
+    fn put_scalar(&mut self, key: bool, piece: yaml_piece_t) -> Result<(), AllocError> {
+        self.put_piece(key, piece);
+        Ok(())
+    }
+
+    #[inline(always)]
+    fn spend(&mut self, value: Vec<u8>) {
+        if value.capacity() <= MOST_SPARE {
+            *self.spare = value;
+        }
+    }
+
+    #[inline(always)]
+    fn has_room_of(&self, count: u64, len: u64) -> bool {
+        let tokens = (self.tokens.len() as u64).saturating_sub(self.token_count);
+        let texts = (self.texts.len() as u64).saturating_sub(self.text_len);
+        count <= tokens && len <= texts
     }
 
     #[inline(always)]

@@ -32,9 +32,10 @@ use crate::kind::yaml_lexeme_kind_t;
 use crate::lexeme::{directive_to, scalar_to, whole_of, yaml_lexeme_t};
 use crate::name::take_name;
 use crate::place::cursor_t;
-use crate::plain::take_plain;
+use crate::fold::copied_front;
+use crate::plain::{take_plain, take_plain_stretch};
 use crate::problem::{refused, yaml_refusal_t};
-use crate::quoted::take_quoted;
+use crate::quoted::{take_quoted, take_quoted_after, take_quoted_stretch};
 use crate::stream_end::take_stream_end;
 use crate::tag::take_tag;
 use std::alloc::Global;
@@ -537,4 +538,75 @@ pub fn yaml_lexeme_at(
         Ok(lexeme) => Ok(lexeme),
         Err(refusal) => Err(yaml_lexeme_fault(refusal, kind, at, cursor.mark())),
     }
+}
+
+/// A scalar whose value stands in the text as it is, so many bytes after its start or its opening quote.
+#[derive(Clone, Copy)]
+pub struct yaml_stretch_t {
+    pub len: usize,
+    pub end_mark: yaml_mark_t,
+    pub reach: yaml_mark_t,
+    pub passed_break: bool,
+}
+
+/// The plain scalar at a place, if its value stands in the text as it is.
+#[inline(always)]
+pub fn yaml_plain_stretch(
+    text: &yaml_text_t,
+    at: yaml_mark_t,
+    context: yaml_context_t,
+) -> Option<yaml_stretch_t> {
+    let mut cursor = cursor_t::at(text, at);
+    match take_plain_stretch(&mut cursor, context.depth > 0, least(context)) {
+        Some(stretch) => Some(yaml_stretch_t {
+            len: stretch.len,
+            end_mark: stretch.end,
+            reach: cursor.mark(),
+            passed_break: stretch.passed_break,
+        }),
+        None => None,
+    }
+}
+
+/// The quoted scalar at a place, if its value stands in the text as it is, or else the mark after its first line.
+#[inline(always)]
+pub fn yaml_quoted_stretch(
+    text: &yaml_text_t,
+    at: yaml_mark_t,
+    single: bool,
+) -> Result<yaml_stretch_t, yaml_mark_t> {
+    let mut cursor = cursor_t::at(text, at);
+    match take_quoted_stretch(&mut cursor, single) {
+        Some(len) => Ok(yaml_stretch_t {
+            len,
+            end_mark: cursor.mark(),
+            reach: cursor.mark(),
+            passed_break: false,
+        }),
+        None => Err(cursor.mark()),
+    }
+}
+
+/// The quoted scalar at a spot, of which the first line was read up to a mark, or why there is none.
+#[inline(always)]
+pub fn yaml_read_quoted_from(
+    room: Vec<u8>,
+    spot: &mut yaml_spot_t,
+    single: bool,
+    from: yaml_mark_t,
+) -> Result<yaml_lexeme_t, yaml_refusal_t> {
+    let start = spot.at;
+    let mut cursor = cursor_t::at(spot.text, from);
+    let piece = &spot.text.bytes()[start.index as usize + 1..from.index as usize];
+    let taken = match take_quoted_after(room, &mut cursor, single, piece) {
+        Ok(value) => Ok(whole_of(quoted_as(value, quoted_style(single)), start, cursor.mark())),
+        Err(refusal) => Err(refused(refusal)),
+    };
+    read_to(taken, &cursor, &mut spot.at)
+}
+
+/// A copy of the first bytes of a text, in a room if they fit.
+#[inline(always)]
+pub fn yaml_copied(room: Vec<u8>, left: &[u8], len: usize) -> Result<Vec<u8>, yaml_refusal_t> {
+    copied_front(room, left, len)
 }

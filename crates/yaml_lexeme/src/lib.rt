@@ -26,8 +26,9 @@ mod uri;
 pub use gap::yaml_gap;
 pub use kind::{yaml_decider_at, yaml_lexeme_kind, yaml_lexeme_kind_t};
 pub use lex::{
-    yaml_context_t, yaml_lexeme_at, yaml_lexeme_fault, yaml_read_block, yaml_read_character,
-    yaml_read_lexeme, yaml_read_plain, yaml_read_quoted, yaml_spot_t,
+    yaml_context_t, yaml_copied, yaml_lexeme_at, yaml_lexeme_fault, yaml_plain_stretch,
+    yaml_quoted_stretch, yaml_read_block, yaml_read_character, yaml_read_lexeme, yaml_read_plain,
+    yaml_read_quoted, yaml_read_quoted_from, yaml_spot_t, yaml_stretch_t,
 };
 pub use lexeme::yaml_lexeme_t;
 pub use problem::{yaml_problem_t, yaml_refusal_t};

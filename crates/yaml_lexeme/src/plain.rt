@@ -314,3 +314,68 @@ pub(crate) fn take_plain(
         None => take_lines(cursor, in_flow, least, value),
     }
 }
+
+/// A plain scalar whose value stands in the text as it is: how many bytes it has, and the mark after it.
+#[derive(Clone, Copy)]
+pub(crate) struct stretch_t {
+    pub len: usize,
+    pub end: yaml_mark_t,
+    pub passed_break: bool,
+}
+
+/// Takes the separator that is here, if the scalar is over before it. Returns whether a break is in it.
+#[inline(never)]
+fn ends_later<'a>(cursor: &cursor_t<'a>, in_flow: bool, least: u64) -> Option<(cursor_t<'a>, bool)> {
+    let mut here = cursor.again();
+    here.skip_run(class_t::BLANK);
+    let broken = is_at!(here, is_break, 0);
+    let mut after = cursor.again();
+    if is_at!(after, is_white, 0) {
+        match skip_separator(&mut after, least) {
+            Ok(_) => {}
+            Err(_) => return None,
+        }
+        if !is_over(&after, in_flow, least)
+            && (is_bad_colon(&after, in_flow) || is_chunk(&after, in_flow))
+        {
+            return None;
+        }
+    }
+    Some((after, broken))
+}
+
+/// Takes a plain scalar, if its value stands in the text as it is.
+#[inline(always)]
+pub(crate) fn take_plain_stretch(
+    cursor: &mut cursor_t,
+    in_flow: bool,
+    least: u64,
+) -> Option<stretch_t> {
+    let len = line_words(cursor, in_flow, least).len();
+    if is_bad_colon(cursor, in_flow) {
+        return None;
+    }
+    let end = cursor.mark();
+    match ends_at_once(cursor, in_flow, least) {
+        Some(passed_break) => Some(stretch_t {
+            len,
+            end,
+            passed_break,
+        }),
+        None => {
+            // a copy, so that the cursor itself stays in registers
+            let here = cursor.again();
+            match ends_later(&here, in_flow, least) {
+                Some((after, passed_break)) => {
+                    *cursor = after;
+                    Some(stretch_t {
+                        len,
+                        end,
+                        passed_break,
+                    })
+                }
+                None => None,
+            }
+        }
+    }
+}

@@ -242,3 +242,31 @@ pub(crate) fn take_quoted(
     *cursor = here;
     taken
 }
+
+/// Takes a quoted scalar, if its value stands in the text as it is. Returns how many bytes that has.
+#[inline(always)]
+pub(crate) fn take_quoted_stretch(cursor: &mut cursor_t, single: bool) -> Option<usize> {
+    cursor.pass();
+    let len = line_piece(cursor, single).len();
+    if closes(cursor, single) {
+        cursor.pass();
+        return Some(len);
+    }
+    None
+}
+
+/// Takes what is left of a quoted scalar after its first line, whose bytes are `piece`.
+#[inline(always)]
+pub(crate) fn take_quoted_after(
+    room: Vec<u8>,
+    cursor: &mut cursor_t,
+    single: bool,
+    piece: &[u8],
+) -> Result<Vec<u8>, yaml_refusal_t> {
+    let kept = if is_at!(cursor, is_break, 0) {
+        trimmed(piece)
+    } else {
+        piece
+    };
+    take_rest(room, cursor, single, kept)
+}

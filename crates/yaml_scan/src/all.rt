@@ -14,9 +14,11 @@ ghost use Rattle.yaml_scan.specs.All.{AllOf, ReadsAll, EndNoMore, EndAll, TellLe
 
 use crate::keys::KEY_LIMIT;
 use crate::sink::yaml_scan_to;
-use crate::target::yaml_token_sink_t;
+use crate::target::{yaml_bare_data, yaml_piece_t, yaml_token_sink_t};
 use std::alloc::{AllocError, Global};
-use yaml_text::{unnamed_yaml_token_t_data, yaml_encoding_t, yaml_fault_t, yaml_token_t};
+use yaml_text::{
+    unnamed_yaml_token_t_data, yaml_encoding_t, yaml_fault_t, yaml_mark_t, yaml_token_t, yaml_token_type_t,
+};
 
 /// The tokens that were given, in a list.
 #[derive(Drop)]
@@ -47,6 +49,45 @@ impl yaml_token_sink_t for token_list_t {
 
     #[inline(always)]
     fn has_room(&self, _count: u128, _said: &unnamed_yaml_token_t_data) -> bool {
+        true
+    }
+
+    fn put_bare(
+        &mut self,
+        kind: yaml_token_type_t,
+        start: yaml_mark_t,
+        end: yaml_mark_t,
+    ) -> Result<(), AllocError> {
+        self.tokens.push(yaml_token_t {
+            token_data: yaml_bare_data(kind),
+            start_mark: start,
+            end_mark: end,
+        })?;
+        Ok(())
+    }
+
+    fn put_scalar(&mut self, key: bool, piece: yaml_piece_t) -> Result<(), AllocError> {
+        if key {
+            self.put_bare(yaml_token_type_t::YAML_KEY_TOKEN, piece.start, piece.start)?;
+        }
+        let mut value = Vec::new(*self.tokens.allocator());
+        value.extend_from_slice(&piece.left[..piece.len])?;
+        self.tokens.push(yaml_token_t {
+            token_data: unnamed_yaml_token_t_data::SCALAR {
+                value,
+                style: piece.style,
+            },
+            start_mark: piece.start,
+            end_mark: piece.end,
+        })?;
+        Ok(())
+    }
+
+    #[inline(always)]
+    fn spend(&mut self, _value: Vec<u8>) {}
+
+    #[inline(always)]
+    fn has_room_of(&self, _count: u64, _len: u64) -> bool {
         true
     }
 

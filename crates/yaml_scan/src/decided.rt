@@ -1,46 +1,22 @@
 //! A candidate for a key, and what comes right after it and decides whether it is one: two steps that are made at once.
-ghost use Rattle.std.specs.Prelude.{ℕ, Bool, ◌≡◌, ◌<◌, ◌≤◌, ◌++◌, ◌∷◌, ◌&&◌, [], List, None, true, false, not, length};
-ghost use Rattle.std.specs.Prelude.{reverse};
-ghost use Rattle.std.specs.Prelude.{filter, map};
-ghost use Rattle.std.specs.Prelude.{if◌then◌else◌, IfSome, vec_len};
-ghost use Rattle.std.specs.Vec.{vec_capacity};
-ghost use Rattle.std.specs.VecDeque.{deque_capacity};
-ghost use Rattle.yaml_lexeme.specs.LexemeOf.{lexeme_of};
-ghost use Rattle.yaml_lexeme.specs.Counted.{IsMarkOf};
-ghost use Rattle.yaml_scan.specs.Kind.{is_candidate_kind};
-ghost use Rattle.yaml_scan.specs.Laid.{Laid};
-ghost use Rattle.yaml_scan.specs.Falling.{IsFalling};
-ghost use Rattle.yaml_scan.specs.declared.groups.block_t.TheVariants.{MAPPING, NONE};
-ghost use Rattle.yaml_scan.specs.inside.Handed.{lone};
-ghost use Rattle.yaml_scan.specs.inside.Opened.{is_new};
-ghost use Rattle.yaml_scan.specs.inside.Queue.{closing};
-ghost use Rattle.yaml_text.specs.Token.{token_of};
-ghost use Rattle.yaml_scan.specs.Groups.Token.{BlockEnd};
-ghost use Rattle.yaml_scan.specs.Kind.{is_stream_end};
-ghost use Rattle.yaml_scan.specs.Levels.{stays};
-ghost use Rattle.yaml_scan.specs.inside.Queue.{ends_at};
-ghost use Rattle.yaml_scan.specs.inside.Scanning.{CanLayAll, IsDecided, IsUndecided, LaysTwo, groups_in};
-ghost use Rattle.yaml_scan.specs.inside.Slots.{nested_outer, nested_top};
 
 use crate::allowed::is_allowed_after;
 use crate::depth::{is_flow_start, nest};
-use crate::groups::{block_t, group_t, queue_t};
+use crate::groups::{block_t, queue_t};
 use crate::keys::is_still_live;
 use crate::kind::{is_candidate, is_colon};
-use crate::lay::token_of;
 use crate::levels::{close_levels, closing, is_new_level, open_level};
 use crate::met::step_t;
 use crate::scanner::scanner_t;
 use crate::slots::slots_t;
 use crate::source::{decider_at, decider_t};
-use yaml_lexeme::{yaml_lexeme_kind_t, yaml_lexeme_t};
-use yaml_text::{yaml_mark_t, yaml_token_t};
+use crate::target::laid_t;
+use yaml_lexeme::yaml_lexeme_kind_t;
+use yaml_text::yaml_mark_t;
 
 /// Whether the queue is empty, and has room for two groups.
 #[inline(always)]
 fn has_room_for_two(queue: &queue_t) -> bool
-    ensures empty { result ≡ true → queue.now.groups.items ≡ [] }
-    ensures room { result ≡ true → 1 < deque_capacity queue.now.groups }
 {
     queue.groups.is_empty() && queue.groups.capacity() > 1
 }
@@ -48,7 +24,6 @@ fn has_room_for_two(queue: &queue_t) -> bool
 /// Whether a lexeme that starts at a mark closes no level.
 #[inline(always)]
 fn keeps_levels(levels: &[u64], in_flow: bool, kind: yaml_lexeme_kind_t, start: yaml_mark_t) -> bool
-    ensures { result ≡ true → closing in_flow kind start (reverse levels.now) ≡ None }
 {
     closing(levels, in_flow, kind, start).is_none()
 }
@@ -58,7 +33,6 @@ fn keeps_levels(levels: &[u64], in_flow: bool, kind: yaml_lexeme_kind_t, start: 
 /// for both.
 #[inline(always)]
 fn is_undecided(scanner: &scanner_t, sparing: bool, step: step_t, reach: yaml_mark_t) -> bool
-    ensures { result ≡ true → IsUndecided scanner.now sparing step reach }
 {
     is_candidate(step.kind)
         && !is_flow_start(step.kind)
@@ -83,14 +57,12 @@ pub(crate) fn decided_by(
     step: step_t,
     reach: yaml_mark_t,
 ) -> Option<decider_t>
-    requires { is_candidate_kind step.kind ≡ true → (p : ℕ) × IsMarkOf scanner.now.text.chars reach p }
-    ensures { IfSome result (λ d. IsDecided scanner.now sparing step reach d.kind (lexeme_of d.lexeme)) }
 {
     if !is_undecided(scanner, sparing, step, reach) {
         return None;
     }
     let decider = decider_at(&scanner.text, reach, step.in_flow)?;
-    if decider.lexeme.reach.index < scanner.near {
+    if decider.end.index < scanner.near {
         Some(decider)
     } else {
         None
@@ -100,7 +72,6 @@ pub(crate) fn decided_by(
 /// The start of a block mapping, or none.
 #[inline(always)]
 fn mapping_start(opens: bool) -> block_t
-    ensures { result ≡ (if opens then MAPPING else NONE) }
 {
     if opens {
         block_t::MAPPING
@@ -113,17 +84,6 @@ fn mapping_start(opens: bool) -> block_t
 /// that; there is room for it. Returns how many levels end at the candidate, and what it opens.
 #[inline(always)]
 fn lay_candidate(levels: &mut Vec<u64>, step: step_t, key: bool) -> (usize, block_t)
-    requires falls { IsFalling (reverse levels.old.items) }
-    requires room { vec_len levels.old < vec_capacity levels.old }
-    requires last { is_stream_end step.kind ≡ false }
-    ensures levels { (kept : List ℕ) × (reverse kept
-        ≡ filter (stays step.in_flow step.kind step.new.start) (reverse levels.old.items))
-        × (reverse levels.new.items ≡ (if key && is_new step.in_flow step.new.start.column (reverse kept)
-        then step.new.start.column ∷ [] else []) ++ reverse kept)
-        × (result.1 ≡ (if key && is_new step.in_flow step.new.start.column (reverse kept) then MAPPING else NONE)) }
-    ensures ends { ends_at result.0 step.new.start ≡ map (λ c. BlockEnd step.new.start) (filter (λ c.
-        not (stays step.in_flow step.kind step.new.start c)) (reverse levels.old.items)) }
-    ensures few { result.0 ≤ length levels.old.items }
 {
     let start = step.new.start;
     let closed = close_levels(levels, step, start);
@@ -135,11 +95,6 @@ fn lay_candidate(levels: &mut Vec<u64>, step: step_t, key: bool) -> (usize, bloc
 /// Drops the candidate, the only one, at what decides it, which may be a flow end. There is room for one more depth.
 #[inline(always)]
 fn drop_candidate(slots: &mut slots_t, kind: yaml_lexeme_kind_t)
-    requires { vec_len slots.old.outer < vec_capacity slots.old.outer }
-    ensures outer { slots.new.outer.items ≡ nested_outer kind slots.old.outer.items None }
-    ensures top { slots.new.top ≡ nested_top kind slots.old.outer.items None }
-    ensures empty { slots.new.not_simple_keys ≡ vec_len slots.new.outer }
-    ensures awaited { slots.new.awaited ≡ 0 }
 {
     slots.top = None;
     nest(slots, kind);
@@ -148,40 +103,24 @@ fn drop_candidate(slots: &mut slots_t, kind: yaml_lexeme_kind_t)
 }
 
 /// Lays the lexeme of a step, which was read, and what decides whether it is a key. Both start at the end of a gap.
-/// Returns the group of the lexeme, and the token after it, which is a group alone.
 #[inline(always)]
 pub(crate) fn lay_decided(
     scanner: &mut scanner_t,
     step: step_t,
-    lexeme: yaml_lexeme_t,
     decider: decider_t,
-) -> (group_t, yaml_token_t)
-    ghost before: { List Laid }
-    requires { CanLayAll before scanner.old step (lexeme_of lexeme)
-        × ((sparing : Bool) × IsDecided scanner.old sparing step lexeme.reach decider.kind
-        (lexeme_of decider.lexeme)) }
-    ensures laid { (sparing : Bool) → IsDecided scanner.old sparing step lexeme.reach decider.kind
-        (lexeme_of decider.lexeme)
-        → LaysTwo sparing before scanner.old scanner.new (groups_in scanner.new ++ result.0 ∷ (lone result.1 ∷ [])) }
-    ensures queue { scanner.new.layout.queue ≡ scanner.old.layout.queue }
-    ensures awaited { scanner.new.slots.awaited ≡ 0 }
-    ensures first { (token_of result.0.token).token_data ≡ (lexeme_of lexeme).token_data }
-    ensures second { (token_of result.1).token_data ≡ (lexeme_of decider.lexeme).token_data }
-    ensures few { result.0.ends ≤ length scanner.old.layout.levels.items }
-{
+    waits: bool,
+) -> laid_t {
     let kind = decider.kind;
     let key = is_colon(kind);
-    let at = lexeme.reach;
-    let reach = decider.lexeme.reach;
     let (ends, opens) = lay_candidate(&mut scanner.layout.levels, step, key);
     drop_candidate(&mut scanner.slots, kind);
     scanner.allowed = is_allowed_after(kind, step.in_flow, !key, false);
-    scanner.reach = reach;
-    let first = group_t {
+    scanner.reach = decider.end;
+    laid_t {
         ends,
         opens,
         key,
-        token: token_of(step.new.start, lexeme),
-    };
-    (first, token_of(at, decider.lexeme))
+        waits,
+        second: Some(kind),
+    }
 }

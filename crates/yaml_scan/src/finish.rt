@@ -1,113 +1,88 @@
 //! What comes after a lexeme was read: the step may have to stop, or the lexeme is laid.
-ghost use Rattle.std.specs.Prelude.{ℕ, ◌≡◌, false, List, [], MatchResult, OnOk};
-ghost use Rattle.yaml_lexeme.specs.LexemeOf.{lexeme_of};
-ghost use Rattle.yaml_lexeme.specs.Counted.{IsMarkOf};
-ghost use Rattle.yaml_scan.specs.Laid.{Laid};
-ghost use Rattle.yaml_scan.specs.Kind.{is_stream_end};
-ghost use Rattle.yaml_scan.specs.inside.Handed.{LaysTo, StepsTo, group_tokens, made_by};
-ghost use Rattle.yaml_scan.specs.inside.Scanning.{CanLayAll, CanRead, IsReadIn, IsStep, Refuses};
-ghost use Rattle.yaml_scan.specs.inside.TextReads.{IsRead};
 
 use crate::decided::{decided_by, lay_decided};
 use crate::fault::{stop_t, stopped};
-use crate::groups::group_t;
 use crate::keys::is_lost;
 use crate::kind::is_last;
 use crate::lay::lay_lexeme;
 use crate::look::root_after;
 use crate::met::step_t;
 use crate::scanner::scanner_t;
+use crate::source::{len_of, scalar_t};
 use crate::stop::{stop_after, stop_in_lexeme};
 use crate::target::{
-    hand_on, hand_token, has_room_for, has_room_for_both, no_sink_t, yaml_token_sink_t,
+    hand_character, laid_t, queue_laid, scalar_token, yaml_token_sink_t,
 };
-use yaml_lexeme::{yaml_lexeme_kind_t, yaml_lexeme_t, yaml_refusal_t};
+use yaml_lexeme::{yaml_lexeme_t, yaml_refusal_t};
+use yaml_text::{yaml_mark_t, yaml_scalar_style_t, yaml_token_t};
 
-/// Whether the group of a lexeme of a kind that was laid has to wait: the stream end always does, and any other if
-/// groups before it do, if a candidate may yet become a key, or if the sink has no room for it.
+/// Lays the lexeme of a step alone. `room`: the sink has room for all that it hands out.
 #[inline(always)]
-fn has_to_wait<S: yaml_token_sink_t>(
-    scanner: &scanner_t,
-    sink: &S,
-    kind: yaml_lexeme_kind_t,
-    group: &group_t,
-) -> bool
-    ensures last { result ≡ false → is_stream_end kind ≡ false }
-    ensures awaited { result ≡ false → scanner.now.slots.awaited ≡ 0 }
-    ensures lone { result ≡ false → scanner.now.layout.queue.groups.items ≡ [] }
-    ensures room { result ≡ false → S.within sink.now → (after : S) → S.took sink.now (group_tokens group.now) after
-        → S.within after }
-{
-    is_last(kind)
+fn lay_alone(
+    scanner: &mut scanner_t,
+    step: step_t,
+    reach: yaml_mark_t,
+    passed_break: bool,
+    room: bool,
+) -> laid_t {
+    let (ends, opens) = lay_lexeme(scanner, step, reach, passed_break);
+    let waits = is_last(step.kind)
         || scanner.slots.awaited > 0
         || !scanner.layout.queue.groups.is_empty()
-        || !has_room_for(sink, group)
+        || !room;
+    laid_t {
+        ends,
+        opens,
+        key: false,
+        waits,
+        second: None,
+    }
 }
 
-/// Lays the lexeme of a step, and hands on its group.
+/// Lays the scalar of a step, and with it what decides whether it is a key, if the next token needs both.
 #[inline(always)]
-fn put_lexeme<const DIRECT: bool, S: yaml_token_sink_t>(
+fn lay_scalar<S: yaml_token_sink_t>(
     scanner: &mut scanner_t,
-    sink: &mut S,
+    sink: &S,
     step: step_t,
-    lexeme: yaml_lexeme_t,
-) -> Result<(), stop_t>
-    ghost before: { List Laid }
-    requires { CanLayAll before scanner.old step (lexeme_of lexeme) }
-    ensures steps { LaysTo before scanner.old scanner.new DIRECT (λ tokens. S.took sink.old tokens sink.new)
-        S.may_refuse (made_by 1 result) }
-    ensures within { OnOk result (S.within sink.old → S.within sink.new) }
-{
-    let group = lay_lexeme(scanner, step, lexeme);
-    let waits = has_to_wait(scanner, sink, step.kind, &group);
-    hand_on::<DIRECT, S>(scanner, sink, waits, group)
+    reach: yaml_mark_t,
+    passed_break: bool,
+    len: u64,
+) -> laid_t {
+    let room = sink.has_room_of(scanner.layout.levels.len() as u64 + 4, len);
+    match decided_by(scanner, !room, step, reach) {
+        Some(decider) => lay_decided(scanner, step, decider, !room),
+        None => lay_alone(scanner, step, reach, passed_break, room),
+    }
 }
 
-/// Lays the lexeme of a step, and with it what decides whether it is a key, if the next token needs both. Returns how
-/// many steps that makes.
+/// Lays the lexeme of a step, and with it what decides whether it is a key, if the next token needs both. All that is
+/// handed out goes into the queue.
 #[inline(always)]
-fn lay_all<const DIRECT: bool, S: yaml_token_sink_t>(
+fn lay_queued(
     scanner: &mut scanner_t,
-    sink: &mut S,
     step: step_t,
-    lexeme: yaml_lexeme_t,
-) -> Result<u64, stop_t>
-    ghost before: { List Laid }
-    requires { CanLayAll before scanner.old step (lexeme_of lexeme) }
-    ensures steps { LaysTo before scanner.old scanner.new DIRECT (λ tokens. S.took sink.old tokens sink.new)
-        S.may_refuse result }
-    ensures within { OnOk result (S.within sink.old → S.within sink.new) }
-{
-    let direct = has_room_for_both::<DIRECT, S>(sink, &scanner.layout.levels, &lexeme);
-    match decided_by(scanner, !direct, step, lexeme.reach) {
+    reach: yaml_mark_t,
+    passed_break: bool,
+    token: yaml_token_t,
+) {
+    match decided_by(scanner, true, step, reach) {
         Some(decider) => {
-            let (first, second) = lay_decided(scanner, step, lexeme, decider);
-            match hand_on::<DIRECT, S>(scanner, sink, !direct, first) {
-                Ok(_) => match hand_token::<DIRECT, S>(scanner, sink, !direct, second) {
-                    Ok(_) => Ok(2),
-                    Err(stop) => Err(stopped(stop)),
-                },
-                Err(stop) => Err(stopped(stop)),
-            }
+            let laid = lay_decided(scanner, step, decider, true);
+            queue_laid(scanner, laid, false, token, reach);
+            scanner.made += 2;
         }
-        None => match put_lexeme::<DIRECT, S>(scanner, sink, step, lexeme) {
-            Ok(_) => Ok(1),
-            Err(stop) => Err(stopped(stop)),
-        },
+        None => {
+            let laid = lay_alone(scanner, step, reach, passed_break, false);
+            queue_laid(scanner, laid, false, token, reach);
+            scanner.made += 1;
+        }
     }
 }
 
 /// Stops if the lexeme of a step, which was read, reaches near the reader's fault, or if a candidate is lost there.
 #[inline(always)]
-fn check_reach(scanner: &mut scanner_t, step: step_t, lexeme: &yaml_lexeme_t) -> Result<(), stop_t>
-    ghost before: { List Laid }
-    requires { CanRead before scanner.old step × ((p : ℕ) → IsMarkOf scanner.old.text.chars scanner.old.front p
-        → IsRead scanner.old.text.chars step.kind step.context.depth step.context.level p (lexeme_of lexeme.now)) }
-    ensures { MatchResult result
-        (λ _. (scanner.new ≡ scanner.old) × CanLayAll before scanner.old step (lexeme_of lexeme.now))
-        (λ stop. Refuses before scanner.old scanner.new stop) }
-{
-    let reach = lexeme.reach;
+fn check_reach(scanner: &mut scanner_t, step: step_t, reach: yaml_mark_t) -> Result<(), stop_t> {
     let lost = is_lost(root_after(scanner, step), scanner.limit, reach);
     if scanner.near <= reach.index || lost {
         scanner.there = reach;
@@ -116,80 +91,67 @@ fn check_reach(scanner: &mut scanner_t, step: step_t, lexeme: &yaml_lexeme_t) ->
     Ok(())
 }
 
-/// Ends a step with a lexeme of one character, which was read. What comes after it decides nothing. Stops if it is near
-/// the reader's fault, or a candidate is lost.
+/// Ends a step with a lexeme of one character, which was read. What comes after it decides nothing.
 #[inline(always)]
 pub(crate) fn end_character<const DIRECT: bool, S: yaml_token_sink_t>(
     scanner: &mut scanner_t,
     sink: &mut S,
     step: step_t,
-    lexeme: yaml_lexeme_t,
-) -> Result<(), stop_t>
-    ghost before: { List Laid }
-    requires { CanRead before scanner.old step × ((p : ℕ) → IsMarkOf scanner.old.text.chars scanner.old.front p
-        → IsRead scanner.old.text.chars step.kind step.context.depth step.context.level p (lexeme_of lexeme)) }
-    ensures steps { StepsTo before scanner.old scanner.new DIRECT (λ tokens. S.took sink.old tokens sink.new)
-        S.may_refuse result }
-    ensures within { OnOk result (S.within sink.old → S.within sink.new) }
-{
-    match check_reach(scanner, step, &lexeme) {
-        Ok(_) => match put_lexeme::<DIRECT, S>(scanner, sink, step, lexeme) {
-            Ok(_) => {
-                scanner.made += 1;
-                Ok(())
-            }
-            Err(stop) => Err(stopped(stop)),
-        },
+    end: yaml_mark_t,
+) -> Result<(), stop_t> {
+    match check_reach(scanner, step, end) {
+        Ok(_) => {}
+        Err(stop) => return Err(stopped(stop)),
+    }
+    let room = sink.has_room_of(scanner.layout.levels.len() as u64 + 4, 0);
+    let laid = lay_alone(scanner, step, end, false, room);
+    match hand_character::<DIRECT, S>(scanner, sink, step, end, laid) {
+        Ok(_) => {
+            scanner.made += 1;
+            Ok(())
+        }
         Err(stop) => Err(stopped(stop)),
     }
 }
 
-/// Ends a step with the lexeme that was read. Stops if it is near the reader's fault, or a candidate is lost.
+/// Ends a step with the scalar that was read, whose group goes into the queue.
 #[inline(always)]
-fn end_step<const DIRECT: bool, S: yaml_token_sink_t>(
+pub(crate) fn end_in_queue<S: yaml_token_sink_t>(
     scanner: &mut scanner_t,
     sink: &mut S,
     step: step_t,
-    lexeme: yaml_lexeme_t,
-) -> Result<(), stop_t>
-    ghost before: { List Laid }
-    requires { CanRead before scanner.old step × ((p : ℕ) → IsMarkOf scanner.old.text.chars scanner.old.front p
-        → IsRead scanner.old.text.chars step.kind step.context.depth step.context.level p (lexeme_of lexeme)) }
-    ensures steps { StepsTo before scanner.old scanner.new DIRECT (λ tokens. S.took sink.old tokens sink.new)
-        S.may_refuse result }
-    ensures within { OnOk result (S.within sink.old → S.within sink.new) }
-{
-    match check_reach(scanner, step, &lexeme) {
-        Ok(_) => match lay_all::<DIRECT, S>(scanner, sink, step, lexeme) {
-            Ok(made) => {
-                scanner.made += made;
-                Ok(())
-            }
-            Err(stop) => Err(stopped(stop)),
-        },
-        Err(stop) => Err(stopped(stop)),
+    style: yaml_scalar_style_t,
+    scalar: scalar_t,
+) -> Result<(), stop_t> {
+    let reach = scalar.reach;
+    let passed_break = scalar.passed_break;
+    let token = match scalar_token(scanner, sink, step.new.start, style, scalar) {
+        Ok(token) => token,
+        Err(stop) => return Err(stopped(stop)),
+    };
+    match check_reach(scanner, step, reach) {
+        Ok(_) => {}
+        Err(stop) => return Err(stopped(stop)),
     }
+    lay_queued(scanner, step, reach, passed_break, token);
+    Ok(())
 }
 
-/// Ends a step with what was read. Stops if it was refused.
+/// Lays the scalar of a step, which was read.
 #[inline(always)]
-pub(crate) fn end_read<const DIRECT: bool, S: yaml_token_sink_t>(
+pub(crate) fn lay_read<S: yaml_token_sink_t>(
     scanner: &mut scanner_t,
-    sink: &mut S,
+    sink: &S,
     step: step_t,
-    read: Result<yaml_lexeme_t, yaml_refusal_t>,
-) -> Result<(), stop_t>
-    ghost before: { List Laid }
-    requires { CanRead before scanner.old step
-        × IsReadIn scanner.old step.kind step.context scanner.old.there read }
-    ensures steps { StepsTo before scanner.old scanner.new DIRECT (λ tokens. S.took sink.old tokens sink.new)
-        S.may_refuse result }
-    ensures within { OnOk result (S.within sink.old → S.within sink.new) }
-{
-    match read {
-        Ok(lexeme) => end_step::<DIRECT, S>(scanner, sink, step, lexeme),
-        Err(refusal) => Err(stop_in_lexeme(scanner, step.kind, refusal)),
+    scalar: &scalar_t,
+) -> Result<laid_t, stop_t> {
+    let reach = scalar.reach;
+    match check_reach(scanner, step, reach) {
+        Ok(_) => {}
+        Err(stop) => return Err(stopped(stop)),
     }
+    let len = len_of(&scalar.value);
+    Ok(lay_scalar(scanner, sink, step, reach, scalar.passed_break, len))
 }
 
 /// Ends a step with what was read, whose group goes into the queue. Stops if it was refused.
@@ -198,11 +160,22 @@ pub(crate) fn end_queued(
     scanner: &mut scanner_t,
     step: step_t,
     read: Result<yaml_lexeme_t, yaml_refusal_t>,
-) -> Result<(), stop_t>
-    ghost before: { List Laid }
-    requires { CanRead before scanner.old step
-        × IsReadIn scanner.old step.kind step.context scanner.old.there read }
-    ensures { IsStep before scanner.old scanner.new result }
-{
-    end_read::<false, no_sink_t>(scanner, &mut no_sink_t {}, step, read)
+) -> Result<(), stop_t> {
+    let lexeme = match read {
+        Ok(lexeme) => lexeme,
+        Err(refusal) => return Err(stop_in_lexeme(scanner, step.kind, refusal)),
+    };
+    let reach = lexeme.reach;
+    match check_reach(scanner, step, reach) {
+        Ok(_) => {}
+        Err(stop) => return Err(stopped(stop)),
+    }
+    let passed_break = lexeme.passed_break;
+    let token = yaml_token_t {
+        token_data: lexeme.token_data,
+        start_mark: step.new.start,
+        end_mark: lexeme.end_mark,
+    };
+    lay_queued(scanner, step, reach, passed_break, token);
+    Ok(())
 }

@@ -12,7 +12,9 @@ ghost use Rattle.yaml_scan.specs.inside.Queue.{mark_next, lead_tokens};
 ghost use Rattle.yaml_scan.specs.Groups.{Token};
 ghost use Rattle.yaml_scan.specs.Groups.Token.{StreamStart};
 
-use std::alloc::AllocError;
+use crate::target::{left_at, placed_len, quote_len};
+
+use std::alloc::{AllocError, Global};
 use std::collections::VecDeque;
 use yaml_text::{unnamed_yaml_token_t_data, yaml_encoding_t, yaml_mark_t, yaml_token_t};
 
@@ -31,6 +33,8 @@ pub(crate) struct group_t {
     pub ends: usize,
     pub opens: block_t,
     pub key: bool,
+    /// The value of its scalar is not in the token, but stands in the text as it is, between the token's marks.
+    pub placed: bool,
     pub token: yaml_token_t,
 }
 
@@ -81,6 +85,7 @@ pub(crate) fn put_stream_start(
         ends: 0,
         opens: block_t::NONE,
         key: false,
+        placed: false,
         token,
     })?;
     Ok(())
@@ -231,6 +236,40 @@ fn drop_lead(queue: &mut queue_t)
     if let Some(head) = queue.groups.front_mut() {
         drop_lead_of(head);
     }
+}
+
+/// Puts the value of the scalar of a group into its token, if it is not there.
+#[inline(never)]
+fn own_value(alloc: Global, bytes: &[u8], group: &mut group_t) -> Result<(), AllocError> {
+    if !group.placed {
+        return Ok(());
+    }
+    let start = group.token.start_mark;
+    let end = group.token.end_mark;
+    if let unnamed_yaml_token_t_data::SCALAR { value, style } = &mut group.token.token_data {
+        let left = left_at(bytes, start.index as usize + quote_len(*style));
+        value.extend_from_slice(&left[..placed_len(*style, start, end)])?;
+    }
+    group.placed = false;
+    Ok(())
+}
+
+/// Puts the value of the head's scalar into its token, if it is not there.
+#[inline(never)]
+pub(crate) fn own_head(alloc: Global, bytes: &[u8], queue: &mut queue_t) -> Result<(), AllocError> {
+    match queue.groups.front_mut() {
+        Some(head) => own_value(alloc, bytes, head),
+        None => Ok(()),
+    }
+}
+
+/// Puts the values of all scalars that wait into their tokens.
+#[inline(never)]
+pub(crate) fn own_all(alloc: Global, bytes: &[u8], queue: &mut queue_t) -> Result<(), AllocError> {
+    'groups: for i in 0..queue.groups.len() {
+        own_value(alloc, bytes, &mut queue.groups[i])?;
+    }
+    Ok(())
 }
 
 /// Takes the next token. There is one.

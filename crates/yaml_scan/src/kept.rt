@@ -36,6 +36,7 @@ pub struct yaml_kept_parser_t {
     reach: yaml_mark_t,
     taken: u128,
     made: u64,
+    unready: bool,
     session: session_t,
     lead: yaml_token_t,
 }
@@ -97,6 +98,7 @@ impl yaml_kept_parser_t {
             reach: mark,
             taken: 0,
             made: 0,
+            unready: true,
             session: session_t {
                 peeked: false,
                 over: true,
@@ -144,6 +146,7 @@ impl yaml_kept_parser_t {
                 kept: make_memory_fault(),
                 taken: kept.taken,
                 made: kept.made,
+                unready: kept.unready,
             },
             session: session_t {
                 peeked: kept.session.peeked,
@@ -184,6 +187,7 @@ impl yaml_kept_parser_t {
             kept: _,
             taken,
             made,
+            unready,
         } = scanner;
         kept.setting = setting;
         kept.text = Some(yaml_kept_text_t::new(text, input, setting));
@@ -196,6 +200,7 @@ impl yaml_kept_parser_t {
         kept.reach = reach;
         kept.taken = taken;
         kept.made = made;
+        kept.unready = unready;
         kept.session = session;
         kept.lead = lead;
     }

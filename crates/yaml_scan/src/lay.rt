@@ -1,79 +1,34 @@
 //! What the layout makes of a lexeme.
-ghost use Rattle.std.specs.Prelude.{◌≡◌, ◌<◌, ◌++◌, ◌∷◌, List, [], length, map, nat_lt, vec_len};
-ghost use Rattle.std.specs.Vec.{vec_capacity};
-ghost use Rattle.std.specs.VecDeque.{deque_capacity};
-ghost use Rattle.yaml_text.specs.Token.{data_of, token_of};
-ghost use Rattle.yaml_lexeme.specs.LexemeOf.{lexeme_of};
-ghost use Rattle.yaml_scan.specs.Laid.{Laid};
-ghost use Rattle.yaml_scan.specs.inside.Handed.{IsLaidAs};
-ghost use Rattle.yaml_scan.specs.inside.Scanning.{CanPut, HasRoom, groups_in, met_in};
-ghost use Rattle.yaml_scan.specs.inside.Slots.{AreNested, empty_slots, lowest, nested_outer, nested_top, slot_after};
-ghost use Rattle.yaml_scan.specs.inside.Slots.{step_of, still_held};
 
 use crate::allowed::is_allowed_after;
-use crate::groups::group_t;
+use crate::groups::block_t;
 use crate::keys::{completed_by, move_slots, settle};
 use crate::levels::{close_levels, keep_early, put_key};
 use crate::met::step_t;
 use crate::scanner::scanner_t;
 use crate::slots::slots_t;
-use yaml_lexeme::yaml_lexeme_t;
-use yaml_text::{yaml_mark_t, yaml_token_t};
-
-/// The token of a lexeme that starts at a mark.
-#[inline(always)]
-pub(crate) fn token_of(start: yaml_mark_t, lexeme: yaml_lexeme_t) -> yaml_token_t
-    ensures { token_of result ≡ record {
-      token_data = data_of lexeme.token_data;
-      start_mark = start;
-      end_mark = lexeme.end_mark;
-    } }
-{
-    yaml_token_t {
-        token_data: lexeme.token_data,
-        start_mark: start,
-        end_mark: lexeme.end_mark,
-    }
-}
+use yaml_text::yaml_mark_t;
 
 /// Changes the candidates after the lexeme of a step, which was read to a mark. There is room for one more depth.
 #[inline(always)]
 fn keep_candidates(slots: &mut slots_t, step: step_t, limit: u64, mark: yaml_mark_t)
-    requires flow { step.in_flow ≡ nat_lt 0 (vec_len slots.old.outer) }
-    requires empty { slots.old.not_simple_keys ≡ empty_slots slots.old.outer.items }
-    requires nested { AreNested slots.old.outer.items }
-    requires room { vec_len slots.old.outer < vec_capacity slots.old.outer }
-    ensures outer { slots.new.outer.items
-        ≡ nested_outer step.kind (map (still_held limit mark) slots.old.outer.items)
-        (still_held limit mark (slot_after step.kind step.allowed step.new slots.old.top)) }
-    ensures top { slots.new.top
-        ≡ nested_top step.kind (map (still_held limit mark) slots.old.outer.items)
-        (still_held limit mark (slot_after step.kind step.allowed step.new slots.old.top)) }
-    ensures empty { slots.new.not_simple_keys ≡ empty_slots slots.new.outer.items }
-    ensures awaited { slots.new.awaited ≡ step_of (lowest (slots.new.outer.items ++ slots.new.top ∷ [])) }
 {
     settle(&mut slots.top, step.kind, step.allowed, step.new);
     move_slots(slots, step, limit, mark);
 }
 
-/// Lays the lexeme of a step, which was read: changes levels and candidates, and marks the group that it completes.
-/// Returns its own group, which then goes into the queue or is handed out. There is room, and no candidate is lost.
+/// Lays the lexeme of a step, which was read up to a mark: changes levels and candidates, and marks the group that it
+/// completes. Returns how many levels end at its start, and what it opens.
 #[inline(always)]
-pub(crate) fn lay_lexeme(scanner: &mut scanner_t, step: step_t, lexeme: yaml_lexeme_t) -> group_t
-    ghost before: { List Laid }
-    requires can { CanPut before scanner.old (groups_in scanner.old) (met_in scanner.old step) step.in_flow step.new
-        (lexeme_of lexeme) }
-    requires room { HasRoom scanner.old }
-    ensures laid { IsLaidAs before scanner.old step.kind scanner.new (groups_in scanner.new ++ result ∷ []) }
-    ensures reach { scanner.new.reach ≡ (lexeme_of lexeme).reach }
-    ensures says { (token_of result.token).token_data ≡ (lexeme_of lexeme).token_data }
-    ensures room { length scanner.new.layout.queue.groups.items < deque_capacity scanner.new.layout.queue.groups }
-{
+pub(crate) fn lay_lexeme(
+    scanner: &mut scanner_t,
+    step: step_t,
+    reach: yaml_mark_t,
+    passed_break: bool,
+) -> (usize, block_t) {
     let kind = step.kind;
     let front = scanner.front;
     let start = step.new.start;
-    let reach = lexeme.reach;
-    let passed_break = lexeme.passed_break;
     let closed = close_levels(&mut scanner.layout.levels, step, front);
     let completed = completed_by(kind, scanner.slots.top, scanner.limit, start);
     keep_candidates(&mut scanner.slots, step, scanner.limit, reach);
@@ -81,10 +36,5 @@ pub(crate) fn lay_lexeme(scanner: &mut scanner_t, step: step_t, lexeme: yaml_lex
     keep_early(&mut scanner.layout.queue, closed, front);
     scanner.allowed = is_allowed_after(kind, step.in_flow, completed.is_none(), passed_break);
     scanner.reach = reach;
-    group_t {
-        ends: closed.ends,
-        opens,
-        key: false,
-        token: token_of(start, lexeme),
-    }
+    (closed.ends, opens)
 }

@@ -42,7 +42,7 @@ pub use parser::{
 };
 pub use scanned::yaml_scan_next;
 pub use sink::yaml_scan_to;
-pub use target::yaml_token_sink_t;
+pub use target::{yaml_bare_data, yaml_piece_t, yaml_token_sink_t};
 pub use yaml_lexeme::{
     yaml_context_t, yaml_gap, yaml_lexeme_at, yaml_lexeme_kind, yaml_lexeme_kind_t, yaml_lexeme_t,
 };

@@ -24,7 +24,7 @@ ghost use Rattle.yaml_scan.specs.Puts.{HasNext, IsAnsweredAlike};
 ghost use Rattle.yaml_scan.specs.inside.Stop.{fault_at};
 
 use crate::fault::{fault_at, make_memory_fault, stop_t};
-use crate::groups::{has_lead, lead, put_stream_start, queue_t, take_next};
+use crate::groups::{has_lead, lead, own_all, put_stream_start, queue_t, take_next};
 use crate::keys::KEY_LIMIT;
 use crate::levels::layout_t;
 use crate::near::{near_of, near_start};
@@ -107,6 +107,7 @@ pub(crate) fn new_scanner<'a>(alloc: Global, limit: u64) -> scanner_t<'a>
         kept: make_memory_fault(),
         taken: 0,
         made: 0,
+        unready: true,
     }
 }
 
@@ -163,6 +164,21 @@ pub(crate) fn start<'a>(
     begin(scanner, input, setting)
 }
 
+/// Makes the first step, if it was not made, and puts the values of the scalars that wait into their tokens.
+#[inline(never)]
+fn make_ready<'a>(
+    scanner: &mut scanner_t<'a>,
+    input: &'a [u8],
+    setting: yaml_encoding_t,
+) -> Result<(), stop_t> {
+    if scanner.made == 0 {
+        begin(scanner, input, setting)?;
+    }
+    own_all(scanner.alloc, scanner.text.bytes(), &mut scanner.layout.queue)?;
+    scanner.unready = false;
+    Ok(())
+}
+
 /// Makes the steps that the next token needs: none if it was peeked.
 #[inline(always)]
 fn settle<'a>(
@@ -181,7 +197,9 @@ fn settle<'a>(
     if peeked {
         return Ok(());
     }
-    start(scanner, input, setting)?;
+    if scanner.unready {
+        make_ready(scanner, input, setting)?;
+    }
     settle_head(scanner)
 }
 

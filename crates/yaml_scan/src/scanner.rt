@@ -32,4 +32,6 @@ pub(crate) struct scanner_t<'a> {
     pub taken: u128,
     /// How many steps were made.
     pub made: u64,
+    /// The first step was not made, or a scalar may wait whose value is not in its token.
+    pub unready: bool,
 }

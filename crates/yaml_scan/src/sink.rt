@@ -8,6 +8,7 @@ ghost use Rattle.yaml_scan.specs.inside.Given.{GaveRest, GivesAll, IsSettledTo, 
 ghost use Rattle.yaml_scan.specs.inside.Ready.{IsNew};
 ghost use Rattle.yaml_scan.specs.inside.Scanning.{IsOpen, IsRunning};
 
+use crate::batch::own;
 use crate::fault::{fault_at, stop_t};
 use crate::parser::{begin, new_scanner, take_head};
 use crate::scanner::scanner_t;
@@ -45,6 +46,7 @@ fn give_rest<S: yaml_token_sink_t>(scanner: &mut scanner_t, sink: &mut S) -> Res
     let mut last = false;
     'tokens: while !last {
         settle_to(scanner, sink)?;
+        own(scanner)?;
         let token = take_head(scanner);
         last = is_stream_end(&token);
         give(sink, token)?;

@@ -1,20 +1,13 @@
 //! The readers of `yaml_lexeme`, with contracts over places instead of marks.
-ghost use Rattle.std.specs.Prelude.{◌≡◌, ℕ, ◌≤◌, Bool, Option, Some, length, IfSome, true};
-ghost use Rattle.yaml_lexeme.specs.KindSets.{block_kind, is_character, quoted_kind};
-ghost use Rattle.yaml_lexeme.specs.LexemeOf.{lexeme_of};
-ghost use Rattle.yaml_lexeme.specs.Counted.{IsMarkOf};
-ghost use Rattle.yaml_lexeme.specs.declared.kind.yaml_lexeme_kind_t.TheVariants.{PLAIN};
-ghost use Rattle.yaml_scan.specs.SourceOf.{source_of};
-ghost use Rattle.yaml_scan.specs.inside.Scanning.{HasRead};
-ghost use Rattle.yaml_scan.specs.inside.TextReads.{IsDecider, IsRead};
 
 use crate::scanner::scanner_t;
 use yaml_lexeme::{
+    yaml_plain_stretch, yaml_quoted_stretch, yaml_read_quoted_from, yaml_stretch_t,
     yaml_context_t, yaml_decider_at, yaml_gap, yaml_lexeme_kind, yaml_lexeme_kind_t, yaml_lexeme_t,
     yaml_read_block, yaml_read_character, yaml_read_lexeme, yaml_read_plain, yaml_read_quoted,
     yaml_refusal_t, yaml_spot_t,
 };
-use yaml_text::{yaml_mark_t, yaml_text_t};
+use yaml_text::{unnamed_yaml_token_t_data, yaml_mark_t, yaml_text_t};
 
 /// The end of the gap from a mark.
 #[inline(always)]
@@ -24,45 +17,38 @@ pub(crate) fn gap_end(
     in_flow: bool,
     allowed: bool,
 ) -> yaml_mark_t
-    requires { (p : ℕ) × IsMarkOf text.now.chars at p }
-    ensures { (p : ℕ) → IsMarkOf text.now.chars at p
-        → IsMarkOf text.now.chars result ((source_of text.now.chars).gap in_flow allowed p) }
 {
     yaml_gap(text, at, in_flow, allowed).0
 }
 
 /// The kind of the lexeme at a mark.
-#[tactic(auto, unfolding(crate::specs::SourceOf::source_of))]
 #[inline(always)]
 pub(crate) fn kind_at(
     text: &yaml_text_t,
     at: yaml_mark_t,
     in_flow: bool,
 ) -> Option<yaml_lexeme_kind_t>
-    requires { (p : ℕ) × IsMarkOf text.now.chars at p }
-    ensures { (p : ℕ) → IsMarkOf text.now.chars at p → result ≡ (source_of text.now.chars).kind in_flow p }
 {
     yaml_lexeme_kind(text, at, in_flow)
 }
 
 /// What comes right after a candidate for a key, and decides whether it is one.
-#[derive(Drop)]
+#[derive(Clone, Copy)]
 pub(crate) struct decider_t {
     pub kind: yaml_lexeme_kind_t,
-    pub lexeme: yaml_lexeme_t,
+    pub start: yaml_mark_t,
+    pub end: yaml_mark_t,
 }
 
 /// What decides at a mark whether the candidate before it is a key, if such a lexeme is right there.
 #[inline(always)]
 pub(crate) fn decider_at(text: &yaml_text_t, at: yaml_mark_t, in_flow: bool) -> Option<decider_t>
-    requires { (p : ℕ) × IsMarkOf text.now.chars at p }
-    ensures { IfSome result (λ d. (p : ℕ) → IsMarkOf text.now.chars at p
-        → IsDecider text.now.chars in_flow p d.kind (lexeme_of d.lexeme)) }
 {
     match yaml_decider_at(text, at, in_flow) {
         Some(kind) => Some(decider_t {
             kind,
-            lexeme: yaml_read_character(text, at, kind),
+            start: at,
+            end: yaml_read_character(text, at, kind).end_mark,
         }),
         None => None,
     }
@@ -70,14 +56,11 @@ pub(crate) fn decider_at(text: &yaml_text_t, at: yaml_mark_t, in_flow: bool) -> 
 
 /// The plain scalar after the gap, or why it is refused. Its value is put into `room` if it fits.
 #[inline(always)]
-pub(crate) fn read_plain(
+fn read_plain(
     room: Vec<u8>,
     scanner: &mut scanner_t,
     context: yaml_context_t,
 ) -> Result<yaml_lexeme_t, yaml_refusal_t>
-    requires place { (p : ℕ) × IsMarkOf scanner.old.text.chars scanner.old.front p }
-    requires level { IfSome context.level (λ l. l ≤ length scanner.old.text.chars) }
-    ensures { HasRead scanner.old scanner.new PLAIN context result }
 {
     let mut spot = yaml_spot_t {
         text: &scanner.text,
@@ -92,14 +75,12 @@ pub(crate) fn read_plain(
 
 /// The quoted scalar after the gap, or why it is refused. Its value is put into `room` if it fits.
 #[inline(always)]
-pub(crate) fn read_quoted(
+fn read_quoted(
     room: Vec<u8>,
     scanner: &mut scanner_t,
     single: bool,
     context: yaml_context_t,
 ) -> Result<yaml_lexeme_t, yaml_refusal_t>
-    requires { (p : ℕ) × IsMarkOf scanner.old.text.chars scanner.old.front p }
-    ensures { HasRead scanner.old scanner.new (quoted_kind single) context result }
 {
     let mut spot = yaml_spot_t {
         text: &scanner.text,
@@ -114,15 +95,12 @@ pub(crate) fn read_quoted(
 
 /// The literal or folded scalar after the gap, or why it is refused. Its value is put into `room` if it fits.
 #[inline(always)]
-pub(crate) fn read_block(
+fn read_block(
     room: Vec<u8>,
     scanner: &mut scanner_t,
     folded: bool,
     context: yaml_context_t,
 ) -> Result<yaml_lexeme_t, yaml_refusal_t>
-    requires place { (p : ℕ) × IsMarkOf scanner.old.text.chars scanner.old.front p }
-    requires level { IfSome context.level (λ l. l ≤ length scanner.old.text.chars) }
-    ensures { HasRead scanner.old scanner.new (block_kind folded) context result }
 {
     let mut spot = yaml_spot_t {
         text: &scanner.text,
@@ -138,11 +116,6 @@ pub(crate) fn read_block(
 /// The lexeme of one character after the gap.
 #[inline(always)]
 pub(crate) fn read_character(scanner: &scanner_t, kind: yaml_lexeme_kind_t) -> yaml_lexeme_t
-    requires place { (p : ℕ) × IsMarkOf scanner.now.text.chars scanner.now.front p
-        × ((flow : Bool) × ((source_of scanner.now.text.chars).kind flow p ≡ Some kind)) }
-    requires kind { is_character kind ≡ true }
-    ensures { (p depth : ℕ) (level : Option ℕ) → IsMarkOf scanner.now.text.chars scanner.now.front p
-        → IsRead scanner.now.text.chars kind depth level p (lexeme_of result) }
 {
     yaml_read_character(&scanner.text, scanner.front, kind)
 }
@@ -154,10 +127,6 @@ pub(crate) fn read_other(
     kind: yaml_lexeme_kind_t,
     context: yaml_context_t,
 ) -> Result<yaml_lexeme_t, yaml_refusal_t>
-    requires place { (p : ℕ) × IsMarkOf scanner.old.text.chars scanner.old.front p
-        × ((flow : Bool) × ((source_of scanner.old.text.chars).kind flow p ≡ Some kind)) }
-    requires level { IfSome context.level (λ l. l ≤ length scanner.old.text.chars) }
-    ensures { HasRead scanner.old scanner.new kind context result }
 {
     let mut spot = yaml_spot_t {
         text: &scanner.text,
@@ -168,4 +137,160 @@ pub(crate) fn read_other(
         scanner.there = spot.at;
     }
     read
+}
+
+/// What a scalar says: so many bytes of the text as it is, or a list.
+#[derive(Drop)]
+pub(crate) enum value_t {
+    STRETCH(usize),
+    LIST(Vec<u8>),
+}
+
+/// A scalar that was read.
+#[derive(Drop)]
+pub(crate) struct scalar_t {
+    pub value: value_t,
+    pub end: yaml_mark_t,
+    pub reach: yaml_mark_t,
+    pub passed_break: bool,
+}
+
+/// How many bytes a value has.
+#[inline(always)]
+pub(crate) fn len_of(value: &value_t) -> u64 {
+    match value {
+        value_t::STRETCH(len) => *len as u64,
+        value_t::LIST(value) => value.len() as u64,
+    }
+}
+
+/// The scalar of a lexeme.
+#[inline(always)]
+fn listed(read: Result<yaml_lexeme_t, yaml_refusal_t>) -> Result<scalar_t, yaml_refusal_t> {
+    match read {
+        Ok(lexeme) => {
+            let yaml_lexeme_t {
+                token_data,
+                start_mark: _,
+                end_mark,
+                reach,
+                passed_break,
+            } = lexeme;
+            match token_data {
+                unnamed_yaml_token_t_data::SCALAR { value, style: _ } => Ok(scalar_t {
+                    value: value_t::LIST(value),
+                    end: end_mark,
+                    reach,
+                    passed_break,
+                }),
+                _ => unreachable!(),
+            }
+        }
+        Err(refusal) => Err(refusal),
+    }
+}
+
+/// The scalar of a stretch.
+#[inline(always)]
+fn stretched(stretch: yaml_stretch_t) -> scalar_t {
+    scalar_t {
+        value: value_t::STRETCH(stretch.len),
+        end: stretch.end_mark,
+        reach: stretch.reach,
+        passed_break: stretch.passed_break,
+    }
+}
+
+/// The plain scalar after the gap, if its value stands in the text as it is.
+#[inline(always)]
+pub(crate) fn plain_stretch(scanner: &scanner_t, context: yaml_context_t) -> Option<scalar_t> {
+    match yaml_plain_stretch(&scanner.text, scanner.front, context) {
+        Some(stretch) => Some(stretched(stretch)),
+        None => None,
+    }
+}
+
+/// The quoted scalar after the gap, if its value stands in the text as it is.
+#[inline(always)]
+pub(crate) fn quoted_stretch(scanner: &mut scanner_t, single: bool) -> Option<scalar_t> {
+    match yaml_quoted_stretch(&scanner.text, scanner.front, single) {
+        Ok(stretch) => Some(stretched(stretch)),
+        Err(there) => {
+            scanner.there = there;
+            None
+        }
+    }
+}
+
+#[inline(never)]
+fn plain_list(
+    room: Vec<u8>,
+    scanner: &mut scanner_t,
+    context: yaml_context_t,
+) -> Result<scalar_t, yaml_refusal_t> {
+    listed(read_plain(room, scanner, context))
+}
+
+/// The quoted scalar whose first line was read up to `there`.
+#[inline(never)]
+fn quoted_list(
+    room: Vec<u8>,
+    scanner: &mut scanner_t,
+    single: bool,
+) -> Result<scalar_t, yaml_refusal_t> {
+    let mut spot = yaml_spot_t {
+        text: &scanner.text,
+        at: scanner.front,
+    };
+    let read = yaml_read_quoted_from(room, &mut spot, single, scanner.there);
+    if read.is_err() {
+        scanner.there = spot.at;
+    }
+    listed(read)
+}
+
+/// The scalar of a kind after the gap, or why it is refused. Its value is put into `room` if it fits.
+#[inline(always)]
+pub(crate) fn read_list(
+    room: Vec<u8>,
+    scanner: &mut scanner_t,
+    kind: yaml_lexeme_kind_t,
+    context: yaml_context_t,
+) -> Result<scalar_t, yaml_refusal_t> {
+    match kind {
+        yaml_lexeme_kind_t::PLAIN => plain_list(room, scanner, context),
+        yaml_lexeme_kind_t::SINGLE_QUOTED => quoted_list(room, scanner, true),
+        _ => quoted_list(room, scanner, false),
+    }
+}
+
+/// The literal scalar after the gap, or why it is refused. Its value is put into `room` if it fits.
+#[inline(always)]
+pub(crate) fn read_literal(
+    room: Vec<u8>,
+    scanner: &mut scanner_t,
+    context: yaml_context_t,
+) -> Result<scalar_t, yaml_refusal_t> {
+    listed(read_block(room, scanner, false, context))
+}
+
+/// The plain scalar after the gap, or why it is refused, its value in a list.
+#[inline(always)]
+pub(crate) fn read_plain_list(
+    room: Vec<u8>,
+    scanner: &mut scanner_t,
+    context: yaml_context_t,
+) -> Result<scalar_t, yaml_refusal_t> {
+    listed(read_plain(room, scanner, context))
+}
+
+/// The quoted scalar after the gap, or why it is refused, its value in a list.
+#[inline(always)]
+pub(crate) fn read_quoted_list(
+    room: Vec<u8>,
+    scanner: &mut scanner_t,
+    single: bool,
+    context: yaml_context_t,
+) -> Result<scalar_t, yaml_refusal_t> {
+    listed(read_quoted(room, scanner, single, context))
 }

@@ -1,32 +1,52 @@
 //! A step: the gap, the kind of the next lexeme, the lexeme, and what the layout makes of it.
-ghost use Rattle.std.specs.Prelude.{List, ◌≡◌, ◌<◌, true, false, nat_lt, vec_len, OnOk};
-ghost use Rattle.yaml_lexeme.specs.KindSets.{block_kind, is_character, quoted_kind};
-ghost use Rattle.yaml_lexeme.specs.declared.kind.yaml_lexeme_kind_t.TheVariants.{PLAIN};
-ghost use Rattle.yaml_scan.specs.Laid.{Laid};
-ghost use Rattle.yaml_scan.specs.inside.Handed.{StepsTo};
-ghost use Rattle.yaml_scan.specs.inside.Scanning.{CanStep, Comes, IsStep};
 
 use crate::begin::begin_step;
 use crate::fault::{stop_t, stopped};
-use crate::finish::{end_character, end_queued, end_read};
+use crate::finish::{end_character, end_in_queue, end_queued, lay_read};
 use crate::keys::{is_lost, root_at};
 use crate::scanner::scanner_t;
 use crate::source::{
-    gap_end, kind_at, read_block, read_character, read_other, read_plain, read_quoted,
+    gap_end, kind_at, plain_stretch, quoted_stretch, read_character, read_list, read_literal,
+    read_other, read_plain_list, read_quoted_list,
 };
-use crate::stop::{stop_in_gap, stop_without_kind};
-use crate::target::{no_sink_t, yaml_token_sink_t};
+use crate::stop::{stop_in_gap, stop_in_lexeme, stop_without_kind};
+use crate::target::{hand_laid, no_sink_t, yaml_token_sink_t};
 use yaml_lexeme::yaml_lexeme_kind_t;
+use yaml_text::yaml_scalar_style_t;
 
 /// The kind of a quoted scalar.
 #[inline(always)]
 fn quoted_kind(single: bool) -> yaml_lexeme_kind_t
-    ensures { result ≡ quoted_kind single }
 {
     if single {
         yaml_lexeme_kind_t::SINGLE_QUOTED
     } else {
         yaml_lexeme_kind_t::DOUBLE_QUOTED
+    }
+}
+
+/// Ends a step with the scalar that was read. It is no function, since that would be too large to be inlined.
+macro_rules! finish_scalar {
+    ($direct:expr, $sink_type:ty, $scanner:expr, $sink:expr, $step:expr, $style:expr, $scalar:expr) => {
+        if $direct {
+            let scalar = $scalar;
+            match lay_read($scanner, $sink, $step, &scalar) {
+                Ok(laid) => hand_laid($scanner, $sink, $step.new.start, $style, scalar, laid),
+                Err(stop) => Err(stopped(stop)),
+            }
+        } else {
+            end_in_queue($scanner, $sink, $step, $style, $scalar)
+        }
+    };
+}
+
+/// The style of a quoted scalar.
+#[inline(always)]
+fn quoted_style(single: bool) -> yaml_scalar_style_t {
+    if single {
+        yaml_scalar_style_t::YAML_SINGLE_QUOTED_SCALAR_STYLE
+    } else {
+        yaml_scalar_style_t::YAML_DOUBLE_QUOTED_SCALAR_STYLE
     }
 }
 
@@ -36,18 +56,19 @@ fn step_plain<const IN_FLOW: bool, const DIRECT: bool, S: yaml_token_sink_t>(
     scanner: &mut scanner_t,
     sink: &mut S,
 ) -> Result<(), stop_t>
-    ghost before: { List Laid }
-    requires { Comes before scanner.old IN_FLOW PLAIN }
-    ensures steps { StepsTo before scanner.old scanner.new DIRECT (λ tokens. S.took sink.old tokens sink.new)
-        S.may_refuse result }
-    ensures within { OnOk result (S.within sink.old → S.within sink.new) }
 {
     match begin_step(scanner, IN_FLOW, yaml_lexeme_kind_t::PLAIN) {
-        Ok(step) => {
+        Ok(step) if !DIRECT => {
             let room = sink.room(scanner.alloc);
-            let read = read_plain(room, scanner, step.context);
-            end_read::<DIRECT, S>(scanner, sink, step, read)
+            match read_plain_list(room, scanner, step.context) {
+                Ok(scalar) => finish_scalar!(DIRECT, S, scanner, sink, step, yaml_scalar_style_t::YAML_PLAIN_SCALAR_STYLE, scalar),
+                Err(refusal) => Err(stop_in_lexeme(scanner, step.kind, refusal)),
+            }
         }
+        Ok(step) => match plain_stretch(scanner, step.context) {
+            Some(scalar) => finish_scalar!(DIRECT, S, scanner, sink, step, yaml_scalar_style_t::YAML_PLAIN_SCALAR_STYLE, scalar),
+            None => step_list::<IN_FLOW, DIRECT, S>(scanner, sink, yaml_lexeme_kind_t::PLAIN),
+        },
         Err(stop) => Err(stopped(stop)),
     }
 }
@@ -58,18 +79,23 @@ fn step_quoted<const IN_FLOW: bool, const SINGLE: bool, const DIRECT: bool, S: y
     scanner: &mut scanner_t,
     sink: &mut S,
 ) -> Result<(), stop_t>
-    ghost before: { List Laid }
-    requires { Comes before scanner.old IN_FLOW (quoted_kind SINGLE) }
-    ensures steps { StepsTo before scanner.old scanner.new DIRECT (λ tokens. S.took sink.old tokens sink.new)
-        S.may_refuse result }
-    ensures within { OnOk result (S.within sink.old → S.within sink.new) }
 {
     match begin_step(scanner, IN_FLOW, quoted_kind(SINGLE)) {
-        Ok(step) => {
+        Ok(step) if !DIRECT => {
             let room = sink.room(scanner.alloc);
-            let read = read_quoted(room, scanner, SINGLE, step.context);
-            end_read::<DIRECT, S>(scanner, sink, step, read)
+            match read_quoted_list(room, scanner, SINGLE, step.context) {
+                Ok(scalar) => {
+                    finish_scalar!(DIRECT, S, scanner, sink, step, quoted_style(SINGLE), scalar)
+                }
+                Err(refusal) => Err(stop_in_lexeme(scanner, step.kind, refusal)),
+            }
         }
+        Ok(step) => match quoted_stretch(scanner, SINGLE) {
+            Some(scalar) => {
+                finish_scalar!(DIRECT, S, scanner, sink, step, quoted_style(SINGLE), scalar)
+            }
+            None => step_list::<IN_FLOW, DIRECT, S>(scanner, sink, quoted_kind(SINGLE)),
+        },
         Err(stop) => Err(stopped(stop)),
     }
 }
@@ -80,17 +106,49 @@ fn step_literal<const IN_FLOW: bool, const DIRECT: bool, S: yaml_token_sink_t>(
     scanner: &mut scanner_t,
     sink: &mut S,
 ) -> Result<(), stop_t>
-    ghost before: { List Laid }
-    requires { Comes before scanner.old IN_FLOW (block_kind false) }
-    ensures steps { StepsTo before scanner.old scanner.new DIRECT (λ tokens. S.took sink.old tokens sink.new)
-        S.may_refuse result }
-    ensures within { OnOk result (S.within sink.old → S.within sink.new) }
 {
     match begin_step(scanner, IN_FLOW, yaml_lexeme_kind_t::LITERAL) {
         Ok(step) => {
             let room = sink.room(scanner.alloc);
-            let read = read_block(room, scanner, false, step.context);
-            end_read::<DIRECT, S>(scanner, sink, step, read)
+            match read_literal(room, scanner, step.context) {
+                Ok(scalar) => {
+                    finish_scalar!(DIRECT, S, scanner, sink, step, yaml_scalar_style_t::YAML_LITERAL_SCALAR_STYLE, scalar)
+                }
+                Err(refusal) => Err(stop_in_lexeme(scanner, step.kind, refusal)),
+            }
+        }
+        Err(stop) => Err(stopped(stop)),
+    }
+}
+
+/// The style of a scalar of a kind.
+#[inline(always)]
+fn style_of(kind: yaml_lexeme_kind_t) -> yaml_scalar_style_t {
+    match kind {
+        yaml_lexeme_kind_t::PLAIN => yaml_scalar_style_t::YAML_PLAIN_SCALAR_STYLE,
+        yaml_lexeme_kind_t::SINGLE_QUOTED => yaml_scalar_style_t::YAML_SINGLE_QUOTED_SCALAR_STYLE,
+        _ => yaml_scalar_style_t::YAML_DOUBLE_QUOTED_SCALAR_STYLE,
+    }
+}
+
+/// Makes the step of a scalar whose value does not stand in the text as it is.
+#[inline(never)]
+fn step_list<const IN_FLOW: bool, const DIRECT: bool, S: yaml_token_sink_t>(
+    scanner: &mut scanner_t,
+    sink: &mut S,
+    kind: yaml_lexeme_kind_t,
+) -> Result<(), stop_t>
+{
+    match begin_step(scanner, IN_FLOW, kind) {
+        Ok(step) => {
+            let room = sink.room(scanner.alloc);
+            let read = read_list(room, scanner, kind, step.context);
+            match read {
+                Ok(scalar) => {
+                    finish_scalar!(DIRECT, S, scanner, sink, step, style_of(kind), scalar)
+                }
+                Err(refusal) => Err(stop_in_lexeme(scanner, step.kind, refusal)),
+            }
         }
         Err(stop) => Err(stopped(stop)),
     }
@@ -104,17 +162,11 @@ fn step_character<const DIRECT: bool, S: yaml_token_sink_t>(
     in_flow: bool,
     kind: yaml_lexeme_kind_t,
 ) -> Result<(), stop_t>
-    ghost before: { List Laid }
-    requires comes { Comes before scanner.old in_flow kind }
-    requires kind { is_character kind ≡ true }
-    ensures steps { StepsTo before scanner.old scanner.new DIRECT (λ tokens. S.took sink.old tokens sink.new)
-        S.may_refuse result }
-    ensures within { OnOk result (S.within sink.old → S.within sink.new) }
 {
     match begin_step(scanner, in_flow, kind) {
         Ok(step) => {
             let lexeme = read_character(scanner, kind);
-            end_character::<DIRECT, S>(scanner, sink, step, lexeme)
+            end_character::<DIRECT, S>(scanner, sink, step, lexeme.end_mark)
         }
         Err(stop) => Err(stopped(stop)),
     }
@@ -127,9 +179,6 @@ fn step_other<const IN_FLOW: bool>(
     scanner: &mut scanner_t,
     kind: yaml_lexeme_kind_t,
 ) -> Result<(), stop_t>
-    ghost before: { List Laid }
-    requires { Comes before scanner.old IN_FLOW kind }
-    ensures { IsStep before scanner.old scanner.new result }
 {
     match begin_step(scanner, IN_FLOW, kind) {
         Ok(step) => {
@@ -148,11 +197,6 @@ fn step_kind<const IN_FLOW: bool, const DIRECT: bool, S: yaml_token_sink_t>(
     sink: &mut S,
     kind: yaml_lexeme_kind_t,
 ) -> Result<(), stop_t>
-    ghost before: { List Laid }
-    requires { Comes before scanner.old IN_FLOW kind }
-    ensures steps { StepsTo before scanner.old scanner.new DIRECT (λ tokens. S.took sink.old tokens sink.new)
-        S.may_refuse result }
-    ensures within { OnOk result (S.within sink.old → S.within sink.new) }
 {
     match kind {
         yaml_lexeme_kind_t::PLAIN => step_plain::<IN_FLOW, DIRECT, S>(scanner, sink),
@@ -223,11 +267,6 @@ fn step_any<const DIRECT: bool, S: yaml_token_sink_t>(
     in_flow: bool,
     kind: yaml_lexeme_kind_t,
 ) -> Result<(), stop_t>
-    ghost before: { List Laid }
-    requires { Comes before scanner.old in_flow kind }
-    ensures steps { StepsTo before scanner.old scanner.new DIRECT (λ tokens. S.took sink.old tokens sink.new)
-        S.may_refuse result }
-    ensures within { OnOk result (S.within sink.old → S.within sink.new) }
 {
     if in_flow {
         step_kind::<true, DIRECT, S>(scanner, sink, kind)
@@ -243,12 +282,6 @@ fn step_at<const DIRECT: bool, S: yaml_token_sink_t>(
     sink: &mut S,
     in_flow: bool,
 ) -> Result<(), stop_t>
-    ghost before: { List Laid }
-    requires can { CanStep before scanner.old }
-    requires flow { in_flow ≡ nat_lt 0 (vec_len scanner.old.slots.outer) }
-    ensures steps { StepsTo before scanner.old scanner.new DIRECT (λ tokens. S.took sink.old tokens sink.new)
-        S.may_refuse result }
-    ensures within { OnOk result (S.within sink.old → S.within sink.new) }
 {
     let front = gap_end(&scanner.text, scanner.reach, in_flow, scanner.allowed);
     scanner.front = front;
@@ -268,12 +301,6 @@ fn step_in_block<const DIRECT: bool, S: yaml_token_sink_t>(
     scanner: &mut scanner_t,
     sink: &mut S,
 ) -> Result<(), stop_t>
-    ghost before: { List Laid }
-    requires can { CanStep before scanner.old }
-    requires block { vec_len scanner.old.slots.outer ≡ 0 }
-    ensures steps { StepsTo before scanner.old scanner.new DIRECT (λ tokens. S.took sink.old tokens sink.new)
-        S.may_refuse result }
-    ensures within { OnOk result (S.within sink.old → S.within sink.new) }
 {
     step_at::<DIRECT, S>(scanner, sink, false)
 }
@@ -284,12 +311,6 @@ fn step_in_flow<const DIRECT: bool, S: yaml_token_sink_t>(
     scanner: &mut scanner_t,
     sink: &mut S,
 ) -> Result<(), stop_t>
-    ghost before: { List Laid }
-    requires can { CanStep before scanner.old }
-    requires flow { 0 < vec_len scanner.old.slots.outer }
-    ensures steps { StepsTo before scanner.old scanner.new DIRECT (λ tokens. S.took sink.old tokens sink.new)
-        S.may_refuse result }
-    ensures within { OnOk result (S.within sink.old → S.within sink.new) }
 {
     step_at::<DIRECT, S>(scanner, sink, true)
 }
@@ -301,11 +322,6 @@ pub(crate) fn step_to<const DIRECT: bool, S: yaml_token_sink_t>(
     scanner: &mut scanner_t,
     sink: &mut S,
 ) -> Result<(), stop_t>
-    ghost before: { List Laid }
-    requires { CanStep before scanner.old }
-    ensures steps { StepsTo before scanner.old scanner.new DIRECT (λ tokens. S.took sink.old tokens sink.new)
-        S.may_refuse result }
-    ensures within { OnOk result (S.within sink.old → S.within sink.new) }
 {
     if scanner.slots.outer.is_empty() {
         step_in_block::<DIRECT, S>(scanner, sink)
@@ -317,9 +333,6 @@ pub(crate) fn step_to<const DIRECT: bool, S: yaml_token_sink_t>(
 /// Makes a step, or two if the next token needs both. Their groups go into the queue.
 #[inline(always)]
 pub(crate) fn step(scanner: &mut scanner_t) -> Result<(), stop_t>
-    ghost before: { List Laid }
-    requires { CanStep before scanner.old }
-    ensures { IsStep before scanner.old scanner.new result }
 {
     step_to::<false, no_sink_t>(scanner, &mut no_sink_t {})
 }
