@@ -13,8 +13,8 @@ from folders import sentence
 
 TOP = os.path.dirname(os.path.dirname(os.path.dirname(os.path.abspath(__file__))))
 PROMISES, PROOFS = "docs/PROMISES.md", "docs/PROOFS.md"
-CRATES = ["yaml_text", "yaml_lexeme", "yaml_scan", "yaml_c", "yamltok", "testbench", "unit_tests"]
-OF_TESTS = ["testbench", "unit_tests"]  # they promise nothing to others
+CRATES = ["yaml_text", "yaml_lexeme", "yaml_scan", "yaml_c", "yamltok", "testbench", "unit_tests", "workloads"]
+OF_TESTS = ["testbench", "unit_tests", "workloads"]  # they promise nothing to others
 FUNCTION = re.compile(r'((?:^ *///.*\n)*)((?:^ *#\[.*\n)*)^ *pub (?:unsafe )?(?:extern "C" )?fn (\w+)', re.M)
 IMPORT = re.compile(r"^use Rattle\.(\w+)\.proofs\.([\w.]+)", re.M)
 USING = re.compile(r"crate::proofs::((?:\w+::)*\w+)::\w+")
