@@ -27,7 +27,9 @@ pub mod BlocksAlike
 -- The letters of a name are its bytes.
 pub mod NameBytes
 -- The octets, escapes and characters of a uri are read one by one.
+pub mod TagUris
 pub mod UriOctets
+pub mod UriRuns
 -- The decimal digits of a version are read one by one.
 pub mod DirectiveNumbers
 -- A lexeme of one character begins with one of ASCII that is no break.

@@ -18,6 +18,10 @@ quoted_kind single = if single then kind.SINGLE_QUOTED else kind.DOUBLE_QUOTED
 abbrev pub block_kind : Bool → yaml_lexeme_kind_t
 block_kind folded = if folded then kind.FOLDED else kind.LITERAL
 
+-- the kind of an anchor or an alias
+abbrev pub name_kind : Bool → yaml_lexeme_kind_t
+name_kind anchor = if anchor then kind.ANCHOR else kind.ALIAS
+
 -- kinds whose lexemes need no memory, and are never refused
 abbrev pub is_bare : yaml_lexeme_kind_t → Bool
 is_bare kind.STREAM_END = true

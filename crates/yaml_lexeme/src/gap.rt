@@ -1,5 +1,5 @@
 //! What is between lexemes.
-ghost use Rattle.std.specs.Prelude.{ℕ, ◌≡◌, true, IfSome};
+ghost use Rattle.std.specs.Prelude.{ℕ, ◌≡◌, ◌≤◌, true, IfSome};
 ghost use Rattle.yaml_lexeme.specs.Place.{place_at, after_run, peek};
 ghost use Rattle.yaml_lexeme.specs.Counted.{IsMarkOf};
 ghost use Rattle.yaml_lexeme.specs.Classes.{is_in_line};
@@ -8,6 +8,7 @@ ghost use Rattle.yaml_lexeme.specs.inside.Runs as runs;
 ghost use Rattle.yaml_lexeme.specs.Decider.{IsGap};
 ghost use Rattle.yaml_lexeme.specs.GapText.{EndsLongestGap};
 
+use crate::classes::is_break;
 use crate::place::{check_at, cursor_t};
 use crate::runs::class_t;
 use yaml_text::{yaml_mark_t, yaml_text_t};
@@ -56,13 +57,22 @@ fn skip_gap_lines(cursor: &mut cursor_t, in_flow: bool, allowed: bool) -> bool
     broken
 }
 
-/// Whether an ASCII character that belongs to no gap is here.
+/// Whether a character that is not ASCII belongs to no gap, and is no break.
+#[inline(never)]
+fn is_far_solid(c: char) -> bool
+    requires { 0x80 ≤ c }
+    ensures { result ≡ runs.is_solid c }
+{
+    !(is_break(c) || c == '\u{FEFF}')
+}
+
+/// Whether a character that belongs to no gap, and is no break, is so many places on.
 #[inline(always)]
 fn is_solid(cursor: &cursor_t, k: usize) -> bool
     ensures { result ≡ runs.is_solid (peek cursor.now k) }
 {
     let c = cursor.peek(k);
-    c > ' ' && c < '\u{80}' && c != '#'
+    c > ' ' && c != '#' && (c < '\u{80}' || is_far_solid(c))
 }
 
 /// The gap from a place on, read gap line by gap line.
@@ -99,7 +109,7 @@ fn after_feed<'a>(cursor: &cursor_t<'a>) -> Option<cursor_t<'a>>
 }
 
 /// The place after a gap that is short, and whether a break is in it. No gap, one space, and a line feed with
-/// spaces after it are short, if an ASCII character that belongs to no gap follows.
+/// spaces after it are short, if a character that belongs to no gap, and is no break, follows.
 #[inline(always)]
 fn short_gap<'a>(cursor: &cursor_t<'a>) -> Option<(cursor_t<'a>, bool)>
     ensures { IfSome result (λ r. IsGap cursor.now r.0 r.1) }

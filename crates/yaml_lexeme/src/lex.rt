@@ -20,7 +20,7 @@ ghost use Rattle.yaml_lexeme.specs.Answers.{Answers, ReadsAs, answer, lexeme_at,
 ghost use Rattle.yaml_lexeme.specs.Lexeme.{Lexeme, lexeme, whole, scalar_to, directive_to};
 ghost use Rattle.yaml_lexeme.specs.LexemeOf.{lexeme_of};
 ghost use Rattle.yaml_lexeme.specs.declared.kind.yaml_lexeme_kind_t.{yaml_lexeme_kind_t as Kind};
-ghost use Rattle.yaml_lexeme.specs.declared.kind.yaml_lexeme_kind_t.TheVariants.{PLAIN};
+ghost use Rattle.yaml_lexeme.specs.declared.kind.yaml_lexeme_kind_t.TheVariants.{PLAIN, TAG};
 ghost use Rattle.yaml_lexeme.specs.declared.lex.yaml_context_t.{yaml_context_t};
 ghost use Rattle.yaml_text.specs.Token.{data_of};
 
@@ -122,7 +122,7 @@ fn anchor_or_alias(anchor: bool, value: Vec<u8>) -> unnamed_yaml_token_t_data
 }
 
 /// Takes an anchor or an alias.
-#[inline(never)]
+#[inline(always)]
 fn take_anchor_or_alias(
     alloc: Global,
     cursor: &mut cursor_t,
@@ -132,12 +132,14 @@ fn take_anchor_or_alias(
         (lexeme (whole (sets.anchor_or_alias anchor)) cursor.old (names.name cursor.old)) }
 {
     let start = cursor.mark();
-    let value = take_name(alloc, cursor)?;
-    Ok(whole_of(anchor_or_alias(anchor, value), start, cursor.mark()))
+    match take_name(alloc, cursor) {
+        Ok(value) => Ok(whole_of(anchor_or_alias(anchor, value), start, cursor.mark())),
+        Err(refusal) => Err(refused(refusal)),
+    }
 }
 
 /// Takes a tag.
-#[inline(never)]
+#[inline(always)]
 fn take_whole_tag(
     alloc: Global,
     cursor: &mut cursor_t,
@@ -147,8 +149,10 @@ fn take_whole_tag(
         (lexeme (whole (λ t. t)) cursor.old (tags.tag (spec.in_flow context) cursor.old)) }
 {
     let start = cursor.mark();
-    let says = take_tag(alloc, cursor, context.depth > 0)?;
-    Ok(whole_of(says, start, cursor.mark()))
+    match take_tag(alloc, cursor, context.depth > 0) {
+        Ok(says) => Ok(whole_of(says, start, cursor.mark())),
+        Err(refusal) => Err(refused(refusal)),
+    }
 }
 
 /// Takes a directive.
@@ -251,6 +255,32 @@ fn take_plain_scalar(
     }
 }
 
+/// Takes an anchor or an alias in a function of its own.
+#[inline(never)]
+fn take_name_apart(
+    alloc: Global,
+    cursor: &mut cursor_t,
+    anchor: bool,
+) -> Result<yaml_lexeme_t, yaml_refusal_t>
+    ensures { Gives lexeme_of result cursor.new
+        (lexeme (whole (sets.anchor_or_alias anchor)) cursor.old (names.name cursor.old)) }
+{
+    take_anchor_or_alias(alloc, cursor, anchor)
+}
+
+/// Takes a tag in a function of its own.
+#[inline(never)]
+fn take_tag_apart(
+    alloc: Global,
+    cursor: &mut cursor_t,
+    context: yaml_context_t,
+) -> Result<yaml_lexeme_t, yaml_refusal_t>
+    ensures { Gives lexeme_of result cursor.new
+        (lexeme (whole (λ t. t)) cursor.old (tags.tag (spec.in_flow context) cursor.old)) }
+{
+    take_whole_tag(alloc, cursor, context)
+}
+
 /// Takes a literal or folded scalar in a function of its own.
 #[inline(never)]
 fn take_block_apart(
@@ -322,9 +352,9 @@ fn take_lexeme(
         | yaml_lexeme_kind_t::KEY
         | yaml_lexeme_kind_t::VALUE => Ok(take_character(cursor, kind)),
         yaml_lexeme_kind_t::DIRECTIVE => take_whole_directive(alloc, cursor),
-        yaml_lexeme_kind_t::ALIAS => take_anchor_or_alias(alloc, cursor, false),
-        yaml_lexeme_kind_t::ANCHOR => take_anchor_or_alias(alloc, cursor, true),
-        yaml_lexeme_kind_t::TAG => take_whole_tag(alloc, cursor, context),
+        yaml_lexeme_kind_t::ALIAS => take_name_apart(alloc, cursor, false),
+        yaml_lexeme_kind_t::ANCHOR => take_name_apart(alloc, cursor, true),
+        yaml_lexeme_kind_t::TAG => take_tag_apart(alloc, cursor, context),
         yaml_lexeme_kind_t::LITERAL => take_block_apart(Vec::new(alloc), cursor, false, context),
         yaml_lexeme_kind_t::FOLDED => take_block_apart(Vec::new(alloc), cursor, true, context),
         yaml_lexeme_kind_t::SINGLE_QUOTED => take_quoted_apart(Vec::new(alloc), cursor, true),
@@ -419,6 +449,47 @@ pub fn yaml_read_block(
 {
     let mut cursor = cursor_t::at(spot.text, spot.at);
     let taken = take_block_scalar(room, &mut cursor, folded, context);
+    read_to(taken, &cursor, &mut spot.at)
+}
+
+/// The anchor or alias at a place, or why there is none, as [`yaml_read_plain`] returns a plain scalar. `anchor`: it is
+/// an anchor.
+#[tactic(auto, unfolding(crate::specs::Lex::lex))]
+#[inline(always)]
+pub fn yaml_read_name(
+    alloc: Global,
+    spot: &mut yaml_spot_t,
+    anchor: bool,
+) -> Result<yaml_lexeme_t, yaml_refusal_t>
+    requires { (n : ℕ) × IsMarkOf spot.old.text.now.chars spot.old.at n }
+    ensures value { (n : ℕ) (context : yaml_context_t) → IsMarkOf spot.old.text.now.chars spot.old.at n
+        → ReadsAs lexeme_of (sets.name_kind anchor) spot.old.at spot.new.at result
+        (lexeme_at (sets.name_kind anchor) context (place_at spot.old.text.now.chars n)) }
+    ensures text { spot.new.text ≡ spot.old.text }
+    ensures stays { IsOk result → spot.new.at ≡ spot.old.at }
+{
+    let mut cursor = cursor_t::at(spot.text, spot.at);
+    let taken = take_anchor_or_alias(alloc, &mut cursor, anchor);
+    read_to(taken, &cursor, &mut spot.at)
+}
+
+/// The tag at a place, or why there is none, as [`yaml_read_plain`] returns a plain scalar.
+#[tactic(auto, unfolding(crate::specs::Lex::lex))]
+#[inline(always)]
+pub fn yaml_read_tag(
+    alloc: Global,
+    spot: &mut yaml_spot_t,
+    context: yaml_context_t,
+) -> Result<yaml_lexeme_t, yaml_refusal_t>
+    requires { (n : ℕ) × IsMarkOf spot.old.text.now.chars spot.old.at n }
+    ensures value { (n : ℕ) → IsMarkOf spot.old.text.now.chars spot.old.at n
+        → ReadsAs lexeme_of TAG spot.old.at spot.new.at result
+        (lexeme_at TAG context (place_at spot.old.text.now.chars n)) }
+    ensures text { spot.new.text ≡ spot.old.text }
+    ensures stays { IsOk result → spot.new.at ≡ spot.old.at }
+{
+    let mut cursor = cursor_t::at(spot.text, spot.at);
+    let taken = take_whole_tag(alloc, &mut cursor, context);
     read_to(taken, &cursor, &mut spot.at)
 }
 

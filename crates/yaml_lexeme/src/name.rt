@@ -12,11 +12,12 @@ use crate::runs::class_t;
 use std::alloc::Global;
 
 /// Takes as many letters, digits, `_` and `-` as possible.
+#[inline(always)]
 pub(crate) fn take_letters<'a>(cursor: &mut cursor_t<'a>) -> &'a [u8]
     ensures value { result.now ≡ place.run is_alpha cursor.old }
     ensures end { cursor.new ≡ place.after_run is_alpha cursor.old }
 {
-    cursor.run(class_t::ALPHA)
+    cursor.quick_run(class_t::ALPHA)
 }
 
 fn is_after_name(c: char) -> bool
@@ -34,6 +35,7 @@ fn is_after_name(c: char) -> bool
 }
 
 /// Takes the name after `&` or `*`.
+#[inline(always)]
 #[tactic(auto, unfolding(crate::specs::Name::name))]
 pub(crate) fn take_name(alloc: Global, cursor: &mut cursor_t) -> Result<Vec<u8>, yaml_refusal_t>
     ensures { Gives (λ v. v.items) result cursor.new (spec.name cursor.old) }

@@ -1,12 +1,13 @@
 //! Runs of bytes of a class, up to a byte that needs a closer look.
-ghost use Rattle.std.specs.Prelude.{◌≡◌, ◌+◌, ◌-◌, ◌≤◌, true, length, take, drop, map};
+ghost use Rattle.std.specs.Prelude.{◌≡◌, ◌+◌, ◌-◌, ◌≤◌, true, false, length, take, drop, map};
 ghost use Rattle.std.specs.List.{prefix_len, count_by};
 ghost use Rattle.std.specs.Simd.Lanes.{mask_l};
 ghost use Rattle.yaml_lexeme.specs.inside.Runs as spec;
-ghost use Rattle.yaml_lexeme.specs.declared.runs.class_t.TheVariants.{SPACE, ALPHA, BLANK, IN_LINE, DOUBLE, SINGLE};
+ghost use Rattle.yaml_lexeme.specs.declared.runs.class_t.TheVariants.{SPACE, ALPHA, URI, BLANK, IN_LINE, DOUBLE, SINGLE};
 ghost use Rattle.yaml_lexeme.specs.declared.runs.class_t.TheVariants.{PLAIN, FLOW};
 
 use crate::classes::{is_alpha, is_blank, is_in_line, is_white};
+use crate::uri::is_uri;
 use std::simd::prelude::*;
 
 /// A set of characters, to take a run of them.
@@ -20,6 +21,8 @@ pub(crate) enum class_t {
     BLANK_OR_BREAK,
     /// Letters, digits, `_` and `-`.
     ALPHA,
+    /// What uris are made of, but escapes. Commas and brackets are among them if the flag is set.
+    URI(bool),
     /// All but breaks.
     IN_LINE,
     /// Of a line, what double quotes keep unchanged.
@@ -88,6 +91,7 @@ pub(crate) fn is_in(class: class_t, c: char) -> bool
         class_t::SPACE => c == ' ',
         class_t::BLANK_OR_BREAK => is_white(c),
         class_t::ALPHA => is_alpha(c),
+        class_t::URI(listed) => is_uri(listed, c),
         _ => !is_special(class, c) && is_in_line(c),
     }
 }
@@ -250,6 +254,74 @@ pub(crate) fn spaces_len(text: &[u8]) -> usize
     slow_end(class_t::SPACE, text, 0)
 }
 
+/// Which lanes are not from one byte to another.
+macro_rules! lanes_outside {
+    ($v:expr, $least:literal, $most:literal) => {
+        $v.simd_lt(u8x16::splat($least)) | $v.simd_gt(u8x16::splat($most))
+    };
+}
+
+/// Which lanes are not the byte.
+macro_rules! lanes_are_not {
+    ($v:expr, $byte:literal) => { $v.simd_ne(u8x16::splat($byte)) };
+}
+
+/// The lanes that are no letter, digit, `_` or `-`.
+#[inline(always)]
+fn no_letters(v: u8x16) -> u64
+    ensures { result ≡ mask_l (map (spec.is_stop ALPHA) v) }
+{
+    ((lanes_outside!(v, b'a', b'z'))
+        & ((lanes_outside!(v, b'A', b'Z'))
+            & ((lanes_outside!(v, b'0', b'9'))
+                & (lanes_are_not!(v, b'_') & lanes_are_not!(v, b'-'))))).to_bitmask()
+}
+
+/// The lanes that belong to no uri, if commas and brackets do not.
+#[inline(always)]
+fn no_uri(v: u8x16) -> u64
+    ensures { result ≡ mask_l (map (spec.is_stop (URI false)) v) }
+{
+    ((lanes_outside!(v, b'a', b'z'))
+        & ((lanes_outside!(v, b'?', b'Z'))
+            & ((lanes_outside!(v, b'-', b';'))
+                & ((lanes_outside!(v, b'&', b'+'))
+                    & (lanes_are_not!(v, b'!')
+                        & (lanes_are_not!(v, b'$')
+                            & (lanes_are_not!(v, b'=')
+                                & (lanes_are_not!(v, b'_')
+                                    & lanes_are_not!(v, b'~'))))))))).to_bitmask()
+}
+
+/// The lanes at which a run of a narrow class ends.
+#[inline(always)]
+fn narrow_stops(class: class_t, v: u8x16) -> u64
+    requires { spec.is_narrow class ≡ true }
+    ensures { result ≡ mask_l (map (spec.is_stop class) v) }
+{
+    match class {
+        class_t::ALPHA => no_letters(v),
+        _ => no_uri(v),
+    }
+}
+
+/// How many of the first bytes a run of a narrow class has.
+#[inline(always)]
+fn narrow_run(class: class_t, text: &[u8]) -> usize
+    requires { spec.is_narrow class ≡ true }
+    ensures { result ≡ prefix_len (spec.is_quiet class) text.now }
+{
+    let mut i: usize = 0;
+    'wide: while text.len() - i >= 16 {
+        let found = narrow_stops(class, u8x16::from_slice(&text[i..]));
+        if found != 0 {
+            return i + found.trailing_zeros() as usize;
+        }
+        i += 16;
+    }
+    slow_end(class, text, i)
+}
+
 /// How many of the first bytes need no closer look, if the class is not that of a line.
 #[inline(always)]
 fn narrow_len(class: class_t, text: &[u8]) -> usize
@@ -257,6 +329,7 @@ fn narrow_len(class: class_t, text: &[u8]) -> usize
 {
     match class {
         class_t::SPACE => spaces_len(text),
+        class_t::ALPHA | class_t::URI(false) => narrow_run(class, text),
         _ => end_from(class, text, 0),
     }
 }

@@ -1,5 +1,5 @@
 //! Tags.
-ghost use Rattle.std.specs.Prelude.{◌≡◌};
+ghost use Rattle.std.specs.Prelude.{◌≡◌, ◌++◌, IfOk, codes};
 ghost use Rattle.yaml_text.specs.Token.{data_of};
 ghost use Rattle.yaml_text.specs.Token.TokenData.{TAG};
 ghost use Rattle.yaml_lexeme.specs.Tag as spec;
@@ -8,9 +8,9 @@ ghost use Rattle.yaml_lexeme.specs.inside.Gives.{Gives};
 use crate::classes::ends;
 use crate::name::take_letters;
 use crate::place::{check_at, cursor_t};
-use crate::problem::{offence, yaml_problem_t, yaml_refusal_t};
-use crate::uri::{push_byte, take_some_uri, take_uri};
-use std::alloc::Global;
+use crate::problem::{offence, refused, yaml_problem_t, yaml_refusal_t};
+use crate::uri::{push_byte, take_some_uri, take_uri_text};
+use std::alloc::{AllocError, Global};
 use yaml_text::unnamed_yaml_token_t_data;
 
 fn make_tag(handle: Vec<u8>, suffix: Vec<u8>) -> unnamed_yaml_token_t_data
@@ -20,6 +20,7 @@ fn make_tag(handle: Vec<u8>, suffix: Vec<u8>) -> unnamed_yaml_token_t_data
 }
 
 /// Takes `<`, a uri and `>`, after a tag's `!`.
+#[inline(never)]
 #[tactic(auto, unfolding(crate::specs::Tag::angled))]
 fn take_angled(
     alloc: Global,
@@ -36,7 +37,23 @@ fn take_angled(
     Ok(make_tag(Vec::new(alloc), suffix))
 }
 
+/// `!`, letters and `!`.
+#[inline(always)]
+fn named_handle(alloc: Global, letters: &[u8]) -> Result<Vec<u8>, AllocError>
+    ensures { IfOk result (λ handle. handle.items ≡ codes "!" ++ letters.now ++ codes "!") }
+{
+    if letters.is_empty() {
+        return Vec::from_slice(alloc, b"!!");
+    }
+    let mut handle = Vec::with_capacity(alloc, letters.len() + 2)?;
+    push_byte(&mut handle, b'!')?;
+    handle.extend_from_slice(letters)?;
+    push_byte(&mut handle, b'!')?;
+    Ok(handle)
+}
+
 /// Takes letters, and a `!` and a uri, or a uri alone, after a tag's `!`.
+#[inline(always)]
 #[tactic(auto, unfolding(crate::specs::Tag::handled))]
 fn take_handled(
     alloc: Global,
@@ -44,26 +61,29 @@ fn take_handled(
 ) -> Result<unnamed_yaml_token_t_data, yaml_refusal_t>
     ensures { Gives data_of result cursor.new (spec.handled cursor.old) }
 {
-    let letters = take_letters(cursor);
-    if check_at!(cursor, '!', 0) {
+    let mut after = cursor.again();
+    let letters = take_letters(&mut after);
+    if check_at!(after, '!', 0) {
+        *cursor = after;
         cursor.advance();
-        let suffix = take_some_uri(alloc, cursor, false)?;
-        let mut handle = Vec::new(alloc);
-        push_byte(&mut handle, b'!')?;
-        handle.extend_from_slice(letters)?;
-        push_byte(&mut handle, b'!')?;
-        return Ok(make_tag(handle, suffix));
+        let suffix = match take_some_uri(alloc, cursor, false) {
+            Ok(suffix) => suffix,
+            Err(refusal) => return Err(refused(refusal)),
+        };
+        return Ok(make_tag(named_handle(alloc, letters)?, suffix));
     }
-    let mut suffix = Vec::from_slice(alloc, letters)?;
-    take_uri(cursor, false, &mut suffix)?;
-    let mut sign = Vec::new(alloc);
-    push_byte(&mut sign, b'!')?;
+    let suffix = match take_uri_text(alloc, cursor, false) {
+        Ok(suffix) => suffix,
+        Err(refusal) => return Err(refused(refusal)),
+    };
+    let sign = Vec::from_slice(alloc, b"!")?;
     if suffix.is_empty() {
         return Ok(make_tag(suffix, sign));
     }
     Ok(make_tag(sign, suffix))
 }
 
+#[inline(always)]
 fn take_tag_parts(
     alloc: Global,
     cursor: &mut cursor_t,
@@ -72,13 +92,18 @@ fn take_tag_parts(
 {
     cursor.advance();
     if check_at!(cursor, '<', 0) {
-        take_angled(alloc, cursor)
+        // a copy, so that the cursor itself stays in registers
+        let mut here = cursor.again();
+        let taken = take_angled(alloc, &mut here);
+        *cursor = here;
+        taken
     } else {
         take_handled(alloc, cursor)
     }
 }
 
 /// Takes a tag.
+#[inline(always)]
 #[tactic(auto, unfolding(crate::specs::Tag::tag))]
 pub(crate) fn take_tag(
     alloc: Global,
@@ -87,7 +112,10 @@ pub(crate) fn take_tag(
 ) -> Result<unnamed_yaml_token_t_data, yaml_refusal_t>
     ensures { Gives data_of result cursor.new (spec.tag in_flow cursor.old) }
 {
-    let tag = take_tag_parts(alloc, cursor)?;
+    let tag = match take_tag_parts(alloc, cursor) {
+        Ok(tag) => tag,
+        Err(refusal) => return Err(refused(refusal)),
+    };
     let c = cursor.peek(0);
     if !(ends(c) || in_flow && c == ',') {
         return Err(offence(yaml_problem_t::NO_BLANK_OR_BREAK));

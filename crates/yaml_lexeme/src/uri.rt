@@ -1,15 +1,18 @@
 //! Uris of tags, and their escapes.
 ghost use Rattle.std.specs.Prelude.{◌≡◌, ◌++◌, ◌∷◌, [], ◌<◌, true, not, OnOk};
 ghost use Rattle.yaml_text.specs.Utf8.{continues, width_of};
+ghost use Rattle.yaml_lexeme.specs.Place.{after_run, run};
+ghost use Rattle.yaml_lexeme.specs.Reading.{with_front};
 ghost use Rattle.yaml_lexeme.specs.Uri as spec;
 ghost use Rattle.yaml_lexeme.specs.inside.Gives.{Gives, Takes, Appends, OctetIs};
 
 use crate::classes::is_alpha;
 use crate::place::{check_at, cursor_t};
-use crate::problem::{offence, yaml_problem_t, yaml_refusal_t};
+use crate::problem::{offence, refused, yaml_problem_t, yaml_refusal_t};
+use crate::runs::class_t;
 use std::alloc::{AllocError, Global};
 
-fn is_uri(listed: bool, c: char) -> bool
+pub(crate) fn is_uri(listed: bool, c: char) -> bool
     ensures same { result ≡ spec.is_uri listed c }
     ensures ascii { result ≡ true → c < 128 }
 {
@@ -132,7 +135,30 @@ fn take_uri_part(
     Ok(true)
 }
 
+/// Takes as many characters of a uri as possible, up to an escape.
+#[inline(always)]
+fn uri_run<'a>(cursor: &mut cursor_t<'a>, listed: bool) -> &'a [u8]
+    ensures value { result.now ≡ run (spec.is_uri listed) cursor.old }
+    ensures end { cursor.new ≡ after_run (spec.is_uri listed) cursor.old }
+{
+    cursor.quick_run(class_t::URI(listed))
+}
+
+/// Takes as many characters of a uri as possible, up to an escape, and appends them to `out`.
+#[inline(always)]
+fn push_uri_run(cursor: &mut cursor_t, listed: bool, out: &mut Vec<u8>) -> Result<(), AllocError>
+    ensures value { OnOk result (out.new.items ≡ out.old.items ++ run (spec.is_uri listed) cursor.old) }
+    ensures end { OnOk result (cursor.new ≡ after_run (spec.is_uri listed) cursor.old) }
+{
+    let piece = uri_run(cursor, listed);
+    if !piece.is_empty() {
+        out.extend_from_slice(piece)?;
+    }
+    Ok(())
+}
+
 /// Takes a uri, and appends it to `out`.
+#[inline(never)]
 pub(crate) fn take_uri(
     cursor: &mut cursor_t,
     listed: bool,
@@ -140,11 +166,49 @@ pub(crate) fn take_uri(
 ) -> Result<(), yaml_refusal_t>
     ensures { Appends (λ cs. cs) result out.old.items out.new.items cursor.new (spec.uri listed cursor.old) }
 {
-    'parts: while take_uri_part(cursor, listed, out)? {}
+    push_uri_run(cursor, listed, out)?;
+    'parts: while take_uri_part(cursor, listed, out)? {
+        push_uri_run(cursor, listed, out)?;
+    }
     Ok(())
 }
 
+/// Takes what is left of a uri, and appends it to `out`.
+#[inline(never)]
+fn take_more_uri(
+    cursor: &mut cursor_t,
+    listed: bool,
+    mut out: Vec<u8>,
+) -> Result<Vec<u8>, yaml_refusal_t>
+    ensures { Gives (λ v. v.items) result cursor.new (with_front out.items (spec.uri listed cursor.old)) }
+{
+    take_uri(cursor, listed, &mut out)?;
+    Ok(out)
+}
+
+/// Takes a uri. Most have no escape, and are copied at once.
+#[inline(always)]
+pub(crate) fn take_uri_text(
+    alloc: Global,
+    cursor: &mut cursor_t,
+    listed: bool,
+) -> Result<Vec<u8>, yaml_refusal_t>
+    ensures { Gives (λ v. v.items) result cursor.new (spec.uri listed cursor.old) }
+{
+    let piece = uri_run(cursor, listed);
+    let out = Vec::from_slice(alloc, piece)?;
+    if !check_at!(cursor, '%', 0) {
+        return Ok(out);
+    }
+    // a copy, so that the cursor itself stays in registers
+    let mut here = cursor.again();
+    let taken = take_more_uri(&mut here, listed, out);
+    *cursor = here;
+    taken
+}
+
 /// Takes a uri of a character or more.
+#[inline(always)]
 #[tactic(auto, unfolding(crate::specs::Uri::some_uri))]
 pub(crate) fn take_some_uri(
     alloc: Global,
@@ -153,8 +217,10 @@ pub(crate) fn take_some_uri(
 ) -> Result<Vec<u8>, yaml_refusal_t>
     ensures { Gives (λ v. v.items) result cursor.new (spec.some_uri listed cursor.old) }
 {
-    let mut out = Vec::new(alloc);
-    take_uri(cursor, listed, &mut out)?;
+    let out = match take_uri_text(alloc, cursor, listed) {
+        Ok(out) => out,
+        Err(refusal) => return Err(refused(refusal)),
+    };
     if out.is_empty() {
         return Err(offence(yaml_problem_t::NO_URI));
     }

@@ -16,7 +16,7 @@ use Rattle.yaml_text.proofs.Characters.Utf8Spelling.{two, three, four}
 use Rattle.yaml_text.proofs.Characters.CharRanges.{char_range}
 use Rattle.yaml_lexeme.specs.inside.Moves.{skip_from, mark_after}
 use Rattle.yaml_lexeme.specs.declared.runs.class_t.{class_t}
-use Rattle.yaml_lexeme.specs.declared.runs.class_t.TheVariants.{BLANK, GAP_BLANK, SPACE, BLANK_OR_BREAK, ALPHA}
+use Rattle.yaml_lexeme.specs.declared.runs.class_t.TheVariants.{BLANK, GAP_BLANK, SPACE, BLANK_OR_BREAK, ALPHA, URI}
 use Rattle.yaml_lexeme.specs.inside.Runs.{is_quiet, class_test, begins, may_break, is_line}
 
 -- What bytes that are quiet for a test of characters may be: either all of them are ASCII, or all that continue a
@@ -34,12 +34,17 @@ record Wide (class : class_t) : Type 0 where
   pub lead : (b : ℕ) → is_quiet class b ≡ true → may_break b ≡ false
   pub takes : (c : ℕ) → 128 ≤ c → is_break c ≡ false → class_test class c ≡ true
 
+uri_low : (listed : Bool) → Low (is_quiet (URI listed))
+uri_low true b h = grind (arith, nat_tests)
+uri_low false b h = grind (arith, nat_tests)
+
 low_or_wide : (class : class_t) → Low (is_quiet class) ⊎ Wide class
 low_or_wide BLANK = inl (λ b h. grind (arith, nat_tests))
 low_or_wide (GAP_BLANK tabs) = inl (λ b h. grind (arith, nat_tests))
 low_or_wide SPACE = inl (λ b h. grind (arith, nat_tests))
 low_or_wide BLANK_OR_BREAK = inl (λ b h. grind (arith, nat_tests))
 low_or_wide ALPHA = inl (λ b h. grind (arith, nat_tests))
+low_or_wide (URI listed) = inl (λ b h. uri_low listed b h)
 low_or_wide class = inr (record {
   line = refl;
   high = λ b l h. grind (arith, nat_tests);

@@ -6,7 +6,7 @@ use Rattle.std.proofs.lemmas.List.{get_or_past}
 use Rattle.std.specs.List.{prefix_len}
 use Rattle.yaml_text.specs.declared.types.yaml_mark_t.{yaml_mark_t}
 use Rattle.yaml_lexeme.specs.declared.runs.class_t.{class_t}
-use Rattle.yaml_lexeme.specs.declared.runs.class_t.TheVariants.{BLANK, GAP_BLANK, SPACE, BLANK_OR_BREAK, ALPHA, IN_LINE, DOUBLE, SINGLE, PLAIN, FLOW}
+use Rattle.yaml_lexeme.specs.declared.runs.class_t.TheVariants.{BLANK, GAP_BLANK, SPACE, BLANK_OR_BREAK, ALPHA, URI, IN_LINE, DOUBLE, SINGLE, PLAIN, FLOW}
 use Rattle.yaml_lexeme.specs.Place.{Place, peek, first, skip, after_run, break_len}
 use Rattle.yaml_lexeme.specs.inside.Moves.{mark_after, skip_from}
 use Rattle.yaml_lexeme.specs.inside.Runs.{class_test}
@@ -106,6 +106,8 @@ class_end (GAP_BLANK tabs) = refl
 class_end SPACE = refl
 class_end BLANK_OR_BREAK = refl
 class_end ALPHA = refl
+class_end (URI true) = refl
+class_end (URI false) = refl
 class_end IN_LINE = refl
 class_end DOUBLE = refl
 class_end SINGLE = refl

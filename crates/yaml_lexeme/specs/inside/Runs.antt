@@ -2,13 +2,14 @@
 use Rattle.std.specs.Prelude.{ℕ, ◌≡◌, ◌≤◌, ◌/◌, Bool, true, false, not, ◌&&◌, ◌||◌, ◌==◌, if◌then◌else◌, List, []}
 use Rattle.std.specs.Prelude.{◌∷◌, codes, length, take, nat_lt}
 use Rattle.std.specs.List.{list_all}
-use Rattle.yaml_text.specs.Classes.{is_blank, is_alpha}
+use Rattle.yaml_text.specs.Classes.{is_blank, is_break, is_alpha}
 use Rattle.yaml_lexeme.specs.declared.runs.class_t.{class_t}
-use Rattle.yaml_lexeme.specs.declared.runs.class_t.TheVariants.{BLANK, GAP_BLANK, SPACE, BLANK_OR_BREAK, ALPHA}
+use Rattle.yaml_lexeme.specs.declared.runs.class_t.TheVariants.{BLANK, GAP_BLANK, SPACE, BLANK_OR_BREAK, ALPHA, URI}
 use Rattle.yaml_lexeme.specs.declared.runs.class_t.TheVariants.{IN_LINE, DOUBLE, SINGLE, PLAIN, FLOW}
 use Rattle.yaml_lexeme.specs.Classes.{is_white, is_in_line, is_one_of}
-use Rattle.yaml_lexeme.specs.Gap.{is_gap_blank}
+use Rattle.yaml_lexeme.specs.Gap.{byte_order_mark, is_gap_blank}
 use Rattle.yaml_lexeme.specs.Place.{Place, run_len, skip}
+use Rattle.yaml_lexeme.specs.Uri.{is_uri}
 
 -- the characters of a line that mean something in a scalar, so that a run stops there
 abbrev pub marks_of : class_t → List ℕ
@@ -28,6 +29,7 @@ class_test (GAP_BLANK tabs) c = is_gap_blank tabs c
 class_test SPACE c = c == 0x20
 class_test BLANK_OR_BREAK c = is_white c
 class_test ALPHA c = is_alpha c
+class_test (URI listed) c = is_uri listed c
 class_test IN_LINE c = is_in_line c
 class_test line c = is_in_line c && not (is_special line c)
 
@@ -38,6 +40,7 @@ is_line (GAP_BLANK tabs) = false
 is_line SPACE = false
 is_line BLANK_OR_BREAK = false
 is_line ALPHA = false
+is_line (URI listed) = false
 is_line line = true
 
 -- the bytes with which a break may begin
@@ -73,6 +76,12 @@ trim (c ∷ cs) = if list_all is_blank (c ∷ cs) then [] else c ∷ trim cs
 abbrev pub Stands : (ℕ → Bool) → Place → Place → Type 0
 Stands test p q = (n : ℕ) × ((n ≤ run_len test p) × (q ≡ skip (length (trim (take n p.rest))) p))
 
--- characters of ASCII that belong to no gap
+-- runs of the class are taken sixteen bytes at a time, though it is not that of a line
+abbrev pub is_narrow : class_t → Bool
+is_narrow ALPHA = true
+is_narrow (URI listed) = not listed
+is_narrow other = false
+
+-- characters that belong to no gap, and are no break
 abbrev pub is_solid : ℕ → Bool
-is_solid c = nat_lt 0x20 c && (nat_lt c 0x80 && not (c == 0x23))
+is_solid c = nat_lt 0x20 c && not (c == 0x23 || (is_break c || c == byte_order_mark))

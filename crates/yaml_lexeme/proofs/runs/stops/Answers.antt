@@ -2,7 +2,7 @@ use Rattle.std.proofs.Common.{◌≡◌, ◌||◌, ℕ, Bool, List, [], true, ma
 use Rattle.std.proofs.Math.Path.{fun_ext}
 use lib.Lanes.{mask_l}
 use Rattle.yaml_lexeme.specs.declared.runs.class_t.{class_t}
-use Rattle.yaml_lexeme.specs.declared.runs.class_t.TheVariants.{BLANK, GAP_BLANK, SPACE, BLANK_OR_BREAK, ALPHA}
+use Rattle.yaml_lexeme.specs.declared.runs.class_t.TheVariants.{BLANK, GAP_BLANK, SPACE, BLANK_OR_BREAK, ALPHA, URI}
 use Rattle.yaml_lexeme.specs.declared.runs.class_t.TheVariants.{DOUBLE, SINGLE, PLAIN, FLOW}
 use Rattle.yaml_lexeme.specs.inside.Runs.{is_line, is_stop, is_special, may_break, marks_of, leads}
 use Rattle.yaml_lexeme.proofs.ManyBytes.VectorLanes.{lanes_of, lanes_flag, either_flags, flags_masked}
@@ -23,6 +23,7 @@ line_stop (GAP_BLANK tabs) line b = absurd cc
 line_stop SPACE line b = absurd cc
 line_stop BLANK_OR_BREAK line b = absurd cc
 line_stop ALPHA line b = absurd cc
+line_stop (URI listed) line b = absurd cc
 line_stop class line b = refl
 
 pub returns : goal.returns
