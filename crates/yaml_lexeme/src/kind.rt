@@ -1,6 +1,5 @@
 //! Kinds of lexemes.
-ghost use Rattle.std.specs.Prelude.{ℕ, Bool, ◌≡◌, ◌≤◌, true, false, Some, None, Ok, IfSome, if◌then◌else◌};
-ghost use Rattle.yaml_lexeme.specs.declared.kind.yaml_lexeme_kind_t.TheVariants.{PLAIN};
+ghost use Rattle.std.specs.Prelude.{ℕ, ◌≡◌, true, false, Some, Ok, IfSome};
 ghost use Rattle.yaml_lexeme.specs.Decider as deciders;
 ghost use Rattle.yaml_lexeme.specs.Lex as lex;
 ghost use Rattle.yaml_lexeme.specs.Answers.{lexeme_at};
@@ -10,7 +9,7 @@ ghost use Rattle.yaml_lexeme.specs.Counted.{IsMarkOf};
 ghost use Rattle.yaml_lexeme.specs.Kind as spec;
 ghost use Rattle.yaml_lexeme.specs.declared.lex.yaml_context_t.{yaml_context_t};
 
-use crate::classes::{ends, is_break};
+use crate::classes::ends;
 use crate::place::{check_at, cursor_t, is_at};
 use yaml_text::{yaml_mark_t, yaml_text_t};
 
@@ -111,19 +110,6 @@ fn starts_plain(c: char, in_flow: bool) -> bool
     !(ends(c) || is_indicator(c)) || c == '-' || (!in_flow && (c == '?' || c == ':'))
 }
 
-/// The kind of the lexeme that begins with a character that is not ASCII: a plain scalar, unless it is a break.
-#[inline(never)]
-fn far_kind(c: char) -> Option<yaml_lexeme_kind_t>
-    requires { 0x80 ≤ c }
-    ensures { (flow : Bool) → result ≡ (if spec.starts_plain flow c then Some PLAIN else None) }
-{
-    if is_break(c) {
-        None
-    } else {
-        Some(yaml_lexeme_kind_t::PLAIN)
-    }
-}
-
 /// The kind of the lexeme that is here.
 #[tactic(auto, unfolding(crate::specs::Kind::kind_at))]
 #[inline(always)]
@@ -133,9 +119,6 @@ fn kind_at(cursor: &cursor_t, in_flow: bool) -> Option<yaml_lexeme_kind_t>
     let c = cursor.peek(0);
     if c.is_ascii_alphanumeric() {
         return Some(yaml_lexeme_kind_t::PLAIN);
-    }
-    if c >= '\u{80}' {
-        return far_kind(c);
     }
     if cursor.mark().column == 0 {
         if c == '%' {

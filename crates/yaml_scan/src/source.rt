@@ -1,9 +1,9 @@
 //! The readers of `yaml_lexeme`, with contracts over places instead of marks.
 ghost use Rattle.std.specs.Prelude.{◌≡◌, ℕ, ◌≤◌, Bool, Option, Some, length, IfSome, true};
-ghost use Rattle.yaml_lexeme.specs.KindSets.{block_kind, is_character, quoted_kind};
+ghost use Rattle.yaml_lexeme.specs.KindSets.{block_kind, is_character, name_kind, quoted_kind};
 ghost use Rattle.yaml_lexeme.specs.LexemeOf.{lexeme_of};
 ghost use Rattle.yaml_lexeme.specs.Counted.{IsMarkOf};
-ghost use Rattle.yaml_lexeme.specs.declared.kind.yaml_lexeme_kind_t.TheVariants.{PLAIN};
+ghost use Rattle.yaml_lexeme.specs.declared.kind.yaml_lexeme_kind_t.TheVariants.{PLAIN, TAG};
 ghost use Rattle.yaml_scan.specs.SourceOf.{source_of};
 ghost use Rattle.yaml_scan.specs.inside.Scanning.{HasRead};
 ghost use Rattle.yaml_scan.specs.inside.TextReads.{IsDecider, IsRead};
@@ -11,8 +11,8 @@ ghost use Rattle.yaml_scan.specs.inside.TextReads.{IsDecider, IsRead};
 use crate::scanner::scanner_t;
 use yaml_lexeme::{
     yaml_context_t, yaml_decider_at, yaml_gap, yaml_lexeme_kind, yaml_lexeme_kind_t, yaml_lexeme_t,
-    yaml_read_block, yaml_read_character, yaml_read_lexeme, yaml_read_plain, yaml_read_quoted,
-    yaml_refusal_t, yaml_spot_t,
+    yaml_read_block, yaml_read_character, yaml_read_lexeme, yaml_read_name, yaml_read_plain,
+    yaml_read_quoted, yaml_read_tag, yaml_refusal_t, yaml_spot_t,
 };
 use yaml_text::{yaml_mark_t, yaml_text_t};
 
@@ -129,6 +129,47 @@ pub(crate) fn read_block(
         at: scanner.front,
     };
     let read = yaml_read_block(room, &mut spot, folded, context);
+    if read.is_err() {
+        scanner.there = spot.at;
+    }
+    read
+}
+
+/// The anchor or alias after the gap, or why it is refused.
+#[inline(always)]
+pub(crate) fn read_name(
+    scanner: &mut scanner_t,
+    anchor: bool,
+    context: yaml_context_t,
+) -> Result<yaml_lexeme_t, yaml_refusal_t>
+    requires { (p : ℕ) × IsMarkOf scanner.old.text.chars scanner.old.front p }
+    ensures { HasRead scanner.old scanner.new (name_kind anchor) context result }
+{
+    let mut spot = yaml_spot_t {
+        text: &scanner.text,
+        at: scanner.front,
+    };
+    let read = yaml_read_name(scanner.alloc, &mut spot, anchor);
+    if read.is_err() {
+        scanner.there = spot.at;
+    }
+    read
+}
+
+/// The tag after the gap, or why it is refused.
+#[inline(always)]
+pub(crate) fn read_tag(
+    scanner: &mut scanner_t,
+    context: yaml_context_t,
+) -> Result<yaml_lexeme_t, yaml_refusal_t>
+    requires { (p : ℕ) × IsMarkOf scanner.old.text.chars scanner.old.front p }
+    ensures { HasRead scanner.old scanner.new TAG context result }
+{
+    let mut spot = yaml_spot_t {
+        text: &scanner.text,
+        at: scanner.front,
+    };
+    let read = yaml_read_tag(scanner.alloc, &mut spot, context);
     if read.is_err() {
         scanner.there = spot.at;
     }

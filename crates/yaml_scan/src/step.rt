@@ -1,7 +1,7 @@
 //! A step: the gap, the kind of the next lexeme, the lexeme, and what the layout makes of it.
 ghost use Rattle.std.specs.Prelude.{List, ◌≡◌, ◌<◌, true, false, nat_lt, vec_len, OnOk};
-ghost use Rattle.yaml_lexeme.specs.KindSets.{block_kind, is_character, quoted_kind};
-ghost use Rattle.yaml_lexeme.specs.declared.kind.yaml_lexeme_kind_t.TheVariants.{PLAIN};
+ghost use Rattle.yaml_lexeme.specs.KindSets.{block_kind, is_character, name_kind, quoted_kind};
+ghost use Rattle.yaml_lexeme.specs.declared.kind.yaml_lexeme_kind_t.TheVariants.{PLAIN, TAG};
 ghost use Rattle.yaml_scan.specs.Laid.{Laid};
 ghost use Rattle.yaml_scan.specs.inside.Handed.{StepsTo};
 ghost use Rattle.yaml_scan.specs.inside.Scanning.{CanStep, Comes, IsStep};
@@ -12,7 +12,8 @@ use crate::finish::{end_character, end_laid, end_queued, lay_read};
 use crate::keys::{is_lost, root_at};
 use crate::scanner::scanner_t;
 use crate::source::{
-    gap_end, kind_at, read_block, read_character, read_other, read_plain, read_quoted,
+    gap_end, kind_at, read_block, read_character, read_name, read_other, read_plain, read_quoted,
+    read_tag,
 };
 use crate::stop::{stop_in_gap, stop_without_kind};
 use crate::target::{no_sink_t, yaml_token_sink_t};
@@ -105,6 +106,66 @@ fn step_literal<const IN_FLOW: bool, const DIRECT: bool, S: yaml_token_sink_t>(
     }
 }
 
+/// The kind of an anchor or an alias.
+#[inline(always)]
+fn name_kind(anchor: bool) -> yaml_lexeme_kind_t
+    ensures { result ≡ name_kind anchor }
+{
+    if anchor {
+        yaml_lexeme_kind_t::ANCHOR
+    } else {
+        yaml_lexeme_kind_t::ALIAS
+    }
+}
+
+/// Makes the step of an anchor or an alias.
+#[inline(never)]
+fn step_name<const IN_FLOW: bool, const ANCHOR: bool, const DIRECT: bool, S: yaml_token_sink_t>(
+    scanner: &mut scanner_t,
+    sink: &mut S,
+) -> Result<(), stop_t>
+    ghost before: { List Laid }
+    requires { Comes before scanner.old IN_FLOW (name_kind ANCHOR) }
+    ensures steps { StepsTo before scanner.old scanner.new DIRECT (λ tokens. S.took sink.old tokens sink.new)
+        S.may_refuse result }
+    ensures within { OnOk result (S.within sink.old → S.within sink.new) }
+{
+    match begin_step(scanner, IN_FLOW, name_kind(ANCHOR)) {
+        Ok(step) => {
+            let read = read_name(scanner, ANCHOR, step.context);
+            match lay_read::<DIRECT, S>(scanner, sink, step, read) {
+                Ok((laid, token)) => end_laid::<DIRECT, S>(scanner, sink, laid, token),
+                Err(stop) => Err(stopped(stop)),
+            }
+        }
+        Err(stop) => Err(stopped(stop)),
+    }
+}
+
+/// Makes the step of a tag.
+#[inline(never)]
+fn step_tag<const IN_FLOW: bool, const DIRECT: bool, S: yaml_token_sink_t>(
+    scanner: &mut scanner_t,
+    sink: &mut S,
+) -> Result<(), stop_t>
+    ghost before: { List Laid }
+    requires { Comes before scanner.old IN_FLOW TAG }
+    ensures steps { StepsTo before scanner.old scanner.new DIRECT (λ tokens. S.took sink.old tokens sink.new)
+        S.may_refuse result }
+    ensures within { OnOk result (S.within sink.old → S.within sink.new) }
+{
+    match begin_step(scanner, IN_FLOW, yaml_lexeme_kind_t::TAG) {
+        Ok(step) => {
+            let read = read_tag(scanner, step.context);
+            match lay_read::<DIRECT, S>(scanner, sink, step, read) {
+                Ok((laid, token)) => end_laid::<DIRECT, S>(scanner, sink, laid, token),
+                Err(stop) => Err(stopped(stop)),
+            }
+        }
+        Err(stop) => Err(stopped(stop)),
+    }
+}
+
 /// Makes the step of a lexeme of one character.
 #[inline(always)]
 fn step_character<const DIRECT: bool, S: yaml_token_sink_t>(
@@ -170,6 +231,9 @@ fn step_kind<const IN_FLOW: bool, const DIRECT: bool, S: yaml_token_sink_t>(
             scanner, sink,
         ),
         yaml_lexeme_kind_t::LITERAL => step_literal::<IN_FLOW, DIRECT, S>(scanner, sink),
+        yaml_lexeme_kind_t::ALIAS => step_name::<IN_FLOW, false, DIRECT, S>(scanner, sink),
+        yaml_lexeme_kind_t::ANCHOR => step_name::<IN_FLOW, true, DIRECT, S>(scanner, sink),
+        yaml_lexeme_kind_t::TAG => step_tag::<IN_FLOW, DIRECT, S>(scanner, sink),
         yaml_lexeme_kind_t::VALUE => step_character::<DIRECT, S>(
             scanner,
             sink,

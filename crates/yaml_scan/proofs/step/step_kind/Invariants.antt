@@ -17,3 +17,12 @@ ghost-step_other g a = g.before
 
 abbrev pub ghost-step_quoted-2 : goal.ghost-step_quoted-2
 ghost-step_quoted-2 g a = g.before
+
+abbrev pub ghost-step_name : goal.ghost-step_name
+ghost-step_name g a = g.before
+
+abbrev pub ghost-step_name-2 : goal.ghost-step_name-2
+ghost-step_name-2 g a = g.before
+
+abbrev pub ghost-step_tag : goal.ghost-step_tag
+ghost-step_tag g a = g.before
