@@ -1,6 +1,6 @@
 //! What is between lexemes.
-ghost use Rattle.std.specs.Prelude.{ℕ, ◌≡◌, true, IfSome};
-ghost use Rattle.yaml_lexeme.specs.Place.{place_at, after_run, first, peek};
+ghost use Rattle.std.specs.Prelude.{ℕ, ◌≡◌, ◌≤◌, true, IfSome};
+ghost use Rattle.yaml_lexeme.specs.Place.{place_at, after_run, peek};
 ghost use Rattle.yaml_lexeme.specs.Counted.{IsMarkOf};
 ghost use Rattle.yaml_lexeme.specs.Classes.{is_in_line};
 ghost use Rattle.yaml_lexeme.specs.Gap as spec;
@@ -57,22 +57,45 @@ fn skip_gap_lines(cursor: &mut cursor_t, in_flow: bool, allowed: bool) -> bool
     broken
 }
 
-/// Whether an ASCII character that belongs to no gap is here.
-#[inline(always)]
-fn is_solid(cursor: &cursor_t, k: usize) -> bool
-    ensures { result ≡ true → runs.is_solid (peek cursor.now k) ≡ true }
+/// Whether a character that is not ASCII belongs to no gap, and is no break.
+#[inline(never)]
+fn is_far_solid(c: char) -> bool
+    requires { 0x80 ≤ c }
+    ensures { result ≡ runs.is_solid c }
 {
-    let c = cursor.peek(k);
-    c > ' ' && c < '\u{80}' && c != '#'
+    !(is_break(c) || c == '\u{FEFF}')
 }
 
-/// Whether a character that belongs to no gap, and is no break, is here.
+/// Whether a character that belongs to no gap, and is no break, is so many places on.
 #[inline(always)]
-fn is_any_solid(cursor: &cursor_t) -> bool
-    ensures { result ≡ true → runs.is_solid (first cursor.now) ≡ true }
+fn is_solid(cursor: &cursor_t, k: usize) -> bool
+    ensures { result ≡ runs.is_solid (peek cursor.now k) }
 {
-    let c = cursor.peek(0);
-    c > ' ' && c != '#' && !is_break(c) && c != '\u{FEFF}'
+    let c = cursor.peek(k);
+    if c < '\u{80}' {
+        c > ' ' && c != '#'
+    } else {
+        is_far_solid(c)
+    }
+}
+
+/// The gap from a place on, read gap line by gap line.
+#[inline(never)]
+fn long_gap(
+    text: &yaml_text_t,
+    at: yaml_mark_t,
+    in_flow: bool,
+    allowed: bool,
+) -> (yaml_mark_t, bool)
+    requires { (n : ℕ) × IsMarkOf text.now.chars at n }
+    ensures mark { (n : ℕ) → IsMarkOf text.now.chars at n
+        → result.0 ≡ (spec.gap in_flow allowed (place_at text.now.chars n)).0.mark }
+    ensures broken { (n : ℕ) → IsMarkOf text.now.chars at n
+        → result.1 ≡ (spec.gap in_flow allowed (place_at text.now.chars n)).1 }
+{
+    let mut cursor = cursor_t::at(text, at);
+    let broken = skip_gap_lines(&mut cursor, in_flow, allowed);
+    (cursor.mark(), broken)
 }
 
 /// The place after a line feed and spaces, if these are the gap that is here.
@@ -90,7 +113,7 @@ fn after_feed<'a>(cursor: &cursor_t<'a>) -> Option<cursor_t<'a>>
 }
 
 /// The place after a gap that is short, and whether a break is in it. No gap, one space, and a line feed with
-/// spaces after it are short, if an ASCII character that belongs to no gap follows.
+/// spaces after it are short, if a character that belongs to no gap, and is no break, follows.
 #[inline(always)]
 fn short_gap<'a>(cursor: &cursor_t<'a>) -> Option<(cursor_t<'a>, bool)>
     ensures { IfSome result (λ r. IsGap cursor.now r.0 r.1) }
@@ -105,59 +128,6 @@ fn short_gap<'a>(cursor: &cursor_t<'a>) -> Option<(cursor_t<'a>, bool)>
     }
     let next = after_feed(cursor)?;
     Some((next, true))
-}
-
-/// The place after the gap, and whether a break is in it, if the gap is short and a character that may be of any script
-/// follows.
-#[inline(always)]
-fn far_gap<'a>(cursor: &cursor_t<'a>) -> Option<(cursor_t<'a>, bool)>
-    ensures { IfSome result (λ r. IsGap cursor.now r.0 r.1) }
-{
-    let mut next = cursor.again();
-    if check_at!(cursor, ' ', 0) {
-        next.pass();
-        return if is_any_solid(&next) {
-            Some((next, false))
-        } else {
-            None
-        };
-    }
-    if check_at!(cursor, '\n', 0) {
-        next.pass_feed();
-        next.skip_all_spaces();
-        return if is_any_solid(&next) {
-            Some((next, true))
-        } else {
-            None
-        };
-    }
-    if is_any_solid(&next) {
-        Some((next, false))
-    } else {
-        None
-    }
-}
-
-/// The gap from a place on: a short one before a character of any script, or one that is read gap line by gap line.
-#[inline(never)]
-fn long_gap(
-    text: &yaml_text_t,
-    at: yaml_mark_t,
-    in_flow: bool,
-    allowed: bool,
-) -> (yaml_mark_t, bool)
-    requires { (n : ℕ) × IsMarkOf text.now.chars at n }
-    ensures mark { (n : ℕ) → IsMarkOf text.now.chars at n
-        → result.0 ≡ (spec.gap in_flow allowed (place_at text.now.chars n)).0.mark }
-    ensures broken { (n : ℕ) → IsMarkOf text.now.chars at n
-        → result.1 ≡ (spec.gap in_flow allowed (place_at text.now.chars n)).1 }
-{
-    let mut cursor = cursor_t::at(text, at);
-    if let Some((next, broken)) = far_gap(&cursor) {
-        return (next.mark(), broken);
-    }
-    let broken = skip_gap_lines(&mut cursor, in_flow, allowed);
-    (cursor.mark(), broken)
 }
 
 /// The gap from a place on: the mark of the place after it, and whether a break is in it (YAML 1.1, 6.2

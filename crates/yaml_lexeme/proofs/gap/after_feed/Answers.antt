@@ -1,4 +1,4 @@
-use Rattle.std.proofs.Common.{◌≡◌, ◌∙◌, ap, arith}
+use Rattle.std.proofs.Common.{◌≡◌, ◌∙◌, sym, ap, arith}
 use Rattle.yaml_lexeme.proofs.Readers.GapLines.{gap_feed}
 use Rattle.yaml_lexeme.specs.Place.{first, skip, after_run}
 use Rattle.yaml_lexeme.specs.inside.Runs.{class_test}
@@ -11,4 +11,4 @@ returns-then-is_solid c =
     let q = c.skip_all_spaces.new.self in
     let feed : first p ≡ 10 = omega (arith, c.peek.ensures) in
     let at : q ≡ after_run (class_test SPACE) (skip 1 p) = c.skip_all_spaces.ensures ∙ ap (after_run (class_test SPACE)) (c.pass_feed.ensures ∙ ap (skip 1) c.again-next.ensures) in
-    gap_feed p q feed at (c.is_solid.ensures c.if-is_solid.true)
+    gap_feed p q feed at (sym c.is_solid.ensures ∙ c.if-is_solid.true)
