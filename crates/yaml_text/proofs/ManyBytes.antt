@@ -12,3 +12,9 @@ pub mod UnitRuns
 pub mod WindowLanes
 -- Bytes whose windows are clean are whole characters.
 pub mod WholeRuns
+-- Slots that are joined make what was read of UTF-16 grow by the units that they spell.
+pub mod SlotRuns
+-- Four vectors that are put together lane by lane make slots of four bytes.
+pub mod SlotLanes
+-- Vectors that are computed lane by lane from the halves of units are functions of the units.
+pub mod UnitLanes

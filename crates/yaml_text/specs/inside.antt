@@ -4,5 +4,6 @@ pub mod Cursor
 pub mod Fronts
 pub mod Held
 pub mod Singles
+pub mod Slots
 pub mod Units
 pub mod Windows

@@ -1,9 +1,10 @@
 //! Reading UTF-16.
 ghost use Rattle.std.specs.Prelude.{ℕ, ◌≡◌, ◌+◌, ◌-◌, ◌*◌, ◌<◌, ◌≤◌, List, ◌++◌};
-ghost use Rattle.std.specs.Prelude.{encode_utf8, length, take, drop, slice_index, true, IfOk, IfErr};
+ghost use Rattle.std.specs.Prelude.{[], ◌∷◌, encode_utf8, length, take, drop, slice_index, true, IfOk, IfErr};
 ghost use Rattle.std.specs.Prelude.{OnErr, IfSome, IsNone};
 ghost use Rattle.yaml_text.specs.TextBytes.{IsChar};
 ghost use Rattle.yaml_text.specs.inside.Singles.{is_single};
+ghost use Rattle.yaml_text.specs.inside.Slots.{AreFew, IsSlotOf, Spells, packed};
 ghost use Rattle.yaml_text.specs.Utf16.{unit_at, is_low, is_high, spelling16, offence16};
 ghost use Rattle.yaml_text.specs.inside.Units.{Begins16, BeginsWithNone16};
 ghost use Rattle.yaml_text.specs.inside.Units.{Reads16};
@@ -100,9 +101,179 @@ fn narrow(bytes: &[u8], big: bool) -> u8x16
         .select(low, u8x16::splat(0xFF))
 }
 
-/// Appends the first of 16 units as far as they are characters of one byte, and returns how many they are.
+/// Sixteen units as bytes, with a space for each that is a character of two or three bytes. If such a byte is a
+/// character by itself, the unit is a character.
 #[inline(always)]
-fn push_singles(out: &mut Vec<u8>, bytes: &[u8], big: bool, at: usize) -> Result<usize, AllocError>
+fn shown(low: u8x16, high: u8x16) -> u8x16
+    ensures long { length result ≡ 16 }
+    ensures units { (k : ℕ) → k < 16 → is_single (slice_index result k) ≡ true
+        → IsChar (slice_index high k * 256 + slice_index low k) }
+{
+    let narrow = high.simd_eq(u8x16::splat(0)) & low.simd_lt(u8x16::splat(0xA0));
+    let surrogate = high.simd_ge(u8x16::splat(0xD8)) & high.simd_le(u8x16::splat(0xDF));
+    let last = high.simd_eq(u8x16::splat(0xFF)) & low.simd_ge(u8x16::splat(0xFE));
+    let byte = narrow.select(low, u8x16::splat(0x80));
+    (narrow | (surrogate | last)).select(byte, u8x16::splat(0x20))
+}
+
+/// How many of the first 16 units are characters, as far as they are looked at.
+#[inline(always)]
+fn plain_len(bytes: &[u8], big: bool) -> usize
+    requires { 32 ≤ length bytes.now }
+    ensures chars { (k : ℕ) → k < result → IsChar (unit_at big bytes.now (2 * k)) }
+    ensures most { result ≤ 16 }
+{
+    let (low, high) = halves(bytes, big);
+    let found = others(shown(low, high));
+    if found == 0 {
+        return 16;
+    }
+    found.trailing_zeros() as usize
+}
+
+/// The three bytes that 16 units may have in UTF-8, and how many each has.
+#[inline(always)]
+fn spelled(low: u8x16, high: u8x16) -> (u8x16, u8x16, u8x16, u8x16)
+    ensures first { length result.0 ≡ 16 }
+    ensures second { length result.1 ≡ 16 }
+    ensures third { length result.2 ≡ 16 }
+    ensures counts { length result.3 ≡ 16 }
+    ensures units { (k : ℕ) → k < 16 → Spells (slice_index high k * 256 + slice_index low k)
+        (slice_index result.0 k) (slice_index result.1 k) (slice_index result.2 k) (slice_index result.3 k) }
+{
+    // what stands above the last six bits, as far as it fits
+    let upper = high * u8x16::splat(4) + low / u8x16::splat(64);
+    let last = u8x16::splat(0x80) + low % u8x16::splat(64);
+    let is_one = high.simd_eq(u8x16::splat(0)) & low.simd_lt(u8x16::splat(0x80));
+    let is_three = high.simd_ge(u8x16::splat(8));
+    let of_two = is_one.select(low, u8x16::splat(0xC0) + upper);
+    let first = is_three.select(u8x16::splat(0xE0) + high / u8x16::splat(16), of_two);
+    let second = is_three.select(u8x16::splat(0x80) + upper % u8x16::splat(64), last);
+    let least = is_one.select(u8x16::splat(1), u8x16::splat(2));
+    (first, second, last, is_three.select(u8x16::splat(3), least))
+}
+
+/// Writes 16 bytes from a place on.
+#[inline(always)]
+fn lay(slots: &mut [u8], at: usize, v: u8x16)
+    requires { at + 16 ≤ length slots.old }
+    ensures laid { (k : ℕ) → k < 16 → slice_index slots.new (at + k) ≡ slice_index v k }
+    ensures before { (k : ℕ) → k < at → slice_index slots.new k ≡ slice_index slots.old k }
+{
+    v.copy_to_slice(&mut slots[at..]);
+}
+
+/// Sixteen slots of four bytes, which have a byte of each vector.
+#[inline(always)]
+fn slots_of(a: u8x16, b: u8x16, c: u8x16, d: u8x16) -> [u8; 64]
+    ensures long { length result ≡ 64 }
+    ensures slots { (k : ℕ) → k < 16 → take 4 (drop (4 * k) result)
+        ≡ slice_index a k ∷ slice_index b k ∷ slice_index c k ∷ slice_index d k ∷ [] }
+{
+    let (even, even_far) = a.interleave(c);
+    let (odd, odd_far) = b.interleave(d);
+    let (first, second) = even.interleave(odd);
+    let (third, fourth) = even_far.interleave(odd_far);
+    let mut slots = [0; 64];
+    lay(&mut slots, 0, first);
+    lay(&mut slots, 16, second);
+    lay(&mut slots, 32, third);
+    lay(&mut slots, 48, fourth);
+    slots
+}
+
+/// The slots of 16 units.
+#[inline(always)]
+fn slots(bytes: &[u8], big: bool) -> [u8; 64]
+    requires { 32 ≤ length bytes.now }
+    ensures long { length result ≡ 64 }
+    ensures units { (k : ℕ) → k < 16 → IsSlotOf (unit_at big bytes.now (2 * k)) result k }
+{
+    let (low, high) = halves(bytes, big);
+    let (first, second, third, counts) = spelled(low, high);
+    slots_of(first, second, third, counts)
+}
+
+/// Copies a slot to a place before it, and returns how many bytes of it count.
+#[inline(always)]
+fn put_slot(items: &mut [u8], from: usize, to: usize) -> usize
+    requires room { from + 4 ≤ length items.old }
+    requires before { to ≤ from }
+    requires few { slice_index items.old (from + 3) ≤ 3 }
+    ensures count { result ≡ slice_index items.old (from + 3) }
+    ensures bytes { take (to + result) items.new ≡ take to items.old ++ take result (drop from items.old) }
+    ensures after { drop (from + 4) items.new ≡ drop (from + 4) items.old }
+{
+    let (a, b, c, n) = (
+        items[from],
+        items[from + 1],
+        items[from + 2],
+        items[from + 3],
+    );
+    items[to] = a;
+    items[to + 1] = b;
+    items[to + 2] = c;
+    items[to + 3] = n;
+    n as usize
+}
+
+/// Joins the bytes that count of the first slots that begin at a place, and returns where they end.
+#[inline(always)]
+fn join_slots(items: &mut [u8], start: usize, count: usize) -> usize
+    requires room { start + 4 * count ≤ length items.old }
+    requires few { AreFew count (drop start items.old) }
+    ensures bytes { take result items.new ≡ take start items.old ++ packed count (drop start items.old) }
+{
+    let mut end = start;
+    for k in 0..count {
+        end += put_slot(items, start + 4 * k, end);
+    }
+    end
+}
+
+/// Appends the first of 16 units, which are characters.
+#[inline(always)]
+fn push_slots(
+    out: &mut Vec<u8>,
+    bytes: &[u8],
+    big: bool,
+    at: usize,
+    count: usize,
+) -> Result<(), AllocError>
+    requires room { at + 32 ≤ length bytes.now }
+    requires most { count ≤ 16 }
+    requires chars { (k : ℕ) → k < count → IsChar (unit_at big bytes.now (at + 2 * k)) }
+    requires read { Reads16 big bytes.now out.old.items at }
+    ensures { IfOk result (λ u. Reads16 big bytes.now out.new.items (at + 2 * count)) }
+{
+    let before = out.len();
+    out.extend_from_slice(&slots(rest(bytes, at), big))?;
+    let end = join_slots(out.as_mut_slice(), before, count);
+    out.truncate(end);
+    Ok(())
+}
+
+/// Appends the first of 16 units as far as they are characters, of one byte or more, and returns how many they are.
+#[inline(always)]
+fn push_mixed(out: &mut Vec<u8>, bytes: &[u8], big: bool, at: usize) -> Result<usize, AllocError>
+    requires room { at + 32 ≤ length bytes.now }
+    requires read { Reads16 big bytes.now out.old.items at }
+    ensures read { IfOk result (λ n. Reads16 big bytes.now out.new.items (at + 2 * n)) }
+    ensures most { IfOk result (λ n. n ≤ 16) }
+{
+    let count = plain_len(rest(bytes, at), big);
+    if count == 16 {
+        // so many are moved with no loop
+        push_slots(out, bytes, big, at, 16)?;
+        return Ok(16);
+    }
+    push_slots(out, bytes, big, at, count)?;
+    Ok(count)
+}
+
+/// Appends the first of 16 units as far as they are characters, and returns how many they are.
+#[inline(always)]
+fn push_units(out: &mut Vec<u8>, bytes: &[u8], big: bool, at: usize) -> Result<usize, AllocError>
     requires room { at + 32 ≤ length bytes.now }
     requires read { Reads16 big bytes.now out.old.items at }
     ensures read { IfOk result (λ n. Reads16 big bytes.now out.new.items (at + 2 * n)) }
@@ -111,42 +282,26 @@ fn push_singles(out: &mut Vec<u8>, bytes: &[u8], big: bool, at: usize) -> Result
     let units = narrow(rest(bytes, at), big);
     let found = others(units);
     let before = out.len();
-    out.extend_from_slice(&units.to_array())?;
     if found == 0 {
+        out.extend_from_slice(&units.to_array())?;
         return Ok(16);
     }
     let count = found.trailing_zeros() as usize;
+    if !is_high(unit_at(bytes, at + 2 * count, big)) {
+        return push_mixed(out, bytes, big, at);
+    }
+    out.extend_from_slice(&units.to_array())?;
     out.truncate(before + count);
     Ok(count)
 }
 
-/// Appends the units from a place on as far as they are characters of one byte, 16 at a time, and returns where
-/// they end.
-#[inline(always)]
-fn push_run(out: &mut Vec<u8>, bytes: &[u8], big: bool, start: usize) -> Result<usize, AllocError>
-    requires { Reads16 big bytes.now out.old.items start }
-    ensures read { IfOk result (λ at. Reads16 big bytes.now out.new.items at) }
-    ensures forward { IfOk result (λ at. start ≤ at) }
-{
-    let mut at = start;
-    'units: while bytes.len() - at >= 32 {
-        let count = push_singles(out, bytes, big, at)?;
-        at += 2 * count;
-        if count < 16 {
-            return Ok(at);
-        }
-    }
-    Ok(at)
-}
-
-/// Whether the unit is a space, or a character of two or three bytes before the surrogates.
+/// Whether the unit is a character by itself. U+0085, which is seldom used, is left out.
 #[inline(always)]
 #[tactic(auto, unfolding(crate::specs::Chars::is_char))]
 fn is_plain(u: u32) -> bool
-    ensures char { result ≡ true → IsChar u }
-    ensures least { result ≡ true → u < 0xD800 }
+    ensures { result ≡ true → IsChar u }
 {
-    matches!(u, 0x20 | 0xA0..=0xD7FF)
+    matches!(u, 0x20..=0x7E | 9 | 10 | 13 | 0xA0..=0xD7FF | 0xE000..=0xFFFD)
 }
 
 /// Writes a plain unit in UTF-8, and returns how many bytes it has.
@@ -218,24 +373,36 @@ fn push_plain(out: &mut Vec<u8>, bytes: &[u8], big: bool, start: usize) -> Resul
     Ok(at)
 }
 
-/// Appends characters from a place on, as far as many units at a time are read, and returns where they end.
+/// Appends the units from a place on, 16 at a time as long as they are characters, and returns where they end.
+#[inline(always)]
+fn push_run(out: &mut Vec<u8>, bytes: &[u8], big: bool, start: usize) -> Result<usize, AllocError>
+    requires { Reads16 big bytes.now out.old.items start }
+    ensures read { IfOk result (λ at. Reads16 big bytes.now out.new.items at) }
+    ensures forward { IfOk result (λ at. start ≤ at) }
+{
+    let mut at = start;
+    'units: while bytes.len() - at >= 32 {
+        let count = push_units(out, bytes, big, at)?;
+        at += 2 * count;
+        if count < 16 {
+            return Ok(at);
+        }
+    }
+    push_plain(out, bytes, big, at)
+}
+
+/// Appends characters from a place on, as far as many units at a time are read, and returns where they end. A pair of
+/// units ends them.
 #[inline(always)]
 fn push_quick(out: &mut Vec<u8>, bytes: &[u8], big: bool, start: usize) -> Result<usize, AllocError>
     requires { Reads16 big bytes.now out.old.items start }
     ensures read { IfOk result (λ at. Reads16 big bytes.now out.new.items at) }
     ensures forward { IfOk result (λ at. start ≤ at) }
 {
-    if bytes.len() < 2 || start > bytes.len() - 2 {
+    if bytes.len() - start >= 2 && is_high(unit_at(bytes, start, big)) {
         return Ok(start);
     }
-    match unit_at(bytes, start, big) {
-        0..=0x7F => push_run(out, bytes, big, start),
-        0xA0..=0xD7FF => {
-            let at = push_plain(out, bytes, big, start)?;
-            push_run(out, bytes, big, at)
-        }
-        _ => Ok(start),
-    }
+    push_run(out, bytes, big, start)
 }
 
 /// The front of a text in UTF-8, how many bytes spell it, and what is wrong after them.

@@ -18,7 +18,7 @@ use Rattle.yaml_text.specs.inside.Units.{Reads16}
 use Rattle.yaml_text.proofs.Characters.Utf16Spelling.{AreBytes, found_one, reads_more}
 use Rattle.yaml_text.proofs.ManyBytes.AsciiFronts.{single_char, single_low}
 use Rattle.yaml_text.proofs.ManyBytes.VectorLanes.{upto_sound}
-use Rattle.yaml_text.proofs.ManyBytes.VectorRuns.{same_run, twice}
+use Rattle.yaml_text.proofs.ManyBytes.VectorRuns.{same_run, all_pass, twice}
 
 -- ---- the two halves of 16 units
 
@@ -98,6 +98,17 @@ pub some_single : (v : List ℕ) (found : ℕ) → length v ≤ 64 → found ≡
 some_single v found short is some =
     same_run is_other is_single (λ x. twice (is_single x)) v ∙ sym (trailing_mask_l is_other 64 v short (omega arith)) ∙ ap (count_trailing_zeros 64) (sym is)
 
+-- where one byte is no character by itself, not all are
+pub not_all_single : (v : List ℕ) (found : ℕ) → found ≡ mask_l (map is_other v) → 0 < found → prefix_len is_single v < length v
+not_all_single v found is some =
+    elim (cases_lt (prefix_len is_single v) (length v)) [
+      | inl a ↦ a
+      | inr a ↦
+          let all : prefix_len is_single v ≡ length v = omega (arith, prefix_len-le-length is_single v) in
+          let none = all_pass is_other is_single (λ x. twice (is_single x)) v (sym (same_run is_other is_single (λ x. twice (is_single x)) v) ∙ all) in
+          absurd (omega (arith, is, none))
+    ]
+
 -- ---- what was read, with the units after it that are characters of one byte
 
 abbrev pub AreUnits : Bool → List ℕ → List ℕ → Type 0
@@ -107,7 +118,7 @@ unit_later : (big : Bool) (bytes : List ℕ) (n : ℕ) → unit_at big (drop n b
 unit_later true bytes n = let a = get_or-drop n bytes 0 0 in let b = get_or-drop n bytes 1 0 in let e : n + 0 ≡ n = omega arith in rw (a, b, e) refl
 unit_later false bytes n = let a = get_or-drop n bytes 0 0 in let b = get_or-drop n bytes 1 0 in let e : n + 0 ≡ n = omega arith in rw (a, b, e) refl
 
-unit_after : (big : Bool) (bytes : List ℕ) (at n : ℕ) → unit_at big (drop at bytes) n ≡ unit_at big bytes (at + n)
+pub unit_after : (big : Bool) (bytes : List ℕ) (at n : ℕ) → unit_at big (drop at bytes) n ≡ unit_at big bytes (at + n)
 unit_after true bytes at n = let a = get_or-drop at bytes n 0 in let b = get_or-drop at bytes (n + 1) 0 in let e : at + (n + 1) ≡ at + n + 1 = omega arith in rw (a, b, e) refl
 unit_after false bytes at n = let a = get_or-drop at bytes n 0 in let b = get_or-drop at bytes (n + 1) 0 in let e : at + (n + 1) ≡ at + n + 1 = omega arith in rw (a, b, e) refl
 

@@ -27,13 +27,13 @@ compared_left t d y n ts v is long = record { is = from_splat (ones_if t) y n v 
 
 -- ---- masks that are joined
 
-and_lane : (a b : Bool) → bit_and (cond a 255 0) (cond b 255 0) ≡ cond (a && b) 255 0
+pub and_lane : (a b : Bool) → bit_and (cond a 255 0) (cond b 255 0) ≡ cond (a && b) 255 0
 and_lane true true = refl
 and_lane true false = refl
 and_lane false true = refl
 and_lane false false = refl
 
-or_lane : (a b : Bool) → bit_or (cond a 255 0) (cond b 255 0) ≡ cond (a || b) 255 0
+pub or_lane : (a b : Bool) → bit_or (cond a 255 0) (cond b 255 0) ≡ cond (a || b) 255 0
 or_lane true true = refl
 or_lane true false = refl
 or_lane false true = refl
