@@ -1,5 +1,6 @@
 -- Slots of four bytes, one for each unit of UTF-16: three bytes, and how many of them spell the unit.
-use Rattle.std.specs.Prelude.{ℕ, zero, suc, ◌+◌, ◌*◌, ◌≡◌, ◌<◌, ◌≤◌, List, [], ◌∷◌, ◌++◌, take, drop, slice_index, encode_utf8}
+use Rattle.std.specs.Prelude.{ℕ, zero, suc, ◌+◌, ◌*◌, ◌≡◌, ◌<◌, ◌≤◌, encode_utf8}
+use Rattle.std.specs.Prelude.{List, [], ◌∷◌, ◌++◌, take, drop, slice_index}
 
 -- How many bytes of slot k count.
 abbrev pub count_of : List ℕ → ℕ → ℕ
