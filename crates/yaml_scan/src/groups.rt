@@ -1,15 +1,16 @@
 //! The queue: of each step, in order, what it hands out that was not taken.
 ghost use Rattle.std.specs.Prelude.{◌≡◌, ◌+◌, ◌-◌, ◌<◌, ◌∷◌, [], ◌&&◌, nat_eq, nat_lt, length, take, drop, OnOk};
-ghost use Rattle.std.specs.Prelude.{List, ◌^◌};
+ghost use Rattle.std.specs.Prelude.{List, ◌^◌, true, false};
 ghost use Rattle.std.specs.VecDeque.{deque_capacity};
 ghost use Rattle.yaml_text.specs.declared.types.yaml_encoding_t.{yaml_encoding_t};
 ghost use Rattle.yaml_text.specs.Token.{data_of, token_of};
 ghost use Rattle.yaml_text.specs.declared.types.yaml_mark_t.{yaml_mark_t};
 ghost use Rattle.yaml_scan.specs.Token.{at_mark};
-ghost use Rattle.yaml_scan.specs.inside.Queue.{IsQueue, IsLead, Takes, DropsLead, keyed_at, leads, pending};
+ghost use Rattle.yaml_scan.specs.declared.groups.lead_t.TheVariants.{NOTHING};
+ghost use Rattle.yaml_scan.specs.inside.Queue.{IsBare, IsQueue, IsLead, TakesLead, TakesNext, keyed_at, leads, pending};
 ghost use Rattle.yaml_scan.specs.inside.Queue.{begins_with_end};
 ghost use Rattle.yaml_scan.specs.inside.Queue.{mark_next, lead_tokens};
-ghost use Rattle.yaml_scan.specs.Groups.{Token};
+ghost use Rattle.yaml_scan.specs.Groups.{Token, handed_out};
 ghost use Rattle.yaml_scan.specs.Groups.Token.{StreamStart};
 
 use std::alloc::AllocError;
@@ -101,7 +102,7 @@ pub(crate) fn mark_key(groups: &mut VecDeque<group_t>, at: usize, opens: bool)
 
 /// Whether the block ends of the front are next.
 #[inline(always)]
-fn is_early(queue: &queue_t) -> bool
+pub(crate) fn is_early(queue: &queue_t) -> bool
     ensures { result ≡ (nat_lt 0 queue.now.early && nat_eq (length queue.now.groups.items) 1) }
 {
     queue.early > 0 && queue.groups.len() == 1
@@ -123,7 +124,7 @@ pub(crate) fn has_ends(queue: &queue_t) -> bool
 
 /// What is handed out before the token of a group.
 #[derive(Clone, Copy)]
-enum lead_t {
+pub(crate) enum lead_t {
     NOTHING,
     END,
     SEQUENCE_START,
@@ -150,19 +151,33 @@ fn lead_of(head: &group_t) -> lead_t
     }
 }
 
-/// Takes what is handed out next of a group before its token.
+/// Takes what is handed out next of a group before its token, if it hands out anything before that.
 #[inline(always)]
-fn drop_lead_of(head: &mut group_t)
+fn take_lead_of(head: &mut group_t) -> lead_t
+    ensures lead { lead_tokens result head.old.token.start_mark ≡ take 1 (leads head.old) }
     ensures leads { leads head.new ≡ drop 1 (leads head.old) }
     ensures token { head.new.token ≡ head.old.token }
+    ensures none { result ≡ NOTHING → head.new ≡ head.old }
 {
     if head.ends > 0 {
         head.ends -= 1;
-        return;
+        return lead_t::END;
     }
     match head.opens {
-        block_t::NONE => head.key = false,
-        _ => head.opens = block_t::NONE,
+        block_t::SEQUENCE => {
+            head.opens = block_t::NONE;
+            lead_t::SEQUENCE_START
+        }
+        block_t::MAPPING => {
+            head.opens = block_t::NONE;
+            lead_t::MAPPING_START
+        }
+        block_t::NONE => if head.key {
+            head.key = false;
+            lead_t::KEY
+        } else {
+            lead_t::NOTHING
+        },
     }
 }
 
@@ -203,34 +218,72 @@ fn lead_mark(queue: &queue_t) -> yaml_mark_t
     }
 }
 
-/// The token that is handed out before that of the head, or an empty one if there is none.
+/// The token of a lead, or an empty one if there is none.
 #[inline(always)]
-pub(crate) fn lead(queue: &queue_t) -> yaml_token_t
-    ensures { (e : yaml_encoding_t) → IsLead e queue.now (token_of result) }
+pub(crate) fn lead_token(lead: lead_t, mark: yaml_mark_t) -> yaml_token_t
+    ensures { (e : yaml_encoding_t) (x : Token) → lead_tokens lead mark ≡ x ∷ [] → token_of result ≡ handed_out e x }
 {
-    let says = match next_lead(queue) {
+    let says = match lead {
         lead_t::END => unnamed_yaml_token_t_data::BLOCK_END,
         lead_t::SEQUENCE_START => unnamed_yaml_token_t_data::BLOCK_SEQUENCE_START,
         lead_t::MAPPING_START => unnamed_yaml_token_t_data::BLOCK_MAPPING_START,
         lead_t::KEY => unnamed_yaml_token_t_data::KEY,
         lead_t::NOTHING => unnamed_yaml_token_t_data::NO_TOKEN,
     };
-    token_at(says, lead_mark(queue))
+    token_at(says, mark)
 }
 
-/// Takes what is handed out before the token of the head.
+/// The token that is handed out before that of the head, or an empty one if there is none.
 #[inline(always)]
-fn drop_lead(queue: &mut queue_t)
-    requires { 0 < length queue.old.groups.items }
-    ensures { DropsLead queue.old queue.new }
+fn lead(queue: &queue_t) -> yaml_token_t
+    ensures { (e : yaml_encoding_t) → IsLead e queue.now (token_of result) }
 {
-    if is_early(queue) {
-        queue.early -= 1;
-        return;
+    lead_token(next_lead(queue), lead_mark(queue))
+}
+
+/// Puts the token that is handed out before that of the head into the place of another, if there is one.
+#[inline(always)]
+pub(crate) fn show_lead(queue: &queue_t, shown: &mut yaml_token_t)
+    ensures { (e : yaml_encoding_t) → IsLead e queue.now (token_of shown.new) }
+{
+    if has_lead(queue) {
+        *shown = lead(queue);
     }
-    if let Some(head) = queue.groups.front_mut() {
-        drop_lead_of(head);
-    }
+}
+
+/// Takes the next of the block ends of the front. There is one.
+pub(crate) fn take_early(queue: &mut queue_t) -> yaml_token_t
+    requires { (nat_lt 0 queue.old.early && nat_eq (length queue.old.groups.items) 1) ≡ true }
+    ensures { TakesNext queue.old queue.new (token_of result) }
+{
+    queue.early -= 1;
+    token_at(unnamed_yaml_token_t_data::BLOCK_END, queue.front)
+}
+
+/// Takes what is handed out before the token of the head, and returns it with its mark. The block ends of the front are
+/// not next.
+#[inline(always)]
+pub(crate) fn take_lead(queue: &mut queue_t) -> (lead_t, yaml_mark_t)
+    requires some { 0 < length queue.old.groups.items }
+    requires late { (nat_lt 0 queue.old.early && nat_eq (length queue.old.groups.items) 1) ≡ false }
+    ensures none { result.0 ≡ NOTHING → IsBare queue.old queue.new }
+    ensures lead { TakesLead queue.old queue.new result.0 result.1 }
+{
+    let head = queue.groups.front_mut().unwrap();
+    let mark = head.token.start_mark;
+    (take_lead_of(head), mark)
+}
+
+/// Takes the token of the head, before which none is handed out.
+#[inline(always)]
+pub(crate) fn take_bare(queue: &mut queue_t) -> yaml_token_t
+    requires some { 0 < length queue.old.groups.items }
+    requires none { pending queue.old.early queue.old.front queue.old.groups.items ≡ [] }
+    requires few { queue.old.done + 1 < 2 ^ 64 }
+    ensures { TakesNext queue.old queue.new (token_of result) }
+{
+    queue.done += 1;
+    queue.groups.pop_front().unwrap().token
 }
 
 /// Takes the next token. There is one.
@@ -238,15 +291,14 @@ fn drop_lead(queue: &mut queue_t)
 pub(crate) fn take_next(queue: &mut queue_t) -> yaml_token_t
     requires some { 0 < length queue.old.groups.items }
     requires few { queue.old.done + 1 < 2 ^ 64 }
-    ensures { (e : yaml_encoding_t) (xs : List Token)
-        → IsQueue e queue.old.early queue.old.front queue.old.groups.items xs
-        → Takes e queue.old queue.new (token_of result) xs }
+    ensures { TakesNext queue.old queue.new (token_of result) }
 {
-    if has_lead(queue) {
-        let token = lead(queue);
-        drop_lead(queue);
-        return token;
+    if is_early(queue) {
+        return take_early(queue);
     }
-    queue.done += 1;
-    queue.groups.pop_front().unwrap().token
+    let (lead, mark) = take_lead(queue);
+    match lead {
+        lead_t::NOTHING => take_bare(queue),
+        _ => lead_token(lead, mark),
+    }
 }

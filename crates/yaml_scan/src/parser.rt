@@ -24,7 +24,7 @@ ghost use Rattle.yaml_scan.specs.Puts.{HasNext, IsAnsweredAlike};
 ghost use Rattle.yaml_scan.specs.inside.Stop.{fault_at};
 
 use crate::fault::{fault_at, make_memory_fault, stop_t};
-use crate::groups::{has_lead, lead, put_stream_start, queue_t, take_next};
+use crate::groups::{has_lead, put_stream_start, queue_t, show_lead, take_next};
 use crate::keys::KEY_LIMIT;
 use crate::levels::layout_t;
 use crate::near::{near_of, near_start};
@@ -257,7 +257,7 @@ pub(crate) fn show(parser: &mut yaml_parser_t) -> bool
         parser.session.peeked,
     ) {
         Ok(_) => {
-            parser.lead = lead(&parser.scanner.layout.queue);
+            show_lead(&parser.scanner.layout.queue, &mut parser.lead);
             parser.session.peeked = true;
             true
         }

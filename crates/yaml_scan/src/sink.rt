@@ -1,15 +1,20 @@
 //! Scanning to a sink, which takes the tokens of an input, one after the other.
-ghost use Rattle.std.specs.Prelude.{◌≤◌, IfOk, MatchResult, OnErr, option_map};
+ghost use Rattle.std.specs.Prelude.{◌≡◌, ◌≤◌, ◌<◌, length, IfOk, MatchResult, OnErr, option_map};
 ghost use Rattle.yaml_text.specs.Fault.{fault_of};
 ghost use Rattle.yaml_scan.specs.KeyLimits.{most_key_limit};
 ghost use Rattle.yaml_scan.specs.Sink.{IsGivenAll, IsGivenFront};
-ghost use Rattle.yaml_scan.specs.Words.{HaveWords};
+ghost use Rattle.yaml_text.specs.Token.{Token, token_of};
+ghost use Rattle.yaml_scan.specs.Settled.{before};
+ghost use Rattle.yaml_scan.specs.Words.{HasWords, HaveWords};
 ghost use Rattle.yaml_scan.specs.inside.Given.{GaveRest, GivesAll, IsSettledTo, StopsGiving, told_all};
-ghost use Rattle.yaml_scan.specs.inside.Ready.{IsNew};
-ghost use Rattle.yaml_scan.specs.inside.Scanning.{IsOpen, IsRunning};
+ghost use Rattle.yaml_scan.specs.inside.Handed.{GivesNext};
+ghost use Rattle.yaml_scan.specs.inside.Ready.{IsNew, Pops};
+ghost use Rattle.yaml_scan.specs.declared.scanner.scanner_t.{scanner_t};
+ghost use Rattle.yaml_scan.specs.inside.Scanning.{IsOpen, IsRunning, history};
 
 use crate::fault::{fault_at, stop_t};
-use crate::parser::{begin, new_scanner, take_head};
+use crate::groups::{is_early, lead_t, lead_token, take_bare, take_early, take_lead};
+use crate::parser::{begin, new_scanner};
 use crate::scanner::scanner_t;
 use crate::session::is_stream_end;
 use crate::settled::is_settled;
@@ -33,6 +38,39 @@ fn settle_to<S: yaml_token_sink_t>(scanner: &mut scanner_t, sink: &mut S) -> Res
     Ok(())
 }
 
+/// Gives a token to a sink. Returns whether it is the stream end.
+#[inline(always)]
+fn give_taken<S: yaml_token_sink_t>(sink: &mut S, token: yaml_token_t) -> Result<bool, stop_t>
+    requires { HasWords (token_of token).token_data }
+    ensures { GivesNext (λ tokens. S.took sink.old tokens sink.new) S.may_refuse (token_of token) result }
+{
+    let last = is_stream_end(&token);
+    give(sink, token)?;
+    Ok(last)
+}
+
+/// Takes the head of the queue, and gives it to a sink. Returns whether it is the stream end. Each way in which a token
+/// is taken gives it by itself, so that the compiler moves it once.
+#[inline(always)]
+fn give_next<S: yaml_token_sink_t>(scanner: &mut scanner_t, sink: &mut S) -> Result<bool, stop_t>
+    requires runs { IsRunning scanner.old }
+    requires settled { scanner.old.taken < length (before scanner.old.limit (history scanner.old)) }
+    requires words { (t : scanner_t) (x : Token) → Pops scanner.old t x → HasWords x.token_data }
+    ensures { (x : Token) × Pops scanner.old scanner.new x
+        × GivesNext (λ tokens. S.took sink.old tokens sink.new) S.may_refuse x result }
+{
+    scanner.taken += 1;
+    let queue = &mut scanner.layout.queue;
+    if is_early(queue) {
+        return give_taken(sink, take_early(queue));
+    }
+    let (lead, mark) = take_lead(queue);
+    match lead {
+        lead_t::NOTHING => give_taken(sink, take_bare(queue)),
+        _ => give_taken(sink, lead_token(lead, mark)),
+    }
+}
+
 /// Gives the tokens of a scanner that has made the first step to a sink, up to the stream end.
 fn give_rest<S: yaml_token_sink_t>(scanner: &mut scanner_t, sink: &mut S) -> Result<(), stop_t>
     requires runs { IsRunning scanner.old }
@@ -45,9 +83,7 @@ fn give_rest<S: yaml_token_sink_t>(scanner: &mut scanner_t, sink: &mut S) -> Res
     let mut last = false;
     'tokens: while !last {
         settle_to(scanner, sink)?;
-        let token = take_head(scanner);
-        last = is_stream_end(&token);
-        give(sink, token)?;
+        last = give_next(scanner, sink)?;
     }
     Ok(())
 }

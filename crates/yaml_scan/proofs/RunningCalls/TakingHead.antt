@@ -7,7 +7,9 @@ use Rattle.yaml_scan.specs.Laid.{Laid}
 use Rattle.yaml_scan.specs.Order.{IsHistory}
 use Rattle.yaml_scan.specs.Groups.{Token, offline}
 use Rattle.yaml_scan.specs.Settled.{before}
-use Rattle.yaml_scan.specs.inside.Queue.{IsQueue, Takes}
+use Rattle.yaml_scan.specs.declared.groups.queue_t.{queue_t}
+use Rattle.yaml_scan.specs.inside.Handed.{set_queue}
+use Rattle.yaml_scan.specs.inside.Queue.{IsQueue, Takes, TakesNext}
 use Rattle.yaml_scan.specs.inside.Scanning.{Holds, IsRunning, history, course_of}
 use Rattle.yaml_scan.specs.inside.Ready.{Pops}
 use Rattle.yaml_scan.proofs.TokenList.QueueBound.{length-begins}
@@ -106,3 +108,7 @@ module _ (s : scanner_t) (r : IsRunning s) (l : s.taken < length (before s.limit
         made = M;
         taken = T;
       }
+
+-- the same of a scanner that has taken it from its queue
+pub next_popped : (s : scanner_t) → IsRunning s → s.taken < length (before s.limit (history s)) → (q : queue_t) (x : yaml_token_t) → TakesNext s.layout.queue q x → Pops s (set_queue s q (s.taken + 1)) x
+next_popped s r l q x k = pops s r l (set_queue s q (s.taken + 1)) x (k s.text.encoding (drop s.taken (offline (history s))) r.holds.queue) refl refl refl refl refl refl refl refl refl refl

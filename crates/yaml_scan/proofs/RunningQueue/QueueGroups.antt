@@ -1,5 +1,5 @@
 -- The queue with one group more, and with a candidate's group that becomes a key.
-use Rattle.std.proofs.Common.{◌≡◌, ℕ, zero, suc, ◌+◌, ◌≤◌, ◌<◌, ◌&&◌, Bool, true, false, List, [], ◌∷◌, ◌++◌, length, drop, refl, ap, sym, ◌∙◌, subst, arith, get_or, set, append_assoc, inl, inr, lt-ltb, ne_eqb, eqb-true}
+use Rattle.std.proofs.Common.{◌≡◌, ℕ, zero, suc, ◌+◌, ◌≤◌, ◌<◌, ◌&&◌, Bool, true, false, List, [], ◌∷◌, ◌++◌, length, drop, take, refl, ap, sym, ◌∙◌, subst, arith, get_or, set, append_assoc, inl, inr, lt-ltb, ne_eqb, eqb-true}
 use Rattle.std.specs.Prelude.{◌⊎◌, nat_lt, nat_eq, if◌then◌else◌}
 use Rattle.std.proofs.lemmas.Bool.{false≢true, and_parts}
 use Rattle.yaml_text.specs.declared.types.yaml_encoding_t.{yaml_encoding_t}
@@ -7,13 +7,15 @@ use Rattle.yaml_text.specs.declared.types.yaml_mark_t.{yaml_mark_t}
 use Rattle.yaml_scan.specs.declared.groups.block_t.{block_t}
 use Rattle.yaml_scan.specs.declared.groups.block_t.TheVariants.{NONE, SEQUENCE, MAPPING}
 use Rattle.yaml_scan.specs.declared.groups.group_t.{group_t}
+use Rattle.yaml_scan.specs.declared.groups.lead_t.{lead_t}
+use Rattle.yaml_scan.specs.declared.groups.lead_t.TheVariants.{NOTHING, END, SEQUENCE_START, MAPPING_START, KEY}
 use Rattle.yaml_scan.specs.declared.groups.queue_t.{queue_t}
 use Rattle.yaml_text.specs.Token.{token_of}
 use Rattle.yaml_scan.specs.Token.{yaml_token_t}
 use Rattle.yaml_scan.specs.Groups.{Token, handed_out}
-use Rattle.yaml_scan.specs.Groups.Token.{InsertedKey}
+use Rattle.yaml_scan.specs.Groups.Token.{BlockEnd, InsertedKey}
 use Rattle.yaml_scan.specs.Laws.{is_of_lexeme}
-use Rattle.yaml_scan.specs.inside.Queue.{IsQueue, IsLead, Takes, DropsLead, ends_at, start_at, leads, early_before}
+use Rattle.yaml_scan.specs.inside.Queue.{IsBare, IsQueue, IsLead, Takes, TakesNext, DropsLead, lead_tokens, ends_at, start_at, leads, early_before}
 use Rattle.yaml_scan.specs.inside.Queue.{pending, begins_with_end, keyed, keyed_at}
 
 -- WHAT IS NEXT
@@ -172,6 +174,69 @@ token_taken e old new y ys xs q g h l d a f = go (pending old.early old.front (y
       count = (let b = ap (λ (ys : List group_t). length ys) g in let c = ap (λ (ys : List group_t). length ys) h in omega arith);
       early = omega (arith, a);
     }
+
+-- THE TOKEN OF A LEAD
+lead_none : (r : lead_t) (m : yaml_mark_t) → lead_tokens r m ≡ [] → r ≡ NOTHING
+lead_none NOTHING m e = refl
+lead_none END m e = absurd (let z = ap (λ (r : List Token). length r) e in omega arith)
+lead_none SEQUENCE_START m e = absurd (let z = ap (λ (r : List Token). length r) e in omega arith)
+lead_none MAPPING_START m e = absurd (let z = ap (λ (r : List Token). length r) e in omega arith)
+lead_none KEY m e = absurd (let z = ap (λ (r : List Token). length r) e in omega arith)
+
+-- what comes before the token of the first group, if the block ends of the front do not
+pub late_pending : (q : queue_t) (y : group_t) → (nat_lt 0 q.early && nat_eq (length q.groups.items) 1) ≡ false → 0 < length q.groups.items → y ≡ get_or q.groups.items 0 y → pending q.early q.front q.groups.items ≡ leads y
+late_pending q y t l g = go q.groups.items refl
+  where
+    go : (ys : List group_t) → q.groups.items ≡ ys → pending q.early q.front ys ≡ leads y
+    go [] e = absurd (let z = ap (λ (l : List group_t). length l) e in omega arith)
+    go (z ∷ ys) e =
+        let h : y ≡ z = g ∙ ap (λ (l : List group_t). get_or l 0 y) e in
+        let k : (nat_lt 0 q.early && nat_eq (length (z ∷ ys)) 1) ≡ false = rw e at t in
+        ap (λ (r : List Token). r ++ leads z) (not_early q.early q.front z ys k) ∙ ap (λ (u : group_t). leads u) (sym h)
+
+pub early_taken : (old new : queue_t) → (nat_lt 0 old.early && nat_eq (length old.groups.items) 1) ≡ true → new.groups.items ≡ old.groups.items → new.done ≡ old.done → new.early + 1 ≡ old.early → new.front ≡ old.front → (token : yaml_token_t) → ((e : yaml_encoding_t) → token ≡ handed_out e (BlockEnd old.front)) → TakesNext old new token
+early_taken old new t g d a f token k = λ e xs q. lead_taken e old new token xs q (λ x rest P. k e ∙ ap (λ (u : Token). handed_out e u) (is x rest P)) some (early_dropped old new t g d a f)
+  where
+    parts : (nat_lt 0 old.early ≡ true) × (nat_eq (length old.groups.items) 1 ≡ true)
+    parts = and_parts _ _ t
+
+    first : (n : ℕ) (m : yaml_mark_t) (ys : List group_t) → 0 < n → length ys ≡ 1 → (rest : List Token) × (pending n m ys ≡ BlockEnd m ∷ rest)
+    first zero m ys l e = absurd (omega arith)
+    first (suc n) m [] l e = absurd (omega (arith, e))
+    first (suc n) m (y ∷ (z ∷ ys)) l e = absurd (omega (arith, e))
+    first (suc n) m (y ∷ []) l e = (ends_at n m ++ leads y, refl)
+
+    here : (rest : List Token) × (pending old.early old.front old.groups.items ≡ BlockEnd old.front ∷ rest)
+    here = first old.early old.front old.groups.items (omega (arith, a)) (eqb-true _ _ parts.1)
+
+    some : 0 < length (pending old.early old.front old.groups.items)
+    some = let z = ap (λ (r : List Token). length r) here.1 in omega arith
+
+    is : (x : Token) (rest : List Token) → pending old.early old.front old.groups.items ≡ x ∷ rest → BlockEnd old.front ≡ x
+    is x rest P = ap (λ (r : List Token). get_or r 0 x) (sym here.1 ∙ P)
+
+pub head_taken : (old new : queue_t) (y w : group_t) (r : lead_t) (token : yaml_token_t) → (nat_lt 0 old.early && nat_eq (length old.groups.items) 1) ≡ false → 0 < length old.groups.items → y ≡ get_or old.groups.items 0 y → new.groups.items ≡ set old.groups.items 0 w → lead_tokens r y.token.start_mark ≡ take 1 (leads y) → (r ≡ NOTHING → ⊥) → leads w ≡ drop 1 (leads y) → w.token ≡ y.token
+    → ((e : yaml_encoding_t) (x : Token) → lead_tokens r y.token.start_mark ≡ x ∷ [] → token ≡ handed_out e x) → new.done ≡ old.done → new.early ≡ old.early → new.front ≡ old.front → TakesNext old new token
+head_taken old new y w r token t l g n R N L T k d a f = λ e xs q. lead_taken e old new token xs q (λ x rest P. k e x (R ∙ ap (λ (u : List Token). take 1 u) (sym here ∙ P))) (some (leads y) refl) (head_dropped old new y w t l g n L T d a f)
+  where
+    here : pending old.early old.front old.groups.items ≡ leads y
+    here = late_pending old y t l g
+
+    some : (xs : List Token) → leads y ≡ xs → 0 < length (pending old.early old.front old.groups.items)
+    some [] e = absurd (N (lead_none r _ (R ∙ ap (λ (u : List Token). take 1 u) e)))
+    some (x ∷ xs) e = let z = ap (λ (u : List Token). length u) (here ∙ e) in omega arith
+
+-- a token is taken that none comes before
+pub bare_taken : (old mid new : queue_t) (token : yaml_token_t) → IsBare old mid → TakesNext mid new token → TakesNext old new token
+bare_taken old mid new token b k = λ e xs q. let t = k e xs (rw (b.early, b.front, b.groups) q) in record {
+  first = t.first;
+  rest = t.rest;
+  is = t.is;
+  told = t.told;
+  queue = t.queue;
+  count = (let c = t.count in let d = b.done in let l = ap (λ (ys : List group_t). length ys) b.groups in omega arith);
+  early = (let l = t.early in let d = b.early in omega arith);
+}
 
 -- THE FIRST TOKEN
 abbrev pub IsFirst : yaml_encoding_t → List Token → yaml_token_t → Type 0

@@ -69,6 +69,11 @@ pub record IsCut (took : List yaml_token_t → Type 0) (tokens : List yaml_token
 abbrev pub Gives : (List yaml_token_t → Type 0) → Type 0 → List yaml_token_t → Result (Unit {0}) stop_t → Type 0
 Gives took refuses tokens o = MatchResult o (λ _. took tokens) (λ stop. (stop ≡ SINK) × IsCut took tokens × refuses)
 
+-- a sink was given a token, and it is told whether that is the stream end, or the sink refused it
+abbrev pub GivesNext : (List yaml_token_t → Type 0) → Type 0 → yaml_token_t → Result Bool stop_t → Type 0
+GivesNext took refuses x o = MatchResult o (λ last. (last ≡ is_end x) × took (x ∷ []))
+    (λ stop. (stop ≡ SINK) × IsCut took (x ∷ []) × refuses)
+
 -- a queue with one group more
 pub record IsPushed (q : queue_t) (y : group_t) (r : queue_t) : Type 0 where
   pub groups : r.groups.items ≡ q.groups.items ++ y ∷ []

@@ -128,6 +128,14 @@ pub record DropsLead (old new : queue_t) : Type 0 where
   pub early : new.early ≤ old.early
   pub same_early : others ≡ [] ⊎ (new.early ≡ old.early)
 
+-- No token is handed out before that of the first group, and nothing is taken.
+pub record IsBare (old new : queue_t) : Type 0 where
+  pub none : pending new.early new.front new.groups.items ≡ []
+  pub groups : new.groups.items ≡ old.groups.items
+  pub done : new.done ≡ old.done
+  pub early : new.early ≡ old.early
+  pub front : new.front ≡ old.front
+
 -- the first token is taken
 pub record Takes (e : yaml_encoding_t) (old new : queue_t) (token : yaml_token_t) (xs : List Token) : Type 0 where
   pub first : Token
@@ -137,6 +145,17 @@ pub record Takes (e : yaml_encoding_t) (old new : queue_t) (token : yaml_token_t
   pub queue : IsQueue e new.early new.front new.groups.items rest
   pub count : new.done + length new.groups.items ≡ old.done + length old.groups.items
   pub early : new.early ≤ old.early
+
+-- the first token is taken, whatever the encoding
+abbrev pub TakesNext : queue_t → queue_t → yaml_token_t → Type 0
+TakesNext old new token = (e : yaml_encoding_t) (xs : List Token) → IsQueue e old.early old.front old.groups.items xs
+    → Takes e old new token xs
+
+-- what is handed out before the token of the first group is taken, at its mark
+abbrev pub TakesLead : queue_t → queue_t → lead_t → yaml_mark_t → Type 0
+TakesLead old new lead m = (token : yaml_token_t) → (lead ≡ NOTHING → ⊥)
+    → ((e : yaml_encoding_t) (x : Token) → lead_tokens lead m ≡ x ∷ [] → token ≡ handed_out e x)
+    → TakesNext old new token
 
 -- the column on top of the stack of levels, if a lexeme does not keep it
 abbrev pub closing : Bool → Kind → yaml_mark_t → List ℕ → Option ℕ

@@ -13,7 +13,7 @@ invariant_of-parser c = let i = c.parser.inside in let v = c.parser.invariant in
     record {
       ready = λ n. inr (k.stands, k.still_open);
       peeked = λ n. (c.if-parser.false, record { stands = k.stands; still_open = k.still_open; settled = k.settled });
-      lead = λ n. c.lead.ensures c.settle.new.scanner.text.encoding;
+      lead = λ n. c.show_lead.ensures c.settle.new.scanner.text.encoding;
       reach = reach_in i.setting i.input.now c.settle.new.scanner k.stands;
       empty = v.empty;
       limit = (let a = v.limit in let b = k.limit in omega arith);

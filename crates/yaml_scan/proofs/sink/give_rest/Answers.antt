@@ -1,6 +1,5 @@
 use Rattle.std.proofs.Common.{List, [], ◌∷◌, ◌++◌, ◌∙◌, sym, inr}
 use Rattle.std.proofs.lemmas.Result.{err_from_is_err_and}
-use Rattle.yaml_text.specs.Token.{token_of}
 use Rattle.yaml_scan.specs.Token.{yaml_token_t}
 use Rattle.yaml_scan.proofs.RunningCalls.GivenTokens.{more_given, stops_on}
 use Rattle.yaml_scan.proofs.RunningCalls.GivenToEnd.{fewer_follow, given_cut, given_end, given_on, given_words}
@@ -15,61 +14,63 @@ returns-in_err-settle_to g c =
     rw (p.1, p.2) (stops_on a s i.0 i.1 (λ ys. g.S.yaml_token_sink_t.took c.args.sink.now ys c.settle_to.new.sink) (λ ys. g.S.yaml_token_sink_t.took c.tokens.sink ys c.settle_to.new.sink)
     (λ ys w. g.met.S.yaml_token_sink_t.took_more c.args.sink.now c.tokens.sink c.settle_to.new.sink i.0 ys i.2 w) c.settle_to.new.scanner.kept c.in_err-settle_to.field-0.0 g.S.yaml_token_sink_t.may_refuse c.in_err-settle_to.ensures)
 
-pub give-requires : goal.give-requires
-give-requires g c =
+pub give_next-requires-clause-words : goal.give_next-requires-clause-words
+give_next-requires-clause-words g c =
     let a = c.args.scanner.now in
     let s = c.tokens.scanner in
     let u = c.settle_to.new.scanner in
-    let t = c.take_head-token.new.scanner in
     let i = c.tokens.invariant.0 c.tokens-test.true in
     let k = c.in_ok-settle_to.ensures in
-    given_words a u t (i.0 ++ k.0) (token_of c.take_head-token.result) (more_given a s u i.0 k.0 i.1 k.1) c.take_head-token.ensures c.requires.words
+    λ t x p. given_words a u t (i.0 ++ k.0) x (more_given a s u i.0 k.0 i.1 k.1) p c.requires.words
 
 pub tokens-smaller : goal.tokens-smaller
 tokens-smaller g c =
     let a = c.args.scanner.now in
     let s = c.tokens.scanner in
     let u = c.settle_to.new.scanner in
-    let t = c.take_head-token.new.scanner in
+    let t = c.give_next.new.scanner in
+    let n = c.in_ok-last.ensures in
     let i = c.tokens.invariant.0 c.tokens-test.true in
     let k = c.in_ok-settle_to.ensures in
-    fewer_follow a u t (i.0 ++ k.0) (token_of c.take_head-token.result) (more_given a s u i.0 k.0 i.1 k.1) c.take_head-token.ensures s.taken (let h = k.1 in h.grows)
+    fewer_follow a u t (i.0 ++ k.0) n.0 (more_given a s u i.0 k.0 i.1 k.1) n.1 s.taken (let h = k.1 in h.grows)
 
 pub tokens-preserved : goal.tokens-preserved
 tokens-preserved g c =
     let a = c.args.scanner.now in
     let s = c.tokens.scanner in
     let u = c.settle_to.new.scanner in
-    let t = c.take_head-token.new.scanner in
-    let x = token_of c.take_head-token.result in
+    let t = c.give_next.new.scanner in
+    let n = c.in_ok-last.ensures in
+    let x = n.0 in
     let i = c.tokens.invariant.0 c.tokens-test.true in
     let k = c.in_ok-settle_to.ensures in
     let zs : List yaml_token_t = i.0 ++ k.0 in
     let h = more_given a s u i.0 k.0 i.1 k.1 in
-    let p = c.take_head-token.ensures in
-    let last = c.is_stream_end-last.ensures in
-    let took = g.met.S.yaml_token_sink_t.took_more c.args.sink.now c.settle_to.new.sink c.give.new.sink zs (x ∷ []) (g.met.S.yaml_token_sink_t.took_more c.args.sink.now c.tokens.sink c.settle_to.new.sink i.0 k.0 i.2 k.3) c.in_ok-give.ensures in (
+    let p = n.1 in
+    let last = n.2.0 in
+    let took = g.met.S.yaml_token_sink_t.took_more c.args.sink.now c.settle_to.new.sink c.give_next.new.sink zs (x ∷ []) (g.met.S.yaml_token_sink_t.took_more c.args.sink.now c.tokens.sink c.settle_to.new.sink i.0 k.0 i.2 k.3) n.2.1 in (
       λ e. (zs ++ x ∷ [], given_on a u t zs x h p (sym last ∙ e), took),
       λ e. (let z = given_end a u t zs x h p (sym last ∙ e) in (zs ++ x ∷ [], z.0, z.1, took)),
     )
 
-pub returns-in_err-give : goal.returns-in_err-give
-returns-in_err-give g c =
+pub returns-in_err-last : goal.returns-in_err-last
+returns-in_err-last g c =
     let a = c.args.scanner.now in
     let s = c.tokens.scanner in
     let u = c.settle_to.new.scanner in
-    let t = c.take_head-token.new.scanner in
-    let x = token_of c.take_head-token.result in
+    let t = c.give_next.new.scanner in
+    let n = c.in_err-last.ensures in
+    let x = n.0 in
     let i = c.tokens.invariant.0 c.tokens-test.true in
     let k = c.in_ok-settle_to.ensures in
     let zs : List yaml_token_t = i.0 ++ k.0 in
     let h = more_given a s u i.0 k.0 i.1 k.1 in
-    let f = c.in_err-give.ensures in
+    let f = n.2 in
     let took = g.met.S.yaml_token_sink_t.took_more c.args.sink.now c.tokens.sink c.settle_to.new.sink i.0 k.0 i.2 k.3 in
-    let q = err_from_is_err_and c.from_residual-in_err-give.result c.from_residual-in_err-give.ensures.1 in
+    let q = err_from_is_err_and c.from_residual-in_err-last.result c.from_residual-in_err-last.ensures.1 in
     rw (q.1, q.2) (inr (
       f.0,
-      given_cut a u t zs x h c.take_head-token.ensures (λ ys. g.S.yaml_token_sink_t.took c.args.sink.now ys c.give.new.sink) (λ ys. g.S.yaml_token_sink_t.took c.settle_to.new.sink ys c.give.new.sink)
-          (λ ys w. g.met.S.yaml_token_sink_t.took_more c.args.sink.now c.settle_to.new.sink c.give.new.sink zs ys took w) f.1,
+      given_cut a u t zs x h n.1 (λ ys. g.S.yaml_token_sink_t.took c.args.sink.now ys c.give_next.new.sink) (λ ys. g.S.yaml_token_sink_t.took c.settle_to.new.sink ys c.give_next.new.sink)
+          (λ ys w. g.met.S.yaml_token_sink_t.took_more c.args.sink.now c.settle_to.new.sink c.give_next.new.sink zs ys took w) f.1,
       f.2,
     ))
