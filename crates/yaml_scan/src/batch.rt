@@ -12,19 +12,19 @@ ghost use Rattle.yaml_scan.specs.inside.Ready.{IsReady};
 ghost use Rattle.yaml_scan.specs.inside.Scanning.{IsOpen, IsRunning, groups_in};
 ghost use Rattle.yaml_scan.specs.Words.{HasWords, HaveWords};
 ghost use Rattle.yaml_scan.specs.inside.Given.{told_all};
-ghost use Rattle.yaml_scan.specs.inside.Handed.{group_tokens};
+ghost use Rattle.yaml_scan.specs.inside.Handed.{Gives, group_tokens};
 ghost use Rattle.yaml_scan.specs.inside.Sent.{Drains, DrainsOrStays, HasSentOrSettled, IsPutOrReturned, IsReadyGroup};
 ghost use Rattle.yaml_scan.specs.inside.Sent.{SendsOrSettles};
 
 use crate::fault::{fault_at, stop_t};
-use crate::groups::group_t;
+use crate::groups::{group_t, is_bare};
 use crate::parser::{start, take_head, yaml_parser_t};
 use crate::scanned::yaml_scan_next;
 use crate::scanner::scanner_t;
 use crate::session::{end, is_stream_end, pass};
 use crate::settled::is_settled;
 use crate::step::step_to;
-use crate::target::{count_of, give_group, has_room_for, said_len, yaml_token_sink_t};
+use crate::target::{count_of, give, give_group, has_room_for, said_len, yaml_token_sink_t};
 use yaml_text::{yaml_encoding_t, yaml_fault_t, yaml_token_t};
 
 /// Makes steps until the head of the queue is the next token, or until the tokens of a step went to the sink. Returns
@@ -86,6 +86,27 @@ fn take_group(scanner: &mut scanner_t) -> group_t
     group
 }
 
+/// Takes the group at the head of the queue, and gives all of it to a sink. A token that is a group alone goes a way of
+/// its own, so that it is moved once.
+#[inline(always)]
+fn give_head<S: yaml_token_sink_t>(scanner: &mut scanner_t, sink: &mut S) -> Result<(), stop_t>
+    requires runs { IsRunning scanner.old }
+    requires still_open { IsOpen scanner.old }
+    requires ready { (y : group_t) × IsReadyGroup scanner.old y }
+    requires words { HaveWords (told_all scanner.old) }
+    ensures { (y : group_t) × (groups_in scanner.old ≡ y ∷ groups_in scanner.new)
+        × Drains scanner.old scanner.new (group_tokens y)
+        × Gives (λ tokens. S.took sink.old tokens sink.new) S.may_refuse (group_tokens y) result }
+{
+    if is_bare(&scanner.layout.queue) {
+        let group = take_group(scanner);
+        give(sink, group.token)
+    } else {
+        let group = take_group(scanner);
+        give_group(sink, group)
+    }
+}
+
 /// Gives groups from the head of the queue to a sink, while all tokens of the group there are settled and the sink has
 /// room for them. Returns whether it gave any.
 #[inline(always)]
@@ -99,8 +120,7 @@ fn drain<S: yaml_token_sink_t>(scanner: &mut scanner_t, sink: &mut S) -> bool
 {
     let mut any = false;
     'groups: while is_ready(scanner, sink) {
-        let group = take_group(scanner);
-        match give_group(sink, group) {
+        match give_head(scanner, sink) {
             Ok(_) => any = true,
             Err(_) => unreachable!(),
         }

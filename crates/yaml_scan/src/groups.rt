@@ -100,12 +100,22 @@ pub(crate) fn mark_key(groups: &mut VecDeque<group_t>, at: usize, opens: bool)
     }
 }
 
-/// Whether the block ends of the front are next.
+/// Whether a number is 1. This is called, and not inlined, where it is hardly ever asked: so that the test before it is
+/// all that is made elsewhere.
+#[cold]
+#[inline(never)]
+fn is_one(number: usize) -> bool
+    ensures { result ≡ nat_eq number 1 }
+{
+    number == 1
+}
+
+/// Whether the block ends of the front are next. Before the stream end there are none.
 #[inline(always)]
 pub(crate) fn is_early(queue: &queue_t) -> bool
     ensures { result ≡ (nat_lt 0 queue.now.early && nat_eq (length queue.now.groups.items) 1) }
 {
-    queue.early > 0 && queue.groups.len() == 1
+    queue.early > 0 && is_one(queue.groups.len())
 }
 
 /// Whether block ends are next.
@@ -148,6 +158,17 @@ fn lead_of(head: &group_t) -> lead_t
         } else {
             lead_t::NOTHING
         },
+    }
+}
+
+/// Whether the head of the queue hands out its token alone.
+#[inline(always)]
+pub(crate) fn is_bare(queue: &queue_t) -> bool
+    ensures { result ≡ true → (y : group_t) (ys : List group_t) → queue.now.groups.items ≡ y ∷ ys → leads y ≡ [] }
+{
+    match queue.groups.front() {
+        None => false,
+        Some(head) => matches!(lead_of(head), lead_t::NOTHING),
     }
 }
 

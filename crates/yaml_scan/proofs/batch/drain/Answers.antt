@@ -9,8 +9,8 @@ use Rattle.yaml_scan.proofs.RunningCalls.GivenTokens.{told_as}
 use Rattle.yaml_scan.proofs.RunningQueue.GroupTokens.{group_some}
 use Rattle.yaml_scan.proofs.batch.drain.Goals as goal
 
-pub take_group-group-requires-clause-words : goal.take_group-group-requires-clause-words
-take_group-group-requires-clause-words g c =
+pub give_head-requires-clause-words : goal.give_head-requires-clause-words
+give_head-requires-clause-words g c =
     let a = c.args.scanner.now in
     let s = c.groups.scanner in
     let w = drained_so_far a s (λ ts. g.S.yaml_token_sink_t.took c.args.sink.now ts c.groups.sink) c.groups.any c.requires.runs c.requires.still_open c.groups.invariant.0 in
@@ -21,23 +21,24 @@ pub groups-preserved : goal.groups-preserved
 groups-preserved g c =
     let a = c.args.scanner.now in
     let s = c.groups.scanner in
-    let t = c.take_group-group.new.scanner in
-    let y = c.take_group-group.result in
+    let t = c.give_head.new.scanner in
+    let h = c.in-Ok.ensures in
+    let y = h.0 in
     let took = g.S.yaml_token_sink_t.took in
     let w = drained_so_far a s (λ ts. took c.args.sink.now ts c.groups.sink) c.groups.any c.requires.runs c.requires.still_open c.groups.invariant.0 in
     let l = length-append w.0 (group_tokens y) in
     let n = group_some y in
     let r = c.is_ready.ensures c.groups-test.true in
     let head = r.1.head in
-    let e : r.0 ∷ r.1.others ≡ y ∷ groups_in t = sym head ∙ c.take_group-group.ensures.head in
+    let e : r.0 ∷ r.1.others ≡ y ∷ groups_in t = sym head ∙ h.1 in
     let f : y ≡ r.0 = cc in
     let b = c.groups.sink in
-    let d = c.give_group.new.sink in (
+    let d = c.give_head.new.sink in (
       (
         w.0 ++ group_tokens y,
-        more_drained a s t w.0 (group_tokens y) w.1 c.take_group-group.ensures.drains,
+        more_drained a s t w.0 (group_tokens y) w.1 h.2,
         omega arith,
-        g.met.S.yaml_token_sink_t.took_more c.args.sink.now b d w.0 (group_tokens y) w.2 c.in-Ok.ensures,
+        g.met.S.yaml_token_sink_t.took_more c.args.sink.now b d w.0 (group_tokens y) w.2 h.3,
       ),
-      λ v. r.2 (c.groups.invariant.1 v) d (subst (λ (z : group_t). took b (group_tokens z) d) f c.in-Ok.ensures),
+      λ v. r.2 (c.groups.invariant.1 v) d (subst (λ (z : group_t). took b (group_tokens z) d) f h.3),
     )
