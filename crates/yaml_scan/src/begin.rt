@@ -1,11 +1,13 @@
 //! What comes before a lexeme is read: the kind has to be allowed there, and what is kept of it needs room.
 ghost use Rattle.std.specs.Prelude.{Bool, List, ◌≡◌, ◌⊎◌, true, MatchResult};
 ghost use Rattle.yaml_text.specs.Fault.{memory_fault};
+ghost use Rattle.yaml_lexeme.specs.declared.kind.yaml_lexeme_kind_t.{yaml_lexeme_kind_t};
 ghost use Rattle.yaml_scan.specs.Laid.{Laid};
 ghost use Rattle.yaml_scan.specs.inside.Scanning.{Beside, CanRead, Comes, HasRoom, IsMet, Refuses, Stays, allowed_in};
 ghost use Rattle.yaml_scan.specs.inside.Stop.{fault_at};
 
 use crate::allowed::is_key_allowed;
+use crate::depth::is_flow_start;
 use crate::fault::{stop_t, stopped};
 use crate::look::{cleared_by, refused_by, step_of};
 use crate::met::step_t;
@@ -13,20 +15,22 @@ use crate::scanner::scanner_t;
 use crate::stop::{stop_at_kind, stop_at_start};
 use yaml_lexeme::yaml_lexeme_kind_t;
 
-/// Whether there is room for one more depth, level and group.
+/// Whether there is room for what the step of a lexeme of a kind may keep: for one more group, for one more depth if it
+/// enters one, and for one more level outside flow collections.
 #[inline(always)]
-fn has_room(scanner: &scanner_t) -> bool
-    ensures { result ≡ true → HasRoom scanner.now }
+fn has_room(scanner: &scanner_t, in_flow: bool, kind: yaml_lexeme_kind_t) -> bool
+    ensures { result ≡ true → HasRoom scanner.now in_flow kind }
 {
-    scanner.slots.outer.len() < scanner.slots.outer.capacity()
-        && scanner.layout.levels.len() < scanner.layout.levels.capacity()
+    (!is_flow_start(kind) || scanner.slots.outer.len() < scanner.slots.outer.capacity())
+        && (in_flow || scanner.layout.levels.len() < scanner.layout.levels.capacity())
         && scanner.layout.queue.groups.len() < scanner.layout.queue.groups.capacity()
 }
 
 /// Makes room for one more depth, level and group.
 #[cold]
 fn make_room(scanner: &mut scanner_t) -> Result<(), stop_t>
-    ensures { MatchResult result (λ _. HasRoom scanner.new × Beside scanner.old scanner.new)
+    ensures { MatchResult result (λ _. ((in_flow : Bool) (k : yaml_lexeme_kind_t) → HasRoom scanner.new in_flow k)
+        × Beside scanner.old scanner.new)
         (λ stop. (fault_at stop scanner.new.kept ≡ memory_fault) × Stays scanner.old scanner.new) }
 {
     scanner.slots.outer.reserve(1)?;
@@ -35,16 +39,22 @@ fn make_room(scanner: &mut scanner_t) -> Result<(), stop_t>
     Ok(())
 }
 
-/// Sees that there is room for one more depth, level and group.
+/// Sees that there is room for what the step of a lexeme of a kind may keep.
 #[inline(always)]
-fn ensure_room(scanner: &mut scanner_t) -> Result<(), stop_t>
-    ensures { MatchResult result (λ _. HasRoom scanner.new × Beside scanner.old scanner.new)
+fn ensure_room(
+    scanner: &mut scanner_t,
+    in_flow: bool,
+    kind: yaml_lexeme_kind_t,
+) -> Result<(), stop_t>
+    ensures { MatchResult result (λ _. HasRoom scanner.new in_flow kind × Beside scanner.old scanner.new)
         (λ stop. (fault_at stop scanner.new.kept ≡ memory_fault) × Stays scanner.old scanner.new) }
 {
-    if has_room(scanner) {
-        Ok(())
-    } else {
-        make_room(scanner)
+    if has_room(scanner, in_flow, kind) {
+        return Ok(());
+    }
+    match make_room(scanner) {
+        Ok(_) => Ok(()),
+        Err(stop) => Err(stopped(stop)),
     }
 }
 
@@ -91,7 +101,7 @@ pub(crate) fn begin_step(
         Ok(_) => {}
         Err(stop) => return Err(stopped(stop)),
     }
-    match ensure_room(scanner) {
+    match ensure_room(scanner, in_flow, kind) {
         Ok(_) => Ok(step_of(scanner, in_flow, kind, allowed)),
         Err(stop) => Err(stopped(stop)),
     }

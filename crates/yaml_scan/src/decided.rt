@@ -19,7 +19,7 @@ ghost use Rattle.yaml_text.specs.declared.types.yaml_mark_t.{yaml_mark_t};
 ghost use Rattle.yaml_text.specs.Token.{TokenData};
 ghost use Rattle.yaml_lexeme.specs.Lexeme.{Lexeme};
 ghost use Rattle.yaml_scan.specs.Groups.Token.{BlockEnd};
-ghost use Rattle.yaml_scan.specs.Kind.{is_stream_end};
+ghost use Rattle.yaml_scan.specs.Kind.{is_flow_start, is_stream_end};
 ghost use Rattle.yaml_scan.specs.Levels.{stays};
 ghost use Rattle.yaml_scan.specs.inside.Queue.{ends_at};
 ghost use Rattle.yaml_scan.specs.inside.Scanning.{CanLayAll, IsDecided, IsUndecided, LaysTwo, groups_in};
@@ -112,11 +112,11 @@ fn mapping_start(opens: bool) -> block_t
 }
 
 /// Closes the levels that the candidate of a step does not keep. If it is a key in a column above the others, opens
-/// that; there is room for it. Returns how many levels end at the candidate, and what it opens.
+/// that; outside flow there is room for it. Returns how many levels end at the candidate, and what it opens.
 #[inline(always)]
 fn lay_candidate(levels: &mut Vec<u64>, step: step_t, key: bool) -> (usize, block_t)
     requires falls { IsFalling (reverse levels.old.items) }
-    requires room { vec_len levels.old < vec_capacity levels.old }
+    requires room { step.in_flow ≡ false → vec_len levels.old < vec_capacity levels.old }
     requires last { is_stream_end step.kind ≡ false }
     ensures levels { (kept : List ℕ) × (reverse kept
         ≡ filter (stays step.in_flow step.kind step.new.start) (reverse levels.old.items))
@@ -134,10 +134,10 @@ fn lay_candidate(levels: &mut Vec<u64>, step: step_t, key: bool) -> (usize, bloc
     (closed.ends, mapping_start(opens))
 }
 
-/// Drops the candidate, the only one, at what decides it, which may be a flow end. There is room for one more depth.
+/// Drops the candidate, the only one, at what decides it, which may be a flow end, and is no flow start.
 #[inline(always)]
 fn drop_candidate(slots: &mut slots_t, kind: yaml_lexeme_kind_t)
-    requires { vec_len slots.old.outer < vec_capacity slots.old.outer }
+    requires { is_flow_start kind ≡ false }
     ensures outer { slots.new.outer.items ≡ nested_outer kind slots.old.outer.items None }
     ensures top { slots.new.top ≡ nested_top kind slots.old.outer.items None }
     ensures empty { slots.new.not_simple_keys ≡ vec_len slots.new.outer }

@@ -1,5 +1,5 @@
 //! Flow depth: how many flow collections are open (YAML 1.1, chapter 10, Collection Styles).
-ghost use Rattle.std.specs.Prelude.{◌≡◌, ◌<◌, ◌||◌, vec_len};
+ghost use Rattle.std.specs.Prelude.{◌≡◌, ◌<◌, ◌||◌, true, vec_len};
 ghost use Rattle.std.specs.Vec.{vec_capacity};
 ghost use Rattle.yaml_scan.specs.Kind as kinds;
 ghost use Rattle.yaml_scan.specs.inside.Slots.{nested_outer, nested_top};
@@ -35,10 +35,10 @@ pub(crate) fn nests(kind: yaml_lexeme_kind_t) -> bool
     is_flow_start(kind) || is_flow_end(kind)
 }
 
-/// Enters a depth at a flow start, and leaves one at a flow end. There is room for one more.
+/// Enters a depth at a flow start, for which there is room, and leaves one at a flow end.
 #[inline(always)]
 pub(crate) fn nest(slots: &mut slots_t, kind: yaml_lexeme_kind_t)
-    requires { vec_len slots.old.outer < vec_capacity slots.old.outer }
+    requires { kinds.is_flow_start kind ≡ true → vec_len slots.old.outer < vec_capacity slots.old.outer }
     ensures outer { slots.new.outer.items ≡ nested_outer kind slots.old.outer.items slots.old.top }
     ensures top { slots.new.top ≡ nested_top kind slots.old.outer.items slots.old.top }
 {

@@ -1,7 +1,8 @@
 //! Simple keys: the candidate of each flow depth, which a `:` may yet make a key (YAML 1.1, 10.2 Mappings, simple
 //! keys).
 ghost use Rattle.std.specs.Prelude.{◌≡◌, ◌+◌, ◌-◌, ◌<◌, ◌&&◌, ◌++◌, ◌∷◌, [], Option, None, map, vec_len};
-ghost use Rattle.std.specs.Prelude.{length, nat_lt};
+ghost use Rattle.std.specs.Prelude.{length, nat_lt, true};
+ghost use Rattle.yaml_scan.specs.Kind.{is_flow_start};
 ghost use Rattle.std.specs.Option.{is_some};
 ghost use Rattle.std.specs.Vec.{vec_capacity};
 ghost use Rattle.yaml_scan.specs.inside.Slots.{is_live, still_held, lost_held, needed, slot_after, root_of, step_of};
@@ -61,14 +62,24 @@ pub(crate) fn lost_at(
     }
 }
 
-/// Whether a required candidate is stale at a mark.
+/// Whether a required candidate is stale at a mark. Inside a flow collection few are required, so that is asked first,
+/// and outside most are live.
 #[inline(always)]
-pub(crate) fn is_lost(slot: Option<candidate_t>, limit: u64, mark: yaml_mark_t) -> bool
+pub(crate) fn is_lost(
+    slot: Option<candidate_t>,
+    in_flow: bool,
+    limit: u64,
+    mark: yaml_mark_t,
+) -> bool
     ensures { result ≡ is_some (lost_held limit mark slot) }
 {
     match slot {
         None => false,
-        Some(held) => held.required && !is_still_live(limit, mark, held),
+        Some(held) => if in_flow {
+            held.required && !is_still_live(limit, mark, held)
+        } else {
+            !is_still_live(limit, mark, held) && held.required
+        },
     }
 }
 
@@ -228,13 +239,14 @@ fn step_of(held: Option<candidate_t>) -> u64
     }
 }
 
-/// Gives up what is stale at a mark, and changes the depth after the lexeme of a step. There is room for one.
+/// Gives up what is stale at a mark, and changes the depth after the lexeme of a step. There is room for the one that it
+/// enters.
 #[inline(always)]
 pub(crate) fn move_slots(slots: &mut slots_t, step: step_t, limit: u64, mark: yaml_mark_t)
     requires flow { step.in_flow ≡ nat_lt 0 (vec_len slots.old.outer) }
     requires empty { slots.old.not_simple_keys ≡ empty_slots slots.old.outer.items }
     requires nested { AreNested slots.old.outer.items }
-    requires room { vec_len slots.old.outer < vec_capacity slots.old.outer }
+    requires room { is_flow_start step.kind ≡ true → vec_len slots.old.outer < vec_capacity slots.old.outer }
     ensures outer { slots.new.outer.items
         ≡ nested_outer step.kind (map (still_held limit mark) slots.old.outer.items)
         (still_held limit mark slots.old.top) }

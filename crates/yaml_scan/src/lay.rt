@@ -1,11 +1,12 @@
 //! What the layout makes of a lexeme.
-ghost use Rattle.std.specs.Prelude.{◌≡◌, ◌<◌, ◌++◌, ◌∷◌, List, [], false, length, map, nat_lt, vec_len};
+ghost use Rattle.std.specs.Prelude.{◌≡◌, ◌<◌, ◌++◌, ◌∷◌, List, [], true, false, length, map, nat_lt, vec_len};
 ghost use Rattle.std.specs.Vec.{vec_capacity};
 ghost use Rattle.std.specs.VecDeque.{deque_capacity};
 ghost use Rattle.yaml_text.specs.declared.token.yaml_token_t.{yaml_token_t as code_token_t};
 ghost use Rattle.yaml_text.specs.declared.types.yaml_mark_t.{yaml_mark_t};
 ghost use Rattle.yaml_text.specs.Token.{TokenData, data_of, token_of};
 ghost use Rattle.yaml_lexeme.specs.Lexeme.{Lexeme};
+ghost use Rattle.yaml_scan.specs.Kind.{is_flow_start};
 ghost use Rattle.yaml_scan.specs.Laid.{Laid};
 ghost use Rattle.yaml_scan.specs.inside.Handed.{IsLaidAs, IsReadTo, IsTokenOf, group_with, read_to};
 ghost use Rattle.yaml_scan.specs.inside.Scanning.{CanPut, HasRoom, groups_in, met_in};
@@ -38,13 +39,14 @@ pub(crate) fn token_of(start: yaml_mark_t, lexeme: yaml_lexeme_t) -> yaml_token_
     }
 }
 
-/// Changes the candidates after the lexeme of a step, which was read to a mark. There is room for one more depth.
+/// Changes the candidates after the lexeme of a step, which was read to a mark. There is room for the depth that it
+/// enters.
 #[inline(always)]
 fn keep_candidates(slots: &mut slots_t, step: step_t, limit: u64, mark: yaml_mark_t)
     requires flow { step.in_flow ≡ nat_lt 0 (vec_len slots.old.outer) }
     requires empty { slots.old.not_simple_keys ≡ empty_slots slots.old.outer.items }
     requires nested { AreNested slots.old.outer.items }
-    requires room { vec_len slots.old.outer < vec_capacity slots.old.outer }
+    requires room { is_flow_start step.kind ≡ true → vec_len slots.old.outer < vec_capacity slots.old.outer }
     ensures outer { slots.new.outer.items
         ≡ nested_outer step.kind (map (still_held limit mark) slots.old.outer.items)
         (still_held limit mark (slot_after step.kind step.allowed step.new slots.old.top)) }
@@ -71,7 +73,7 @@ pub(crate) fn lay_lexeme(
     ghost before: { List Laid }
     requires can { (x : Lexeme) × (IsReadTo x reach passed_break × CanPut before scanner.old (groups_in scanner.old)
         (met_in scanner.old step) step.in_flow step.new x) }
-    requires room { HasRoom scanner.old }
+    requires room { HasRoom scanner.old step.in_flow step.kind }
     ensures laid { (d : TokenData) (b e : yaml_mark_t) (t : code_token_t)
         → CanPut before scanner.old (groups_in scanner.old) (met_in scanner.old step) step.in_flow step.new
         (read_to d b e reach passed_break) → IsTokenOf t d step.new.start e

@@ -147,10 +147,10 @@ fn opens_at(levels: &[u64], in_flow: bool, kind: yaml_lexeme_kind_t, column: u64
     is_new_level(levels, in_flow, column) && is_opener(kind)
 }
 
-/// Opens a level, or none. There is room for it.
+/// Opens a level, for which there is room, or none.
 #[inline(always)]
 pub(crate) fn open_level(levels: &mut Vec<u64>, opens: bool, column: u64)
-    requires { vec_len levels.old < vec_capacity levels.old }
+    requires { opens ≡ true → vec_len levels.old < vec_capacity levels.old }
     ensures { reverse levels.new.items ≡ (if opens then column ∷ [] else []) ++ reverse levels.old.items }
 {
     if opens {
@@ -165,12 +165,12 @@ pub(crate) struct layout_t {
     pub queue: queue_t,
 }
 
-/// Completes a candidate. There is room for a level.
+/// Completes a candidate. Outside flow there is room for a level.
 #[inline(always)]
 fn complete(layout: &mut layout_t, in_flow: bool, held: candidate_t)
     requires falls { IsFalling (reverse layout.old.levels.items) }
     requires fits { Fitting (Some held) layout.old.queue.done layout.old.queue.groups.items }
-    requires room { vec_len layout.old.levels < vec_capacity layout.old.levels }
+    requires room { in_flow ≡ false → vec_len layout.old.levels < vec_capacity layout.old.levels }
     ensures levels { reverse layout.new.levels.items
         ≡ (if is_new in_flow held.start.column (reverse layout.old.levels.items) then held.start.column ∷ [] else [])
         ++ reverse layout.old.levels.items }
@@ -199,11 +199,11 @@ pub(crate) fn block_start(opens: bool, kind: yaml_lexeme_kind_t) -> block_t
     }
 }
 
-/// Opens a level at the lexeme of a step, which completes nothing, if it does. There is room for one.
+/// Opens a level at the lexeme of a step, which completes nothing, if it does. Outside flow there is room for one.
 #[inline(always)]
 fn begin(levels: &mut Vec<u64>, step: step_t) -> block_t
     requires falls { IsFalling (reverse levels.old.items) }
-    requires room { vec_len levels.old < vec_capacity levels.old }
+    requires room { step.in_flow ≡ false → vec_len levels.old < vec_capacity levels.old }
     ensures levels { reverse levels.new.items
         ≡ opened step.in_flow None step.kind step.new.start (reverse levels.old.items) }
     ensures opens { result ≡ opened_by step.in_flow None step.kind step.new.start.column (reverse levels.old.items) }
@@ -214,7 +214,7 @@ fn begin(levels: &mut Vec<u64>, step: step_t) -> block_t
     block_start(opens, step.kind)
 }
 
-/// Completes a candidate, or opens a level at the lexeme of a step. There is room for one.
+/// Completes a candidate, or opens a level at the lexeme of a step. Outside flow there is room for one.
 #[inline(always)]
 pub(crate) fn put_key(
     layout: &mut layout_t,
@@ -223,7 +223,7 @@ pub(crate) fn put_key(
 ) -> block_t
     requires falls { IsFalling (reverse layout.old.levels.items) }
     requires fits { Fitting completed layout.old.queue.done layout.old.queue.groups.items }
-    requires room { vec_len layout.old.levels < vec_capacity layout.old.levels }
+    requires room { step.in_flow ≡ false → vec_len layout.old.levels < vec_capacity layout.old.levels }
     ensures levels { reverse layout.new.levels.items
         ≡ opened step.in_flow completed step.kind step.new.start (reverse layout.old.levels.items) }
     ensures groups { layout.new.queue.groups.items

@@ -326,7 +326,7 @@ fn step_at<const DIRECT: bool, S: yaml_token_sink_t>(
     let front = gap_end(&scanner.text, scanner.reach, in_flow, scanner.allowed);
     scanner.front = front;
     let root = root_at(&scanner.slots.outer, scanner.slots.top, in_flow);
-    if is_lost(root, scanner.limit, front) {
+    if is_lost(root, in_flow, scanner.limit, front) {
         return Err(stop_in_gap(scanner));
     }
     match kind_at(&scanner.text, front, in_flow) {

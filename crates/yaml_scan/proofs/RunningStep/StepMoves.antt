@@ -148,9 +148,9 @@ pub stop_from : (H : List Laid) (s t u : scanner_t) (stop : stop_t) → Stays s 
 stop_from H s t u stop e w = refuses_from H s t u stop e w
 
 -- ROOM
-pub ready : (H : List Laid) (s t : scanner_t) (in_flow : Bool) (k : Kind) → Comes H s in_flow k → IsMet H s (record { kind = k; front = s.front; allowed = allowed_in s in_flow }) → Beside s t → HasRoom t
-    → (r : step_t) → r.kind ≡ k → r.allowed ≡ allowed_in s in_flow → IsNewHeld t (met_in t r) r.in_flow r.context.level r.new → r.context.depth ≡ vec_len t.slots.outer → CanRead H t r
-ready H s t in_flow k w m b room r K A new d =
+pub ready : (H : List Laid) (s t : scanner_t) (in_flow : Bool) (k : Kind) → Comes H s in_flow k → IsMet H s (record { kind = k; front = s.front; allowed = allowed_in s in_flow }) → Beside s t
+    → (r : step_t) → HasRoom t r.in_flow r.kind → r.kind ≡ k → r.allowed ≡ allowed_in s in_flow → IsNewHeld t (met_in t r) r.in_flow r.context.level r.new → r.context.depth ≡ vec_len t.slots.outer → CanRead H t r
+ready H s t in_flow k w m b r room K A new d =
     let c = w.passes.can in
     let can : CanStep H t = record {
       holds = subst (λ (z : ℕ). Holds H (z + 1) t) (sym b.made) (with_room H (s.made + 1) s t c.holds b.text b.limit b.outer b.empty b.top b.awaited b.allowed b.levels b.groups b.done b.early b.queue_front b.reach b.taken);

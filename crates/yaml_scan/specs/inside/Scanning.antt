@@ -116,10 +116,11 @@ pub record CanLay (H : List Laid) (s : scanner_t) (ys : List group_t) (m : Met) 
   pub few_steps : s.made + 1 < 2 ^ 64
   pub met : IsMet H s m
 
--- there is room for one more depth, level and group
-pub record HasRoom (s : scanner_t) : Type 0 where
-  pub depths : vec_len s.slots.outer < vec_capacity s.slots.outer
-  pub levels : vec_len s.layout.levels < vec_capacity s.layout.levels
+-- there is room for what the step of a lexeme of kind k may keep, in flow or not: for one more group, for one more depth
+-- if it enters one, and for one more level outside flow
+pub record HasRoom (s : scanner_t) (in_flow : Bool) (k : Kind) : Type 0 where
+  pub depths : is_flow_start k ≡ true → vec_len s.slots.outer < vec_capacity s.slots.outer
+  pub levels : in_flow ≡ false → vec_len s.layout.levels < vec_capacity s.layout.levels
   pub groups : length s.layout.queue.groups.items < deque_capacity s.layout.queue.groups
 
 -- a step can be made, or two
@@ -186,7 +187,7 @@ pub record CanRead (H : List Laid) (s : scanner_t) (r : step_t) : Type 0 where
   pub depth : r.context.depth ≡ vec_len s.slots.outer
   pub within : IfSome r.context.level (λ l. l ≤ length s.text.chars)
   pub there : (text_of s).kind (nat_lt 0 r.context.depth) (front_of (text_of s) H) ≡ Some r.kind
-  pub room : HasRoom s
+  pub room : HasRoom s r.in_flow r.kind
 
 -- the same but for how much room there is
 pub record Beside (s t : scanner_t) : Type 0 where

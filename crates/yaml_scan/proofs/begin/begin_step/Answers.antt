@@ -13,8 +13,8 @@ step_of-requires-clause-line g c = let w = c.requires.passes in let b = subst (�
 
 pub returns-in-Ok-ensure_room : goal.returns-in-Ok-ensure_room
 returns-in-Ok-ensure_room g c = let s = c.args.scanner.now in let t = c.ensure_room.new.scanner in let r = c.step_of.ensures in let b = subst (λ (u : scanner_t). Beside u c.ensure_room.new.scanner) c.in-Ok.ensures.1 c.in-Ok-ensure_room.ensures.1 in (
-  ready g.before s t c.args.in_flow c.args.kind c.requires (subst (λ (a : Bool). IsMet g.before s (record { kind = c.args.kind; front = s.front; allowed = a })) c.is_key_allowed-allowed.ensures c.in-Ok.ensures.0) b c.in-Ok-ensure_room.ensures.0
-      c.step_of.result r.kind (r.allowed ∙ c.is_key_allowed-allowed.ensures) r.new r.depth,
+  ready g.before s t c.args.in_flow c.args.kind c.requires (subst (λ (a : Bool). IsMet g.before s (record { kind = c.args.kind; front = s.front; allowed = a })) c.is_key_allowed-allowed.ensures c.in-Ok.ensures.0) b
+      c.step_of.result (rw (r.flow, r.kind) c.in-Ok-ensure_room.ensures.0) r.kind (r.allowed ∙ c.is_key_allowed-allowed.ensures) r.new r.depth,
   r.kind,
   stays_same s t b,
 )
