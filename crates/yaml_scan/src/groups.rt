@@ -59,7 +59,10 @@ pub(crate) fn token_at(says: unnamed_yaml_token_t_data, mark: yaml_mark_t) -> ya
     }
 }
 
-/// Puts the first token into a queue that is empty.
+/// How many groups a queue has room for at first: so many that it seldom goes round in its room.
+const FIRST_ROOM: usize = 16;
+
+/// Puts the first token into a queue that is empty, and makes room for some more groups.
 pub(crate) fn put_stream_start(
     queue: &mut queue_t,
     encoding: yaml_encoding_t,
@@ -78,6 +81,7 @@ pub(crate) fn put_stream_start(
         column: 0,
     };
     let token = token_at(unnamed_yaml_token_t_data::STREAM_START { encoding }, zero);
+    queue.groups.reserve(FIRST_ROOM)?;
     queue.groups.push_back(group_t {
         ends: 0,
         opens: block_t::NONE,

@@ -291,7 +291,7 @@ pub(crate) fn has_room_for_both<const DIRECT: bool, S: yaml_token_sink_t>(
         → length tokens ≤ length levels.now + 4 → texts_len tokens ≤ texts → S.took sink.now tokens after
         → S.within after }
 {
-    DIRECT && sink.has_room(levels.len() as u128 + 4, texts)
+    DIRECT && sink.has_room((levels.len() + 4) as u128, texts)
 }
 
 /// Hands on the group of a step: straight to the sink if it need not wait, and else into the queue, which has room.
