@@ -216,15 +216,19 @@ fn give_up(slot: &mut Option<candidate_t>, limit: u64, mark: yaml_mark_t)
     }
 }
 
-/// The candidate of the least depth.
+/// The candidate of the least depth. So many of the lowest slots below the present depth are empty.
 #[inline(always)]
-fn lowest(slots: &slots_t) -> Option<candidate_t>
-    requires { slots.now.not_simple_keys ≡ empty_slots slots.now.outer.items }
-    ensures { result ≡ lowest (slots.now.outer.items ++ slots.now.top ∷ []) }
+fn lowest(
+    outer: &[Option<candidate_t>],
+    empty: usize,
+    top: Option<candidate_t>,
+) -> Option<candidate_t>
+    requires { empty ≡ empty_slots outer.now }
+    ensures { result ≡ lowest (outer.now ++ top ∷ []) }
 {
-    match slots.outer.get(slots.not_simple_keys) {
+    match outer.get(empty) {
         Some(slot) => *slot,
-        None => slots.top,
+        None => top,
     }
 }
 
@@ -261,13 +265,15 @@ pub(crate) fn move_slots(slots: &mut slots_t, step: step_t, limit: u64, mark: ya
         slots.awaited = step_of(slots.top);
         return;
     }
-    let below = give_up_stale(&mut slots.outer, slots.not_simple_keys, limit, mark);
-    give_up(&mut slots.top, limit, mark);
-    slots.not_simple_keys = if nests(step.kind) {
+    let empty = if nests(step.kind) {
+        let below = give_up_stale(&mut slots.outer, slots.not_simple_keys, limit, mark);
+        give_up(&mut slots.top, limit, mark);
         nest(slots, step.kind);
         count_empty(&slots.outer, below)
     } else {
-        below
+        give_up(&mut slots.top, limit, mark);
+        give_up_stale(&mut slots.outer, slots.not_simple_keys, limit, mark)
     };
-    slots.awaited = step_of(lowest(slots));
+    slots.awaited = step_of(lowest(&slots.outer, empty, slots.top));
+    slots.not_simple_keys = empty;
 }
