@@ -116,7 +116,7 @@ fn shown(low: u8x16, high: u8x16) -> u8x16
     (narrow | (surrogate | last)).select(byte, u8x16::splat(0x20))
 }
 
-/// How many of the first 16 units are characters, as far as they are looked at.
+/// How many of the first 16 units are characters by themselves. U+0085, which is seldom used, ends them too.
 #[inline(always)]
 fn plain_len(bytes: &[u8], big: bool) -> usize
     requires { 32 ≤ length bytes.now }
@@ -253,7 +253,7 @@ fn push_slots(
     Ok(())
 }
 
-/// Appends the first of 16 units as far as they are characters, of one byte or more, and returns how many they are.
+/// Appends the first of 16 units as far as they are characters of one to three bytes, and returns how many they are.
 #[inline(always)]
 fn push_mixed(out: &mut Vec<u8>, bytes: &[u8], big: bool, at: usize) -> Result<usize, AllocError>
     requires room { at + 32 ≤ length bytes.now }
@@ -290,6 +290,7 @@ fn push_units(out: &mut Vec<u8>, bytes: &[u8], big: bool, at: usize) -> Result<u
     if !is_high(unit_at(bytes, at + 2 * count, big)) {
         return push_mixed(out, bytes, big, at);
     }
+    // a pair ends them, and what stands before it has one byte each
     out.extend_from_slice(&units.to_array())?;
     out.truncate(before + count);
     Ok(count)

@@ -64,7 +64,6 @@ pub four_slots : (p q s : ℕ) (a b c d even odd v : List ℕ) → p ≡ 2 * s �
 four_slots p q s a b c d even odd v is few w e o = λ k lt.
     let i = s + k in
     let place : q + i ≡ q + s + k = omega arith in
-    let to : (j : ℕ) → get_or v j 0 ≡ get_or v j 0 = λ j. refl in
     let at0 : 4 * k ≡ 2 * (2 * k) = omega arith in
     let at1 : 4 * k + 1 ≡ 2 * (2 * k) + 1 = omega arith in
     let at2 : 4 * k + 2 ≡ 2 * (2 * k + 1) = omega arith in

@@ -111,13 +111,13 @@ first_of u = cond (top 7 (is_three u)) (plus 224 (over (u / 256) 16)) (cond (top
 abbrev pub second_of : ℕ → ℕ
 second_of u = cond (top 7 (is_three u)) (plus 128 (modulo (upper_of u) 64)) (last_of u)
 
-abbrev pub count_of : ℕ → ℕ
-count_of u = cond (top 7 (is_three u)) 3 (cond (top 7 (is_one u)) 1 2)
+abbrev pub many_of : ℕ → ℕ
+many_of u = cond (top 7 (is_three u)) 3 (cond (top 7 (is_one u)) 1 2)
 
 joined_test : (a b : Bool) → top 7 (bit_and (cond a 255 0) (cond b 255 0)) ≡ (a && b)
 joined_test a b = ap (top 7) (and_lane a b) ∙ top_of (a && b)
 
-spells_three : (u : ℕ) → 2048 ≤ u → u < 65536 → Spells u (first_of u) (second_of u) (last_of u) (count_of u)
+spells_three : (u : ℕ) → 2048 ≤ u → u < 65536 → Spells u (first_of u) (second_of u) (last_of u) (many_of u)
 spells_three u least most =
     let b : leb 8 (u / 256) ≡ true = grind (arith, nat_tests) in
     let e : plus 224 (over (u / 256) 16) ≡ 224 + u / 4096 = omega arith in
@@ -125,7 +125,7 @@ spells_three u least most =
     let g : last_of u ≡ 128 + u % 64 = omega arith in
     record { few = rw b (omega arith); bytes = rw (b, e, f, g) (sym (three u least most)) }
 
-spells_two : (u : ℕ) → 128 ≤ u → u < 2048 → Spells u (first_of u) (second_of u) (last_of u) (count_of u)
+spells_two : (u : ℕ) → 128 ≤ u → u < 2048 → Spells u (first_of u) (second_of u) (last_of u) (many_of u)
 spells_two u least most =
     let b : leb 8 (u / 256) ≡ false = grind (arith, nat_tests) in
     let j : (eqb (u / 256) 0 && ltb (u % 256) 128) ≡ false = grind (arith, nat_tests) in
@@ -134,7 +134,7 @@ spells_two u least most =
     let g : last_of u ≡ 128 + u % 64 = omega arith in
     record { few = rw (b, i) (omega arith); bytes = rw (b, i, e, g) (sym (two u least most)) }
 
-spells_one : (u : ℕ) → u < 128 → Spells u (first_of u) (second_of u) (last_of u) (count_of u)
+spells_one : (u : ℕ) → u < 128 → Spells u (first_of u) (second_of u) (last_of u) (many_of u)
 spells_one u most =
     let b : leb 8 (u / 256) ≡ false = grind (arith, nat_tests) in
     let j : (eqb (u / 256) 0 && ltb (u % 256) 128) ≡ true = grind (arith, nat_tests) in
@@ -142,7 +142,7 @@ spells_one u most =
     let e : u % 256 ≡ u = omega arith in
     record { few = rw (b, i) (omega arith); bytes = rw (b, i, e) (sym (encode_ascii u most)) }
 
-pub spells : (u : ℕ) → u < 65536 → Spells u (first_of u) (second_of u) (last_of u) (count_of u)
+pub spells : (u : ℕ) → u < 65536 → Spells u (first_of u) (second_of u) (last_of u) (many_of u)
 spells u most =
     elim (cases_lt u 128) [
       | inl a ↦ spells_one u a
@@ -179,7 +179,7 @@ pub record AreSpelled (low high : List ℕ) : Type 0 where
   pub first : Lanes (units low high) first_of (firsts low high)
   pub second : Lanes (units low high) second_of (seconds low high)
   pub third : Lanes (units low high) last_of (lasts low)
-  pub count : Lanes (units low high) count_of (counts low high)
+  pub count : Lanes (units low high) many_of (counts low high)
 
 pub are_spelled : (low high : List ℕ) → AreHalves low high → AreSpelled low high
 are_spelled low high are =
@@ -226,7 +226,7 @@ spells_at low high k are lt =
     let a : get_or (firsts low high) k 0 ≡ first_of u = lane_at us 16 k long lt s.first ∙ ap first_of is in
     let b : get_or (seconds low high) k 0 ≡ second_of u = lane_at us 16 k long lt s.second ∙ ap second_of is in
     let c : get_or (lasts low) k 0 ≡ last_of u = lane_at us 16 k long lt s.third ∙ ap last_of is in
-    let n : get_or (counts low high) k 0 ≡ count_of u = lane_at us 16 k long lt s.count ∙ ap count_of is in
+    let n : get_or (counts low high) k 0 ≡ many_of u = lane_at us 16 k long lt s.count ∙ ap many_of is in
     equal_spelling u _ _ _ _ _ _ _ _ a b c n (spells u (unit_below low high k are lt))
 
 -- ---- a byte that shows whether a unit is a character
