@@ -197,7 +197,8 @@ pub(crate) fn take_uri_text(
 {
     let piece = uri_run(cursor, listed);
     let out = Vec::from_slice(alloc, piece)?;
-    if !check_at!(cursor, '%', 0) {
+    let escaped = check_at!(cursor, '%', 0);
+    if !escaped {
         return Ok(out);
     }
     // a copy, so that the cursor itself stays in registers

@@ -4,8 +4,8 @@ use Rattle.yaml_lexeme.proofs.Readers.UriRuns.{uri_from, uri_plain}
 use Rattle.yaml_lexeme.specs.Place.{first}
 use Rattle.yaml_lexeme.proofs.uri.take_uri_text.Goals as goal
 
-pub returns-then-not-peek : goal.returns-then-not-peek
-returns-then-not-peek c =
+pub returns-then-not-escaped : goal.returns-then-not-escaped
+returns-then-not-escaped c =
     let q = c.uri_run-piece.new.cursor in
     let none : (first q == 0x25) ≡ false = grind (arith, nat_tests) in
     uri_plain c.args.listed c.args.cursor.now q c.in_ok-out.out.items (c.in_ok-out.ensures.items ∙ c.uri_run-piece.ensures.value) c.uri_run-piece.ensures.end none
