@@ -24,11 +24,13 @@ pub mod PlainLines
 pub mod BlockLines
 -- A literal or folded scalar is the same if the indentation of the line that follows is read with each line.
 pub mod BlocksAlike
--- The letters of a name are its bytes.
+-- The characters of a run of ASCII are its bytes, as in names and uris.
 pub mod NameBytes
--- The octets, escapes and characters of a uri are read one by one.
+-- A tag whose letters are no handle is a uri from its letters on.
 pub mod TagUris
+-- The octets, escapes and characters of a uri are read one by one.
 pub mod UriOctets
+-- A run of characters of a uri is many parts of it at once.
 pub mod UriRuns
 -- The decimal digits of a version are read one by one.
 pub mod DirectiveNumbers

@@ -3,7 +3,8 @@ ghost use Rattle.std.specs.Prelude.{◌≡◌, ◌+◌, ◌-◌, ◌≤◌, true
 ghost use Rattle.std.specs.List.{prefix_len, count_by};
 ghost use Rattle.std.specs.Simd.Lanes.{mask_l};
 ghost use Rattle.yaml_lexeme.specs.inside.Runs as spec;
-ghost use Rattle.yaml_lexeme.specs.declared.runs.class_t.TheVariants.{SPACE, ALPHA, URI, BLANK, IN_LINE, DOUBLE, SINGLE};
+ghost use Rattle.yaml_lexeme.specs.declared.runs.class_t.TheVariants.{SPACE, ALPHA, BLANK, IN_LINE, DOUBLE, SINGLE};
+ghost use Rattle.yaml_lexeme.specs.declared.runs.class_t.TheVariants.{URI};
 ghost use Rattle.yaml_lexeme.specs.declared.runs.class_t.TheVariants.{PLAIN, FLOW};
 
 use crate::classes::{is_alpha, is_blank, is_in_line, is_white};
