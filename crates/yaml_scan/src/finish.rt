@@ -151,7 +151,12 @@ fn check_reach(scanner: &mut scanner_t, step: step_t, lexeme: &yaml_lexeme_t) ->
         (λ stop. Refuses before scanner.old scanner.new stop) }
 {
     let reach = lexeme.reach;
-    let lost = is_lost(root_after(scanner, step), step.in_flow, scanner.limit, reach);
+    let lost = is_lost(
+        root_after(scanner, step),
+        step.in_flow,
+        scanner.limit,
+        reach,
+    );
     if scanner.near <= reach.index || lost {
         scanner.there = reach;
         return Err(stop_after(scanner, step.in_flow, step.kind, step.allowed));

@@ -243,8 +243,8 @@ fn step_of(held: Option<candidate_t>) -> u64
     }
 }
 
-/// Gives up what is stale at a mark, and changes the depth after the lexeme of a step. There is room for the one that it
-/// enters.
+/// Gives up what is stale at a mark, and changes the depth after the lexeme of a step. There is room for the one that
+/// it enters.
 #[inline(always)]
 pub(crate) fn move_slots(slots: &mut slots_t, step: step_t, limit: u64, mark: yaml_mark_t)
     requires flow { step.in_flow ≡ nat_lt 0 (vec_len slots.old.outer) }

@@ -116,8 +116,8 @@ pub record CanLay (H : List Laid) (s : scanner_t) (ys : List group_t) (m : Met) 
   pub few_steps : s.made + 1 < 2 ^ 64
   pub met : IsMet H s m
 
--- there is room for what the step of a lexeme of kind k may keep, in flow or not: for one more group, for one more depth
--- if it enters one, and for one more level outside flow
+-- there is room for what the step of a lexeme of kind k may keep, in flow or not: for one more group, for one more
+-- depth if it enters one, and for one more level outside flow
 pub record HasRoom (s : scanner_t) (in_flow : Bool) (k : Kind) : Type 0 where
   pub depths : is_flow_start k ≡ true → vec_len s.slots.outer < vec_capacity s.slots.outer
   pub levels : in_flow ≡ false → vec_len s.layout.levels < vec_capacity s.layout.levels
