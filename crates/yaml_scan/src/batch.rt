@@ -40,10 +40,10 @@ fn send_or_settle<S: yaml_token_sink_t>(
         result }
     ensures within { IfOk result (λ _. S.within sink.old → S.within sink.new) }
 {
-    let taken = scanner.taken;
+    let done = scanner.layout.queue.done;
     'steps: while !is_settled(scanner) {
         step_to::<true, S>(scanner, sink)?;
-        if scanner.taken > taken {
+        if scanner.layout.queue.done > done {
             return Ok(false);
         }
     }

@@ -1,5 +1,5 @@
 -- What goes straight to a sink that has room for it leaves the scanner that scans of these tokens leave.
-use Rattle.std.proofs.Common.{◌≡◌, ℕ, ◌-◌, ◌≤◌, ◌<◌, Bool, true, false, List, [], ◌++◌, length, length-append, ap, sym, ◌∙◌, subst, arith, inl, inr}
+use Rattle.std.proofs.Common.{◌∷◌, ◌≡◌, ℕ, ◌-◌, ◌≤◌, ◌<◌, Bool, true, false, List, [], ◌++◌, length, length-append, ap, sym, ◌∙◌, subst, arith, inl, inr}
 use Rattle.std.specs.Prelude.{◌⊎◌, Ok, Err}
 use Rattle.std.proofs.lemmas.Bool.{cases_lt}
 use Rattle.yaml_text.specs.Fault.{memory_fault}
@@ -14,7 +14,7 @@ use Rattle.yaml_scan.specs.Order.{IsHistory}
 use Rattle.yaml_scan.specs.Settled.{before, pace, steps_for}
 use Rattle.yaml_scan.specs.Token.{yaml_token_t}
 use Rattle.yaml_scan.specs.inside.Given.{HasGiven}
-use Rattle.yaml_scan.specs.inside.Handed.{Empties, StepsTo}
+use Rattle.yaml_scan.specs.inside.Handed.{groups_tokens, Empties, StepsTo}
 use Rattle.yaml_scan.specs.inside.Scanning.{CanStep, Fails, IsOpen, Makes, Refuses, Same, Stops, course_of, groups_in, history}
 use Rattle.yaml_scan.specs.inside.Sent.{Sends}
 use Rattle.yaml_scan.specs.inside.Stop.{fault_at}
@@ -143,6 +143,14 @@ module _ (a s : scanner_t) (g : Goes a s) (o : IsOpen a) (l : length (before s.l
         let r = g.runs.holds.taken in
         omega arith
 
+    some_groups : (ys : List group_t) → tokens ≡ groups_tokens ys → 0 < length ys
+    some_groups [] q = absurd (let c = ap (λ (ts : List yaml_token_t). length ts) q in let n = some_given in omega arith)
+    some_groups (y ∷ ys) q = omega arith
+
+    -- groups were taken
+    pub more_done : s.layout.queue.done < t.layout.queue.done
+    more_done = let n = some_groups zs e.all.tokens_are in let d = e.done in let u = p.2.done in omega arith
+
     pub sent : Sends a t tokens
     unfolding pace
     sent =
@@ -176,12 +184,12 @@ module _ (a s : scanner_t) (g : Goes a s) (o : IsOpen a) (l : length (before s.l
 
   -- a step goes on, or gives tokens to the sink
   pub goes : (t : scanner_t) (took : List yaml_token_t → Type 0) (refuses : Type 0) (x : Unit {0}) → StepsTo (history s) s t true took refuses (Ok x)
-      → (Goes a t × (s.made < t.made) × took []) ⊎ ((tokens : List yaml_token_t) × Sends a t tokens × took tokens)
+      → (Goes a t × (s.made < t.made) × took []) ⊎ ((tokens : List yaml_token_t) × Sends a t tokens × took tokens × (s.layout.queue.done < t.layout.queue.done))
   goes t took refuses x w = elim w.5 [
     | inl e ↦ (let m : Makes true (history s) s t (groups_in t) = subst (λ (z : scanner_t). Makes true (history s) s z (groups_in z)) (sym e.2)
         (subst (λ (zs : List group_t). Makes true (history s) s w.1 zs) e.3 (subst (λ (b : Bool). Makes b (history s) s w.1 w.2) e.0 w.4)) in
         inl (queued t m, queued_more t m, subst took e.1 w.6))
-    | inr e ↦ inr (w.0, sent w.1 w.2 w.3 w.4 t w.0 e.1, w.6)
+    | inr e ↦ inr (w.0, sent w.1 w.2 w.3 w.4 t w.0 e.1, w.6, more_done w.1 w.2 w.3 w.4 t w.0 e.1)
   ]
 
   -- or stops

@@ -26,7 +26,7 @@ steps-smaller g c =
     let i = c.steps.invariant in
     elim (goes a s i.0 c.requires.still_open (ltb-false _ _ (sym c.is_settled.ensures ∙ c.steps-test.true)) t (λ ts. g.S.yaml_token_sink_t.took c.steps.sink ts c.step_to.new.sink) g.S.yaml_token_sink_t.may_refuse _ c.in_ok-step_to.ensures.steps) [
       | inl q ↦ (let w = q.0.runs.within in let m = ap (λ (x : Course). length x.read) (course_same a t q.0.same) in let l = q.1 in omega arith)
-      | inr q ↦ (let n = q.1.taken in let m = q.1.some in absurd (omega (arith, c.if-scanner-taken.false)))
+      | inr q ↦ (let n = i.0.same.done in let m = q.3 in absurd (omega (arith, c.if-scanner-done.false)))
     ]
 
 pub steps-preserved : goal.steps-preserved
@@ -37,22 +37,22 @@ steps-preserved g c =
     let i = c.steps.invariant in
     elim (goes a s i.0 c.requires.still_open (ltb-false _ _ (sym c.is_settled.ensures ∙ c.steps-test.true)) t (λ ts. g.S.yaml_token_sink_t.took c.steps.sink ts c.step_to.new.sink) g.S.yaml_token_sink_t.may_refuse _ c.in_ok-step_to.ensures.steps) [
       | inl q ↦ (q.0, g.met.S.yaml_token_sink_t.took_more c.args.sink.now c.steps.sink c.step_to.new.sink [] [] i.1 q.2, λ w. c.in_ok-step_to.ensures.within (i.2 w))
-      | inr q ↦ (let n = q.1.taken in let m = q.1.some in absurd (omega (arith, c.if-scanner-taken.false)))
+      | inr q ↦ (let n = i.0.same.done in let m = q.3 in absurd (omega (arith, c.if-scanner-done.false)))
     ]
 
-pub returns-then-scanner-taken-clause-sends : goal.returns-then-scanner-taken-clause-sends
-returns-then-scanner-taken-clause-sends g c =
+pub returns-then-scanner-done-clause-sends : goal.returns-then-scanner-done-clause-sends
+returns-then-scanner-done-clause-sends g c =
     let a = c.args.scanner.now in
     let s = c.steps.scanner in
     let t = c.step_to.new.scanner in
     let i = c.steps.invariant in
     elim (goes a s i.0 c.requires.still_open (ltb-false _ _ (sym c.is_settled.ensures ∙ c.steps-test.true)) t (λ ts. g.S.yaml_token_sink_t.took c.steps.sink ts c.step_to.new.sink) g.S.yaml_token_sink_t.may_refuse _ c.in_ok-step_to.ensures.steps) [
-      | inl q ↦ (let n = q.0.same.taken in absurd (omega (arith, c.if-scanner-taken.true)))
+      | inl q ↦ (let n = q.0.same.done in absurd (omega (arith, c.if-scanner-done.true)))
       | inr q ↦ (q.0, q.1, g.met.S.yaml_token_sink_t.took_more c.args.sink.now c.steps.sink c.step_to.new.sink [] q.0 i.1 q.2)
     ]
 
-pub returns-then-scanner-taken-clause-within : goal.returns-then-scanner-taken-clause-within
-returns-then-scanner-taken-clause-within g c = λ w. c.in_ok-step_to.ensures.within (c.steps.invariant.2 w)
+pub returns-then-scanner-done-clause-within : goal.returns-then-scanner-done-clause-within
+returns-then-scanner-done-clause-within g c = λ w. c.in_ok-step_to.ensures.within (c.steps.invariant.2 w)
 
 pub returns-clause-sends : goal.returns-clause-sends
 returns-clause-sends g c =
