@@ -5,7 +5,7 @@ use std::test::Fail;
 use yaml_lexeme::{
     yaml_context_t, yaml_decider_at, yaml_gap, yaml_lexeme_at, yaml_lexeme_fault, yaml_lexeme_kind,
     yaml_lexeme_kind_t, yaml_lexeme_t, yaml_read_block, yaml_read_character, yaml_read_lexeme,
-    yaml_read_plain, yaml_read_quoted, yaml_refusal_t, yaml_spot_t,
+    yaml_read_name, yaml_read_plain, yaml_read_quoted, yaml_read_tag, yaml_refusal_t, yaml_spot_t,
 };
 use yaml_text::{
     unnamed_yaml_token_t_data, yaml_decode, yaml_encoding_t, yaml_error_type_t, yaml_fault_t,
@@ -233,6 +233,28 @@ fn scalar_read(
         yaml_lexeme_kind_t::LITERAL => yaml_read_block(room, &mut spot, false, context),
         yaml_lexeme_kind_t::FOLDED => yaml_read_block(room, &mut spot, true, context),
         _ => return Ok(String::from_str(alloc, "no scalar")?),
+    };
+    show_read(alloc, read, kind, spot.at)
+}
+
+/// The anchor, alias or tag at the front of a text, by the reader of its kind.
+fn named_read(alloc: Global, bytes: &[u8], depth: u64) -> Result<String, Fail> {
+    let Ok(text) = yaml_decode(alloc, bytes, ANY) else {
+        return Err("refused".into());
+    };
+    let Some(kind) = yaml_lexeme_kind(&text, FRONT, depth > 0) else {
+        return Ok(String::from_str(alloc, "no kind")?);
+    };
+    let context = yaml_context_t { depth, level: None };
+    let mut spot = yaml_spot_t {
+        text: &text,
+        at: FRONT,
+    };
+    let read = match kind {
+        yaml_lexeme_kind_t::ANCHOR => yaml_read_name(alloc, &mut spot, true),
+        yaml_lexeme_kind_t::ALIAS => yaml_read_name(alloc, &mut spot, false),
+        yaml_lexeme_kind_t::TAG => yaml_read_tag(alloc, &mut spot, context),
+        _ => return Ok(String::from_str(alloc, "no name")?),
     };
     show_read(alloc, read, kind, spot.at)
 }
@@ -1042,6 +1064,71 @@ fn lexemes_read(rt: HostRuntime) -> Result<(), Fail> {
     ];
     for (text, depth, want) in rows {
         let shown = lexeme_read(alloc, text.as_bytes(), depth)?;
+        assert_eq!(rt; shown.as_str(), want, "{text}");
+    }
+    Ok(())
+}
+
+/// Names and tags of fewer and of more than sixteen bytes, and their offences, by the readers of their kinds.
+#[test]
+fn names_and_tags_read(rt: HostRuntime) -> Result<(), Fail> {
+    let alloc = rt.alloc();
+    let rows: [(&str, u64, &str); 12] = [
+        ("&a_-9 x", 0, "anchor 615f2d39 0:0:0 5:0:5 5:0:5 false"),
+        ("*Z]", 1, "alias 5a 0:0:0 2:0:2 2:0:2 false"),
+        (
+            "*abcdefghijklmnopqrst uvwxyz012345678",
+            0,
+            "alias 6162636465666768696a6b6c6d6e6f7071727374 0:0:0 21:0:21 21:0:21 false",
+        ),
+        (
+            "*a.b xxxxxxxxxxxxxxxxxx",
+            0,
+            "while scanning an alias 0:0:0; did not find expected alphabetic or numeric character 2:0:2",
+        ),
+        (
+            "& abcdefghijklmnopqrst",
+            0,
+            "while scanning an anchor 0:0:0; did not find expected alphabetic or numeric character 1:0:1",
+        ),
+        (
+            "!abc xxxxxxxxxxxxxxxxxx",
+            0,
+            "tag 21 616263 0:0:0 4:0:4 4:0:4 false",
+        ),
+        (
+            "!a,b xxxxxxxxxxxxxxxxxx",
+            1,
+            "tag 21 61 0:0:0 2:0:2 2:0:2 false",
+        ),
+        (
+            "!a/b:c?d@e&f=g+h$i.j~l*m'n(o);_-9 x",
+            0,
+            "tag 21 612f623a633f64406526663d672b6824692e6a7e6c2a6d276e286f293b5f2d39 0:0:0 33:0:33 33:0:33 false",
+        ),
+        (
+            "!a%20b xxxxxxxxxxxxxxxxxx",
+            0,
+            "tag 21 612062 0:0:0 6:0:6 6:0:6 false",
+        ),
+        (
+            "!a!b%41c xxxxxxxxxxxxxxxxxx",
+            0,
+            "tag 216121 624163 0:0:0 8:0:8 8:0:8 false",
+        ),
+        (
+            "!!python/object:app.main.name x",
+            0,
+            "tag 2121 707974686f6e2f6f626a6563743a6170702e6d61696e2e6e616d65 0:0:0 29:0:29 29:0:29 false",
+        ),
+        (
+            "!a%2 xxxxxxxxxxxxxxxxxx",
+            0,
+            "while parsing a tag 0:0:0; did not find URI escaped octet 2:0:2",
+        ),
+    ];
+    for (text, depth, want) in rows {
+        let shown = named_read(alloc, text.as_bytes(), depth)?;
         assert_eq!(rt; shown.as_str(), want, "{text}");
     }
     Ok(())
