@@ -53,7 +53,7 @@ fn named_handle(alloc: Global, letters: &[u8]) -> Result<Vec<u8>, AllocError>
 }
 
 /// Takes letters, and a `!` and a uri, or a uri alone, after a tag's `!`.
-#[inline(always)]
+#[inline(never)]
 #[tactic(auto, unfolding(crate::specs::Tag::handled))]
 fn take_handled(
     alloc: Global,
@@ -91,15 +91,15 @@ fn take_tag_parts(
     ensures { Gives data_of result cursor.new (spec.tag_parts cursor.old) }
 {
     cursor.advance();
-    if check_at!(cursor, '<', 0) {
-        // a copy, so that the cursor itself stays in registers
-        let mut here = cursor.again();
-        let taken = take_angled(alloc, &mut here);
-        *cursor = here;
-        taken
+    // a copy, so that the cursor itself stays in registers
+    let mut here = cursor.again();
+    let taken = if check_at!(here, '<', 0) {
+        take_angled(alloc, &mut here)
     } else {
-        take_handled(alloc, cursor)
-    }
+        take_handled(alloc, &mut here)
+    };
+    *cursor = here;
+    taken
 }
 
 /// Takes a tag.

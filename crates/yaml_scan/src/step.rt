@@ -118,49 +118,33 @@ fn name_kind(anchor: bool) -> yaml_lexeme_kind_t
     }
 }
 
-/// Makes the step of an anchor or an alias.
+/// Makes the step of an anchor or an alias. Its group goes into the queue, so one function serves every sink.
 #[inline(never)]
-fn step_name<const IN_FLOW: bool, const ANCHOR: bool, const DIRECT: bool, S: yaml_token_sink_t>(
-    scanner: &mut scanner_t,
-    sink: &mut S,
-) -> Result<(), stop_t>
+fn step_name<const IN_FLOW: bool, const ANCHOR: bool>(scanner: &mut scanner_t) -> Result<(), stop_t>
     ghost before: { List Laid }
     requires { Comes before scanner.old IN_FLOW (name_kind ANCHOR) }
-    ensures steps { StepsTo before scanner.old scanner.new DIRECT (λ tokens. S.took sink.old tokens sink.new)
-        S.may_refuse result }
-    ensures within { OnOk result (S.within sink.old → S.within sink.new) }
+    ensures { IsStep before scanner.old scanner.new result }
 {
     match begin_step(scanner, IN_FLOW, name_kind(ANCHOR)) {
         Ok(step) => {
             let read = read_name(scanner, ANCHOR, step.context);
-            match lay_read::<DIRECT, S>(scanner, sink, step, read) {
-                Ok((laid, token)) => end_laid::<DIRECT, S>(scanner, sink, laid, token),
-                Err(stop) => Err(stopped(stop)),
-            }
+            end_queued(scanner, step, read)
         }
         Err(stop) => Err(stopped(stop)),
     }
 }
 
-/// Makes the step of a tag.
+/// Makes the step of a tag. Its group goes into the queue, so one function serves every sink.
 #[inline(never)]
-fn step_tag<const IN_FLOW: bool, const DIRECT: bool, S: yaml_token_sink_t>(
-    scanner: &mut scanner_t,
-    sink: &mut S,
-) -> Result<(), stop_t>
+fn step_tag<const IN_FLOW: bool>(scanner: &mut scanner_t) -> Result<(), stop_t>
     ghost before: { List Laid }
     requires { Comes before scanner.old IN_FLOW TAG }
-    ensures steps { StepsTo before scanner.old scanner.new DIRECT (λ tokens. S.took sink.old tokens sink.new)
-        S.may_refuse result }
-    ensures within { OnOk result (S.within sink.old → S.within sink.new) }
+    ensures { IsStep before scanner.old scanner.new result }
 {
     match begin_step(scanner, IN_FLOW, yaml_lexeme_kind_t::TAG) {
         Ok(step) => {
             let read = read_tag(scanner, step.context);
-            match lay_read::<DIRECT, S>(scanner, sink, step, read) {
-                Ok((laid, token)) => end_laid::<DIRECT, S>(scanner, sink, laid, token),
-                Err(stop) => Err(stopped(stop)),
-            }
+            end_queued(scanner, step, read)
         }
         Err(stop) => Err(stopped(stop)),
     }
@@ -231,9 +215,9 @@ fn step_kind<const IN_FLOW: bool, const DIRECT: bool, S: yaml_token_sink_t>(
             scanner, sink,
         ),
         yaml_lexeme_kind_t::LITERAL => step_literal::<IN_FLOW, DIRECT, S>(scanner, sink),
-        yaml_lexeme_kind_t::ALIAS => step_name::<IN_FLOW, false, DIRECT, S>(scanner, sink),
-        yaml_lexeme_kind_t::ANCHOR => step_name::<IN_FLOW, true, DIRECT, S>(scanner, sink),
-        yaml_lexeme_kind_t::TAG => step_tag::<IN_FLOW, DIRECT, S>(scanner, sink),
+        yaml_lexeme_kind_t::ALIAS => step_name::<IN_FLOW, false>(scanner),
+        yaml_lexeme_kind_t::ANCHOR => step_name::<IN_FLOW, true>(scanner),
+        yaml_lexeme_kind_t::TAG => step_tag::<IN_FLOW>(scanner),
         yaml_lexeme_kind_t::VALUE => step_character::<DIRECT, S>(
             scanner,
             sink,

@@ -287,10 +287,10 @@ fn push_units(out: &mut Vec<u8>, bytes: &[u8], big: bool, at: usize) -> Result<u
         return Ok(16);
     }
     let count = found.trailing_zeros() as usize;
-    if !is_high(unit_at(bytes, at + 2 * count, big)) {
+    if is_plain(unit_at(bytes, at + 2 * count, big)) {
         return push_mixed(out, bytes, big, at);
     }
-    // a pair ends them, and what stands before it has one byte each
+    // what is read by itself ends them, and what stands before it has one byte each
     out.extend_from_slice(&units.to_array())?;
     out.truncate(before + count);
     Ok(count)
@@ -374,7 +374,8 @@ fn push_plain(out: &mut Vec<u8>, bytes: &[u8], big: bool, start: usize) -> Resul
     Ok(at)
 }
 
-/// Appends the units from a place on, 16 at a time as long as they are characters, and returns where they end.
+/// Appends the units from a place on, 16 at a time as long as they are characters, and returns where they end. Of the
+/// last ones, which are fewer, those of one byte are left.
 #[inline(always)]
 fn push_run(out: &mut Vec<u8>, bytes: &[u8], big: bool, start: usize) -> Result<usize, AllocError>
     requires { Reads16 big bytes.now out.old.items start }
@@ -389,18 +390,21 @@ fn push_run(out: &mut Vec<u8>, bytes: &[u8], big: bool, start: usize) -> Result<
             return Ok(at);
         }
     }
+    if bytes.len() - at < 2 || unit_at(bytes, at, big) < 0x80 {
+        return Ok(at);
+    }
     push_plain(out, bytes, big, at)
 }
 
-/// Appends characters from a place on, as far as many units at a time are read, and returns where they end. A pair of
-/// units ends them.
+/// Appends characters from a place on, as far as many units at a time are read, and returns where they end. U+0085 and
+/// pairs of units end them.
 #[inline(always)]
 fn push_quick(out: &mut Vec<u8>, bytes: &[u8], big: bool, start: usize) -> Result<usize, AllocError>
     requires { Reads16 big bytes.now out.old.items start }
     ensures read { IfOk result (λ at. Reads16 big bytes.now out.new.items at) }
     ensures forward { IfOk result (λ at. start ≤ at) }
 {
-    if bytes.len() - start >= 2 && is_high(unit_at(bytes, start, big)) {
+    if bytes.len() - start >= 2 && !is_plain(unit_at(bytes, start, big)) {
         return Ok(start);
     }
     push_run(out, bytes, big, start)

@@ -1,14 +1,10 @@
-use Rattle.std.proofs.Common.{rules}
-use Rattle.yaml_scan.proofs.RunningStep.StepMoves.{read_then, stays_on, stays_read, step_to_from}
+use Rattle.yaml_scan.proofs.RunningStep.StepMoves.{read_then, stays_on, stays_read, step_from}
 use Rattle.yaml_scan.proofs.step.step_tag.Goals as goal
 
-pub lay_read-requires : goal.lay_read-requires
-lay_read-requires g c = λ κs w. let b = c.in-Ok.ensures in (search rules, (w, read_then g.before c.begin_step.new.scanner c.read_tag-read.new.scanner c.in-Ok.step _ c.read_tag-read.result b.0 b.1 c.read_tag-read.ensures))
+pub end_queued-requires : goal.end_queued-requires
+end_queued-requires g c = let b = c.in-Ok.ensures in read_then g.before c.begin_step.new.scanner c.read_tag-read.new.scanner c.in-Ok.step _ c.read_tag-read.result b.0 b.1 c.read_tag-read.ensures
 
-pub end_laid-requires : goal.end_laid-requires
-end_laid-requires g c = record { laid = (g.before, (c.read_tag-read.new.scanner, c.in-Ok-lay_read.ensures.laid)); room = c.in-Ok-lay_read.ensures.room }
-
-pub returns-in-Ok-lay_read-clause-steps : goal.returns-in-Ok-lay_read-clause-steps
-returns-in-Ok-lay_read-clause-steps g c = let b = c.in-Ok.ensures in
-    step_to_from g.before c.args.scanner.now c.read_tag-read.new.scanner c.end_laid.new.scanner _ _ _ c.end_laid.result
-    (stays_on c.args.scanner.now c.begin_step.new.scanner c.read_tag-read.new.scanner b.2 (stays_read c.begin_step.new.scanner c.read_tag-read.new.scanner _ c.in-Ok.step.context c.read_tag-read.result c.read_tag-read.ensures)) (c.end_laid.ensures.steps g.before c.read_tag-read.new.scanner c.in-Ok-lay_read.ensures.laid)
+pub returns-in-Ok : goal.returns-in-Ok
+returns-in-Ok g c = let b = c.in-Ok.ensures in
+    step_from g.before c.args.scanner.now c.read_tag-read.new.scanner c.end_queued.new.scanner c.end_queued.result
+    (stays_on c.args.scanner.now c.begin_step.new.scanner c.read_tag-read.new.scanner b.2 (stays_read c.begin_step.new.scanner c.read_tag-read.new.scanner _ c.in-Ok.step.context c.read_tag-read.result c.read_tag-read.ensures)) c.end_queued.ensures
