@@ -1,4 +1,4 @@
-use Rattle.std.proofs.Common.{arith, ℕ}
+use Rattle.std.proofs.Common.{arith}
 use Rattle.std.proofs.lemmas.Simd.{zip2_splat}
 use Rattle.yaml_lexeme.specs.declared.runs.class_t.TheVariants.{ALPHA}
 use Rattle.yaml_lexeme.specs.inside.Runs.{is_stop}
@@ -9,6 +9,5 @@ pub returns : goal.returns
 returns c =
     let v = c.args.v in
     let long = c.fits-v.0 in
-    let outside = λ (a b : ℕ). either _ _ v (zip2_splat below v 16 a long) (from_splat below b 16 v long) in
     masked _ (is_stop ALPHA) v _ (omega arith) c.fits-v.1
-    (both_hit _ _ v (outside 97 122) (both_hit _ _ v (outside 65 90) (both_hit _ _ v (outside 48 57) (both_hit _ _ v (zip2_splat miss v 16 95 long) (zip2_splat miss v 16 45 long))))) tt
+    (both_hit _ _ v (either _ _ v (zip2_splat below v 16 _ long) (from_splat below _ 16 v long)) (both_hit _ _ v (either _ _ v (zip2_splat below v 16 _ long) (from_splat below _ 16 v long)) (both_hit _ _ v (either _ _ v (zip2_splat below v 16 _ long) (from_splat below _ 16 v long)) (both_hit _ _ v (zip2_splat miss v 16 _ long) (zip2_splat miss v 16 _ long))))) tt
