@@ -114,7 +114,7 @@ fn take_header(cursor: &mut cursor_t) -> Result<header_t, yaml_refusal_t>
 
 /// Takes blanks, a comment and the break that ends the line.
 #[tactic(auto, unfolding(crate::specs::Block::after_line))]
-#[inline(always)]
+#[inline(never)]
 pub(crate) fn take_line_end(cursor: &mut cursor_t) -> Result<(), yaml_refusal_t>
     ensures { Moves result cursor.new (spec.after_line cursor.old) }
 {
