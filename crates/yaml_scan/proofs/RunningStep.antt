@@ -25,3 +25,5 @@ pub mod StepTests
 pub mod StepMoves
 -- What was laid is handed on: into the queue, or straight to a sink.
 pub mod StepHanded
+-- A lexeme that has to wait and what comes right after it are laid at once as they are laid one after the other.
+pub mod WaitingLaid

@@ -34,7 +34,7 @@ use crate::levels::{close_levels, closing, is_new_level, open_level};
 use crate::met::step_t;
 use crate::scanner::scanner_t;
 use crate::slots::slots_t;
-use crate::source::{decider_at, decider_t};
+use crate::source::decider_t;
 use yaml_lexeme::yaml_lexeme_kind_t;
 use yaml_text::yaml_mark_t;
 
@@ -59,7 +59,12 @@ fn keeps_levels(levels: &[u64], in_flow: bool, kind: yaml_lexeme_kind_t, start: 
 /// and no other token is before it. If `sparing`, its step closes no level, so that its token comes next. There is room
 /// for both.
 #[inline(always)]
-fn is_undecided(scanner: &scanner_t, sparing: bool, step: step_t, reach: yaml_mark_t) -> bool
+pub(crate) fn is_undecided(
+    scanner: &scanner_t,
+    sparing: bool,
+    step: step_t,
+    reach: yaml_mark_t,
+) -> bool
     ensures { result ≡ true → IsUndecided scanner.now sparing step reach }
 {
     is_candidate(step.kind)
@@ -74,29 +79,6 @@ fn is_undecided(scanner: &scanner_t, sparing: bool, step: step_t, reach: yaml_ma
                 step.new.start,
             ))
         && is_still_live(scanner.limit, reach, step.new)
-}
-
-/// What comes right after the lexeme of a step and decides whether it is a key, if the next token needs the steps of
-/// both, and both can be made at once. The lexeme was met, and read up to `reach`.
-#[inline(always)]
-pub(crate) fn decided_by(
-    scanner: &scanner_t,
-    sparing: bool,
-    step: step_t,
-    reach: yaml_mark_t,
-) -> Option<decider_t>
-    requires { is_candidate_kind step.kind ≡ true → (p : ℕ) × IsMarkOf scanner.now.text.chars reach p }
-    ensures { IfSome result (λ d. IsDecided scanner.now sparing step reach d.kind (lexeme_of d.lexeme)) }
-{
-    if !is_undecided(scanner, sparing, step, reach) {
-        return None;
-    }
-    let decider = decider_at(&scanner.text, reach, step.in_flow)?;
-    if decider.lexeme.reach.index < scanner.near {
-        Some(decider)
-    } else {
-        None
-    }
 }
 
 /// The start of a block mapping, or none.

@@ -41,6 +41,8 @@ pub(crate) fn nest(slots: &mut slots_t, kind: yaml_lexeme_kind_t)
     requires { kinds.is_flow_start kind ≡ true → vec_len slots.old.outer < vec_capacity slots.old.outer }
     ensures outer { slots.new.outer.items ≡ nested_outer kind slots.old.outer.items slots.old.top }
     ensures top { slots.new.top ≡ nested_top kind slots.old.outer.items slots.old.top }
+    ensures empty { slots.new.not_simple_keys ≡ slots.old.not_simple_keys }
+    ensures awaited { slots.new.awaited ≡ slots.old.awaited }
 {
     if is_flow_start(kind) {
         slots.outer.push_reserved(slots.top);

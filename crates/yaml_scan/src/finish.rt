@@ -1,5 +1,5 @@
 //! What comes after a lexeme was read: the step may have to stop, or the lexeme is laid.
-ghost use Rattle.std.specs.Prelude.{ℕ, ◌≡◌, ◌≤◌, false, List, [], IfOk, MatchResult, None, OnOk};
+ghost use Rattle.std.specs.Prelude.{ℕ, ◌≡◌, ◌≤◌, ◌||◌, false, not, List, [], IfOk, MatchResult, None, OnOk};
 ghost use Rattle.yaml_text.specs.declared.token.yaml_token_t.{yaml_token_t as code_token_t};
 ghost use Rattle.yaml_text.specs.declared.types.yaml_mark_t.{yaml_mark_t};
 ghost use Rattle.yaml_text.specs.Token.{TokenData, data_of, token_of};
@@ -16,8 +16,8 @@ ghost use Rattle.yaml_scan.specs.inside.Handed.{StepsTo, WasLaid, group_tokens, 
 ghost use Rattle.yaml_scan.specs.inside.Scanning.{CanLayAll, CanRead, IsReadIn, IsStep, Refuses};
 ghost use Rattle.yaml_scan.specs.inside.TextReads.{IsRead};
 
-use crate::decided::{decided_by, lay_decided};
 use crate::fault::{stop_t, stopped};
+use crate::follower::{follower_of, lay_followed};
 use crate::groups::{block_t, group_t};
 use crate::keys::is_lost;
 use crate::kind::is_last;
@@ -44,7 +44,7 @@ pub(crate) struct laid_t {
     pub key: bool,
     /// Whether all of it has to wait in the queue.
     pub waits: bool,
-    /// The token of what decides whether its lexeme is a key, if that was laid too.
+    /// The token of what comes right after its lexeme, if that was laid too.
     pub decider: Option<yaml_token_t>,
 }
 
@@ -96,8 +96,16 @@ fn lay_alone<S: yaml_token_sink_t>(
     (ends, opens, waits)
 }
 
-/// Lays the lexeme of a step, which was read to a mark, and with it what decides whether it is a key, if the next token
-/// needs both. Its texts have so many bytes.
+/// Whether what was laid together goes through the queue: it has to wait there, or it does not go straight to the sink.
+#[inline(always)]
+fn is_queued(waits: bool, direct: bool) -> bool
+    ensures { result ≡ (waits || not direct) }
+{
+    waits || !direct
+}
+
+/// Lays the lexeme of a step, which was read to a mark, and with it what comes right after it, if the next token needs
+/// both. Its texts have so many bytes.
 #[inline(always)]
 fn lay_all<const DIRECT: bool, S: yaml_token_sink_t>(
     scanner: &mut scanner_t,
@@ -116,15 +124,15 @@ fn lay_all<const DIRECT: bool, S: yaml_token_sink_t>(
         → S.within after) }
 {
     let direct = has_room_for_both::<DIRECT, S>(sink, &scanner.layout.levels, texts);
-    match decided_by(scanner, !direct, step, reach) {
-        Some(decider) => {
-            let (ends, opens, key) = lay_decided(scanner, step, reach, &decider);
+    match follower_of(scanner, !direct, step, reach) {
+        Some(follower) => {
+            let (ends, opens, key) = lay_followed(scanner, step, reach, &follower);
             laid_t {
                 ends,
                 opens,
                 key,
-                waits: !direct,
-                decider: Some(token_of(reach, decider.lexeme)),
+                waits: is_queued(follower.waits, direct),
+                decider: Some(token_of(reach, follower.decider.lexeme)),
             }
         }
         None => {
@@ -305,8 +313,39 @@ pub(crate) fn end_laid<const DIRECT: bool, S: yaml_token_sink_t>(
     }
 }
 
-/// Ends a step with what was read, whose group goes into the queue. Stops if it was refused.
+/// Lays what was read for a step whose groups go into the queue. Returns what was laid, and its token.
 #[inline(always)]
+pub(crate) fn lay_queued(
+    scanner: &mut scanner_t,
+    step: step_t,
+    read: Result<yaml_lexeme_t, yaml_refusal_t>,
+) -> Result<(laid_t, yaml_token_t), stop_t>
+    ghost before: { List Laid }
+    requires { CanRead before scanner.old step
+        × IsReadIn scanner.old step.kind step.context scanner.old.there read }
+    ensures { MatchResult result (λ r. WasLaid before scanner.old scanner.new false r.0 r.1)
+        (λ stop. Refuses before scanner.old scanner.new stop) }
+{
+    lay_read::<false, no_sink_t>(scanner, &no_sink_t {}, step, read)
+}
+
+/// Ends a step with what it has laid, which goes into the queue with its token.
+#[inline(always)]
+pub(crate) fn end_laid_queued(
+    scanner: &mut scanner_t,
+    laid: laid_t,
+    token: yaml_token_t,
+) -> Result<(), stop_t>
+    requires { (before : List Laid) × ((start : scanner_t) × WasLaid before start scanner.old false laid token) }
+    ensures { (before : List Laid) (start : scanner_t) → WasLaid before start scanner.old false laid token
+        → IsStep before start scanner.new result }
+{
+    end_laid::<false, no_sink_t>(scanner, &mut no_sink_t {}, laid, token)
+}
+
+/// Ends a step with what was read, whose group goes into the queue. Stops if it was refused. It is called, and not
+/// inlined, since what is inlined into it is large, and the kinds that come here are rare.
+#[inline(never)]
 pub(crate) fn end_queued(
     scanner: &mut scanner_t,
     step: step_t,
@@ -317,8 +356,8 @@ pub(crate) fn end_queued(
         × IsReadIn scanner.old step.kind step.context scanner.old.there read }
     ensures { IsStep before scanner.old scanner.new result }
 {
-    match lay_read::<false, no_sink_t>(scanner, &no_sink_t {}, step, read) {
-        Ok((laid, token)) => end_laid::<false, no_sink_t>(scanner, &mut no_sink_t {}, laid, token),
+    match lay_queued(scanner, step, read) {
+        Ok((laid, token)) => end_laid_queued(scanner, laid, token),
         Err(stop) => Err(stopped(stop)),
     }
 }

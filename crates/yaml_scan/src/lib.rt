@@ -10,6 +10,7 @@ mod decided;
 mod depth;
 mod fault;
 mod finish;
+mod follower;
 mod groups;
 mod kept;
 mod keys;
@@ -31,6 +32,7 @@ mod source;
 mod step;
 mod stop;
 mod target;
+mod waiting;
 
 pub use all::{yaml_scan_all, yaml_scan_all_limit};
 pub use batch::yaml_scan_next_to;

@@ -17,7 +17,7 @@ use crate::step::step;
 
 /// Whether the head of the queue is the token of the lowest candidate.
 #[inline(always)]
-fn is_awaited(scanner: &scanner_t) -> bool
+pub(crate) fn is_awaited(scanner: &scanner_t) -> bool
     requires { scanner.now.layout.queue.done + 1 < 2 ^ 64 }
     ensures { result ≡ (nat_eq scanner.now.slots.awaited (scanner.now.layout.queue.done + 1)
         && not (begins_with_end (pending scanner.now.layout.queue.early scanner.now.layout.queue.front

@@ -6,6 +6,7 @@ ghost use Rattle.yaml_lexeme.specs.Counted.{IsMarkOf};
 ghost use Rattle.yaml_lexeme.specs.declared.kind.yaml_lexeme_kind_t.TheVariants.{PLAIN, TAG};
 ghost use Rattle.yaml_scan.specs.SourceOf.{source_of};
 ghost use Rattle.yaml_scan.specs.inside.Scanning.{HasRead};
+ghost use Rattle.yaml_lexeme.specs.Decider.{one_on};
 ghost use Rattle.yaml_scan.specs.inside.TextReads.{IsDecider, IsRead};
 
 use crate::scanner::scanner_t;
@@ -56,8 +57,9 @@ pub(crate) struct decider_t {
 #[inline(always)]
 pub(crate) fn decider_at(text: &yaml_text_t, at: yaml_mark_t, in_flow: bool) -> Option<decider_t>
     requires { (p : ℕ) × IsMarkOf text.now.chars at p }
-    ensures { IfSome result (λ d. (p : ℕ) → IsMarkOf text.now.chars at p
+    ensures decides { IfSome result (λ d. (p : ℕ) → IsMarkOf text.now.chars at p
         → IsDecider text.now.chars in_flow p d.kind (lexeme_of d.lexeme)) }
+    ensures reach { IfSome result (λ d. (lexeme_of d.lexeme).reach ≡ one_on at) }
 {
     match yaml_decider_at(text, at, in_flow) {
         Some(kind) => Some(decider_t {

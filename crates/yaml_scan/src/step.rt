@@ -8,7 +8,7 @@ ghost use Rattle.yaml_scan.specs.inside.Scanning.{CanStep, Comes, IsStep};
 
 use crate::begin::begin_step;
 use crate::fault::{stop_t, stopped};
-use crate::finish::{end_character, end_laid, end_queued, lay_read};
+use crate::finish::{end_character, end_laid, end_laid_queued, end_queued, lay_queued, lay_read};
 use crate::keys::{is_lost, root_at};
 use crate::scanner::scanner_t;
 use crate::source::{
@@ -128,7 +128,10 @@ fn step_name<const IN_FLOW: bool, const ANCHOR: bool>(scanner: &mut scanner_t) -
     match begin_step(scanner, IN_FLOW, name_kind(ANCHOR)) {
         Ok(step) => {
             let read = read_name(scanner, ANCHOR, step.context);
-            end_queued(scanner, step, read)
+            match lay_queued(scanner, step, read) {
+                Ok((laid, token)) => end_laid_queued(scanner, laid, token),
+                Err(stop) => Err(stopped(stop)),
+            }
         }
         Err(stop) => Err(stopped(stop)),
     }
@@ -144,7 +147,10 @@ fn step_tag<const IN_FLOW: bool>(scanner: &mut scanner_t) -> Result<(), stop_t>
     match begin_step(scanner, IN_FLOW, yaml_lexeme_kind_t::TAG) {
         Ok(step) => {
             let read = read_tag(scanner, step.context);
-            end_queued(scanner, step, read)
+            match lay_queued(scanner, step, read) {
+                Ok((laid, token)) => end_laid_queued(scanner, laid, token),
+                Err(stop) => Err(stopped(stop)),
+            }
         }
         Err(stop) => Err(stopped(stop)),
     }

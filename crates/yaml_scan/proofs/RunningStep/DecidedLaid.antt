@@ -52,7 +52,7 @@ use Rattle.yaml_scan.proofs.RunningStep.StepPut.{put_advances}
 use Rattle.yaml_scan.proofs.RunningStep.StepTests.{can_put}
 use Rattle.yaml_scan.proofs.RunningStep.TestsBefore.{allowed_is, flow_is, front_mark, kind_is, root_held, row_met}
 
-and_not : (b : Bool) → (b && false) ≡ false
+pub and_not : (b : Bool) → (b && false) ≡ false
 and_not true = refl
 and_not false = refl
 
@@ -60,7 +60,7 @@ live_kept : (limit : ℕ) (m : yaml_mark_t) (h : Held) → is_live limit m h ≡
 live_kept limit m h e = rw (e, and_not h.required) refl
 
 -- the same scanner holds the same, whatever steps are counted
-counted_holds : (H : List Laid) (n : ℕ) (s : scanner_t) (ys : List group_t) → HoldsWith H n s ys → HoldsWith H n (counted s) ys
+pub counted_holds : (H : List Laid) (n : ℕ) (s : scanner_t) (ys : List group_t) → HoldsWith H n s ys → HoldsWith H n (counted s) ys
 counted_holds H n s ys h = record {
   text = h.text;
   is_history = h.is_history;
@@ -125,11 +125,11 @@ accepted true k a g e = refl
 accepted false k true g e = refl
 accepted false k false g e = rw (decider_is_value k e, decider_not_entry false k e, decider_not_key false k e) refl
 
-clears_none : (in_flow : Bool) (k : Kind) (a : Bool) → decides in_flow k ≡ true → (replaces k a && not in_flow) ≡ false
+pub clears_none : (in_flow : Bool) (k : Kind) (a : Bool) → decides in_flow k ≡ true → (replaces k a && not in_flow) ≡ false
 clears_none true k a e = and_not (replaces k a)
 clears_none false k a e = rw (decider_is_value k e) refl
 
-allows_same : (f : Bool) (k : Kind) (n : ℕ) (none b : Bool) → decides f k ≡ true → allows k n none false ≡ allows k n none b
+pub allows_same : (f : Bool) (k : Kind) (n : ℕ) (none b : Bool) → decides f k ≡ true → allows k n none false ≡ allows k n none b
 allows_same f k n none b e = rw (decider_not_plain f k e) refl
 
 -- a lexeme that was met and read

@@ -1,5 +1,5 @@
 -- What was laid is handed on: into the queue, or straight to a sink.
-use Rattle.std.proofs.Common.{◌≡◌, ℕ, ◌+◌, ◌^◌, ◌≤◌, ◌<◌, not, Bool, true, false, List, [], ◌∷◌, ◌++◌, drop, length, length-append, length-drop, append-nil, append_assoc, Option, None, Some, Ok, Err, refl, ap, sym, ◌∙◌, subst, arith, inl, inr}
+use Rattle.std.proofs.Common.{◌≡◌, ℕ, ◌+◌, ◌^◌, ◌≤◌, ◌<◌, not, ◌||◌, Bool, true, false, List, [], ◌∷◌, ◌++◌, drop, length, length-append, length-drop, append-nil, append_assoc, Option, None, Some, Ok, Err, refl, ap, sym, ◌∙◌, subst, arith, inl, inr}
 use Rattle.std.specs.Prelude.{◌⊎◌, OnOk, Result}
 use Rattle.std.specs.VecDeque.{deque_capacity}
 use Rattle.std.proofs.lemmas.Bool.{false≢true}
@@ -15,7 +15,8 @@ use Rattle.yaml_scan.specs.declared.groups.group_t.{group_t}
 use Rattle.yaml_scan.specs.declared.groups.queue_t.{queue_t}
 use Rattle.yaml_scan.specs.declared.scanner.scanner_t.{scanner_t}
 use Rattle.yaml_scan.specs.Groups.{Token, offline}
-use Rattle.yaml_scan.specs.Kind.{Kind, is_stream_end}
+use Rattle.yaml_lexeme.specs.Counted.{IsMarkOf}
+use Rattle.yaml_scan.specs.Kind.{Kind, is_candidate_kind, is_stream_end}
 use Rattle.yaml_scan.specs.Laid.{Laid, Lexeme}
 use Rattle.yaml_scan.specs.Levels.{laid}
 use Rattle.yaml_scan.specs.Token.{unnamed_yaml_token_t_data, yaml_token_t, type_of}
@@ -31,7 +32,7 @@ use Rattle.yaml_scan.proofs.SessionCalls.AnswerWords.{read_has_words}
 use Rattle.yaml_scan.proofs.Texts.LexemeReads.{decider_silent, read_says}
 use Rattle.yaml_scan.specs.inside.Handed.{AllSettled, Empties, HandsOut, IsCut, IsHanded, IsHandedOn, IsLaidAlone, IsLaidAs, IsLaidBoth, IsPushed, LaysTo, WasLaidWith, group_tokens, groups_tokens, is_end, keys_of, lone, made_by, one_done, set_queue, starts_of, told_leads, with_queue}
 use Rattle.yaml_scan.specs.inside.Queue.{IsQueue, early_before, leads, pending}
-use Rattle.yaml_scan.specs.inside.Scanning.{AdvancesTwice, AdvancesWith, CanLayAll, HoldsWith, IsDecided, IsLaidBy, LaysTwo, counted, groups_in}
+use Rattle.yaml_scan.specs.inside.Scanning.{AdvancesTwice, AdvancesWith, CanLayAll, CanStep, HoldsWith, IsFollower, IsLaidBy, LaysTwo, counted, groups_in}
 use Rattle.yaml_scan.proofs.History.KindTests.{candidate_not_end, decider_not_end}
 use Rattle.yaml_scan.specs.Sink.{said_len, texts_len}
 use Rattle.yaml_scan.specs.declared.groups.block_t.TheVariants.{NONE}
@@ -203,9 +204,10 @@ module _ (H : List Laid) (s u : scanner_t) (direct waits : Bool) (y : group_t) (
   abbrev H1 : List Laid
   H1 = laid s.limit H a.first.lexeme ∷ H
 
-  both_long : length (groups_tokens both) ≡ length (group_tokens y) + length (group_tokens z)
+  both_long : length (group_tokens y) + length (group_tokens z) ≤ length (groups_tokens both)
   both_long =
-      let e = ap (λ (ys : List group_t). length (groups_tokens (ys ++ y ∷ (z ∷ [])))) B.alone in
+      let e = ap (λ (ts : List yaml_token_t). length ts) (groups_append (groups_in u) (y ∷ (z ∷ []))) in
+      let a = length-append (groups_tokens (groups_in u)) (groups_tokens (y ∷ (z ∷ []))) in
       let b = length-append (group_tokens y) (groups_tokens (z ∷ [])) in
       let c = length-append (group_tokens z) [] in omega arith
 
@@ -226,11 +228,11 @@ module _ (H : List Laid) (s u : scanner_t) (direct waits : Bool) (y : group_t) (
       let few = B.few in
       let b = length-append (groups_in u) (y ∷ (z ∷ [])) in omega arith
 
-  both_settled : AllSettled u both (group_tokens y ++ group_tokens z)
-  both_settled = record {
-    awaited = B.awaited;
+  both_settled : waits ≡ false → AllSettled u both (group_tokens y ++ group_tokens z)
+  both_settled straight = record {
+    awaited = B.awaited straight;
     early = B.early;
-    tokens_are = rw B.alone (ap (λ (l : List yaml_token_t). group_tokens y ++ l) (sym (append-nil (group_tokens z))));
+    tokens_are = rw (B.alone straight) (ap (λ (l : List yaml_token_t). group_tokens y ++ l) (sym (append-nil (group_tokens z))));
     no_end = list_any-append is_end (group_tokens y) (group_tokens z) ∙ (rw (group_no_end y B.no_end, group_no_end z B.decider_no_end) refl);
   }
 
@@ -245,12 +247,12 @@ module _ (H : List Laid) (s u : scanner_t) (direct waits : Bool) (y : group_t) (
         let F : v ≡ with_queue u v.layout.queue = f ∙ ap (λ (x : scanner_t). with_queue x v.layout.queue) e in
         inr (refl, subst (λ (x : scanner_t). LaysTwo waits H s x (groups_in v)) (sym F) w)
 
-    both_emptied : (k l : List yaml_token_t) → k ≡ group_tokens y → l ≡ group_tokens z → t ≡ set_queue u (one_done u.layout.queue) (u.taken + length k) → v ≡ set_queue t (one_done t.layout.queue) (t.taken + length l) → Empties u both v (k ++ l)
-    both_emptied k l K M e f =
-        let S : AllSettled u both (k ++ l) = subst (λ (ts : List yaml_token_t). AllSettled u both ts) (sym (ap (λ (ts : List yaml_token_t). ts ++ l) K ∙ ap (λ (ts : List yaml_token_t). group_tokens y ++ ts) M)) both_settled in
+    both_emptied : waits ≡ false → (k l : List yaml_token_t) → k ≡ group_tokens y → l ≡ group_tokens z → t ≡ set_queue u (one_done u.layout.queue) (u.taken + length k) → v ≡ set_queue t (one_done t.layout.queue) (t.taken + length l) → Empties u both v (k ++ l)
+    both_emptied straight k l K M e f =
+        let S : AllSettled u both (k ++ l) = subst (λ (ts : List yaml_token_t). AllSettled u both ts) (sym (ap (λ (ts : List yaml_token_t). ts ++ l) K ∙ ap (λ (ts : List yaml_token_t). group_tokens y ++ ts) M)) (both_settled straight) in
         let F : v ≡ set_queue (set_queue u (one_done u.layout.queue) (u.taken + length k)) (one_done (one_done u.layout.queue)) (u.taken + length k + length l) = f ∙ ap (λ (x : scanner_t). set_queue x (one_done x.layout.queue) (x.taken + length l)) e in
         let n = length-append k l in
-        let alone = ap (λ (ys : List group_t). length ys) B.alone in
+        let alone = ap (λ (ys : List group_t). length ys) (B.alone straight) in
         let w : Empties u both (set_queue (set_queue u (one_done u.layout.queue) (u.taken + length k)) (one_done (one_done u.layout.queue)) (u.taken + length k + length l)) (k ++ l) = record {
           all = S;
           text = refl;
@@ -263,8 +265,8 @@ module _ (H : List Laid) (s u : scanner_t) (direct waits : Bool) (y : group_t) (
           reach = refl;
           made = refl;
           early = B.early;
-          groups = B.alone;
-          done = rw B.alone (omega arith);
+          groups = B.alone straight;
+          done = rw (B.alone straight) (omega arith);
           taken = omega arith;
         } in subst (λ (x : scanner_t). Empties u both x (k ++ l)) (sym F) w
 
@@ -272,10 +274,10 @@ module _ (H : List Laid) (s u : scanner_t) (direct waits : Bool) (y : group_t) (
     both_handed k l (inl p) (inl q) g = ([], v, groups_in v, waits, both_queued p.2 p.3 q.2 q.3, inl (is_sparing direct waits B.straight p.0, refl, refl, refl), subst took (ap (λ (ts : List yaml_token_t). ts ++ l) p.1 ∙ q.1) g)
     both_handed k l (inl p) (inr q) g = absurd (false≢true (sym q.1 ∙ p.0 q.0))
     both_handed k l (inr p) (inl q) g = absurd (false≢true (sym p.1 ∙ q.0 p.0))
-    both_handed k l (inr p) (inr q) g = (k ++ l, u, both, waits, inr (refl, B.laid), inr (p.0, both_emptied k l p.2 q.2 p.3 q.3), g)
+    both_handed k l (inr p) (inr q) g = (k ++ l, u, both, waits, inr (refl, B.laid), inr (p.0, both_emptied p.1 k l p.2 q.2 p.3 q.3), g)
 
     cut : (stop : stop_t) → direct ≡ true → waits ≡ false → stop ≡ SINK → IsCut took (group_tokens y ++ group_tokens z) → refuses → LaysTo H s v direct took refuses (Err stop)
-    cut stop d w e c r = (e, (2, group_tokens y ++ group_tokens z, u, both, laid_all w, d, both_settled, c), r)
+    cut stop d w e c r = (e, (2, group_tokens y ++ group_tokens z, u, both, laid_all w, d, both_settled w, c), r)
 
     -- a token of the first was refused
     pub first_cut : (stop : stop_t) → IsHandedOn direct waits u v y took refuses (Err stop) → LaysTo H s v direct took refuses (Err stop)
@@ -290,8 +292,8 @@ module _ (H : List Laid) (s u : scanner_t) (direct waits : Bool) (y : group_t) (
   pub first_done : (v : scanner_t) (k : List yaml_token_t) → IsHanded direct waits u v y k → (length (groups_in v) < deque_capacity v.layout.queue.groups) × (v.layout.queue.done + 1 < 2 ^ 64) × (v.taken + length (group_tokens z) < 2 ^ 128)
   first_done v k (inl p) =
       let q = p.2 in
-      let g : groups_in v ≡ y ∷ [] = q.groups ∙ ap (λ (ys : List group_t). ys ++ y ∷ []) B.alone in
-      let n = ap (λ (ys : List group_t). length ys) g in
+      let n = ap (λ (ys : List group_t). length ys) q.groups in
+      let g = length-append (groups_in u) (y ∷ []) in
       let c = q.capacity in
       let d = q.done in
       let e = ap (λ (x : scanner_t). x.taken) p.3 in
@@ -301,7 +303,7 @@ module _ (H : List Laid) (s u : scanner_t) (direct waits : Bool) (y : group_t) (
       (omega arith, omega arith, omega arith)
   first_done v k (inr p) =
       let n = ap (λ (x : scanner_t). length (groups_in x)) p.3 in
-      let m = ap (λ (ys : List group_t). length ys) B.alone in
+      let m = ap (λ (ys : List group_t). length ys) (B.alone p.1) in
       let c = ap (λ (x : scanner_t). deque_capacity x.layout.queue.groups) p.3 in
       let d = ap (λ (x : scanner_t). x.layout.queue.done) p.3 in
       let e = ap (λ (x : scanner_t). x.taken) p.3 in
@@ -324,7 +326,6 @@ module _ (H : List Laid) (s u : scanner_t) (direct waits : Bool) (y : group_t) (
 pub can_hand : (H : List Laid) (s u : scanner_t) (direct waits : Bool) (y : group_t) (o : Option code_token_t) → WasLaidWith H s u direct waits y o → (length (groups_in u) < deque_capacity u.layout.queue.groups) × HasWords (token_of y.token).token_data × (u.layout.queue.done + 1 < 2 ^ 64) × (u.taken + length (group_tokens y) < 2 ^ 128)
 can_hand H s u direct waits y None w = let A = w.1 in (A.room, A.words, done_there H s u w.0 y A.laid A.far A.says A.few, few_there H s u w.0 y A.laid A.far A.says A.few)
 can_hand H s u direct waits y (Some t) B =
-    let n = ap (λ (ys : List group_t). length ys) B.alone in
     let r = B.room in
     let d = done_both H s u direct waits y t B in
     let f = few_both H s u direct waits y t B in
@@ -355,45 +356,71 @@ both_given direct waits u t v y z k l (inl p) (inr q) = absurd (false≢true (sy
 both_given direct waits u t v y z k l (inr p) (inl q) = absurd (false≢true (sym p.1 ∙ q.0 p.0))
 both_given direct waits u t v y z k l (inr p) (inr q) = inr (p.1, p.2, q.2)
 
--- WHAT DECIDES
-module _ (direct : Bool) (H : List Laid) (s : scanner_t) (r : step_t) (x : yaml_lexeme_t) (c : CanLayAll H s r x) (k : Kind) (w : yaml_lexeme_t) (d : IsDecided s (not direct) r x.reach k w) where
-  decider_there : IsDecider s.text.chars r.in_flow (read_place H s r x c (let u = d.undecided in u.candidate)).0 k w
-  decider_there = let p = read_place H s r x c (let u = d.undecided in u.candidate) in d.decider p.0 p.1
+-- WHAT COMES RIGHT AFTER A CANDIDATE
+module _ (H : List Laid) (s : scanner_t) (r : step_t) (x : yaml_lexeme_t) (c : CanLayAll H s r x) (candidate : is_candidate_kind r.kind ≡ true) (k : Kind) (w : yaml_lexeme_t) (d : (p : ℕ) → IsMarkOf s.text.chars x.reach p → IsDecider s.text.chars r.in_flow p k w) where
+  decider_there : IsDecider s.text.chars r.in_flow (read_place H s r x c candidate).0 k w
+  decider_there = let p = read_place H s r x c candidate in d p.0 p.1
 
   pub decider_words : (t : unnamed_yaml_token_t_data) → t ≡ w.token_data → HasWords t
   decider_words t e =
-      let p = read_place H s r x c (let u = d.undecided in u.candidate) in
+      let p = read_place H s r x c candidate in
       subst (λ (z : unnamed_yaml_token_t_data). HasWords z) (sym e) (read_has_words s.text.chars k 0 None p.0 w (let q = decider_there in q.read 0 None))
 
   pub decider_says : (t : unnamed_yaml_token_t_data) → t ≡ w.token_data → is_last_type (type_of t) ≡ false
   decider_says t e =
-      let p = read_place H s r x c (let u = d.undecided in u.candidate) in
+      let p = read_place H s r x c candidate in
       let q = decider_there in
       ap (λ (z : unnamed_yaml_token_t_data). is_last_type (type_of z)) e
       ∙ (let v = read_says s.text.chars k 0 None p.0 w (q.read 0 None) in v.last)
       ∙ decider_not_end r.in_flow k q.decides
 
   pub candidate_says : (t : unnamed_yaml_token_t_data) → t ≡ x.token_data → is_last_type (type_of t) ≡ false
-  candidate_says t e = says_there H s r x c t e ∙ candidate_not_end r.kind (let u = d.undecided in u.candidate)
-
-  pub alone_there : (q : queue_t) → q ≡ s.layout.queue → q.groups.items ≡ []
-  alone_there q e = ap (λ (z : queue_t). z.groups.items) e ∙ (let u = d.undecided in u.alone)
+  candidate_says t e = says_there H s r x c t e ∙ candidate_not_end r.kind candidate
 
   pub early_there : (q : queue_t) → q ≡ s.layout.queue → q.early ≡ 0
   early_there q e = ap (λ (z : queue_t). z.early) e ∙ c.can.can.holds.early c.can.can.running
 
-  pub room_there : (q : queue_t) → q ≡ s.layout.queue → 1 < deque_capacity q.groups
-  room_there q e = let u = d.undecided in let l = u.room in let m = ap (λ (z : queue_t). deque_capacity z.groups) e in omega arith
-
--- GROUPS THAT GO TO A SINK IF IT HAS ROOM
-module _ (direct : Bool) (H : List Laid) (s : scanner_t) (r : step_t) (x : yaml_lexeme_t) (c : CanLayAll H s r x) (k : Kind) (w : yaml_lexeme_t) (d : IsDecided s (not direct) r x.reach k w) where
-  -- what decides has no text
+  -- it has no text
   pub decider_len : (t : unnamed_yaml_token_t_data) → t ≡ w.token_data → said_len t ≡ 0
   decider_len t e =
-      let p = read_place H s r x c (let u = d.undecided in u.candidate) in
-      let q = d.decider p.0 p.1 in
+      let p = read_place H s r x c candidate in
+      let q = decider_there in
       ap said_len e ∙ decider_silent s.text.chars r.in_flow k 0 None p.0 w q.decides (q.read 0 None)
 
+-- WHAT FOLLOWS, WAITING OR NOT
+module _ (s : scanner_t) (sparing : Bool) (r : step_t) (at : yaml_mark_t) where
+  pub follower_candidate : (waits : Bool) (k : Kind) (w : yaml_lexeme_t) → IsFollower s sparing r at waits k w → is_candidate_kind r.kind ≡ true
+  follower_candidate true k w f = let u = f.waits in u.candidate
+  follower_candidate false k w f = let u = f.undecided in u.candidate
+
+  pub follower_decides : (waits : Bool) (k : Kind) (w : yaml_lexeme_t) → IsFollower s sparing r at waits k w → (p : ℕ) → IsMarkOf s.text.chars at p → IsDecider s.text.chars r.in_flow p k w
+  follower_decides true k w f = f.decider
+  follower_decides false k w f = f.decider
+
+  -- both find room in the queue
+  pub follower_room : (waits : Bool) (k : Kind) (w : yaml_lexeme_t) → IsFollower s sparing r at waits k w → (q : queue_t) → q ≡ s.layout.queue → length q.groups.items + 1 < deque_capacity q.groups
+  follower_room true k w f q e =
+      let u = f.waits in
+      let l = u.room in
+      let n = ap (λ (z : queue_t). length z.groups.items) e in
+      let m = ap (λ (z : queue_t). deque_capacity z.groups) e in omega arith
+  follower_room false k w f q e =
+      let u = f.undecided in
+      let l = u.room in
+      let n = ap (λ (z : queue_t). length z.groups.items) e in
+      let i = ap (λ (ys : List group_t). length ys) u.alone in
+      let m = ap (λ (z : queue_t). deque_capacity z.groups) e in omega arith
+
+  -- what does not wait is alone
+  pub follower_alone : (waits : Bool) (k : Kind) (w : yaml_lexeme_t) → IsFollower s sparing r at waits k w → waits ≡ false → (q : queue_t) → q ≡ s.layout.queue → q.groups.items ≡ []
+  follower_alone true k w f z q e = absurd (false≢true (sym z))
+  follower_alone false k w f z q e = ap (λ (i : queue_t). i.groups.items) e ∙ (let u = f.undecided in u.alone)
+
+-- fewer groups were taken than steps can be made
+pub few_queued : (H : List Laid) (s : scanner_t) → CanStep H s → s.layout.queue.done + 1 < 2 ^ 64
+few_queued H s c = let a = c.holds.count in let b = c.holds.number in let d = c.few_steps in omega arith
+
+-- GROUPS THAT GO TO A SINK IF IT HAS ROOM
 -- as many tokens as are counted on, with no more texts
 pub few_given : (y z : group_t) (n m : ℕ) → z.ends ≡ 0 → z.opens ≡ NONE → z.key ≡ false → y.ends ≤ n → said_len (token_of y.token).token_data ≤ m → said_len (token_of z.token).token_data ≡ 0
     → (length (group_tokens y ++ group_tokens z) ≤ n + 4) × (texts_len (group_tokens y ++ group_tokens z) ≤ m)
@@ -418,10 +445,11 @@ known_after D waits u t y took refuses W none all (Ok x) w = elim w.1 [
 ]
 known_after D waits u t y took refuses W none all (Err stop) w = tt
 
--- what need not wait goes straight
-pub is_straight : (direct : Bool) → not direct ≡ false → direct ≡ true
-is_straight true e = refl
-is_straight false e = absurd (false≢true (sym e))
+-- what is not queued need not wait, and goes straight
+pub not_queued : (waits direct : Bool) → (waits || not direct) ≡ false → (waits ≡ false) × (direct ≡ true)
+not_queued true direct e = absurd (false≢true (sym e))
+not_queued false true e = (refl, refl)
+not_queued false false e = absurd (false≢true (sym e))
 
 -- THE NUMBER OF STEPS
 pub laid_few : (H : List Laid) (s u : scanner_t) (direct waits : Bool) (y : group_t) (o : Option code_token_t) → WasLaidWith H s u direct waits y o → s.made + 2 < 2 ^ 64

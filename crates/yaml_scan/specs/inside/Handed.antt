@@ -213,20 +213,21 @@ pub record IsLaidAlone (H : List Laid) (s t : scanner_t) (k : Kind) (waits : Boo
   pub awaited : waits ≡ false → t.slots.awaited ≡ 0
   pub alone : waits ≡ false → groups_in t ≡ []
 
--- A candidate was laid as the group y, and what decides whether it is a key as the token z. They are not handed on yet.
+-- A lexeme was laid as the group y, and what comes right after it as the token z. They are not handed on yet. Unless
+-- they have to wait, no token is before them.
 pub record IsLaidBoth (H : List Laid) (s t : scanner_t) (direct waits : Bool) (y : group_t) (z : code_token_t)
     : Type 0 where
   pub laid : LaysTwo waits H s t (groups_in t ++ y ∷ (lone z ∷ []))
   pub few : s.made + 2 < 2 ^ 64
-  pub room : 1 < deque_capacity t.layout.queue.groups
+  pub room : length (groups_in t) + 1 < deque_capacity t.layout.queue.groups
   pub words : HasWords (token_of y.token).token_data
   pub decider_words : HasWords (token_of z).token_data
   pub no_end : is_end (token_of y.token) ≡ false
   pub decider_no_end : is_end (token_of z) ≡ false
   pub straight : waits ≡ false → direct ≡ true
-  pub awaited : t.slots.awaited ≡ 0
+  pub awaited : waits ≡ false → t.slots.awaited ≡ 0
   pub early : t.layout.queue.early ≡ 0
-  pub alone : groups_in t ≡ []
+  pub alone : waits ≡ false → groups_in t ≡ []
 
 -- what a step has laid, which is not handed on yet
 abbrev pub WasLaidWith : List Laid → scanner_t → scanner_t → Bool → Bool → group_t → Option code_token_t → Type 0

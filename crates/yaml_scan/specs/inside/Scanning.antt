@@ -1,7 +1,7 @@
 -- What a running scanner holds after the lexemes H.
 use Rattle.std.specs.Prelude.{◌≡◌, ℕ, ◌+◌, ◌-◌, ◌≤◌, ◌<◌, ◌^◌, true, false, List, [], ◌∷◌, ◌++◌, reverse, drop, length}
 use Rattle.std.specs.Prelude.{◌⊎◌, ◌&&◌, ◌||◌, Bool, Option, None, Some, nat_lt, not, filter, vec_len, MatchResult}
-use Rattle.std.specs.Prelude.{Result, Ok, Err, if◌then◌else◌}
+use Rattle.std.specs.Prelude.{Result, Ok, Err, if◌then◌else◌, slice_get}
 use Rattle.std.specs.Option.{IfSome, is_some}
 use Rattle.std.specs.Vec.{vec_capacity}
 use Rattle.std.specs.VecDeque.{deque_capacity}
@@ -12,6 +12,7 @@ use Rattle.yaml_text.specs.Chars.{utf8}
 use Rattle.yaml_text.specs.TextBytes.{AreChars}
 use Rattle.yaml_text.specs.Decoding.{refusal_seen}
 use Rattle.yaml_lexeme.specs.Counted.{IsMarkOf}
+use Rattle.yaml_lexeme.specs.Decider.{one_on}
 use Rattle.yaml_lexeme.specs.Answers.{refused_at}
 use Rattle.yaml_lexeme.specs.LexemeOf.{lexeme_of}
 use Rattle.yaml_lexeme.specs.declared.lex.yaml_context_t.{yaml_context_t}
@@ -41,7 +42,7 @@ use Rattle.yaml_scan.specs.Settled.{before, pace}
 use Rattle.yaml_scan.specs.inside.Slots.{Held, held, outer_to, empty_slots, lowest, step_of}
 use Rattle.yaml_scan.specs.inside.Slots.{completed_held, is_live, is_level, lost_held, needed}
 use Rattle.yaml_scan.specs.inside.Slots.{root_of, slot_after}
-use Rattle.yaml_scan.specs.inside.Queue.{IsQueue, closing}
+use Rattle.yaml_scan.specs.inside.Queue.{IsQueue, begins_with_end, closing, pending}
 use Rattle.yaml_scan.specs.Step.{step, stale, place_after, front_of, start_at, problem_of, replaces}
 use Rattle.yaml_scan.specs.Step.Outcome.{Reads, Faults}
 use Rattle.yaml_scan.specs.Near.{is_near}
@@ -288,7 +289,38 @@ pub record IsDecided
   pub decider : (p : ℕ) → IsMarkOf s.text.chars at p → IsDecider s.text.chars r.in_flow p k x
   pub far : x.reach.index < s.near
 
--- a lexeme that was read can be laid, alone or with what decides whether it is a key
+-- The token of a lexeme in flow, which was met and read to `at`, has to wait: the head of the queue is the token of a
+-- candidate. In its own depth the lexeme is the candidate, or there is none. There is room for two groups more.
+pub record Waits (s : scanner_t) (r : step_t) (at : yaml_mark_t) : Type 0 where
+  pub flow : r.in_flow ≡ true
+  pub candidate : is_candidate_kind r.kind ≡ true
+  pub stays : is_flow_start r.kind ≡ false
+  pub awaited : s.slots.awaited ≡ s.layout.queue.done + 1
+  pub ends : begins_with_end (pending s.layout.queue.early s.layout.queue.front s.layout.queue.groups.items) ≡ false
+  pub room : length s.layout.queue.groups.items + 1 < deque_capacity s.layout.queue.groups
+  pub key : r.allowed ≡ true → is_live s.limit at r.new ≡ true
+  pub none : r.allowed ≡ false → s.slots.top ≡ None
+
+-- The same, and the lexeme x, of kind k, comes right there. The candidate is one of an outer depth, and live after it.
+pub record IsWaiting (s : scanner_t) (r : step_t) (at : yaml_mark_t) (k : Kind) (x : yaml_lexeme_t) : Type 0 where
+  pub waits : Waits s r at
+  pub reach : x.reach ≡ one_on at
+  pub outer : (h : Held) × ((slice_get s.slots.outer.items s.slots.not_simple_keys ≡ Some (Some h))
+      × (is_live s.limit x.reach h ≡ true))
+  pub decider : (p : ℕ) → IsMarkOf s.text.chars at p → IsDecider s.text.chars r.in_flow p k x
+  pub far : x.reach.index < s.near
+
+-- the next token needs what comes right after the lexeme of a step: it has to wait, or it is a candidate
+abbrev pub IsFollowed : scanner_t → Bool → step_t → yaml_mark_t → Bool → Type 0
+IsFollowed s sparing r at true = Waits s r at
+IsFollowed s sparing r at false = IsUndecided s sparing r at
+
+-- the lexeme x, of kind k, comes right there, and both can be laid together
+abbrev pub IsFollower : scanner_t → Bool → step_t → yaml_mark_t → Bool → Kind → yaml_lexeme_t → Type 0
+IsFollower s sparing r at true k x = IsWaiting s r at k x
+IsFollower s sparing r at false k x = IsDecided s sparing r at k x
+
+-- a lexeme that was read can be laid, alone or with what comes right after it
 pub record CanLayAll (H : List Laid) (s : scanner_t) (r : step_t) (x : yaml_lexeme_t) : Type 0 where
   pub can : CanRead H s r
   pub read : (p : ℕ) → IsMarkOf s.text.chars s.front p

@@ -1,4 +1,4 @@
 use Rattle.yaml_scan.proofs.finish.end_queued.Given as goal
 
-abbrev pub ghost-lay_read : goal.ghost-lay_read
-ghost-lay_read g a = g.before
+abbrev pub ghost-lay_queued : goal.ghost-lay_queued
+ghost-lay_queued g a = g.before

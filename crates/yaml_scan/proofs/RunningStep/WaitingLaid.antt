@@ -1,0 +1,404 @@
+-- A lexeme that has to wait and what comes right after it are laid together as they are laid one after the other.
+use Rattle.std.proofs.Common.{◌≡◌, ℕ, zero, suc, ◌+◌, ◌-◌, ◌≤◌, ◌<◌, not, ◌&&◌, ◌||◌, Bool, true, false, List, [], ◌∷◌, ◌++◌, reverse, filter, map, take, length, length-append, append_assoc, Option, Some, None, refl, ap, sym, ◌∙◌, subst, arith, inl, inr, eqb, vec_len, eq-eqb, ne_eqb, ltb-false, le-leb, leb-true, eqb-true}
+use Rattle.std.specs.Prelude.{if◌then◌else◌, nat_eq, nat_lt, slice_get}
+use Rattle.std.specs.Option.{is_some}
+use Rattle.std.proofs.lemmas.Bool.{cases_Bool, and_parts, and_from}
+use Rattle.yaml_text.specs.declared.types.yaml_mark_t.{yaml_mark_t}
+use Rattle.yaml_text.specs.declared.token.yaml_token_t.{yaml_token_t}
+use Rattle.yaml_text.specs.Token.{token_of}
+use Rattle.yaml_lexeme.specs.Lexeme.{Lexeme as yaml_lexeme_t}
+use Rattle.yaml_lexeme.specs.Counted.{IsMarkOf}
+use Rattle.yaml_lexeme.specs.Decider.{one_on}
+use Rattle.yaml_scan.specs.Course.{ended}
+use Rattle.yaml_scan.specs.declared.groups.block_t.TheVariants.{NONE}
+use Rattle.yaml_scan.specs.declared.groups.group_t.{group_t}
+use Rattle.yaml_scan.specs.declared.slots.slots_t.{slots_t}
+use Rattle.yaml_scan.specs.declared.met.step_t.{step_t}
+use Rattle.yaml_scan.specs.declared.scanner.scanner_t.{scanner_t}
+use Rattle.yaml_scan.specs.Allowed.{allowed_after, allows}
+use Rattle.yaml_scan.specs.Depth.{depth}
+use Rattle.yaml_scan.specs.Kind.{Kind, is_candidate_kind, is_flow_end, is_flow_start, is_plain, is_stream_end, is_value}
+use Rattle.yaml_scan.specs.Laid.{Laid}
+use Rattle.yaml_scan.specs.Levels.{greatest_level, laid, stays}
+use Rattle.yaml_scan.specs.Settled.{before}
+use Rattle.yaml_scan.specs.SourceOf.{source_of}
+use Rattle.yaml_scan.specs.Step.{front_of, place_after, problem_of}
+use Rattle.yaml_scan.specs.inside.Handed.{IsLaidAs}
+use Rattle.yaml_scan.specs.inside.Opened.{opened}
+use Rattle.yaml_scan.specs.inside.Queue.{begins_with_end, completed_in, keyed, keyed_at, opened_by, pending}
+use Rattle.yaml_scan.specs.inside.Scanning.{AdvancesTwice, CanLayAll, CanPut, Holds, HoldsWith, IsFollowed, IsFollower, IsMet, IsWaiting, LaysTwo, Met, Needs, Waits, counted, groups_in, met_in}
+use Rattle.yaml_scan.specs.inside.Slots.{AreEmptyBelow, AreNested, Held, completed_held, empty_slots, held, is_live, is_level, lost_held, lowest, nested_outer, nested_top, or_top, root_of, slot_after, step_of, still_held}
+use Rattle.yaml_scan.specs.inside.StepFaults.{IsRefused}
+use Rattle.yaml_scan.specs.inside.TextReads.{IsDecider}
+use Rattle.yaml_scan.proofs.History.KindTests.{candidate_invites_none, candidate_not_end, candidate_not_flow_end, candidate_not_key, candidate_not_value}
+use Rattle.yaml_scan.proofs.History.KindTests.{decider_no_start, decider_not_candidate, decider_not_end}
+use Rattle.yaml_scan.proofs.RunningQueue.CandidateGroup.{head_awaited, none_left}
+use Rattle.yaml_scan.proofs.RunningQueue.EmptySlots.{below_empty, lowest-first, lowest_some, swept_front}
+use Rattle.yaml_scan.proofs.RunningQueue.HeadIsNext.{settled_test}
+use Rattle.yaml_scan.proofs.RunningQueue.SlotOrder.{outer_more, outer_nested}
+use Rattle.yaml_scan.proofs.RunningStep.DecidedLaid.{allows_same, and_not, clears_none, counted_holds}
+use Rattle.yaml_scan.proofs.RunningStep.StepPut.{put_advances}
+use Rattle.yaml_scan.proofs.RunningStep.StepTests.{can_put}
+use Rattle.yaml_scan.proofs.RunningStep.TestsBefore.{allowed_is, flow_is, front_mark, kind_is, root_held, row_met}
+
+-- THE NEXT TOKEN
+-- it needs more steps while the head of the queue is that of the lowest candidate
+module _ (H : List Laid) (n : ℕ) (s : scanner_t) (zs : List group_t) (h : HoldsWith H n s zs) (SOME : 0 < length zs) (AWAITED : s.slots.awaited ≡ s.layout.queue.done + 1) (ENDS : begins_with_end (pending s.layout.queue.early s.layout.queue.front zs) ≡ false) where
+  unsettled : length (before s.limit H) ≤ s.taken
+  unsettled =
+      let q = s.layout.queue in
+      let some : false ≡ eqb (length zs) 0 = sym (ne_eqb _ _ (λ e. absurd (omega arith))) in
+      let test = settled_test s.limit H h.is_history s.taken h.taken q.done (begins_with_end (pending q.early q.front zs))
+      (λ k x e l. head_awaited s.limit H k x s.taken s.text.encoding q.early q.front zs q.done h.is_history h.queue h.count e l)
+      false (some ∙ none_left H s.taken s.text.encoding q.early q.front zs h.queue)
+      s.slots.awaited (h.awaited ∙ ap (λ (hs : List (Option Held)). step_of (lowest hs)) (outer_more s.limit H s.slots.outer.items s.slots.top h.outer h.top)) in
+      let here : not (eqb s.slots.awaited (q.done + 1) && not (begins_with_end (pending q.early q.front zs))) ≡ false = rw (ENDS, eq-eqb _ _ AWAITED) refl in
+      ltb-false _ _ (sym test ∙ here)
+
+-- a group that is a token alone, behind others, changes nothing of what is next
+ends_behind : (front : yaml_mark_t) (ys : List group_t) (token : yaml_token_t) → begins_with_end (pending 0 front ys) ≡ false → begins_with_end (pending 0 front (ys ++ record { ends = 0; opens = NONE; key = false; token = token } ∷ [])) ≡ false
+ends_behind front [] token e = refl
+ends_behind front (y ∷ []) token e = e
+ends_behind front (y ∷ (z ∷ ys)) token e = e
+
+-- LEVELS IN FLOW
+flow_keeps : (k : Kind) (m : yaml_mark_t) (cs : List ℕ) → filter (stays true k m) cs ≡ cs
+flow_keeps k m [] = refl
+flow_keeps k m (c ∷ cs) = ap (λ (ds : List ℕ). c ∷ ds) (flow_keeps k m cs)
+
+flow_closes_none : (k : Kind) (m : yaml_mark_t) (cs : List ℕ) → filter (λ c. not (stays true k m c)) cs ≡ []
+flow_closes_none k m [] = refl
+flow_closes_none k m (c ∷ cs) = flow_closes_none k m cs
+
+flow_opened : (o : Option Held) (k : Kind) (m : yaml_mark_t) (cs : List ℕ) → opened true o k m cs ≡ cs
+flow_opened None k m cs = refl
+flow_opened (Some h) k m cs = refl
+
+flow_opens_none : (o : Option Held) (k : Kind) (n : ℕ) (cs : List ℕ) → opened_by true o k n cs ≡ NONE
+flow_opens_none None k n cs = refl
+flow_opens_none (Some h) k n cs = refl
+
+-- SLOTS
+-- the candidate of depth 0 is not lost, if all outer ones are live
+root_kept : (limit : ℕ) (m : yaml_mark_t) (hs : List (Option Held)) (top : Option Held) (n : ℕ) (h : Held) → slice_get hs n ≡ Some (Some h) → map (still_held limit m) hs ≡ hs → lost_held limit m (root_of hs top) ≡ None
+root_kept limit m [] top n h e f = cc
+root_kept limit m (None ∷ hs) top n h e f = refl
+root_kept limit m (Some g ∷ hs) top n h e f = elim (cases_Bool (is_live limit m g)) [
+  | inl t ↦ rw (t, and_not g.required) refl
+  | inr t ↦ (let w : None ∷ map (still_held limit m) hs ≡ Some g ∷ hs = rw t at f in cc)
+]
+
+within : (hs : List (Option Held)) (k : ℕ) (o : Option Held) → slice_get hs k ≡ Some o → k < length hs
+within [] k o e = cc
+within (x ∷ hs) zero o e = omega arith
+within (x ∷ hs) (suc k) o e = let r = within hs k o e in omega arith
+
+rejoined : (hs : List (Option Held)) → 0 < length hs → take (length hs - 1) hs ++ or_top None (slice_get hs (length hs - 1)) ∷ [] ≡ hs
+rejoined [] l = absurd (omega arith)
+rejoined (x ∷ []) l = refl
+rejoined (x ∷ (z ∷ hs)) l =
+    let e : length (x ∷ (z ∷ hs)) - 1 ≡ suc (length (z ∷ hs) - 1) = omega arith in
+    rw e (ap (λ (ys : List (Option Held)). x ∷ ys) (rejoined (z ∷ hs) (omega arith)))
+
+empties_taken : (hs : List (Option Held)) (n : ℕ) → empty_slots hs ≤ n → empty_slots (take n hs) ≡ empty_slots hs
+empties_taken [] zero l = refl
+empties_taken [] (suc n) l = refl
+empties_taken (None ∷ hs) zero l = absurd (omega arith)
+empties_taken (None ∷ hs) (suc n) l = ap suc (empties_taken hs n (omega arith))
+empties_taken (Some h ∷ hs) zero l = refl
+empties_taken (Some h ∷ hs) (suc n) l = refl
+
+-- what comes right after it leaves the lowest candidate where it is
+module _ (k : Kind) (s : is_flow_start k ≡ false) (hs : List (Option Held)) (h : Held) (e : slice_get hs (empty_slots hs) ≡ Some (Some h)) where
+  low : (o : Option Held) → lowest (hs ++ o ∷ []) ≡ Some h
+  low o = lowest-first hs (o ∷ []) h (lowest_some hs (Some h) e)
+
+  nested_empties : empty_slots (nested_outer k hs None) ≡ empty_slots hs
+  nested_empties = elim (cases_Bool (is_flow_end k)) [
+    | inl q ↦ rw (s, q) (empties_taken hs (length hs - 1) (let w = within hs (empty_slots hs) (Some h) e in omega arith))
+    | inr q ↦ rw (s, q) refl
+  ]
+
+  nested_lowest : lowest (nested_outer k hs None ++ nested_top k hs None ∷ []) ≡ Some h
+  nested_lowest = elim (cases_Bool (is_flow_end k)) [
+    | inl q ↦ rw (s, q) (ap lowest (rejoined hs (let w = within hs (empty_slots hs) (Some h) e in omega arith)) ∙ lowest_some hs (Some h) e)
+    | inr q ↦ rw (s, q) (low None)
+  ]
+
+-- THE QUEUE
+keyed_last : (n : ℕ) (b : Bool) (ys : List group_t) (y : group_t) → n ≡ length ys → keyed_at n b (ys ++ y ∷ []) ≡ ys ++ keyed b y ∷ []
+keyed_last zero b [] y e = refl
+keyed_last (suc n) b [] y e = absurd (omega arith)
+keyed_last zero b (z ∷ ys) y e = absurd (omega arith)
+keyed_last (suc n) b (z ∷ ys) y e = ap (λ (l : List group_t). z ∷ l) (keyed_last n b ys y (omega arith))
+
+accepted : (in_flow : Bool) (k : Kind) (a none : Bool) (g : yaml_mark_t) → in_flow ≡ true → IsRefused (if not in_flow && not a then problem_of k none else None) g None
+accepted true k a none g e = refl
+accepted false k a none g e = absurd (cc)
+
+-- a candidate that is live after one character was so before it
+live_before : (limit : ℕ) (m : yaml_mark_t) (h : Held) → is_live limit (one_on m) h ≡ true → is_live limit m h ≡ true
+live_before limit m h e =
+    let p = and_parts _ _ e in
+    let n : m.index + 1 ≤ h.start.index + limit = leb-true _ _ p.1 in
+    let s : m.line ≡ h.start.line = eqb-true _ _ p.0 in
+    let u : m.index ≤ h.start.index + limit = omega arith in
+    and_from _ _ (eq-eqb _ _ s) (le-leb _ _ u)
+
+-- WHAT COMES RIGHT AFTER A LEXEME
+pub follower : (s : scanner_t) (sparing : Bool) (r : step_t) (at : yaml_mark_t) (w : Bool) (k : Kind) (x : yaml_lexeme_t) → IsFollowed s sparing r at w → ((p : ℕ) → IsMarkOf s.text.chars at p → IsDecider s.text.chars r.in_flow p k x) → x.reach ≡ one_on at → x.reach.index < s.near
+    → (w ≡ true → (h : Held) × ((slice_get s.slots.outer.items s.slots.not_simple_keys ≡ Some (Some h)) × (is_live s.limit x.reach h ≡ true))) → IsFollower s sparing r at w k x
+follower s sparing r at true k x f d m l o = record { waits = f; reach = m; outer = o refl; decider = d; far = l }
+follower s sparing r at false k x f d m l o = record { undecided = f; decider = d; far = l }
+
+-- the lexeme is a candidate
+pub followed_kind : (s : scanner_t) (sparing : Bool) (r : step_t) (at : yaml_mark_t) (w : Bool) → IsFollowed s sparing r at w → is_candidate_kind r.kind ≡ true
+followed_kind s sparing r at true f = f.candidate
+followed_kind s sparing r at false f = f.candidate
+
+-- BOTH
+module _ (H : List Laid) (s : scanner_t) (r : step_t) (x : yaml_lexeme_t) (c : CanLayAll H s r x) (k : Kind) (y : yaml_lexeme_t) (d : IsWaiting s r x.reach k y) where
+  abbrev h : Holds H (s.made + 1) s
+  h = c.can.can.holds
+
+  abbrev u : Waits s r x.reach
+  u = d.waits
+
+  abbrev new : Held
+  new = r.new
+
+  abbrev ls : List ℕ
+  ls = reverse s.layout.levels.items
+
+  abbrev outer : List (Option Held)
+  outer = s.slots.outer.items
+
+  abbrev ys : List group_t
+  ys = groups_in s
+
+  first_held : slice_get outer (empty_slots outer) ≡ Some (Some d.outer.0)
+  first_held = subst (λ (n : ℕ). slice_get outer n ≡ Some (Some d.outer.0)) h.empty d.outer.1.0
+
+  all_live : (m : yaml_mark_t) (g : Held) → slice_get outer s.slots.not_simple_keys ≡ Some (Some g) → is_live s.limit m g ≡ true → map (still_held s.limit m) outer ≡ outer
+  all_live m g e t =
+      let nested : AreNested outer = subst AreNested (sym h.outer) (outer_nested s.limit H h.is_history) in
+      let below : AreEmptyBelow s.slots.not_simple_keys outer = subst (λ (n : ℕ). AreEmptyBelow n outer) (sym h.empty) (below_empty outer) in
+      swept_front s.limit m outer outer s.slots.not_simple_keys g nested (λ i f q. q) below e t
+
+  live_then : map (still_held s.limit x.reach) outer ≡ outer
+  live_then = all_live x.reach d.outer.0 d.outer.1.0 (live_before s.limit x.reach d.outer.0 (subst (λ (m : yaml_mark_t). is_live s.limit m d.outer.0 ≡ true) d.reach d.outer.1.1))
+
+  live_after : map (still_held s.limit y.reach) outer ≡ outer
+  live_after = all_live y.reach d.outer.0 d.outer.1.0 d.outer.1.1
+
+  canput : CanPut H s (groups_in s) (met_in s r) r.in_flow new x
+  canput = can_put H s r x c
+
+  not_last : is_stream_end r.kind ≡ false
+  not_last = candidate_not_end r.kind u.candidate
+
+  early : s.layout.queue.early ≡ 0
+  early = h.early c.can.can.running
+
+  -- the slot of its depth
+  abbrev then_top : Option Held
+  then_top = if r.allowed then Some new else None
+
+  top_is : then_top ≡ still_held s.limit x.reach (slot_after r.kind r.allowed new s.slots.top)
+  top_is = elim (cases_Bool r.allowed) [
+    | inl a ↦ rw (a, u.candidate, u.key a) refl
+    | inr a ↦ rw (a, u.candidate, u.none a) refl
+  ]
+
+  module _ (token : yaml_token_t) (TOKEN : token_of token ≡ record { token_data = x.token_data; start_mark = new.start; end_mark = x.end_mark }) where
+    -- its group, before what comes after it
+    abbrev group : group_t
+    group = record { ends = 0; opens = NONE; key = false; token = token }
+
+    abbrev slots : slots_t
+    slots = record { outer = s.slots.outer; not_simple_keys = s.slots.not_simple_keys; top = then_top; awaited = s.slots.awaited }
+
+    abbrev then_allowed : Bool
+    then_allowed = is_plain r.kind && x.passed_break
+
+    abbrev between : scanner_t
+    between = record { alloc = s.alloc; text = s.text; refusal = s.refusal; near = s.near; limit = s.limit; slots = slots; allowed = then_allowed; layout = s.layout; reach = x.reach; front = s.front; there = s.there; kept = s.kept; taken = s.taken; made = s.made }
+
+    first : IsLaidAs H s r.kind between (ys ++ group ∷ [])
+    first = put_advances H s ys (met_in s r) r.in_flow new x canput slots then_allowed s.layout (ys ++ group ∷ []) record {
+      kept = s.layout.levels.items;
+      kept_is = rw u.flow (sym (flow_keeps r.kind new.start ls));
+      early = 0;
+      early_none = λ z. refl;
+      early_is = early;
+      front = λ z. absurd (omega arith);
+      completed = None;
+      completed_is = rw (candidate_not_value r.kind u.candidate) refl;
+      none = true;
+      none_is = refl;
+      group = group;
+      ends_are = rw (u.flow, flow_closes_none r.kind new.start ls) refl;
+      token = TOKEN;
+      key = refl;
+      opens = rw (u.flow, flow_opens_none None r.kind new.start.column ls) refl;
+      levels = rw (u.flow, flow_opened None r.kind new.start ls) refl;
+      groups = refl;
+      long = length-append ys (group ∷ []);
+      done = refl;
+      outer = rw (u.stays, candidate_not_flow_end r.kind u.candidate, live_then) refl;
+      top = rw (u.stays, candidate_not_flow_end r.kind u.candidate) top_is;
+      empty = h.empty;
+      awaited = h.awaited ∙ ap step_of (low r.kind u.stays outer d.outer.0 first_held s.slots.top ∙ sym (low r.kind u.stays outer d.outer.0 first_held then_top));
+      allows = λ n e. rw (candidate_invites_none r.kind u.candidate u.stays, candidate_not_key r.kind u.candidate, candidate_not_value r.kind u.candidate, and_not (nat_eq n 0)) refl;
+    }
+
+    -- what holds then
+    abbrev H1 : List Laid
+    H1 = laid s.limit H first.advances.lexeme ∷ H
+
+    then_running : ended H1 ≡ false
+    unfolding laid
+    then_running = rw first.kind not_last
+
+    then_holds : HoldsWith H1 (s.made + 1 + 1) (counted between) (ys ++ group ∷ [])
+    then_holds = counted_holds H1 (s.made + 1 + 1) between (ys ++ group ∷ []) first.advances.holds
+
+    then_needed : length (before s.limit H1) ≤ s.taken
+    then_needed = unsettled H1 (s.made + 1 + 1) between (ys ++ group ∷ []) first.advances.holds (let l = length-append ys (group ∷ []) in omega arith) u.awaited
+        (rw early (ends_behind s.layout.queue.front ys token (rw early at u.ends)))
+
+    -- what comes right after it
+    abbrev front : yaml_mark_t
+    front = x.reach
+
+    abbrev met : Met
+    met = record { kind = k; front = front; allowed = then_allowed || (not r.in_flow && nat_lt x.reach.line front.line) }
+
+    at_front : IsMarkOf s.text.chars front (place_after H1)
+    at_front = then_holds.place then_running
+
+    decider : IsDecider s.text.chars r.in_flow (place_after H1) k y
+    decider = d.decider (place_after H1) at_front
+
+    then_front : IsMarkOf s.text.chars front (front_of (source_of s.text.chars) H1)
+    then_front = front_mark H1 (s.made + 1 + 1) (counted between) then_holds then_running r.in_flow c.can.is_new.flow front (rw (decider.gap then_allowed) at_front)
+
+    front_is : front_of (source_of s.text.chars) H1 ≡ place_after H1
+    front_is =
+        let flow : r.in_flow ≡ nat_lt 0 (depth H1) = flow_is H1 (s.made + 1 + 1) (counted between) then_holds then_running r.in_flow c.can.is_new.flow in
+        subst (λ (f : Bool). (source_of s.text.chars).gap f (allowed_after H1) (place_after H1) ≡ place_after H1) flow (decider.gap (allowed_after H1))
+
+    kind_then : Some k ≡ (source_of s.text.chars).kind r.in_flow (front_of (source_of s.text.chars) H1)
+    kind_then = rw front_is (sym decider.kind)
+
+    abbrev root : Option Held
+    root = root_of outer then_top
+
+    root_then : root ≡ held s.limit H1 0
+    root_then = root_held H1 (s.made + 1 + 1) (counted between) then_holds then_running r.in_flow c.can.is_new.flow root outer refl refl
+
+    not_lost : lost_held s.limit front root ≡ None
+    not_lost = root_kept s.limit front outer then_top s.slots.not_simple_keys d.outer.0 d.outer.1.0 live_then
+
+    -- the lexeme is a key if a `:` comes after it where a key is allowed
+    abbrev key : Bool
+    key = r.allowed && is_value k
+
+    abbrev completed : Option Held
+    completed = completed_held k s.limit front then_top
+
+    completed_so : completed ≡ (if key then Some new else None)
+    completed_so = elim (cases_Bool r.allowed) [
+      | inl a ↦ elim (cases_Bool (is_value k)) [ inl v ↦ rw (a, v, u.key a) refl | inr v ↦ rw (a, v) refl ]
+      | inr a ↦ elim (cases_Bool (is_value k)) [ inl v ↦ rw (a, v) refl | inr v ↦ rw (a, v) refl ]
+    ]
+
+    completes : is_some completed ≡ not (not key)
+    completes = rw completed_so (elim (cases_Bool key) [ inl q ↦ rw q refl | inr q ↦ rw q refl ])
+
+    start_then : front ≡ Rattle.yaml_scan.specs.Step.start_at k front
+    start_then = rw (decider_not_end r.in_flow k decider.decides) refl
+
+    then_met : IsMet H1 (counted between) met
+    then_met = record {
+      front = then_front;
+      allowed = allowed_is H1 (s.made + 1 + 1) (counted between) then_holds then_running r.in_flow c.can.is_new.flow front then_front root (lost_held s.limit front root) root_then refl not_lost (Some k) kind_then k refl met.allowed refl;
+      kind = sym (kind_is H1 (s.made + 1 + 1) (counted between) then_holds then_running r.in_flow c.can.is_new.flow front then_front root (lost_held s.limit front root) root_then refl not_lost (Some k) kind_then);
+      step = row_met H1 (s.made + 1 + 1) (counted between) then_holds then_running r.in_flow c.can.is_new.flow front then_front root (lost_held s.limit front root) root_then refl not_lost (Some k) kind_then k refl met.allowed refl
+          completed refl (not key) completes (accepted r.in_flow k met.allowed (not key) front u.flow) front start_then None (rw (clears_none r.in_flow k met.allowed decider.decides) refl) refl;
+    }
+
+    abbrev level : Option ℕ
+    level = greatest_level (filter (stays r.in_flow k front) ls)
+
+    abbrev then_new : Held
+    then_new = record { step = s.made + 1 + 1; start = front; required = is_level r.in_flow level front.column }
+
+    then_canput : CanPut H1 (counted between) (ys ++ group ∷ []) met r.in_flow then_new y
+    then_canput = record {
+      can = record { holds = then_holds; running = then_running; small = c.can.can.small; few_steps = (let f = c.can.can.few_steps in omega arith); met = then_met };
+      level = level;
+      is_new = record { flow = c.can.is_new.flow; is_greatest = refl; step = refl; start = start_then; required = refl };
+      read = rw front_is (decider.read (vec_len s.slots.outer) level);
+      kept = rw (decider_not_candidate r.in_flow k decider.decides) (root_kept s.limit y.reach outer None s.slots.not_simple_keys d.outer.0 d.outer.1.0 live_after);
+    }
+
+    at_last : new.step - 1 - s.layout.queue.done ≡ length ys
+    at_last = let e = c.can.is_new.step in let n = h.number in let z = h.count in omega arith
+
+    module _ (value : yaml_token_t) (SAYS : token_of value ≡ record { token_data = y.token_data; start_mark = front; end_mark = y.end_mark })
+        (S : slots_t) (OUTER : S.outer.items ≡ nested_outer k outer None) (TOP : S.top ≡ nested_top k outer None) (EMPTY : S.not_simple_keys ≡ s.slots.not_simple_keys) (AWAITED : S.awaited ≡ s.slots.awaited)
+        (a : Bool) (ALLOWED : (n : ℕ) → r.in_flow ≡ nat_lt 0 n → a ≡ allows k n (not key) false) where
+      abbrev pub after : scanner_t
+      after = record { alloc = s.alloc; text = s.text; refusal = s.refusal; near = s.near; limit = s.limit; slots = S; allowed = a; layout = s.layout; reach = y.reach; front = s.front; there = s.there; kept = s.kept; taken = s.taken; made = s.made + 1 }
+
+      -- its group, once that is known
+      abbrev pub keyed_group : group_t
+      keyed_group = record { ends = 0; opens = NONE; key = key; token = token }
+
+      abbrev pub last : group_t
+      last = record { ends = 0; opens = NONE; key = false; token = value }
+
+      groups_then : ys ++ keyed_group ∷ (last ∷ []) ≡ completed_in r.in_flow completed ls s.layout.queue.done (ys ++ group ∷ []) ++ last ∷ []
+      groups_then = rw completed_so (elim (cases_Bool key) [
+        | inl q ↦ rw (q, u.flow, keyed_last (new.step - 1 - s.layout.queue.done) false ys group at_last) (sym (append_assoc ys (keyed false group ∷ []) (last ∷ [])))
+        | inr q ↦ rw q (sym (append_assoc ys (group ∷ []) (last ∷ [])))
+      ])
+
+      second : IsLaidAs H1 (counted between) k after (ys ++ keyed_group ∷ (last ∷ []))
+      second = put_advances H1 (counted between) (ys ++ group ∷ []) met r.in_flow then_new y then_canput S a s.layout (ys ++ keyed_group ∷ (last ∷ [])) record {
+        kept = s.layout.levels.items;
+        kept_is = rw u.flow (sym (flow_keeps k front ls));
+        early = 0;
+        early_none = λ z. refl;
+        early_is = early;
+        front = λ z. absurd (omega arith);
+        completed = completed;
+        completed_is = refl;
+        none = not key;
+        none_is = completes;
+        group = last;
+        ends_are = rw (u.flow, flow_closes_none k front ls) refl;
+        token = SAYS;
+        key = refl;
+        opens = rw u.flow (sym (flow_opens_none completed k front.column ls));
+        levels = rw u.flow (sym (flow_opened completed k front ls));
+        groups = groups_then;
+        long = (let l = length-append ys (keyed_group ∷ (last ∷ [])) in let m = length-append ys (group ∷ []) in omega arith);
+        done = refl;
+        outer = OUTER ∙ (rw (decider_not_candidate r.in_flow k decider.decides, live_after) refl);
+        top = TOP ∙ (rw (decider_not_candidate r.in_flow k decider.decides, live_after) refl);
+        empty = EMPTY ∙ h.empty ∙ sym (ap empty_slots OUTER ∙ nested_empties k (decider_no_start r.in_flow k decider.decides) outer d.outer.0 first_held);
+        awaited = AWAITED ∙ h.awaited ∙ ap step_of (low k (decider_no_start r.in_flow k decider.decides) outer d.outer.0 first_held s.slots.top)
+            ∙ (rw (OUTER, TOP) (sym (ap step_of (nested_lowest k (decider_no_start r.in_flow k decider.decides) outer d.outer.0 first_held))));
+        allows = λ n e. ALLOWED n e ∙ allows_same r.in_flow k n (not key) y.passed_break decider.decides;
+      }
+
+      pub twice : (zs : List group_t) → zs ≡ ys ++ keyed_group ∷ (last ∷ []) → (t : scanner_t) → counted t ≡ after → LaysTwo true H s t zs
+      twice zs Z t T =
+          let a : AdvancesTwice H s after (ys ++ keyed_group ∷ (last ∷ [])) = record { between = between; then_queued = ys ++ group ∷ []; first = first.advances; running = then_running; far = c.far; second = second.advances } in
+          let b : (b : AdvancesTwice H s after (ys ++ keyed_group ∷ (last ∷ []))) × Needs true H s after (ys ++ keyed_group ∷ (last ∷ [])) b = (a, λ z. then_needed) in (
+            subst (λ (z : List group_t). (b : AdvancesTwice H s (counted t) z) × Needs true H s (counted t) z b) (sym Z)
+                (subst (λ (w : scanner_t). (b : AdvancesTwice H s w (ys ++ keyed_group ∷ (last ∷ []))) × Needs true H s w (ys ++ keyed_group ∷ (last ∷ [])) b) (sym T) b),
+            subst (λ (m : yaml_mark_t). m.index < s.near) (sym (ap (λ (w : scanner_t). w.reach) T)) d.far,
+          )

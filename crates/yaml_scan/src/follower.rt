@@ -1,0 +1,114 @@
+//! What comes right after a lexeme: two steps that are made at once, if the next token needs both.
+ghost use Rattle.std.specs.Prelude.{ℕ, ◌≡◌, ◌+◌, ◌<◌, ◌≤◌, ◌^◌, ◌++◌, ◌∷◌, [], List, Some, true, false, length};
+ghost use Rattle.std.specs.Prelude.{Bool, IfSome, ◌||◌, slice_get};
+ghost use Rattle.yaml_lexeme.specs.Counted.{IsMarkOf};
+ghost use Rattle.yaml_lexeme.specs.Lexeme.{Lexeme};
+ghost use Rattle.yaml_lexeme.specs.LexemeOf.{lexeme_of};
+ghost use Rattle.yaml_text.specs.declared.token.yaml_token_t.{yaml_token_t as code_token_t};
+ghost use Rattle.yaml_text.specs.declared.types.yaml_mark_t.{yaml_mark_t};
+ghost use Rattle.yaml_text.specs.Token.{TokenData};
+ghost use Rattle.yaml_scan.specs.Kind.{is_candidate_kind};
+ghost use Rattle.yaml_scan.specs.Laid.{Laid};
+ghost use Rattle.yaml_scan.specs.inside.Handed.{IsTokenOf, group_with, lone, read_to};
+ghost use Rattle.yaml_scan.specs.inside.Scanning.{CanLayAll, IsFollower, IsFollowed, LaysTwo, groups_in};
+ghost use Rattle.yaml_scan.specs.inside.Slots.{Held, is_live};
+
+use crate::decided::{is_undecided, lay_decided};
+use crate::groups::block_t;
+use crate::met::step_t;
+use crate::scanner::scanner_t;
+use crate::source::{decider_at, decider_t};
+use crate::waiting::{is_outer_live, lay_waiting, waits};
+use yaml_text::yaml_mark_t;
+
+/// What comes right after a lexeme.
+#[derive(Drop)]
+pub(crate) struct follower_t {
+    pub decider: decider_t,
+    /// Whether both have to wait behind a candidate of an outer depth. Else the lexeme is a candidate, and this decides
+    /// whether it is a key.
+    pub waits: bool,
+}
+
+/// Whether the next token needs what comes right after the lexeme of a step, which was read up to a mark: `None` if it
+/// may not, and else whether both have to wait behind a candidate of an outer depth.
+#[inline(always)]
+fn followed_by(scanner: &scanner_t, sparing: bool, step: step_t, reach: yaml_mark_t) -> Option<bool>
+    requires { scanner.now.layout.queue.done + 1 < 2 ^ 64 }
+    ensures { IfSome result (λ w. IsFollowed scanner.now sparing step reach w) }
+{
+    if is_undecided(scanner, sparing, step, reach) {
+        Some(false)
+    } else if waits(scanner, step, reach) {
+        Some(true)
+    } else {
+        None
+    }
+}
+
+/// Whether what comes right after a lexeme, and was read up to a mark, is not near the reader's fault, and leaves the
+/// candidates of the outer depths live, if both have to wait behind one of them.
+#[inline(always)]
+fn may_follow(scanner: &scanner_t, waits: bool, there: yaml_mark_t) -> bool
+    ensures far { result ≡ true → there.index < scanner.now.near }
+    ensures live { result ≡ true → waits ≡ true → (h : Held) × ((slice_get scanner.now.slots.outer.items
+        scanner.now.slots.not_simple_keys ≡ Some (Some h)) × (is_live scanner.now.limit there h ≡ true)) }
+{
+    there.index < scanner.near && (!waits || is_outer_live(&scanner.slots, scanner.limit, there))
+}
+
+/// What comes right after the lexeme of a step, if the next token needs the steps of both, and both can be made at
+/// once. The lexeme was met, and read up to `reach`.
+#[inline(always)]
+pub(crate) fn follower_of(
+    scanner: &scanner_t,
+    sparing: bool,
+    step: step_t,
+    reach: yaml_mark_t,
+) -> Option<follower_t>
+    requires done { scanner.now.layout.queue.done + 1 < 2 ^ 64 }
+    requires place { is_candidate_kind step.kind ≡ true → (p : ℕ) × IsMarkOf scanner.now.text.chars reach p }
+    ensures { IfSome result (λ f. IsFollower scanner.now sparing step reach f.waits f.decider.kind
+        (lexeme_of f.decider.lexeme)) }
+{
+    let waits = followed_by(scanner, sparing, step, reach)?;
+    let decider = decider_at(&scanner.text, reach, step.in_flow)?;
+    if may_follow(scanner, waits, decider.lexeme.reach) {
+        Some(follower_t { decider, waits })
+    } else {
+        None
+    }
+}
+
+/// Lays the lexeme of a step, which was read to a mark, and what comes right after it. Returns how many levels end at
+/// the token of the lexeme, what it opens, and whether it is a key. What comes after it is a group alone.
+#[inline(always)]
+pub(crate) fn lay_followed(
+    scanner: &mut scanner_t,
+    step: step_t,
+    at: yaml_mark_t,
+    follower: &follower_t,
+) -> (usize, block_t, bool)
+    ghost before: { List Laid }
+    requires { (x : Lexeme) × ((x.reach ≡ at) × CanLayAll before scanner.old step x) × ((sparing : Bool)
+        × IsFollower scanner.old sparing step at follower.now.waits follower.now.decider.kind
+        (lexeme_of follower.now.decider.lexeme)) }
+    ensures laid { (sparing : Bool) (d : TokenData) (b e : yaml_mark_t) (passed : Bool) (t z : code_token_t)
+        → CanLayAll before scanner.old step (read_to d b e at passed)
+        → IsFollower scanner.old sparing step at follower.now.waits follower.now.decider.kind
+        (lexeme_of follower.now.decider.lexeme) → IsTokenOf t d step.new.start e
+        → IsTokenOf z (lexeme_of follower.now.decider.lexeme).token_data at
+        (lexeme_of follower.now.decider.lexeme).end_mark
+        → LaysTwo (follower.now.waits || sparing) before scanner.old scanner.new (groups_in scanner.new
+        ++ group_with result.0 result.1 result.2 t ∷ (lone z ∷ [])) }
+    ensures queue { scanner.new.layout.queue ≡ scanner.old.layout.queue }
+    ensures awaited { follower.now.waits ≡ false → scanner.new.slots.awaited ≡ 0 }
+    ensures few { result.0 ≤ length scanner.old.layout.levels.items }
+{
+    if follower.waits {
+        let key = lay_waiting(scanner, step, at, &follower.decider);
+        (0, block_t::NONE, key)
+    } else {
+        lay_decided(scanner, step, at, &follower.decider)
+    }
+}
