@@ -3,10 +3,10 @@ ghost use Rattle.std.specs.Prelude.{◌≡◌, ℕ, ◌≤◌, Bool, Option, Som
 ghost use Rattle.yaml_lexeme.specs.KindSets.{block_kind, is_character, name_kind, quoted_kind};
 ghost use Rattle.yaml_lexeme.specs.LexemeOf.{lexeme_of};
 ghost use Rattle.yaml_lexeme.specs.Counted.{IsMarkOf};
+ghost use Rattle.yaml_lexeme.specs.Decider.{one_on};
 ghost use Rattle.yaml_lexeme.specs.declared.kind.yaml_lexeme_kind_t.TheVariants.{PLAIN, TAG};
 ghost use Rattle.yaml_scan.specs.SourceOf.{source_of};
 ghost use Rattle.yaml_scan.specs.inside.Scanning.{HasRead};
-ghost use Rattle.yaml_lexeme.specs.Decider.{one_on};
 ghost use Rattle.yaml_scan.specs.inside.TextReads.{IsDecider, IsRead};
 
 use crate::scanner::scanner_t;
@@ -46,14 +46,15 @@ pub(crate) fn kind_at(
     yaml_lexeme_kind(text, at, in_flow)
 }
 
-/// What comes right after a candidate for a key, and decides whether it is one.
+/// What comes right after a lexeme, and decides whether a candidate there is a key.
 #[derive(Drop)]
 pub(crate) struct decider_t {
     pub kind: yaml_lexeme_kind_t,
     pub lexeme: yaml_lexeme_t,
 }
 
-/// What decides at a mark whether the candidate before it is a key, if such a lexeme is right there.
+/// What decides at a mark whether a candidate that ends there is a key, if such a lexeme is right there. It is one
+/// character of ASCII.
 #[inline(always)]
 pub(crate) fn decider_at(text: &yaml_text_t, at: yaml_mark_t, in_flow: bool) -> Option<decider_t>
     requires { (p : ℕ) × IsMarkOf text.now.chars at p }

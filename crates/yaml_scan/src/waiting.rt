@@ -28,7 +28,7 @@ use crate::source::decider_t;
 use yaml_lexeme::yaml_lexeme_kind_t;
 use yaml_text::yaml_mark_t;
 
-/// Whether the head of the queue waits for a candidate, and there is room for two more groups.
+/// Whether the head of the queue is the token of the lowest candidate, and there is room for two more groups.
 #[inline(always)]
 fn has_room_behind(scanner: &scanner_t) -> bool
     requires { scanner.now.layout.queue.done + 1 < 2 ^ 64 }
@@ -71,7 +71,8 @@ pub(crate) fn is_outer_live(slots: &slots_t, limit: u64, mark: yaml_mark_t) -> b
     }
 }
 
-/// Whether the lexeme of a step, which was read up to a mark, has to wait behind a candidate.
+/// Whether the lexeme of a step, which was read up to a mark, is in flow and has to wait behind the token of a
+/// candidate. There is room for it and for one group more, and the slot of its depth is known.
 #[inline(always)]
 pub(crate) fn waits(scanner: &scanner_t, step: step_t, reach: yaml_mark_t) -> bool
     requires { scanner.now.layout.queue.done + 1 < 2 ^ 64 }
@@ -92,8 +93,8 @@ fn is_key(step: step_t, kind: yaml_lexeme_kind_t) -> bool
     step.allowed && is_colon(kind)
 }
 
-/// Lays the lexeme of a step, which was read to a mark, and what comes right after it. No level ends or begins. Returns
-/// whether the lexeme is a key. Both are groups alone, and wait in the queue.
+/// Lays the lexeme of a step, which was read to a mark, and what comes right after it, which both wait in the queue. No
+/// block collection starts or ends. Returns whether the lexeme is a key. What comes after it is a group alone.
 #[inline(always)]
 pub(crate) fn lay_waiting(
     scanner: &mut scanner_t,

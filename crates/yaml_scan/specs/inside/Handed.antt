@@ -213,8 +213,7 @@ pub record IsLaidAlone (H : List Laid) (s t : scanner_t) (k : Kind) (waits : Boo
   pub awaited : waits ≡ false → t.slots.awaited ≡ 0
   pub alone : waits ≡ false → groups_in t ≡ []
 
--- A lexeme was laid as the group y, and what comes right after it as the token z. They are not handed on yet. Unless
--- they have to wait, no token is before them.
+-- a lexeme was laid as the group y, and what comes right after it as the token z, and they are not handed on yet
 pub record IsLaidBoth (H : List Laid) (s t : scanner_t) (direct waits : Bool) (y : group_t) (z : code_token_t)
     : Type 0 where
   pub laid : LaysTwo waits H s t (groups_in t ++ y ∷ (lone z ∷ []))
@@ -237,7 +236,7 @@ WasLaidWith H s t direct waits y (Some z) = IsLaidBoth H s t direct waits y z
 abbrev pub WasLaid : List Laid → scanner_t → scanner_t → Bool → laid_t → code_token_t → Type 0
 WasLaid H s t direct l token = WasLaidWith H s t direct l.waits (group_with l.ends l.opens l.key token) l.decider
 
--- all tokens of a group and of what decides it
+-- all tokens of a group and of what comes right after it
 abbrev pub tokens_with : group_t → Option code_token_t → List yaml_token_t
 tokens_with y None = group_tokens y
 tokens_with y (Some z) = group_tokens y ++ token_of z ∷ []

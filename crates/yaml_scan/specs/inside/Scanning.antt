@@ -289,8 +289,7 @@ pub record IsDecided
   pub decider : (p : ℕ) → IsMarkOf s.text.chars at p → IsDecider s.text.chars r.in_flow p k x
   pub far : x.reach.index < s.near
 
--- The token of a lexeme in flow, which was met and read to `at`, has to wait: the head of the queue is the token of a
--- candidate. In its own depth the lexeme is the candidate, or there is none. There is room for two groups more.
+-- a lexeme in flow that was met and read to `at` has to wait behind the token of a candidate, and so may one more group
 pub record Waits (s : scanner_t) (r : step_t) (at : yaml_mark_t) : Type 0 where
   pub flow : r.in_flow ≡ true
   pub candidate : is_candidate_kind r.kind ≡ true
@@ -301,7 +300,7 @@ pub record Waits (s : scanner_t) (r : step_t) (at : yaml_mark_t) : Type 0 where
   pub key : r.allowed ≡ true → is_live s.limit at r.new ≡ true
   pub none : r.allowed ≡ false → s.slots.top ≡ None
 
--- The same, and the lexeme x, of kind k, comes right there. The candidate is one of an outer depth, and live after it.
+-- a lexeme read to `at` and x, of kind k, right after it wait behind an outer candidate, which is live after x
 pub record IsWaiting (s : scanner_t) (r : step_t) (at : yaml_mark_t) (k : Kind) (x : yaml_lexeme_t) : Type 0 where
   pub waits : Waits s r at
   pub reach : x.reach ≡ one_on at
@@ -310,12 +309,12 @@ pub record IsWaiting (s : scanner_t) (r : step_t) (at : yaml_mark_t) (k : Kind) 
   pub decider : (p : ℕ) → IsMarkOf s.text.chars at p → IsDecider s.text.chars r.in_flow p k x
   pub far : x.reach.index < s.near
 
--- the next token needs what comes right after the lexeme of a step: it has to wait, or it is a candidate
+-- the next token needs what comes right after the lexeme of a step, since that has to wait, or since it is a candidate
 abbrev pub IsFollowed : scanner_t → Bool → step_t → yaml_mark_t → Bool → Type 0
 IsFollowed s sparing r at true = Waits s r at
 IsFollowed s sparing r at false = IsUndecided s sparing r at
 
--- the lexeme x, of kind k, comes right there, and both can be laid together
+-- the lexeme x, of kind k, comes right after that of a step, which was read to `at`, and both can be laid together
 abbrev pub IsFollower : scanner_t → Bool → step_t → yaml_mark_t → Bool → Kind → yaml_lexeme_t → Type 0
 IsFollower s sparing r at true k x = IsWaiting s r at k x
 IsFollower s sparing r at false k x = IsDecided s sparing r at k x
