@@ -25,13 +25,13 @@ use yaml_text::yaml_mark_t;
 #[derive(Drop)]
 pub(crate) struct follower_t {
     pub decider: decider_t,
-    /// Whether both have to wait behind a candidate of an outer depth. Else the lexeme is a candidate, and this decides
-    /// whether it is a key.
+    /// Whether both have to wait until a candidate of an outer depth is decided. If not, the lexeme is a candidate, and
+    /// this decides whether it is a key.
     pub waits: bool,
 }
 
 /// Whether the next token needs what comes right after the lexeme of a step, which was read up to a mark: `None` if it
-/// may not, and else whether both have to wait behind a candidate of an outer depth.
+/// may not, and else whether both have to wait until a candidate of an outer depth is decided.
 #[inline(always)]
 fn followed_by(scanner: &scanner_t, sparing: bool, step: step_t, reach: yaml_mark_t) -> Option<bool>
     requires { scanner.now.layout.queue.done + 1 < 2 ^ 64 }
@@ -47,7 +47,7 @@ fn followed_by(scanner: &scanner_t, sparing: bool, step: step_t, reach: yaml_mar
 }
 
 /// Whether what comes right after a lexeme, and was read up to a mark, is not near the reader's fault, and leaves the
-/// candidates of the outer depths live, if both have to wait behind one of them.
+/// candidates of the outer depths live, if both have to wait until one of them is decided.
 #[inline(always)]
 fn may_follow(scanner: &scanner_t, waits: bool, there: yaml_mark_t) -> bool
     ensures far { result ≡ true → there.index < scanner.now.near }

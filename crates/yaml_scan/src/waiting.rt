@@ -30,7 +30,7 @@ use yaml_text::yaml_mark_t;
 
 /// Whether the head of the queue is the token of the lowest candidate, and there is room for two more groups.
 #[inline(always)]
-fn has_room_behind(scanner: &scanner_t) -> bool
+fn is_awaited_with_room(scanner: &scanner_t) -> bool
     requires { scanner.now.layout.queue.done + 1 < 2 ^ 64 }
     ensures awaited { result ≡ true → scanner.now.slots.awaited ≡ scanner.now.layout.queue.done + 1 }
     ensures ends { result ≡ true → begins_with_end (pending scanner.now.layout.queue.early
@@ -42,8 +42,8 @@ fn has_room_behind(scanner: &scanner_t) -> bool
     groups.len() < groups.capacity().saturating_sub(1) && is_awaited(scanner)
 }
 
-/// Whether the slot of its depth is known after the lexeme of a step, which was read up to a mark: where a key is
-/// allowed, the lexeme is the candidate, and live, and elsewhere there is none.
+/// Whether the slot of its depth is known after the lexeme of a step, which was read up to a mark: if a key is allowed,
+/// the lexeme is the candidate, and live, and if not, there is none.
 #[inline(always)]
 fn has_known_slot(scanner: &scanner_t, step: step_t, reach: yaml_mark_t) -> bool
     ensures key { result ≡ true → step.allowed ≡ true → is_live scanner.now.limit reach step.new ≡ true }
@@ -71,8 +71,8 @@ pub(crate) fn is_outer_live(slots: &slots_t, limit: u64, mark: yaml_mark_t) -> b
     }
 }
 
-/// Whether the lexeme of a step, which was read up to a mark, is in flow and has to wait behind the token of a
-/// candidate. There is room for it and for one group more, and the slot of its depth is known.
+/// Whether the lexeme of a step, which was read up to a mark, is in flow and has to wait until an earlier candidate is
+/// decided. There is room for it and for one group more, and the slot of its depth is known.
 #[inline(always)]
 pub(crate) fn waits(scanner: &scanner_t, step: step_t, reach: yaml_mark_t) -> bool
     requires { scanner.now.layout.queue.done + 1 < 2 ^ 64 }
@@ -81,7 +81,7 @@ pub(crate) fn waits(scanner: &scanner_t, step: step_t, reach: yaml_mark_t) -> bo
     step.in_flow
         && is_candidate(step.kind)
         && !is_flow_start(step.kind)
-        && has_room_behind(scanner)
+        && is_awaited_with_room(scanner)
         && has_known_slot(scanner, step, reach)
 }
 

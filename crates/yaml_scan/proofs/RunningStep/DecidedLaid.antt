@@ -1,5 +1,5 @@
 -- A candidate and what decides it are laid together as they are laid one after the other.
-use Rattle.std.proofs.Common.{◌≡◌, ℕ, zero, suc, ◌+◌, ◌-◌, ◌≤◌, ◌<◌, not, ◌&&◌, ◌||◌, Bool, true, false, List, [], ◌∷◌, ◌++◌, reverse, filter, map, length, Option, Some, None, refl, ap, sym, ◌∙◌, subst, arith, inl, inr, eqb, vec_len, eq-eqb, ltb-false}
+use Rattle.std.proofs.Common.{◌≡◌, ℕ, zero, suc, ◌+◌, ◌-◌, ◌≤◌, ◌<◌, not, ◌&&◌, ◌||◌, Bool, true, false, List, [], ◌∷◌, ◌++◌, reverse, filter, map, length, Option, Some, None, refl, ap, sym, ◌∙◌, subst, arith, inl, inr, eqb, vec_len, eq-eqb, ne_eqb, ltb-false}
 use Rattle.std.specs.Prelude.{if◌then◌else◌, nat_eq, nat_lt}
 use Rattle.std.specs.Option.{is_some}
 use Rattle.std.specs.Vec.{vec_capacity}
@@ -81,17 +81,17 @@ counted_holds H n s ys h = record {
   place = h.place;
 }
 
--- the token of a candidate that is the only one in the queue is not settled
-module _ (H : List Laid) (n : ℕ) (s : scanner_t) (y : group_t) (h : HoldsWith H n s (y ∷ [])) (LEADS : pending s.layout.queue.early s.layout.queue.front (y ∷ []) ≡ []) (AWAITED : s.slots.awaited ≡ s.layout.queue.done + 1) where
-  unsettled : length (before s.limit H) ≤ s.taken
+-- it needs more steps while the head of the queue is that of the lowest candidate
+module _ (H : List Laid) (n : ℕ) (s : scanner_t) (zs : List group_t) (h : HoldsWith H n s zs) (SOME : 0 < length zs) (AWAITED : s.slots.awaited ≡ s.layout.queue.done + 1) (ENDS : begins_with_end (pending s.layout.queue.early s.layout.queue.front zs) ≡ false) where
+  pub unsettled : length (before s.limit H) ≤ s.taken
   unsettled =
       let q = s.layout.queue in
-      let test = settled_test s.limit H h.is_history s.taken h.taken q.done (begins_with_end (pending q.early q.front (y ∷ [])))
-      (λ k x e l. head_awaited s.limit H k x s.taken s.text.encoding q.early q.front (y ∷ []) q.done h.is_history h.queue h.count e l)
-      false (none_left H s.taken s.text.encoding q.early q.front (y ∷ []) h.queue)
+      let some : false ≡ eqb (length zs) 0 = sym (ne_eqb _ _ (λ e. absurd (omega arith))) in
+      let test = settled_test s.limit H h.is_history s.taken h.taken q.done (begins_with_end (pending q.early q.front zs))
+      (λ k x e l. head_awaited s.limit H k x s.taken s.text.encoding q.early q.front zs q.done h.is_history h.queue h.count e l)
+      false (some ∙ none_left H s.taken s.text.encoding q.early q.front zs h.queue)
       s.slots.awaited (h.awaited ∙ ap (λ (hs : List (Option Held)). step_of (lowest hs)) (outer_more s.limit H s.slots.outer.items s.slots.top h.outer h.top)) in
-      let ends : begins_with_end (pending q.early q.front (y ∷ [])) ≡ false = rw LEADS refl in
-      let here : not (eqb s.slots.awaited (q.done + 1) && not (begins_with_end (pending q.early q.front (y ∷ [])))) ≡ false = rw (ends, eq-eqb _ _ AWAITED) refl in
+      let here : not (eqb s.slots.awaited (q.done + 1) && not (begins_with_end (pending q.early q.front zs))) ≡ false = rw (ENDS, eq-eqb _ _ AWAITED) refl in
       ltb-false _ _ (sym test ∙ here)
 
 -- LEVELS
@@ -272,7 +272,7 @@ module _ (H : List Laid) (s : scanner_t) (r : step_t) (x : yaml_lexeme_t) (c : C
     none_ended q = no_ends n new.start (ENDS ∙ (rw (none_closed r.in_flow r.kind new.start ls falls (u.kept q)) refl))
 
     then_needed : sparing ≡ true → length (before s.limit H1) ≤ s.taken
-    then_needed q = let e = none_ended q in unsettled H1 (s.made + 1 + 1) between group first.advances.holds (rw (early, e) refl) step_is
+    then_needed q = let e = none_ended q in unsettled H1 (s.made + 1 + 1) between (group ∷ []) first.advances.holds (omega arith) step_is (rw (early, e) refl)
 
     -- what decides it
     abbrev front : yaml_mark_t

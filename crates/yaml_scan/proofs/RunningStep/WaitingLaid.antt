@@ -1,5 +1,5 @@
 -- A lexeme that has to wait and what comes right after it are laid together as they are laid one after the other.
-use Rattle.std.proofs.Common.{◌≡◌, ℕ, zero, suc, ◌+◌, ◌-◌, ◌≤◌, ◌<◌, not, ◌&&◌, ◌||◌, Bool, true, false, List, [], ◌∷◌, ◌++◌, reverse, filter, map, take, length, length-append, append_assoc, Option, Some, None, refl, ap, sym, ◌∙◌, subst, arith, inl, inr, eqb, vec_len, eq-eqb, ne_eqb, ltb-false, le-leb, leb-true, eqb-true}
+use Rattle.std.proofs.Common.{◌≡◌, ℕ, zero, suc, ◌+◌, ◌-◌, ◌≤◌, ◌<◌, not, ◌&&◌, ◌||◌, Bool, true, false, List, [], ◌∷◌, ◌++◌, reverse, filter, map, take, length, length-append, append_assoc, Option, Some, None, refl, ap, sym, ◌∙◌, subst, arith, inl, inr, vec_len, eq-eqb, le-leb, leb-true, eqb-true}
 use Rattle.std.specs.Prelude.{if◌then◌else◌, nat_eq, nat_lt, slice_get}
 use Rattle.std.specs.Option.{is_some}
 use Rattle.std.proofs.lemmas.Bool.{cases_Bool, and_parts, and_from}
@@ -28,38 +28,22 @@ use Rattle.yaml_scan.specs.inside.Opened.{opened}
 use Rattle.yaml_scan.specs.inside.Queue.{begins_with_end, completed_in, keyed, keyed_at, opened_by, pending}
 use Rattle.yaml_scan.specs.inside.Scanning.{AdvancesTwice, CanLayAll, CanPut, Holds, HoldsWith, IsFollowed, IsFollower, IsMet, IsWaiting, LaysTwo, Met, Needs, Waits, counted, groups_in, met_in}
 use Rattle.yaml_scan.specs.inside.Slots.{AreEmptyBelow, AreNested, Held, completed_held, empty_slots, held, is_live, is_level, lost_held, lowest, nested_outer, nested_top, or_top, root_of, slot_after, step_of, still_held}
-use Rattle.yaml_scan.specs.inside.StepFaults.{IsRefused}
 use Rattle.yaml_scan.specs.inside.TextReads.{IsDecider}
 use Rattle.yaml_scan.proofs.History.KindTests.{candidate_invites_none, candidate_not_end, candidate_not_flow_end, candidate_not_key, candidate_not_value}
 use Rattle.yaml_scan.proofs.History.KindTests.{decider_no_start, decider_not_candidate, decider_not_end}
-use Rattle.yaml_scan.proofs.RunningQueue.CandidateGroup.{head_awaited, none_left}
 use Rattle.yaml_scan.proofs.RunningQueue.EmptySlots.{below_empty, lowest-first, lowest_some, swept_front}
-use Rattle.yaml_scan.proofs.RunningQueue.HeadIsNext.{settled_test}
-use Rattle.yaml_scan.proofs.RunningQueue.SlotOrder.{outer_more, outer_nested}
-use Rattle.yaml_scan.proofs.RunningStep.DecidedLaid.{allows_same, and_not, clears_none, counted_holds}
+use Rattle.yaml_scan.proofs.RunningQueue.SlotOrder.{outer_nested}
+use Rattle.yaml_scan.proofs.RunningStep.DecidedLaid.{allows_same, and_not, clears_none, counted_holds, unsettled}
 use Rattle.yaml_scan.proofs.RunningStep.StepPut.{put_advances}
 use Rattle.yaml_scan.proofs.RunningStep.StepTests.{can_put}
 use Rattle.yaml_scan.proofs.RunningStep.TestsBefore.{allowed_is, flow_is, front_mark, kind_is, root_held, row_met}
 
 -- THE NEXT TOKEN
--- it needs more steps while the head of the queue is that of the lowest candidate
-module _ (H : List Laid) (n : ℕ) (s : scanner_t) (zs : List group_t) (h : HoldsWith H n s zs) (SOME : 0 < length zs) (AWAITED : s.slots.awaited ≡ s.layout.queue.done + 1) (ENDS : begins_with_end (pending s.layout.queue.early s.layout.queue.front zs) ≡ false) where
-  unsettled : length (before s.limit H) ≤ s.taken
-  unsettled =
-      let q = s.layout.queue in
-      let some : false ≡ eqb (length zs) 0 = sym (ne_eqb _ _ (λ e. absurd (omega arith))) in
-      let test = settled_test s.limit H h.is_history s.taken h.taken q.done (begins_with_end (pending q.early q.front zs))
-      (λ k x e l. head_awaited s.limit H k x s.taken s.text.encoding q.early q.front zs q.done h.is_history h.queue h.count e l)
-      false (some ∙ none_left H s.taken s.text.encoding q.early q.front zs h.queue)
-      s.slots.awaited (h.awaited ∙ ap (λ (hs : List (Option Held)). step_of (lowest hs)) (outer_more s.limit H s.slots.outer.items s.slots.top h.outer h.top)) in
-      let here : not (eqb s.slots.awaited (q.done + 1) && not (begins_with_end (pending q.early q.front zs))) ≡ false = rw (ENDS, eq-eqb _ _ AWAITED) refl in
-      ltb-false _ _ (sym test ∙ here)
-
--- a group that is a token alone, behind others, changes nothing of what is next
-ends_behind : (front : yaml_mark_t) (ys : List group_t) (token : yaml_token_t) → begins_with_end (pending 0 front ys) ≡ false → begins_with_end (pending 0 front (ys ++ record { ends = 0; opens = NONE; key = false; token = token } ∷ [])) ≡ false
-ends_behind front [] token e = refl
-ends_behind front (y ∷ []) token e = e
-ends_behind front (y ∷ (z ∷ ys)) token e = e
+-- a group that is a token alone, after others, changes nothing of what is next
+ends_after : (front : yaml_mark_t) (ys : List group_t) (token : yaml_token_t) → begins_with_end (pending 0 front ys) ≡ false → begins_with_end (pending 0 front (ys ++ record { ends = 0; opens = NONE; key = false; token = token } ∷ [])) ≡ false
+ends_after front [] token e = refl
+ends_after front (y ∷ []) token e = e
+ends_after front (y ∷ (z ∷ ys)) token e = e
 
 -- LEVELS IN FLOW
 flow_keeps : (k : Kind) (m : yaml_mark_t) (cs : List ℕ) → filter (stays true k m) cs ≡ cs
@@ -108,7 +92,7 @@ empties_taken (None ∷ hs) (suc n) l = ap suc (empties_taken hs n (omega arith)
 empties_taken (Some h ∷ hs) zero l = refl
 empties_taken (Some h ∷ hs) (suc n) l = refl
 
--- what comes right after it leaves the lowest candidate where it is
+-- what comes right after it changes nothing of the lowest candidate
 module _ (k : Kind) (s : is_flow_start k ≡ false) (hs : List (Option Held)) (h : Held) (e : slice_get hs (empty_slots hs) ≡ Some (Some h)) where
   low : (o : Option Held) → lowest (hs ++ o ∷ []) ≡ Some h
   low o = lowest-first hs (o ∷ []) h (lowest_some hs (Some h) e)
@@ -131,10 +115,6 @@ keyed_last zero b [] y e = refl
 keyed_last (suc n) b [] y e = absurd (omega arith)
 keyed_last zero b (z ∷ ys) y e = absurd (omega arith)
 keyed_last (suc n) b (z ∷ ys) y e = ap (λ (l : List group_t). z ∷ l) (keyed_last n b ys y (omega arith))
-
-accepted : (in_flow : Bool) (k : Kind) (a none : Bool) (g : yaml_mark_t) → in_flow ≡ true → IsRefused (if not in_flow && not a then problem_of k none else None) g None
-accepted true k a none g e = refl
-accepted false k a none g e = absurd (cc)
 
 -- a candidate that is live after one character was so before it
 live_before : (limit : ℕ) (m : yaml_mark_t) (h : Held) → is_live limit (one_on m) h ≡ true → is_live limit m h ≡ true
@@ -265,7 +245,7 @@ module _ (H : List Laid) (s : scanner_t) (r : step_t) (x : yaml_lexeme_t) (c : C
 
     then_needed : length (before s.limit H1) ≤ s.taken
     then_needed = unsettled H1 (s.made + 1 + 1) between (ys ++ group ∷ []) first.advances.holds (let l = length-append ys (group ∷ []) in omega arith) u.awaited
-        (rw early (ends_behind s.layout.queue.front ys token (rw early at u.ends)))
+        (rw early (ends_after s.layout.queue.front ys token (rw early at u.ends)))
 
     -- what comes right after it
     abbrev front : yaml_mark_t
@@ -300,7 +280,7 @@ module _ (H : List Laid) (s : scanner_t) (r : step_t) (x : yaml_lexeme_t) (c : C
     not_lost : lost_held s.limit front root ≡ None
     not_lost = root_kept s.limit front outer then_top s.slots.not_simple_keys d.outer.0 d.outer.1.0 live_then
 
-    -- the lexeme is a key if a `:` comes after it where a key is allowed
+    -- the lexeme is a key if a key is allowed and a `:` comes after it
     abbrev key : Bool
     key = r.allowed && is_value k
 
@@ -325,7 +305,7 @@ module _ (H : List Laid) (s : scanner_t) (r : step_t) (x : yaml_lexeme_t) (c : C
       allowed = allowed_is H1 (s.made + 1 + 1) (counted between) then_holds then_running r.in_flow c.can.is_new.flow front then_front root (lost_held s.limit front root) root_then refl not_lost (Some k) kind_then k refl met.allowed refl;
       kind = sym (kind_is H1 (s.made + 1 + 1) (counted between) then_holds then_running r.in_flow c.can.is_new.flow front then_front root (lost_held s.limit front root) root_then refl not_lost (Some k) kind_then);
       step = row_met H1 (s.made + 1 + 1) (counted between) then_holds then_running r.in_flow c.can.is_new.flow front then_front root (lost_held s.limit front root) root_then refl not_lost (Some k) kind_then k refl met.allowed refl
-          completed refl (not key) completes (accepted r.in_flow k met.allowed (not key) front u.flow) front start_then None (rw (clears_none r.in_flow k met.allowed decider.decides) refl) refl;
+          completed refl (not key) completes (rw u.flow refl) front start_then None (rw (clears_none r.in_flow k met.allowed decider.decides) refl) refl;
     }
 
     abbrev level : Option ℕ

@@ -289,7 +289,7 @@ pub record IsDecided
   pub decider : (p : ℕ) → IsMarkOf s.text.chars at p → IsDecider s.text.chars r.in_flow p k x
   pub far : x.reach.index < s.near
 
--- a lexeme in flow that was met and read to `at` has to wait behind the token of a candidate, and so may one more group
+-- a lexeme in flow that was met and read to `at` has to wait until an earlier candidate is decided, and one more may
 pub record Waits (s : scanner_t) (r : step_t) (at : yaml_mark_t) : Type 0 where
   pub flow : r.in_flow ≡ true
   pub candidate : is_candidate_kind r.kind ≡ true
@@ -300,7 +300,7 @@ pub record Waits (s : scanner_t) (r : step_t) (at : yaml_mark_t) : Type 0 where
   pub key : r.allowed ≡ true → is_live s.limit at r.new ≡ true
   pub none : r.allowed ≡ false → s.slots.top ≡ None
 
--- a lexeme read to `at` and x, of kind k, right after it wait behind an outer candidate, which is live after x
+-- a lexeme read to `at` and x, of kind k, right after it wait until an outer candidate, live after x, is decided
 pub record IsWaiting (s : scanner_t) (r : step_t) (at : yaml_mark_t) (k : Kind) (x : yaml_lexeme_t) : Type 0 where
   pub waits : Waits s r at
   pub reach : x.reach ≡ one_on at
