@@ -26,15 +26,22 @@ fn has_room(scanner: &scanner_t, in_flow: bool, kind: yaml_lexeme_kind_t) -> boo
         && scanner.layout.queue.groups.len() < scanner.layout.queue.groups.capacity()
 }
 
-/// Makes room for one more depth, level and group.
+/// Makes room for what the step of a lexeme of a kind may keep, where there is none.
 #[cold]
-fn make_room(scanner: &mut scanner_t) -> Result<(), stop_t>
-    ensures { MatchResult result (λ _. ((in_flow : Bool) (k : yaml_lexeme_kind_t) → HasRoom scanner.new in_flow k)
-        × Beside scanner.old scanner.new)
+fn make_room(
+    scanner: &mut scanner_t,
+    in_flow: bool,
+    kind: yaml_lexeme_kind_t,
+) -> Result<(), stop_t>
+    ensures { MatchResult result (λ _. HasRoom scanner.new in_flow kind × Beside scanner.old scanner.new)
         (λ stop. (fault_at stop scanner.new.kept ≡ memory_fault) × Stays scanner.old scanner.new) }
 {
-    scanner.slots.outer.reserve(1)?;
-    scanner.layout.levels.reserve(1)?;
+    if is_flow_start(kind) {
+        scanner.slots.outer.reserve(1)?;
+    }
+    if !in_flow {
+        scanner.layout.levels.reserve(1)?;
+    }
     scanner.layout.queue.groups.reserve(1)?;
     Ok(())
 }
@@ -52,7 +59,7 @@ fn ensure_room(
     if has_room(scanner, in_flow, kind) {
         return Ok(());
     }
-    match make_room(scanner) {
+    match make_room(scanner, in_flow, kind) {
         Ok(_) => Ok(()),
         Err(stop) => Err(stopped(stop)),
     }

@@ -23,16 +23,13 @@ ghost use Rattle.yaml_scan.specs.inside.Queue.{ends_at};
 ghost use Rattle.yaml_scan.specs.inside.Scanning.{CanLayAll, IsDecided, IsUndecided, LaysTwo, groups_in};
 ghost use Rattle.yaml_scan.specs.inside.Slots.{nested_outer, nested_top};
 
-use crate::allowed::is_allowed_after;
-use crate::depth::{is_flow_start, nest};
+use crate::depth::is_flow_start;
 use crate::groups::{block_t, queue_t};
 use crate::keys::is_still_live;
-use crate::kind::{is_candidate, is_colon};
+use crate::kind::is_candidate;
 use crate::levels::{close_levels, closing, is_new_level, open_level};
 use crate::met::step_t;
 use crate::scanner::scanner_t;
-use crate::slots::slots_t;
-use crate::source::decider_t;
 use yaml_lexeme::yaml_lexeme_kind_t;
 use yaml_text::yaml_mark_t;
 
@@ -94,7 +91,7 @@ fn mapping_start(opens: bool) -> block_t
 /// Closes the levels that the candidate of a step does not keep. If it is a key in a column above the others, opens
 /// that; outside flow there is room for it. Returns how many levels end at the candidate, and what it opens.
 #[inline(always)]
-fn lay_candidate(levels: &mut Vec<u64>, step: step_t, key: bool) -> (usize, block_t)
+pub(crate) fn lay_candidate(levels: &mut Vec<u64>, step: step_t, key: bool) -> (usize, block_t)
     requires falls { IsFalling (reverse levels.old.items) }
     requires room { step.in_flow ≡ false → vec_len levels.old < vec_capacity levels.old }
     requires last { is_stream_end step.kind ≡ false }
@@ -112,52 +109,4 @@ fn lay_candidate(levels: &mut Vec<u64>, step: step_t, key: bool) -> (usize, bloc
     let opens = key && is_new_level(levels, step.in_flow, start.column);
     open_level(levels, opens, start.column);
     (closed.ends, mapping_start(opens))
-}
-
-/// Drops the candidate, the only one, at what decides it, which may be a flow end, and is no flow start.
-#[inline(always)]
-fn drop_candidate(slots: &mut slots_t, kind: yaml_lexeme_kind_t)
-    requires { is_flow_start kind ≡ false }
-    ensures outer { slots.new.outer.items ≡ nested_outer kind slots.old.outer.items None }
-    ensures top { slots.new.top ≡ nested_top kind slots.old.outer.items None }
-    ensures empty { slots.new.not_simple_keys ≡ vec_len slots.new.outer }
-    ensures awaited { slots.new.awaited ≡ 0 }
-{
-    slots.top = None;
-    nest(slots, kind);
-    slots.not_simple_keys = slots.outer.len();
-    slots.awaited = 0;
-}
-
-/// Lays the lexeme of a step, which was read to a mark, and what decides whether it is a key. Both start at the end of
-/// a gap. Returns how many levels end at the token of the lexeme, what it opens, and whether it is a key. What decides
-/// is a group alone.
-#[inline(always)]
-pub(crate) fn lay_decided(
-    scanner: &mut scanner_t,
-    step: step_t,
-    at: yaml_mark_t,
-    decider: &decider_t,
-) -> (usize, block_t, bool)
-    ghost before: { List Laid }
-    requires { (x : Lexeme) × ((x.reach ≡ at) × CanLayAll before scanner.old step x)
-        × ((sparing : Bool) × IsDecided scanner.old sparing step at decider.now.kind (lexeme_of decider.now.lexeme)) }
-    ensures laid { (sparing : Bool) (d : TokenData) (b e : yaml_mark_t) (passed : Bool) (t z : code_token_t)
-        → CanLayAll before scanner.old step (read_to d b e at passed)
-        → IsDecided scanner.old sparing step at decider.now.kind (lexeme_of decider.now.lexeme)
-        → IsTokenOf t d step.new.start e
-        → IsTokenOf z (lexeme_of decider.now.lexeme).token_data at (lexeme_of decider.now.lexeme).end_mark
-        → LaysTwo sparing before scanner.old scanner.new (groups_in scanner.new
-        ++ group_with result.0 result.1 result.2 t ∷ (lone z ∷ [])) }
-    ensures queue { scanner.new.layout.queue ≡ scanner.old.layout.queue }
-    ensures awaited { scanner.new.slots.awaited ≡ 0 }
-    ensures few { result.0 ≤ length scanner.old.layout.levels.items }
-{
-    let kind = decider.kind;
-    let key = is_colon(kind);
-    let (ends, opens) = lay_candidate(&mut scanner.layout.levels, step, key);
-    drop_candidate(&mut scanner.slots, kind);
-    scanner.allowed = is_allowed_after(kind, step.in_flow, !key, false);
-    scanner.reach = decider.lexeme.reach;
-    (ends, opens, key)
 }

@@ -342,22 +342,3 @@ pub(crate) fn end_laid_queued(
 {
     end_laid::<false, no_sink_t>(scanner, &mut no_sink_t {}, laid, token)
 }
-
-/// Ends a step with what was read, whose group goes into the queue. Stops if it was refused. It is called, and not
-/// inlined, since what is inlined into it is large, and the kinds that come here are rare.
-#[inline(never)]
-pub(crate) fn end_queued(
-    scanner: &mut scanner_t,
-    step: step_t,
-    read: Result<yaml_lexeme_t, yaml_refusal_t>,
-) -> Result<(), stop_t>
-    ghost before: { List Laid }
-    requires { CanRead before scanner.old step
-        × IsReadIn scanner.old step.kind step.context scanner.old.there read }
-    ensures { IsStep before scanner.old scanner.new result }
-{
-    match lay_queued(scanner, step, read) {
-        Ok((laid, token)) => end_laid_queued(scanner, laid, token),
-        Err(stop) => Err(stopped(stop)),
-    }
-}

@@ -1,24 +1,36 @@
 //! What comes right after a lexeme: two steps that are made at once, if the next token needs both.
 ghost use Rattle.std.specs.Prelude.{ℕ, ◌≡◌, ◌+◌, ◌<◌, ◌≤◌, ◌^◌, ◌++◌, ◌∷◌, [], List, Some, true, false, length};
-ghost use Rattle.std.specs.Prelude.{Bool, IfSome, ◌||◌, slice_get};
+ghost use Rattle.std.specs.Prelude.{Bool, IfSome, None, ◌||◌, ◌&&◌, if◌then◌else◌, slice_get, vec_len, filter, map, not, reverse, false};
+ghost use Rattle.std.specs.Vec.{vec_capacity};
 ghost use Rattle.yaml_lexeme.specs.Counted.{IsMarkOf};
 ghost use Rattle.yaml_lexeme.specs.Lexeme.{Lexeme};
 ghost use Rattle.yaml_lexeme.specs.LexemeOf.{lexeme_of};
 ghost use Rattle.yaml_text.specs.declared.token.yaml_token_t.{yaml_token_t as code_token_t};
 ghost use Rattle.yaml_text.specs.declared.types.yaml_mark_t.{yaml_mark_t};
 ghost use Rattle.yaml_text.specs.Token.{TokenData};
-ghost use Rattle.yaml_scan.specs.Kind.{is_candidate_kind};
+ghost use Rattle.yaml_scan.specs.Falling.{IsFalling};
+ghost use Rattle.yaml_scan.specs.Groups.Token.{BlockEnd};
+ghost use Rattle.yaml_scan.specs.Kind.{is_candidate_kind, is_flow_start, is_stream_end, is_value};
+ghost use Rattle.yaml_scan.specs.Levels.{stays};
+ghost use Rattle.yaml_scan.specs.declared.groups.block_t.TheVariants.{MAPPING, NONE};
+ghost use Rattle.yaml_scan.specs.inside.Opened.{is_new};
+ghost use Rattle.yaml_scan.specs.inside.Queue.{ends_at};
 ghost use Rattle.yaml_scan.specs.Laid.{Laid};
 ghost use Rattle.yaml_scan.specs.inside.Handed.{IsTokenOf, group_with, lone, read_to};
 ghost use Rattle.yaml_scan.specs.inside.Scanning.{CanLayAll, IsFollower, IsFollowed, LaysTwo, groups_in};
-ghost use Rattle.yaml_scan.specs.inside.Slots.{Held, is_live};
+ghost use Rattle.yaml_scan.specs.inside.Slots.{Held, is_live, nested_outer, nested_top};
 
-use crate::decided::{is_undecided, lay_decided};
+use crate::allowed::is_allowed_after;
+use crate::decided::{is_undecided, lay_candidate};
+use crate::depth::nest;
 use crate::groups::block_t;
+use crate::kind::is_colon;
 use crate::met::step_t;
 use crate::scanner::scanner_t;
+use crate::slots::slots_t;
 use crate::source::{decider_at, decider_t};
-use crate::waiting::{is_outer_live, lay_waiting, waits};
+use crate::waiting::{is_outer_live, waits};
+use yaml_lexeme::yaml_lexeme_kind_t;
 use yaml_text::yaml_mark_t;
 
 /// What comes right after a lexeme.
@@ -80,8 +92,60 @@ pub(crate) fn follower_of(
     }
 }
 
+/// Whether the lexeme of a step is a key, if a lexeme of a kind comes right after it.
+#[inline(always)]
+fn is_key(step: step_t, kind: yaml_lexeme_kind_t) -> bool
+    ensures { result ≡ (step.allowed && is_value kind) }
+{
+    step.allowed && is_colon(kind)
+}
+
+/// Closes the levels that the lexeme of a step does not keep, and opens one if it is a key in a column above the others.
+/// If it waits, it is in flow, where no level ends and none begins. Returns how many levels end at the lexeme, and what
+/// it opens.
+#[inline(always)]
+fn lay_levels(levels: &mut Vec<u64>, step: step_t, key: bool, waits: bool) -> (usize, block_t)
+    requires falls { waits ≡ false → IsFalling (reverse levels.old.items) }
+    requires room { step.in_flow ≡ false → vec_len levels.old < vec_capacity levels.old }
+    requires last { waits ≡ false → is_stream_end step.kind ≡ false }
+    ensures same { waits ≡ true → (levels.new ≡ levels.old) × (result.0 ≡ 0) × (result.1 ≡ NONE) }
+    ensures levels { waits ≡ false → (kept : List ℕ) × (reverse kept
+        ≡ filter (stays step.in_flow step.kind step.new.start) (reverse levels.old.items))
+        × (reverse levels.new.items ≡ (if key && is_new step.in_flow step.new.start.column (reverse kept)
+        then step.new.start.column ∷ [] else []) ++ reverse kept)
+        × (result.1 ≡ (if key && is_new step.in_flow step.new.start.column (reverse kept) then MAPPING else NONE)) }
+    ensures ends { waits ≡ false → ends_at result.0 step.new.start ≡ map (λ c. BlockEnd step.new.start) (filter (λ c.
+        not (stays step.in_flow step.kind step.new.start c)) (reverse levels.old.items)) }
+    ensures few { result.0 ≤ length levels.old.items }
+{
+    if waits {
+        (0, block_t::NONE)
+    } else {
+        lay_candidate(levels, step, key)
+    }
+}
+
+/// Leaves the candidate of the depth behind at what comes right after it, which may be a flow end, and is no flow
+/// start. If both do not wait, it was the only candidate.
+#[inline(always)]
+fn drop_candidate(slots: &mut slots_t, kind: yaml_lexeme_kind_t, waits: bool)
+    requires { is_flow_start kind ≡ false }
+    ensures outer { slots.new.outer.items ≡ nested_outer kind slots.old.outer.items None }
+    ensures top { slots.new.top ≡ nested_top kind slots.old.outer.items None }
+    ensures empty { slots.new.not_simple_keys ≡ (if waits then slots.old.not_simple_keys else vec_len slots.new.outer) }
+    ensures awaited { slots.new.awaited ≡ (if waits then slots.old.awaited else 0) }
+{
+    slots.top = None;
+    nest(slots, kind);
+    if !waits {
+        slots.not_simple_keys = slots.outer.len();
+        slots.awaited = 0;
+    }
+}
+
 /// Lays the lexeme of a step, which was read to a mark, and what comes right after it. Returns how many levels end at
-/// the token of the lexeme, what it opens, and whether it is a key. What comes after it is a group alone.
+/// the token of the lexeme, what it opens, and whether it is a key. What comes after it is a group alone. If both wait,
+/// they are in flow, where no level ends and none begins.
 #[inline(always)]
 pub(crate) fn lay_followed(
     scanner: &mut scanner_t,
@@ -105,10 +169,11 @@ pub(crate) fn lay_followed(
     ensures awaited { follower.now.waits ≡ false → scanner.new.slots.awaited ≡ 0 }
     ensures few { result.0 ≤ length scanner.old.layout.levels.items }
 {
-    if follower.waits {
-        let key = lay_waiting(scanner, step, at, &follower.decider);
-        (0, block_t::NONE, key)
-    } else {
-        lay_decided(scanner, step, at, &follower.decider)
-    }
+    let kind = follower.decider.kind;
+    let key = is_key(step, kind);
+    let (ends, opens) = lay_levels(&mut scanner.layout.levels, step, key, follower.waits);
+    drop_candidate(&mut scanner.slots, kind, follower.waits);
+    scanner.allowed = is_allowed_after(kind, step.in_flow, !key, false);
+    scanner.reach = follower.decider.lexeme.reach;
+    (ends, opens, key)
 }

@@ -60,7 +60,7 @@ pub(crate) fn token_at(says: unnamed_yaml_token_t_data, mark: yaml_mark_t) -> ya
 }
 
 /// How many groups a queue has room for at first: so many that it seldom goes round in its room.
-const FIRST_ROOM: usize = 16;
+const FIRST_ROOM: usize = 8;
 
 /// Puts the first token into a queue that is empty, and makes room for some more groups.
 pub(crate) fn put_stream_start(

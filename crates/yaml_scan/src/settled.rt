@@ -11,20 +11,9 @@ ghost use Rattle.yaml_scan.specs.inside.Scanning.{Fails, Settles};
 ghost use Rattle.yaml_scan.specs.inside.Scanning.{Stops, history};
 
 use crate::fault::stop_t;
-use crate::groups::has_ends;
 use crate::scanner::scanner_t;
 use crate::step::step;
-
-/// Whether the head of the queue is the token of the lowest candidate.
-#[inline(always)]
-pub(crate) fn is_awaited(scanner: &scanner_t) -> bool
-    requires { scanner.now.layout.queue.done + 1 < 2 ^ 64 }
-    ensures { result ≡ (nat_eq scanner.now.slots.awaited (scanner.now.layout.queue.done + 1)
-        && not (begins_with_end (pending scanner.now.layout.queue.early scanner.now.layout.queue.front
-        scanner.now.layout.queue.groups.items))) }
-{
-    scanner.slots.awaited == scanner.layout.queue.done + 1 && !has_ends(&scanner.layout.queue)
-}
+use crate::waiting::is_awaited;
 
 /// Whether the head of the queue is the next token.
 #[inline(always)]

@@ -8,7 +8,7 @@ ghost use Rattle.yaml_scan.specs.inside.Scanning.{CanStep, Comes, IsStep};
 
 use crate::begin::begin_step;
 use crate::fault::{stop_t, stopped};
-use crate::finish::{end_character, end_laid, end_laid_queued, end_queued, lay_queued, lay_read};
+use crate::finish::{end_character, end_laid, end_laid_queued, lay_queued, lay_read};
 use crate::keys::{is_lost, root_at};
 use crate::scanner::scanner_t;
 use crate::source::{
@@ -194,7 +194,10 @@ fn step_other<const IN_FLOW: bool>(
     match begin_step(scanner, IN_FLOW, kind) {
         Ok(step) => {
             let read = read_other(scanner, kind, step.context);
-            end_queued(scanner, step, read)
+            match lay_queued(scanner, step, read) {
+                Ok((laid, token)) => end_laid_queued(scanner, laid, token),
+                Err(stop) => Err(stopped(stop)),
+            }
         }
         Err(stop) => Err(stopped(stop)),
     }

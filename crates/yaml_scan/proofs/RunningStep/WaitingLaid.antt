@@ -33,7 +33,7 @@ use Rattle.yaml_scan.proofs.History.KindTests.{candidate_invites_none, candidate
 use Rattle.yaml_scan.proofs.History.KindTests.{decider_no_start, decider_not_candidate, decider_not_end}
 use Rattle.yaml_scan.proofs.RunningQueue.EmptySlots.{below_empty, lowest-first, lowest_some, swept_front}
 use Rattle.yaml_scan.proofs.RunningQueue.SlotOrder.{outer_nested}
-use Rattle.yaml_scan.proofs.RunningStep.DecidedLaid.{allows_same, and_not, clears_none, counted_holds, unsettled}
+use Rattle.yaml_scan.proofs.RunningStep.DecidedLaid.{allows_same, and_not, clears_none, counted_holds, read_place, unsettled}
 use Rattle.yaml_scan.proofs.RunningStep.StepPut.{put_advances}
 use Rattle.yaml_scan.proofs.RunningStep.StepTests.{can_put}
 use Rattle.yaml_scan.proofs.RunningStep.TestsBefore.{allowed_is, flow_is, front_mark, kind_is, root_held, row_met}
@@ -135,6 +135,15 @@ follower s sparing r at false k x f d m l o = record { undecided = f; decider = 
 pub followed_kind : (s : scanner_t) (sparing : Bool) (r : step_t) (at : yaml_mark_t) (w : Bool) → IsFollowed s sparing r at w → is_candidate_kind r.kind ≡ true
 followed_kind s sparing r at true f = f.candidate
 followed_kind s sparing r at false f = f.candidate
+
+-- what comes right after a lexeme enters no depth
+pub follower_no_start : (H : List Laid) (s : scanner_t) (r : step_t) (x : yaml_lexeme_t) → CanLayAll H s r x → (sparing w : Bool) (k : Kind) (y : yaml_lexeme_t) → IsFollower s sparing r x.reach w k y → is_flow_start k ≡ false
+follower_no_start H s r x c sparing true k y f =
+    let i = read_place H s r x c f.waits.candidate in
+    decider_no_start r.in_flow k (f.decider i.0 i.1).decides
+follower_no_start H s r x c sparing false k y f =
+    let i = read_place H s r x c f.undecided.candidate in
+    decider_no_start r.in_flow k (f.decider i.0 i.1).decides
 
 -- BOTH
 module _ (H : List Laid) (s : scanner_t) (r : step_t) (x : yaml_lexeme_t) (c : CanLayAll H s r x) (k : Kind) (y : yaml_lexeme_t) (d : IsWaiting s r x.reach k y) where
