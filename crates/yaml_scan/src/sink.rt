@@ -12,7 +12,7 @@ ghost use Rattle.yaml_scan.specs.inside.Ready.{IsNew, Pops};
 ghost use Rattle.yaml_scan.specs.declared.scanner.scanner_t.{scanner_t};
 ghost use Rattle.yaml_scan.specs.inside.Scanning.{IsOpen, IsRunning, history};
 
-use crate::fault::{fault_at, stop_t};
+use crate::fault::{fault_at, stop_t, stopped};
 use crate::groups::{is_early, lead_t, lead_token, take_bare, take_early, take_lead};
 use crate::parser::{begin, new_scanner};
 use crate::scanner::scanner_t;
@@ -83,7 +83,10 @@ fn give_rest<S: yaml_token_sink_t>(scanner: &mut scanner_t, sink: &mut S) -> Res
     let mut last = false;
     'tokens: while !last {
         settle_to(scanner, sink)?;
-        last = give_next(scanner, sink)?;
+        last = match give_next(scanner, sink) {
+            Ok(last) => last,
+            Err(stop) => return Err(stopped(stop)),
+        };
     }
     Ok(())
 }

@@ -1,7 +1,7 @@
 //! Reading UTF-16.
 ghost use Rattle.std.specs.Prelude.{ℕ, ◌≡◌, ◌+◌, ◌-◌, ◌*◌, ◌<◌, ◌≤◌, List, ◌++◌};
 ghost use Rattle.std.specs.Prelude.{[], ◌∷◌, encode_utf8, length, take, drop, slice_index, true, IfOk, IfErr};
-ghost use Rattle.std.specs.Prelude.{OnErr, IfSome, IsNone};
+ghost use Rattle.std.specs.Prelude.{OnErr, OnOk, IfSome, IsNone, vec_capacity};
 ghost use Rattle.yaml_text.specs.TextBytes.{IsChar};
 ghost use Rattle.yaml_text.specs.inside.Singles.{is_single};
 ghost use Rattle.yaml_text.specs.inside.Slots.{AreFew, IsSlotOf, Spells, packed};
@@ -101,8 +101,8 @@ fn narrow(bytes: &[u8], big: bool) -> u8x16
         .select(low, u8x16::splat(0xFF))
 }
 
-/// Sixteen units as bytes, with a space for each that is a character of two or three bytes. If such a byte is a
-/// character by itself, the unit is a character.
+/// Sixteen units as bytes. A unit below A0 is the byte itself. A surrogate, FFFE or FFFF is the byte 80. Every other
+/// unit is a character, and a space stands for it. If a byte is a character by itself, its unit is a character.
 #[inline(always)]
 fn shown(low: u8x16, high: u8x16) -> u8x16
     ensures long { length result ≡ 16 }
@@ -114,21 +114,6 @@ fn shown(low: u8x16, high: u8x16) -> u8x16
     let last = high.simd_eq(u8x16::splat(0xFF)) & low.simd_ge(u8x16::splat(0xFE));
     let byte = narrow.select(low, u8x16::splat(0x80));
     (narrow | (surrogate | last)).select(byte, u8x16::splat(0x20))
-}
-
-/// How many of the first 16 units are characters by themselves. U+0085, which is seldom used, ends them too.
-#[inline(always)]
-fn plain_len(bytes: &[u8], big: bool) -> usize
-    requires { 32 ≤ length bytes.now }
-    ensures chars { (k : ℕ) → k < result → IsChar (unit_at big bytes.now (2 * k)) }
-    ensures most { result ≤ 16 }
-{
-    let (low, high) = halves(bytes, big);
-    let found = others(shown(low, high));
-    if found == 0 {
-        return 16;
-    }
-    found.trailing_zeros() as usize
 }
 
 /// The three bytes that 16 units may have in UTF-8, and how many each has.
@@ -217,61 +202,62 @@ fn put_slot(items: &mut [u8], from: usize, to: usize) -> usize
     n as usize
 }
 
-/// Joins the bytes that count of the first slots that begin at a place, and returns where they end.
+/// Joins the bytes that count of the 16 slots that begin at a place, and returns where they end.
 #[inline(always)]
-fn join_slots(items: &mut [u8], start: usize, count: usize) -> usize
-    requires room { start + 4 * count ≤ length items.old }
-    requires few { AreFew count (drop start items.old) }
-    ensures bytes { take result items.new ≡ take start items.old ++ packed count (drop start items.old) }
+fn join_slots(items: &mut [u8], start: usize) -> usize
+    requires room { start + 64 ≤ length items.old }
+    requires few { AreFew (drop start items.old) }
+    ensures bytes { take result items.new ≡ take start items.old ++ packed 16 (drop start items.old) }
 {
     let mut end = start;
-    for k in 0..count {
+    for k in 0..16 {
         end += put_slot(items, start + 4 * k, end);
     }
     end
 }
 
-/// Appends the first of 16 units, which are characters.
+/// Whether there is room for 16 slots, so that no memory is asked for.
 #[inline(always)]
-fn push_slots(
-    out: &mut Vec<u8>,
-    bytes: &[u8],
-    big: bool,
-    at: usize,
-    count: usize,
-) -> Result<(), AllocError>
+fn has_room_for_slots(out: &Vec<u8>) -> bool
+    ensures { result ≡ true → length out.now.items + 64 ≤ vec_capacity out.now }
+{
+    out.capacity() - out.len() >= 64
+}
+
+/// Appends 16 units, which are characters.
+#[inline(always)]
+fn push_slots(out: &mut Vec<u8>, bytes: &[u8], big: bool, at: usize) -> Result<(), AllocError>
     requires room { at + 32 ≤ length bytes.now }
-    requires most { count ≤ 16 }
-    requires chars { (k : ℕ) → k < count → IsChar (unit_at big bytes.now (at + 2 * k)) }
+    requires chars { (k : ℕ) → k < 16 → IsChar (unit_at big bytes.now (at + 2 * k)) }
     requires read { Reads16 big bytes.now out.old.items at }
-    ensures { IfOk result (λ u. Reads16 big bytes.now out.new.items (at + 2 * count)) }
+    ensures { IfOk result (λ u. Reads16 big bytes.now out.new.items (at + 32)) }
 {
     let before = out.len();
     out.extend_from_slice(&slots(rest(bytes, at), big))?;
-    let end = join_slots(out.as_mut_slice(), before, count);
+    let end = join_slots(out.as_mut_slice(), before);
     out.truncate(end);
     Ok(())
 }
 
-/// Appends the first of 16 units as far as they are characters of one to three bytes, and returns how many they are.
+/// Whether at least two of 16 units are no characters of one byte. The mask has a bit for each such unit.
 #[inline(always)]
-fn push_mixed(out: &mut Vec<u8>, bytes: &[u8], big: bool, at: usize) -> Result<usize, AllocError>
-    requires room { at + 32 ≤ length bytes.now }
-    requires read { Reads16 big bytes.now out.old.items at }
-    ensures read { IfOk result (λ n. Reads16 big bytes.now out.new.items (at + 2 * n)) }
-    ensures most { IfOk result (λ n. n ≤ 16) }
-{
-    let count = plain_len(rest(bytes, at), big);
-    if count == 16 {
-        // so many are moved with no loop
-        push_slots(out, bytes, big, at, 16)?;
-        return Ok(16);
-    }
-    push_slots(out, bytes, big, at, count)?;
-    Ok(count)
+fn are_many(found: u64) -> bool {
+    found.count_ones() > 1
 }
 
-/// Appends the first of 16 units as far as they are characters, and returns how many they are.
+/// Whether each of the first 16 units is a character by itself. U+0085, which is seldom used, counts as none.
+#[inline(always)]
+fn are_plain(bytes: &[u8], big: bool) -> bool
+    requires { 32 ≤ length bytes.now }
+    ensures { result ≡ true → (k : ℕ) → k < 16 → IsChar (unit_at big bytes.now (2 * k)) }
+{
+    let (low, high) = halves(bytes, big);
+    others(shown(low, high)) == 0
+}
+
+/// Appends the first of 16 units, and returns how many. All are appended if they are characters of one byte. All are
+/// appended too if they are characters, several of them have more bytes, and there is room for their slots. Otherwise
+/// those before the first that is no character of one byte are appended.
 #[inline(always)]
 fn push_units(out: &mut Vec<u8>, bytes: &[u8], big: bool, at: usize) -> Result<usize, AllocError>
     requires room { at + 32 ≤ length bytes.now }
@@ -287,22 +273,47 @@ fn push_units(out: &mut Vec<u8>, bytes: &[u8], big: bool, at: usize) -> Result<u
         return Ok(16);
     }
     let count = found.trailing_zeros() as usize;
-    if is_plain(unit_at(bytes, at + 2 * count, big)) {
-        return push_mixed(out, bytes, big, at);
+    if unit_at(bytes, at + 2 * count, big) < 0xD800
+        && are_many(found)
+        && has_room_for_slots(out)
+        && are_plain(rest(bytes, at), big)
+    {
+        push_slots(out, bytes, big, at)?;
+        return Ok(16);
     }
-    // what is read by itself ends them, and what stands before it has one byte each
     out.extend_from_slice(&units.to_array())?;
     out.truncate(before + count);
     Ok(count)
 }
 
-/// Whether the unit is a character by itself. U+0085, which is seldom used, is left out.
+/// Appends units from a place on, 16 at a time, and returns where they end. That is where fewer are left, or where a
+/// step does not append all.
+#[inline(always)]
+fn push_run(out: &mut Vec<u8>, bytes: &[u8], big: bool, start: usize) -> Result<usize, AllocError>
+    requires { Reads16 big bytes.now out.old.items start }
+    ensures read { IfOk result (λ at. Reads16 big bytes.now out.new.items at) }
+    ensures forward { IfOk result (λ at. start ≤ at) }
+{
+    let mut at = start;
+    'units: while bytes.len() - at >= 32 {
+        let count = push_units(out, bytes, big, at)?;
+        at += 2 * count;
+        if count < 16 {
+            return Ok(at);
+        }
+    }
+    Ok(at)
+}
+
+/// Whether the unit is a space, or a character of two or three bytes before the surrogates. U+0085, which is seldom
+/// used, is left out.
 #[inline(always)]
 #[tactic(auto, unfolding(crate::specs::Chars::is_char))]
 fn is_plain(u: u32) -> bool
-    ensures { result ≡ true → IsChar u }
+    ensures char { result ≡ true → IsChar u }
+    ensures least { result ≡ true → u < 0xD800 }
 {
-    matches!(u, 0x20..=0x7E | 9 | 10 | 13 | 0xA0..=0xD7FF | 0xE000..=0xFFFD)
+    matches!(u, 0x20 | 0xA0..=0xD7FF)
 }
 
 /// Writes a plain unit in UTF-8, and returns how many bytes it has.
@@ -353,61 +364,81 @@ fn put_plains(buffer: &mut [u8; 64], bytes: &[u8], big: bool, start: usize) -> (
     (n, at)
 }
 
-/// Appends the units from a place on as far as they are plain, and returns where they end.
+/// Appends the first `n` of 64 bytes. Mostly all are appended, since their number is constant, and the rest is cut off.
+/// Where only the first `n` have room, they are appended alone, so that no memory is asked for.
+#[inline(always)]
+fn push_first(out: &mut Vec<u8>, buffer: &[u8; 64], n: usize) -> Result<(), AllocError>
+    requires { n ≤ 64 }
+    ensures { OnOk result (out.new.items ≡ out.old.items ++ take n buffer.now) }
+{
+    let before = out.len();
+    let room = out.capacity() - before;
+    if n <= room && room < 64 {
+        return out.extend_from_slice(&buffer[..n]);
+    }
+    out.extend_from_slice(buffer)?;
+    out.truncate(before + n);
+    Ok(())
+}
+
+/// Appends the units from a place on as far as they are plain, up to 64 bytes, and returns where they end.
 fn push_plain(out: &mut Vec<u8>, bytes: &[u8], big: bool, start: usize) -> Result<usize, AllocError>
     requires { Reads16 big bytes.now out.old.items start }
     ensures read { IfOk result (λ at. Reads16 big bytes.now out.new.items at) }
     ensures forward { IfOk result (λ at. start ≤ at) }
 {
-    let mut at = start;
     let mut buffer = [0; 64];
-    'units: while bytes.len() - at >= 2 {
-        let (n, end) = put_plains(&mut buffer, bytes, big, at);
-        let before = out.len();
-        out.extend_from_slice(&buffer)?;
-        out.truncate(before + n);
-        if n <= 61 {
-            return Ok(end);
-        }
-        at = end;
-    }
-    Ok(at)
+    let (n, end) = put_plains(&mut buffer, bytes, big, start);
+    push_first(out, &buffer, n)?;
+    Ok(end)
 }
 
-/// Appends the units from a place on, 16 at a time as long as they are characters, and returns where they end. Of the
-/// last ones, which are fewer, those of one byte are left.
+/// Whether 16 units from a place on are found to be characters by themselves, and there is room for their slots. The
+/// second is looked at alone first, since half of a pair often stands there. From D800 on it counts as no character.
 #[inline(always)]
-fn push_run(out: &mut Vec<u8>, bytes: &[u8], big: bool, start: usize) -> Result<usize, AllocError>
+fn are_plain_at(out: &Vec<u8>, bytes: &[u8], big: bool, at: usize) -> bool
+    requires { at ≤ length bytes.now }
+    ensures chars { result ≡ true → (k : ℕ) → k < 16 → IsChar (unit_at big bytes.now (at + 2 * k)) }
+    ensures room { result ≡ true → length out.now.items + 64 ≤ vec_capacity out.now }
+{
+    bytes.len() - at >= 32
+        && unit_at(bytes, at + 2, big) < 0xD800
+        && has_room_for_slots(out)
+        && are_plain(rest(bytes, at), big)
+}
+
+/// Appends characters from a place on, of which the first has two or three bytes, and returns where they end.
+#[inline(never)]
+fn push_wide(out: &mut Vec<u8>, bytes: &[u8], big: bool, start: usize) -> Result<usize, AllocError>
     requires { Reads16 big bytes.now out.old.items start }
     ensures read { IfOk result (λ at. Reads16 big bytes.now out.new.items at) }
     ensures forward { IfOk result (λ at. start ≤ at) }
 {
     let mut at = start;
-    'units: while bytes.len() - at >= 32 {
-        let count = push_units(out, bytes, big, at)?;
-        at += 2 * count;
-        if count < 16 {
+    if !are_plain_at(out, bytes, big, start) {
+        at = push_plain(out, bytes, big, start)?;
+        if bytes.len() - at >= 2 && unit_at(bytes, at, big) >= 0xD800 {
             return Ok(at);
         }
     }
-    if bytes.len() - at < 2 || unit_at(bytes, at, big) < 0x80 {
-        return Ok(at);
-    }
-    push_plain(out, bytes, big, at)
+    push_run(out, bytes, big, at)
 }
 
-/// Appends characters from a place on, as far as many units at a time are read, and returns where they end. U+0085 and
-/// pairs of units end them.
+/// Appends characters from a place on, as far as many units at a time are read, and returns where they end.
 #[inline(always)]
 fn push_quick(out: &mut Vec<u8>, bytes: &[u8], big: bool, start: usize) -> Result<usize, AllocError>
     requires { Reads16 big bytes.now out.old.items start }
     ensures read { IfOk result (λ at. Reads16 big bytes.now out.new.items at) }
     ensures forward { IfOk result (λ at. start ≤ at) }
 {
-    if bytes.len() - start >= 2 && !is_plain(unit_at(bytes, start, big)) {
+    if bytes.len() < 2 || start > bytes.len() - 2 {
         return Ok(start);
     }
-    push_run(out, bytes, big, start)
+    match unit_at(bytes, start, big) {
+        0..=0x7F => push_run(out, bytes, big, start),
+        0xA0..=0xD7FF => push_wide(out, bytes, big, start),
+        _ => Ok(start),
+    }
 }
 
 /// The front of a text in UTF-8, how many bytes spell it, and what is wrong after them.

@@ -98,8 +98,8 @@ slot_of u a b c n slots k s is =
 pub kept : (L end : ℕ) (items z : List ℕ) → L ≡ length items → take end (take L (items ++ z)) ≡ take end items
 kept L end items z is = ap (λ k. take end (take k (items ++ z))) is ∙ ap (take end) (take-append_seam items z)
 
-pub joined_on : (text slots items : List ℕ) (n before end : ℕ) → before ≡ length text → take end items ≡ take before (text ++ slots) ++ packed n (drop before (text ++ slots)) → take end items ≡ text ++ packed n slots
-joined_on text slots items n before end is joined =
+pub joined_on : (text slots items : List ℕ) (before end : ℕ) → before ≡ length text → take end items ≡ take before (text ++ slots) ++ packed 16 (drop before (text ++ slots)) → take end items ≡ text ++ packed 16 slots
+joined_on text slots items before end is joined =
     let front : take before (text ++ slots) ≡ text = ap (λ k. take k (text ++ slots)) is ∙ take-append_seam text slots in
     let rest : drop before (text ++ slots) ≡ slots = ap (λ k. drop k (text ++ slots)) is ∙ drop-append_seam text slots in
-    joined ∙ ap₂ (λ (x y : List ℕ). x ++ packed n y) front rest
+    joined ∙ ap₂ (λ (x y : List ℕ). x ++ packed 16 y) front rest

@@ -11,9 +11,9 @@ abbrev pub packed : ℕ → List ℕ → List ℕ
 packed zero slots = []
 packed (suc n) slots = packed n slots ++ take (count_of slots n) (drop (4 * n) slots)
 
--- In no one of the first n slots more than three bytes count.
-abbrev pub AreFew : ℕ → List ℕ → Type 0
-AreFew n slots = (k : ℕ) → k < n → count_of slots k ≤ 3
+-- In no one of the first 16 slots more than three bytes count.
+abbrev pub AreFew : List ℕ → Type 0
+AreFew slots = (k : ℕ) → k < 16 → count_of slots k ≤ 3
 
 -- These three bytes and this count make a slot that spells u.
 pub record Spells (u a b c count : ℕ) : Type 0 where

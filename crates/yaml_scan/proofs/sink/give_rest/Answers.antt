@@ -29,7 +29,7 @@ tokens-smaller g c =
     let s = c.tokens.scanner in
     let u = c.settle_to.new.scanner in
     let t = c.give_next.new.scanner in
-    let n = c.in_ok-last.ensures in
+    let n = c.in-Ok.ensures in
     let i = c.tokens.invariant.0 c.tokens-test.true in
     let k = c.in_ok-settle_to.ensures in
     fewer_follow a u t (i.0 ++ k.0) n.0 (more_given a s u i.0 k.0 i.1 k.1) n.1 s.taken (let h = k.1 in h.grows)
@@ -40,7 +40,7 @@ tokens-preserved g c =
     let s = c.tokens.scanner in
     let u = c.settle_to.new.scanner in
     let t = c.give_next.new.scanner in
-    let n = c.in_ok-last.ensures in
+    let n = c.in-Ok.ensures in
     let x = n.0 in
     let i = c.tokens.invariant.0 c.tokens-test.true in
     let k = c.in_ok-settle_to.ensures in
@@ -53,13 +53,13 @@ tokens-preserved g c =
       λ e. (let z = given_end a u t zs x h p (sym last ∙ e) in (zs ++ x ∷ [], z.0, z.1, took)),
     )
 
-pub returns-in_err-last : goal.returns-in_err-last
-returns-in_err-last g c =
+pub returns-in-Err : goal.returns-in-Err
+returns-in-Err g c =
     let a = c.args.scanner.now in
     let s = c.tokens.scanner in
     let u = c.settle_to.new.scanner in
     let t = c.give_next.new.scanner in
-    let n = c.in_err-last.ensures in
+    let n = c.in-Err.ensures in
     let x = n.0 in
     let i = c.tokens.invariant.0 c.tokens-test.true in
     let k = c.in_ok-settle_to.ensures in
@@ -67,8 +67,7 @@ returns-in_err-last g c =
     let h = more_given a s u i.0 k.0 i.1 k.1 in
     let f = n.2 in
     let took = g.met.S.yaml_token_sink_t.took_more c.args.sink.now c.tokens.sink c.settle_to.new.sink i.0 k.0 i.2 k.3 in
-    let q = err_from_is_err_and c.from_residual-in_err-last.result c.from_residual-in_err-last.ensures.1 in
-    rw (q.1, q.2) (inr (
+    rw c.stopped.ensures (inr (
       f.0,
       given_cut a u t zs x h n.1 (λ ys. g.S.yaml_token_sink_t.took c.args.sink.now ys c.give_next.new.sink) (λ ys. g.S.yaml_token_sink_t.took c.settle_to.new.sink ys c.give_next.new.sink)
           (λ ys w. g.met.S.yaml_token_sink_t.took_more c.args.sink.now c.settle_to.new.sink c.give_next.new.sink zs ys took w) f.1,

@@ -7,12 +7,11 @@ pub returns : goal.returns
 returns c =
     let text = c.args.out.now.items in
     let s = c.slots.result in
-    let n = c.args.count in
     let units = rw c.rest.ensures at c.slots.ensures.units in
-    let read = packed_read c.args.big c.args.bytes.now text s c.args.at n (λ i. omega (arith, c.type_inv.bytes i)) c.requires.read c.requires.room c.requires.most c.requires.chars units in
+    let read = packed_read c.args.big c.args.bytes.now text s c.args.at 16 (λ i. omega (arith, c.type_inv.bytes i)) c.requires.read c.requires.room (omega arith) c.requires.chars units in
     let items = c.join_slots-end.new.items in
     let size : c.len-before.result ≡ length text = search (rules, c.len-before.ensures) in
     let is = c.as_mut_slice.ensures.value ∙ c.in_ok-extend_from_slice.ensures.items in
-    let joined = joined_on text s items n c.len-before.result c.join_slots-end.result size (rw is at c.join_slots-end.ensures.bytes) in
-    let is-kept : c.truncate.new.self.items ≡ text ++ packed n s = c.truncate.ensures.items ∙ kept _ _ items _ (omega (arith, c.join_slots-end.auto.items, c.as_mut_slice.ensures.len)) ∙ joined in
+    let joined = joined_on text s items c.len-before.result c.join_slots-end.result size (rw is at c.join_slots-end.ensures.bytes) in
+    let is-kept : c.truncate.new.self.items ≡ text ++ packed 16 s = c.truncate.ensures.items ∙ kept _ _ items _ (omega (arith, c.join_slots-end.auto.items, c.as_mut_slice.ensures.len)) ∙ joined in
     rw is-kept read

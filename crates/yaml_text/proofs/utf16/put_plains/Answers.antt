@@ -18,7 +18,7 @@ units-preserved c = record {
   read = λ text r.
       let u = c.unit_at-unit.result in
       let before = take c.units.n c.units.buffer in
-      let read = unit_read c.args.big c.args.bytes.now (text ++ before) c.units.at u (λ i. omega (arith, c.type_inv.bytes i)) (c.units.invariant.read text r) (omega arith) c.unit_at-unit.ensures.unit (c.is_plain.ensures c.if-not-is_plain.false) in
+      let read = unit_read c.args.big c.args.bytes.now (text ++ before) c.units.at u (λ i. omega (arith, c.type_inv.bytes i)) (c.units.invariant.read text r) (omega arith) c.unit_at-unit.ensures.unit (c.is_plain.ensures.char c.if-not-is_plain.false) in
       let is = append_assoc text before (encode u) ∙ ap (λ (x : List ℕ). text ++ x) (sym c.put_plain-n.ensures.bytes) in
       subst (λ (x : List ℕ). Reads16 c.args.big c.args.bytes.now x (c.units.at + 2)) is read;
   forward = omega arith;
