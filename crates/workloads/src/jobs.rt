@@ -79,17 +79,36 @@ fn blocks_of(job: job_t, usual: usize, number: u64, chance: &mut chance_t) -> us
         .saturating_add(usual / 12 + 1)
 }
 
-/// Takes the tokens of a text in the way of the job. `turn` counts how often the kinds of the job were gone through.
-fn scan(alloc: Global, job: job_t, turn: u64, input: &[u8], digest: &mut digest_t) {
+/// How the tokens of a text are taken.
+#[derive(Clone, Copy)]
+enum way_t {
+    CALLS,
+    PEEKS,
+    BATCHES,
+    SINK,
+}
+
+/// The way of a job. `turn` counts how often the kinds of the job were gone through.
+fn way_of(job: job_t, turn: u64) -> way_t {
     match job {
-        job_t::SETTINGS if turn % 4 == 3 => by_peeks(alloc, input, digest),
-        job_t::SETTINGS => by_calls(alloc, input, digest),
-        job_t::BATCHES => by_batches(alloc, input, digest),
-        job_t::DENSE if turn % 2 == 0 => by_sink(alloc, input, digest),
-        job_t::DENSE => by_batches(alloc, input, digest),
-        job_t::AWKWARD if turn % 2 == 0 => by_sink(alloc, input, digest),
-        _ if turn % 2 == 0 => by_batches(alloc, input, digest),
-        _ => by_calls(alloc, input, digest),
+        job_t::SETTINGS if turn % 4 == 3 => way_t::PEEKS,
+        job_t::SETTINGS => way_t::CALLS,
+        job_t::BATCHES => way_t::BATCHES,
+        job_t::DENSE if turn % 2 == 0 => way_t::SINK,
+        job_t::DENSE => way_t::BATCHES,
+        job_t::AWKWARD if turn % 2 == 0 => way_t::SINK,
+        _ if turn % 2 == 0 => way_t::BATCHES,
+        _ => way_t::CALLS,
+    }
+}
+
+/// Takes the tokens of a text.
+fn scan(alloc: Global, way: way_t, input: &[u8], digest: &mut digest_t) {
+    match way {
+        way_t::CALLS => by_calls(alloc, input, digest),
+        way_t::PEEKS => by_peeks(alloc, input, digest),
+        way_t::BATCHES => by_batches(alloc, input, digest),
+        way_t::SINK => by_sink(alloc, input, digest),
     }
 }
 
@@ -103,8 +122,8 @@ pub fn digest_of(alloc: Global, job: job_t, seed: u64, texts: u64) -> Result<dig
     for number in 0..texts {
         if let Some(pool) = pools.get((number % kinds) as usize) {
             let count = blocks_of(job, pool.count, number, &mut chance);
-            pool.lay(alloc, &mut text, &mut chance, number as usize, count)?;
-            scan(alloc, job, number / kinds, &text, &mut digest);
+            pool.lay(&mut text, &mut chance, number as usize, count)?;
+            scan(alloc, way_of(job, number / kinds), &text, &mut digest);
         }
     }
     Ok(digest)

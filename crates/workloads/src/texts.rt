@@ -86,7 +86,6 @@ impl pool_t {
     /// so no two are alike.
     pub fn lay(
         &self,
-        alloc: Global,
         out: &mut Vec<u8>,
         chance: &mut chance_t,
         number: usize,
@@ -96,7 +95,7 @@ impl pool_t {
         if self.wide {
             push_unit(out, 0xFEFF)?;
         }
-        let first = format!(in alloc; "# {number}\n")?;
+        let first = format!(in *out.allocator(); "# {number}\n")?;
         push_text(out, first.as_str(), self.wide)?;
         out.extend_from_slice(&self.head)?;
         for _ in 0..count {
