@@ -115,7 +115,7 @@ fn take_header(cursor: &mut cursor_t) -> Result<header_t, yaml_refusal_t>
 /// Takes blanks, a comment and the break that ends the line.
 #[tactic(auto, unfolding(crate::specs::Block::after_line))]
 #[inline(never)]
-pub(crate) fn take_line_end(cursor: &mut cursor_t) -> Result<(), yaml_refusal_t>
+fn take_long_line_end(cursor: &mut cursor_t) -> Result<(), yaml_refusal_t>
     ensures { Moves result cursor.new (spec.after_line cursor.old) }
 {
     cursor.skip_run(class_t::BLANK);
@@ -128,6 +128,23 @@ pub(crate) fn take_line_end(cursor: &mut cursor_t) -> Result<(), yaml_refusal_t>
     }
     cursor.skip(cursor.break_len());
     Ok(())
+}
+
+/// Takes blanks, a comment and the break that ends the line. Most lines end with a line feed right here.
+#[tactic(auto, using(crate::proofs::Readers::BlockLines::at_feed))]
+#[inline(always)]
+pub(crate) fn take_line_end(cursor: &mut cursor_t) -> Result<(), yaml_refusal_t>
+    ensures { Moves result cursor.new (spec.after_line cursor.old) }
+{
+    if check_at!(cursor, '\n', 0) {
+        cursor.advance();
+        return Ok(());
+    }
+    // a copy, so that the cursor itself stays in registers
+    let mut here = cursor.again();
+    let taken = take_long_line_end(&mut here);
+    *cursor = here;
+    taken
 }
 
 fn is_below(limit: Option<u64>, column: u64) -> bool

@@ -1,7 +1,8 @@
 //! Sets of characters that lexemes need. The end of a text counts as character 0.
-ghost use Rattle.std.specs.Prelude.{◌≡◌};
+ghost use Rattle.std.specs.Prelude.{◌≡◌, ◌<◌, true};
 ghost use Rattle.yaml_text.specs.Classes as classes;
 ghost use Rattle.yaml_lexeme.specs.Classes as spec;
+ghost use Rattle.yaml_lexeme.specs.Uri as uris;
 
 /// A line break.
 #[inline(always)]
@@ -59,4 +60,29 @@ pub(crate) fn is_in_line(c: char) -> bool
     ensures { result ≡ spec.is_in_line c }
 {
     !(is_break(c) || c == '\0')
+}
+
+/// A character of a uri, but no escape. Commas and brackets are among them if they are listed.
+pub(crate) fn is_uri(listed: bool, c: char) -> bool
+    ensures same { result ≡ uris.is_uri listed c }
+    ensures ascii { result ≡ true → c < 128 }
+{
+    is_alpha(c)
+        || c == ';'
+        || c == '/'
+        || c == '?'
+        || c == ':'
+        || c == '@'
+        || c == '&'
+        || c == '='
+        || c == '+'
+        || c == '$'
+        || c == '.'
+        || c == '!'
+        || c == '~'
+        || c == '*'
+        || c == '\''
+        || c == '('
+        || c == ')'
+        || listed && (c == ',' || c == '[' || c == ']')
 }

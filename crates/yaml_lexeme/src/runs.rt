@@ -7,8 +7,7 @@ ghost use Rattle.yaml_lexeme.specs.declared.runs.class_t.TheVariants.{SPACE, ALP
 ghost use Rattle.yaml_lexeme.specs.declared.runs.class_t.TheVariants.{URI};
 ghost use Rattle.yaml_lexeme.specs.declared.runs.class_t.TheVariants.{PLAIN, FLOW};
 
-use crate::classes::{is_alpha, is_blank, is_in_line, is_white};
-use crate::uri::is_uri;
+use crate::classes::{is_alpha, is_blank, is_in_line, is_uri, is_white};
 use std::simd::prelude::*;
 
 /// A set of characters, to take a run of them.
@@ -240,21 +239,6 @@ fn quiet_line(class: class_t, text: &[u8]) -> (usize, usize)
     (end, n + count_chars(part(text, i, end)))
 }
 
-/// How many spaces the text begins with.
-#[inline(always)]
-pub(crate) fn spaces_len(text: &[u8]) -> usize
-    ensures { result ≡ prefix_len (spec.is_quiet SPACE) text.now }
-{
-    if text.len() >= 16 {
-        let v = u8x16::from_slice(text);
-        let found = v.simd_ne(u8x16::splat(b' ')).to_bitmask();
-        if found != 0 {
-            return found.trailing_zeros() as usize;
-        }
-    }
-    slow_end(class_t::SPACE, text, 0)
-}
-
 /// Which lanes are not from one byte to another.
 macro_rules! lanes_outside {
     ($v:expr, $least:literal, $most:literal) => {
@@ -294,6 +278,14 @@ fn no_uri(v: u8x16) -> u64
                                     & lanes_are_not!(v, b'~'))))))))).to_bitmask()
 }
 
+/// The lanes that are no space.
+#[inline(always)]
+fn no_spaces(v: u8x16) -> u64
+    ensures { result ≡ mask_l (map (spec.is_stop SPACE) v) }
+{
+    (lanes_are_not!(v, b' ')).to_bitmask()
+}
+
 /// The lanes at which a run of a narrow class ends.
 #[inline(always)]
 fn narrow_stops(class: class_t, v: u8x16) -> u64
@@ -301,6 +293,7 @@ fn narrow_stops(class: class_t, v: u8x16) -> u64
     ensures { result ≡ mask_l (map (spec.is_stop class) v) }
 {
     match class {
+        class_t::SPACE => no_spaces(v),
         class_t::ALPHA => no_letters(v),
         _ => no_uri(v),
     }
@@ -323,14 +316,21 @@ fn narrow_run(class: class_t, text: &[u8]) -> usize
     slow_end(class, text, i)
 }
 
+/// How many spaces the text begins with.
+#[inline(always)]
+pub(crate) fn spaces_len(text: &[u8]) -> usize
+    ensures { result ≡ prefix_len (spec.is_quiet SPACE) text.now }
+{
+    narrow_run(class_t::SPACE, text)
+}
+
 /// How many of the first bytes need no closer look, if the class is not that of a line.
 #[inline(always)]
 fn narrow_len(class: class_t, text: &[u8]) -> usize
     ensures { result ≡ prefix_len (spec.is_quiet class) text.now }
 {
     match class {
-        class_t::SPACE => spaces_len(text),
-        class_t::ALPHA | class_t::URI(false) => narrow_run(class, text),
+        class_t::SPACE | class_t::ALPHA | class_t::URI(false) => narrow_run(class, text),
         _ => end_from(class, text, 0),
     }
 }

@@ -9,7 +9,7 @@ use crate::classes::ends;
 use crate::name::take_letters;
 use crate::place::{check_at, cursor_t};
 use crate::problem::{offence, refused, yaml_problem_t, yaml_refusal_t};
-use crate::uri::{push_byte, take_some_uri, take_uri_text};
+use crate::uri::{push_byte, take_some_uri, take_uri};
 use std::alloc::{AllocError, Global};
 use yaml_text::unnamed_yaml_token_t_data;
 
@@ -72,7 +72,7 @@ fn take_handled(
         };
         return Ok(make_tag(named_handle(alloc, letters)?, suffix));
     }
-    let suffix = match take_uri_text(alloc, cursor, false) {
+    let suffix = match take_uri(alloc, cursor, false) {
         Ok(suffix) => suffix,
         Err(refusal) => return Err(refused(refusal)),
     };

@@ -1,40 +1,18 @@
 //! Uris of tags, and their escapes.
-ghost use Rattle.std.specs.Prelude.{◌≡◌, ◌++◌, ◌∷◌, [], ◌<◌, true, not, OnOk};
+ghost use Rattle.std.specs.Prelude.{◌≡◌, ◌++◌, ◌∷◌, [], not, OnOk};
 ghost use Rattle.yaml_text.specs.Utf8.{continues, width_of};
-ghost use Rattle.yaml_lexeme.specs.Place.{after_run, run};
+ghost use Rattle.yaml_lexeme.specs.Place.{first, after_run, run};
 ghost use Rattle.yaml_lexeme.specs.Reading.{with_front};
 ghost use Rattle.yaml_lexeme.specs.Uri as spec;
-ghost use Rattle.yaml_lexeme.specs.inside.Gives.{Gives, Takes, Appends, OctetIs};
+ghost use Rattle.yaml_lexeme.specs.inside.Gives.{Gives, Appends, OctetIs};
 
-use crate::classes::is_alpha;
 use crate::place::{check_at, cursor_t};
 use crate::problem::{offence, refused, yaml_problem_t, yaml_refusal_t};
 use crate::runs::class_t;
 use std::alloc::{AllocError, Global};
 
-pub(crate) fn is_uri(listed: bool, c: char) -> bool
-    ensures same { result ≡ spec.is_uri listed c }
-    ensures ascii { result ≡ true → c < 128 }
-{
-    is_alpha(c)
-        || c == ';'
-        || c == '/'
-        || c == '?'
-        || c == ':'
-        || c == '@'
-        || c == '&'
-        || c == '='
-        || c == '+'
-        || c == '$'
-        || c == '.'
-        || c == '!'
-        || c == '~'
-        || c == '*'
-        || c == '\''
-        || c == '('
-        || c == ')'
-        || listed && (c == ',' || c == '[' || c == ']')
-}
+/// How many bytes a uri with an escape first gets room for, if no more come before the escape.
+const ROOM: usize = 8;
 
 pub(crate) fn push_byte(out: &mut Vec<u8>, byte: u8) -> Result<(), AllocError>
     ensures { OnOk result (out.new.items ≡ out.old.items ++ byte ∷ []) }
@@ -112,29 +90,6 @@ fn take_uri_escape(cursor: &mut cursor_t, out: &mut Vec<u8>) -> Result<(), yaml_
     take_next_octets(cursor, width - 1, out)
 }
 
-/// Takes a character of a uri, or an escape, and appends it to `out`. The flag is false if the uri is over.
-#[tactic(auto, unfolding(crate::specs::Uri::uri_part))]
-fn take_uri_part(
-    cursor: &mut cursor_t,
-    listed: bool,
-    out: &mut Vec<u8>,
-) -> Result<bool, yaml_refusal_t>
-    ensures { Takes (λ cs. cs) result out.old.items out.new.items cursor.old cursor.new
-        (spec.uri_part listed cursor.old) }
-{
-    let c = cursor.peek(0);
-    if c == '%' {
-        take_uri_escape(cursor, out)?;
-        return Ok(true);
-    }
-    if !is_uri(listed, c) {
-        return Ok(false);
-    }
-    push_byte(out, c as u8)?;
-    cursor.advance();
-    Ok(true)
-}
-
 /// Takes as many characters of a uri as possible, up to an escape.
 #[inline(always)]
 fn uri_run<'a>(cursor: &mut cursor_t<'a>, listed: bool) -> &'a [u8]
@@ -144,51 +99,43 @@ fn uri_run<'a>(cursor: &mut cursor_t<'a>, listed: bool) -> &'a [u8]
     cursor.quick_run(class_t::URI(listed))
 }
 
-/// Takes as many characters of a uri as possible, up to an escape, and appends them to `out`.
+/// Takes as many characters of a uri as possible, up to an escape, and appends them to `out`. Often the next escape is
+/// right here.
 #[inline(always)]
 fn push_uri_run(cursor: &mut cursor_t, listed: bool, out: &mut Vec<u8>) -> Result<(), AllocError>
     ensures value { OnOk result (out.new.items ≡ out.old.items ++ run (spec.is_uri listed) cursor.old) }
     ensures end { OnOk result (cursor.new ≡ after_run (spec.is_uri listed) cursor.old) }
 {
+    if check_at!(cursor, '%', 0) {
+        return Ok(());
+    }
     let piece = uri_run(cursor, listed);
-    if !piece.is_empty() {
-        out.extend_from_slice(piece)?;
-    }
-    Ok(())
+    out.extend_from_slice(piece)
 }
 
-/// Takes a uri, and appends it to `out`.
+/// Takes what is left of a uri, from an escape on. Its bytes come after a piece that was taken.
 #[inline(never)]
-pub(crate) fn take_uri(
+fn take_escaped(
+    alloc: Global,
     cursor: &mut cursor_t,
     listed: bool,
-    out: &mut Vec<u8>,
-) -> Result<(), yaml_refusal_t>
-    ensures { Appends (λ cs. cs) result out.old.items out.new.items cursor.new (spec.uri listed cursor.old) }
-{
-    push_uri_run(cursor, listed, out)?;
-    'parts: while take_uri_part(cursor, listed, out)? {
-        push_uri_run(cursor, listed, out)?;
-    }
-    Ok(())
-}
-
-/// Takes what is left of a uri, and appends it to `out`.
-#[inline(never)]
-fn take_more_uri(
-    cursor: &mut cursor_t,
-    listed: bool,
-    mut out: Vec<u8>,
+    piece: &[u8],
 ) -> Result<Vec<u8>, yaml_refusal_t>
-    ensures { Gives (λ v. v.items) result cursor.new (with_front out.items (spec.uri listed cursor.old)) }
+    requires { first cursor.old ≡ 0x25 }
+    ensures { Gives (λ v. v.items) result cursor.new (with_front piece.now (spec.uri listed cursor.old)) }
 {
-    take_uri(cursor, listed, &mut out)?;
+    let mut out = Vec::with_capacity(alloc, (piece.len() + 1).max(ROOM))?;
+    out.extend_from_slice(piece)?;
+    'escapes: while check_at!(cursor, '%', 0) {
+        take_uri_escape(cursor, &mut out)?;
+        push_uri_run(cursor, listed, &mut out)?;
+    }
     Ok(out)
 }
 
 /// Takes a uri. Most have no escape, and are copied at once.
 #[inline(always)]
-pub(crate) fn take_uri_text(
+pub(crate) fn take_uri(
     alloc: Global,
     cursor: &mut cursor_t,
     listed: bool,
@@ -196,16 +143,14 @@ pub(crate) fn take_uri_text(
     ensures { Gives (λ v. v.items) result cursor.new (spec.uri listed cursor.old) }
 {
     let piece = uri_run(cursor, listed);
-    let out = Vec::from_slice(alloc, piece)?;
-    let escaped = check_at!(cursor, '%', 0);
-    if !escaped {
-        return Ok(out);
+    if check_at!(cursor, '%', 0) {
+        // a copy, so that the cursor itself stays in registers
+        let mut here = cursor.again();
+        let taken = take_escaped(alloc, &mut here, listed, piece);
+        *cursor = here;
+        return taken;
     }
-    // a copy, so that the cursor itself stays in registers
-    let mut here = cursor.again();
-    let taken = take_more_uri(&mut here, listed, out);
-    *cursor = here;
-    taken
+    Ok(Vec::from_slice(alloc, piece)?)
 }
 
 /// Takes a uri of a character or more.
@@ -218,7 +163,7 @@ pub(crate) fn take_some_uri(
 ) -> Result<Vec<u8>, yaml_refusal_t>
     ensures { Gives (λ v. v.items) result cursor.new (spec.some_uri listed cursor.old) }
 {
-    let out = match take_uri_text(alloc, cursor, listed) {
+    let out = match take_uri(alloc, cursor, listed) {
         Ok(out) => out,
         Err(refusal) => return Err(refused(refusal)),
     };

@@ -10,7 +10,7 @@ use Rattle.yaml_lexeme.specs.declared.problem.yaml_refusal_t.{yaml_refusal_t}
 use Rattle.yaml_lexeme.specs.declared.problem.yaml_refusal_t.TheVariants as errors
 use Rattle.yaml_lexeme.specs.declared.problem.yaml_problem_t.TheVariants.{TAB_IN_INDENTATION}
 use Rattle.yaml_lexeme.proofs.Parts.GatheredParts.{gather, gathers_more, gathers_all, gathers_none}
-use Rattle.yaml_lexeme.proofs.Places.PlaceMoves.{length_skip, break_within}
+use Rattle.yaml_lexeme.proofs.Places.PlaceMoves.{after_none, length_skip, break_within}
 use Rattle.yaml_lexeme.proofs.Readers.FoldSeparators.{run_more, run_none, encode_some}
 use Rattle.yaml_lexeme.proofs.MarkOrder.ScalarsAhead.{blank_shortens, text_shortens}
 use Rattle.yaml_lexeme.proofs.Parts.ReadResults.{value_or, end_or}
@@ -35,6 +35,13 @@ use Rattle.yaml_lexeme.specs.declared.block.chomp_t.{chomp_t}
 use Rattle.yaml_lexeme.specs.declared.block.chomp_t.TheVariants.{STRIP, CLIP, KEEP}
 use Rattle.yaml_lexeme.specs.declared.block.header_t.{header_t}
 use Rattle.yaml_lexeme.specs.Lexeme.{Scalar}
+
+-- the place after a line that ends with a line feed right here
+pub at_feed : (p : Place) → first p ≡ 0x0A → after_line p ≡ Ok (skip 1 p)
+unfolding after_line
+at_feed p h =
+    let none : is_blank (first p) ≡ false = rw h refl in
+    rw (after_none is_blank p none, h, h) refl
 
 -- the place after indentation
 abbrev pub indent_end : Option ℕ → Place → Place

@@ -14,7 +14,7 @@ use Rattle.yaml_lexeme.proofs.MarkOrder.ReadingAhead.{Ahead, PartAhead, ahead_he
 use Rattle.yaml_lexeme.proofs.Parts.PartByPart.{Shortens, joined}
 use Rattle.yaml_lexeme.proofs.Places.PlaceMoves.{is_there}
 use Rattle.yaml_lexeme.proofs.Parts.ReadResults.{value_or, end_or}
-use Rattle.yaml_lexeme.specs.inside.Gives.{Refuses, TakesRead, Appends}
+use Rattle.yaml_lexeme.specs.inside.Gives.{Refuses, TakesPart, TakesRead, Appends}
 use Rattle.yaml_lexeme.specs.Place.{Place, first, peek, skip}
 use Rattle.yaml_lexeme.specs.Reading.{Read, found, part, refuse, over, many, with_front, ◌>>=◌}
 use Rattle.yaml_lexeme.specs.Uri.{octet, next_octets, uri_escape, uri_part, is_uri, uri}
@@ -110,6 +110,21 @@ pub at_percent : (listed : Bool) (p : Place) → (first p == 0x25) ≡ true → 
 unfolding uri_part
 at_percent listed p h = rw h refl
 
+read_part : (r : Read (List ℕ)) (old new : List ℕ) (p q : Place) → TakesRead (λ cs. cs) r old new q → TakesPart (λ cs. cs) (r >>= λ x. part x.value x.end) true old new p q
+read_part (Ok f) old new p q h = h
+read_part (Err e) old new p q h = absurd h
+
+escape_is_part : (listed : Bool) (p : Place) → first p ≡ 0x25 → uri_part listed p ≡ uri_escape p >>= λ x. part x.value x.end
+escape_is_part listed p h = at_percent listed p (rw h refl)
+
+-- an escape is a part of a uri
+pub escape_part : (listed : Bool) (p q : Place) (old new : List ℕ) → first p ≡ 0x25 → TakesRead (λ cs. cs) (uri_escape p) old new q → TakesPart (λ cs. cs) (uri_part listed p) true old new p q
+escape_part listed p q old new h t = rw (escape_is_part listed p h) (read_part (uri_escape p) old new p q t)
+
+pub no_escape_part : (e : yaml_refusal_t) (listed : Bool) (p q : Place) → first p ≡ 0x25 → Refuses e q (uri_escape p) → Refuses e q (uri_part listed p)
+no_escape_part errors.MEMORY listed p q h r = tt
+no_escape_part (errors.OFFENCE problem) listed p q h r = escape_is_part listed p h ∙ rw r refl
+
 pub at_uri : (listed : Bool) (p : Place) → (first p == 0x25) ≡ false → is_uri listed (first p) ≡ true → uri_part listed p ≡ part (first p ∷ []) (skip 1 p)
 unfolding uri_part
 at_uri listed p e h = rw (e, h) refl
@@ -166,13 +181,3 @@ concat_joined (Err e) = refl
 pub uri_is : (listed : Bool) (p : Place) → uri listed p ≡ joined (λ cs. cs) (many (uri_part listed) p)
 unfolding uri
 uri_is listed p = concat_joined (many (uri_part listed) p)
-
--- a uri is being appended to `old`
-abbrev pub uri_after : Bool → List ℕ → Place → Read (List ℕ)
-uri_after listed old p = with_front old (joined (λ cs. cs) (many (uri_part listed) p))
-
-pub uri_taken : (listed : Bool) (p q : Place) (old new : List ℕ) → uri_after listed old p ≡ found new q → TakesRead (λ cs. cs) (uri listed p) old new q
-uri_taken listed p q old new h = appended (uri listed p) old new q (ap (with_front old) (uri_is listed p) ∙ h)
-
-pub uri_refused : (e : yaml_refusal_t) (listed : Bool) (p q : Place) (old : List ℕ) → Refuses e q (uri_after listed old p) → Refuses e q (uri listed p)
-uri_refused e listed p q old h = not_appended e (uri listed p) old q (rw (uri_is listed p) h)

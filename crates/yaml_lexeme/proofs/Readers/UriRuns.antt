@@ -1,18 +1,17 @@
 -- A run of characters of a uri is many parts of it at once.
-use Rattle.std.proofs.Common.{◌≡◌, ℕ, zero, suc, ◌+◌, ◌<◌, ◌≤◌, Bool, true, false, ◌==◌, List, [], ◌∷◌, ◌++◌, length, take, drop, get_or, Ok, Err, refl, sym, ap, ◌∙◌, subst, arith, append_assoc, inl, inr}
+use Rattle.std.proofs.Common.{◌≡◌, ℕ, zero, suc, ◌+◌, ◌<◌, ◌≤◌, Bool, true, false, ◌==◌, List, [], ◌∷◌, ◌++◌, length, take, drop, get_or, refl, sym, ap, ◌∙◌, subst, arith, append_assoc, inl, inr}
 use Rattle.std.proofs.lemmas.Bool.{cases_Bool}
 use Rattle.std.proofs.lemmas.Bool.Decides.{nat_tests}
 use Rattle.std.proofs.lemmas.List.{append-nil}
 use Rattle.std.specs.List.{prefix_len}
-use Rattle.yaml_lexeme.proofs.Parts.PartByPart.{Reading, reads_more, reads_all, joined, begins, over_taken}
+use Rattle.yaml_lexeme.proofs.Parts.PartByPart.{Reading, reads_more, reads_all, reads_none, joined, begins, over_taken}
 use Rattle.yaml_lexeme.proofs.Places.PlaceMoves.{after_none, after_run_more, first_on, length_one, length_skip, rest_skip}
-use Rattle.yaml_lexeme.proofs.Readers.UriOctets.{at_uri, at_over, uri_is, uri_shortens}
+use Rattle.yaml_lexeme.proofs.Readers.UriOctets.{at_uri, at_over, escape_part, no_escape_part, uri_is, uri_shortens}
 use Rattle.yaml_lexeme.specs.declared.problem.yaml_refusal_t.{yaml_refusal_t}
-use Rattle.yaml_lexeme.specs.declared.problem.yaml_refusal_t.TheVariants as errors
 use Rattle.yaml_lexeme.specs.inside.Gives.{TakesPart, TakesRead, Refuses}
 use Rattle.yaml_lexeme.specs.Place.{Place, first, skip, run, run_len, after_run}
-use Rattle.yaml_lexeme.specs.Reading.{Read, Part, found, many, with_front, part, over}
-use Rattle.yaml_lexeme.specs.Uri.{is_uri, uri_part, uri}
+use Rattle.yaml_lexeme.specs.Reading.{Read, Part, found, many, with_front, part}
+use Rattle.yaml_lexeme.specs.Uri.{is_uri, uri_escape, uri_part, uri}
 use Rattle.yaml_text.specs.Classes.{is_alpha}
 
 abbrev Bytes : Bool → Place → List ℕ → Read (List ℕ) → Type 0
@@ -87,28 +86,19 @@ alpha_uri c h = grind (arith, nat_tests)
 pub from_letters : (p : Place) → uri false p ≡ with_front (run is_alpha p) (uri false (after_run is_alpha p))
 from_letters p = from_run false is_alpha alpha_uri refl p
 
--- the same, of what was appended to `out`
-pub pushed_over : (listed : Bool) (p q : Place) (out new : List ℕ) (whole : Read (List ℕ)) → new ≡ out ++ run (is_uri listed) p → q ≡ after_run (is_uri listed) p
+-- a run was appended to `out`
+pushed_over : (listed : Bool) (p q : Place) (out new : List ℕ) (whole : Read (List ℕ)) → new ≡ out ++ run (is_uri listed) p → q ≡ after_run (is_uri listed) p
     → Bytes listed p out whole → Bytes listed q new whole
 pushed_over listed p q out new whole n e r =
     subst (λ (x : Place). Bytes listed x new whole) (sym e) (subst (λ (x : List ℕ). Bytes listed (after_run (is_uri listed) p) x whole) (sym n) (run_over listed (is_uri listed) (itself listed) (none_at_end listed) (length p.rest) p out whole (omega arith) r))
 
-pub pushed_shorter : (listed : Bool) (p q : Place) → q ≡ after_run (is_uri listed) p → length q.rest ≤ length p.rest
+pushed_shorter : (listed : Bool) (p q : Place) → q ≡ after_run (is_uri listed) p → length q.rest ≤ length p.rest
 pushed_shorter listed p q e = omega (arith, ap (λ (x : Place). length x.rest) e, length_skip (run_len (is_uri listed) p) p)
 
 -- a uri is its first run, and the uri after that
 pub uri_from : (listed : Bool) (p q : Place) (front : List ℕ) → front ≡ run (is_uri listed) p → q ≡ after_run (is_uri listed) p → uri listed p ≡ with_front front (uri listed q)
 uri_from listed p q front f e =
     from_run listed (is_uri listed) (itself listed) (none_at_end listed) p ∙ (λ i. with_front (sym f i) (uri listed (sym e i)))
-
--- what was appended is what is read after what was there
-pub appended_front : (read : Read (List ℕ)) (front new : List ℕ) (r : Place) → TakesRead (λ cs. cs) read front new r → with_front front read ≡ found new r
-appended_front (Ok x) front new r t = λ i. found (sym t.0 i) (sym t.1 i)
-appended_front (Err x) front new r t = absurd t
-
-pub refused_front : (error : yaml_refusal_t) (read : Read (List ℕ)) (front : List ℕ) (r : Place) → Refuses error r read → Refuses error r (with_front front read)
-refused_front errors.MEMORY read front r t = tt
-refused_front (errors.OFFENCE problem) read front r t = ap (with_front front) t
 
 stops : (test : ℕ → Bool) (cs : List ℕ) → test 0 ≡ false → test (get_or cs (prefix_len test cs) 0) ≡ false
 stops test [] z = z
@@ -121,10 +111,45 @@ stops test (c ∷ cs) z =
 after_test : (test : ℕ → Bool) (p : Place) → test 0 ≡ false → test (first (after_run test p)) ≡ false
 after_test test p z = ap test (first_on (prefix_len test p.rest) p) ∙ stops test p.rest z
 
+-- no character of a uri is after a run
+run_ends : (listed : Bool) (p q : Place) → q ≡ after_run (is_uri listed) p → is_uri listed (first q) ≡ false
+run_ends listed p q e = ap (λ (x : Place). is_uri listed (first x)) e ∙ after_test (is_uri listed) p (none_at_end listed)
+
+percent_stops : (listed : Bool) (c : ℕ) → c ≡ 0x25 → is_uri listed c ≡ false
+percent_stops true c h = rw h refl
+percent_stops false c h = rw h refl
+
+-- no run is before an escape
+pub no_run : (listed : Bool) (p : Place) → first p ≡ 0x25 → p ≡ after_run (is_uri listed) p
+no_run listed p h = sym (after_none (is_uri listed) p (percent_stops listed (first p) h))
+
+-- Escapes are being read, and the run after each: the bytes so far, and what they make with what is still to be read.
+pub record Escapes (listed : Bool) (p : Place) (out : List ℕ) (whole : Read (List ℕ)) : Type 0 where
+  pub reads : Bytes listed p out whole
+  pub stops : is_uri listed (first p) ≡ false
+
+pub escapes_begin : (listed : Bool) (p : Place) (piece : List ℕ) → first p ≡ 0x25 → Escapes listed p piece (with_front piece (uri listed p))
+escapes_begin listed p piece h = record { reads = ap (with_front piece) (sym (uri_is listed p)); stops = percent_stops listed (first p) h }
+
+-- one more escape was read, and the run after it
+pub escapes_more : (listed : Bool) (p q r : Place) (out mid new : List ℕ) (whole : Read (List ℕ)) → first p ≡ 0x25 → TakesRead (λ cs. cs) (uri_escape p) out mid q
+    → new ≡ mid ++ run (is_uri listed) q → r ≡ after_run (is_uri listed) q → Escapes listed p out whole → (length r.rest < length p.rest) × Escapes listed r new whole
+escapes_more listed p q r out mid new whole h took n e so_far =
+    let more = reads_more (λ cs. cs) (uri_part listed) (uri_shortens listed) p q out mid whole (escape_part listed p q out mid h took) so_far.reads in
+    let shorter : length r.rest < length p.rest = omega (arith, more.0, pushed_shorter listed q r e) in
+    (shorter, record { reads = pushed_over listed q r mid new whole n e more.1; stops = run_ends listed q r e })
+
+-- an escape could not be read
+pub escapes_none : (error : yaml_refusal_t) (listed : Bool) (p q : Place) (out : List ℕ) (whole : Read (List ℕ)) → first p ≡ 0x25 → Refuses error q (uri_escape p) → Escapes listed p out whole → Refuses error q whole
+escapes_none error listed p q out whole h none so_far =
+    reads_none (λ cs. cs) (uri_part listed) (uri_shortens listed) error p q out whole (no_escape_part error listed p q h none) so_far.reads
+
+-- the uri is over where no escape is
+pub escapes_all : (listed : Bool) (p : Place) (out : List ℕ) (whole : Read (List ℕ)) → (first p == 0x25) ≡ false → Escapes listed p out whole → whole ≡ found out p
+escapes_all listed p out whole h so_far =
+    reads_all (λ cs. cs) (uri_part listed) (uri_shortens listed) p p out out whole (over_taken (λ cs. cs) (uri_part listed p) out p (at_over listed p h so_far.stops)) so_far.reads
+
 -- a uri without an escape is its first run
 pub uri_plain : (listed : Bool) (p q : Place) (front : List ℕ) → front ≡ run (is_uri listed) p → q ≡ after_run (is_uri listed) p → (first q == 0x25) ≡ false → uri listed p ≡ found front q
 uri_plain listed p q front f e n =
-    let stop : is_uri listed (first q) ≡ false = ap (λ (x : Place). is_uri listed (first x)) e ∙ after_test (is_uri listed) p (none_at_end listed) in
-    let none : uri_part listed q ≡ over = at_over listed q n stop in
-    let all = reads_all (λ cs. cs) (uri_part listed) (uri_shortens listed) q q [] [] (joined (λ cs. cs) (many (uri_part listed) q)) (over_taken (λ cs. cs) (uri_part listed q) [] q none) (begins (λ cs. cs) (uri_part listed) q) in
-    uri_from listed p q front f e ∙ rw (uri_is listed q ∙ all) (ap (λ (x : List ℕ). found x q) (append-nil front))
+    uri_from listed p q front f e ∙ escapes_all listed q front (with_front front (uri listed q)) n (record { reads = ap (with_front front) (sym (uri_is listed q)); stops = run_ends listed p q e })
