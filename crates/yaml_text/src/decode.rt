@@ -114,21 +114,22 @@ fn order(big: bool) -> yaml_encoding_t
     }
 }
 
-/// The front in UTF-16 of bytes that begin `before` bytes into the input. It is copied into UTF-8.
-fn front_in_utf16<'a>(
+/// The front in UTF-16 of bytes that begin `before` bytes into the input. It is copied into UTF-8. Each order of bytes
+/// has a function of its own.
+#[inline(never)]
+fn front_in_utf16<'a, const BIG: bool>(
     alloc: Global,
     bytes: &[u8],
-    big: bool,
     before: usize,
 ) -> Result<(yaml_text_t<'a>, Option<yaml_fault_t>), yaml_fault_t>
     requires { before + length bytes.now < 2 ^ 64 }
-    ensures front { IfOk result (λ r. Fronts (order big) before bytes.now r.0 (refusal_seen r.1)) }
+    ensures front { IfOk result (λ r. Fronts (order BIG) before bytes.now r.0 (refusal_seen r.1)) }
     ensures memory { IfErr result (λ fault. fault_of fault ≡ memory_fault) }
 {
-    let Ok((utf8, len, offence)) = front16(alloc, bytes, big) else {
+    let Ok((utf8, len, offence)) = front16(alloc, bytes, BIG) else {
         return Err(make_memory_fault());
     };
-    let text = owned_text(order(big), utf8);
+    let text = owned_text(order(BIG), utf8);
     Ok((text, refusal(before + len, offence)))
 }
 
@@ -156,8 +157,8 @@ pub fn yaml_decode_front<'a>(
     let (encoding, before) = find_encoding(setting, input);
     let bytes = rest(input, before);
     match encoding {
-        yaml_encoding_t::YAML_UTF16LE_ENCODING => Ok(front_in_utf16(alloc, bytes, false, before)?),
-        yaml_encoding_t::YAML_UTF16BE_ENCODING => Ok(front_in_utf16(alloc, bytes, true, before)?),
+        yaml_encoding_t::YAML_UTF16LE_ENCODING => Ok(front_in_utf16::<false>(alloc, bytes, before)?),
+        yaml_encoding_t::YAML_UTF16BE_ENCODING => Ok(front_in_utf16::<true>(alloc, bytes, before)?),
         _ => Ok(front_in_utf8(bytes, before)),
     }
 }

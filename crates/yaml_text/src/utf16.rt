@@ -43,6 +43,7 @@ fn is_high(u: u32) -> bool
 
 /// The first character and how many bytes it has, or what is wrong if the bytes begin with none.
 #[tactic(auto, unfolding(crate::specs::Utf16::offence16))]
+#[inline(always)]
 pub(crate) fn first_char16(bytes: &[u8], big: bool) -> Result<(u32, usize), offence_t>
     requires { 0 < length bytes.now }
     ensures char { IfOk result (λ r. IsChar r.0) }
@@ -441,7 +442,9 @@ fn push_quick(out: &mut Vec<u8>, bytes: &[u8], big: bool, start: usize) -> Resul
     }
 }
 
-/// The front of a text in UTF-8, how many bytes spell it, and what is wrong after them.
+/// The front of a text in UTF-8, how many bytes spell it, and what is wrong after them. It is inlined, so that `big` is
+/// constant in it.
+#[inline(always)]
 pub(crate) fn front16(
     alloc: Global,
     bytes: &[u8],

@@ -130,6 +130,7 @@ pub(crate) fn first_char(bytes: &[u8]) -> Result<usize, offence_t>
 }
 
 /// Appends a character to bytes, in UTF-8.
+#[inline(always)]
 pub(crate) fn push_char(out: &mut Vec<u8>, c: u32) -> Result<(), AllocError>
     requires { IsScalar c }
     ensures ok { OnOk result (out.new.items ≡ out.old.items ++ encode_utf8 c) }
