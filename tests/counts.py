@@ -6,6 +6,10 @@ the readers of its state; skip; scan and peek of a peeked token, after a fault, 
 the end; all calls on an input that is no text from its first lexeme on; and on UTF-8 decoding, marks, gaps, kinds,
 deciders, lexemes of one character, document markers, stream ends and character classes at every place.
 
+On the inputs of requests.txt, which are tags and UTF-16, no more requests are made than by the program of an early commit,
+and none for more bytes than its greatest. A line there has the words of a command of testbench, the input in hexadecimal, the
+number of requests, and the bytes of the greatest, or `-` if these are not compared.
+
 Every block is given back by the end, whichever request is refused. Valgrind counts no block and no wrong access at the
 end of each worked row, and how many bytes a session of it requests in all, which are at most 8 KB and 8 bytes for each
 of the input. Needs a C compiler; valgrind is skipped if there is none.
@@ -21,8 +25,9 @@ from concurrent.futures import ThreadPoolExecutor
 
 sys.path.insert(0, os.path.join(os.path.dirname(os.path.abspath(__file__)), "lib"))
 sys.dont_write_bytecode = True
-from worked import Session, build_refuser, is_utf8, rows, run_counted, takes_no_memory
+from worked import Session, build_refuser, is_utf8, rows, run_counted, run_told, takes_no_memory
 
+REQUESTS = os.path.join(os.path.dirname(os.path.abspath(__file__)), "requests.txt")
 WANTED = "FAULT memory"
 VALGRIND = ["valgrind", "--leak-check=full", "--error-exitcode=99"]
 NOTHING_HELD = re.compile(rb"in use at exit: 0 bytes in 0 blocks\n")
@@ -90,6 +95,32 @@ def count_bare(testbench, refuser):
     return lines, wrong, kinds
 
 
+def few_rows():
+    """The inputs of requests.txt: the words of a command, the input, and the most requests and bytes of one."""
+    with open(REQUESTS, encoding="ascii") as lines:
+        for line in lines:
+            words, data, requests, most = line.rstrip("\n").split("\t")
+            yield words.split(" "), bytes.fromhex(data), int(requests), float("inf") if most == "-" else int(most)
+
+
+def is_few(testbench, refuser, words, data, requests, most):
+    """Whether no more requests are made than may be, and none for more bytes.
+
+    A list of bytes that has no room for what is put in asks for twice the bytes that it has room for, for those that it needs
+    if these are more, and for 8 at least. So the bytes of a request are not those of the text, but go up in steps. Where the
+    steps are depends on how much room the list had at first: if it begins with none they are 8, 16, 32 and so on, and if it
+    begins with 17 bytes, which are in use, the next is 34. Each length has a row of its own, which says what was asked for
+    at that length, so a list that begins otherwise may be above it at some lengths.
+    """
+    done, counts, held, greatest = run_told(testbench, words, data, refuser, 0, after_reading=True)
+    is_whole = not held and not done.stderr and not done.returncode
+    is_right = is_whole and sum(counts) <= requests and greatest <= most
+    if not is_right:
+        print(f"{words}, {data[:80]!r}: {sum(counts)} requests, the greatest for {greatest} bytes, where {requests} and {most} "
+              f"are the most; {held} blocks, {done.stderr!r}")
+    return is_right
+
+
 def blocks_of(command):
     """Whether valgrind counts no block at a program's end, and no wrong access, and how many bytes were requested."""
     words, data = command
@@ -124,12 +155,14 @@ def main(program):
         with ThreadPoolExecutor(max_workers=os.cpu_count()) as pool:
             for found in pool.map(lambda one: count_each(testbench, refuser, *one), every):
                 total = [a + b for a, b in zip(total, found)]
+            few = list(pool.map(lambda row: is_few(testbench, refuser, *row), few_rows()))
         places, places_wrong, kinds = count_bare(testbench, refuser)
     bare, requests, others, runs, wrong = total
     print(f"counts: {len(every)} lists of calls, {runs} runs, {bare} calls that take no memory made {requests} requests, "
           f"the others {others}, {wrong} runs wrong")
     print(f"counts: {places} places and decodings of UTF-8, {len(BARE & kinds)} kinds that take no memory, {places_wrong} wrong")
-    is_wrong = wrong or requests or places_wrong or not bare or not others or not BARE <= kinds
+    print(f"counts: {len(few)} commands on tags and UTF-16, {few.count(False)} request more than they may")
+    is_wrong = wrong or requests or places_wrong or not bare or not others or not BARE <= kinds or not all(few) or not few
     if shutil.which("valgrind") is None:
         print("counts: blocks are not counted: no valgrind")
         return 1 if is_wrong else 0

@@ -4,8 +4,9 @@
  * If REFUSED_BEHIND_READ is set, only requests after the end of the standard input was read are counted.
  *
  * COUNTED_GROWTHS names a file. When the program ends, a line is written there for each line of the standard output: how many
- * requests were made between the line before it and this one. Then comes a line with those after the last one, and one with
- * how many blocks were not freed. Nothing is written if there are too many lines. */
+ * requests were made between the line before it and this one. Then comes a line with those after the last one, one with how
+ * many blocks were not freed, and one with the most bytes that a counted request asked for. Nothing is written if there are
+ * too many lines. */
 #include <errno.h>
 #include <fcntl.h>
 #include <stddef.h>
@@ -27,6 +28,8 @@ static int is_read;
 /* the requests that were counted, those before the last line, and those of each line */
 static long number, before_line, of_line[MOST_LINES];
 static long lines, blocks;
+/* the most bytes that a counted request asked for */
+static size_t greatest;
 
 static int is_counted(void) {
     static int waits = -1;
@@ -35,7 +38,7 @@ static int is_counted(void) {
     return is_read || !waits;
 }
 
-static int is_refused(void) {
+static int is_refused(size_t size) {
     static long refused = -1;
     static int all = 0;
     if (refused < 0) {
@@ -46,6 +49,8 @@ static int is_refused(void) {
     if (!is_counted())
         return 0;
     number++;
+    if (size > greatest)
+        greatest = size;
     if (refused == 0 || number < refused || (number > refused && !all))
         return 0;
     errno = ENOMEM;
@@ -93,6 +98,7 @@ __attribute__((destructor)) static void tell_counts(void) {
         put_number(file, of_line[line]);
     put_number(file, after);
     put_number(file, held);
+    put_number(file, (long)greatest);
     close(file);
 }
 
@@ -102,20 +108,20 @@ static void *made(void *block) {
     return block;
 }
 
-void *malloc(size_t size) { return is_refused() ? NULL : made(__libc_malloc(size)); }
+void *malloc(size_t size) { return is_refused(size) ? NULL : made(__libc_malloc(size)); }
 
-void *calloc(size_t count, size_t size) { return is_refused() ? NULL : made(__libc_calloc(count, size)); }
+void *calloc(size_t count, size_t size) { return is_refused(count * size) ? NULL : made(__libc_calloc(count, size)); }
 
 void *realloc(void *old, size_t size) {
-    if (is_refused())
+    if (is_refused(size))
         return NULL;
     return old ? __libc_realloc(old, size) : made(__libc_realloc(old, size));
 }
 
-void *aligned_alloc(size_t align, size_t size) { return is_refused() ? NULL : made(__libc_memalign(align, size)); }
+void *aligned_alloc(size_t align, size_t size) { return is_refused(size) ? NULL : made(__libc_memalign(align, size)); }
 
 int posix_memalign(void **found, size_t align, size_t size) {
-    void *block = is_refused() ? NULL : made(__libc_memalign(align, size));
+    void *block = is_refused(size) ? NULL : made(__libc_memalign(align, size));
     if (block)
         *found = block;
     return block ? 0 : ENOMEM;

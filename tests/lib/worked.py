@@ -103,12 +103,17 @@ def run(program, words, data, refuser, number, after_reading=False, counts=None)
     return subprocess.run([program, *words], input=data, capture_output=True, timeout=60, env=environment)
 
 
-def run_counted(program, words, data, refuser, number, after_reading=False):
+def run_told(program, words, data, refuser, number, after_reading=False):
     """Runs it likewise. Returns what it did, how many requests it made for each line that it wrote and after the last
-    one, and how many blocks were not freed."""
+    one, how many blocks were not freed, and the most bytes that a counted request asked for."""
     path = os.path.join(os.path.dirname(refuser), f"counts.{threading.get_ident()}")
     done = run(program, words, data, refuser, number, after_reading, path)
     with open(path, encoding="ascii") as lines:
-        *counts, held = map(int, lines)
+        *counts, held, greatest = map(int, lines)
     os.remove(path)
-    return done, counts, held
+    return done, counts, held, greatest
+
+
+def run_counted(program, words, data, refuser, number, after_reading=False):
+    """What `run_told` returns, without bytes."""
+    return run_told(program, words, data, refuser, number, after_reading)[:3]

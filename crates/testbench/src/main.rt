@@ -18,21 +18,30 @@
 //! sink, and with `measure decode` it is decoded. The answer is how many bytes were read, tokens scanned or bytes
 //! decoded, and the best and the median time in nanoseconds.
 //!
-//! Five commands are for requests for memory, which may be refused or counted: after the input is read, only the named
-//! calls take memory (`session.rt`).
+//! Eight commands make calls of the library. Requests for memory may be refused or counted there: after the input is
+//! read, only the named calls take memory (`session.rt`, `batches.rt`).
 //!
 //! - `each ENC LIMIT WORD` makes the calls of WORD one by one: `s` for a scan, `p` for a peek, `k` for a skip;
 //! - `calls ENC LIMIT WORD..` makes the calls of each WORD by one `yaml_run`, all on one parser;
 //! - `all ENC LIMIT` lists all tokens by one call;
+//! - `batches ENC LIMIT COUNT BYTES` makes calls of `yaml_scan_next_to` on one parser, up to the stream end or a fault,
+//!   and two more. At each call the sink has room for COUNT tokens, whose texts have BYTES bytes together. For each
+//!   call it writes a line `GIVEN` for each token that the sink was given, a line `RETURNED` or `FAULT` for what was
+//!   returned, if anything was, and the state of the session;
+//! - `to ENC LIMIT COUNT BYTES` gives all tokens to such a sink by one `yaml_scan_to`. It writes a line `GIVEN` for
+//!   each token, and at the end the fault, `ENDED` if there is none, or `REFUSED` if memory was;
 //! - `decode ENC` decodes the input;
+//! - `front ENC` decodes the input, and reads the lexeme at its front;
 //! - `bare ENC` makes the calls that take no memory: a new parser and its state, decoding of UTF-8, and at each place
 //!   of the text its mark, gaps, kinds, lexemes of one character and character classes.
 //!
-//! ENC is `any`, `utf8`, `utf16le` or `utf16be`, LIMIT a key limit of 1 to 65536 bytes.
+//! ENC is `any`, `utf8`, `utf16le` or `utf16be`, LIMIT a key limit of 1 to 65536 bytes. COUNT and BYTES are numbers, or
+//! `-` if there is no limit. They may be left out, and then there is none either.
 #![tactic(auto)]
 
 mod ask;
 mod bare;
+mod batches;
 mod measure;
 mod session;
 mod show;

@@ -4,21 +4,24 @@
 //! and lines are written piece by piece. So each request for memory comes from the call that is tested.
 ghost use Rattle.std.specs.Prelude.{◌≤◌, IfOk, IfSome, length};
 
+use crate::ask::mark_at;
 use crate::bare::put_places;
+use crate::batches::{give_all, take_batches};
 use crate::show::put_mark;
 use crate::words::{setting_of, word_at};
 use std::alloc::{AllocError, Global};
 use std::io;
 use std::io::{Read, Write};
 use yaml_scan::{
-    unnamed_yaml_token_t_data, yaml_answer_t, yaml_call_t, yaml_decode, yaml_encoding_t,
-    yaml_fault_t, yaml_mark_t, yaml_parser_fault, yaml_parser_has_token, yaml_parser_mark,
-    yaml_parser_peek, yaml_parser_queued, yaml_parser_scan, yaml_parser_skip, yaml_parser_t,
-    yaml_run, yaml_scan_all_limit, yaml_token_t,
+    unnamed_yaml_token_t_data, yaml_answer_t, yaml_call_t, yaml_context_t, yaml_decode,
+    yaml_encoding_t, yaml_fault_t, yaml_lexeme_at, yaml_lexeme_kind, yaml_mark_t,
+    yaml_parser_fault, yaml_parser_has_token, yaml_parser_mark, yaml_parser_peek,
+    yaml_parser_queued, yaml_parser_scan, yaml_parser_skip, yaml_parser_t, yaml_run,
+    yaml_scan_all_limit, yaml_text_t, yaml_token_t,
 };
 
 /// What comes after so many bytes of an input is not read.
-const MOST: usize = 8192;
+pub const MOST: usize = 8192;
 
 /// The usual key limit, in bytes.
 const KEY_LIMIT: u32 = 1024;
@@ -67,7 +70,8 @@ fn put_data(out: &mut impl Write, data: &unnamed_yaml_token_t_data) -> io::Resul
     }
 }
 
-fn put_token(out: &mut impl Write, token: &yaml_token_t) -> io::Result<()> {
+/// Writes the line of a token.
+pub fn put_token(out: &mut impl Write, token: &yaml_token_t) -> io::Result<()> {
     let kind = token.type_();
     write!(out, "TOKEN {kind:?}")?;
     put_mark(out, token.start_mark)?;
@@ -76,7 +80,8 @@ fn put_token(out: &mut impl Write, token: &yaml_token_t) -> io::Result<()> {
     writeln!(out)
 }
 
-fn put_fault(out: &mut impl Write, fault: &yaml_fault_t) -> io::Result<()> {
+/// Writes the line of a fault.
+pub fn put_fault(out: &mut impl Write, fault: &yaml_fault_t) -> io::Result<()> {
     let (error, offset, value) = (fault.error, fault.problem_offset, fault.problem_value);
     let problem = fault.problem.unwrap_or("-");
     let context = fault.context.unwrap_or("-");
@@ -110,7 +115,7 @@ fn put_answers(out: &mut impl Write, answers: &[yaml_answer_t]) -> io::Result<()
 }
 
 /// Whether a token was peeked, how many steps are queued, how far was read, and the fault.
-fn put_state(out: &mut impl Write, parser: &yaml_parser_t) -> io::Result<()> {
+pub fn put_state(out: &mut impl Write, parser: &yaml_parser_t) -> io::Result<()> {
     let (has_token, queued) = (yaml_parser_has_token(parser), yaml_parser_queued(parser));
     write!(out, "STATE {has_token} {queued}")?;
     put_mark(out, yaml_parser_mark(parser))?;
@@ -144,7 +149,7 @@ fn lists_of(alloc: Global, words: &[String]) -> Result<Vec<Vec<yaml_call_t>>, Al
 }
 
 /// Reads the input to its end, or until there is no room, and returns how many bytes it has.
-fn read_input(reader: &mut impl Read, room: &mut [u8]) -> io::Result<usize>
+pub fn read_input(reader: &mut impl Read, room: &mut [u8]) -> io::Result<usize>
     ensures { IfOk result (λ count. count ≤ length room.new) }
 {
     let mut count = 0;
@@ -279,6 +284,41 @@ fn decode(rt: &HostRuntime, setting: yaml_encoding_t) -> io::Result<()> {
     }
 }
 
+/// Writes the lexeme at the front of a text, outside of flow and with no level open, or its fault.
+fn put_front(out: &mut impl Write, alloc: Global, text: &yaml_text_t) -> io::Result<()> {
+    let Some(at) = mark_at(text, 0) else {
+        return writeln!(out, "NOTHING");
+    };
+    let Some(kind) = yaml_lexeme_kind(text, at, false) else {
+        return writeln!(out, "NOTHING");
+    };
+    let context = yaml_context_t {
+        depth: 0,
+        level: None,
+    };
+    match yaml_lexeme_at(alloc, text, at, kind, context) {
+        Ok(lexeme) => {
+            write!(out, "LEXEME")?;
+            put_mark(out, lexeme.start_mark)?;
+            put_mark(out, lexeme.end_mark)?;
+            put_data(out, &lexeme.token_data)?;
+            writeln!(out)
+        }
+        Err(fault) => put_fault(out, &fault),
+    }
+}
+
+/// Decodes the input, and writes the lexeme at the front of its text.
+fn read_front(rt: &HostRuntime, setting: yaml_encoding_t) -> io::Result<()> {
+    let mut room = [0u8; MOST];
+    let count = read_input(&mut rt.stdin(), &mut room)?;
+    let mut out = rt.stdout();
+    match yaml_decode(rt.alloc(), &room[..count], setting) {
+        Ok(text) => put_front(&mut out, rt.alloc(), &text),
+        Err(fault) => put_fault(&mut out, &fault),
+    }
+}
+
 /// Makes the calls that take no memory: a new parser, its state, decoding of UTF-8, and what [`put_places`] makes.
 fn call_bare(rt: &HostRuntime, setting: yaml_encoding_t) -> io::Result<()> {
     let mut room = [0u8; MOST];
@@ -317,8 +357,8 @@ pub fn wrong_words() -> io::Error {
     io::Error::from(io::ErrorKind::InvalidInput)
 }
 
-/// Runs the command of the words: `each ENC LIMIT WORD`, `calls ENC LIMIT WORD..`, `all ENC LIMIT`, `decode ENC` or
-/// `bare ENC`.
+/// Runs the command of the words: `each ENC LIMIT WORD`, `calls ENC LIMIT WORD..`, `all ENC LIMIT`,
+/// `batches ENC LIMIT COUNT BYTES`, `to ENC LIMIT COUNT BYTES`, `decode ENC`, `front ENC` or `bare ENC`.
 ///
 /// # Errors
 ///
@@ -332,6 +372,7 @@ pub fn list_session(rt: &HostRuntime, words: &[String]) -> io::Result<()> {
     let [limit, words @ ..] = rest else {
         return match command.as_str() {
             "bare" => call_bare(rt, setting),
+            "front" => read_front(rt, setting),
             _ => decode(rt, setting),
         };
     };
@@ -340,6 +381,8 @@ pub fn list_session(rt: &HostRuntime, words: &[String]) -> io::Result<()> {
         "each" => make_calls(rt, setting, limit, word_at(words, 0)),
         "calls" => run_words(rt, setting, limit, words),
         "all" => scan_all(rt, setting, limit),
+        "batches" => take_batches(rt, setting, limit, words),
+        "to" => give_all(rt, setting, limit, words),
         _ => Err(wrong_words()),
     }
 }
