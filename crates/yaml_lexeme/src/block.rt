@@ -10,7 +10,7 @@ ghost use Rattle.yaml_lexeme.specs.inside.Tails.{TakesBlanks, TakesLine, between
 
 use crate::classes::{is_blank, is_break};
 use crate::fold::{emptied, push_char, written};
-use crate::gap::skip_comment;
+use crate::gap::skip_rare_comment;
 use crate::place::{check_at, cursor_t, is_at};
 use crate::plain::scalar_t;
 use crate::problem::{offence, yaml_problem_t, yaml_refusal_t};
@@ -114,37 +114,18 @@ fn take_header(cursor: &mut cursor_t) -> Result<header_t, yaml_refusal_t>
 
 /// Takes blanks, a comment and the break that ends the line.
 #[tactic(auto, unfolding(crate::specs::Block::after_line))]
-#[inline(never)]
-fn take_long_line_end(cursor: &mut cursor_t) -> Result<(), yaml_refusal_t>
+#[inline(always)]
+pub(crate) fn take_line_end(cursor: &mut cursor_t) -> Result<(), yaml_refusal_t>
     ensures { Moves result cursor.new (spec.after_line cursor.old) }
 {
-    cursor.skip_run(class_t::BLANK);
-    let mut here = cursor.again();
-    skip_comment(&mut here);
-    *cursor = here;
+    cursor.skip_blanks();
+    skip_rare_comment(cursor);
     let c = cursor.peek(0);
     if !(is_break(c) || c == '\0') {
         return Err(offence(yaml_problem_t::NO_COMMENT_OR_BREAK));
     }
     cursor.skip(cursor.break_len());
     Ok(())
-}
-
-/// Takes blanks, a comment and the break that ends the line. Most lines end with a line feed right here.
-#[tactic(auto, using(crate::proofs::Readers::BlockLines::at_feed))]
-#[inline(always)]
-pub(crate) fn take_line_end(cursor: &mut cursor_t) -> Result<(), yaml_refusal_t>
-    ensures { Moves result cursor.new (spec.after_line cursor.old) }
-{
-    if check_at!(cursor, '\n', 0) {
-        cursor.advance();
-        return Ok(());
-    }
-    // a copy, so that the cursor itself stays in registers
-    let mut here = cursor.again();
-    let taken = take_long_line_end(&mut here);
-    *cursor = here;
-    taken
 }
 
 fn is_below(limit: Option<u64>, column: u64) -> bool

@@ -31,6 +31,18 @@ pub(crate) fn skip_comment(cursor: &mut cursor_t)
     }
 }
 
+/// Takes a comment, if there is one here, which is rare. So the cursor is copied for it, and stays in registers.
+#[inline(always)]
+pub(crate) fn skip_rare_comment(cursor: &mut cursor_t)
+    ensures { cursor.new ≡ spec.after_comment cursor.old }
+{
+    if check_at!(cursor, '#', 0) {
+        let mut here = cursor.again();
+        skip_line(&mut here);
+        *cursor = here;
+    }
+}
+
 #[tactic(auto, unfolding(crate::specs::Gap::after_gap_line))]
 #[inline(always)]
 fn skip_gap_line(cursor: &mut cursor_t, tabs: bool)

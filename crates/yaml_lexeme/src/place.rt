@@ -10,7 +10,7 @@ ghost use Rattle.yaml_lexeme.specs.Place.{peek, first, place_at, skip, after_run
 ghost use Rattle.yaml_lexeme.specs.inside.Moves.{mark_after};
 ghost use Rattle.yaml_lexeme.specs.Counted.{IsMarkOf};
 ghost use Rattle.yaml_lexeme.specs.Place.{run_len, break_len};
-ghost use Rattle.yaml_lexeme.specs.declared.runs.class_t.TheVariants.{SPACE};
+ghost use Rattle.yaml_lexeme.specs.declared.runs.class_t.TheVariants.{BLANK, SPACE};
 ghost use Rattle.yaml_lexeme.specs.inside.Runs.{class_test, is_line, Stands};
 
 use crate::classes::is_break;
@@ -424,6 +424,16 @@ impl<'a> cursor_t<'a> {
         ensures { self.new ≡ after_run (class_test SPACE) self.old }
     {
         self.skip_spaces(u64::MAX);
+    }
+
+    /// Takes the blanks that are here, one by one, since mostly they are few.
+    #[inline(always)]
+    pub fn skip_blanks(&mut self)
+        ensures { self.new ≡ after_run (class_test BLANK) self.old }
+    {
+        'blanks: while is_in(class_t::BLANK, self.peek(0)) {
+            self.pass();
+        }
     }
 
     /// Takes the longest run of characters of the class.

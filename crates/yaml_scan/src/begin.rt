@@ -28,11 +28,7 @@ fn has_room(scanner: &scanner_t, in_flow: bool, kind: yaml_lexeme_kind_t) -> boo
 
 /// Makes room for what the step of a lexeme of a kind may keep, where there is none.
 #[cold]
-fn make_room(
-    scanner: &mut scanner_t,
-    in_flow: bool,
-    kind: yaml_lexeme_kind_t,
-) -> Result<(), stop_t>
+fn make_room(scanner: &mut scanner_t, in_flow: bool, kind: yaml_lexeme_kind_t) -> Result<(), stop_t>
     ensures { MatchResult result (λ _. HasRoom scanner.new in_flow kind × Beside scanner.old scanner.new)
         (λ stop. (fault_at stop scanner.new.kept ≡ memory_fault) × Stays scanner.old scanner.new) }
 {

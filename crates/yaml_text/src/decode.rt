@@ -157,7 +157,9 @@ pub fn yaml_decode_front<'a>(
     let (encoding, before) = find_encoding(setting, input);
     let bytes = rest(input, before);
     match encoding {
-        yaml_encoding_t::YAML_UTF16LE_ENCODING => Ok(front_in_utf16::<false>(alloc, bytes, before)?),
+        yaml_encoding_t::YAML_UTF16LE_ENCODING => Ok(front_in_utf16::<false>(
+            alloc, bytes, before,
+        )?),
         yaml_encoding_t::YAML_UTF16BE_ENCODING => Ok(front_in_utf16::<true>(alloc, bytes, before)?),
         _ => Ok(front_in_utf8(bytes, before)),
     }

@@ -256,6 +256,12 @@ fn are_plain(bytes: &[u8], big: bool) -> bool
     others(shown(low, high)) == 0
 }
 
+/// Whether the unit is a character of two or three bytes. U+0085, which is seldom used, is left out.
+#[inline(always)]
+fn is_wide(u: u32) -> bool {
+    matches!(u, 0xA0..=0xD7FF | 0xE000..=0xFFFD)
+}
+
 /// Appends the first of 16 units, and returns how many. All are appended if they are characters of one byte. All are
 /// appended too if they are characters, several of them have more bytes, and there is room for their slots. Otherwise
 /// those before the first that is no character of one byte are appended.
@@ -274,7 +280,7 @@ fn push_units(out: &mut Vec<u8>, bytes: &[u8], big: bool, at: usize) -> Result<u
         return Ok(16);
     }
     let count = found.trailing_zeros() as usize;
-    if unit_at(bytes, at + 2 * count, big) < 0xD800
+    if is_wide(unit_at(bytes, at + 2 * count, big))
         && are_many(found)
         && has_room_for_slots(out)
         && are_plain(rest(bytes, at), big)
@@ -395,32 +401,34 @@ fn push_plain(out: &mut Vec<u8>, bytes: &[u8], big: bool, start: usize) -> Resul
 }
 
 /// Whether 16 units from a place on are found to be characters by themselves, and there is room for their slots. The
-/// second is looked at alone first, since half of a pair often stands there. From D800 on it counts as no character.
+/// second is looked at alone first, since half of a pair often stands there.
 #[inline(always)]
 fn are_plain_at(out: &Vec<u8>, bytes: &[u8], big: bool, at: usize) -> bool
     requires { at ≤ length bytes.now }
-    ensures chars { result ≡ true → (k : ℕ) → k < 16 → IsChar (unit_at big bytes.now (at + 2 * k)) }
-    ensures room { result ≡ true → length out.now.items + 64 ≤ vec_capacity out.now }
 {
     bytes.len() - at >= 32
-        && unit_at(bytes, at + 2, big) < 0xD800
+        && is_wide(unit_at(bytes, at + 2, big))
         && has_room_for_slots(out)
         && are_plain(rest(bytes, at), big)
 }
 
-/// Appends characters from a place on, of which the first has two or three bytes, and returns where they end.
+/// Whether the unit is half of a pair.
+#[inline(always)]
+fn is_half(u: u32) -> bool {
+    matches!(u, 0xD800..=0xDFFF)
+}
+
+/// Appends characters from a place on, of which the first has two or three bytes, and returns where they end. If they
+/// are many, they are then read 16 at a time.
 #[inline(never)]
 fn push_wide(out: &mut Vec<u8>, bytes: &[u8], big: bool, start: usize) -> Result<usize, AllocError>
     requires { Reads16 big bytes.now out.old.items start }
     ensures read { IfOk result (λ at. Reads16 big bytes.now out.new.items at) }
     ensures forward { IfOk result (λ at. start ≤ at) }
 {
-    let mut at = start;
-    if !are_plain_at(out, bytes, big, start) {
-        at = push_plain(out, bytes, big, start)?;
-        if bytes.len() - at >= 2 && unit_at(bytes, at, big) >= 0xD800 {
-            return Ok(at);
-        }
+    let at = push_plain(out, bytes, big, start)?;
+    if bytes.len() - at >= 2 && is_half(unit_at(bytes, at, big)) {
+        return Ok(at);
     }
     push_run(out, bytes, big, at)
 }
@@ -438,6 +446,9 @@ fn push_quick(out: &mut Vec<u8>, bytes: &[u8], big: bool, start: usize) -> Resul
     match unit_at(bytes, start, big) {
         0..=0x7F => push_run(out, bytes, big, start),
         0xA0..=0xD7FF => push_wide(out, bytes, big, start),
+        0xFF00..=0xFFFD if are_plain_at(out, bytes, big, start) => {
+            push_run(out, bytes, big, start)
+        }
         _ => Ok(start),
     }
 }

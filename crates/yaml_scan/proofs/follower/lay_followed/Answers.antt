@@ -50,12 +50,23 @@ returns-clause-laid g c = λ sparing d b e passed t z p F T Z.
           let empty : new.not_simple_keys ≡ s.slots.not_simple_keys = v.empty ∙ ap (λ (i : Bool). if i then s.slots.not_simple_keys else vec_len new.outer) w in
           let awaited : new.awaited ≡ s.slots.awaited = v.awaited ∙ ap (λ (i : Bool). if i then s.slots.awaited else 0) w in
           rw w (waiting.twice g.before s r x p k y f t T z Z new v.outer v.top empty awaited a (rw (← key) allows)
-              _ (λ i. groups_in s ++ group_with (l.1 i) (l.2 i) (key i) t ∷ (lone z ∷ []))
-              _ (λ i. record {
-                alloc = s.alloc; text = s.text; refusal = s.refusal; near = s.near; limit = s.limit; slots = new; allowed = a;
-                layout = record { levels = l.0 i; queue = s.layout.queue };
-                reach = y.reach; front = s.front; there = s.there; kept = s.kept; taken = s.taken; made = s.made + 1
-              }))
+          _ (λ i. groups_in s ++ group_with (l.1 i) (l.2 i) (key i) t ∷ (lone z ∷ []))
+          _ (λ i. record {
+            alloc = s.alloc;
+            text = s.text;
+            refusal = s.refusal;
+            near = s.near;
+            limit = s.limit;
+            slots = new;
+            allowed = a;
+            layout = record { levels = l.0 i; queue = s.layout.queue };
+            reach = y.reach;
+            front = s.front;
+            there = s.there;
+            kept = s.kept;
+            taken = s.taken;
+            made = s.made + 1;
+          }))
       | inr w ↦
           let f : IsDecided s sparing r c.args.at k y = subst (λ (i : Bool). IsFollower s sparing r c.args.at i k y) w F in
           let l = levels.levels w in
@@ -64,6 +75,6 @@ returns-clause-laid g c = λ sparing d b e passed t z p F T Z.
           let empty : new.not_simple_keys ≡ vec_len new.outer = v.empty ∙ ap (λ (i : Bool). if i then s.slots.not_simple_keys else vec_len new.outer) w in
           let awaited : new.awaited ≡ 0 = v.awaited ∙ ap (λ (i : Bool). if i then s.slots.awaited else 0) w in
           rw w (decided.twice g.before s r x p sparing k y f l.0 l.1 c.lay_levels-ends.result.0 (levels.ends w) t T
-              c.is_key-key.result colon c.lay_levels-ends.new.levels l.2 z Z new v.outer v.top empty awaited a allows
-              _ (rw (u.alone, l.3) refl) _ refl)
+          c.is_key-key.result colon c.lay_levels-ends.new.levels l.2 z Z new v.outer v.top empty awaited a allows
+          _ (rw (u.alone, l.3) refl) _ refl)
     ]
