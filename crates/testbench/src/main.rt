@@ -42,14 +42,16 @@
 mod ask;
 mod bare;
 mod batches;
+mod commands;
 mod measure;
 mod session;
 mod show;
 mod words;
 
 use ask::answer;
+use commands::list_session;
 use measure::{measure, task_of, work_t};
-use session::{limit_or_usual, list_session, wrong_words};
+use session::{limit_or_usual, wrong_words};
 use std::io::{BufRead, BufReader, BufWriter, Read, Write};
 use std::{env, io};
 use words::word_at;

@@ -6,9 +6,7 @@ ghost use Rattle.std.specs.Prelude.{◌≤◌, IfOk, IfSome, length};
 
 use crate::ask::mark_at;
 use crate::bare::put_places;
-use crate::batches::{give_all, take_batches};
 use crate::show::put_mark;
-use crate::words::{setting_of, word_at};
 use std::alloc::{AllocError, Global};
 use std::io;
 use std::io::{Read, Write};
@@ -170,7 +168,7 @@ pub fn read_input(reader: &mut impl Read, room: &mut [u8]) -> io::Result<usize>
 ///
 /// After each run it writes whether the run was refused memory, all answers so far, and the state of the session. The
 /// answers begin with one that none of the calls gave.
-fn run_words(
+pub fn run_words(
     rt: &HostRuntime,
     setting: yaml_encoding_t,
     limit: u32,
@@ -225,7 +223,7 @@ fn make_call(
 }
 
 /// Makes the calls of a word one by one on a parser, and writes the state of the session after each.
-fn make_calls(rt: &HostRuntime, setting: yaml_encoding_t, limit: u32, word: &str) -> io::Result<()>
+pub fn make_calls(rt: &HostRuntime, setting: yaml_encoding_t, limit: u32, word: &str) -> io::Result<()>
     requires least { 1 ≤ limit }
     requires most { limit ≤ MOST_KEY_LIMIT }
 {
@@ -248,7 +246,7 @@ fn put_tokens(out: &mut impl Write, tokens: &[yaml_token_t]) -> io::Result<()> {
 }
 
 /// Writes all tokens of the input and its fault, by one `yaml_scan_all_limit`.
-fn scan_all(rt: &HostRuntime, setting: yaml_encoding_t, limit: u32) -> io::Result<()>
+pub fn scan_all(rt: &HostRuntime, setting: yaml_encoding_t, limit: u32) -> io::Result<()>
     requires least { 1 ≤ limit }
     requires most { limit ≤ MOST_KEY_LIMIT }
 {
@@ -269,7 +267,7 @@ fn scan_all(rt: &HostRuntime, setting: yaml_encoding_t, limit: u32) -> io::Resul
 }
 
 /// Writes the encoding and the bytes of the text of the input, or its fault, by one `yaml_decode`.
-fn decode(rt: &HostRuntime, setting: yaml_encoding_t) -> io::Result<()> {
+pub fn decode(rt: &HostRuntime, setting: yaml_encoding_t) -> io::Result<()> {
     let mut room = [0u8; MOST];
     let count = read_input(&mut rt.stdin(), &mut room)?;
     let mut out = rt.stdout();
@@ -309,7 +307,7 @@ fn put_front(out: &mut impl Write, alloc: Global, text: &yaml_text_t) -> io::Res
 }
 
 /// Decodes the input, and writes the lexeme at the front of its text.
-fn read_front(rt: &HostRuntime, setting: yaml_encoding_t) -> io::Result<()> {
+pub fn read_front(rt: &HostRuntime, setting: yaml_encoding_t) -> io::Result<()> {
     let mut room = [0u8; MOST];
     let count = read_input(&mut rt.stdin(), &mut room)?;
     let mut out = rt.stdout();
@@ -320,7 +318,7 @@ fn read_front(rt: &HostRuntime, setting: yaml_encoding_t) -> io::Result<()> {
 }
 
 /// Makes the calls that take no memory: a new parser, its state, decoding of UTF-8, and what [`put_places`] makes.
-fn call_bare(rt: &HostRuntime, setting: yaml_encoding_t) -> io::Result<()> {
+pub fn call_bare(rt: &HostRuntime, setting: yaml_encoding_t) -> io::Result<()> {
     let mut room = [0u8; MOST];
     let count = read_input(&mut rt.stdin(), &mut room)?;
     let mut out = rt.stdout();
@@ -333,7 +331,7 @@ fn call_bare(rt: &HostRuntime, setting: yaml_encoding_t) -> io::Result<()> {
 }
 
 /// The key limit of a word, if it is one.
-fn limit_of(word: &str) -> Option<u32>
+pub fn limit_of(word: &str) -> Option<u32>
     ensures { IfSome result (λ limit. (1 ≤ limit) × (limit ≤ MOST_KEY_LIMIT)) }
 {
     match word.parse() {
@@ -355,34 +353,4 @@ pub fn limit_or_usual(word: &str) -> Option<u32>
 /// The error for words that are no command.
 pub fn wrong_words() -> io::Error {
     io::Error::from(io::ErrorKind::InvalidInput)
-}
-
-/// Runs the command of the words: `each ENC LIMIT WORD`, `calls ENC LIMIT WORD..`, `all ENC LIMIT`,
-/// `batches ENC LIMIT COUNT BYTES`, `to ENC LIMIT COUNT BYTES`, `decode ENC`, `front ENC` or `bare ENC`.
-///
-/// # Errors
-///
-/// `InvalidInput` if the words are no command, and otherwise the error of the read, the write or the request for memory
-/// that failed.
-pub fn list_session(rt: &HostRuntime, words: &[String]) -> io::Result<()> {
-    let [command, setting, rest @ ..] = words else {
-        return Err(wrong_words());
-    };
-    let setting = setting_of(setting.as_str()).ok_or(wrong_words())?;
-    let [limit, words @ ..] = rest else {
-        return match command.as_str() {
-            "bare" => call_bare(rt, setting),
-            "front" => read_front(rt, setting),
-            _ => decode(rt, setting),
-        };
-    };
-    let limit = limit_of(limit.as_str()).ok_or(wrong_words())?;
-    match command.as_str() {
-        "each" => make_calls(rt, setting, limit, word_at(words, 0)),
-        "calls" => run_words(rt, setting, limit, words),
-        "all" => scan_all(rt, setting, limit),
-        "batches" => take_batches(rt, setting, limit, words),
-        "to" => give_all(rt, setting, limit, words),
-        _ => Err(wrong_words()),
-    }
 }
