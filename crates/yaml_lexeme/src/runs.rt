@@ -316,12 +316,26 @@ fn narrow_run(class: class_t, text: &[u8]) -> usize
     slow_end(class, text, i)
 }
 
-/// How many spaces the text begins with.
+/// How many spaces the text begins with, which are many.
+#[inline(never)]
+fn many_spaces(text: &[u8]) -> usize
+    ensures { result ≡ prefix_len (spec.is_quiet SPACE) text.now }
+{
+    narrow_run(class_t::SPACE, text)
+}
+
+/// How many spaces the text begins with. Mostly they are fewer than sixteen.
 #[inline(always)]
 pub(crate) fn spaces_len(text: &[u8]) -> usize
     ensures { result ≡ prefix_len (spec.is_quiet SPACE) text.now }
 {
-    narrow_run(class_t::SPACE, text)
+    if text.len() >= 16 {
+        let found = no_spaces(u8x16::from_slice(text));
+        if found != 0 {
+            return found.trailing_zeros() as usize;
+        }
+    }
+    many_spaces(text)
 }
 
 /// How many of the first bytes need no closer look, if the class is not that of a line.
@@ -330,7 +344,8 @@ fn narrow_len(class: class_t, text: &[u8]) -> usize
     ensures { result ≡ prefix_len (spec.is_quiet class) text.now }
 {
     match class {
-        class_t::SPACE | class_t::ALPHA | class_t::URI(false) => narrow_run(class, text),
+        class_t::SPACE => spaces_len(text),
+        class_t::ALPHA | class_t::URI(false) => narrow_run(class, text),
         _ => end_from(class, text, 0),
     }
 }

@@ -92,12 +92,13 @@ pub(crate) fn follower_of(
     }
 }
 
-/// Whether the lexeme of a step is a key, if a lexeme of a kind comes right after it.
+/// Whether the lexeme of a step is a key, if a lexeme of a kind comes right after it. One that waits is no key where
+/// none is allowed.
 #[inline(always)]
-fn is_key(step: step_t, kind: yaml_lexeme_kind_t) -> bool
-    ensures { result ≡ (step.allowed && is_value kind) }
+fn is_key(step: step_t, waits: bool, kind: yaml_lexeme_kind_t) -> bool
+    ensures { result ≡ ((not waits || step.allowed) && is_value kind) }
 {
-    step.allowed && is_colon(kind)
+    (!waits || step.allowed) && is_colon(kind)
 }
 
 /// Closes the levels that the lexeme of a step does not keep, and opens one if it is a key in a column above the others.
@@ -143,9 +144,42 @@ fn drop_candidate(slots: &mut slots_t, kind: yaml_lexeme_kind_t, waits: bool)
     }
 }
 
+/// Lays the lexeme of a step, which was read to a mark, and what comes right after it. Both wait, or the first is a
+/// candidate, for which the second decides. If they wait, they are in flow, where no level ends and none begins.
+#[inline(always)]
+fn lay_both<const WAITS: bool>(
+    scanner: &mut scanner_t,
+    step: step_t,
+    at: yaml_mark_t,
+    decider: &decider_t,
+) -> (usize, block_t, bool)
+    ghost before: { List Laid }
+    requires { (x : Lexeme) × ((x.reach ≡ at) × CanLayAll before scanner.old step x) × ((sparing : Bool)
+        × IsFollower scanner.old sparing step at WAITS decider.now.kind
+        (lexeme_of decider.now.lexeme)) }
+    ensures laid { (sparing : Bool) (d : TokenData) (b e : yaml_mark_t) (passed : Bool) (t z : code_token_t)
+        → CanLayAll before scanner.old step (read_to d b e at passed)
+        → IsFollower scanner.old sparing step at WAITS decider.now.kind
+        (lexeme_of decider.now.lexeme) → IsTokenOf t d step.new.start e
+        → IsTokenOf z (lexeme_of decider.now.lexeme).token_data at
+        (lexeme_of decider.now.lexeme).end_mark
+        → LaysTwo (WAITS || sparing) before scanner.old scanner.new (groups_in scanner.new
+        ++ group_with result.0 result.1 result.2 t ∷ (lone z ∷ [])) }
+    ensures queue { scanner.new.layout.queue ≡ scanner.old.layout.queue }
+    ensures awaited { WAITS ≡ false → scanner.new.slots.awaited ≡ 0 }
+    ensures few { result.0 ≤ length scanner.old.layout.levels.items }
+{
+    let kind = decider.kind;
+    let key = is_key(step, WAITS, kind);
+    let (ends, opens) = lay_levels(&mut scanner.layout.levels, step, key, WAITS);
+    drop_candidate(&mut scanner.slots, kind, WAITS);
+    scanner.allowed = is_allowed_after(kind, step.in_flow, !key, false);
+    scanner.reach = decider.lexeme.reach;
+    (ends, opens, key)
+}
+
 /// Lays the lexeme of a step, which was read to a mark, and what comes right after it. Returns how many levels end at
-/// the token of the lexeme, what it opens, and whether it is a key. What comes after it is a group alone. If both wait,
-/// they are in flow, where no level ends and none begins.
+/// the token of the lexeme, what it opens, and whether it is a key. What comes after it is a group alone.
 #[inline(always)]
 pub(crate) fn lay_followed(
     scanner: &mut scanner_t,
@@ -169,11 +203,10 @@ pub(crate) fn lay_followed(
     ensures awaited { follower.now.waits ≡ false → scanner.new.slots.awaited ≡ 0 }
     ensures few { result.0 ≤ length scanner.old.layout.levels.items }
 {
-    let kind = follower.decider.kind;
-    let key = is_key(step, kind);
-    let (ends, opens) = lay_levels(&mut scanner.layout.levels, step, key, follower.waits);
-    drop_candidate(&mut scanner.slots, kind, follower.waits);
-    scanner.allowed = is_allowed_after(kind, step.in_flow, !key, false);
-    scanner.reach = follower.decider.lexeme.reach;
-    (ends, opens, key)
+    // a copy for each, so that what differs is asked once
+    if follower.waits {
+        lay_both::<true>(scanner, step, at, &follower.decider)
+    } else {
+        lay_both::<false>(scanner, step, at, &follower.decider)
+    }
 }

@@ -400,18 +400,6 @@ fn push_plain(out: &mut Vec<u8>, bytes: &[u8], big: bool, start: usize) -> Resul
     Ok(end)
 }
 
-/// Whether 16 units from a place on are found to be characters by themselves, and there is room for their slots. The
-/// second is looked at alone first, since half of a pair often stands there.
-#[inline(always)]
-fn are_plain_at(out: &Vec<u8>, bytes: &[u8], big: bool, at: usize) -> bool
-    requires { at ≤ length bytes.now }
-{
-    bytes.len() - at >= 32
-        && is_wide(unit_at(bytes, at + 2, big))
-        && has_room_for_slots(out)
-        && are_plain(rest(bytes, at), big)
-}
-
 /// Whether the unit is half of a pair.
 #[inline(always)]
 fn is_half(u: u32) -> bool {
@@ -446,9 +434,6 @@ fn push_quick(out: &mut Vec<u8>, bytes: &[u8], big: bool, start: usize) -> Resul
     match unit_at(bytes, start, big) {
         0..=0x7F => push_run(out, bytes, big, start),
         0xA0..=0xD7FF => push_wide(out, bytes, big, start),
-        0xFF00..=0xFFFD if are_plain_at(out, bytes, big, start) => {
-            push_run(out, bytes, big, start)
-        }
         _ => Ok(start),
     }
 }
