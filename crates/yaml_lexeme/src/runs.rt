@@ -293,7 +293,6 @@ fn narrow_stops(class: class_t, v: u8x16) -> u64
     ensures { result ≡ mask_l (map (spec.is_stop class) v) }
 {
     match class {
-        class_t::SPACE => no_spaces(v),
         class_t::ALPHA => no_letters(v),
         _ => no_uri(v),
     }
@@ -317,11 +316,20 @@ fn narrow_run(class: class_t, text: &[u8]) -> usize
 }
 
 /// How many spaces the text begins with, which are many.
+#[cold]
 #[inline(never)]
 fn many_spaces(text: &[u8]) -> usize
     ensures { result ≡ prefix_len (spec.is_quiet SPACE) text.now }
 {
-    narrow_run(class_t::SPACE, text)
+    let mut i: usize = 0;
+    'wide: while text.len() - i >= 16 {
+        let found = no_spaces(u8x16::from_slice(&text[i..]));
+        if found != 0 {
+            return i + found.trailing_zeros() as usize;
+        }
+        i += 16;
+    }
+    slow_end(class_t::SPACE, text, i)
 }
 
 /// How many spaces the text begins with. Mostly they are fewer than sixteen.

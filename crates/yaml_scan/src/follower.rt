@@ -1,6 +1,7 @@
 //! What comes right after a lexeme: two steps that are made at once, if the next token needs both.
 ghost use Rattle.std.specs.Prelude.{ℕ, ◌≡◌, ◌+◌, ◌<◌, ◌≤◌, ◌^◌, ◌++◌, ◌∷◌, [], List, Some, true, false, length};
-ghost use Rattle.std.specs.Prelude.{Bool, IfSome, None, ◌||◌, ◌&&◌, if◌then◌else◌, slice_get, vec_len, filter, map, not, reverse, false};
+ghost use Rattle.std.specs.Prelude.{Bool, IfSome, None, ◌||◌, ◌&&◌, if◌then◌else◌, slice_get, vec_len};
+ghost use Rattle.std.specs.Prelude.{filter, map, not, reverse, false};
 ghost use Rattle.std.specs.Vec.{vec_capacity};
 ghost use Rattle.yaml_lexeme.specs.Counted.{IsMarkOf};
 ghost use Rattle.yaml_lexeme.specs.Lexeme.{Lexeme};
@@ -101,9 +102,9 @@ fn is_key(step: step_t, waits: bool, kind: yaml_lexeme_kind_t) -> bool
     (!waits || step.allowed) && is_colon(kind)
 }
 
-/// Closes the levels that the lexeme of a step does not keep, and opens one if it is a key in a column above the others.
-/// If it waits, it is in flow, where no level ends and none begins. Returns how many levels end at the lexeme, and what
-/// it opens.
+/// Closes the levels that the lexeme of a step does not keep, and opens one if it is a key in a column above the
+/// others. If it waits, it is in flow, where no level ends and none begins. Returns how many levels end at the lexeme,
+/// and what it opens.
 #[inline(always)]
 fn lay_levels(levels: &mut Vec<u64>, step: step_t, key: bool, waits: bool) -> (usize, block_t)
     requires falls { waits ≡ false → IsFalling (reverse levels.old.items) }

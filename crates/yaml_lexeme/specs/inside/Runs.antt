@@ -78,7 +78,6 @@ Stands test p q = (n : ℕ) × ((n ≤ run_len test p) × (q ≡ skip (length (t
 
 -- runs of the class are taken sixteen bytes at a time, though it is not that of a line
 abbrev pub is_narrow : class_t → Bool
-is_narrow SPACE = true
 is_narrow ALPHA = true
 is_narrow (URI listed) = not listed
 is_narrow other = false
