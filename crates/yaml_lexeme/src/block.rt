@@ -115,7 +115,7 @@ fn take_header(cursor: &mut cursor_t) -> Result<header_t, yaml_refusal_t>
 /// Takes blanks, a comment and the break that ends the line.
 #[tactic(auto, unfolding(crate::specs::Block::after_line))]
 #[inline(always)]
-pub(crate) fn take_line_end(cursor: &mut cursor_t) -> Result<(), yaml_refusal_t>
+fn take_any_line_end(cursor: &mut cursor_t) -> Result<(), yaml_refusal_t>
     ensures { Moves result cursor.new (spec.after_line cursor.old) }
 {
     cursor.skip_blanks();
@@ -126,6 +126,19 @@ pub(crate) fn take_line_end(cursor: &mut cursor_t) -> Result<(), yaml_refusal_t>
     }
     cursor.skip(cursor.break_len());
     Ok(())
+}
+
+/// Takes blanks, a comment and the break that ends the line. Mostly that is a line feed right here.
+#[tactic(auto, using(crate::proofs::Readers::BlockLines::at_feed))]
+#[inline(always)]
+pub(crate) fn take_line_end(cursor: &mut cursor_t) -> Result<(), yaml_refusal_t>
+    ensures { Moves result cursor.new (spec.after_line cursor.old) }
+{
+    if check_at!(cursor, '\n', 0) {
+        cursor.pass_feed();
+        return Ok(());
+    }
+    take_any_line_end(cursor)
 }
 
 fn is_below(limit: Option<u64>, column: u64) -> bool
@@ -261,6 +274,7 @@ fn push_between(
 }
 
 /// Appends to `out` what comes after the last text line.
+#[inline(always)]
 fn push_chomped(out: &mut Vec<u8>, chomp: chomp_t, tail: &tail_t) -> Result<(), AllocError>
     ensures { OnOk result (out.new.items ≡ out.old.items ++ chomped_tail chomp tail.now) }
 {

@@ -36,6 +36,13 @@ use Rattle.yaml_lexeme.specs.declared.block.chomp_t.TheVariants.{STRIP, CLIP, KE
 use Rattle.yaml_lexeme.specs.declared.block.header_t.{header_t}
 use Rattle.yaml_lexeme.specs.Lexeme.{Scalar}
 
+-- the place after a line that ends with a line feed right here
+pub at_feed : (p : Place) → first p ≡ 0x0A → after_line p ≡ Ok (skip 1 p)
+unfolding after_line
+at_feed p h =
+    let none : is_blank (first p) ≡ false = rw h refl in
+    rw (after_none is_blank p none, h, h) refl
+
 -- the place after indentation
 abbrev pub indent_end : Option ℕ → Place → Place
 indent_end limit p = skip (indent_len limit p) p
