@@ -11,8 +11,8 @@ use crate::problem::{offence, refused, yaml_problem_t, yaml_refusal_t};
 use crate::runs::class_t;
 use std::alloc::{AllocError, Global};
 
-/// How many bytes a uri with an escape first gets room for, if no more come before the escape.
-const ROOM: usize = 8;
+/// How many bytes a list of bytes first gets room for.
+const FIRST_ROOM: usize = 8;
 
 pub(crate) fn push_byte(out: &mut Vec<u8>, byte: u8) -> Result<(), AllocError>
     ensures { OnOk result (out.new.items ≡ out.old.items ++ byte ∷ []) }
@@ -113,6 +113,22 @@ fn push_uri_run(cursor: &mut cursor_t, listed: bool, out: &mut Vec<u8>) -> Resul
     out.extend_from_slice(piece)
 }
 
+/// The room for a piece of so many bytes and at least one more, as if they came one by one: 8, 16, 32 bytes and so on.
+/// An empty piece gets none yet, since what comes after it may be refused.
+fn room_of(len: usize) -> usize {
+    if len == 0 {
+        return 0;
+    }
+    let mut room = FIRST_ROOM;
+    'rooms: for _ in 0..64 {
+        if room > len {
+            break;
+        }
+        room = room.saturating_mul(2);
+    }
+    room
+}
+
 /// Takes what is left of a uri, from an escape on. Its bytes come after a piece that was taken.
 #[inline(never)]
 fn take_escaped(
@@ -124,7 +140,7 @@ fn take_escaped(
     requires { first cursor.old ≡ 0x25 }
     ensures { Gives (λ v. v.items) result cursor.new (with_front piece.now (spec.uri listed cursor.old)) }
 {
-    let mut out = Vec::with_capacity(alloc, (piece.len() + 1).max(ROOM))?;
+    let mut out = Vec::with_capacity(alloc, room_of(piece.len()))?;
     out.extend_from_slice(piece)?;
     'escapes: while check_at!(cursor, '%', 0) {
         take_uri_escape(cursor, &mut out)?;
