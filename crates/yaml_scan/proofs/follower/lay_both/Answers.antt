@@ -1,4 +1,4 @@
-use Rattle.std.proofs.Common.{◌≡◌, ◌++◌, ◌+◌, ◌∷◌, [], ◌&&◌, ◌||◌, Bool, true, false, inl, inr, refl, ap, sym, ◌∙◌, subst, vec_len, not}
+use Rattle.std.proofs.Common.{◌≡◌, ◌++◌, ◌+◌, ◌∷◌, [], ◌&&◌, ◌||◌, Bool, inl, inr, refl, ap, sym, ◌∙◌, subst, vec_len, not}
 use Rattle.std.specs.Prelude.{if◌then◌else◌, nat_eq}
 use Rattle.std.proofs.lemmas.Bool.{cases_Bool}
 use Rattle.yaml_text.specs.declared.types.yaml_mark_t.{yaml_mark_t}
