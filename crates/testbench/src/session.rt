@@ -223,7 +223,12 @@ fn make_call(
 }
 
 /// Makes the calls of a word one by one on a parser, and writes the state of the session after each.
-pub fn make_calls(rt: &HostRuntime, setting: yaml_encoding_t, limit: u32, word: &str) -> io::Result<()>
+pub fn make_calls(
+    rt: &HostRuntime,
+    setting: yaml_encoding_t,
+    limit: u32,
+    word: &str,
+) -> io::Result<()>
     requires least { 1 ≤ limit }
     requires most { limit ≤ MOST_KEY_LIMIT }
 {
