@@ -1,4 +1,4 @@
-//! The commands for requests for memory.
+//! The commands that make calls, and the words of each.
 
 use crate::batches::{give_all, take_batches};
 use crate::session::{

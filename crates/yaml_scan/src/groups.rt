@@ -59,7 +59,7 @@ pub(crate) fn token_at(says: unnamed_yaml_token_t_data, mark: yaml_mark_t) -> ya
     }
 }
 
-/// How many groups a queue has room for at first: so many that it seldom goes round in its room.
+/// How many groups a queue has room for at first. They are few, so that opening a parser stays cheap.
 const FIRST_ROOM: usize = 8;
 
 /// Puts the first token into a queue that is empty, and makes room for some more groups.

@@ -1,5 +1,4 @@
-//! A lexeme of a flow collection that has to wait in the queue, and what comes right after it: two steps that are made
-//! at once.
+//! Whether a lexeme of a flow collection has to wait in the queue, with what comes right after it.
 ghost use Rattle.std.specs.Prelude.{◌≡◌, ◌+◌, ◌<◌, ◌^◌, ◌&&◌, None, Some, true, false, length, nat_eq, not, slice_get};
 ghost use Rattle.std.specs.VecDeque.{deque_capacity};
 ghost use Rattle.yaml_scan.specs.inside.Queue.{begins_with_end, pending};
