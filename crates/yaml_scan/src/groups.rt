@@ -59,13 +59,17 @@ pub(crate) fn token_at(says: unnamed_yaml_token_t_data, mark: yaml_mark_t) -> ya
     }
 }
 
-/// How many groups a queue has room for at first. They are few, so that opening a parser stays cheap.
-const FIRST_ROOM: usize = 8;
+/// How many groups a queue has room for at first. For a short text they are few, so that opening a parser stays cheap.
+fn first_room(text_len: usize) -> usize {
+    if text_len < 1024 { 8 } else { 16 }
+}
 
-/// Puts the first token into a queue that is empty, and makes room for some more groups.
+/// Puts the first token into a queue that is empty, and makes room for some more groups. `text_len`: the length of the
+/// text, in bytes.
 pub(crate) fn put_stream_start(
     queue: &mut queue_t,
     encoding: yaml_encoding_t,
+    text_len: usize,
 ) -> Result<(), AllocError>
     requires empty { queue.old.groups.items ≡ [] }
     requires none { queue.old.early ≡ 0 }
@@ -81,7 +85,7 @@ pub(crate) fn put_stream_start(
         column: 0,
     };
     let token = token_at(unnamed_yaml_token_t_data::STREAM_START { encoding }, zero);
-    queue.groups.reserve(FIRST_ROOM)?;
+    queue.groups.reserve(first_room(text_len))?;
     queue.groups.push_back(group_t {
         ends: 0,
         opens: block_t::NONE,

@@ -136,7 +136,7 @@ pub(crate) fn begin<'a>(
         scanner.kept = fault;
         return Err(stop_t::FAULT);
     }
-    put_stream_start(&mut scanner.layout.queue, encoding)?;
+    put_stream_start(&mut scanner.layout.queue, encoding, text.bytes().len())?;
     scanner.text = text;
     scanner.refusal = refusal;
     scanner.near = near;
