@@ -406,6 +406,12 @@ fn is_half(u: u32) -> bool {
     matches!(u, 0xD800..=0xDFFF)
 }
 
+/// Whether half of a pair is there.
+#[inline(always)]
+fn is_half_at(bytes: &[u8], at: usize, big: bool) -> bool {
+    at < bytes.len() && bytes.len() - at >= 2 && is_half(unit_at(bytes, at, big))
+}
+
 /// Appends characters from a place on, of which the first has two or three bytes, and returns where they end. If they
 /// are many, they are then read 16 at a time.
 #[inline(never)]
@@ -415,13 +421,14 @@ fn push_wide(out: &mut Vec<u8>, bytes: &[u8], big: bool, start: usize) -> Result
     ensures forward { IfOk result (λ at. start ≤ at) }
 {
     let at = push_plain(out, bytes, big, start)?;
-    if bytes.len() - at >= 2 && is_half(unit_at(bytes, at, big)) {
+    if is_half_at(bytes, at, big) {
         return Ok(at);
     }
     push_run(out, bytes, big, at)
 }
 
-/// Appends characters from a place on, as far as many units at a time are read, and returns where they end.
+/// Appends characters from a place on, as far as many units at a time are read, and returns where they end. A character
+/// that is alone before a pair is left to the reader of one character.
 #[inline(always)]
 fn push_quick(out: &mut Vec<u8>, bytes: &[u8], big: bool, start: usize) -> Result<usize, AllocError>
     requires { Reads16 big bytes.now out.old.items start }
@@ -433,7 +440,7 @@ fn push_quick(out: &mut Vec<u8>, bytes: &[u8], big: bool, start: usize) -> Resul
     }
     match unit_at(bytes, start, big) {
         0..=0x7F => push_run(out, bytes, big, start),
-        0xA0..=0xD7FF => push_wide(out, bytes, big, start),
+        0xA0..=0xD7FF if !is_half_at(bytes, start + 2, big) => push_wide(out, bytes, big, start),
         _ => Ok(start),
     }
 }
