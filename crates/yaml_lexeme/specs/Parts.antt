@@ -51,6 +51,17 @@ pub record IsLongest {A : Type 0}
   pub pieces : Pieces one p ts q
   pub stops : one q ≡ next
 
+-- no part: the list is over, or there is an offence
+abbrev pub IsNoPart : {A : Type 0} → Part A → Type 0
+IsNoPart {A} next = (f : Found A) → next ≡ Ok (Some f) → ⊥
+
+-- Any other list of pieces from a place on is a beginning of the longest one, after which no part follows.
+abbrev pub OthersBegin : {A : Type 0} → (Place → Part A) → Type 0
+OthersBegin {A} one = (p : Place) (ts : List (Piece A)) (q : Place) (next : Part A)
+    → IsLongest one p ts q next → IsNoPart next
+    → (others : List (Piece A)) (x : Place) → Pieces one p others x
+    → (later : List (Piece A)) × (ts ≡ others ++ later)
+
 -- A quoted scalar at p: the parts between its quotes, and the place of the closing one.
 pub record QuotedParts (single : Bool) (p : Place) (f : Found (List ℕ)) : Type 0 where
   pub parts : List (Piece (List ℕ))
@@ -67,6 +78,10 @@ QuotedIsParts = (single : Bool) (p : Place) (f : Found (List ℕ)) → (quoted s
 abbrev pub QuotedIsRefused : Type 0
 QuotedIsRefused = (single : Bool) (p : Place) (e : Offence) → (quoted single p ≡ Err e) ↔
     ((parts : List (Piece (List ℕ))) × (q : Place) × IsLongest (body_part single) (skip 1 p) parts q (Err e))
+
+-- any other list of parts is a beginning of the longest one
+abbrev pub QuotedPartsAreLongest : Type 0
+QuotedPartsAreLongest = (single : Bool) → OthersBegin (body_part single)
 
 -- the value of a plain scalar whose last chunk ends at a place
 abbrev pub plain_scalar : List ℕ → List (List ℕ) → Place → Scalar
@@ -112,6 +127,10 @@ pub record LinksRefused (flow : Bool) (least : ℕ) (p : Place) (e : Offence) : 
 abbrev pub PlainIsRefused : Type 0
 PlainIsRefused = (flow : Bool) (least : ℕ) (p : Place) (e : Offence) →
     (plain flow least p ≡ Err e) ↔ (ChunkRefused flow p e ⊎ LinksRefused flow least p e)
+
+-- any other list of links is a beginning of the longest one
+abbrev pub LinksAreLongest : Type 0
+LinksAreLongest = (flow : Bool) (least : ℕ) → OthersBegin (link flow least)
 
 -- a chunk is as many characters as possible
 abbrev pub ChunkIsLongest : Type 0
@@ -160,6 +179,10 @@ UriIsParts = (listed : Bool) (p : Place) (f : Found (List ℕ)) → (uri listed 
 abbrev pub UriIsRefused : Type 0
 UriIsRefused = (listed : Bool) (p : Place) (e : Offence) → (uri listed p ≡ Err e) ↔
     ((parts : List (Piece (List ℕ))) × (q : Place) × IsLongest (uri_part listed) p parts q (Err e))
+
+-- any other list of characters and escapes is a beginning of the longest one
+abbrev pub UriPartsAreLongest : Type 0
+UriPartsAreLongest = (listed : Bool) → OthersBegin (uri_part listed)
 
 -- A text line at p: its indentation, its characters up to its break, and empty lines, as many as possible.
 pub record TextLineParts (indent : ℕ) (p : Place) (f : Found TextLine) : Type 0 where
@@ -222,3 +245,11 @@ pub record BlockParts (folded : Bool) (level : Option ℕ) (p : Place) (f : Foun
 abbrev pub BlockIsLines : Type 0
 BlockIsLines = (folded : Bool) (level : Option ℕ) (p : Place) (f : Found Scalar) →
     (block folded level p ≡ Ok f) ↔ BlockParts folded level p f
+
+-- any other list of empty lines is a beginning of the longest one,
+abbrev pub EmptyLinesAreLongest : Type 0
+EmptyLinesAreLongest = (limit : Option ℕ) → OthersBegin (empty_line limit)
+
+-- and so is any other list of text lines
+abbrev pub TextLinesAreLongest : Type 0
+TextLinesAreLongest = (indent : ℕ) → OthersBegin (text_line indent)

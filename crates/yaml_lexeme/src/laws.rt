@@ -6,9 +6,12 @@ ghost use Rattle.yaml_lexeme.specs.Whole.{GapIsWhole, ReachIsWhole, EndIsWhole, 
 ghost use Rattle.yaml_lexeme.specs.Whole.{ProblemIsCounted, StreamEndIsLast, StreamEndIsCounted};
 ghost use Rattle.yaml_lexeme.specs.GapText.{GapIsLongest, RunIsLongest};
 ghost use Rattle.yaml_lexeme.specs.Locality.{GapIsLocal, KindIsLocal, LexIsLocal};
-ghost use Rattle.yaml_lexeme.specs.Parts.{QuotedIsParts, QuotedIsRefused, PlainIsParts, PlainIsRefused};
-ghost use Rattle.yaml_lexeme.specs.Parts.{ChunkIsLongest, LinkIsLongest, LinkIsOver, UriIsParts, UriIsRefused};
+ghost use Rattle.yaml_lexeme.specs.Parts.{QuotedIsParts, QuotedIsRefused, QuotedPartsAreLongest};
+ghost use Rattle.yaml_lexeme.specs.Parts.{PlainIsParts, PlainIsRefused, LinksAreLongest};
+ghost use Rattle.yaml_lexeme.specs.Parts.{ChunkIsLongest, LinkIsLongest, LinkIsOver};
+ghost use Rattle.yaml_lexeme.specs.Parts.{UriIsParts, UriIsRefused, UriPartsAreLongest};
 ghost use Rattle.yaml_lexeme.specs.Parts.{BlockIsLines, TextLineIsParts, TextLineIsRefused};
+ghost use Rattle.yaml_lexeme.specs.Parts.{EmptyLinesAreLongest, TextLinesAreLongest};
 ghost use Rattle.yaml_lexeme.specs.BlockGrammar.{BlockIsRefused};
 ghost use Rattle.yaml_lexeme.specs.Grammar.{NameIsParts, NameIsRefused, TagIsParts, TagIsRefused};
 ghost use Rattle.yaml_lexeme.specs.DirectiveGrammar.{DirectiveIsParts, DirectiveIsRefused};
@@ -114,13 +117,16 @@ pub fn stream_end_is_at_the_end()
 pub fn quoted_is_its_parts()
     ensures parts { QuotedIsParts }
     ensures refused { QuotedIsRefused }
+    ensures longest { QuotedPartsAreLongest }
 {}
 
-/// The text of a plain scalar is a chunk and links, one after the other and as many as possible, and its value is
-/// theirs. If it is refused, the offence is that of the chunk, or comes after as many links as possible.
+/// The text of a plain scalar is a chunk and links, one after the other and as many as possible: any other list of
+/// links is a beginning of this one. Its value is theirs. If it is refused, the offence is that of the chunk, or comes
+/// after as many links as possible.
 pub fn plain_is_its_parts()
     ensures parts { PlainIsParts }
     ensures refused { PlainIsRefused }
+    ensures longest { LinksAreLongest }
 {}
 
 /// A chunk of a plain scalar is as many characters as possible. A link is as many blanks and breaks as possible, and a
@@ -131,22 +137,26 @@ pub fn links_are_longest()
     ensures over { LinkIsOver }
 {}
 
-/// A uri is characters and escapes, one after the other and as many as possible, and its octets are theirs. If it is
-/// refused, the offence comes after as many of them as possible.
+/// A uri is characters and escapes, one after the other and as many as possible: any other list of them is a beginning
+/// of this one. Its octets are theirs. If it is refused, the offence comes after as many of them as possible.
 pub fn uri_is_its_parts()
     ensures parts { UriIsParts }
     ensures refused { UriIsRefused }
+    ensures longest { UriPartsAreLongest }
 {}
 
 /// The empty lines of a literal or folded scalar, before its text lines and between them, are as many as possible;
-/// so are its text lines, and its value is that of these lines. If it is refused, the offence is that of the first part
-/// that the text does not give: the header, the rest of its line, the leading empty lines, or the text lines. In the
-/// last two it comes after as many lines as possible.
+/// so are its text lines, and its value is that of these lines. Any other list of such lines is a beginning of the
+/// longest one. If it is refused, the offence is that of the first part that the text does not give: the header, the
+/// rest of its line, the leading empty lines, or the text lines. In the last two it comes after as many lines as
+/// possible.
 pub fn block_is_its_lines()
     ensures line { TextLineIsParts }
     ensures line_refused { TextLineIsRefused }
     ensures text { BlockIsLines }
     ensures refused { BlockIsRefused }
+    ensures empties { EmptyLinesAreLongest }
+    ensures longest { TextLinesAreLongest }
 {}
 
 /// An anchor or alias is `&` or `*` and as many letters as possible, at least one, before a character that may follow a

@@ -3,13 +3,13 @@ use Rattle.std.proofs.Common.{◌≡◌, ℕ, Bool, true, false, not, if◌then�
 use Rattle.yaml_lexeme.specs.declared.block.chomp_t.{chomp_t}
 use Rattle.yaml_lexeme.specs.declared.block.header_t.{header_t}
 use Rattle.yaml_lexeme.specs.Lexeme.{Scalar}
-use Rattle.yaml_lexeme.proofs.LongestLists.LongestParts.{Advances, many_longest, many_refused, found_of, refused_of}
+use Rattle.yaml_lexeme.proofs.LongestLists.LongestParts.{Advances, many_longest, many_refused, found_of, refused_of, others_begin}
 use Rattle.yaml_lexeme.proofs.MarkOrder.ScalarsAhead.{blank_goes}
 use Rattle.yaml_lexeme.proofs.Parts.ReadResults.{value_or, end_or, both}
 use Rattle.yaml_lexeme.proofs.Readers.BlockLines.{blank_refused}
 use Rattle.yaml_lexeme.proofs.Readers.BlocksAlike.{text_goes, text_at, text_is, line_with}
 use Rattle.yaml_lexeme.specs.Block.{EmptyLine, TextLine, header_at, after_line, after_indent, empty_line, is_text, next_line, text_line, set_indent, block}
-use Rattle.yaml_lexeme.specs.Parts.{Piece, values, IsLongest, TextLineParts, TextLineIsParts, TextLineRefused, TextLineIsRefused, BlockParts, BlockIsLines, indent_of, block_scalar}
+use Rattle.yaml_lexeme.specs.Parts.{Piece, values, IsLongest, TextLineParts, TextLineIsParts, TextLineRefused, TextLineIsRefused, BlockParts, BlockIsLines, EmptyLinesAreLongest, TextLinesAreLongest, indent_of, block_scalar}
 use Rattle.yaml_lexeme.specs.Parts.TextLineRefused.{own_indent, next_indent}
 use Rattle.yaml_lexeme.specs.Place.{Place, skip}
 use Rattle.yaml_lexeme.specs.Reading.{Offence, Found, Read, found, ◌>>=◌, Part, part, over, many}
@@ -192,3 +192,9 @@ not_refused limit q e none h = absurd (let same = sym (blank_refused limit q e h
 -- nor is that after the text lines
 pub end_not_refused : (indent : ℕ) (q : Place) (e : Offence) → text_line indent q ≡ over → after_indent (Some indent) q ≡ Err e → ⊥
 end_not_refused indent q e none h = absurd (let same = sym (text_is indent q ∙ ap (λ (r : Result Place Offence). r >>= text_at indent) h) ∙ none in cc)
+
+pub empties_longest : EmptyLinesAreLongest
+empties_longest limit = others_begin (empty_line limit)
+
+pub lines_longest : TextLinesAreLongest
+lines_longest indent = others_begin (text_line indent)

@@ -1,9 +1,9 @@
 -- What is read as a list of parts is the longest list.
 use Rattle.std.proofs.Common.{◌≡◌, ℕ, zero, suc, ◌+◌, ◌<◌, List, [], ◌∷◌, ◌++◌, length, take, Some, None, Ok, Err, refl}
 use Rattle.std.proofs.Common.{sym, ap, ◌∙◌, subst, arith, append_assoc}
-use Rattle.std.proofs.lemmas.List.{append-nil, length-take-le, take-append-drop}
+use Rattle.std.proofs.lemmas.List.{append-nil, append_cancel_right, length-take-le, take-append-drop}
 use Rattle.yaml_lexeme.specs.Order.{IsAhead}
-use Rattle.yaml_lexeme.specs.Parts.{Piece, past, IsPiece, Pieces, texts, values, IsLongest}
+use Rattle.yaml_lexeme.specs.Parts.{Piece, past, IsPiece, Pieces, texts, values, IsLongest, OthersBegin}
 use Rattle.yaml_lexeme.specs.Place.{Place, skip}
 use Rattle.yaml_lexeme.specs.Reading.{Offence, Found, Read, found, ◌>>=◌, Part, part, over, with_front, go_on, many}
 use Rattle.yaml_lexeme.proofs.MarkOrder.ReadingAhead.{shorter, part_shorter, PartAhead}
@@ -112,3 +112,36 @@ found_of {A} one all p ts q l =
 pub refused_of : {A : Type 0} → (one : Place → Part A) → Advances one → (p : Place) (ts : List (Piece A)) (q : Place) (e : Offence) → IsLongest one p ts q (Err e) → many one p ≡ Err e
 refused_of one all p ts q e l =
     many_as one all ts p q (Err e) l.pieces (many_turn one (shortens one all) q ∙ ap (λ a. a >>= λ b. go_on (many one) q b) l.stops)
+
+-- the value of a part, and the place after it
+part_value : {A : Type 0} → A → Part A → A
+part_value a (Ok (Some f)) = f.value
+part_value a other = a
+
+part_end : {A : Type 0} → Place → Part A → Place
+part_end q (Ok (Some f)) = f.end
+part_end q other = q
+
+-- a place gives one piece
+same_piece : {A : Type 0} → (one : Place → Part A) (p : Place) (t u : Piece A) → IsPiece one p t → IsPiece one p u → t ≡ u
+unfolding part_value part_end
+same_piece {A} one p t u h k =
+    let read : part t.value (past t p) ≡ part u.value (past u p) = sym h.read ∙ k.read in
+    let value : t.value ≡ u.value = ap (part_value t.value) read in
+    let place : past t p ≡ past u p = ap (part_end p) read in
+    let rest : (past u p).rest ≡ (past t p).rest = ap (λ (q : Place). q.rest) (sym place) in
+    let joined : t.text ++ (past t p).rest ≡ u.text ++ (past t p).rest = sym h.text ∙ k.text ∙ ap (λ (cs : List ℕ). u.text ++ cs) rest in
+    let text : t.text ≡ u.text = append_cancel_right t.text u.text (past t p).rest joined in
+    let from : t ≡ record { text = u.text; value = t.value } = ap (λ (cs : List ℕ). let piece : Piece A = record { text = cs; value = t.value } in piece) text in
+    from ∙ ap (λ (v : A). let piece : Piece A = record { text = u.text; value = v } in piece) value
+
+-- so any other list of pieces is a beginning of the longest one
+pub others_begin : {A : Type 0} → (one : Place → Part A) → OthersBegin one
+others_begin one p ts q next l none [] x h = (ts, refl)
+others_begin one p [] q next l none (u ∷ us) x h =
+    absurd (none (record { value = u.value; end = past u p }) (sym l.stops ∙ ap one l.pieces ∙ h.0.read))
+others_begin {A} one p (t ∷ ts) q next l none (u ∷ us) x h =
+    let same : u ≡ t = same_piece one p u t h.0 l.pieces.0 in
+    let rest : Pieces one (past t p) us x = subst (λ (v : Piece A). Pieces one (past v p) us x) same h.1 in
+    let more = others_begin one (past t p) ts q next (record { pieces = l.pieces.1; stops = l.stops }) none us x rest in
+    (more.0, ap (λ (v : Piece A). v ∷ ts) (sym same) ∙ ap (λ (vs : List (Piece A)). u ∷ vs) more.1)

@@ -8,13 +8,13 @@ use Rattle.yaml_lexeme.specs.declared.problem.yaml_problem_t.{yaml_problem_t}
 use Rattle.yaml_lexeme.specs.declared.problem.yaml_problem_t.TheVariants.{COLON_IN_FLOW}
 use Rattle.yaml_lexeme.specs.Classes.{is_white}
 use Rattle.yaml_lexeme.specs.Fold.{fold}
-use Rattle.yaml_lexeme.specs.Parts.{texts, values, plain_scalar, PlainParts, PlainIsParts, ChunkRefused, LinksRefused, PlainIsRefused, ChunkIsLongest, LinkParts, LinkIsLongest, SeparatorEnds, LinkIsOver}
+use Rattle.yaml_lexeme.specs.Parts.{texts, values, plain_scalar, PlainParts, PlainIsParts, ChunkRefused, LinksRefused, PlainIsRefused, LinksAreLongest, ChunkIsLongest, LinkParts, LinkIsLongest, SeparatorEnds, LinkIsOver}
 use Rattle.yaml_lexeme.specs.Place.{Place, first, peek, skip, run, after_run}
 use Rattle.yaml_lexeme.specs.Plain.{is_bad_colon, is_chunk, chunk_len, chunk, bad_tab, separator, is_over, link, plain}
 use Rattle.yaml_lexeme.specs.inside.Words.{untabbed}
 use Rattle.yaml_lexeme.specs.Reading.{Offence, Found, Read, found, refuse, ◌>>=◌, Part, part, over, many}
 use Rattle.yaml_lexeme.proofs.LongestLists.LongestParts.{Advances, split, many_longest, many_refused, found_of}
-use Rattle.yaml_lexeme.proofs.LongestLists.LongestParts.{refused_of, joined_of}
+use Rattle.yaml_lexeme.proofs.LongestLists.LongestParts.{refused_of, joined_of, others_begin}
 use Rattle.yaml_lexeme.proofs.Places.PlaceMoves.{skip_none, rest_skip, peek_on}
 use Rattle.yaml_lexeme.proofs.Locality.PlainLocality.{unless_bad, chunk_within}
 use Rattle.yaml_lexeme.proofs.Readers.FoldSeparators.{stopped}
@@ -310,3 +310,6 @@ refused_to flow least p e (inr r) =
 
 pub plain_refused : PlainIsRefused
 plain_refused flow least p e = (λ h. head_refused flow least p e (chunk flow p) refl (sym (plain_is flow least p) ∙ h), refused_to flow least p e)
+
+pub links_longest : LinksAreLongest
+links_longest flow least = others_begin (link flow least)

@@ -8,11 +8,11 @@ use Rattle.yaml_lexeme.specs.declared.problem.yaml_problem_t.TheVariants.{DOCUME
 use Rattle.yaml_lexeme.specs.Classes.{is_white}
 use Rattle.yaml_lexeme.specs.Escape.{backslash, escape}
 use Rattle.yaml_lexeme.specs.Kind.{is_marker}
-use Rattle.yaml_lexeme.specs.Parts.{Piece, values, IsLongest, QuotedParts, QuotedIsParts, QuotedIsRefused}
+use Rattle.yaml_lexeme.specs.Parts.{Piece, values, IsLongest, QuotedParts, QuotedIsParts, QuotedIsRefused, QuotedPartsAreLongest}
 use Rattle.yaml_lexeme.specs.Place.{Place, first, peek, skip, after_run}
 use Rattle.yaml_lexeme.specs.Quoted.{quote, body_part, quoted}
 use Rattle.yaml_lexeme.specs.Reading.{Offence, Found, Read, refuse, ◌>>=◌, Part, part, over, many}
-use Rattle.yaml_lexeme.proofs.LongestLists.LongestParts.{Advances, many_longest, many_refused, found_of, refused_of}
+use Rattle.yaml_lexeme.proofs.LongestLists.LongestParts.{Advances, many_longest, many_refused, found_of, refused_of, others_begin}
 use Rattle.yaml_lexeme.proofs.MarkOrder.ScalarsAhead.{body_goes}
 use Rattle.yaml_lexeme.proofs.Parts.ReadResults.{value_or, end_or, offence_or, both}
 use Rattle.yaml_lexeme.proofs.Readers.QuotedBody.{finish, quoted_is}
@@ -84,3 +84,6 @@ quoted_refused single p e = (
   λ h. refused_from single p e (many (body_part single) (skip 1 p)) refl (sym (quoted_is single p) ∙ h),
   λ r. quoted_is single p ∙ ap finish (refused_of (body_part single) (body_advances single) (skip 1 p) r.0 r.1 e r.2),
 )
+
+pub quoted_longest : QuotedPartsAreLongest
+quoted_longest single = others_begin (body_part single)

@@ -1,10 +1,10 @@
 -- Uris are the longest lists of characters and escapes.
 use Rattle.std.proofs.Common.{◌≡◌, ℕ, Bool, List, Ok, Err, refl, sym, ap, ◌∙◌, subst}
 use Rattle.std.specs.List.{concat}
-use Rattle.yaml_lexeme.proofs.LongestLists.LongestParts.{Advances, many_longest, many_refused, found_of, refused_of}
+use Rattle.yaml_lexeme.proofs.LongestLists.LongestParts.{Advances, many_longest, many_refused, found_of, refused_of, others_begin}
 use Rattle.yaml_lexeme.proofs.Readers.UriOctets.{uri_ahead}
 use Rattle.yaml_lexeme.proofs.Parts.ReadResults.{value_or, end_or, offence_or, both}
-use Rattle.yaml_lexeme.specs.Parts.{Piece, values, IsLongest, UriParts, UriIsParts, UriIsRefused}
+use Rattle.yaml_lexeme.specs.Parts.{Piece, values, IsLongest, UriParts, UriIsParts, UriIsRefused, UriPartsAreLongest}
 use Rattle.yaml_lexeme.specs.Place.{Place}
 use Rattle.yaml_lexeme.specs.Reading.{Offence, Found, Read, found, ◌>>=◌, over, many}
 use Rattle.yaml_lexeme.specs.Uri.{uri_part, uri}
@@ -49,3 +49,6 @@ uri_refused listed p e = (
   λ h. uri_refused_from listed p e (many (uri_part listed) p) refl (sym (uri_is listed p) ∙ h),
   λ r. uri_is listed p ∙ ap concat_of (refused_of (uri_part listed) (uri_advances listed) p r.0 r.1 e r.2),
 )
+
+pub uri_longest : UriPartsAreLongest
+uri_longest listed = others_begin (uri_part listed)
