@@ -1,4 +1,4 @@
--- Marks, counted from the front of a text, and the places of a text (YAML 1.1, section 5.4).
+-- Marks and places of a text, counted from its front (YAML 1.1, section 5.4), and where its last characters begin.
 use Rattle.std.specs.Prelude.{ℕ, suc, ◌≡◌, ◌-◌, ◌≤◌, Bool, false, not, List, [], ◌∷◌, length, take, drop, reverse}
 use Rattle.std.specs.Prelude.{slice_index, if◌then◌else◌}
 use Rattle.std.specs.List.{prefix_len}

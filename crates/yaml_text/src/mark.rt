@@ -1,4 +1,4 @@
-//! The marks of a text's places.
+//! The marks of a text's places, and where its last characters begin.
 ghost use Rattle.std.specs.Prelude.{ℕ, ◌≡◌, ◌+◌, ◌-◌, ◌<◌, ◌≤◌, ◌^◌, ◌↔◌, ◌&&◌, [], true, false, not, nat_le, nat_lt};
 ghost use Rattle.std.specs.Prelude.{length, take, slice_index, if◌then◌else◌, IsTrue};
 ghost use Rattle.yaml_text.specs.Chars.{utf8};
