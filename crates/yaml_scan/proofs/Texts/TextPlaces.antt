@@ -1,16 +1,12 @@
 -- The places of a text, by how many characters are before them, and what is read there.
-use Rattle.std.proofs.Common.{◌≡◌, ℕ, zero, suc, ◌+◌, ◌-◌, ◌≤◌, Bool, true, false, List, [], ◌∷◌, length, length-append, take, drop, take-append-drop, Option, Some, None, Result, Ok, Err, refl, ap, sym, ◌∙◌, arith, inl, inr}
-use Rattle.std.specs.Char.{len_utf8}
-use Rattle.std.proofs.lemmas.Bool.Decides.{nat_tests}
-use Rattle.std.proofs.lemmas.Str.{encodes-append, length-encode, length-le-encodes}
-use lib.Utf8.{encode}
+use Rattle.std.proofs.Common.{◌≡◌, ℕ, ◌+◌, ◌-◌, ◌≤◌, Bool, true, false, List, length, take, Option, Some, None, Result, Ok, Err, refl, ap, sym, ◌∙◌, arith, inl, inr}
+use Rattle.std.proofs.lemmas.Str.{length-le-encodes}
 use Rattle.yaml_text.specs.declared.types.yaml_mark_t.{yaml_mark_t}
 use Rattle.yaml_text.specs.Fault.{Fault}
 use Rattle.yaml_lexeme.specs.Lexeme.{Lexeme as yaml_lexeme_t}
 use Rattle.yaml_lexeme.specs.LexemeOf.{lexeme_of}
 use Rattle.yaml_lexeme.specs.declared.lexeme.yaml_lexeme_t.{yaml_lexeme_t as code_lexeme_t}
-use Rattle.yaml_lexeme.specs.Place.{Place, place_at, start, skip}
-use Rattle.yaml_lexeme.specs.inside.Moves.{skip_from, mark_after, ends_line}
+use Rattle.yaml_lexeme.specs.Place.{Place, place_at, start}
 use Rattle.yaml_lexeme.specs.Counted.{IsMarkOf}
 use Rattle.yaml_lexeme.specs.Order.{IsAhead}
 use Rattle.yaml_lexeme.specs.Answers.{ReadsAs, refused_at, lexeme_at, answer}
@@ -22,8 +18,9 @@ use Rattle.yaml_lexeme.specs.Kind.{kind_at}
 use Rattle.yaml_lexeme.specs.declared.lex.yaml_context_t.{yaml_context_t}
 use Rattle.yaml_lexeme.specs.Lex.{lex}
 use Rattle.yaml_lexeme.proofs.Places.PlaceMoves.{skip_skip, length_skip}
+use Rattle.yaml_lexeme.proofs.Places.CursorMoves.{place_index, place_within}
 use Rattle.std.specs.Option.{IfSome}
-use Rattle.std.specs.Prelude.{is_err, slice_index, if◌then◌else◌}
+use Rattle.std.specs.Prelude.{is_err}
 use Rattle.yaml_text.specs.Chars.{utf8}
 use Rattle.yaml_lexeme.proofs.MarkOrder.SmallReadersAhead.{gap_order}
 use Rattle.yaml_scan.specs.declared.scanner.scanner_t.{scanner_t}
@@ -128,29 +125,12 @@ pub level_bytes : (cs : List ℕ) (o : Option ℕ) → IfSome o (λ l. l ≤ len
 level_bytes cs None a = tt
 level_bytes cs (Some l) a = omega (arith, length-le-encodes cs)
 
--- THE INDEX OF A PLACE
-width_is : (c : ℕ) → len_utf8 c ≡ length (encode c)
-width_is c = (grind (arith, nat_tests)) ∙ sym (length-encode c)
-
-index_after : (m : yaml_mark_t) (c after : ℕ) → (mark_after m c after).index ≡ m.index + len_utf8 c
-index_after m c after = go (ends_line c after)
-  where
-    go : (b : Bool) → let n : yaml_mark_t = (if b then record { index = m.index + len_utf8 c; line = m.line + 1; column = 0 } else record { index = m.index + len_utf8 c; line = m.line; column = m.column + 1 }) in n.index ≡ m.index + len_utf8 c
-    go true = refl
-    go false = refl
-
-index_from : (p : ℕ) (m : yaml_mark_t) (cs : List ℕ) → (skip_from p m cs).mark.index ≡ m.index + length (utf8 (take p cs))
-index_from zero m cs = omega arith
-index_from (suc p) m [] = omega arith
-index_from (suc p) m (c ∷ cs) =
-    omega (arith, index_from p (mark_after m c (slice_index cs 0)) cs, index_after m c (slice_index cs 0), width_is c, length-append (encode c) (utf8 (take p cs)))
-
--- it is the length in bytes of the characters before it
+-- the index of a place is the length in bytes of the characters before it
 pub index_is : (cs : List ℕ) (p : ℕ) → ((source_of cs).mark p).index ≡ length (utf8 (take p cs))
-unfolding source_of skip
-index_is cs p = omega (arith, index_from p (record { index = 0; line = 0; column = 0 }) cs)
+unfolding source_of
+index_is cs p = place_index cs p
 
 -- and not greater than that of the end
 pub index_within : (cs : List ℕ) (p : ℕ) → ((source_of cs).mark p).index ≤ length (utf8 cs)
-index_within cs p =
-    omega (arith, index_is cs p, ap (λ (x : List ℕ). length (utf8 x)) (sym (take-append-drop p cs)), ap length (encodes-append (take p cs) (drop p cs)), length-append (utf8 (take p cs)) (utf8 (drop p cs)))
+unfolding source_of
+index_within cs p = place_within cs p
