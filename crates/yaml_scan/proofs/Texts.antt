@@ -1,8 +1,6 @@
 -- Reading of texts: places, order, and what a step does not depend on.
 -- The places of a text, by how many characters are before them, and what is read there.
 pub mod TextPlaces
--- How many characters are left after an index, by the bytes: which steps are near.
-pub mod NearByBytes
 -- Where reading a lexeme ends or is refused, and what the lexeme says.
 pub mod LexemeReads
 -- What is read of the characters of a text is in its order.

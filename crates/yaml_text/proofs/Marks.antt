@@ -8,3 +8,5 @@ pub mod MarkIndexes
 pub mod MarkSplits
 -- A mark that is moved character by character is the one that is counted; UTF-8 can be cut between characters.
 pub mod MarkCounts
+-- The last characters of a text, found by its bytes from the end back.
+pub mod CharactersLeft

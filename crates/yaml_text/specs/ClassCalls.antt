@@ -1,8 +1,8 @@
 -- What the calls that test bytes for a class return: more classes of characters, and of the bytes that begin with one.
-use Rattle.std.specs.Prelude.{ℕ, ◌≡◌, ◌+◌, ◌-◌, Bool, ◌||◌, ◌&&◌, nat_le, nat_lt, not, ◌==◌, if◌then◌else◌, List, ◌++◌}
-use Rattle.std.specs.Prelude.{length, slice_index}
-use Rattle.yaml_text.specs.Chars.{utf8, is_within}
-use Rattle.yaml_text.specs.TextBytes.{AreChars}
+use Rattle.std.specs.Prelude.{ℕ, ◌≡◌, ◌+◌, ◌-◌, ◌≤◌, ◌⊎◌, Bool, ◌||◌, ◌&&◌, nat_le, nat_lt, not, ◌==◌, if◌then◌else◌}
+use Rattle.std.specs.Prelude.{List, ◌++◌, length, drop, slice_index, encode_utf8}
+use Rattle.std.specs.Char.{IsScalar}
+use Rattle.yaml_text.specs.Chars.{is_within}
 use Rattle.yaml_text.specs.Classes.{is_z, is_blank, is_break, is_crlf}
 
 -- CHARACTERS
@@ -71,9 +71,6 @@ is_breakz_at s at = is_break_at s at || is_z (slice_index s at)
 abbrev pub is_blankz_at : List ℕ → ℕ → Bool
 is_blankz_at s at = is_blank (slice_index s at) || is_breakz_at s at
 
--- The characters left begin at the place, or it is the end of the text.
-pub record Stands (s : List ℕ) (at : ℕ) (left : List ℕ) : Type 0 where
-  pub front : List ℕ
-  pub parts : s ≡ front ++ utf8 left
-  pub place : at ≡ length front
-  pub each : AreChars left
+-- UTF-8 spells the character c at the place, whatever follows it. At the end and past it the character is 0.
+abbrev pub Stands : List ℕ → ℕ → ℕ → Type 0
+Stands s at c = (IsScalar c × (more : List ℕ) × (drop at s ≡ encode_utf8 c ++ more)) ⊎ ((length s ≤ at) × (c ≡ 0))

@@ -1,4 +1,4 @@
--- Marks, counted from the front of a text, and the places of a text (YAML 1.1, section 5.4).
+-- Marks and places of a text, counted from its front (YAML 1.1, section 5.4), and where its last characters begin.
 use Rattle.std.specs.Prelude.{ℕ, suc, ◌≡◌, ◌-◌, ◌≤◌, Bool, false, not, List, [], ◌∷◌, length, take, drop, reverse}
 use Rattle.std.specs.Prelude.{slice_index, if◌then◌else◌}
 use Rattle.std.specs.List.{prefix_len}
@@ -44,3 +44,8 @@ mark_at text p = mark_of (take p text)
 pub record IsMarkAt (text : List ℕ) (mark : yaml_mark_t) (p : ℕ) : Type 0 where
   pub place : IsPlaceAt text mark.index p
   pub mark_is : mark ≡ mark_at text p
+
+-- The index at which the last `count` characters of a text begin, or all of them, if it has fewer: how many bytes the
+-- characters before them take.
+abbrev pub index_from_end : List ℕ → ℕ → ℕ
+index_from_end text count = length (utf8 (take (length text - count) text))

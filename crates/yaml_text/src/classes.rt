@@ -2,8 +2,8 @@
 //! end a byte reads as 0.
 //!
 //! Each class has two clauses: which bytes it holds for, on any bytes and at any index; and which characters
-//! it holds for, at the start of a character of a text or at the end, where the end counts as character 0.
-ghost use Rattle.std.specs.Prelude.{ℕ, ◌≡◌, ◌+◌, ◌-◌, ◌<◌, ◌≤◌, ◌||◌, true, pos, List, slice_index};
+//! it holds for, where UTF-8 spells a character, whatever follows it, and at the end, which counts as character 0.
+ghost use Rattle.std.specs.Prelude.{ℕ, ◌≡◌, ◌+◌, ◌-◌, ◌<◌, ◌≤◌, ◌||◌, true, pos, slice_index};
 ghost use Rattle.std.specs.Char.{len_utf8};
 ghost use Rattle.yaml_text.specs.Utf8.{width_of};
 ghost use Rattle.yaml_text.specs.Classes.{is_digit, is_hex, is_alpha, is_z};
@@ -114,7 +114,7 @@ fn is_blank_byte(b: u8) -> bool
 #[tactic(auto, using(crate::proofs::Characters::ClassTables::alpha_law))]
 pub fn IS_ALPHA(s: &[u8], at: usize) -> bool
     ensures bytes { result ≡ is_alpha (slice_index s.now at) }
-    ensures character { (left : List ℕ) → Stands s.now at left → result ≡ is_alpha (slice_index left 0) }
+    ensures character { (c : ℕ) → Stands s.now at c → result ≡ is_alpha c }
 {
     is_alpha_byte(byte_at(s, at))
 }
@@ -124,7 +124,7 @@ pub fn IS_ALPHA(s: &[u8], at: usize) -> bool
 #[tactic(auto, using(crate::proofs::Characters::ClassTables::digit_law))]
 pub fn IS_DIGIT(s: &[u8], at: usize) -> bool
     ensures bytes { result ≡ is_digit (slice_index s.now at) }
-    ensures character { (left : List ℕ) → Stands s.now at left → result ≡ is_digit (slice_index left 0) }
+    ensures character { (c : ℕ) → Stands s.now at c → result ≡ is_digit c }
 {
     is_digit_byte(byte_at(s, at))
 }
@@ -133,7 +133,7 @@ pub fn IS_DIGIT(s: &[u8], at: usize) -> bool
 pub fn AS_DIGIT(s: &[u8], at: usize) -> i32
     requires { is_digit (slice_index s.now at) ≡ true }
     ensures bytes { result ≡ pos (slice_index s.now at - 0x30) }
-    ensures character { (left : List ℕ) → Stands s.now at left → result ≡ pos (slice_index left 0 - 0x30) }
+    ensures character { (c : ℕ) → Stands s.now at c → result ≡ pos (c - 0x30) }
 {
     i32::from(byte_at(s, at) - b'0')
 }
@@ -143,7 +143,7 @@ pub fn AS_DIGIT(s: &[u8], at: usize) -> i32
 #[tactic(auto, using(crate::proofs::Characters::ClassTables::hex_law))]
 pub fn IS_HEX(s: &[u8], at: usize) -> bool
     ensures bytes { result ≡ is_hex (slice_index s.now at) }
-    ensures character { (left : List ℕ) → Stands s.now at left → result ≡ is_hex (slice_index left 0) }
+    ensures character { (c : ℕ) → Stands s.now at c → result ≡ is_hex c }
 {
     is_hex_byte(byte_at(s, at))
 }
@@ -152,7 +152,7 @@ pub fn IS_HEX(s: &[u8], at: usize) -> bool
 pub fn AS_HEX(s: &[u8], at: usize) -> i32
     requires { is_hex (slice_index s.now at) ≡ true }
     ensures bytes { result ≡ pos (hex_value (slice_index s.now at)) }
-    ensures character { (left : List ℕ) → Stands s.now at left → result ≡ pos (hex_value (slice_index left 0)) }
+    ensures character { (c : ℕ) → Stands s.now at c → result ≡ pos (hex_value c) }
 {
     let b = byte_at(s, at);
     i32::from(b - hex_excess(b))
@@ -163,7 +163,7 @@ pub fn AS_HEX(s: &[u8], at: usize) -> i32
 #[tactic(auto, using(crate::proofs::Characters::ClassTables::ascii_law))]
 pub fn IS_ASCII(s: &[u8], at: usize) -> bool
     ensures bytes { result ≡ is_ascii (slice_index s.now at) }
-    ensures character { (left : List ℕ) → Stands s.now at left → result ≡ is_ascii (slice_index left 0) }
+    ensures character { (c : ℕ) → Stands s.now at c → result ≡ is_ascii c }
 {
     byte_at(s, at) <= 0x7F
 }
@@ -173,7 +173,7 @@ pub fn IS_ASCII(s: &[u8], at: usize) -> bool
 #[tactic(auto, using(crate::proofs::Characters::ClassTables::printable_law))]
 pub fn IS_PRINTABLE(s: &[u8], at: usize) -> bool
     ensures bytes { result ≡ is_printable_at s.now at }
-    ensures character { (left : List ℕ) → Stands s.now at left → result ≡ is_printable (slice_index left 0) }
+    ensures character { (c : ℕ) → Stands s.now at c → result ≡ is_printable c }
 {
     printable_at(s, at)
 }
@@ -183,7 +183,7 @@ pub fn IS_PRINTABLE(s: &[u8], at: usize) -> bool
 #[tactic(auto, using(crate::proofs::Characters::ClassTables::z_law))]
 pub fn IS_Z(s: &[u8], at: usize) -> bool
     ensures bytes { result ≡ is_z (slice_index s.now at) }
-    ensures character { (left : List ℕ) → Stands s.now at left → result ≡ is_z (slice_index left 0) }
+    ensures character { (c : ℕ) → Stands s.now at c → result ≡ is_z c }
 {
     byte_at(s, at) == b'\0'
 }
@@ -193,7 +193,7 @@ pub fn IS_Z(s: &[u8], at: usize) -> bool
 #[tactic(auto, using(crate::proofs::Characters::ClassTables::bom_law))]
 pub fn IS_BOM(s: &[u8], at: usize) -> bool
     ensures bytes { result ≡ is_bom_at s.now at }
-    ensures character { (left : List ℕ) → Stands s.now at left → result ≡ is_bom (slice_index left 0) }
+    ensures character { (c : ℕ) → Stands s.now at c → result ≡ is_bom c }
 {
     bom_at(s, at)
 }
@@ -203,7 +203,7 @@ pub fn IS_BOM(s: &[u8], at: usize) -> bool
 #[tactic(auto, using(crate::proofs::Characters::ClassTables::space_law))]
 pub fn IS_SPACE(s: &[u8], at: usize) -> bool
     ensures bytes { result ≡ is_space (slice_index s.now at) }
-    ensures character { (left : List ℕ) → Stands s.now at left → result ≡ is_space (slice_index left 0) }
+    ensures character { (c : ℕ) → Stands s.now at c → result ≡ is_space c }
 {
     byte_at(s, at) == b' '
 }
@@ -213,7 +213,7 @@ pub fn IS_SPACE(s: &[u8], at: usize) -> bool
 #[tactic(auto, using(crate::proofs::Characters::ClassTables::tab_law))]
 pub fn IS_TAB(s: &[u8], at: usize) -> bool
     ensures bytes { result ≡ is_tab (slice_index s.now at) }
-    ensures character { (left : List ℕ) → Stands s.now at left → result ≡ is_tab (slice_index left 0) }
+    ensures character { (c : ℕ) → Stands s.now at c → result ≡ is_tab c }
 {
     byte_at(s, at) == b'\t'
 }
@@ -223,7 +223,7 @@ pub fn IS_TAB(s: &[u8], at: usize) -> bool
 #[tactic(auto, using(crate::proofs::Characters::ClassTables::blank_law))]
 pub fn IS_BLANK(s: &[u8], at: usize) -> bool
     ensures bytes { result ≡ is_blank (slice_index s.now at) }
-    ensures character { (left : List ℕ) → Stands s.now at left → result ≡ is_blank (slice_index left 0) }
+    ensures character { (c : ℕ) → Stands s.now at c → result ≡ is_blank c }
 {
     is_blank_byte(byte_at(s, at))
 }
@@ -233,7 +233,7 @@ pub fn IS_BLANK(s: &[u8], at: usize) -> bool
 #[tactic(auto, using(crate::proofs::Characters::ClassTables::break_law))]
 pub fn IS_BREAK(s: &[u8], at: usize) -> bool
     ensures bytes { result ≡ is_break_at s.now at }
-    ensures character { (left : List ℕ) → Stands s.now at left → result ≡ is_break (slice_index left 0) }
+    ensures character { (c : ℕ) → Stands s.now at c → result ≡ is_break c }
 {
     breaks_at(s, at)
 }
@@ -243,8 +243,8 @@ pub fn IS_BREAK(s: &[u8], at: usize) -> bool
 #[tactic(auto, using(crate::proofs::Characters::ClassTables::crlf_law))]
 pub fn IS_CRLF(s: &[u8], at: usize) -> bool
     ensures bytes { result ≡ is_crlf_at s.now at }
-    ensures character { (left : List ℕ) → Stands s.now at left
-        → result ≡ is_crlf (slice_index left 0) (slice_index left 1) }
+    ensures character { (c d : ℕ) → Stands s.now at c → Stands s.now (at + len_utf8 c) d
+        → result ≡ is_crlf c d }
 {
     crlf_at(s, at)
 }
@@ -254,7 +254,7 @@ pub fn IS_CRLF(s: &[u8], at: usize) -> bool
 #[tactic(auto, using(crate::proofs::Characters::ClassTables::breakz_law))]
 pub fn IS_BREAKZ(s: &[u8], at: usize) -> bool
     ensures bytes { result ≡ is_breakz_at s.now at }
-    ensures character { (left : List ℕ) → Stands s.now at left → result ≡ is_breakz (slice_index left 0) }
+    ensures character { (c : ℕ) → Stands s.now at c → result ≡ is_breakz c }
 {
     IS_BREAK(s, at) || IS_Z(s, at)
 }
@@ -264,7 +264,7 @@ pub fn IS_BREAKZ(s: &[u8], at: usize) -> bool
 #[tactic(auto, using(crate::proofs::Characters::ClassTables::blankz_law))]
 pub fn IS_BLANKZ(s: &[u8], at: usize) -> bool
     ensures bytes { result ≡ is_blankz_at s.now at }
-    ensures character { (left : List ℕ) → Stands s.now at left → result ≡ is_blankz (slice_index left 0) }
+    ensures character { (c : ℕ) → Stands s.now at c → result ≡ is_blankz c }
 {
     IS_BLANK(s, at) || IS_BREAKZ(s, at)
 }
@@ -274,7 +274,7 @@ pub fn IS_BLANKZ(s: &[u8], at: usize) -> bool
 #[tactic(auto, using(crate::proofs::Characters::ClassTables::width_law))]
 pub fn WIDTH(s: &[u8], at: usize) -> usize
     ensures bytes { result ≡ width_of (slice_index s.now at) }
-    ensures character { (left : List ℕ) → Stands s.now at left → result ≡ len_utf8 (slice_index left 0) }
+    ensures character { (c : ℕ) → Stands s.now at c → result ≡ len_utf8 c }
 {
     crate::utf8::width_of(byte_at(s, at))
 }

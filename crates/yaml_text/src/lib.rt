@@ -30,7 +30,7 @@ pub use classes::{
 pub use decode::{yaml_decode, yaml_decode_front};
 pub use fault::yaml_fault_t;
 pub use kept::yaml_kept_text_t;
-pub use mark::{yaml_is_place, yaml_mark_at};
+pub use mark::{yaml_index_from_end, yaml_is_place, yaml_mark_at};
 pub use text::yaml_text_t;
 pub use token::{unnamed_yaml_token_t_data, yaml_token_t};
 pub use types::{

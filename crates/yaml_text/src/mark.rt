@@ -1,10 +1,12 @@
-//! The marks of a text's places.
-ghost use Rattle.std.specs.Prelude.{ℕ, ◌≡◌, ◌+◌, ◌-◌, ◌<◌, ◌↔◌, ◌&&◌, [], true, false, not, nat_le, nat_lt};
-ghost use Rattle.std.specs.Prelude.{length, slice_index, if◌then◌else◌, IsTrue};
+//! The marks of a text's places, and where its last characters begin.
+ghost use Rattle.std.specs.Prelude.{ℕ, ◌≡◌, ◌+◌, ◌-◌, ◌<◌, ◌≤◌, ◌^◌, ◌↔◌, ◌&&◌, [], true, false, not, nat_le, nat_lt};
+ghost use Rattle.std.specs.Prelude.{length, take, slice_index, if◌then◌else◌, IsTrue};
+ghost use Rattle.yaml_text.specs.Chars.{utf8};
+ghost use Rattle.yaml_text.specs.TextBytes.{AreChars};
 ghost use Rattle.yaml_text.specs.Classes.{is_break};
 ghost use Rattle.yaml_text.specs.ClassCalls.{is_crlf_at};
 ghost use Rattle.yaml_text.specs.Utf8.{width_of, continues};
-ghost use Rattle.yaml_text.specs.Mark.{mark_of, cuts_break, IsPlace, IsPlaceAt, mark_at};
+ghost use Rattle.yaml_text.specs.Mark.{mark_of, cuts_break, IsPlace, IsPlaceAt, mark_at, index_from_end};
 ghost use Rattle.yaml_text.specs.inside.Cursor.{past, first_break_len, step_len, is_place_by};
 
 use crate::classes::{IS_BREAK, IS_CRLF, WIDTH};
@@ -147,4 +149,26 @@ pub fn yaml_mark_at(text: &yaml_text_t, index: usize) -> yaml_mark_t
         cursor.advance();
     }
     cursor.mark()
+}
+
+/// The index, in bytes of the text in UTF-8 from 0, at which its last `count` characters begin: that many characters
+/// follow it, or all of them, if the text has fewer. Only the bytes of these characters are looked at, from the end.
+/// The index may be between the two characters of a CR LF, and then it is no place (`yaml_is_place`).
+pub fn yaml_index_from_end(text: &yaml_text_t, count: usize) -> usize
+    ensures index { result ≡ index_from_end text.now.chars count }
+    ensures few { (p : ℕ) → p ≤ length text.now.chars
+        → (result ≤ length (utf8 (take p text.now.chars)) ↔ length text.now.chars - p ≤ count) }
+    ensures small { length (utf8 text.now.chars) < 2 ^ 63 }
+    ensures characters { AreChars text.now.chars }
+{
+    let bytes = text.bytes();
+    let mut at = bytes.len();
+    let mut left = count;
+    'back: while at > 0 && left > 0 {
+        at -= 1;
+        if !continues(bytes[at]) {
+            left -= 1;
+        }
+    }
+    at
 }

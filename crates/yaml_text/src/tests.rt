@@ -148,6 +148,19 @@ fn mark_places(rt: HostRuntime) -> Result<(), Fail> {
 }
 
 #[test]
+fn indexes_from_the_end(rt: HostRuntime) -> Result<(), Fail> {
+    let Ok(text) = yaml_decode(rt.alloc(), b"a\r\n\xC3\xA9", ANY) else {
+        return Err("a text".into());
+    };
+    assert_eq!(rt; yaml_index_from_end(&text, 0), 5);
+    assert_eq!(rt; yaml_index_from_end(&text, 1), 3);
+    assert_eq!(rt; yaml_index_from_end(&text, 2), 2);
+    assert_eq!(rt; yaml_index_from_end(&text, 4), 0);
+    assert_eq!(rt; yaml_index_from_end(&text, 5), 0);
+    Ok(())
+}
+
+#[test]
 fn fault_shown(rt: HostRuntime) -> Result<(), Fail> {
     let fault = yaml_decode(rt.alloc(), b"\xFF", ANY)
         .err()

@@ -97,6 +97,14 @@ onward (suc n) m (c ∷ cs) h =
     let o = onward n m' cs (one_sums m c (get_or cs 0 0) h) in
     record { index = omega (arith, o.index, one_index m c (get_or cs 0 0), length-append (encode c) (utf8 (take n cs))); sums = o.sums }
 
+-- the index of a place is the length in bytes of the characters before it
+pub place_index : (cs : List ℕ) (n : ℕ) → (place_at cs n).mark.index ≡ length (utf8 (take n cs))
+unfolding skip
+place_index cs n = omega (arith, (onward n (record { index = 0; line = 0; column = 0 }) cs (omega arith)).index)
+
+pub place_within : (cs : List ℕ) (n : ℕ) → (place_at cs n).mark.index ≤ length (utf8 cs)
+place_within cs n = omega (arith, place_index cs n, ap length (take_parts n cs), length-append (utf8 (take n cs)) (utf8 (drop n cs)))
+
 -- the bytes from a mark on
 pub record Found (bytes : List ℕ) (m : yaml_mark_t) (p : Place) : Type 0 where
   pub within : m.index ≤ length bytes

@@ -28,7 +28,7 @@ use Rattle.yaml_scan.proofs.RunningCalls.NextOfInput.{ends_near, reads_near}
 use Rattle.yaml_scan.proofs.RunningStep.RoomMade.{with_room}
 use Rattle.yaml_scan.proofs.RunningStep.StepLaid.{index_is, place_within, row_offence, row_stale, step_reads}
 use Rattle.yaml_scan.proofs.RunningStep.TestsBefore.{allowed_is, front_mark, kind_is, root_held, row_clears, row_lost, row_met, row_no_kind, row_refused}
-use Rattle.yaml_scan.proofs.Texts.NearByBytes.{index_within}
+use Rattle.yaml_scan.proofs.Texts.TextPlaces.{index_within}
 use Rattle.yaml_scan.proofs.Texts.TextOrder.{text_sums}
 
 not_not : (b : Bool) → b ≡ not (not b)

@@ -34,11 +34,7 @@ text_problem cs c k d l p o w h e =
 
 -- lines and columns take characters
 sums_after : (m : yaml_mark_t) (c next : ℕ) → (mark_after m c next).line + (mark_after m c next).column ≤ m.line + m.column + 1
-sums_after m c next = go (ends_line c next)
-  where
-    go : (b : Bool) → let n : yaml_mark_t = (if b then record { index = m.index + Rattle.std.specs.Char.len_utf8 c; line = m.line + 1; column = 0 } else record { index = m.index + Rattle.std.specs.Char.len_utf8 c; line = m.line; column = m.column + 1 }) in n.line + n.column ≤ m.line + m.column + 1
-    go true = omega arith
-    go false = omega arith
+sums_after m c next = elim (cases_Bool (ends_line c next)) [ inl t ↦ rw t (omega arith) | inr f ↦ rw f (omega arith) ]
 
 sums_from : (n : ℕ) (m : yaml_mark_t) (cs : List ℕ) → (skip_from n m cs).mark.line + (skip_from n m cs).mark.column ≤ m.line + m.column + n
 sums_from zero m cs = omega arith

@@ -1,5 +1,6 @@
 -- The places of a text, by how many characters are before them, and what is read there.
-use Rattle.std.proofs.Common.{◌≡◌, ℕ, ◌+◌, ◌-◌, ◌≤◌, Bool, true, false, List, length, Option, Some, None, Result, Ok, Err, refl, ap, sym, ◌∙◌, arith, inl, inr}
+use Rattle.std.proofs.Common.{◌≡◌, ℕ, ◌+◌, ◌-◌, ◌≤◌, Bool, true, false, List, length, take, Option, Some, None, Result, Ok, Err, refl, ap, sym, ◌∙◌, arith, inl, inr}
+use Rattle.std.proofs.lemmas.Str.{length-le-encodes}
 use Rattle.yaml_text.specs.declared.types.yaml_mark_t.{yaml_mark_t}
 use Rattle.yaml_text.specs.Fault.{Fault}
 use Rattle.yaml_lexeme.specs.Lexeme.{Lexeme as yaml_lexeme_t}
@@ -17,10 +18,10 @@ use Rattle.yaml_lexeme.specs.Kind.{kind_at}
 use Rattle.yaml_lexeme.specs.declared.lex.yaml_context_t.{yaml_context_t}
 use Rattle.yaml_lexeme.specs.Lex.{lex}
 use Rattle.yaml_lexeme.proofs.Places.PlaceMoves.{skip_skip, length_skip}
+use Rattle.yaml_lexeme.proofs.Places.CursorMoves.{place_index, place_within}
 use Rattle.std.specs.Option.{IfSome}
 use Rattle.std.specs.Prelude.{is_err}
 use Rattle.yaml_text.specs.Chars.{utf8}
-use Rattle.yaml_scan.proofs.Texts.NearByBytes.{short}
 use Rattle.yaml_lexeme.proofs.MarkOrder.SmallReadersAhead.{gap_order}
 use Rattle.yaml_scan.specs.declared.scanner.scanner_t.{scanner_t}
 use Rattle.yaml_scan.specs.Kind.{Kind}
@@ -122,4 +123,14 @@ reads_well s k x there other (Err r) e f = cc
 -- characters take a byte or more
 pub level_bytes : (cs : List ℕ) (o : Option ℕ) → IfSome o (λ l. l ≤ length cs) → IfSome o (λ l. l ≤ length (utf8 cs))
 level_bytes cs None a = tt
-level_bytes cs (Some l) a = let s = short cs in omega arith
+level_bytes cs (Some l) a = omega (arith, length-le-encodes cs)
+
+-- the index of a place is the length in bytes of the characters before it
+pub index_is : (cs : List ℕ) (p : ℕ) → ((source_of cs).mark p).index ≡ length (utf8 (take p cs))
+unfolding source_of
+index_is cs p = place_index cs p
+
+-- and not greater than that of the end
+pub index_within : (cs : List ℕ) (p : ℕ) → ((source_of cs).mark p).index ≤ length (utf8 cs)
+unfolding source_of
+index_within cs p = place_within cs p

@@ -1,13 +1,13 @@
 -- At the start of a character, and at the end, the byte table of each class is its set of characters.
-use Rattle.std.proofs.Common.{◌≡◌, ℕ, ◌+◌, ◌/◌, ◌%◌, ◌<◌, ◌≤◌, ◌⊎◌, ◌==◌, Bool, true, false, List, [], ◌∷◌, ◌++◌, get_or, add-zero, refl, sym, ap, ◌∙◌, arith, inl, inr}
+use Rattle.std.proofs.Common.{◌≡◌, ℕ, ◌+◌, ◌/◌, ◌%◌, ◌<◌, ◌≤◌, ◌⊎◌, ◌==◌, Bool, true, false, List, [], ◌∷◌, ◌++◌, get_or, drop, add-zero, refl, sym, ap, ◌∙◌, subst, arith, inl, inr}
 use Rattle.std.proofs.lemmas.Bool.{cases_lt, cases_eq, ne_eqb}
 use Rattle.std.proofs.lemmas.Bool.Decides.{nat_tests}
-use Rattle.std.proofs.lemmas.List.{get_or-append-add}
+use Rattle.std.proofs.lemmas.List.{get_or-drop, drop_all}
 use Rattle.std.proofs.lemmas.Str.{encode_ascii}
 use lib.Utf8.{encode}
-use Rattle.yaml_text.specs.Chars.{utf8, is_char}
+use Rattle.yaml_text.specs.Chars.{utf8}
 use Rattle.yaml_text.specs.TextBytes.{AreChars}
-use Rattle.std.specs.Char.{len_utf8}
+use Rattle.std.specs.Char.{len_utf8, IsScalar}
 use Rattle.yaml_text.specs.Utf8.{width_of}
 use Rattle.yaml_text.specs.Classes.{is_digit, is_hex, is_alpha, is_z, is_space, is_tab, is_break, is_blank, is_crlf}
 use Rattle.yaml_text.specs.ClassCalls.{Stands, is_ascii, is_bom, is_bom_by, is_bom_at, is_breakz, is_breakz_at}
@@ -22,6 +22,9 @@ Leads c a b d =
     ((c < 128) × (a ≡ c)) ⊎ (((128 ≤ c) × (c < 2048) × (a ≡ 192 + c / 64) × (b ≡ 128 + c % 64))
     ⊎ (((2048 ≤ c) × (c < 65536) × (a ≡ 224 + c / 4096) × (b ≡ 128 + c / 64 % 64) × (d ≡ 128 + c % 64))
     ⊎ ((65536 ≤ c) × (c < 0x110000) × (a ≡ 240 + c / 262144) × (b ≡ 128 + c / 4096 % 64) × (d ≡ 128 + c / 64 % 64))))
+
+scalar_less : (c : ℕ) → IsScalar c → c < 0x110000
+scalar_less c h = grind (arith, nat_tests)
 
 first_leads : (c : ℕ) (more : List ℕ) → c < 0x110000 → Leads c (get_or (encode c ++ more) 0 0) (get_or (encode c ++ more) 1 0) (get_or (encode c ++ more) 2 0)
 first_leads c more h =
@@ -40,14 +43,17 @@ pub leads : (left : List ℕ) → AreChars left → Leads (get_or left 0 0) (get
 leads [] h = inl (omega arith, refl)
 leads (c ∷ cs) h = let r = char_range c h.0 in first_leads c (utf8 cs) (omega (arith, r.1))
 
-byte_is : (s left : List ℕ) (at k : ℕ) → Stands s at left → get_or s (at + k) 0 ≡ get_or (utf8 left) k 0
-byte_is s left at k h = rw (h.parts, h.place) (get_or-append-add h.front (utf8 left) k 0)
+byte_after : (s : List ℕ) (at k : ℕ) → get_or s (at + k) 0 ≡ get_or (drop at s) k 0
+byte_after s at k = sym (get_or-drop at s k 0)
 
-first_is : (s left : List ℕ) (at : ℕ) → Stands s at left → get_or s at 0 ≡ get_or (utf8 left) 0 0
-first_is s left at h = ap (λ n. get_or s n 0) (sym (add-zero at)) ∙ byte_is s left at 0 h
+byte_there : (s : List ℕ) (at : ℕ) → get_or s at 0 ≡ get_or (drop at s) 0 0
+byte_there s at = ap (λ n. get_or s n 0) (sym (add-zero at)) ∙ byte_after s at 0
 
-pub bytes_lead : (s left : List ℕ) (at : ℕ) → Stands s at left → Leads (get_or left 0 0) (get_or s at 0) (get_or s (at + 1) 0) (get_or s (at + 2) 0)
-bytes_lead s left at h = rw (first_is s left at h, byte_is s left at 1 h, byte_is s left at 2 h) (leads left h.each)
+pub bytes_lead : (s : List ℕ) (at c : ℕ) → Stands s at c → Leads c (get_or s at 0) (get_or s (at + 1) 0) (get_or s (at + 2) 0)
+bytes_lead s at c h = rw (byte_there s at, byte_after s at 1, byte_after s at 2) (elim h [
+  | inl x ↦ rw x.2 (first_leads c x.1 (scalar_less c x.0))
+  | inr x ↦ rw (drop_all at s x.0, x.1) (inl (omega arith, refl))
+])
 
 break_table1 : (c a b d : ℕ) → c < 128 → a ≡ c → is_break_by a b d ≡ is_break c
 break_table1 c a b d h e = grind (arith, nat_tests)
@@ -70,8 +76,8 @@ break_table c a b d h = elim h [
   ]
 ]
 
-pub break_law : (s left : List ℕ) (at : ℕ) → Stands s at left → is_break_at s at ≡ is_break (get_or left 0 0)
-break_law s left at h = break_table _ _ _ _ (bytes_lead s left at h)
+pub break_law : (s : List ℕ) (at c : ℕ) → Stands s at c → is_break_at s at ≡ is_break c
+break_law s at c h = break_table _ _ _ _ (bytes_lead s at c h)
 
 bom1 : (c a b d : ℕ) → c < 128 → a ≡ c → is_bom_by a b d ≡ is_bom c
 bom1 c a b d h e = grind (arith, nat_tests)
@@ -108,8 +114,8 @@ low_table test high c a b d h =
       ]
     ]
 
-low_law : (test : ℕ → Bool) → ((n : ℕ) → 128 ≤ n → test n ≡ false) → (s left : List ℕ) (at : ℕ) → Stands s at left → test (get_or s at 0) ≡ test (get_or left 0 0)
-low_law test high s left at h = low_table test high _ _ _ _ (bytes_lead s left at h)
+low_law : (test : ℕ → Bool) → ((n : ℕ) → 128 ≤ n → test n ≡ false) → (s : List ℕ) (at c : ℕ) → Stands s at c → test (get_or s at 0) ≡ test c
+low_law test high s at c h = low_table test high _ _ _ _ (bytes_lead s at c h)
 
 high_digit : (n : ℕ) → 128 ≤ n → is_digit n ≡ false
 high_digit n h = grind (arith, nat_tests)
@@ -135,29 +141,29 @@ high_tab n h = grind (arith, nat_tests)
 pub high_blank : (n : ℕ) → 128 ≤ n → is_blank n ≡ false
 high_blank n h = grind (arith, nat_tests)
 
-pub digit_law : (s left : List ℕ) (at : ℕ) → Stands s at left → is_digit (get_or s at 0) ≡ is_digit (get_or left 0 0)
-digit_law s left at h = low_law is_digit high_digit s left at h
+pub digit_law : (s : List ℕ) (at c : ℕ) → Stands s at c → is_digit (get_or s at 0) ≡ is_digit c
+digit_law s at c h = low_law is_digit high_digit s at c h
 
-pub hex_law : (s left : List ℕ) (at : ℕ) → Stands s at left → is_hex (get_or s at 0) ≡ is_hex (get_or left 0 0)
-hex_law s left at h = low_law is_hex high_hex s left at h
+pub hex_law : (s : List ℕ) (at c : ℕ) → Stands s at c → is_hex (get_or s at 0) ≡ is_hex c
+hex_law s at c h = low_law is_hex high_hex s at c h
 
-pub alpha_law : (s left : List ℕ) (at : ℕ) → Stands s at left → is_alpha (get_or s at 0) ≡ is_alpha (get_or left 0 0)
-alpha_law s left at h = low_law is_alpha high_alpha s left at h
+pub alpha_law : (s : List ℕ) (at c : ℕ) → Stands s at c → is_alpha (get_or s at 0) ≡ is_alpha c
+alpha_law s at c h = low_law is_alpha high_alpha s at c h
 
-pub ascii_law : (s left : List ℕ) (at : ℕ) → Stands s at left → is_ascii (get_or s at 0) ≡ is_ascii (get_or left 0 0)
-ascii_law s left at h = low_law is_ascii high_ascii s left at h
+pub ascii_law : (s : List ℕ) (at c : ℕ) → Stands s at c → is_ascii (get_or s at 0) ≡ is_ascii c
+ascii_law s at c h = low_law is_ascii high_ascii s at c h
 
-pub z_law : (s left : List ℕ) (at : ℕ) → Stands s at left → is_z (get_or s at 0) ≡ is_z (get_or left 0 0)
-z_law s left at h = low_law is_z high_z s left at h
+pub z_law : (s : List ℕ) (at c : ℕ) → Stands s at c → is_z (get_or s at 0) ≡ is_z c
+z_law s at c h = low_law is_z high_z s at c h
 
-pub space_law : (s left : List ℕ) (at : ℕ) → Stands s at left → is_space (get_or s at 0) ≡ is_space (get_or left 0 0)
-space_law s left at h = low_law is_space high_space s left at h
+pub space_law : (s : List ℕ) (at c : ℕ) → Stands s at c → is_space (get_or s at 0) ≡ is_space c
+space_law s at c h = low_law is_space high_space s at c h
 
-pub tab_law : (s left : List ℕ) (at : ℕ) → Stands s at left → is_tab (get_or s at 0) ≡ is_tab (get_or left 0 0)
-tab_law s left at h = low_law is_tab high_tab s left at h
+pub tab_law : (s : List ℕ) (at c : ℕ) → Stands s at c → is_tab (get_or s at 0) ≡ is_tab c
+tab_law s at c h = low_law is_tab high_tab s at c h
 
-pub blank_law : (s left : List ℕ) (at : ℕ) → Stands s at left → is_blank (get_or s at 0) ≡ is_blank (get_or left 0 0)
-blank_law s left at h = low_law is_blank high_blank s left at h
+pub blank_law : (s : List ℕ) (at c : ℕ) → Stands s at c → is_blank (get_or s at 0) ≡ is_blank c
+blank_law s at c h = low_law is_blank high_blank s at c h
 
 -- if a class below 128 holds, the character is its byte
 pub low_same : (c a b d : ℕ) → Leads c a b d → a < 128 → a ≡ c
@@ -169,11 +175,11 @@ low_hex b h = grind (arith, nat_tests)
 low_digit : (b : ℕ) → is_digit b ≡ true → b < 128
 low_digit b h = grind (arith, nat_tests)
 
-pub same_hex : (s left : List ℕ) (at : ℕ) → Stands s at left → is_hex (get_or s at 0) ≡ true → get_or s at 0 ≡ get_or left 0 0
-same_hex s left at h hex = low_same _ _ _ _ (bytes_lead s left at h) (low_hex _ hex)
+pub same_hex : (s : List ℕ) (at c : ℕ) → Stands s at c → is_hex (get_or s at 0) ≡ true → get_or s at 0 ≡ c
+same_hex s at c h hex = low_same _ _ _ _ (bytes_lead s at c h) (low_hex _ hex)
 
-pub same_digit : (s left : List ℕ) (at : ℕ) → Stands s at left → is_digit (get_or s at 0) ≡ true → get_or s at 0 ≡ get_or left 0 0
-same_digit s left at h digit = low_same _ _ _ _ (bytes_lead s left at h) (low_digit _ digit)
+pub same_digit : (s : List ℕ) (at c : ℕ) → Stands s at c → is_digit (get_or s at 0) ≡ true → get_or s at 0 ≡ c
+same_digit s at c h digit = low_same _ _ _ _ (bytes_lead s at c h) (low_digit _ digit)
 
 bom_table : (c a b d : ℕ) → Leads c a b d → is_bom_by a b d ≡ is_bom c
 bom_table c a b d h = elim h [
@@ -184,14 +190,14 @@ bom_table c a b d h = elim h [
   ]
 ]
 
-pub bom_law : (s left : List ℕ) (at : ℕ) → Stands s at left → is_bom_at s at ≡ is_bom (get_or left 0 0)
-bom_law s left at h = bom_table _ _ _ _ (bytes_lead s left at h)
+pub bom_law : (s : List ℕ) (at c : ℕ) → Stands s at c → is_bom_at s at ≡ is_bom c
+bom_law s at c h = bom_table _ _ _ _ (bytes_lead s at c h)
 
-pub breakz_law : (s left : List ℕ) (at : ℕ) → Stands s at left → is_breakz_at s at ≡ is_breakz (get_or left 0 0)
-breakz_law s left at h = rw (break_law s left at h, z_law s left at h) refl
+pub breakz_law : (s : List ℕ) (at c : ℕ) → Stands s at c → is_breakz_at s at ≡ is_breakz c
+breakz_law s at c h = rw (break_law s at c h, z_law s at c h) refl
 
-pub blankz_law : (s left : List ℕ) (at : ℕ) → Stands s at left → is_blankz_at s at ≡ is_blankz (get_or left 0 0)
-blankz_law s left at h = rw (blank_law s left at h, break_law s left at h, z_law s left at h) refl
+pub blankz_law : (s : List ℕ) (at c : ℕ) → Stands s at c → is_blankz_at s at ≡ is_blankz c
+blankz_law s at c h = rw (blank_law s at c h, break_law s at c h, z_law s at c h) refl
 
 width_table : (c a b d : ℕ) → Leads c a b d → width_of a ≡ len_utf8 c
 width_table c a b d h = elim h [
@@ -202,28 +208,23 @@ width_table c a b d h = elim h [
   ]
 ]
 
-pub width_law : (s left : List ℕ) (at : ℕ) → Stands s at left → width_of (get_or s at 0) ≡ len_utf8 (get_or left 0 0)
-width_law s left at h = width_table _ _ _ _ (bytes_lead s left at h)
+pub width_law : (s : List ℕ) (at c : ℕ) → Stands s at c → width_of (get_or s at 0) ≡ len_utf8 c
+width_law s at c h = width_table _ _ _ _ (bytes_lead s at c h)
 
 -- a character below 128 is its byte
 pub code_table : (k c a b d : ℕ) → k < 128 → Leads c a b d → (a == k) ≡ (c == k)
 code_table k c a b d lt h = grind (arith, nat_tests)
 
-crlf_utf8 : (left : List ℕ) → AreChars left → is_crlf (get_or (utf8 left) 0 0) (get_or (utf8 left) 1 0) ≡ is_crlf (get_or left 0 0) (get_or left 1 0)
-crlf_utf8 [] h = refl
-crlf_utf8 (c ∷ cs) h =
+pub crlf_law : (s : List ℕ) (at c d : ℕ) → Stands s at c → Stands s (at + len_utf8 c) d → is_crlf_at s at ≡ is_crlf c d
+crlf_law s at c d h k =
+    let first : (get_or s at 0 == 13) ≡ (c == 13) = code_table 13 _ _ _ _ (omega arith) (bytes_lead s at c h) in
     elim (cases_eq c 13) [
       | inl e ↦
-          let second : (get_or (utf8 cs) 0 0 == 10) ≡ (get_or cs 0 0 == 10) = code_table 10 _ _ _ _ (omega arith) (leads cs h.1) in
-          rw (e, encode_ascii 13 (omega arith)) second
-      | inr n ↦
-          let first : (get_or (utf8 (c ∷ cs)) 0 0 == 13) ≡ (c == 13) = code_table 13 _ _ _ _ (omega arith) (leads (c ∷ cs) h) in
-          let none : (c == 13) ≡ false = ne_eqb c 13 n in
-          rw (first, none) refl
+          let one : at + len_utf8 c ≡ at + 1 = ap (λ n. at + len_utf8 n) e in
+          let there : Stands s (at + 1) d = subst (λ n. Stands s n d) one k in
+          rw (first, code_table 10 _ _ _ _ (omega arith) (bytes_lead s (at + 1) d there)) refl
+      | inr n ↦ rw (first, ne_eqb c 13 n) refl
     ]
-
-pub crlf_law : (s left : List ℕ) (at : ℕ) → Stands s at left → is_crlf_at s at ≡ is_crlf (get_or left 0 0) (get_or left 1 0)
-crlf_law s left at h = rw (first_is s left at h, byte_is s left at 1 h) (crlf_utf8 left h.each)
 
 printable_table1 : (c a b d : ℕ) → c < 128 → a ≡ c → is_printable_by a b d ≡ is_printable c
 printable_table1 c a b d h e = grind (arith, nat_tests)
@@ -237,8 +238,11 @@ printable_table4 c a b d l h e = grind (arith, nat_tests)
 printable_low : (c a b d : ℕ) → 2048 ≤ c → c < 0xD000 → a ≡ 224 + c / 4096 → is_printable_by a b d ≡ is_printable c
 printable_low c a b d l h e = grind (arith, nat_tests)
 
-printable_ed : (c a b d : ℕ) → is_char c ≡ true → 0xD000 ≤ c → c < 0xE000 → a ≡ 237 → b ≡ 128 + c / 64 % 64 → is_printable_by a b d ≡ is_printable c
-printable_ed c a b d ok l h e f = let r = char_range c ok in let low : c < 0xD800 = omega (arith, r.1) in grind (arith, nat_tests)
+scalar_low : (c : ℕ) → IsScalar c → c < 0xE000 → c < 0xD800
+scalar_low c h l = grind (arith, nat_tests)
+
+printable_ed : (c a b d : ℕ) → IsScalar c → 0xD000 ≤ c → c < 0xE000 → a ≡ 237 → b ≡ 128 + c / 64 % 64 → is_printable_by a b d ≡ is_printable c
+printable_ed c a b d ok l h e f = let low : c < 0xD800 = scalar_low c ok h in grind (arith, nat_tests)
 
 printable_ee : (c a b d : ℕ) → 0xE000 ≤ c → c < 0xF000 → a ≡ 238 → is_printable_by a b d ≡ is_printable c
 printable_ee c a b d l h e = grind (arith, nat_tests)
@@ -246,7 +250,7 @@ printable_ee c a b d l h e = grind (arith, nat_tests)
 printable_ef : (c a b d : ℕ) → 0xF000 ≤ c → c < 0x10000 → a ≡ 239 → b ≡ 128 + c / 64 % 64 → d ≡ 128 + c % 64 → is_printable_by a b d ≡ is_printable c
 printable_ef c a b d l h e f g = grind (arith, nat_tests)
 
-printable_table3 : (c a b d : ℕ) → is_char c ≡ true → 2048 ≤ c → c < 65536 → a ≡ 224 + c / 4096 → b ≡ 128 + c / 64 % 64 → d ≡ 128 + c % 64 → is_printable_by a b d ≡ is_printable c
+printable_table3 : (c a b d : ℕ) → IsScalar c → 2048 ≤ c → c < 65536 → a ≡ 224 + c / 4096 → b ≡ 128 + c / 64 % 64 → d ≡ 128 + c % 64 → is_printable_by a b d ≡ is_printable c
 printable_table3 c a b d ok l h e f g =
     elim (cases_lt c 0xD000) [
       | inl x ↦ printable_low c a b d l x e
@@ -256,21 +260,20 @@ printable_table3 c a b d ok l h e f g =
       ]
     ]
 
-printable_table : (c a b d : ℕ) → (c ≡ 0) ⊎ (is_char c ≡ true) → Leads c a b d → is_printable_by a b d ≡ is_printable c
+printable_table : (c a b d : ℕ) → IsScalar c → Leads c a b d → is_printable_by a b d ≡ is_printable c
 printable_table c a b d ok h = elim h [
   | inl x ↦ printable_table1 c a b d x.0 x.1
   | inr y ↦ elim y [
     | inl x ↦ printable_table2 c a b d x.0 x.1 x.2 x.3
     | inr z ↦ elim z [
-      | inl x ↦ elim ok [ inl n ↦ absurd (omega (arith, n, x.0)) | inr i ↦ printable_table3 c a b d i x.0 x.1 x.2 x.3 x.4 ]
+      | inl x ↦ printable_table3 c a b d ok x.0 x.1 x.2 x.3 x.4
       | inr x ↦ printable_table4 c a b d x.0 x.1 x.2
     ]
   ]
 ]
 
-first_ok : (left : List ℕ) → AreChars left → (get_or left 0 0 ≡ 0) ⊎ (is_char (get_or left 0 0) ≡ true)
-first_ok [] h = inl refl
-first_ok (c ∷ cs) h = inr h.0
+scalar_there : (s : List ℕ) (at c : ℕ) → Stands s at c → IsScalar c
+scalar_there s at c h = elim h [ inl x ↦ x.0 | inr x ↦ rw x.1 refl ]
 
-pub printable_law : (s left : List ℕ) (at : ℕ) → Stands s at left → is_printable_at s at ≡ is_printable (get_or left 0 0)
-printable_law s left at h = printable_table _ _ _ _ (first_ok left h.each) (bytes_lead s left at h)
+pub printable_law : (s : List ℕ) (at c : ℕ) → Stands s at c → is_printable_at s at ≡ is_printable c
+printable_law s at c h = printable_table _ _ _ _ (scalar_there s at c h) (bytes_lead s at c h)

@@ -93,7 +93,7 @@ pub record Stands (bytes : List ℕ) (c : ℕ) : Type 0 where
   pub joined : stray_at (len_utf8 c) bytes ≡ None
   pub value : value_of (len_utf8 c) bytes ≡ c
 
-next_continues : (c : ℕ) → continues (next c) ≡ true
+pub next_continues : (c : ℕ) → continues (next c) ≡ true
 next_continues c = grind (arith, nat_tests)
 
 stands1 : (c : ℕ) (more : List ℕ) → c < 128 → Stands (c ∷ more) c

@@ -5,7 +5,7 @@ use Rattle.std.specs.Str.{chars}
 use Rattle.std.specs.Char.{len_utf8}
 use Rattle.std.proofs.lemmas.Bool.{cases_Bool, and_parts, eqb-true, false≢true, le-leb, lt-leb, ne_eqb}
 use Rattle.std.proofs.lemmas.Bool.Decides.{nat_tests}
-use Rattle.std.proofs.lemmas.List.{append-nil, take-append-drop, take_at, drop_at, length-append, length-take, reverse-append, get_or-drop, length-reverse, length-drop}
+use Rattle.std.proofs.lemmas.List.{append-nil, take-append-drop, take_at, drop_at, length-append, length-take, reverse-append, get_or-drop, length-reverse, length-drop, drop-drop}
 use Rattle.std.proofs.lemmas.List.Sums.{prefix_len-le-length}
 use Rattle.std.proofs.lemmas.Str.{encodes-append, length-encode, length-le-encodes, len_utf8_bounds}
 use Rattle.std.proofs.Math.Seq.{get_or-append_seam}
@@ -22,7 +22,7 @@ use Rattle.yaml_text.specs.inside.Cursor.{At, IsAt, at_of, past, first_break_len
 use Rattle.yaml_text.proofs.Characters.CharRanges.{char_range}
 use Rattle.yaml_text.proofs.Characters.Utf8Spelling.{stands}
 use Rattle.yaml_text.proofs.Characters.ClassTables.{crlf_law}
-use Rattle.yaml_text.proofs.Decodings.DecodeFronts.{AreChars-append, chars-utf8, IsText-utf8}
+use Rattle.yaml_text.proofs.Decodings.DecodeFronts.{AreChars-append, chars-utf8, IsText-utf8, scalar-IsChar}
 
 -- ---- one character more
 
@@ -101,13 +101,23 @@ goes bytes i n cs rest le t u e n-is =
 pub same_at : (b b' l l' : List ℕ) → b ≡ b' → l ≡ l' → let x : At = record { before = b; left = l } in let y : At = record { before = b'; left = l' } in x ≡ y
 same_at b b' l l' p q = λ k. record { before = p k; left = q k }
 
-pub stands_there : (bytes : List ℕ) (mark : yaml_mark_t) → IsAt bytes mark → Stands bytes mark.index (chars (drop mark.index bytes))
-stands_there bytes mark h = record {
-  front = take mark.index bytes;
-  parts = sym (take-append-drop mark.index bytes) ∙ ap (λ (x : List ℕ). take mark.index bytes ++ x) (sym h.rest.spelled);
-  place = omega (arith, length-take mark.index bytes, h.within);
-  each = h.rest.each;
-}
+first_stands : (bytes left : List ℕ) (i : ℕ) → drop i bytes ≡ utf8 left → AreChars left → Stands bytes i (get_or left 0 0)
+first_stands bytes [] i e h = inr (omega (arith, ap length e, length-drop i bytes), refl)
+first_stands bytes (c ∷ cs) i e h = inl (scalar-IsChar c h.0, utf8 cs, e)
+
+-- past a character that stands at i
+past_first : (bytes cs : List ℕ) (c i : ℕ) → drop i bytes ≡ utf8 (c ∷ cs) → drop (i + len_utf8 c) bytes ≡ utf8 cs
+past_first bytes cs c i e = sym (drop-drop (len_utf8 c) i bytes) ∙ ap (λ (x : List ℕ). drop (len_utf8 c) x) e ∙ drop_at (encode c) (utf8 cs) (len_utf8 c) (length-encode c)
+
+second_stands : (bytes left : List ℕ) (i : ℕ) → drop i bytes ≡ utf8 left → AreChars left → Stands bytes (i + len_utf8 (get_or left 0 0)) (get_or left 1 0)
+second_stands bytes [] i e h = inr (omega (arith, ap length e, length-drop i bytes), refl)
+second_stands bytes (c ∷ cs) i e h = first_stands bytes cs (i + len_utf8 c) (past_first bytes cs c i e) h.1
+
+pub stands_there : (bytes : List ℕ) (mark : yaml_mark_t) → IsAt bytes mark → Stands bytes mark.index (get_or (chars (drop mark.index bytes)) 0 0)
+stands_there bytes mark h = first_stands bytes (chars (drop mark.index bytes)) mark.index (sym h.rest.spelled) h.rest.each
+
+stands_next : (bytes : List ℕ) (mark : yaml_mark_t) → IsAt bytes mark → Stands bytes (mark.index + len_utf8 (get_or (chars (drop mark.index bytes)) 0 0)) (get_or (chars (drop mark.index bytes)) 1 0)
+stands_next bytes mark h = second_stands bytes (chars (drop mark.index bytes)) mark.index (sym h.rest.spelled) h.rest.each
 
 -- What a move to a new mark gives: it is in the text, n characters further.
 pub record Moves (bytes : List ℕ) (old new : yaml_mark_t) (n : ℕ) : Type 0 where
@@ -261,7 +271,7 @@ pub line_lands : (bytes : List ℕ) (mark : yaml_mark_t) (at : At) (w : ℕ) →
 line_lands bytes mark at w h e is w-is =
     let there = at_of bytes mark in
     let goal : At → Type 0 = λ a. is_break (get_or a.left 0 0) ≡ true → Lands bytes (moved mark w (mark.line + 1) 0) (past (first_break_len a.left) a) in
-    let w-there = w-is ∙ ap (λ b. cond b 2 (width_of (get_or bytes mark.index 0))) (crlf_law bytes there.left mark.index (stands_there bytes mark h)) in
+    let w-there = w-is ∙ ap (λ b. cond b 2 (width_of (get_or bytes mark.index 0))) (crlf_law bytes mark.index _ _ (stands_there bytes mark h) (stands_next bytes mark h)) in
     subst goal e (λ x. rw w-there (landed bytes mark _ (first_break_len there.left) there refl (line_moves bytes mark h x))) is
 
 end_by : (bytes : List ℕ) (mark : yaml_mark_t) (left : List ℕ) → IsAt bytes mark → chars (drop mark.index bytes) ≡ left → leb (length bytes) mark.index ≡ is_z (get_or left 0 0)

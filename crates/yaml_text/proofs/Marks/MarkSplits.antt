@@ -72,7 +72,7 @@ parts_of_place bytes index p t at =
 
 -- ---- the bytes at the seam
 
-lead_starts : (c a b d : ℕ) → Leads c a b d → continues a ≡ false
+pub lead_starts : (c a b d : ℕ) → Leads c a b d → continues a ≡ false
 lead_starts c a b d h = grind (arith, nat_tests)
 
 pub no_continuation : (bytes : List ℕ) (index : ℕ) → Parts bytes index → continues (get_or bytes index 0) ≡ false

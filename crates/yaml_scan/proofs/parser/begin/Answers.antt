@@ -1,12 +1,12 @@
 use Rattle.std.proofs.Common.{refl, sym, ap, ◌∙◌, inl, inr, arith, subst, ◌∷◌, []}
 use Rattle.std.proofs.lemmas.Bool.{false≢true}
 use Rattle.std.proofs.lemmas.Result.{err_from_is_err_and}
+use Rattle.std.proofs.lemmas.Str.{length-le-encodes}
 use Rattle.yaml_text.specs.declared.types.yaml_encoding_t.{yaml_encoding_t}
 use Rattle.yaml_scan.specs.Groups.Token.{StreamStart}
 use Rattle.yaml_scan.specs.inside.Queue.{IsQueue}
 use Rattle.yaml_text.specs.Fault.{fault_of}
 use Rattle.yaml_text.specs.Decoding.{refusal_seen}
-use Rattle.yaml_scan.proofs.Texts.NearByBytes.{short}
 use Rattle.yaml_scan.proofs.RunningStep.FirstStep.{new_stopped, new_ended, begins, begun_in, encoding_in}
 use Rattle.yaml_scan.proofs.parser.begin.Goals as goal
 
@@ -25,5 +25,5 @@ returns-in_err-put_stream_start c = let p = err_from_is_err_and c.from_residual.
 )
 
 pub returns : goal.returns
-returns c = begins c.args.setting c.args.input.now c.args.scanner.now _ c.requires c.in-Ok.ensures.front c.near_of-near.ensures.text (let s = short c.in-Ok.front.0.chars in let m = c.near_of-near.ensures.small in omega arith) c.in-Ok.ensures.refusal c.near_of-near.ensures.near
+returns c = begins c.args.setting c.args.input.now c.args.scanner.now _ c.requires c.in-Ok.ensures.front c.near_of-near.ensures.text (omega (arith, length-le-encodes c.in-Ok.front.0.chars, c.near_of-near.ensures.small)) c.in-Ok.ensures.refusal c.near_of-near.ensures.near
     refl refl refl refl (subst (λ (e : yaml_encoding_t). IsQueue e c.put_stream_start.new.queue.early c.put_stream_start.new.queue.front c.put_stream_start.new.queue.groups.items (StreamStart ∷ [])) c.encoding-encoding.ensures.is c.in_ok-put_stream_start.ensures.queue) c.in_ok-put_stream_start.ensures.long c.in_ok-put_stream_start.ensures.early c.in_ok-put_stream_start.ensures.done refl refl refl (sym c.near_start.ensures ∙ ap refusal_seen c.in_default.is)

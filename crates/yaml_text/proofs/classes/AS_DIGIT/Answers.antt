@@ -1,10 +1,9 @@
 use Rattle.std.proofs.Common.{◌≡◌, ◌∙◌, arith}
 use Rattle.std.proofs.lemmas.Int.{ints}
-use Rattle.std.specs.Prelude.{slice_index}
 use Rattle.yaml_text.proofs.Characters.ClassTables.{same_digit}
 use Rattle.yaml_text.proofs.classes.AS_DIGIT.Goals as goal
 
 pub returns-clause-character : goal.returns-clause-character
-returns-clause-character c = λ left stands.
-    let same : c.byte_at.result ≡ slice_index left 0 = c.byte_at.ensures ∙ same_digit _ left _ stands c.requires in
+returns-clause-character c = λ char stands.
+    let same : c.byte_at.result ≡ char = c.byte_at.ensures ∙ same_digit _ _ char stands c.requires in
     omega (arith, ints)
