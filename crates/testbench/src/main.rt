@@ -20,8 +20,8 @@
 //!
 //! With `count WAY` or `count WAY LIMIT` the tokens of the input are counted, up to the stream end or the fault. The
 //! answer is how many there are, and the kind of the fault, or `-` for none. WAY is `scans`, `skips` (a peek and a skip
-//! for each token), `lists` (calls of `yaml_run`, each with many scans), `sink` (one `yaml_scan_to`), `batches` (calls of
-//! `yaml_scan_next_to` with a sink that has room for many tokens) or `returned` (the same with a sink that has none).
+//! for each token), `lists` (calls of `yaml_run`, each with many scans), `sink` (one `yaml_scan_to`), `batches` (calls
+//! of `yaml_scan_next_to` with a sink that has room for many tokens) or `returned` (the same with one that has none).
 //!
 //! With the word `rows` each line of the input is `ENC LIMIT WORD INPUT`, with the input in hexadecimal or `-`. The
 //! calls of WORD are made one by one on a parser of that input, and the answers are written as those of `each`, without
