@@ -13,7 +13,8 @@
 #include <stdlib.h>
 #include <string.h>
 
-enum { MOST_TOKENS = 1000, SPARE = 3, FILL = 0xA5, PREFIXES = 20, FIRST_TOKENS = 10, MOST_SHOWN = 20, FAULT_TEXTS = 256 };
+enum { MOST_TOKENS = 1000, SPARE = 3, FILL = 0xA5, PREFIXES = 20, FIRST_TOKENS = 10, MOST_SHOWN = 20 };
+enum { FAULT_TEXTS = 256 }; /* more bytes than the texts of a fault have */
 
 struct input {
     uint32_t encoding, key_limit;
@@ -613,14 +614,16 @@ static uint64_t count_tokens(const struct input *i, uint8_t *room, size_t room_l
 static void print_counts(const struct input *i) {
     static const size_t batches[] = {1, 256, 1};
     struct texts_room room = {need(malloc(i->len + FAULT_TEXTS)), i->len + FAULT_TEXTS};
+    uint64_t counts[sizeof batches / sizeof *batches];
     uint32_t end = bogzhami_scan_all(i->bytes, i->len, i->encoding, i->key_limit, tokens, 0, room.bytes, 0, &answer);
-    printf("%llu", (unsigned long long)answer.token_count);
+    uint64_t whole = answer.token_count;
     for (size_t n = 0; n < sizeof batches / sizeof *batches; n++) {
         uint32_t last;
-        printf(" %llu", (unsigned long long)take_all(i, room, batches[n], n == 2, &last));
+        counts[n] = take_all(i, room, batches[n], n == 2, &last);
         check(last == (end == BOGZHAMI_FAULT ? BOGZHAMI_FAULT : BOGZHAMI_OVER), "the end of a deep input");
     }
-    printf("\n");
+    printf("counts: %llu %llu %llu %llu\n", (unsigned long long)whole, (unsigned long long)counts[0],
+           (unsigned long long)counts[1], (unsigned long long)counts[2]);
     free(room.bytes);
 }
 

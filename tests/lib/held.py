@@ -107,7 +107,7 @@ def try_counts(program):
     """How many tokens deep texts have: all at once, and by calls for 1 and for 256, and by calls after a peek."""
     rows = [(("any", str(deep.limit)), deep.text(DEEP).encode("ascii"), None) for deep in DEEP_TEXTS]
     told, good = run_test([program, "counts"], packed(rows))
-    found = told.splitlines()
+    found = [line.removeprefix("counts: ") for line in told.splitlines() if line.startswith("counts: ")]
     wanted = [" ".join(4 * [str(deep.tokens(DEEP))]) for deep in DEEP_TEXTS]
     wrong = [f"{deep.name}: {line}, not {want}" for deep, line, want in zip(DEEP_TEXTS, found, wanted) if line != want]
     print(f"ffi: held counts, {len(DEEP_TEXTS)} deep texts taken in 4 ways, {len(wrong)} wrong {wrong[:3] or ''}")
