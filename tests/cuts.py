@@ -3,6 +3,8 @@
 
 Each cut ends with the stream end or with one fault, and the status is 1 if there is a fault, else 0. A list of
 calls has one line for each call. (For inputs of up to 200 bytes vectors/scan.txt.gz has all the lines of each cut.)
+Of the rows that say how many steps are queued, the inputs are cut too; and after a scan and a peek of so many `[` all of them
+are queued, and the stream end, but one step more than the key limit at most. The deep rows are cut at some bytes.
 """
 
 import os
@@ -12,7 +14,9 @@ from concurrent.futures import ThreadPoolExecutor
 
 sys.path.insert(0, os.path.join(os.path.dirname(os.path.abspath(__file__)), "lib"))
 sys.dont_write_bytecode = True
-from worked import is_ended, rows
+from worked import DEEP_ROWS, QUEUES, is_ended, queued, rows
+
+DEEP_STEP = 9_973  # bytes between two cuts of a deep row
 
 
 def is_right(words, done):
@@ -28,19 +32,39 @@ def is_right(words, done):
     return [len(lines) - 1] == (faults or stream_ends)
 
 
+def cuts():
+    """The words of a command, and the front of a row's input."""
+    limited = [(["scan", "any", str(limit)], data) for data, limit, _, _ in QUEUES]
+    for words, data in [(words, data) for words, data, _ in rows()] + limited:
+        for end in range(len(data) + 1):
+            yield words, data[:end]
+    for data in DEEP_ROWS:
+        for end in range(0, len(data) + 1, DEEP_STEP):
+            yield ["scan", "any"], data[:end]
+
+
+def is_queue_right(testbench, cut):
+    """Whether as many steps are queued after a peek of the first `[` as there may be, of these and the stream end."""
+    data, limit = cut
+    return queued(testbench, data, limit, "sp") == [0, min(len(data), limit) + 1]
+
+
 def main(program):
-    cuts = [(words, data[:end]) for words, data, _ in rows() for end in range(len(data) + 1)]
+    testbench = os.path.join(os.path.dirname(program), "..", "..", "testbench", "out", "testbench")
+    every = list(cuts())
+    openers = [(data[:end], limit) for data, limit, word, _ in QUEUES if word == "sp" for end in range(len(data) + 1)]
 
     def is_cut_right(cut):
         words, data = cut
         return is_right(words, subprocess.run([program, *words], input=data, capture_output=True, timeout=60))
 
     with ThreadPoolExecutor(max_workers=os.cpu_count()) as pool:
-        wrong = [cut for cut, found in zip(cuts, pool.map(is_cut_right, cuts)) if not found]
+        wrong = [cut for cut, found in zip(every, pool.map(is_cut_right, every)) if not found]
+        queues = list(pool.map(lambda cut: is_queue_right(testbench, cut), openers))
     for words, data in wrong[:20]:
-        print(f"{' '.join(words)}: {data!r}")
-    print(f"cuts: {len(cuts)} tried, {len(wrong)} wrong")
-    return 1 if wrong or not cuts else 0
+        print(f"{' '.join(words)}: {data[:200]!r}")
+    print(f"cuts: {len(every)} tried, {len(wrong)} wrong; {len(queues)} queues, {queues.count(False)} wrong")
+    return 1 if wrong or not every or not all(queues) else 0
 
 
 if __name__ == "__main__":

@@ -1,10 +1,11 @@
 #!/usr/bin/env python3
 """Scans deep and long inputs with the program: deep.py PROGRAM.
 
-Depth and levels have no limit but the input's length. Each input gives the lines that are expected, and the time of a scan
-grows with the input: twice the input takes at most three times as long. Where the input outgrows a cache of the machine,
-one doubling may take longer; so it is wrong only if three doublings, one after the other, take longer. The program
-`testbench`, which is beside the given one, is used for the times.
+Depth and levels have no limit but the input's length. Each input gives the lines that are expected. In whatever way its tokens
+are taken, they are as many as follows from how often its parts are repeated (lib/deep_texts.py), and no memory is wanted at
+some size. The time of a scan grows with the input: twice the input takes at most three times as long. Where the input
+outgrows a cache of the machine, one doubling may take longer; so it is wrong only if three doublings, one after the other,
+take longer. The program `testbench`, which is beside the given one, counts the tokens and takes the times.
 """
 
 import math
@@ -12,6 +13,10 @@ import os
 import resource
 import subprocess
 import sys
+
+sys.path.insert(0, os.path.join(os.path.dirname(os.path.abspath(__file__)), "lib"))
+sys.dont_write_bytecode = True
+from deep_texts import DEEP_TEXTS
 
 MANY = 100_000
 # the most that scanning twice the input may take, in times of scanning the input
@@ -49,73 +54,63 @@ def sequences(count):
     return starts + [one("BLOCK-END", end, end)] * count + [one("STREAM-END", end, end)]
 
 
-def nested_keys(count):
-    """Entries of 12,500 flow mappings, each the key of the one around it: a key that is just under 65,536 bytes long."""
-    deep = 12_500
-    return ("- " + "{" * deep + "a" + ": b}" * deep + "\n") * -(-count // deep)
+# The lines of some texts after the first, for the count MANY.
+LINES = {
+    "openers": run_of("FLOW-SEQUENCE-START", MANY),
+    "closers": run_of("FLOW-SEQUENCE-END", MANY),
+    "sequences": sequences(MANY // 2),
+    "more sequences": sequences(MANY),
+}
+# The ways in which testbench takes all tokens: scans; a peek and a skip for each; lists of scans; one sink; batches that are
+# given to a sink; and calls whose sink has no room, so that each token is returned.
+WAYS = ["scans", "skips", "lists", "sink", "batches", "returned"]
 
 
-# the name, the input for a count, the lines expected after the first, or None if only the last line is checked
-INPUTS = [
-    ("openers", lambda count: "[" * count, run_of("FLOW-SEQUENCE-START", MANY)),
-    ("closers", lambda count: "]" * count, run_of("FLOW-SEQUENCE-END", MANY)),
-    ("sequences", lambda count: "- " * (count // 2), sequences(MANY // 2)),
-    ("more sequences", lambda count: "- " * count, sequences(MANY)),
-    ("quoted keys on a line", lambda count: '"x": ' * count, None),
-    ("quoted keys on lines", lambda count: '"x":\n' * count, None),
-    ("keys of keys", lambda count: "? " * count, None),
-    ("mappings in mappings", lambda count: "{a: " * count, None),
-    ("mappings as keys", lambda count: "{" * count + "a" + ": b}" * count, None),
-    ("sequences of mappings", lambda count: "[{a: b, " * (count // 2), None),
-    ("blank lines", lambda count: "a" + "\n" * count + " b", None),
-    ("blank lines in quotes", lambda count: '"a' + " \n" * count + 'b"', None),
-    ("a literal of blank lines", lambda count: "|\n a" + "\n" * count + " b", None),
-    ("comments", lambda count: "#c\n" * count, None),
-    ("anchors", lambda count: "&a " * count, None),
-    ("escapes", lambda count: '"' + "\\x41" * count + '"', None),
-    # a text of n levels has n * n / 2 spaces, so the levels are as many as keep its length in proportion to the count
-    ("deeper and deeper", lambda count: "".join(" " * k + "a:\n" for k in range(math.isqrt(10 * count))), None),
-    ("a tag of escapes", lambda count: "!" + "%41" * count + " a", None),
-    ("keys near the greatest limit", nested_keys, None),
-]
-# the key limit in bytes with which the time of an input is taken, if it is not the usual one
-LIMITS = {nested_keys: ["65536"]}
+def count_problem(testbench, deep):
+    """What is wrong with the number of tokens in the ways to take them, or with the fault after them."""
+    wanted, problems = f"{deep.tokens(MANY)} {deep.fault}\n", []
+    for way in WAYS:
+        words = [testbench, "count", way, str(deep.limit)]
+        done = subprocess.run(words, input=deep.text(MANY).encode("ascii"), capture_output=True, timeout=TIMEOUT)
+        if (done.stdout.decode("ascii"), done.stderr, done.returncode) != (wanted, b"", 0):
+            problems.append(f"{way}: {done.stdout!r}, not {wanted!r}")
+    return "; ".join(problems)
 
 
 def seconds_of(testbench, text, limit):
     """How long the processor was busy for nine scans of the text; the waiting for a busy machine is not in it."""
     before = resource.getrusage(resource.RUSAGE_CHILDREN).ru_utime
-    words = [testbench, "measure", "scan", *limit]
+    words = [testbench, "measure", "scan", str(limit)]
     subprocess.run(words, input=text.encode("ascii"), capture_output=True, check=True, timeout=TIMEOUT)
     return resource.getrusage(resource.RUSAGE_CHILDREN).ru_utime - before
 
 
-def count_to_measure(testbench, text_of):
+def count_to_measure(testbench, deep):
     """A count whose input takes long enough to be measured, or a large one if none does."""
-    count, limit = MANY, LIMITS.get(text_of, [])
-    while count < 16 * MANY and seconds_of(testbench, text_of(count), limit) < LEAST:
+    count = MANY
+    while count < 16 * MANY and seconds_of(testbench, deep.text(count), deep.limit) < LEAST:
         count *= 2
     return count
 
 
-def doubling_problem(testbench, text_of, count):
+def doubling_problem(testbench, deep, count):
     """Compares the best time of an input with the best time of one twice as long, each the best of several."""
-    limit, once, twice = LIMITS.get(text_of, []), text_of(count), text_of(2 * count)
+    once, twice = deep.text(count), deep.text(2 * count)
     best_once = best_twice = math.inf
     for pair in range(1, MOST_PAIRS + 1):
-        best_once = min(best_once, max(seconds_of(testbench, once, limit), LEAST))
-        best_twice = min(best_twice, seconds_of(testbench, twice, limit))
+        best_once = min(best_once, max(seconds_of(testbench, once, deep.limit), LEAST))
+        best_twice = min(best_twice, seconds_of(testbench, twice, deep.limit))
         if pair >= FEW_PAIRS and best_twice <= GROWTH * best_once:
             return None
     return f"{2 * count} took {best_twice:.2f} seconds, {count} took {best_once:.2f}"
 
 
-def growth_problem(testbench, text_of):
+def growth_problem(testbench, deep):
     """What is wrong with the growth of an input's time: each of several doublings takes too long."""
-    count = count_to_measure(testbench, text_of)
+    count = count_to_measure(testbench, deep)
     problems = []
     for doubling in range(DOUBLINGS):
-        found = doubling_problem(testbench, text_of, count << doubling)
+        found = doubling_problem(testbench, deep, count << doubling)
         if found is None:
             return None
         problems.append(found)
@@ -135,9 +130,10 @@ def listing_problem(program, text, wanted):
     return None if ends else f"ends with {lines[-1]}"
 
 
-def problem(program, testbench, text_of, wanted):
+def problem(program, testbench, deep):
     try:
-        return listing_problem(program, text_of(MANY), wanted) or growth_problem(testbench, text_of)
+        listing = listing_problem(program, deep.text(MANY), LINES.get(deep.name))
+        return listing or count_problem(testbench, deep) or growth_problem(testbench, deep)
     except subprocess.TimeoutExpired:
         return f"took more than {TIMEOUT} seconds"
 
@@ -145,12 +141,12 @@ def problem(program, testbench, text_of, wanted):
 def main(program):
     testbench = os.path.join(os.path.dirname(program), "..", "..", "testbench", "out", "testbench")
     wrong = 0
-    for name, text_of, wanted in INPUTS:
-        found = problem(program, testbench, text_of, wanted)
+    for deep in DEEP_TEXTS:
+        found = problem(program, testbench, deep)
         if found:
-            print(f"{name}: {found}")
+            print(f"{deep.name}: {found}")
             wrong += 1
-    print(f"deep: {len(INPUTS)} scanned, {wrong} wrong")
+    print(f"deep: {len(DEEP_TEXTS)} texts scanned in {1 + len(WAYS)} ways, {wrong} wrong")
     return 1 if wrong else 0
 
 

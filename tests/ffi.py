@@ -10,9 +10,9 @@ there, and give the expected tokens. The library exports the names of the header
 request for memory of list.c is refused in turn.
 
 A scanner that is held gives what the scan at once gives, whatever the batches, rooms, peeks, turns, threads and refused
-requests are (held.c), and takes less than a megabyte besides a long input. How far it has read is that of paces.txt.gz.
-scanner.rs gives the same tokens one by one, in batches and after peeks, and borrows from the input what it can (held.rs). What
-needs a C compiler, rustc or valgrind is skipped if there is none.
+requests are (held.c). It gives all tokens of deep texts, and takes less than a megabyte besides a long input. How far it has
+read is that of paces.txt.gz. scanner.rs gives the same tokens one by one, in batches and after peeks, and borrows from the
+input what it can (held.rs). What needs a C compiler, rustc or valgrind is skipped if there is none.
 """
 
 import ctypes as c
@@ -29,7 +29,8 @@ HERE = os.path.dirname(os.path.abspath(__file__))
 CRATE = os.path.join(os.path.dirname(HERE), "crates", "yaml_c", "src")
 sys.path.insert(0, os.path.join(HERE, "lib"))
 sys.dont_write_bytecode = True
-from held import FFI, SETTINGS, VALGRIND, Handle, build_held, build_rust, try_long, try_reach, try_rust, try_tests, try_valgrind
+from held import FFI, SETTINGS, VALGRIND, Handle, build_held, build_rust, try_counts, try_long, try_reach, try_rust, try_tests
+from held import try_valgrind
 from library import VERSION, build_library
 from pages import try_pages
 from worked import MEMORY, build_refuser, run
@@ -405,6 +406,7 @@ def try_held(room, every, rust):
         try_tests(programs, every),
         try_valgrind(programs[0], every),
         not rust or try_rust(room, every),
+        try_counts(programs[0]),
         try_long(programs[0]),
         try_reach(MADE),
     ]

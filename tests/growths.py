@@ -1,18 +1,19 @@
 #!/usr/bin/env python3
 """Refuses each request for memory in turn while the program runs: growths.py PROGRAM.
 
-For each worked row of vectors/rows.txt its own command, and for each of the inputs below a scan; for both, lists of scans
-past the end, and of peeks with skips past the end. Each request that is made after the input and the calls were read is
-answered: the program is out of memory and has written nothing, or its lines are a beginning of those with ample memory,
-then the one fault of kind memory, and then, for a list of calls, one line for each call that is left. The fault comes
-only at a scan or a peek of a token that was not peeked, never after the stream end, and never if no memory is taken: if
-UTF-8 is decoded, or refused so early that the first step is near. If a request that comes before is refused, the lines
-may also be those with ample memory. All blocks are given back.
+For each worked row of vectors/rows.txt its own command, and for each of the inputs below and of the rows of calls a scan; for
+all of these, lists of scans past the end, and of peeks with skips past the end. The same for the deep rows, of which only some
+requests are refused. Each request that is made after the input and the calls were read is answered: the program is out of
+memory and has written nothing, or its lines are a beginning of those with ample memory, then the one fault of kind memory, and
+then, for a list of calls, one line for each call that is left. The fault comes only at a scan or a peek of a token that was not
+peeked, never after the stream end, and never if no memory is taken: if UTF-8 is decoded, or refused so early that the first
+step is near. If a request that comes before is refused, the lines may also be those with ample memory. All blocks are given
+back.
 
-Then the program testbench, which is beside the given one, makes calls one by one on 100 entries, and on small inputs with
-one step of each kind that takes memory, in UTF-8 and UTF-16. Each request that is refused in a call is answered by that
-call's fault, so nothing asks twice for the same memory. The answers before it are those with ample memory; after it come
-empty tokens. Needs a C compiler.
+Then the program testbench, which is beside the given one, makes calls one by one on 100 entries, on the rows that say how many
+steps are queued, and on small inputs with one step of each kind that takes memory, in UTF-8 and UTF-16. Each request that is
+refused in a call is answered by that call's fault, so nothing asks twice for the same memory. The answers before it are those
+with ample memory; after it come empty tokens. Needs a C compiler.
 """
 
 import os
@@ -23,10 +24,13 @@ from concurrent.futures import ThreadPoolExecutor
 
 sys.path.insert(0, os.path.join(os.path.dirname(os.path.abspath(__file__)), "lib"))
 sys.dont_write_bytecode = True
-from worked import MEMORY, build_refuser, is_ended, rows, run_counted, session_of, takes_no_memory
+from worked import DEEP_ROWS, MEMORY, QUEUES, Session, build_refuser, is_ended, queued, rows, run_counted, session_of
+from worked import takes_no_memory
 
 HUNDRED = b"- x\n" * 100
 ZERO = "0:0:0"
+DEEP_STEP = 7  # of so many requests on a deep row one is refused
+MOST_CALLS = 100_000  # so many calls are a word that a process may be given
 WANTED = f"FAULT memory 0 0 {ZERO} {ZERO} -; -"
 # the answers of testbench to calls after a fault
 IDLE = {"s": f"TOKEN YAML_NO_TOKEN {ZERO} {ZERO}", "p": f"PEEKED TOKEN YAML_NO_TOKEN {ZERO} {ZERO}", "k": "NOTHING"}
@@ -48,16 +52,34 @@ def scanned(program, data):
     return words, data, done.stdout.decode("ascii").splitlines()
 
 
+def lists_of_calls(setting, count):
+    """Scans past the end of so many lines, and peeks with skips past it."""
+    yield ["calls", setting, "s" * min(count + 2, MOST_CALLS) + "psk"]
+    yield ["calls", setting, "pk" * min(count + 1, MOST_CALLS // 2) + "pps"]
+
+
 def commands(program):
     """What is run: the words, the input, and the lines of a scan of it, or of its decoding."""
     small = [scanned(program, data) for data in [HUNDRED, *STEPS]]
     for words, data, lines in [*rows(), *small]:
         if words[0] == "calls":
-            continue
+            whole = scanned(program, data)
+            if Session(whole[2]).calls(words[2]) != lines:
+                raise SystemExit(f"growths: {words}, {data!r}: the row's lines are not those that follow from a scan")
+            yield words, data, whole[2]
+            words, data, lines = whole
         yield words, data, lines
         if words[0] == "scan" and len(words) == 2:
-            yield ["calls", words[1], "s" * (len(lines) + 2) + "psk"], data, lines
-            yield ["calls", words[1], "pk" * (len(lines) + 1) + "pps"], data, lines
+            for word in lists_of_calls(words[1], len(lines)):
+                yield word, data, lines
+
+
+def deep_commands(program):
+    """The same of the deep rows."""
+    for data in DEEP_ROWS:
+        words, data, lines = scanned(program, data)
+        for command in [words, *lists_of_calls("any", len(lines))]:
+            yield command, data, lines
 
 
 def kind_of(words, done, data, lines):
@@ -79,8 +101,9 @@ def kind_of(words, done, data, lines):
     return "beginning" if may_refuse and is_beginning else None
 
 
-def refuse_each(program, refuser, words, data, lines):
-    """Refuses none, then each request that is made then, in turn; returns what was seen.
+def refuse_each(program, refuser, words, data, lines, step=1):
+    """Refuses none, then each request that is made then, in turn; returns what was seen. With a step above 1 only one request
+    of so many is refused, and none that comes before the input's end: how many those are depends on the pipe.
 
     A request that comes before the input's end is read may be made again, and so may the first one after that if calls
     are listed: collecting the words, and the calls, asks for the room of all at once and then for less.
@@ -88,7 +111,7 @@ def refuse_each(program, refuser, words, data, lines):
     after_read = sum(run_counted(program, words, data, refuser, 0, after_reading=True)[1])
     seen, number, requests = {}, 0, after_read
     while number <= requests:
-        done, counts, held = run_counted(program, words, data, refuser, number)
+        done, counts, held = run_counted(program, words, data, refuser, number, after_reading=step > 1)
         kind = None if held else kind_of(words, done, data, lines)
         if number == 0:
             requests = sum(counts)
@@ -96,9 +119,10 @@ def refuse_each(program, refuser, words, data, lines):
         if kind == "whole" and not may_be_whole or number == 0 and kind != "whole":
             kind = None
         if kind is None:
-            print(f"{words}, {data[:80]!r}, {number}: {done.returncode}, {done.stdout[-300:]!r}, {done.stderr!r}, {held} blocks")
+            told = [word[:80] for word in words]
+            print(f"{told}, {data[:80]!r}, {number}: {done.returncode}, {done.stdout[-300:]!r}, {done.stderr!r}, {held} blocks")
         seen[kind] = seen.get(kind, 0) + 1
-        number += 1
+        number += step
     return seen
 
 
@@ -110,12 +134,12 @@ def is_refused_at(word, at, whole, found):
     return len(found) == len(whole) and found[: 2 * at] == whole[: 2 * at] and found[2 * at :: 2] == wanted and is_over
 
 
-def faults_of(testbench, refuser, setting, data, word):
+def faults_of(testbench, refuser, setting, data, word, limit=1024):
     """Refuses each request of a list of calls in turn. Returns how many tokens come before the fault, for each.
 
     None if one is not answered by the fault of the call in which it is made.
     """
-    words = ["each", setting, "1024", word]
+    words = ["each", setting, str(limit), word]
     done, counts, held = run_counted(testbench, words, data, refuser, 0, after_reading=True)
     whole, before, is_right = done.stdout.decode("ascii").splitlines(), [], not held and not done.stderr
     calls = [at for at, count in enumerate(counts[:-1:2]) for _ in range(count)]
@@ -129,6 +153,13 @@ def faults_of(testbench, refuser, setting, data, word):
     return before if is_right and len(calls) == sum(counts) else None
 
 
+def queue_faults(testbench, refuser, row):
+    """How many requests are refused of a row that says how many steps are queued; None if one is not answered, or the row is not."""
+    data, limit, word, counts = row
+    found = faults_of(testbench, refuser, "any", data, word, limit)
+    return None if found is None or queued(testbench, data, limit, word) != counts else len(found)
+
+
 def steps():
     """The setting, the input and the calls for each small input: scans past its end, and peeks with skips."""
     for data in STEPS:
@@ -138,25 +169,28 @@ def steps():
 
 
 def main(program):
-    every, small = list(commands(program)), list(steps())
+    every, deep, small = list(commands(program)), list(deep_commands(program)), list(steps())
     testbench = os.path.join(os.path.dirname(program), "..", "..", "testbench", "out", "testbench")
     with tempfile.TemporaryDirectory() as room:
         refuser = build_refuser(room)
         total = {"whole": 0, "beginning": 0, "nothing": 0, None: 0}
         with ThreadPoolExecutor(max_workers=os.cpu_count()) as pool:
-            for seen in pool.map(lambda one: refuse_each(program, refuser, *one), every):
-                for kind, count in seen.items():
-                    total[kind] += count
+            found = list(pool.map(lambda one: refuse_each(program, refuser, *one), every))
+            found += pool.map(lambda one: refuse_each(program, refuser, *one, DEEP_STEP), deep)
+            for kind, count in [pair for seen in found for pair in seen.items()]:
+                total[kind] += count
             hundred = faults_of(testbench, refuser, "any", HUNDRED, "s" * 310)
+            queues = list(pool.map(lambda row: queue_faults(testbench, refuser, row), QUEUES))
             found = list(pool.map(lambda one: faults_of(testbench, refuser, *one), small))
     wrong = total.pop(None)
     counts = ", ".join(f"{count} {kind}" for kind, count in total.items())
-    print(f"growths: {len(every)} commands, {counts}, {wrong} wrong")
+    print(f"growths: {len(every)} commands and {len(deep)} on deep rows, {counts}, {wrong} wrong")
     unanswered = sum(one is None for one in [hundred, *found])
     faults, early = len(hundred or []), sum(tokens < 10 for tokens in hundred or [])
     print(f"growths: 100 entries, {faults} faults of kind memory, {early} of them before the tenth token")
+    print(f"growths: {len(QUEUES)} rows with queued steps, {sum(filter(None, queues))} faults, {queues.count(None)} not answered")
     print(f"growths: {len(STEPS)} small inputs, {sum(len(one or []) for one in found)} faults, {unanswered} lists of calls not answered")
-    is_wrong = wrong or unanswered or not all(total.values()) or faults <= 100 or early >= 100
+    is_wrong = wrong or unanswered or not all(queues) or not all(total.values()) or faults <= 100 or early >= 100
     return 1 if is_wrong or any(len(one or []) < 2 for one in found) else 0
 
 

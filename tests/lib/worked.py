@@ -1,4 +1,4 @@
-"""The worked rows of vectors/rows.txt, and the answers of a session to calls on one of them, with and without memory."""
+"""The worked rows of vectors/rows.txt and others, and the answers of a session to calls on one, with and without memory."""
 
 import os
 import subprocess
@@ -8,6 +8,16 @@ HERE = os.path.dirname(os.path.dirname(os.path.abspath(__file__)))
 MEMORY = "FAULT memory"
 IDLE = {"s": "NO-TOKEN", "p": "PEEK NO-TOKEN", "k": "SKIP NOTHING"}
 
+# Worked rows of which the listing does not show the answer: an input, a key limit, calls, and how many steps are queued after
+# each call.
+QUEUES = [
+    (b"[" * 1026, 1024, "sp", [0, 1025]),
+    (b"[" * 6, 4, "sp", [0, 5]),
+    (b"&a b: c", 1024, "spsss", [0, 3, 3, 3, 2]),
+]
+# The worked rows that are too long for vectors/rows.txt. Their lines are those of tests/deep.py.
+DEEP_ROWS = [b"[" * 100_000, b"]" * 100_000, b"- " * 50_000]
+
 
 def rows():
     """Each row: the words of its command, its input, and its lines."""
@@ -15,6 +25,13 @@ def rows():
         for line in lines:
             words, data, wanted = line.rstrip("\n").split("\t")
             yield words.split(" "), bytes.fromhex(data.strip("-")), wanted.split(" / ") if wanted else []
+
+
+def queued(testbench, data, limit, word):
+    """How many steps are queued after each call on an input."""
+    words = [testbench, "each", "any", str(limit), word]
+    done = subprocess.run(words, input=data, capture_output=True, check=True, timeout=60)
+    return [int(state.split(" ")[2]) for state in done.stdout.decode("ascii").splitlines()[1::2]]
 
 
 def is_utf8(setting, data):

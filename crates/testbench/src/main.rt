@@ -18,6 +18,15 @@
 //! sink, and with `measure decode` it is decoded. The answer is how many bytes were read, tokens scanned or bytes
 //! decoded, and the best and the median time in nanoseconds.
 //!
+//! With `count WAY` or `count WAY LIMIT` the tokens of the input are counted, up to the stream end or the fault. The
+//! answer is how many there are, and the kind of the fault, or `-` for none. WAY is `scans`, `skips` (a peek and a skip
+//! for each token), `lists` (calls of `yaml_run`, each with many scans), `sink` (one `yaml_scan_to`), `batches` (calls
+//! of `yaml_scan_next_to` with a sink that has room for many tokens) or `returned` (the same with one that has none).
+//!
+//! With the word `rows` each line of the input is `ENC LIMIT WORD INPUT`, with the input in hexadecimal or `-`. The
+//! calls of WORD are made one by one on a parser of that input, and the answers are written as those of `each`, without
+//! the state of the session, and an empty line after them.
+//!
 //! Eight commands make calls of the library. Requests for memory may be refused or counted there: after the input is
 //! read, only the named calls take memory (`session.rt`, `batches.rt`).
 //!
@@ -43,14 +52,18 @@ mod ask;
 mod bare;
 mod batches;
 mod commands;
+mod count;
 mod measure;
+mod rows;
 mod session;
 mod show;
 mod words;
 
 use ask::answer;
 use commands::list_session;
+use count::count;
 use measure::{measure, task_of, work_t};
+use rows::answer_rows;
 use session::{limit_or_usual, wrong_words};
 use std::io::{BufRead, BufReader, BufWriter, Read, Write};
 use std::{env, io};
@@ -76,10 +89,20 @@ fn measure_input(rt: &HostRuntime, words: &[String]) -> io::Result<()> {
     io::writer(rt).write_all(text.as_bytes())
 }
 
+fn count_input(rt: &HostRuntime, words: &[String]) -> io::Result<()> {
+    let limit = limit_or_usual(word_at(words, 2)).ok_or(wrong_words())?;
+    let mut input = Vec::new(rt.alloc());
+    rt.reader().read_to_end(&mut input)?;
+    let text = count(rt.alloc(), &input, word_at(words, 1), limit)?;
+    io::writer(rt).write_all(text.as_bytes())
+}
+
 fn main(rt: HostRuntime) -> io::Result<()> {
     let words: Vec<String> = env::args(&rt)?.skip(1).collect(rt.alloc())?;
     match words.first() {
         Some(word) if word.as_str() == "measure" => measure_input(&rt, &words),
+        Some(word) if word.as_str() == "count" => count_input(&rt, &words),
+        Some(word) if word.as_str() == "rows" => answer_rows(&rt),
         Some(_) => list_session(&rt, &words),
         None => answer_lines(&rt),
     }

@@ -126,7 +126,8 @@ pub fn put_state(out: &mut impl Write, parser: &yaml_parser_t) -> io::Result<()>
     }
 }
 
-fn call_of(letter: u8) -> yaml_call_t {
+/// The call of a letter: `s` is a scan, `p` a peek, and any other a skip.
+pub fn call_of(letter: u8) -> yaml_call_t {
     match letter {
         b's' => yaml_call_t::SCAN,
         b'p' => yaml_call_t::PEEK,
@@ -195,7 +196,7 @@ pub fn run_words(
 }
 
 /// Makes one call and writes its answer.
-fn make_call(
+pub fn make_call(
     out: &mut impl Write,
     parser: &mut yaml_parser_t,
     call: yaml_call_t,

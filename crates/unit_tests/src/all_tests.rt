@@ -21,29 +21,6 @@ fn all_tokens_and_the_fault(rt: HostRuntime) -> Result<(), Fail> {
     Ok(())
 }
 
-/// Depth and levels have no limit of their own, and no memory is wanted at some size.
-#[test]
-fn deep_texts(rt: HostRuntime) -> Result<(), Fail> {
-    for (part, count, tokens) in [
-        ("[", 100_000, 100_002),
-        ("]", 100_000, 100_002),
-        ("- ", 50_000, 150_002),
-    ] {
-        let mut input = String::new(rt.alloc());
-        for _ in 0..count {
-            input.push_str(part)?;
-        }
-        let (found, fault) = yaml_scan_all(rt.alloc(), input.as_bytes(), ANY)?;
-        assert!(rt; fault.is_none(), "{part}");
-        assert_eq!(rt; found.len(), tokens, "{part}");
-        match found.last() {
-            Some(token) => assert_eq!(rt; token.end_mark.index, 100_000, "{part}"),
-            None => return Err("no token".into()),
-        }
-    }
-    Ok(())
-}
-
 #[test]
 fn calls_and_their_answers(rt: HostRuntime) -> Result<(), Fail> {
     let mut parser = yaml_parser_t::new(rt.alloc(), b"[a]", ANY);

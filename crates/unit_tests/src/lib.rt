@@ -1,11 +1,13 @@
 //! The tests of `yaml_lexeme` and `yaml_scan`.
 //!
 //! They are a crate of their own: the gate would prove those crates, or the program `testbench`, once more if the tests
-//! were theirs.
+//! were theirs. Only the test of a field of `yaml_scan` is there.
 #![tactic(auto)]
 
 #[cfg(test)]
 mod all_tests;
+#[cfg(test)]
+mod deep_tests;
 #[cfg(test)]
 mod lexeme_tests;
 #[cfg(test)]

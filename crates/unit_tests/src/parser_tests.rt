@@ -206,6 +206,19 @@ fn keys_keep_tokens_in_the_queue(rt: HostRuntime) -> Result<(), Fail> {
     Ok(())
 }
 
+/// Of six flow sequences the first is no key any more after the fifth, with a key limit of 4: so five steps wait.
+#[test]
+fn six_openers_with_a_limit_of_four(rt: HostRuntime) -> Result<(), Fail> {
+    let any = yaml_encoding_t::YAML_ANY_ENCODING;
+    let mut parser = yaml_parser_t::with_key_limit(rt.alloc(), b"[[[[[[", any, 4);
+    let kind = called(&mut parser, b's')?;
+    assert_eq!(rt; kind, yaml_token_type_t::YAML_STREAM_START_TOKEN);
+    let kind = called(&mut parser, b'p')?;
+    assert_eq!(rt; kind, yaml_token_type_t::YAML_FLOW_SEQUENCE_START_TOKEN);
+    assert_eq!(rt; yaml_parser_queued(&parser), 5);
+    Ok(())
+}
+
 /// The fault of a refused text. That no memory is taken for it is seen by `tests/sessions.py`.
 #[test]
 fn near_the_end_of_a_refused_text(rt: HostRuntime) -> Result<(), Fail> {

@@ -27,6 +27,8 @@ mod scanner;
 mod session;
 mod settled;
 mod sink;
+#[cfg(test)]
+mod slot_tests;
 mod slots;
 mod source;
 mod step;

@@ -1,0 +1,220 @@
+//! Deep texts in every way in which tokens are taken: all of them come, and no memory is wanted at some size. Those of
+//! the worked rows are longer, and are taken by `tests/deep.py`.
+use std::alloc::{AllocError, Global};
+use std::test::Fail;
+use yaml_scan::{
+    yaml_answer_t, yaml_call_t, yaml_parser_has_token, yaml_parser_peek, yaml_parser_scan,
+    yaml_parser_skip, yaml_parser_t, yaml_run, yaml_scan_all, yaml_scan_next_to, yaml_scan_to,
+    yaml_token_sink_t,
+};
+use yaml_text::{unnamed_yaml_token_t_data, yaml_encoding_t, yaml_token_t};
+
+const ANY: yaml_encoding_t = yaml_encoding_t::YAML_ANY_ENCODING;
+
+/// How often a part is repeated. Each is a step of the scanner.
+const DEEP: usize = 45_000;
+
+/// How many tokens so many `[` or `]` are, with those of the stream.
+const TOKENS: usize = 45_002;
+
+/// A part that is repeated so often.
+fn repeated(alloc: Global, part: &str) -> Result<String, AllocError> {
+    let mut input = String::new(alloc);
+    for _ in 0..DEEP {
+        input.push_str(part)?;
+    }
+    Ok(input)
+}
+
+fn is_last(token: &yaml_token_t) -> bool {
+    matches!(token.token_data, unnamed_yaml_token_t_data::STREAM_END)
+}
+
+/// Counts the tokens that it takes, and has room for so many at once.
+#[derive(Drop)]
+struct count_t {
+    room: u128,
+    tokens: usize,
+}
+
+impl yaml_token_sink_t for count_t {
+    ghost took = { λ _ _ _. Unit {0} };
+
+    ghost may_refuse = { ⊥ };
+
+    ghost within = { λ _. Unit {0} };
+
+    fn put(&mut self, _token: yaml_token_t) -> Result<(), AllocError> {
+        self.tokens = self.tokens.wrapping_add(1);
+        Ok(())
+    }
+
+    fn room(&mut self, alloc: Global) -> Vec<u8> {
+        Vec::new(alloc)
+    }
+
+    fn has_room(&self, count: u128, _texts: u128) -> bool {
+        count <= self.room
+    }
+
+    ghost took_none = { λ _. tt };
+
+    ghost took_more = { λ _ _ _ _ _ _ _. tt };
+
+    ghost within_none = { λ _ _ _ _. tt };
+}
+
+/// How many tokens one call gives of a part that is repeated, and where the last one ends.
+fn at_once(alloc: Global, part: &str) -> Result<(usize, u64), Fail> {
+    let input = repeated(alloc, part)?;
+    let (tokens, fault) = yaml_scan_all(alloc, input.as_bytes(), ANY)?;
+    if fault.is_some() {
+        return Err("a fault".into());
+    }
+    match tokens.last() {
+        Some(token) => Ok((tokens.len(), token.end_mark.index)),
+        None => Err("no token".into()),
+    }
+}
+
+#[test]
+fn openers_at_once(rt: HostRuntime) -> Result<(), Fail> {
+    assert_eq!(rt; at_once(rt.alloc(), "[")?, (TOKENS, 45_000));
+    Ok(())
+}
+
+#[test]
+fn closers_at_once(rt: HostRuntime) -> Result<(), Fail> {
+    assert_eq!(rt; at_once(rt.alloc(), "]")?, (TOKENS, 45_000));
+    Ok(())
+}
+
+/// Each `-` begins a block, which ends at the end.
+#[test]
+fn sequences_at_once(rt: HostRuntime) -> Result<(), Fail> {
+    assert_eq!(rt; at_once(rt.alloc(), "- ")?, (135_002, 90_000));
+    Ok(())
+}
+
+#[test]
+fn scans(rt: HostRuntime) -> Result<(), Fail> {
+    let input = repeated(rt.alloc(), "[")?;
+    let mut parser = yaml_parser_t::new(rt.alloc(), input.as_bytes(), ANY);
+    for _ in 1..TOKENS {
+        match yaml_parser_scan(&mut parser) {
+            Ok(token) => assert!(rt; !is_last(&token)),
+            Err(_) => return Err("a fault".into()),
+        }
+    }
+    match yaml_parser_scan(&mut parser) {
+        Ok(token) => assert!(rt; is_last(&token)),
+        Err(_) => return Err("a fault in the place of the stream end".into()),
+    }
+    Ok(())
+}
+
+#[test]
+fn peeks_and_skips(rt: HostRuntime) -> Result<(), Fail> {
+    let input = repeated(rt.alloc(), "[")?;
+    let mut parser = yaml_parser_t::new(rt.alloc(), input.as_bytes(), ANY);
+    for _ in 1..TOKENS {
+        match yaml_parser_peek(&mut parser) {
+            Ok(token) => assert!(rt; !is_last(token)),
+            Err(_) => return Err("a fault".into()),
+        }
+        if yaml_parser_has_token(&parser) {
+            yaml_parser_skip(&mut parser);
+        }
+    }
+    match yaml_parser_peek(&mut parser) {
+        Ok(token) => assert!(rt; is_last(token)),
+        Err(_) => return Err("a fault in the place of the stream end".into()),
+    }
+    Ok(())
+}
+
+/// How many of the answers are tokens, and not the empty one.
+fn tokens_in(answers: &[yaml_answer_t]) -> usize {
+    let mut count: usize = 0;
+    for answer in answers {
+        if let yaml_answer_t::TOKEN(token) = answer {
+            if *token != yaml_token_t::empty() {
+                count = count.wrapping_add(1);
+            }
+        }
+    }
+    count
+}
+
+/// How many tokens come from so many lists of so many scans, all on one parser.
+fn listed(alloc: Global, lists: usize, scans: usize) -> Result<usize, Fail> {
+    let input = repeated(alloc, "[")?;
+    let mut parser = yaml_parser_t::new(alloc, input.as_bytes(), ANY);
+    let mut calls = Vec::new(alloc);
+    for _ in 0..scans {
+        calls.push(yaml_call_t::SCAN)?;
+    }
+    let mut count: usize = 0;
+    'lists: for _ in 0..lists {
+        let mut answers = Vec::new(alloc);
+        yaml_run(&mut parser, &calls, &mut answers)?;
+        count = count.wrapping_add(tokens_in(&answers));
+    }
+    Ok(count)
+}
+
+#[test]
+fn lists_of_scans(rt: HostRuntime) -> Result<(), Fail> {
+    assert_eq!(rt; listed(rt.alloc(), 46, 1000)?, TOKENS);
+    Ok(())
+}
+
+#[test]
+fn one_list(rt: HostRuntime) -> Result<(), Fail> {
+    assert_eq!(rt; listed(rt.alloc(), 1, 45_005)?, TOKENS);
+    Ok(())
+}
+
+#[test]
+fn one_sink(rt: HostRuntime) -> Result<(), Fail> {
+    let input = repeated(rt.alloc(), "[")?;
+    let mut count = count_t { room: 1, tokens: 0 };
+    let fault = yaml_scan_to(rt.alloc(), input.as_bytes(), ANY, 1024, &mut count)?;
+    assert!(rt; fault.is_none());
+    assert_eq!(rt; count.tokens, TOKENS);
+    Ok(())
+}
+
+/// How many tokens a sink of a room was given, and how many were returned, up to the stream end.
+fn batched(alloc: Global, room: u128) -> Result<(usize, usize), Fail> {
+    let input = repeated(alloc, "[")?;
+    let mut parser = yaml_parser_t::new(alloc, input.as_bytes(), ANY);
+    let mut count = count_t { room, tokens: 0 };
+    let mut returned: usize = 0;
+    'calls: for _ in 0..TOKENS {
+        match yaml_scan_next_to(&mut parser, &mut count) {
+            Ok(None) => {}
+            Ok(Some(token)) => {
+                returned = returned.wrapping_add(1);
+                if is_last(&token) {
+                    return Ok((count.tokens, returned));
+                }
+            }
+            Err(_) => return Err("a fault".into()),
+        }
+    }
+    Err("no stream end".into())
+}
+
+/// All but the stream end go to the sink.
+#[test]
+fn batches(rt: HostRuntime) -> Result<(), Fail> {
+    assert_eq!(rt; batched(rt.alloc(), 256)?, (45_001, 1));
+    Ok(())
+}
+
+#[test]
+fn batches_without_room(rt: HostRuntime) -> Result<(), Fail> {
+    assert_eq!(rt; batched(rt.alloc(), 0)?, (0, TOKENS));
+    Ok(())
+}
