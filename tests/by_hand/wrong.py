@@ -21,7 +21,6 @@ import collections
 import os
 import re
 import shlex
-import shutil
 import subprocess
 import sys
 import tempfile
@@ -193,7 +192,7 @@ def verdict_of(row, right, same, wrong):
 
 
 def run_all(chosen, pairs):
-    """The right answers, those of the programs of many mistakes without one, and the wrong answers, by row."""
+    """The right answers, those of the programs of many mistakes with the number 0, and the wrong answers, by row."""
     right, same, wrong = {}, {}, {}
     with ThreadPoolExecutor(max_workers=JOBS) as pool:
         every = list(builds(chosen, pairs))
@@ -202,7 +201,7 @@ def run_all(chosen, pairs):
             for (row, is_chosen_by_number), answer in found.items():
                 where = right if is_right else wrong if is_chosen_by_number or not build.bodies else same
                 where[row] = answer
-    return right, same, wrong
+    return {**same, **right}, same, wrong
 
 
 def show_all(names):
@@ -210,10 +209,11 @@ def show_all(names):
     chosen = [row for row in rows() if is_chosen(row.name, names)]
     library = [row for row in chosen if row.words[0] == "library"]
     chosen = [row for row in chosen if row.words[0] != "library"]
-    right, same, wrong = run_all(chosen, {row.name: mistakes.pairs_of(row.name) for row in chosen})
+    known = [row for row in chosen if row.words[0] in PROGRAMS + TESTS]
+    right, same, wrong = run_all(known, {row.name: mistakes.pairs_of(row.name) for row in known})
     none, seen = ([], None), collections.Counter()
     for row in chosen:
-        verdict = verdict_of(row, right.get(row, same.get(row, none)), same.get(row), wrong.get(row, none))
+        verdict = verdict_of(row, right.get(row, none), same.get(row), wrong.get(row, none))
         seen[verdict] += 1
         print(f"{row.name}: {' '.join(row.words)} < {row.text}\n  right {shown(right.get(row, none))}")
         print(f"  wrong {shown(wrong.get(row, none))}\n  {verdict}", flush=True)
@@ -250,7 +250,7 @@ def prove_twins(names):
     chosen = [(name, mistakes.twin_of(name, texts)) for name, texts in twins().items() if is_chosen(name, names)]
     count = 0
     with tempfile.TemporaryDirectory() as top:
-        room = shutil.copytree(TOP, os.path.join(top, "room"), ignore=shutil.ignore_patterns(".git"))
+        room = mistakes.copy_sources(os.path.join(top, "room"), ())
         for name, pairs in chosen:
             kept = {path: mistakes.read(os.path.join(room, path)) for path, _, _ in pairs}
             write_all(room, mistakes.edited(kept, pairs))

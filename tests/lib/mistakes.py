@@ -6,7 +6,9 @@ functions is written into a copy so that each such function has its right body a
     if has_mistake(7) { the body with edit 7 } else { the body as it is }
 
 The number comes from a few lines of C: it is the first byte of standard input, or what a test chooses. With the number 0
-the program is the right one. If the second byte is `r`, how many requests for memory were made is written at the end. All other edits, and those that are no bodies of functions, need a program of their own.
+the program is the right one. If the second byte is `r`, how many requests for memory were made is written at the end.
+
+An edit that changes more than bodies of functions needs a program of its own.
 """
 
 import os
@@ -63,12 +65,12 @@ def write(path, text):
         file.write(text)
 
 
-def copy_sources(room):
-    """Copies the sources to a folder that is not there yet, without what was built."""
+def copy_sources(room, left_out=("out", "must-fail")):
+    """Copies the sources to a folder that is not there yet, by default without what was built."""
     os.mkdir(room)
     for name in ("crates.txt", "HANDLES"):
         shutil.copy(os.path.join(TOP, name), room)
-    shutil.copytree(os.path.join(TOP, "crates"), os.path.join(room, "crates"), ignore=shutil.ignore_patterns("out", "must-fail"))
+    shutil.copytree(os.path.join(TOP, "crates"), os.path.join(room, "crates"), ignore=shutil.ignore_patterns(*left_out))
     return room
 
 
@@ -195,8 +197,8 @@ def ask_tests(room, crate, asked):
         path = os.path.join(folder, name)
         tests = {f"{name[:-len('.rt')]}::{test[1]}": test for test in TEST.finditer(read(path))}
         here = [(number, test) for number, test in sorted(asked) if test in tests]
-        made = [f"\n#[test]\nfn mistake_{number}_{tests[test][1]}{tests[test][2]}\n    {lowest}::choose_mistake({number});{tests[test][3]}"
-                for number, test in here]
+        heads = [f"\n#[test]\nfn mistake_{number}_{tests[test][1]}{tests[test][2]}\n" for number, test in here]
+        made = [f"{head}    {lowest}::choose_mistake({number});{tests[test][3]}" for head, (number, test) in zip(heads, here)]
         write(path, TEST.sub("", read(path)) + "".join(made))
         left -= set(here)
     if left:

@@ -37,14 +37,7 @@ impl yaml_token_sink_t for refuser_t {
     ghost within_none = { λ _ _ _ _. tt };
 }
 
-#[test]
-fn nothing_comes_after_a_refusal(rt: HostRuntime) -> Result<(), Fail> {
-    let mut refuser = refuser_t { given: 0 };
-    assert!(rt; yaml_scan_to(rt.alloc(), b"a: b", ANY, 1024, &mut refuser).is_err());
-    assert_eq!(rt; refuser.given, 2);
-    Ok(())
-}
-
+/// A sink that refuses a token is given nothing after it.
 #[test]
 fn nothing_comes_after_a_refused_stream_end(rt: HostRuntime) -> Result<(), Fail> {
     let mut refuser = refuser_t { given: 0 };
@@ -75,47 +68,6 @@ fn last_token_is_told(rt: HostRuntime) -> Result<(), Fail> {
             Ok((_, last)) => assert_eq!(rt; last, wanted),
             Err(_) => return Err("a fault".into()),
         }
-    }
-    Ok(())
-}
-
-/// Each call with a sink that has room gives it a token at least, until the stream end is returned.
-#[test]
-fn calls_give_tokens(rt: HostRuntime) -> Result<(), Fail> {
-    let mut parser = yaml_parser_t::new(rt.alloc(), b"[a]", ANY);
-    for _ in 0..100 {
-        let mut shelf = shelf_t {
-            room: 1000,
-            tokens: 0,
-            bytes: 0,
-        };
-        match yaml_scan_next_to(&mut parser, &mut shelf) {
-            Ok(None) => assert!(rt; shelf.tokens > 0),
-            Ok(Some(_)) => return Ok(()),
-            Err(_) => return Err("a fault".into()),
-        }
-    }
-    Err("no stream end".into())
-}
-
-/// The tokens of a flow mapping in a sequence, of which each goes to a sink alone.
-#[test]
-fn lone_groups_have_keys(rt: HostRuntime) -> Result<(), Fail> {
-    for room in [1, 2, 3, 4, 5, 1000] {
-        let mut parser = yaml_parser_t::new(rt.alloc(), b"- {a: b}", ANY);
-        let mut shelf = shelf_t {
-            room,
-            tokens: 0,
-            bytes: 0,
-        };
-        'calls: for _ in 0..100 {
-            match yaml_scan_next_to(&mut parser, &mut shelf) {
-                Ok(None) => {}
-                Ok(Some(_)) => break,
-                Err(_) => return Err("a fault".into()),
-            }
-        }
-        assert_eq!(rt; shelf.tokens, 10, "{room}");
     }
     Ok(())
 }
