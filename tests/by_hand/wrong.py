@@ -1,40 +1,47 @@
 #!/usr/bin/env python3
-"""Shows the answers of wrong programs: wrong.py [--twin] [NAME ..], a NAME as in tests/edits.txt or a beginning of one.
+"""Shows what wrong programs do: wrong.py [NAME ..], a NAME as in tests/edits.txt, a beginning of one, or a folder of edits.
 
 tests/edits.txt has a line for each edit of crates/*/must-fail and of tests/wrong, with an input that tells the wrong
-program from the right one, or the tests that do. The script makes one edit at a time in a copy of the repository,
-builds the program from the edited sources without proving it (`rt try`), and prints the right answer and the wrong
-one, or says whether the tests fail.
+program from the right one, or with a test that fails. The script builds the wrong programs from the edited sources
+without proving them (`rt try`), most of them as one program in which a number chooses the mistake (tests/lib/mistakes.py).
+It prints the right answer and the wrong one, or whether the test fails. What was not run counts as wrong.
 
-With --twin it asks whether an edit is refused for its mistake, and not for its form. A harmless twin of an edit has its
-form, and makes no mistake: other texts stand in the place of the edit's, as tests/twins.txt has them. Each is made in a
-copy that begins with what was proved in this repository, and `rt check` of the crate has to prove it. That takes some
-minutes for each, one after the other.
+With --compile it builds each harmless twin once in this way, and sees that it answers the same as the right program. A
+harmless twin of an edit has its form, and makes no mistake: other texts stand in the place of the edit's, as
+tests/twins.txt has them.
 
-RT in the environment is the command `rt`, if it is another. BUILD is a command that is given a program's name, the
-folder of the crates and a path, and puts the program there, unproved; tests that are scripts need one, since `rt try`
-keeps no program.
+With --twin it asks whether an edit is refused for its mistake, and not for its form. Each twin is made in a copy that
+begins with what was proved in this repository, and `rt check` of the crate has to prove it. That takes some minutes for
+each, one after the other.
+
+RT in the environment is the command `rt`, if it is another, and JOBS how many are run at once. Needs a C compiler.
 """
 
 import collections
 import os
 import re
 import shlex
-import shutil
 import subprocess
 import sys
 import tempfile
 from concurrent.futures import ThreadPoolExecutor
-from queue import SimpleQueue
 
-TOP = os.path.dirname(os.path.dirname(os.path.dirname(os.path.abspath(__file__))))
+sys.path.insert(0, os.path.join(os.path.dirname(os.path.dirname(os.path.abspath(__file__))), "lib"))
+sys.dont_write_bytecode = True
+import mistakes
+
+TOP = mistakes.TOP
 RT = shlex.split(os.environ.get("RT", "rt"))
-BUILD = shlex.split(os.environ.get("BUILD", ""))
+JOBS = int(os.environ.get("JOBS", "2"))
 PROGRAMS = ("yamltok", "testbench")
-WORKERS = 3
-MOST = 12
+TESTS = ("test", "call")
+REFUSE, COUNT = "--fail-alloc", "--requests"
+MOST, MOST_SAID = 12, 3
+MOST_SECONDS = 3600
 
 Row = collections.namedtuple("Row", "name words text")
+# The rows of one program, or of the tests of one crate, and the edits of some: bodies by name if a number chooses, else pairs.
+Build = collections.namedtuple("Build", "target rows bodies pairs")
 
 
 def rows():
@@ -60,136 +67,196 @@ def twins():
     return {name: texts for name, *texts in parts}
 
 
-def copy(room, left_out=("out",)):
-    """Copies the sources, by default without what was built."""
-    os.mkdir(room)
-    for name in ("crates", "crates.txt", "HANDLES", "tests"):
-        path = os.path.join(TOP, name)
-        if os.path.isdir(path):
-            shutil.copytree(path, os.path.join(room, name), ignore=shutil.ignore_patterns(*left_out))
-        else:
-            shutil.copy(path, room)
-    return room
-
-
-class Edit:
-    """An edit in a copy, or its twin of these texts, undone at the end."""
-
-    def __init__(self, room, name, texts=None):
-        crate, edit = name.split("/")
-        folder = "tests/wrong" if crate == "wrong" else f"crates/{crate}/must-fail"
-        self.pairs, self.room, self.kept = [], room, {}
-        with open(os.path.join(room, folder, edit + ".edit"), encoding="utf-8") as lines:
-            for line in lines:
-                key, _, value = line.rstrip("\n").partition(": ")
-                if key == "crate":
-                    crate = value
-                elif key == "file":
-                    path = os.path.join(room, "crates", crate, value)
-                elif key == "old":
-                    old = value
-                elif key == "new":
-                    self.pairs.append((path, old, value))
-        if texts is not None:
-            if len(texts) != len(self.pairs):
-                raise SystemExit(f"{name}: {len(self.pairs)} texts are replaced, and its twin has {len(texts)}")
-            self.pairs = [(path, old, text) for (path, old, _), text in zip(self.pairs, texts) if text != "-"]
-
-    def __enter__(self):
-        for path, old, new in self.pairs:
-            with open(path, encoding="utf-8") as file:
-                text = file.read()
-            self.kept.setdefault(path, text)
-            if text.count(old) != 1:
-                raise SystemExit(f"{path}: {old!r} stands there {text.count(old)} times")
-            with open(path, "w", encoding="utf-8") as file:
-                file.write(text.replace(old, new))
-
-    def __exit__(self, *_):
-        for path, text in self.kept.items():
-            with open(path, "w", encoding="utf-8") as file:
-                file.write(text)
-
-
 def rt(folder, *words):
     """What `rt` writes on standard output, and on standard error."""
-    done = subprocess.run([*RT, *words], cwd=folder, capture_output=True, timeout=1800)
+    done = subprocess.run([*RT, *words], cwd=folder, env={**os.environ, "RT_ALLOW_C": "1"}, capture_output=True,
+                          timeout=MOST_SECONDS)
     return done.stdout.decode("utf-8", "replace"), done.stderr.decode("utf-8", "replace")
 
 
-def answers(room, some):
-    """The answers of a copy's program to these rows, all of one program: lists of lines and the status."""
-    with tempfile.TemporaryDirectory() as cases:
-        for number, row in enumerate(some):
-            with open(os.path.join(cases, f"c{number}"), "wb") as file:
-                file.write(bytes_of(row.text))
-            with open(os.path.join(cases, f"c{number}.args"), "w", encoding="ascii") as file:
-                file.write("".join(word + "\n" for word in row.words[1:]))
-        listed, said = rt(os.path.join(room, "crates", some[0].words[0]), "try", "--cases", cases)
+def without_options(row):
+    """The words of a row's program, which request for memory is refused, if one is, and whether requests are counted."""
+    words = [word for word in row.words[1:] if word != COUNT]
+    refused = words[words.index(REFUSE) + 1] if REFUSE in words else ""
+    return words[: words.index(REFUSE)] if refused else words, refused, COUNT in row.words
+
+
+def answers(folder, cases, refused):
+    """The answers of a crate's program to these words and inputs: the lines, and the status, or None if there is none."""
+    with tempfile.TemporaryDirectory() as room:
+        for number, (words, data) in enumerate(cases):
+            with open(os.path.join(room, f"c{number}"), "wb") as file:
+                file.write(data)
+            mistakes.write(os.path.join(room, f"c{number}.args"), "".join(word + "\n" for word in words))
+        listed, said = rt(folder, "try", "--cases", room, *([REFUSE, refused] if refused else []))
     lines = dict(re.findall(r"(?ms)^== c(\d+)\n(.*?)(?=^== c|\Z)", listed))
     ends = dict(re.findall(r"(?m)^case=c(\d+) (run=\S+(?: status=\d+)?)", said))
-    none = said.splitlines()[-MOST:], "no answer"
-    return [(lines.get(str(n), "").splitlines(), ends[str(n)]) if str(n) in ends else none for n in range(len(some))]
+    none = said.splitlines()[-MOST_SAID:], None
+    return [(lines.get(str(n), "").splitlines(), ends[str(n)]) if str(n) in ends else none for n in range(len(cases))]
+
+
+def program_answers(room, build, numbers):
+    """The answers to each row with the number of its edit, and with 0."""
+    found = {}
+    for refused in sorted({without_options(row)[1] for row in build.rows}):
+        some = [row for row in build.rows if without_options(row)[1] == refused]
+        asked = [(row, number) for row in some for number in sorted({0, numbers.get(row.name, 0)})]
+        cases = []
+        for row, number in asked:
+            words, _, is_counted = without_options(row)
+            cases.append((words, mistakes.front(number, is_counted) + bytes_of(row.text)))
+        found.update(zip(asked, answers(os.path.join(room, "crates", build.target), cases, refused)))
+    return found
+
+
+def test_answers(room, build, numbers):
+    """Whether the test of each row passes, with the number of its edit, and with 0."""
+    asked = {(row, number) for row in build.rows for number in (0, numbers.get(row.name, 0))}
+    tests = sorted({(number, row.words[2]) for row, number in asked})
+    for module in sorted({row.words[2].split("::")[0] for row in build.rows if row.words[0] == "call"}):
+        mistakes.add_calls(room, build.target, module)
+    mistakes.ask_tests(room, build.target, tests)
+    said = "\n".join(rt(os.path.join(room, "crates", build.target), "try", "--test"))
+    found = {(int(n), name): end for n, name, end in re.findall(r"(?m)^test \w+::mistake_(\d+)_(\w+) \.\.\. (\w+)", said)}
+    ends = {(row, number): found.get((number, row.words[2].split("::")[1])) for row, number in asked}
+    return {key: ([] if end else said.splitlines()[-MOST_SAID:], end) for key, end in ends.items()}
+
+
+def run(build):
+    """What the program or the tests of a build answer, by row and number."""
+    with tempfile.TemporaryDirectory() as top:
+        room = mistakes.copy_sources(os.path.join(top, "room"))
+        texts = mistakes.sources(room)
+        numbers = {name: number for number, name in enumerate(build.bodies, 1)}
+        edits = {numbers[name]: bodies for name, bodies in build.bodies.items()}
+        made = mistakes.files_with_choices(texts, edits) if edits else mistakes.edited(texts, build.pairs)
+        for path, text in made.items():
+            mistakes.write(os.path.join(room, path), text)
+        mistakes.add_number(room)
+        is_test = build.rows[0].words[0] in TESTS
+        found = (test_answers if is_test else program_answers)(room, build, numbers)
+    answered = sum(end is not None for _, end in found.values())
+    what = f"{len(build.bodies)} edits" if build.bodies else "one edit" if build.pairs else "no edit"
+    print(f"{build.target} with {what}: {answered} of {len(found)} answers", file=sys.stderr, flush=True)
+    return {(row, number > 0): answer for (row, number), answer in found.items()}
+
+
+def run_or_part(build):
+    """Runs a build. If its program of many mistakes is none, the half of them that stops it is looked for."""
+    found = run(build)
+    names = list(build.bodies)
+    if len(names) < 2 or any(end for _, end in found.values()):
+        return found
+    halves = {}
+    for part in names[: len(names) // 2], names[len(names) // 2 :]:
+        bodies = {name: build.bodies[name] for name in part}
+        halves.update(run_or_part(build._replace(rows=[row for row in build.rows if row.name in bodies], bodies=bodies)))
+    return halves
+
+
+def kind_of(row):
+    return (row.words[1], True) if row.words[0] in TESTS else (row.words[0], False)
+
+
+def builds(chosen, pairs):
+    """The builds that answer these rows: the right programs, those of many mistakes, and those of one."""
+    texts = {path: mistakes.read(os.path.join(TOP, path)) for every in pairs.values() for path, _, _ in every}
+    bodies = {name: mistakes.bodies_of(texts, every) for name, every in pairs.items()}
+    for target, is_test in sorted({kind_of(row) for row in chosen}):
+        some = [row for row in chosen if kind_of(row) == (target, is_test)]
+        names = [name for name in dict.fromkeys(row.name for row in some) if bodies[name]]
+        if not is_test or not all(bodies[row.name] for row in some):
+            yield Build(target, some, {}, [])
+        for at in range(0, len(names), mistakes.MOST_NUMBERS):
+            part = {name: bodies[name] for name in names[at : at + mistakes.MOST_NUMBERS]}
+            yield Build(target, [row for row in some if row.name in part], part, [])
+        for name in dict.fromkeys(row.name for row in some if not bodies[row.name]):
+            yield Build(target, [row for row in some if row.name == name], {}, pairs[name])
 
 
 def shown(answer):
     lines, status = answer
     more = [f"({len(lines) - MOST} more lines)"] if len(lines) > MOST else []
-    return " / ".join(line[:200] for line in lines[:MOST] + more) + f"   [{status}]"
+    return " / ".join(line[:200] for line in lines[:MOST] + more) + f"   [{status or 'no answer'}]"
 
 
-def compare(room, some, right):
-    """Shows the answers of one edit, and says whether a right and a wrong one differ."""
-    with Edit(room, some[0].name):
-        wrong = answers(room, some)
-    says = []
-    for row, answer in zip(some, wrong):
-        differ = "differ" if answer != right[row] and answer[1] != "no answer" else "DO NOT DIFFER"
-        asked = f"{row.name}: {' '.join(row.words)} < {row.text}"
-        says.append(f"{asked}\n  right {shown(right[row])}\n  wrong {shown(answer)}\n  {differ}")
-    return "\n".join(says), all("DO NOT" not in text for text in says)
+def verdict_of(row, right, same, wrong):
+    """What is seen of a wrong program. `same` is the right answer of a program of many mistakes, if it is one."""
+    if not right[1] or not wrong[1] or same and not same[1]:
+        return "NOT RUN"
+    if same and same != right or row.words[0] in TESTS and right[1] != "ok":
+        return "THE RIGHT PROGRAM IS WRONG"
+    if wrong == right:
+        return "DO NOT DIFFER"
+    return "fails" if row.words[0] in TESTS else "differ"
 
 
-def fails(room, row):
-    """Makes the edit and runs a test or a script; whether it fails."""
-    kind, *words = row.words
-    with Edit(room, row.name):
-        if kind == "test":
-            crate, test = words
-            said = "".join(rt(os.path.join(room, "crates", crate), "try", "--test"))
-            results = re.findall(rf"(?m)^test {re.escape(test)} \.\.\. (\w+)", said)
-            return bool(results) and results[0] != "ok", results or said.splitlines()[-3:]
-        if not BUILD:
-            return None, "not run, since BUILD is not set"
-        for program in PROGRAMS:
-            path = os.path.join(room, "crates", program, "out")
-            os.makedirs(path, exist_ok=True)
-            built = [*BUILD, program, os.path.join(room, "crates"), os.path.join(path, program)]
-            done = subprocess.run(built, capture_output=True, timeout=900)
-            if done.returncode:
-                return None, done.stdout.decode("utf-8", "replace").splitlines()[-3:]
-        program = os.path.join(room, "crates", "yamltok", "out", "yamltok")
-        script = [sys.executable, os.path.join(room, "tests", words[0]), program]
-        done = subprocess.run(script, capture_output=True, timeout=900)
-        return done.returncode != 0, done.stdout.decode("utf-8", "replace").splitlines()[-2:]
+def run_all(chosen, pairs):
+    """The right answers, those of the programs of many mistakes with the number 0, and the wrong answers, by row."""
+    right, same, wrong = {}, {}, {}
+    with ThreadPoolExecutor(max_workers=JOBS) as pool:
+        every = list(builds(chosen, pairs))
+        for build, found in zip(every, pool.map(run_or_part, every)):
+            is_right = not build.bodies and not build.pairs
+            for (row, is_chosen_by_number), answer in found.items():
+                where = right if is_right else wrong if is_chosen_by_number or not build.bodies else same
+                where[row] = answer
+    return {**same, **right}, same, wrong
 
 
-def caught(room, row):
-    failed, what = fails(room, row)
-    verdict = {True: "fails", False: "PASSES", None: "NOT RUN"}[failed]
-    return f"{row.name}: {' '.join(row.words)}: {verdict}\n  {what}", failed is not False
+def show_all(names):
+    """Shows what each wrong program does; whether each is told from the right one."""
+    chosen = [row for row in rows() if is_chosen(row.name, names)]
+    library = [row for row in chosen if row.words[0] == "library"]
+    chosen = [row for row in chosen if row.words[0] != "library"]
+    known = [row for row in chosen if row.words[0] in PROGRAMS + TESTS]
+    right, same, wrong = run_all(known, {row.name: mistakes.pairs_of(row.name) for row in known})
+    none, seen = ([], None), collections.Counter()
+    for row in chosen:
+        verdict = verdict_of(row, right.get(row, none), same.get(row), wrong.get(row, none))
+        seen[verdict] += 1
+        print(f"{row.name}: {' '.join(row.words)} < {row.text}\n  right {shown(right.get(row, none))}")
+        print(f"  wrong {shown(wrong.get(row, none))}\n  {verdict}", flush=True)
+    for row in library:
+        print(f"{row.name}: shows in a call of the library: {row.text}")
+    told = seen["differ"] + seen["fails"]
+    print(f"wrong: {len(chosen)} rows run, {len(chosen) - told} not told apart, {len(library)} in the library ({dict(seen)})")
+    return 1 if told < len(chosen) or not chosen + library else 0
+
+
+def compile_twins(names):
+    """Builds the twins of these edits; whether each answers the rows of its edit as the right program does."""
+    some = {name: mistakes.twin_of(name, texts) for name, texts in twins().items() if is_chosen(name, names)}
+    chosen = [with_program(row) for row in rows() if row.name in some]
+    right, same, made = run_all(chosen, some)
+    none, count = ([], None), 0
+    for row in chosen:
+        answers_same = right.get(row, none)[1] and right.get(row) == made.get(row) == same.get(row, made.get(row))
+        count += bool(answers_same)
+        print(f"{row.name}: {' '.join(row.words)}: its twin {'answers the same' if answers_same else 'IS WRONG'}")
+        if not answers_same:
+            print(f"  right {shown(right.get(row, none))}\n  twin {shown(made.get(row, none))}")
+    print(f"wrong: {len(some)} twins built for {len(chosen)} rows, {len(chosen) - count} wrong")
+    return 1 if count < len(chosen) or not chosen else 0
+
+
+def with_program(row):
+    """A row that builds something: a program, if the row says nothing that could be run."""
+    return row._replace(words=("yamltok", "scan", "any")) if row.words[0] == "library" else row
 
 
 def prove_twins(names):
     """Proves the twins of these edits; whether each is proved."""
-    chosen = [(name, texts) for name, texts in twins().items() if not names or any(map(name.startswith, names))]
+    chosen = [(name, mistakes.twin_of(name, texts)) for name, texts in twins().items() if is_chosen(name, names)]
     count = 0
     with tempfile.TemporaryDirectory() as top:
-        room = copy(os.path.join(top, "0"), ())
-        for name, texts in chosen:
+        room = mistakes.copy_sources(os.path.join(top, "room"), ())
+        for name, pairs in chosen:
+            kept = {path: mistakes.read(os.path.join(room, path)) for path, _, _ in pairs}
+            write_all(room, mistakes.edited(kept, pairs))
             folder = os.path.join(room, "crates", name.split("/")[0])
-            with Edit(room, name, texts):
-                done = subprocess.run([*RT, "check", "--jobs", "1"], cwd=folder, capture_output=True, timeout=1800)
+            done = subprocess.run([*RT, "check", "--jobs", "1"], cwd=folder, capture_output=True, timeout=MOST_SECONDS)
+            write_all(room, kept)
             said = (done.stdout + done.stderr).decode("utf-8", "replace")
             why = re.findall(r"(?m)^.*(?:: error|not proved|no proof).*$", said)[:MOST] if done.returncode else []
             count += not done.returncode
@@ -198,41 +265,24 @@ def prove_twins(names):
     return 1 if count < len(chosen) or not chosen else 0
 
 
-def main(names):
-    if names[:1] == ["--twin"]:
-        return prove_twins(names[1:])
-    chosen = [row for row in rows() if not names or any(row.name.startswith(name) for name in names)]
-    by_edit = collections.defaultdict(list)
-    for row in chosen:
-        if row.words[0] in PROGRAMS:
-            by_edit[row.name, row.words[0]].append(row)
-    tests = [row for row in chosen if row.words[0] in ("test", "script")]
-    library = [row for row in chosen if row.words[0] == "library"]
-    with tempfile.TemporaryDirectory() as top, ThreadPoolExecutor(max_workers=WORKERS) as pool:
-        rooms, right = SimpleQueue(), {}
-        for number in range(WORKERS):
-            rooms.put(copy(os.path.join(top, str(number))))
+def write_all(room, texts):
+    for path, text in texts.items():
+        mistakes.write(os.path.join(room, path), text)
 
-        def in_room(work, *words):
-            room = rooms.get()
-            try:
-                text, is_right = work(room, *words)
-            finally:
-                rooms.put(room)
-            print(text, flush=True)
-            return is_right
 
-        room = rooms.get()
-        for program in PROGRAMS:
-            some = [row for row in chosen if row.words[0] == program]
-            right.update(zip(some, answers(room, some) if some else []))
-        rooms.put(room)
-        results = list(pool.map(lambda some: in_room(compare, some, right), by_edit.values()))
-        results += list(pool.map(lambda row: in_room(caught, row), tests))
-    for row in library:
-        print(f"{row.name}: shows in a call of the library: {row.text}")
-    print(f"wrong: {len(results)} edits tried, {results.count(False)} not told apart, {len(library)} in the library")
-    return 1 if False in results or not results + library else 0
+def is_chosen(name, names):
+    """Whether a name or a folder of edits is given that an edit's name begins with; all are, if none is given."""
+    plain = [text.removeprefix("./").removeprefix("crates/").removeprefix("tests/") for text in names]
+    plain = [text.removesuffix(".edit").replace("/must-fail", "").rstrip("/") for text in plain]
+    return not names or any(name == text or name.startswith(text) for text in plain)
+
+
+def main(words):
+    if words[:1] == ["--twin"]:
+        return prove_twins(words[1:])
+    if words[:1] == ["--compile"]:
+        return compile_twins(words[1:])
+    return show_all(words)
 
 
 if __name__ == "__main__":
