@@ -108,9 +108,9 @@ def rust_layout(room):
     for name, record in MADE.items():
         lines.append(f'println!("{name} {{}}", std::mem::size_of::<scanner::{names[name]}>());')
         for field, _ in record._fields_:
-            at = f"std::mem::offset_of!(scanner::{names[name]}, {field})"
-            size = f"std::mem::size_of_val(&scanner::{names[name]}::default().{field})"
-            lines.append(f'println!("{name}.{field} {{}} {{}}", {at}, {size});')
+            made = f"scanner::{names[name]}::default()"
+            at = f"{{ let made = {made}; &made.{field} as *const _ as usize - &made as *const _ as usize }}"
+            lines.append(f'println!("{name}.{field} {{}} {{}}", {at}, std::mem::size_of_val(&{made}.{field}));')
     path = os.path.join(room, "layout_rs")
     with open(path + ".rs", "w", encoding="ascii") as text:
         module = os.path.join(FFI, "scanner.rs")
@@ -120,12 +120,12 @@ def rust_layout(room):
 
 
 def has_rust():
-    """Whether there is a Rust compiler of at least 1.82. scanner.rs and list.rs need only 1.63, other parts of the tests more."""
+    """Whether there is a Rust compiler of at least 1.63."""
     if shutil.which("rustc") is None:
         return False
     told = subprocess.run(["rustc", "--version"], capture_output=True, text=True).stdout
     found = re.match(r"rustc (\d+)\.(\d+)", told)
-    return bool(found) and (int(found[1]), int(found[2])) >= (1, 82)
+    return bool(found) and (int(found[1]), int(found[2])) >= (1, 63)
 
 
 def build_c(room):
@@ -436,7 +436,7 @@ def main():
     every = list(vectors())
     rust = has_rust()
     if not rust:
-        print("ffi: Rust skipped: no rustc of 1.82 or later")
+        print("ffi: Rust skipped: no rustc of 1.63 or later")
     with tempfile.TemporaryDirectory() as room:
         programs = [build_c(room)]
         if shutil.which("c++"):
