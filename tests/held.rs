@@ -1,7 +1,7 @@
 //! held < INPUTS: checks the iterator, the batches and the peeks of scanner.rs against each other, for tests/ffi.py, which
 //! checks the batches by ffi/list.rs, and which texts the iterator borrows from the input. The inputs are packed as held.c
 //! says. It stops at the first thing that is wrong, and then the exit status is not 0.
-#[path = "../ffi/scanner.rs"]
+#[path = "../rust/src/scanner.rs"]
 mod scanner;
 
 use scanner::{Data, Encoding, Fault, Scanner, Settings, Style, Text, Token, WrongKeyLimit};

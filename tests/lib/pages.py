@@ -90,7 +90,7 @@ def lines_of(path):
 def try_rust_example(room, number, example):
     path = os.path.join(room, f"page_rust_{number}")
     with open(path + ".rs", "w", encoding="utf-8") as text:
-        text.write(AROUND_RUST.replace("MODULE", os.path.join(FFI, "scanner.rs")).replace("EXAMPLE", example))
+        text.write(AROUND_RUST.replace("MODULE", os.path.join(os.path.dirname(FFI), "rust", "src", "scanner.rs")).replace("EXAMPLE", example))
     build_rust(path + ".rs", path)
     return [re.match(r"\w+", line)[0] for line in lines_of(path)] == RUST_WANTED
 

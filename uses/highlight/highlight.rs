@@ -2,7 +2,7 @@
 //! standard input. The exit status is 0, 1 when a file has a fault, 2 when a file can not be read or the output not be written.
 mod page;
 mod pieces;
-#[path = "../../ffi/scanner.rs"]
+#[path = "../../rust/src/scanner.rs"]
 mod scanner;
 mod terminal;
 mod text;
