@@ -1,19 +1,25 @@
 /* The scanner for C and C++: the tokens of a YAML 1.1 input as plain records, in room that the caller gives.
  *
+ *     static struct bogzhami_token tokens[256]; // static, since the rooms have to be written before the call
+ *     static uint8_t texts[65536];
  *     struct bogzhami_handle handle = BOGZHAMI_CLOSED;
- *     struct bogzhami_token tokens[256];
- *     uint8_t texts[65536];
- *     struct bogzhami_answer answer;
+ *     struct bogzhami_answer answer = {0};
  *     uint32_t status = bogzhami_open(&handle, input, input_len, BOGZHAMI_ANY_ENCODING, 1024);
  *     while (status == BOGZHAMI_DONE) {
  *         status = bogzhami_next(&handle, input, input_len, tokens, 256, texts, sizeof texts, &answer);
- *         use(tokens, answer.token_count, texts);
+ *         for (uint64_t i = 0; i < answer.token_count; i++)
+ *             use(&tokens[i], texts);
  *     }
  *     bogzhami_close(&handle);
+ *     if (status == BOGZHAMI_FAULT)
+ *         tell(&answer, texts);
+ *     else if (status != BOGZHAMI_OVER)
+ *         fprintf(stderr, "not all tokens were given: %s\n", bogzhami_status_text(status));
  *
- * The loop ends with BOGZHAMI_OVER after the stream end, with BOGZHAMI_FAULT at a fault, which is then in the answer, or with
- * BOGZHAMI_NO_ROOM at a text that is longer than the room. ffi/list.c is a whole program. A caller that wants all tokens at
- * once calls bogzhami_scan_all. ffi/build makes the library and says what to link. */
+ * The loop ends with BOGZHAMI_OVER after the stream end; with BOGZHAMI_FAULT at a fault, which is then in the answer; or with
+ * BOGZHAMI_NO_ROOM at a text that is longer than the room for texts. Then tokens are left, and a caller says so, or makes more
+ * room, as ffi/README.md shows. ffi/list.c is a whole program. A caller that wants all tokens at once calls
+ * bogzhami_scan_all. ffi/build makes the library and says what to link. */
 #ifndef BOGZHAMI_H
 #define BOGZHAMI_H
 
@@ -212,8 +218,18 @@ uint32_t bogzhami_scan_all(const uint8_t *input, size_t input_len, uint32_t enco
                            struct bogzhami_token *tokens, size_t tokens_len, uint8_t *texts, size_t texts_len,
                            struct bogzhami_answer *answer);
 
-/* The version of the library, as BOGZHAMI_VERSION has it. The text ends with a 0, stays where it is, and is not freed. */
+/* The version of the library, as BOGZHAMI_VERSION has it. This text, and those of the calls below, ends with a 0, stays where
+ * it is, and is not freed. */
 const char *bogzhami_version(void);
+
+/* Names for numbers, as yamltok writes them. A number that has none is "unknown". */
+const char *bogzhami_token_name(uint32_t token_type);  /* of bogzhami_token_type: "STREAM-START", "SCALAR" */
+const char *bogzhami_style_name(uint32_t style);       /* of bogzhami_scalar_style: "plain", "single", "double", "literal", "folded" */
+const char *bogzhami_encoding_name(uint32_t encoding); /* of bogzhami_encoding: "UTF8", "UTF16LE", "UTF16BE" */
+const char *bogzhami_error_name(uint32_t error);       /* of bogzhami_error: "memory", "reader", "scanner" */
+
+/* What a status, a number of bogzhami_status, means in English, for a message: "out of memory". */
+const char *bogzhami_status_text(uint32_t status);
 
 #ifdef __cplusplus
 }

@@ -1,20 +1,15 @@
 /* list [ENC [LIMIT]] < FILE: lists the tokens of a file, one a line, as `./run scan ENC LIMIT` does.
- * An example of bogzhami.h. The exit status is 0, 1 if there is a fault, 2 for wrong words, 3 if memory is refused. */
+ * An example of bogzhami.h. The exit status is 0; 1 if there is a fault; 2 for wrong words; 3 if reading, writing or a request for
+ * memory fails. */
 #include "bogzhami.h"
 
+#include <errno.h>
 #include <inttypes.h>
 #include <stdio.h>
 #include <stdlib.h>
 #include <string.h>
 
-static const char *const types[] = {"NO-TOKEN", "STREAM-START", "STREAM-END", "VERSION-DIRECTIVE", "TAG-DIRECTIVE",
-                                    "DOCUMENT-START", "DOCUMENT-END", "BLOCK-SEQUENCE-START", "BLOCK-MAPPING-START",
-                                    "BLOCK-END", "FLOW-SEQUENCE-START", "FLOW-SEQUENCE-END", "FLOW-MAPPING-START",
-                                    "FLOW-MAPPING-END", "BLOCK-ENTRY", "FLOW-ENTRY", "KEY", "VALUE", "ALIAS", "ANCHOR",
-                                    "TAG", "SCALAR"};
-static const char *const encodings[] = {"ANY", "UTF8", "UTF16LE", "UTF16BE"};
 static const char *const settings[] = {"any", "utf8", "utf16le", "utf16be"};
-static const char *const styles[] = {"any", "plain", "single", "double", "literal", "folded"};
 
 enum { BATCH = 256, FIRST_TEXTS = 4096 };
 
@@ -26,16 +21,22 @@ struct rooms {
     struct bogzhami_answer answer;
 };
 
-/* Reads standard input to its end; NULL if memory is refused. */
+/* Says that something failed, and why; returns the exit status for that. */
+static int fail(const char *what, const char *why) {
+    fprintf(stderr, "list: %s%s\n", what, why);
+    return 3;
+}
+
+/* Reads standard input to its end. NULL if memory is refused, or if reading fails, which ferror then says. */
 static uint8_t *read_all(size_t *len) {
     size_t room = 1 << 12;
     uint8_t *bytes = malloc(room);
     *len = 0;
     while (bytes) {
         *len += fread(bytes + *len, 1, room - *len, stdin);
-        if (*len < room)
+        if (*len < room && !ferror(stdin))
             return bytes;
-        uint8_t *more = realloc(bytes, room *= 2);
+        uint8_t *more = *len < room ? NULL : realloc(bytes, room *= 2);
         if (!more)
             free(bytes);
         bytes = more;
@@ -75,12 +76,12 @@ static void list_text(const uint8_t *text, uint64_t len) {
 
 static void list_token(const struct bogzhami_token *t, const uint8_t *texts) {
     const uint8_t *first = texts + t->text_at, *second = first + t->first_len;
-    printf("%s", types[t->token_type]);
+    printf("%s", bogzhami_token_name(t->token_type));
     list_mark(t->start_mark);
     list_mark(t->end_mark);
     switch (t->token_type) {
     case BOGZHAMI_STREAM_START_TOKEN:
-        printf(" %s", encodings[t->detail]);
+        printf(" %s", bogzhami_encoding_name(t->detail));
         break;
     case BOGZHAMI_VERSION_DIRECTIVE_TOKEN:
         printf(" %" PRId32 " %" PRId32, t->major, t->minor);
@@ -95,7 +96,7 @@ static void list_token(const struct bogzhami_token *t, const uint8_t *texts) {
         list_text(first, t->first_len);
         break;
     case BOGZHAMI_SCALAR_TOKEN:
-        printf(" %s", styles[t->detail]);
+        printf(" %s", bogzhami_style_name(t->detail));
         list_text(first, t->first_len);
         break;
     }
@@ -138,6 +139,7 @@ static uint32_t list_tokens(struct bogzhami_handle *handle, const uint8_t *input
     return status;
 }
 
+/* Lists an input, and returns the exit status. */
 static int list(const uint8_t *input, size_t len, uint32_t setting, uint32_t limit) {
     static struct rooms rooms;
     struct bogzhami_handle handle = BOGZHAMI_CLOSED;
@@ -146,16 +148,40 @@ static int list(const uint8_t *input, size_t len, uint32_t setting, uint32_t lim
         status = list_tokens(&handle, input, len, &rooms);
     bogzhami_close(&handle);
     free(rooms.texts);
-    return status == BOGZHAMI_OVER ? 0 : (int)status;
+    if (fflush(stdout) || ferror(stdout))
+        return fail("standard output: ", strerror(errno));
+    if (status != BOGZHAMI_OVER && status != BOGZHAMI_FAULT)
+        return fail("", bogzhami_status_text(status));
+    return status == BOGZHAMI_FAULT;
+}
+
+/* Finds the number of an encoding's word; false if it is none. */
+static bool find_setting(const char *word, uint32_t *setting) {
+    for (*setting = 0; *setting < 4; ++*setting)
+        if (!strcmp(word, settings[*setting]))
+            return true;
+    return false;
+}
+
+/* Reads a key limit; false if it is none. */
+static bool read_limit(const char *word, uint32_t *limit) {
+    char *end;
+    unsigned long number = strtoul(word, &end, 10);
+    *limit = (uint32_t)number;
+    return *word >= '0' && *word <= '9' && !*end && number >= 1 && number <= 65536;
 }
 
 int main(int argc, char **argv) {
-    uint32_t setting = 0;
-    while (argc > 1 && setting < 4 && strcmp(argv[1], settings[setting]))
-        setting++;
+    uint32_t setting = BOGZHAMI_ANY_ENCODING, limit = 1024;
+    if (argc > 3 || (argc > 1 && !find_setting(argv[1], &setting)) || (argc > 2 && !read_limit(argv[2], &limit))) {
+        fprintf(stderr, "usage: list [any|utf8|utf16le|utf16be [LIMIT]] < FILE    (LIMIT is 1 to 65536)\n");
+        return 2;
+    }
     size_t len;
     uint8_t *input = read_all(&len);
-    int status = input ? list(input, len, setting, argc > 2 ? (uint32_t)strtoul(argv[2], NULL, 10) : 1024) : 3;
+    if (!input)
+        return ferror(stdin) ? fail("standard input: ", strerror(errno)) : fail("", "out of memory");
+    int status = list(input, len, setting, limit);
     free(input);
     return status;
 }

@@ -1,28 +1,26 @@
 // list [ENC [LIMIT]] < FILE: lists the tokens of a file, one a line, as `./run scan ENC LIMIT` does.
-// An example of bogzhami.h in C++17. The exit status is 0, 1 if there is a fault, 2 for wrong words, 3 if memory is refused.
+// An example of bogzhami.h in C++17. The exit status is 0; 1 if there is a fault; 2 for wrong words; 3 if reading, writing or a
+// request for memory fails.
 #include "bogzhami.h"
 
 #include <algorithm>
 #include <array>
+#include <cerrno>
+#include <charconv>
 #include <cstdint>
-#include <cstdlib>
+#include <cstdio>
 #include <iostream>
 #include <iterator>
 #include <new>
 #include <stdexcept>
 #include <string>
 #include <string_view>
+#include <system_error>
 #include <vector>
 
 namespace {
 
-constexpr std::array<const char *, 22> types{
-    "NO-TOKEN", "STREAM-START", "STREAM-END", "VERSION-DIRECTIVE", "TAG-DIRECTIVE", "DOCUMENT-START", "DOCUMENT-END",
-    "BLOCK-SEQUENCE-START", "BLOCK-MAPPING-START", "BLOCK-END", "FLOW-SEQUENCE-START", "FLOW-SEQUENCE-END",
-    "FLOW-MAPPING-START", "FLOW-MAPPING-END", "BLOCK-ENTRY", "FLOW-ENTRY", "KEY", "VALUE", "ALIAS", "ANCHOR", "TAG", "SCALAR"};
-constexpr std::array<const char *, 4> encodings{"ANY", "UTF8", "UTF16LE", "UTF16BE"};
 constexpr std::array<std::string_view, 4> settings{"any", "utf8", "utf16le", "utf16be"};
-constexpr std::array<const char *, 6> styles{"any", "plain", "single", "double", "literal", "folded"};
 
 // A scanner of an input, which has to outlive it. It is closed when it goes out of scope, and is not copied.
 class Scanner {
@@ -81,10 +79,10 @@ std::string hex(std::string_view text) {
 void list_token(const Scanner &scanner, const bogzhami_token &token) {
     std::string_view first = scanner.text(token.text_at, token.first_len);
     std::string_view second = scanner.text(token.text_at + token.first_len, token.second_len);
-    std::cout << types[token.token_type] << token.start_mark << token.end_mark;
+    std::cout << bogzhami_token_name(token.token_type) << token.start_mark << token.end_mark;
     switch (token.token_type) {
     case BOGZHAMI_STREAM_START_TOKEN:
-        std::cout << ' ' << encodings[token.detail];
+        std::cout << ' ' << bogzhami_encoding_name(token.detail);
         break;
     case BOGZHAMI_VERSION_DIRECTIVE_TOKEN:
         std::cout << ' ' << token.major << ' ' << token.minor;
@@ -98,7 +96,7 @@ void list_token(const Scanner &scanner, const bogzhami_token &token) {
         std::cout << hex(first);
         break;
     case BOGZHAMI_SCALAR_TOKEN:
-        std::cout << ' ' << styles[token.detail] << hex(first);
+        std::cout << ' ' << bogzhami_style_name(token.detail) << hex(first);
         break;
     }
     std::cout << '\n';
@@ -135,15 +133,55 @@ bool list(std::string_view input, std::uint32_t encoding, std::uint32_t key_limi
     }
 }
 
+// The words of the command, which are wrong if this throws.
+struct Words {
+    std::uint32_t encoding = BOGZHAMI_ANY_ENCODING;
+    std::uint32_t key_limit = 1024;
+
+    Words(int argc, char **argv) {
+        if (argc > 1)
+            encoding = static_cast<std::uint32_t>(std::find(settings.begin(), settings.end(), argv[1]) - settings.begin());
+        if (argc > 2)
+            key_limit = limit_of(argv[2]);
+        if (argc > 3 || encoding == settings.size())
+            throw std::invalid_argument{"words"};
+    }
+
+    static std::uint32_t limit_of(std::string_view word) {
+        std::uint32_t limit = 0;
+        auto [end, error] = std::from_chars(word.data(), word.data() + word.size(), limit);
+        if (error != std::errc{} || end != word.data() + word.size())
+            throw std::invalid_argument{"key limit"};
+        return limit;
+    }
+};
+
+std::string read_all() {
+    std::string input{std::istreambuf_iterator<char>{std::cin}, {}};
+    if (std::ferror(stdin))
+        throw std::system_error{errno, std::generic_category(), "standard input"};
+    return input;
+}
+
+void flush() {
+    if (!std::cout.flush())
+        throw std::system_error{errno, std::generic_category(), "standard output"};
+}
+
 } // namespace
 
 int main(int argc, char **argv) try {
-    std::string input{std::istreambuf_iterator<char>{std::cin}, {}};
-    auto encoding = argc > 1 ? std::find(settings.begin(), settings.end(), argv[1]) - settings.begin() : 0;
-    auto key_limit = argc > 2 ? std::strtoul(argv[2], nullptr, 10) : 1024;
-    return list(input, static_cast<std::uint32_t>(encoding), static_cast<std::uint32_t>(key_limit));
+    Words words{argc, argv};
+    bool has_fault = list(read_all(), words.encoding, words.key_limit);
+    flush();
+    return has_fault;
 } catch (const std::invalid_argument &) {
+    std::cerr << "usage: list [any|utf8|utf16le|utf16be [LIMIT]] < FILE    (LIMIT is 1 to 65536)\n";
     return 2;
+} catch (const std::system_error &error) {
+    std::cerr << "list: " << error.what() << '\n';
+    return 3;
 } catch (const std::bad_alloc &) {
+    std::cerr << "list: out of memory\n";
     return 3;
 }

@@ -1,6 +1,8 @@
 //! list [ENC [LIMIT]] < FILE: lists the tokens of a file, one a line, as `./run scan ENC LIMIT` does.
-//! An example of scanner.rs. The exit status is 0, 1 if there is a fault, 2 for wrong words.
+//! An example of rust/src/scanner.rs as a module. The exit status is 0, 1 if there is a fault, 2 for wrong words.
+#[path = "../rust/examples/list/listing.rs"]
 mod listing;
+#[path = "../rust/src/scanner.rs"]
 mod scanner;
 
 use scanner::Scanner;

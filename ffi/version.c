@@ -1,4 +1,4 @@
-/* The one call of bogzhami.h that is not proved: ffi/build compiles it into both libraries. */
+/* The version of the library, which is not proved: ffi/build compiles it into both libraries. */
 #include "bogzhami.h"
 
 const char *bogzhami_version(void) {

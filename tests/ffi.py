@@ -5,9 +5,10 @@ All inputs of vectors/scan.txt.gz are scanned at once through the shared library
 needed and with about half of it; the tokens and the fault are the expected ones, each record says where the input has the
 token's text, and nothing else in a room has changed. Wrong settings and limits touch nothing but the answer. The records have
 the same sizes and places in C, in Rust and in the crate, and the header's numbers are the crate's. The examples list.c, list.cc
-and list.rs list what is expected, and list.c frees all that it took. The examples in ffi/README.md are compiled as they stand
-there, and give the expected tokens. The library exports the names of the header, with the version that VERSION has. Each
-request for memory of list.c is refused in turn.
+and list.rs list what is expected, and list.c frees all that it took; list.c and list.cc say what is wrong with their words, their
+input and their output. The examples in ffi/README.md, the header and the manual page are compiled as they stand there, and give
+the expected tokens, also of a text of 50 MB (lib/pages.py). The library exports the names of the header, with the version that
+VERSION has, and names their numbers. Each request for memory of list.c is refused in turn.
 
 A scanner that is held gives what the scan at once gives, whatever the batches, rooms, peeks, turns, threads and refused
 requests are (held.c). It gives all tokens of deep texts, and takes less than a megabyte besides a long input. How far it has
@@ -29,6 +30,7 @@ HERE = os.path.dirname(os.path.abspath(__file__))
 CRATE = os.path.join(os.path.dirname(HERE), "crates", "yaml_c", "src")
 sys.path.insert(0, os.path.join(HERE, "lib"))
 sys.dont_write_bytecode = True
+from calls import try_name_calls, try_wrong_uses
 from held import FFI, SETTINGS, VALGRIND, Handle, build_held, build_rust, try_counts, try_long, try_reach, try_rust, try_tests
 from held import try_valgrind
 from library import VERSION, build_library
@@ -109,24 +111,24 @@ def rust_layout(room):
     for name, record in MADE.items():
         lines.append(f'println!("{name} {{}}", std::mem::size_of::<scanner::{names[name]}>());')
         for field, _ in record._fields_:
-            at = f"std::mem::offset_of!(scanner::{names[name]}, {field})"
-            size = f"std::mem::size_of_val(&scanner::{names[name]}::default().{field})"
-            lines.append(f'println!("{name}.{field} {{}} {{}}", {at}, {size});')
+            made = f"scanner::{names[name]}::default()"
+            at = f"{{ let made = {made}; &made.{field} as *const _ as usize - &made as *const _ as usize }}"
+            lines.append(f'println!("{name}.{field} {{}} {{}}", {at}, std::mem::size_of_val(&{made}.{field}));')
     path = os.path.join(room, "layout_rs")
     with open(path + ".rs", "w", encoding="ascii") as text:
-        module = os.path.join(FFI, "scanner.rs")
+        module = os.path.join(os.path.dirname(HERE), "rust", "src", "scanner.rs")
         text.write(f'#[path = "{module}"]\nmod scanner;\nfn main() {{\n' + "\n".join(lines) + "\n}\n")
     build_rust(path + ".rs", path)
     return subprocess.run([path], check=True, capture_output=True, text=True).stdout.split("\n")[:-1]
 
 
 def has_rust():
-    """Whether there is a Rust compiler of at least 1.82. scanner.rs and list.rs need only 1.63, other parts of the tests more."""
+    """Whether there is a Rust compiler of at least 1.63."""
     if shutil.which("rustc") is None:
         return False
     told = subprocess.run(["rustc", "--version"], capture_output=True, text=True).stdout
     found = re.match(r"rustc (\d+)\.(\d+)", told)
-    return bool(found) and (int(found[1]), int(found[2])) >= (1, 82)
+    return bool(found) and (int(found[1]), int(found[2])) >= (1, 63)
 
 
 def build_c(room):
@@ -356,7 +358,7 @@ def try_names():
     told = subprocess.run(words, check=True, capture_output=True, text=True).stdout
     found = {line.split(" ")[-1] for line in told.splitlines()}
     print(f"ffi: {len(found) - 1} names exported, {len(found ^ wanted)} not those of the header {sorted(found ^ wanted) or ''}")
-    return found == wanted and len(names) == 8
+    return found == wanted and len(names) == 13
 
 
 def try_version():
@@ -438,7 +440,7 @@ def main():
     every = list(vectors())
     rust = has_rust()
     if not rust:
-        print("ffi: Rust skipped: no rustc of 1.82 or later")
+        print("ffi: Rust skipped: no rustc of 1.63 or later")
     with tempfile.TemporaryDirectory() as room:
         programs = [build_c(room)]
         if shutil.which("c++"):
@@ -449,10 +451,12 @@ def main():
         good = [
             try_library(every),
             try_names(),
+            try_name_calls(),
             try_version(),
             try_records(room, rust),
             try_examples(programs, every[::40]),
             try_pages(room, rust),
+            try_wrong_uses(programs[: 2 if shutil.which("c++") else 1]),
             try_memory(programs[0], every[::2000]),
             try_held(room, every, rust),
         ]

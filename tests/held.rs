@@ -1,7 +1,7 @@
 //! held < INPUTS: checks the iterator, the batches and the peeks of scanner.rs against each other, for tests/ffi.py, which
 //! checks the batches by ffi/list.rs, and which texts the iterator borrows from the input. The inputs are packed as held.c
 //! says. It stops at the first thing that is wrong, and then the exit status is not 0.
-#[path = "../ffi/scanner.rs"]
+#[path = "../rust/src/scanner.rs"]
 mod scanner;
 
 use scanner::{Data, Encoding, Fault, Scanner, Settings, Style, Text, Token, WrongKeyLimit};
@@ -14,10 +14,15 @@ type Item = Result<Token<'static>, Fault>;
 /// How many items an iterator may give; no input here has as many.
 const MOST: usize = 100_000;
 
+/// The next bytes, so many, if there are as many.
+fn take_slice<'a>(from: &mut &'a [u8], len: usize) -> Option<&'a [u8]> {
+    let taken = from.get(..len)?;
+    *from = &from[len..];
+    Some(taken)
+}
+
 fn take<const N: usize>(from: &mut &[u8]) -> Option<[u8; N]> {
-    let (taken, left) = from.split_at_checked(N)?;
-    *from = left;
-    taken.try_into().ok()
+    take_slice(from, N)?.try_into().ok()
 }
 
 /// The next input with its settings.
@@ -30,8 +35,7 @@ fn next_input<'a>(from: &mut &'a [u8]) -> Option<(Settings, &'a [u8])> {
     };
     let key_limit = u32::from_ne_bytes(take(from)?);
     let len = u64::from_ne_bytes(take(from)?) as usize;
-    let (input, left) = from.split_at_checked(len)?;
-    *from = left;
+    let input = take_slice(from, len)?;
     Some((Settings { encoding, key_limit, batch_len: 1000 }, input))
 }
 
@@ -148,7 +152,7 @@ fn check_places(token: &Token, input: &[u8], settings: Settings) {
 fn check(input: &[u8], settings: Settings) {
     let all = by_batches(open(input, settings, 1000));
     let faults = all.iter().filter(|item| item.is_err()).count();
-    let is_ended = all.last().is_some_and(|item| matches!(item, Ok(Token { data: Data::StreamEnd, .. }) | Err(_)));
+    let is_ended = matches!(all.last(), Some(Ok(Token { data: Data::StreamEnd, .. }) | Err(_)));
     assert!(is_ended && faults <= 1, "the last item is the stream end or the one fault");
     for batch_len in [0, 1, 2, 7, 256] {
         assert_eq!(one_by_one(open(input, settings, batch_len)), all, "one by one, {batch_len} at once");

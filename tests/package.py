@@ -3,9 +3,9 @@
 
 ./package refuses what it has to refuse, says why, and makes the same bytes twice. The Debian packages are installed in a new
 root, which debootstrap makes from the machine's own package source. There, programs in C and C++ are compiled by what pkg-config
-says, and the crate's tests are run. Each program, the crate's example, and the Python module if there is one, lists the worked
-rows of vectors/rows.txt as yamltok does. The tarball is unpacked in the same root, and the commands of its README are given. If
-no root can be made, the tarball is tried in an empty folder of this machine, with an environment that has no kit, and the Debian
+and CMake say, and the crate's tests are run. Each program, the crate's example, and the Python module if there is one, lists the worked
+rows of vectors/rows.txt as yamltok does. The tarball is unpacked in the same root, in a folder with a blank in its name, and the
+commands of its README are given. If no root can be made, the tarball is tried in an empty folder of this machine, with an environment that has no kit, and the Debian
 packages are skipped. What needs a tool that is not there is skipped, and says so.
 
 It needs the program and the library that ./test has built.
@@ -49,7 +49,7 @@ HAS_MODULE = os.path.exists(os.path.join(TOP, "python", "bogzhami", "__init__.py
 # What has to be in the tarball; what needs a tool that may be missing is added by `wanted_files`.
 FILES = """BUILT CHANGELOG.md LICENSE PROMISES.md README.md VERSION bin/yamltok bin/bogzhami-lint examples/list.c examples/list.cc
 examples/mistakes.yaml include/bogzhami.h lib/libbogzhami.a lib/libbogzhami.so lib/libbogzhami.so.MAJOR lib/libbogzhami.so.VERSION
-lib/pkgconfig/bogzhami.pc rust/Cargo.toml rust/LICENSE rust/README.md rust/build.rs rust/src/lib.rs rust/src/scanner.rs
+lib/pkgconfig/bogzhami.pc lib/cmake/bogzhami/bogzhami-config.cmake lib/cmake/bogzhami/bogzhami-config-version.cmake rust/Cargo.toml rust/LICENSE rust/README.md rust/build.rs rust/src/lib.rs rust/src/scanner.rs
 rust/examples/list/main.rs rust/examples/list/listing.rs rust/tests/rows.rs rust/tests/rows.txt share/man/man1/yamltok.1.gz
 share/man/man1/bogzhami-lint.1.gz share/man/man1/bogzhami-highlight.1.gz share/man/man3/bogzhami.3.gz"""
 
@@ -209,16 +209,37 @@ def warnings_of(page):
     return done.stderr.decode("utf-8", "replace").strip()
 
 
+def text_of(page):
+    with gzip.open(page, "rt", encoding="ascii") as text:
+        return text.read()
+
+
+def declarations(header):
+    """The calls of the header, each with its declaration, without blanks and line breaks."""
+    found = re.findall(r"^(\w[\w *]*(bogzhami_\w+)\([^;]*;)", header, re.M)
+    return {name: re.sub(r"\s", "", declaration) for declaration, name in found}
+
+
+def declared(page):
+    """The declaration that the manual page of a call has, in the same way; nothing if there is no such page."""
+    if not os.path.exists(page):
+        return ""
+    synopsis = text_of(page).partition("#include <bogzhami.h>\n.PP\n")[2].partition(".fi\n")[0]
+    return re.sub(r'[\s"]', "", re.sub(r"^\.BI? ", "", synopsis, flags=re.M))
+
+
 def try_manual(folder):
-    """Looks into the manual pages: groff has no warning, and bogzhami(3) names the calls and the statuses of the header."""
+    """Looks into the manual pages: groff has no warning, bogzhami(3) names the calls and the statuses of the header, and each call
+    has a page with its declaration."""
     pages = sorted(glob.glob(os.path.join(folder, "share", "man", "*", "*.gz")))
     wrong = [warning for page in pages if (warning := warnings_of(page))]
     with open(os.path.join(folder, "include", "bogzhami.h"), encoding="ascii") as text:
         header = text.read()
-    names = set(re.findall(r"^\w[\w *]*(bogzhami_\w+)\(", header, re.M))
+    calls, section = declarations(header), os.path.join(folder, "share", "man", "man3")
+    wrong += [f"{name}(3)" for name, wanted in calls.items() if declared(os.path.join(section, f"{name}.3.gz")) != wanted]
+    names = set(calls)
     names |= set(re.findall(r"(BOGZHAMI_\w+) = ", re.search(r"enum bogzhami_status \{.*?\};", header, re.S)[0]))
-    with gzip.open(os.path.join(folder, "share", "man", "man3", "bogzhami.3.gz"), "rt", encoding="ascii") as text:
-        manual = text.read()
+    manual = text_of(os.path.join(section, "bogzhami.3.gz"))
     wrong += [f"bogzhami(3) does not name {name}" for name in sorted(names) if not re.search(rf"\b{name}\b", manual)]
     return say(not wrong and len(names) > 14, f"{len(pages)} manual pages, {len(names)} names, {len(wrong)} wrong {shown(wrong)}")
 
@@ -306,6 +327,36 @@ def try_c(place, name, compiler, flags):
     good = try_shell(place, f"{name} compiled by pkg-config, and loads the library",
                      [command, f"ldd ./{name}.out"], f"libbogzhami.so.{VERSION.split('.')[0]} => ")
     return good and try_rows(place, f"{name} over the shared library", [f"{place.folder}/{name}.out"])
+
+
+CMAKE = """cmake_minimum_required(VERSION 3.13)
+project(user C)
+find_package(bogzhami MAJOR REQUIRED)
+find_package(bogzhami 999 QUIET)
+if(bogzhami_FOUND)
+  message(FATAL_ERROR "there is no version 999")
+endif()
+find_package(bogzhami REQUIRED)
+add_executable(shared list.c)
+target_link_libraries(shared PRIVATE bogzhami::bogzhami)
+add_executable(static list.c)
+target_link_libraries(static PRIVATE bogzhami::static)
+"""
+
+
+def try_cmake(place, example, *words):
+    """The example in C, which is built by what find_package of CMake says, with both libraries."""
+    if not (place.has("cmake") and place.has("make") and place.has("cc")):
+        return skip("CMake: it is not there")
+    folder = f"{place.folder}/user of cmake"
+    shutil.rmtree(place.outer(folder), ignore_errors=True)
+    os.makedirs(place.outer(folder))
+    shutil.copy(place.outer(example), place.outer(folder))
+    with open(place.outer(folder) + "/CMakeLists.txt", "w", encoding="ascii") as out:
+        out.write(CMAKE.replace("MAJOR", VERSION.split(".")[0]))
+    good = try_command(place, "CMake finds the library", ["cmake", "-S", ".", "-B", "made", *words], folder=folder)
+    good = good and try_command(place, "CMake builds list.c", ["cmake", "--build", "made"], folder=folder)
+    return good and all([try_rows(place, f"list.c by CMake, {name}", [f"{folder}/made/{name}"]) for name in ("shared", "static")])
 
 
 def try_crate(place, crate, **how):
@@ -396,6 +447,7 @@ def try_debian(place, folder):
         try_tools(place, "of the Debian packages", "/usr/bin"),
         try_c(place, "list.c", "cc", "-std=c99"),
         try_c(place, "list.cc", "c++", "-std=c++17"),
+        try_cmake(place, "/usr/share/doc/libbogzhami-dev/examples/list.c"),
         try_crate(place, "/usr/share/bogzhami/rust"),
         try_dependent(place, "/usr/share/bogzhami/rust"),
         try_module(place),
@@ -428,9 +480,11 @@ def try_block(place, what, lines, folder, **how):
 
 
 def try_tarball(place, packed):
-    """Unpacks the tarball in a place, and does what its README says."""
-    subprocess.run(["tar", "-xf", packed, "-C", place.outer(place.folder)], check=True)
-    folder = f"{place.folder}/{NAME}"
+    """Unpacks the tarball in a place, in a folder with a blank in its name, and does what its README says."""
+    above = f"{place.folder}/a place"
+    os.makedirs(place.outer(above), exist_ok=True)
+    subprocess.run(["tar", "-xf", packed, "-C", place.outer(above)], check=True)
+    folder = f"{above}/{NAME}"
     good = [try_tools(place, "of the tarball", f"{folder}/bin"), try_libyaml(place, f"{folder}/libyaml")]
     static, shared = blocks("C and C++")
     if not (place.has("cc") and place.has("c++")):
@@ -443,6 +497,7 @@ def try_tarball(place, packed):
             good.append(try_rows(place, "list of the tarball, over the shared library", [f"{folder}/list"]))
         else:
             good.append(skip("C by pkg-config: there is none"))
+        good.append(try_cmake(place, f"{folder}/examples/list.c", f"-DCMAKE_PREFIX_PATH={folder}"))
     good.append(try_tarball_crate(place, folder))
     good.append(try_module(place, PYTHONPATH=f"{folder}/python"))
     if HAS_MODULE and place.has("python3"):

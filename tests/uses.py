@@ -6,7 +6,7 @@ with status 0 or 1, thirty of them under valgrind; each request for memory is re
 the terminal's output without the escape sequences, and the page without tags and entities, are the input byte for byte; on the
 page each token that the vectors name has the colour of its kind and nothing else has one, but for comments; for some inputs the
 colours are written down here. Both: inputs of 100,000 openers, keys or anchors end in a few seconds. What needs a C compiler,
-rustc (1.82 or later) or valgrind is skipped when there is none.
+rustc (1.63 or later) or valgrind is skipped when there is none.
 """
 
 import html.parser
@@ -554,7 +554,7 @@ def main():
             try_lint_memory(lint),
         ]
         if highlight is None:
-            print("uses: highlight skipped: no rustc of 1.82 or later")
+            print("uses: highlight skipped: no rustc of 1.63 or later")
         else:
             good += [try_pieces(highlight), try_texts(highlight, worked + scans[::3])]
         good.append(try_hostile([[lint]] + ([[highlight], [highlight, "--html"]] if highlight else [])))

@@ -69,10 +69,9 @@
 //! [`Settings`] has the encoding, the key limit and the number of tokens of a batch. A scanner is not [`Send`]; tokens and
 //! faults are.
 //!
-//! The library is found by pkg-config, or in the folder that the environment variable `BOGZHAMI_LIB_DIR` names when the
-//! crate is built. No other crate is needed.
+//! When the crate is built, the library is looked for in the folder that the environment variable `BOGZHAMI_LIB_DIR` names, in
+//! the `ffi/out` of a checkout of the repository, and where pkg-config says. No other crate is needed.
 
-#[path = "../../ffi/scanner.rs"]
 mod scanner;
 
 pub use scanner::*;

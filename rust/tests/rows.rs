@@ -1,6 +1,6 @@
 //! Lists the inputs of rows.txt, and compares the lines with those that stand there. A line of the file has the words of a
 //! command, an input in hexadecimal and the expected lines, with tabs between them; only the rows of `scan` are listed.
-#[path = "../../ffi/listing.rs"]
+#[path = "../examples/list/listing.rs"]
 mod listing;
 
 use bogzhami as scanner; // by this name listing.rs calls the crate

@@ -2,7 +2,7 @@
 //! standard input. The exit status is 0, 1 when a file has a fault, 2 when a file can not be read or the output not be written.
 mod page;
 mod pieces;
-#[path = "../../ffi/scanner.rs"]
+#[path = "../../rust/src/scanner.rs"]
 mod scanner;
 mod terminal;
 mod text;
@@ -30,8 +30,9 @@ fn show(out: &mut dyn Write, title: &str, input: &[u8], is_page: bool) -> io::Re
     } else {
         terminal::write(out, &text, &pieces)?;
     }
-    let Some(problem) = problem else {
-        return Ok(0);
+    let problem = match problem {
+        Some(problem) => problem,
+        None => return Ok(0),
     };
     out.flush()?;
     eprintln!("{title}:{}:{}: {}", problem.line, problem.column, problem.message);
@@ -73,7 +74,7 @@ fn show_all(names: &[OsString], is_page: bool) -> io::Result<u8> {
 
 fn main() -> ExitCode {
     let mut names: Vec<OsString> = std::env::args_os().skip(1).collect();
-    let is_page = names.first().is_some_and(|name| name == "--html");
+    let is_page = matches!(names.first(), Some(name) if name == "--html");
     if is_page {
         names.remove(0);
     }

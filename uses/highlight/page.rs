@@ -1,6 +1,6 @@
 //! Pieces of texts in colours, as a page of HTML.
 use crate::pieces::{Class, Piece};
-use crate::text::{find_break, Problem, Text};
+use crate::text::{find_break, split_text, Problem, Text};
 use std::io::{self, Write};
 
 /// The name of a class in the style sheet; empty when it has none.
@@ -122,14 +122,21 @@ fn is_allowed(character: char) -> bool {
 
 /// Writes bytes as text. Those that spell no character that a page may hold are written in hexadecimal, in an element of the
 /// class `bytes`.
-fn characters(out: &mut dyn Write, bytes: &[u8]) -> io::Result<()> {
-    for chunk in bytes.utf8_chunks() {
-        for part in chunk.valid().split_inclusive(|character| !is_allowed(character)) {
-            let allowed = part.trim_end_matches(|character| !is_allowed(character));
-            out.write_all(escaped(allowed).as_bytes())?;
-            hexadecimal(out, &part.as_bytes()[allowed.len()..])?;
-        }
-        hexadecimal(out, chunk.invalid())?;
+fn characters(out: &mut dyn Write, mut bytes: &[u8]) -> io::Result<()> {
+    while !bytes.is_empty() {
+        let (text, wrong, rest) = split_text(bytes);
+        characters_of(out, text)?;
+        hexadecimal(out, wrong)?;
+        bytes = rest;
+    }
+    Ok(())
+}
+
+fn characters_of(out: &mut dyn Write, text: &str) -> io::Result<()> {
+    for part in text.split_inclusive(|character| !is_allowed(character)) {
+        let allowed = part.trim_end_matches(|character| !is_allowed(character));
+        out.write_all(escaped(allowed).as_bytes())?;
+        hexadecimal(out, &part.as_bytes()[allowed.len()..])?;
     }
     Ok(())
 }

@@ -63,6 +63,14 @@ fn is_utf16(input: &[u8]) -> bool {
     input.starts_with(b"\xFE\xFF") || input.starts_with(b"\xFF\xFE")
 }
 
+/// The text that bytes begin with, the bytes after it that begin no character, and the rest.
+pub fn split_text(bytes: &[u8]) -> (&str, &[u8], &[u8]) {
+    let (text, rest) = bytes.split_at(utf8_len(bytes));
+    let wrong_len = std::str::from_utf8(rest).err().map_or(0, |error| error.error_len().unwrap_or(rest.len()));
+    let (wrong, rest) = rest.split_at(wrong_len);
+    (std::str::from_utf8(text).unwrap_or_default(), wrong, rest)
+}
+
 /// How many bytes of UTF-8 a text begins with.
 fn utf8_len(text: &[u8]) -> usize {
     std::str::from_utf8(text).map_or_else(|error| error.valid_up_to(), str::len)

@@ -1,6 +1,5 @@
 //! list [ENC [LIMIT]] < FILE: lists the tokens of a file, one a line, as `yamltok scan ENC LIMIT` does.
 //! The exit status is 0, 1 if there is a fault, 2 for wrong words.
-#[path = "../../../ffi/listing.rs"]
 mod listing;
 
 use bogzhami as scanner; // by this name listing.rs calls the crate

@@ -151,8 +151,9 @@ impl fmt::Debug for Text<'_> {
     }
 }
 
-/// What a token says.
+/// What a token says. A later version may have more kinds.
 #[derive(Clone, Debug, PartialEq, Eq)]
+#[non_exhaustive]
 pub enum Data<'a> {
     StreamStart { encoding: Encoding },
     StreamEnd,
@@ -223,8 +224,9 @@ impl Token<'_> {
     }
 }
 
-/// Why an input was refused.
+/// Why an input was refused. A later version may have more reasons.
 #[derive(Clone, Debug, PartialEq, Eq)]
+#[non_exhaustive]
 pub enum Fault {
     /// Memory was refused: the tokens are a beginning of all tokens.
     Memory,

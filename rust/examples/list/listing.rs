@@ -36,6 +36,8 @@ fn words(data: Data) -> String {
         Data::Anchor { name } => format!("ANCHOR {}", hex(&name)),
         Data::Tag { handle, suffix } => format!("TAG {} {}", hex(&handle), hex(&suffix)),
         Data::Scalar { value, style } => format!("SCALAR {} {}", style_word(style), hex(&value)),
+        #[allow(unreachable_patterns)] // only another crate has to think of kinds of a later version
+        _ => "UNKNOWN".into(),
     }
 }
 
@@ -64,6 +66,8 @@ fn fault_line(fault: &Fault) -> String {
             let context = context.as_deref().unwrap_or("-");
             format!("FAULT scanner {} {} {context}; {problem}", mark(*context_mark), mark(*at))
         }
+        #[allow(unreachable_patterns)] // as above
+        _ => format!("FAULT unknown {fault}"),
     }
 }
 

@@ -1,0 +1,301 @@
+#!/usr/bin/env python3
+"""Runs ./test, ./package, ffi/build, uses/libyaml/build and ./run in every order of two, over a kit that proves nothing: orders.py [PROGRAM].
+
+A copy of the repository is a checkout of a commit, and its tests/ has scripts that only call the program and look for the
+library. Instead of the Rattle kit, lib/kit.py is on the path: it leaves what the kit leaves, out of the program and the library
+that are built, and like the kit it refuses links and removes what was built. Each command follows each, and itself. All succeed,
+and what was built before is there whenever the kit is called, and at the end. The same holds if the gate fails or is broken off,
+and then ./package refuses what was not tested. .ci/run in a new clone has the gate prove the clone itself.
+
+Without the kit, or without a program that is needed, each command says so in one line before anything is proved. The progress
+is that of the log. What needs a C compiler or git is skipped, and says so, if there is none.
+"""
+
+import os
+import re
+import shutil
+import signal
+import subprocess
+import sys
+import tempfile
+import time
+
+HERE = os.path.dirname(os.path.abspath(__file__))
+sys.path.insert(0, os.path.join(HERE, "lib"))
+sys.dont_write_bytecode = True
+from library import TOP, VERSION, build_library
+from package import git, machine_files
+from worked import rows
+
+PROGRAM = os.path.join("crates", "yamltok", "out", "yamltok")
+LIBRARY = f"ffi/out/libbogzhami.so.{VERSION}"
+LIBYAML = "uses/libyaml/out/libyaml-0.so.2"
+WATCHED = [PROGRAM, "ffi/out/libbogzhami.a", LIBRARY, LIBYAML, "bin/proved", "dist/SHA256SUMS"]
+PLAIN = "/usr/sbin:/usr/bin:/sbin:/bin"
+SMALL = b"a: 1"
+LISTED = "".join(line + "\n" for words, data, lines in rows() if (words, data) == (["scan", "any"], SMALL) for line in lines)
+
+# What stands for each script of tests/: it calls the program, and sees that there is a library.
+SCRIPT = f"""import os, subprocess, sys
+done = subprocess.run([sys.argv[1], "scan", "any"], input={SMALL!r}, capture_output=True)
+sys.exit(done.stdout != {LISTED.encode()!r} or not os.path.exists({LIBRARY!r}))
+"""
+
+# What makes packages. On a machine without all that they need a test build is made, outside of the checkout.
+HAS_ALL = os.path.exists("/usr/include/yaml.h") and all(shutil.which(tool) for tool in ("rustc", "dpkg-deb", "objdump"))
+PACKAGE = "./package" if HAS_ALL else "./package --for-test ../made"
+
+# The commands, and what they print.
+COMMANDS = {
+    "./test": r"\n\d+ passed, 0 failed\n$",
+    PACKAGE: r"bogzhami-.*\.tar\.gz\n",
+    "ffi/build": r"made  ffi/out/libbogzhami\.a",
+    "uses/libyaml/build": r"made  uses/libyaml/out/libyaml-0\.so\.2",
+    "./run scan any": re.escape(LISTED) + "$",
+}
+
+
+def say(good, text):
+    print(f"orders: {text}{'' if good else ', WRONG'}", flush=True)
+    return bool(good)
+
+
+def skip(text):
+    print(f"orders: skipped: {text}", flush=True)
+    return True
+
+
+# A COPY OF THE REPOSITORY, AND A KIT
+
+def make_kit(room, program):
+    """A kit that has the program, the testbench and the scanner of the library that are built."""
+    made, tools = os.path.join(room, "kit", "made"), os.path.join(room, "kit", "bin")
+    for folder in (made, tools, os.path.join(room, "kit", "c")):
+        os.makedirs(folder)
+    for name in ("rt", "rattle"):
+        shutil.copy(os.path.join(HERE, "lib", "kit.py"), os.path.join(tools, name))
+    with open(os.path.join(tools, "apt-get"), "w", encoding="ascii") as out:
+        out.write("#!/bin/sh\n")
+    os.chmod(os.path.join(tools, "apt-get"), 0o755)
+    testbench = os.path.join(os.path.dirname(program), "..", "..", "testbench", "out", "testbench")
+    shutil.copy(program, os.path.join(made, "yamltok"))
+    shutil.copy(testbench if os.path.exists(testbench) else program, os.path.join(made, "testbench"))
+    archive = os.path.join(made, "libyaml_c.a")
+    shutil.copy(os.path.join(TOP, "ffi", "out", "libbogzhami.a"), archive)
+    subprocess.run(["ar", "d", archive, "version.o", "names.o"], check=True)
+    subprocess.run(["ar", "rcs", os.path.join(room, "kit", "c", "liblibc_c.a")], check=True)
+
+
+class Copy:
+    """A copy of the repository, of a commit, in which nothing is built."""
+
+    def __init__(self, room, name):
+        self.room, self.top = room, os.path.join(room, name)
+        self.log = os.path.join(room, f"{name}.log")
+        shutil.copytree(TOP, self.top, symlinks=True, ignore=machine_files)
+        tests = os.path.join(self.top, "tests")
+        for script in os.listdir(tests):
+            if script.endswith(".py"):
+                with open(os.path.join(tests, script), "w", encoding="utf-8") as out:
+                    out.write(SCRIPT)
+        git(self.top, "init", "-q")
+        git(self.top, "add", "-A")
+        git(self.top, "commit", "-q", "-m", "a commit")
+
+    def environment(self, **more):
+        """The environment of a command, with the kit first on the path."""
+        kit = os.path.join(self.room, "kit")
+        dropped = ("LIBRARY_IS_BUILT", "IN_PLACE", "CC", "RT_JOBS")
+        kept = {name: value for name, value in os.environ.items() if name not in dropped}
+        return {**kept, "PATH": f"{kit}/bin:{os.environ['PATH']}", "KIT_MADE": f"{kit}/made", "KIT_LOG": self.log,
+                "KIT_TOP": self.top, "KIT_WATCHED": " ".join(WATCHED), **more}
+
+    def run(self, command, **more):
+        """The status of a command, and all that it prints."""
+        self.forget_calls()
+        done = subprocess.run(command.split(), cwd=self.top, input=SMALL, env=self.environment(**more), stdout=subprocess.PIPE,
+                              stderr=subprocess.STDOUT, timeout=100)
+        return done.returncode, done.stdout.decode("utf-8", "replace")
+
+    def forget_calls(self):
+        if os.path.exists(self.log):
+            os.remove(self.log)
+
+    def calls(self):
+        """Each call of the kit by the last command: its words, and what was there."""
+        if not os.path.exists(self.log):
+            return []
+        with open(self.log, encoding="utf-8") as lines:
+            return [(words, set(there.split())) for words, there in (line.rstrip("\n").split("\t") for line in lines)]
+
+    def built(self):
+        return {path for path in WATCHED if os.path.exists(os.path.join(self.top, path))}
+
+    def proved(self):
+        """The stamp of ./test; nothing if there is none."""
+        path = os.path.join(self.top, "bin", "proved")
+        if not os.path.exists(path):
+            return ""
+        with open(path, encoding="utf-8") as text:
+            return text.read()
+
+
+# ORDERS
+
+def pairs_in_a_row(count):
+    """The numbers below count in an order in which each follows each, and itself, once."""
+    left = {one: list(range(count)) for one in range(count)}
+    path, walk = [0], []
+    while path:
+        if left[path[-1]]:
+            path.append(left[path[-1]].pop())
+        else:
+            walk.append(path.pop())
+    return walk[::-1]
+
+
+def wrong_with(copy, command, wanted):
+    """What is wrong with a command that has to succeed, or None."""
+    before = copy.built()
+    status, told = copy.run(command)
+    if status or not re.search(wanted, told):
+        return f"status {status}: {told[-600:]}"
+    lost = [f"{sorted(before - there)} at rt {words}" for words, there in copy.calls() if before - there]
+    lost += [f"{sorted(before - copy.built())} at the end"] if before - copy.built() else []
+    return f"gone: {lost}" if lost else None
+
+
+def try_orders(copy):
+    names = [name for name in COMMANDS if name != "uses/libyaml/build" or os.path.exists("/usr/include/yaml.h")]
+    walk = [names[number] for number in pairs_in_a_row(len(names))]
+    wrong = []
+    for last, name in zip([None, *walk], walk):
+        found = wrong_with(copy, name, COMMANDS[name])
+        wrong += [f"{name} after {last}: {found}"] if found else []
+    missing = {PROGRAM, LIBRARY, "bin/proved"} - copy.built()
+    good = not wrong and not missing and len(set(zip(walk, walk[1:]))) == len(names) ** 2
+    return say(good, f"{len(walk)} commands, each after each, {len(wrong)} wrong {wrong[:3] or ''}{missing or ''}")
+
+
+def try_before(copy):
+    """What needs something that is not built says what to call."""
+    found = [(copy.run("./package"), "there is no proved build: run ./test"),
+             (copy.run("uses/libyaml/build"), "run ffi/build")]
+    wrong = [told for (status, told), wanted in found if status == 0 or wanted not in told]
+    return say(not wrong and not copy.built(), f"{len(found)} commands before anything is built, {len(wrong)} wrong {wrong or ''}")
+
+
+# THE GATE FAILS, OR IS BROKEN OFF
+
+def try_failing_gate(copy):
+    before, stamp = copy.built(), copy.proved()
+    status, told = copy.run("./test", KIT_FAILS="yes")
+    good = status == 1 and told.endswith("3 passed, 1 failed\n") and copy.built() == before
+    good = good and "tests " in stamp and stamp.startswith(copy.proved()) and "tests " not in copy.proved()
+    refused = copy.run("./package")
+    good = good and refused[0] == 1 and "the tests have not all passed" in refused[1]
+    return say(good, f"a gate that fails: what was built stays, and is no longer called tested{'' if good else told[-600:]}")
+
+
+def try_broken_off(copy):
+    """Ends ./test, and all that it has started, while the gate proves."""
+    before, stamp = copy.built(), copy.proved()
+    copy.forget_calls()
+    how = {"cwd": copy.top, "env": copy.environment(KIT_WAITS="30"), "stdout": subprocess.DEVNULL, "stderr": subprocess.DEVNULL}
+    started = subprocess.Popen(["./test"], stdin=subprocess.DEVNULL, start_new_session=True, **how)
+    began = time.monotonic()
+    while not any(words == "ci" for words, _ in copy.calls()) and time.monotonic() - began < 30:
+        time.sleep(0.1)
+    os.killpg(started.pid, signal.SIGINT)
+    started.wait(timeout=30)
+    good = time.monotonic() - began < 30 and copy.built() == before and copy.proved() == stamp
+    return say(good, "a gate that is broken off: what was built stays")
+
+
+def try_broken_compiler(copy):
+    """A compiler that compiles nothing: what was built stays."""
+    compiler = os.path.join(copy.room, "kit", "bin", "broken-cc")
+    with open(compiler, "w", encoding="ascii") as out:
+        out.write('#!/bin/sh\ncase "$*" in *-print-*|*--version*|*-E*) exec cc "$@" ;; esac\necho broken >&2\nexit 1\n')
+    os.chmod(compiler, 0o755)
+    before, wrong = copy.built(), []
+    for command in ("ffi/build", PACKAGE, "uses/libyaml/build"):
+        status, told = copy.run(command, CC=compiler)
+        if status != 1 or "broken" not in told or copy.built() != before:
+            wrong.append((command, status, told[-300:], before - copy.built()))
+    return say(not wrong, f"3 commands with a compiler that compiles nothing, {len(wrong)} wrong {wrong or ''}")
+
+
+# A NEW CLONE
+
+def try_clone(copy):
+    """.ci/run in a new clone, with no input, as a machine calls it: the gate is called in the clone itself."""
+    done = subprocess.run(["bash", ".ci/run"], cwd=copy.top, stdin=subprocess.DEVNULL, env=copy.environment(CI="true"),
+                          stdout=subprocess.PIPE, stderr=subprocess.STDOUT, timeout=100)
+    told = done.stdout.decode("utf-8", "replace")
+    rlib = os.path.exists(os.path.join(copy.top, "crates", "yaml_scan", "out", "rlib"))
+    good = done.returncode == 0 and re.search(COMMANDS["./test"], told) and rlib and "tests " in copy.proved()
+    again = wrong_with(copy, "bash .ci/run", COMMANDS["./test"])
+    return say(good and not again, f".ci/run in a new clone, and again{'' if good else told[-600:]} {again or ''}")
+
+
+# WHAT IS NOT THERE
+
+def try_no_kit(copy):
+    if shutil.which("rt", path=PLAIN):
+        return skip("commands without the kit: it is on the system's own path")
+    wrong = []
+    for command in ("./run scan any", "./try scan any", "./test", "ffi/build"):
+        status, told = copy.run(command, PATH=PLAIN)
+        if (status, told) != (3, "The command rt is not on the path: this needs the Rattle kit.\n"):
+            wrong.append((command, status, told[-300:]))
+    return say(not wrong and not copy.built(), f"4 commands without the kit, {len(wrong)} wrong {wrong or ''}")
+
+
+def try_words(copy):
+    """ffi/build says what it lacks, and which words it takes, before anything is proved."""
+    tried = [("ffi/build", {"CC": "no-compiler"}, 3, r"^There is no no-compiler: install gcc\.\n$"),
+             ("ffi/build --help", {"PATH": PLAIN}, 0, r"^usage: ffi/build \[--jobs N\]\n"),
+             ("ffi/build --job 1", {}, 2, r"^ffi/build: there is no option --job; ffi/build --help says"),
+             ("ffi/build --jobs", {}, 2, r"^ffi/build: --jobs needs a word after it\n$")]
+    wrong = []
+    for command, more, wanted, pattern in tried:
+        status, told = copy.run(command, **more)
+        if status != wanted or not re.search(pattern, told) or copy.calls():
+            wrong.append((command, status, told[-300:]))
+    return say(not wrong, f"{len(tried)} calls of ffi/build that prove nothing, {len(wrong)} wrong {wrong or ''}")
+
+
+def try_progress(room):
+    """A log is shown as it grows, and kept."""
+    lines = "rt: chose --jobs 4 for yaml_scan\nchecked yaml_scan::keys::root, 57 of 114\n"
+    shown = []
+    for text in (lines.splitlines()[0] + "\n", lines.splitlines()[1] + "\n"):
+        log = os.path.join(room, "progress.log")
+        code = f'. "{TOP}/ffi/proving.sh"; : > "$1"; show_progress "$1" 10'
+        done = subprocess.run(["bash", "-c", code, "bash", log], input=text, capture_output=True, text=True, timeout=30)
+        with open(log, encoding="ascii") as kept:
+            shown.append((done.stderr, kept.read() == text))
+    wanted = [("yaml_scan: begun; 0 minutes, of about 10 from nothing\n", True),
+              ("yaml_scan: 57 of 114 functions checked; 0 minutes, of about 10 from nothing\n", True)]
+    return say(shown == wanted, f"the progress is that of the log{'' if shown == wanted else shown}")
+
+
+def main():
+    for tool in ("cc", "ar", "git"):
+        if shutil.which(tool) is None:
+            return 0 if skip(f"no {tool}") else 1
+    program = os.path.abspath(sys.argv[1]) if len(sys.argv) > 1 else os.path.join(TOP, PROGRAM)
+    if not os.path.exists(program):
+        return 0 if skip("no program is built") else 1
+    build_library()
+    with tempfile.TemporaryDirectory() as room:
+        make_kit(room, program)
+        copy, clone = Copy(room, "copy"), Copy(room, "clone")
+        good = [try_no_kit(copy), try_words(copy), try_progress(room), try_before(copy), try_orders(copy)]
+        good += [try_broken_compiler(copy), try_broken_off(copy), try_failing_gate(copy), try_clone(clone)]
+    return 0 if all(good) else 1
+
+
+if __name__ == "__main__":
+    sys.exit(main())
