@@ -30,12 +30,12 @@ HERE = os.path.dirname(os.path.abspath(__file__))
 CRATE = os.path.join(os.path.dirname(HERE), "crates", "yaml_c", "src")
 sys.path.insert(0, os.path.join(HERE, "lib"))
 sys.dont_write_bytecode = True
-from calls import try_name_calls, try_wrong_uses
 from held import FFI, SETTINGS, VALGRIND, Handle, build_held, build_rust, try_counts, try_long, try_reach, try_rust, try_tests
 from held import try_valgrind
 from library import VERSION, build_library
 from pages import try_pages
 from worked import MEMORY, build_refuser, run
+from wrong_uses import try_name_calls, try_wrong_uses
 
 PLAIN = {"u32": c.c_uint32, "i32": c.c_int32, "u64": c.c_uint64}
 RECORDS = ["mark", "token", "answer"]
