@@ -37,7 +37,7 @@ PROGRAMS = ("yamltok", "testbench")
 TESTS = ("test", "call")
 REFUSE, COUNT = "--fail-alloc", "--requests"
 MOST, MOST_SAID = 12, 3
-MOST_SECONDS = 3600
+SECONDS, MOST_SECONDS = "900", 3600
 
 Row = collections.namedtuple("Row", "name words text")
 # The rows of one program, or of the tests of one crate, and the edits of some: bodies by name if a number chooses, else pairs.
@@ -88,7 +88,7 @@ def answers(folder, cases, refused):
             with open(os.path.join(room, f"c{number}"), "wb") as file:
                 file.write(data)
             mistakes.write(os.path.join(room, f"c{number}.args"), "".join(word + "\n" for word in words))
-        listed, said = rt(folder, "try", "--cases", room, *([REFUSE, refused] if refused else []))
+        listed, said = rt(folder, "try", "--seconds", SECONDS, "--cases", room, *([REFUSE, refused] if refused else []))
     lines = dict(re.findall(r"(?ms)^== c(\d+)\n(.*?)(?=^== c|\Z)", listed))
     ends = dict(re.findall(r"(?m)^case=c(\d+) (run=\S+(?: status=\d+)?)", said))
     none = said.splitlines()[-MOST_SAID:], None
@@ -116,7 +116,7 @@ def test_answers(room, build, numbers):
     for module in sorted({row.words[2].split("::")[0] for row in build.rows if row.words[0] == "call"}):
         mistakes.add_calls(room, build.target, module)
     mistakes.ask_tests(room, build.target, tests)
-    said = "\n".join(rt(os.path.join(room, "crates", build.target), "try", "--test"))
+    said = "\n".join(rt(os.path.join(room, "crates", build.target), "try", "--seconds", SECONDS, "--test"))
     found = {(int(n), name): end for n, name, end in re.findall(r"(?m)^test \w+::mistake_(\d+)_(\w+) \.\.\. (\w+)", said)}
     ends = {(row, number): found.get((number, row.words[2].split("::")[1])) for row, number in asked}
     return {key: ([] if end else said.splitlines()[-MOST_SAID:], end) for key, end in ends.items()}
