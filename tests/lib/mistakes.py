@@ -185,7 +185,7 @@ def add_number(room):
 def add_calls(room, crate, module):
     """Puts the calls of by_hand/calls, which are tests that only wrong programs are run by, into a module of a copy."""
     path = os.path.join(room, "crates", crate, "src", module + ".rt")
-    write(path, read(path) + "\n" + read(os.path.join(CALLS, crate + ".rt")))
+    write(path, read(path) + "\n" + read(os.path.join(CALLS, crate + ".txt")))
 
 
 def ask_tests(room, crate, asked):
