@@ -198,7 +198,7 @@ def try_failing_gate(copy):
 
 
 def try_broken_off(copy):
-    """Ends ./test, and all that it has started, while the gate proves."""
+    """Ends ./test, and all that it has started, while the gate proves. The signal is one that no background process ignores."""
     before, stamp = copy.built(), copy.proved()
     copy.forget_calls()
     how = {"cwd": copy.top, "env": copy.environment(KIT_WAITS="30"), "stdout": subprocess.DEVNULL, "stderr": subprocess.DEVNULL}
@@ -206,7 +206,7 @@ def try_broken_off(copy):
     began = time.monotonic()
     while not any(words == "ci" for words, _ in copy.calls()) and time.monotonic() - began < 30:
         time.sleep(0.1)
-    os.killpg(started.pid, signal.SIGINT)
+    os.killpg(started.pid, signal.SIGTERM)
     started.wait(timeout=30)
     good = time.monotonic() - began < 30 and copy.built() == before and copy.proved() == stamp
     return say(good, "a gate that is broken off: what was built stays")
