@@ -17,9 +17,9 @@
  *         fprintf(stderr, "not all tokens were given: %s\n", bogzhami_status_text(status));
  *
  * The loop ends with BOGZHAMI_OVER after the stream end; with BOGZHAMI_FAULT at a fault, which is then in the answer; or with
- * BOGZHAMI_NO_ROOM at a text that is longer than the room for texts. Then tokens are left, and a caller says so, or makes more
- * room, as ffi/README.md shows. ffi/list.c is a whole program. A caller that wants all tokens at once calls
- * bogzhami_scan_all. ffi/build makes the library and says what to link. */
+ * BOGZHAMI_NO_ROOM at a text that is longer than the room for texts. Then tokens are left, and a caller says so, or makes a room
+ * of answer.text_len bytes and calls bogzhami_next again. The example list.c does that, and is a whole program. A caller that
+ * wants all tokens at once calls bogzhami_scan_all. */
 #ifndef BOGZHAMI_H
 #define BOGZHAMI_H
 

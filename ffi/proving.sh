@@ -22,26 +22,28 @@ minutes_here() {
   echo $(($1 * 4 / count))
 }
 
-# Reads what rt prints, keeps it in a log, and says every 20 seconds how far rt is: the crate, how many of its functions are
-# checked, and how many minutes have passed. The second word is how many it takes from nothing.
+# Reads what rt prints, keeps it in a log, and says every 20 seconds, or as the third word has it, how far rt is: the crate, how
+# many of its functions are checked, and how many minutes have passed. The second word is how many it takes from nothing.
 show_progress() {
-  local log=$1 minutes=$2 line part="" shown="begun" said=-20 status
+  local log=$1 minutes=$2 every=${3:-20} line part="" crate="" count=0 shown="begun" said=-99 status
   while true; do
     IFS= read -r -t 5 line && status=0 || status=$?
     part+=$line
     if [ "$status" -eq 0 ]; then
       printf '%s\n' "$part" >> "$log"
-      if [[ $part =~ ^checked\ ([a-z_]+)::.*,\ ([0-9]+)\ of\ ([0-9]+)$ ]]; then
-        shown="${BASH_REMATCH[1]}: ${BASH_REMATCH[2]} of ${BASH_REMATCH[3]} functions checked"
+      if [[ $part =~ ^(checked\ .*,|so far:)\ ([0-9]+)\ of\ ([0-9]+) ]]; then
+        # rt has two counts, in lines of two kinds: the greater one is shown
+        [ "${BASH_REMATCH[2]}" -le "$count" ] || count=${BASH_REMATCH[2]}
+        shown="$crate: $count of ${BASH_REMATCH[3]} functions checked"
       elif [[ $part =~ ^rt:\ chose\ .*\ for\ ([a-z_]+)$ ]]; then
-        shown="${BASH_REMATCH[1]}: begun"
+        crate=${BASH_REMATCH[1]} count=0 shown="${BASH_REMATCH[1]}: begun"
       fi
       part=""
     elif [ "$status" -le 128 ]; then
       return 0
     fi
-    if [ $((SECONDS - said)) -ge 20 ]; then
-      echo "$shown; $((SECONDS / 60)) minutes, of about $minutes from nothing" >&2
+    if [ $((SECONDS - said)) -ge "$every" ]; then
+      echo "$shown; $((SECONDS / 60)) min, of about $minutes min from nothing" >&2
       said=$SECONDS
     fi
   done

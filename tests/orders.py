@@ -198,7 +198,7 @@ def try_failing_gate(copy):
 
 
 def try_broken_off(copy):
-    """Ends ./test, and all that it has started, while the gate proves."""
+    """Ends ./test, and all that it has started, while the gate proves. The signal is one that no background process ignores."""
     before, stamp = copy.built(), copy.proved()
     copy.forget_calls()
     how = {"cwd": copy.top, "env": copy.environment(KIT_WAITS="30"), "stdout": subprocess.DEVNULL, "stderr": subprocess.DEVNULL}
@@ -206,7 +206,7 @@ def try_broken_off(copy):
     began = time.monotonic()
     while not any(words == "ci" for words, _ in copy.calls()) and time.monotonic() - began < 30:
         time.sleep(0.1)
-    os.killpg(started.pid, signal.SIGINT)
+    os.killpg(started.pid, signal.SIGTERM)
     started.wait(timeout=30)
     good = time.monotonic() - began < 30 and copy.built() == before and copy.proved() == stamp
     return say(good, "a gate that is broken off: what was built stays")
@@ -266,19 +266,26 @@ def try_words(copy):
     return say(not wrong, f"{len(tried)} calls of ffi/build that prove nothing, {len(wrong)} wrong {wrong or ''}")
 
 
+# What rt prints, and what is shown of it.
+LOG = [("rt: chose --jobs 4 for yaml_text", "yaml_text: begun"),
+       ("so far: 0 of 114 functions checked; the verdict comes last", "yaml_text: 0 of 114 functions checked"),
+       ("checked yaml_text::utf8::len_of, 57 of 114", "yaml_text: 57 of 114 functions checked"),
+       ("so far: 9 of 114 functions checked", "yaml_text: 57 of 114 functions checked"),
+       ("fn yaml_text::utf8::len_of: proved", "yaml_text: 57 of 114 functions checked"),
+       ("rt: chose --jobs 4 for yaml_c", "yaml_c: begun"),
+       ("so far: 9 of 87 functions checked", "yaml_c: 9 of 87 functions checked")]
+
+
 def try_progress(room):
-    """A log is shown as it grows, and kept."""
-    lines = "rt: chose --jobs 4 for yaml_scan\nchecked yaml_scan::keys::root, 57 of 114\n"
-    shown = []
-    for text in (lines.splitlines()[0] + "\n", lines.splitlines()[1] + "\n"):
-        log = os.path.join(room, "progress.log")
-        code = f'. "{TOP}/ffi/proving.sh"; : > "$1"; show_progress "$1" 10'
-        done = subprocess.run(["bash", "-c", code, "bash", log], input=text, capture_output=True, text=True, timeout=30)
-        with open(log, encoding="ascii") as kept:
-            shown.append((done.stderr, kept.read() == text))
-    wanted = [("yaml_scan: begun; 0 minutes, of about 10 from nothing\n", True),
-              ("yaml_scan: 57 of 114 functions checked; 0 minutes, of about 10 from nothing\n", True)]
-    return say(shown == wanted, f"the progress is that of the log{'' if shown == wanted else shown}")
+    """The progress is shown as the log has it, and the log is kept."""
+    log = os.path.join(room, "progress.log")
+    text = "".join(line + "\n" for line, _ in LOG)
+    code = f'. "{TOP}/ffi/proving.sh"; : > "$1"; show_progress "$1" 10 0'
+    done = subprocess.run(["bash", "-c", code, "bash", log], input=text, capture_output=True, text=True, timeout=30)
+    wanted = [f"{shown}; 0 min, of about 10 min from nothing" for _, shown in LOG]
+    with open(log, encoding="ascii") as kept:
+        good = kept.read() == text and done.stderr.splitlines() == wanted
+    return say(good, f"{len(LOG)} lines of a log, and the progress that is shown{'' if good else done.stderr}")
 
 
 def main():

@@ -374,6 +374,24 @@ def try_crate(place, crate, **how):
     return good and try_rows(place, "the crate's example", [f"{folder}/target/debug/examples/list"])
 
 
+# What is in Rust without a crate, and the folders that it is made of.
+RUST_PROGRAMS = {"highlight": "uses/highlight/highlight.rs", "list-rust": "ffi/list.rs", "held": "tests/held.rs"}
+RUST_FOLDERS = ["uses/highlight", "rust/src", "rust/examples/list"]
+
+
+def try_rust_programs(place, library):
+    """The programs in Rust without a crate, compiled by the rustc of the place, which may be the oldest that they allow."""
+    for folder in RUST_FOLDERS:
+        shutil.copytree(os.path.join(TOP, folder), place.outer(f"{place.folder}/{folder}"), dirs_exist_ok=True)
+    good = True
+    for name, source in RUST_PROGRAMS.items():
+        os.makedirs(os.path.dirname(place.outer(f"{place.folder}/{source}")), exist_ok=True)
+        shutil.copy(os.path.join(TOP, source), place.outer(f"{place.folder}/{source}"))
+        words = ["rustc", "-D", "warnings", "--edition", "2021", source, "-C", f"link-arg={library}", "-o", name]
+        good = try_command(place, f"{source} is compiled by {said_by(place, ['rustc', '--version'])}", words) and good
+    return good and try_rows(place, "ffi/list.rs", [f"{place.folder}/list-rust"])
+
+
 USER = """use bogzhami::{Fault, Scanner};
 
 fn main() -> Result<(), Fault> {
@@ -450,6 +468,7 @@ def try_debian(place, folder):
         try_cmake(place, "/usr/share/doc/libbogzhami-dev/examples/list.c"),
         try_crate(place, "/usr/share/bogzhami/rust"),
         try_dependent(place, "/usr/share/bogzhami/rust"),
+        try_rust_programs(place, f"{lib}/libbogzhami.a"),
         try_module(place),
         try_libyaml(place, f"{lib}/bogzhami"),
     ]
