@@ -41,8 +41,9 @@ fn link_named(folder: &OsStr) -> Result<(), String> {
         return Ok(());
     }
     let places: Vec<String> = tried.iter().map(|place| place.display().to_string()).collect();
-    let what = format!("no {STATIC} and no {SHARED} is in {}", places.join(" or in "));
-    Err(format!("{FOLDER} is {}, and {what}. ffi/build makes them in ffi/out of the repository", folder.to_string_lossy()))
+    let (folder, places) = (folder.to_string_lossy(), places.join(" or in "));
+    let what = format!("{FOLDER} is {folder}, and no {STATIC} and no {SHARED} is in {places}");
+    Err(format!("{what}. ffi/build makes them in ffi/out of the repository"))
 }
 
 /// Links the library of the checkout, or else that of pkg-config.

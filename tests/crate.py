@@ -1,14 +1,16 @@
 #!/usr/bin/env python3
 """Uses the crate of rust/ as those do who have a checkout, or the crate alone: crate.py [PROGRAM].
 
-In a copy of the checkout, in a folder with a blank in its name, its tests and its example run with no variable. From a crate of a
-user's, the library is found by a path that is absolute, and by one that is relative to where cargo is called. Where there is none, the
-message has the whole path that was looked at, and names ffi/build. What pkg-config says may have blanks. `cargo package` makes
-a crate that has all its sources, which builds elsewhere. A match on Data or Fault without an arm for others is refused.
+In a copy of the checkout, in a folder with a blank in its name, its tests and its example run with no variable. From a crate
+of a user's, the library is found by a path that is absolute, and by one that is relative to where cargo is called. Where there
+is none, the message has the whole path that was looked at, and names ffi/build. What pkg-config says may have blanks. `cargo
+package` makes a crate that has all its sources, which builds elsewhere. A match on Data or Fault without an arm for others is
+refused.
 
 It needs cargo and a C compiler, and is skipped, and says so, if there is none.
 """
 
+import filecmp
 import json
 import os
 import shutil
@@ -90,8 +92,8 @@ def make_checkout(top, has_library):
 def make_user(folder, crate, program=USER):
     """A crate of a user's that names this one."""
     write(os.path.join(folder, "src", "main.rs"), program)
-    manifest = f'[package]\nname = "user"\nversion = "1.0.0"\nedition = "2021"\n\n[dependencies]\nbogzhami = {{ path = "{crate}" }}\n'
-    write(os.path.join(folder, "Cargo.toml"), manifest)
+    about = '[package]\nname = "user"\nversion = "1.0.0"\nedition = "2021"\n'
+    write(os.path.join(folder, "Cargo.toml"), f'{about}\n[dependencies]\nbogzhami = {{ path = "{crate}" }}\n')
     return folder
 
 
@@ -100,7 +102,8 @@ def try_checkout(crate):
     status, told, said = run(crate, ["cargo", "test", "--offline"], **NONE)
     good = say(status == 0 and "test rows_are_listed ... ok" in told, f"cargo test in a checkout{said[-900:] if status else ''}")
     status, told, said = run(crate, ["cargo", "run", "-q", "--offline", "--example", "list"], SMALL, **NONE)
-    return say((status, told.splitlines()) == (0, LISTED), f"cargo run --example list in a checkout{said[-900:] if status else ''}") and good
+    is_listed = (status, told.splitlines()) == (0, LISTED)
+    return say(is_listed, f"cargo run --example list in a checkout{said[-900:] if status else ''}") and good
 
 
 def try_user(room, alone, library):
@@ -163,8 +166,8 @@ def try_package(room, crate, library):
     user = make_user(os.path.join(room, "elsewhere"), os.path.join(room, name))
     status, told, said = run(user, ["cargo", "run", "-q", "--offline"], BOGZHAMI_LIB_DIR=library, **NONE)
     good = say((status, told) == (0, USER_PRINTS), f"what cargo package makes is used elsewhere{said[-900:] if status else ''}")
-    with open(os.path.join(TOP, "LICENSE"), encoding="utf-8") as mine, open(os.path.join(room, name, "LICENSE"), encoding="utf-8") as its:
-        return say(mine.read() == its.read(), "the package has the licence of the repository") and good
+    is_same = filecmp.cmp(os.path.join(TOP, "LICENSE"), os.path.join(room, name, "LICENSE"), shallow=False)
+    return say(is_same, "the package has the licence of the repository") and good
 
 
 def try_manifest(crate):

@@ -1,5 +1,6 @@
 #!/usr/bin/env python3
-"""Runs ./test, ./package, ffi/build, uses/libyaml/build and ./run in every order of two, over a kit that proves nothing: orders.py [PROGRAM].
+"""Runs ./test, ./package, ffi/build, uses/libyaml/build and ./run, each after each, over a kit that proves nothing: orders.py
+[PROGRAM].
 
 A copy of the repository is a checkout of a commit, and its tests/ has scripts that only call the program and look for the
 library. Instead of the Rattle kit, lib/kit.py is on the path: it leaves what the kit leaves, out of the program and the library

@@ -46,7 +46,8 @@ def try_name_calls():
         wanted += [(len(found), "unknown"), (2**32 - 1, "unknown")]
         wrong += [(call, number, name) for number, name in wanted if text_of(library, call, number) != name]
         count += len(wanted)
-    wrong += [("status_text", number, text) for number, text in enumerate(STATUSES) if text_of(library, "status_text", number) != text]
+    texts = [(number, text, text_of(library, "status_text", number)) for number, text in enumerate(STATUSES)]
+    wrong += [("status_text", number, text) for number, text, found in texts if found != text]
     is_whole = len(numbers(header, "status")) == len(STATUSES) - 1
     print(f"ffi: {count + len(STATUSES)} numbers named, {len(wrong)} wrong {wrong or ''}")
     return not wrong and is_whole and count > 40
