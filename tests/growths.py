@@ -29,7 +29,7 @@ from worked import takes_no_memory
 
 HUNDRED = b"- x\n" * 100
 ZERO = "0:0:0"
-DEEP_STEP = 7  # of so many requests on a deep row one is refused
+DEEP_RUNS = 6  # so many requests of a command on a deep row are refused
 MOST_CALLS = 100_000  # so many calls are a word that a process may be given
 WANTED = f"FAULT memory 0 0 {ZERO} {ZERO} -; -"
 # the answers of testbench to calls after a fault
@@ -101,9 +101,9 @@ def kind_of(words, done, data, lines):
     return "beginning" if may_refuse and is_beginning else None
 
 
-def refuse_each(program, refuser, words, data, lines, step=1):
-    """Refuses none, then each request that is made then, in turn; returns what was seen. With a step above 1 only one request
-    of so many is refused, and none that comes before the input's end: how many those are depends on the pipe.
+def refuse_each(program, refuser, words, data, lines, runs=None):
+    """Refuses none, then each request that is made then, in turn; returns what was seen. With a number of runs about so many
+    of the requests are refused, and none that comes before the input's end: how many those are depends on the pipe.
 
     A request that comes before the input's end is read may be made again, and so may the first one after that if calls
     are listed: collecting the words, and the calls, asks for the room of all at once and then for less.
@@ -111,7 +111,7 @@ def refuse_each(program, refuser, words, data, lines, step=1):
     after_read = sum(run_counted(program, words, data, refuser, 0, after_reading=True)[1])
     seen, number, requests = {}, 0, after_read
     while number <= requests:
-        done, counts, held = run_counted(program, words, data, refuser, number, after_reading=step > 1)
+        done, counts, held = run_counted(program, words, data, refuser, number, after_reading=runs is not None)
         kind = None if held else kind_of(words, done, data, lines)
         if number == 0:
             requests = sum(counts)
@@ -122,7 +122,7 @@ def refuse_each(program, refuser, words, data, lines, step=1):
             told = [word[:80] for word in words]
             print(f"{told}, {data[:80]!r}, {number}: {done.returncode}, {done.stdout[-300:]!r}, {done.stderr!r}, {held} blocks")
         seen[kind] = seen.get(kind, 0) + 1
-        number += step
+        number += max(1, requests // runs) if runs else 1
     return seen
 
 
@@ -176,7 +176,7 @@ def main(program):
         total = {"whole": 0, "beginning": 0, "nothing": 0, None: 0}
         with ThreadPoolExecutor(max_workers=os.cpu_count()) as pool:
             found = list(pool.map(lambda one: refuse_each(program, refuser, *one), every))
-            found += pool.map(lambda one: refuse_each(program, refuser, *one, DEEP_STEP), deep)
+            found += pool.map(lambda one: refuse_each(program, refuser, *one, DEEP_RUNS), deep)
             for kind, count in [pair for seen in found for pair in seen.items()]:
                 total[kind] += count
             hundred = faults_of(testbench, refuser, "any", HUNDRED, "s" * 310)
