@@ -5,7 +5,10 @@ The lines of the inputs of vectors/ are the expected ones, as files and as membe
 UTF-8 and UTF-16, with and without a fault, are those of a plain loop. What can not be read gets a line that says why, and all
 else is scanned: missing files, folders, pipes, damaged archives. A worker is killed when it is in the middle of a part: the
 lines are all there, the files of that part that it had opened were opened twice, and every other file once. At a file that
-ends each worker, only that file is lost. If files are longer than those whose size is asked for, each is opened once. If the scheduler is killed, that is said, and the lines before are whole. What needs a C compiler or dask.distributed is skipped if there is none.
+ends each worker, only that file is lost. If files are longer than those whose size is asked for, each is opened once. If the
+scheduler is killed, that is said, and the lines before are whole. A write that fails has its status and says why; nothing is
+said at a pipe that is closed, or if the keyboard interrupts. What needs a C compiler or dask.distributed is skipped if there is
+none.
 """
 
 import collections
@@ -371,6 +374,55 @@ def try_alone(python, room):
     return not wrong
 
 
+def ended(python, room, how, more=()):
+    """The status and the words on standard error of a scan of many files that are not there, which a function ends."""
+    words = [python, CHECK, "--workers", "1", "--part", "1", *more, "absent"]
+    program = subprocess.Popen(words, cwd=room, stdout=subprocess.PIPE, stderr=subprocess.PIPE, start_new_session=True)
+    how(program)
+    errors = program.communicate(timeout=PATIENCE)[1].decode()
+    return program.returncode, errors
+
+
+def interrupt(program):
+    os.killpg(program.pid, signal.SIGINT)
+
+
+def close_pipe(program):
+    program.stdout.readline()
+    program.stdout.close()
+    program.stdout = None
+
+
+def interrupt_in_the_middle(program):
+    program.stdout.readline()
+    interrupt(program)
+
+
+def interrupted_after(seconds):
+    def wait(program):
+        time.sleep(seconds)
+        interrupt(program)
+
+    return wait
+
+
+def try_broken_off(python, room, *more):
+    """Writes that fail, a pipe that is closed, and interrupts at several times, from the keyboard: to all processes at once."""
+    write(room, "absent", b"".join(b"none%d\n" % number for number in range(60_000)))
+    ways = {"interrupted in the middle": interrupt_in_the_middle, "closed pipe": close_pipe}
+    ways.update((f"interrupted after {seconds} s", interrupted_after(seconds)) for seconds in (0.2, 0.7, 1.2, 1.7))
+    wanted = {name: (3 if name == "closed pipe" else 130, "") for name in ways}
+    found = {name: ended(python, room, how, more) for name, how in ways.items()}
+    for target, words in (("/dev/full", "No space left on device"), ("&-", "Bad file descriptor")):
+        command = ["sh", "-c", f'"$@" >{target}', "sh", python, CHECK, "--workers", "1", *more, "absent"]
+        done = subprocess.run(command, cwd=room, capture_output=True, text=True, timeout=PATIENCE)
+        found[target] = done.returncode, done.stderr
+        wanted[target] = 3, f"check: write failed: {words}\n"
+    wrong = {name: told for name, told in found.items() if told != wanted[name]}
+    print(f"many: {len(found)} ways to be broken off, {len(wrong)} wrong {str(wrong)[:600] if wrong else ''}")
+    return not wrong
+
+
 def main():
     python = python_with_dask()
     if shutil.which("cc") is None or python is None:
@@ -388,9 +440,10 @@ def main():
                 try_files(machines, room, counter),
                 try_archives(machines, room, counter),
                 try_unread(machines, room),
+                try_broken_off(python, room, "--scheduler", machines.address),
                 try_gone(machines, counter),
             ]
-        good.append(try_alone(python, room))
+        good += [try_alone(python, room), try_broken_off(python, room)]
     return 0 if all(good) else 1
 
 

@@ -22,10 +22,12 @@ import os
 import pickle
 import re
 import shutil
+import signal
 import subprocess
 import sys
 import tempfile
 import threading
+import time
 import tracemalloc
 from concurrent.futures import ThreadPoolExecutor
 
@@ -36,6 +38,7 @@ LIBRARY = os.path.join(TOP, "ffi", "out", "libbogzhami.so")
 sys.path[:0] = [HERE, os.path.join(HERE, "lib"), FOLDER]
 sys.dont_write_bytecode = True
 from ffi import vectors
+from installing import copy_of_checkout, wrong_in_checkout, wrong_stub, wrong_with_pip
 from library import build_library
 from libyaml import CODECS, batch_ends, long_texts, yaml_files
 from libyaml import vectors as settings_and_inputs
@@ -146,14 +149,96 @@ def try_listings(program):
             wrong.append((words, data))
     if program and os.path.isfile(program):
         wrong += [row[:2] for row, (text, status) in zip(worked, told) if by_program(program, row) != (text, status)]
-    statuses = [module(["bogzhami", *words])[1] for words in (["utf9"], ["any", "0"], ["any", "65537"], ["any", "1", "1"])]
     print(f"python: {len(every)} inputs and {len(worked)} worked rows listed, {len(wrong)} wrong {wrong[:3] or ''}")
-    return not wrong and statuses == [2] * 4 and len(every) > 20000 and len(worked) > 60
+    return not wrong and len(every) > 20000 and len(worked) > 60
 
 
 def by_program(program, row):
     done = subprocess.run([program, "scan", *row[0]], input=row[1], capture_output=True, timeout=60)
     return done.stdout.decode(), done.returncode
+
+
+def in_shell(line, *words, data=b""):
+    """The status of a command, which is `"$@"` in a line of a shell, and what it says on standard error."""
+    done = subprocess.run(["sh", "-c", line, "sh", *words], input=data, env=ENVIRONMENT, capture_output=True, timeout=60)
+    return done.returncode, done.stderr.decode()
+
+
+def broken_off(end):
+    """The status of the command, and what it says on standard error, if a function ends it."""
+    kinds = {"stdin": subprocess.PIPE, "stdout": subprocess.PIPE, "stderr": subprocess.PIPE}
+    with subprocess.Popen([sys.executable, "-m", "bogzhami"], env=ENVIRONMENT, **kinds) as program:
+        last = threading.Timer(20, program.kill)
+        last.start()
+        end(program)
+        told = program.stderr.read().decode()
+        last.cancel()
+        return program.wait(), told
+
+
+def write_first_line(program):
+    """Gives the command more than it can write at once, and returns when it has begun to write."""
+    program.stdin.write(b"- a\n" * 100_000)
+    program.stdin.close()
+    program.stdout.readline()
+
+
+def close_pipe(program):
+    write_first_line(program)
+    program.stdout.close()
+
+
+def interrupt(program):
+    """Interrupts a program until it ends: what comes just before a read begins is told only after that."""
+    for _ in range(100):
+        if program.poll() is None:
+            program.send_signal(signal.SIGINT)
+            time.sleep(0.1)
+
+
+def interrupt_writing(program):
+    write_first_line(program)
+    time.sleep(0.3)  # the pipe is full then
+    program.send_signal(signal.SIGINT)
+
+
+def interrupt_reading(program):
+    program.stdin.write(b"- a\n" * 100_000)  # more than a pipe has room for, so it is reading
+    program.stdin.flush()
+    interrupt(program)
+
+
+def try_statuses(program):
+    """Exit statuses of the command, and what it says: wrong words, reads and writes that fail, closed pipes and interrupts."""
+    own = [sys.executable, "-m", "bogzhami"]
+    name, long = "python3 -m bogzhami: ", b"- a\n" * 10_000
+    usage = "usage: python3 -m bogzhami [any|utf8|utf16le|utf16be [LIMIT]] < FILE\n"
+    full = 3, f"{name}write failed: No space left on device\n"
+    found = {
+        "utf9": (in_shell('"$@"', *own, "utf9"), (2, f"{name}no such encoding: utf9\n{usage}")),
+        "0": (in_shell('"$@"', *own, "any", "0"), (2, f"{name}no key limit: 0\n{usage}")),
+        "65537": (in_shell('"$@"', *own, "any", "65537"), (2, f"{name}no key limit: 65537\n{usage}")),
+        "1000000000001": (in_shell('"$@"', *own, "any", "1" + "0" * 11 + "1")[0], 2),
+        "more": (in_shell('"$@"', *own, "any", "1", "b", "c"), (2, f"{name}too many words: b c\n{usage}")),
+        "help": (module(["bogzhami", "--help"])[0].startswith(usage), True),
+        "version": (module(["bogzhami", "--version"]), (f"bogzhami {bogzhami.__version__}\n", 0)),
+        "full": (in_shell('"$@" > /dev/full', *own, data=b"a: 1"), full),
+        "long": (in_shell('"$@" > /dev/full', *own, data=long), full),
+        "help full": (in_shell('"$@" > /dev/full', *own, "--help"), full),
+        "no output": (in_shell('"$@" >&-', *own, data=long), (3, f"{name}write failed: Bad file descriptor\n")),
+        "no input": (in_shell('"$@" <&-', *own), (3, f"{name}read failed: Bad file descriptor\n")),
+        "no words": (in_shell('"$@" > /dev/full 2>&-', *own), (3, "")),
+        "pipe": (broken_off(close_pipe), (3, "")),
+        "writing": (broken_off(interrupt_writing), (130, "")),
+        "reading": (broken_off(interrupt_reading), (130, "")),
+    }
+    if program and os.path.isfile(program):
+        scan = [program, "scan", "any"]
+        for key, line, words, data in (("full", '"$@" > /dev/full', scan, b"a: 1"), ("utf9", '"$@"', [program, "scan", "utf9"], b"")):
+            found[f"{key} as yamltok"] = in_shell(line, *words, data=data)[0], found[key][1][0]
+    wrong = {key: told for key, (told, wanted) in found.items() if told != wanted}
+    print(f"python: {len(found)} exit statuses, {len(wrong)} wrong {wrong or ''}")
+    return not wrong
 
 
 def try_faults():
@@ -184,6 +269,30 @@ def refuses(kind, call, *arguments, **settings):
     return False
 
 
+class Slow(io.RawIOBase):
+    """A file that gives a few characters at a time."""
+
+    def __init__(self, data):
+        self.data, self.name = data, "slow"
+
+    def read(self, size):
+        data, self.data = self.data[: min(size, 3)], self.data[min(size, 3) :]
+        return data
+
+
+class Failing(io.RawIOBase):
+    """A file that fails at its second read."""
+
+    def __init__(self):
+        self.count = 0
+
+    def read(self, size):
+        self.count += 1
+        if self.count == 2:
+            raise OSError("no more")
+        return b"a: "
+
+
 def try_settings():
     """Kinds of input, settings, and texts that are not UTF-8."""
     utf16, given = bogzhami.Encoding.UTF16LE, bytearray(b"a: 1")
@@ -200,6 +309,9 @@ def try_settings():
         "zero": [token.value for token in bogzhami.scan("!a%00b b") if token.value],
         "style": [token.style for token in bogzhami.scan("- a\n- |\n b\n") if token.style],
         "limit": len(list(bogzhami.scan("'ab': 1", key_limit=4))),
+        "files": [token.value for data in ("- é", "- é".encode()) for token in bogzhami.scan(Slow(data)) if token.value],
+        "encoded": [token.value for token in bogzhami.scan(io.BytesIO(b"a\0"), encoding=utf16) if token.value],
+        "text file": [token.value for token in bogzhami.scan(io.StringIO("é"), encoding=utf16) if token.value],
     }
     wanted = {
         "nothing": ["STREAM_START", "STREAM_END"] * 3,
@@ -211,8 +323,15 @@ def try_settings():
         "zero": ["a\0b", "b"],
         "style": [bogzhami.ScalarStyle.PLAIN, bogzhami.ScalarStyle.LITERAL],
         "limit": 8,
+        "files": ["é"] * 2,
+        "encoded": ["a"],
+        "text file": ["é"],
     }
+    opened = io.BytesIO(b"a: 1")
+    bogzhami.scan(opened)
     refused = [
+        not opened.closed and not opened.read(),
+        refuses(OSError, bogzhami.scan, Failing()),
         refuses(ValueError, bogzhami.scan, b"", key_limit=0),
         refuses(ValueError, bogzhami.scan, b"", key_limit=65537),
         refuses(ValueError, bogzhami.scan, b"", encoding=4),
@@ -293,8 +412,10 @@ def try_memory():
                 found.append(token)
         except MemoryError:
             found.append("refused")
+    held.LIBRARY = Refusing(usual, True)
+    listed = list(main_module.listing(b"a", bogzhami.Encoding.ANY, 1024))
     held.LIBRARY = usual
-    good = found[0] == found[-1] == "refused" and len(found) == held.BATCH + 2
+    good = found[0] == found[-1] == "refused" and len(found) == held.BATCH + 2 and listed == [("FAULT memory", 1)]
     print(f"python: memory refused at once and after {len(found) - 2} tokens: {'as it is' if good else 'wrong'}")
     return good
 
@@ -339,6 +460,23 @@ def try_places(room):
     found = "found" if good else "wrong"
     print(f"python: the library named, beside the module and by its name: {found}; without one: status {none}")
     return good
+
+
+def try_installed(room):
+    """The package of a checkout, with no variable for the library, and what pip makes of it, with nothing fetched."""
+    top = copy_of_checkout(room)
+    wrong, told = wrong_in_checkout(sys.executable, top), []
+    for number, python in enumerate(dict.fromkeys(filter(os.path.exists, (sys.executable, DEBIAN)))):
+        own = os.path.join(room, f"pip{number}")
+        os.mkdir(own)
+        found = wrong_with_pip(python, top, own)
+        told.append(f"pip of {python}: {'skipped, it makes no virtual environment' if found is None else found or 'installed'}")
+        wrong += found or []
+    with open(os.path.join(FOLDER, "LICENSE"), "rb") as ours, open(os.path.join(TOP, "LICENSE"), "rb") as other:
+        wrong += ["LICENSE"] if ours.read() != other.read() else []
+    wrong += wrong_stub(bogzhami)
+    print(f"python: a checkout with no variable; {'; '.join(told)}; {len(wrong)} wrong {wrong or ''}")
+    return not wrong
 
 
 def try_example():
@@ -495,6 +633,9 @@ def try_values(every):
     """What is loaded, where the C loader has the same tokens: the same as by it, or by PyYAML's own loader."""
     pairs = [(pyyaml.BaseLoader, yaml.CBaseLoader, yaml.BaseLoader), (pyyaml.SafeLoader, yaml.CSafeLoader, yaml.SafeLoader)]
     pairs.append((pyyaml.FullLoader, yaml.CFullLoader, yaml.FullLoader))
+    pairs.append((pyyaml.Loader, yaml.CLoader, yaml.Loader))
+    pairs.append((pyyaml.UnsafeLoader, yaml.CUnsafeLoader, yaml.UnsafeLoader))
+    pairs.append((pyyaml.loader_like(yaml.SafeLoader), yaml.CSafeLoader, yaml.SafeLoader))
     seen, wrong = collections.Counter(), []
     for number, given in enumerate(every):
         if set(loading.difference(given, pyyaml.BaseLoader)) - {"open end", "spelling"}:
@@ -522,17 +663,6 @@ def told_by(given, loader):
     return None
 
 
-class Slow(io.RawIOBase):
-    """A file that gives a few characters at a time."""
-
-    def __init__(self, data):
-        self.data, self.name = data, "slow"
-
-    def read(self, size):
-        data, self.data = self.data[: min(size, 3)], self.data[min(size, 3) :]
-        return data
-
-
 def with_path(kind):
     """A loader with a resolver that looks at paths, and a constructor of its own."""
 
@@ -542,6 +672,65 @@ def with_path(kind):
     WithPath.add_path_resolver("!own", ["a", 0], str)
     WithPath.add_constructor("!own", lambda loader, node: node.value)
     return WithPath
+
+
+def own_loaders():
+    """A loader of one's own, and one that was made of it, before its last constructor is added."""
+
+    class Own(yaml.SafeLoader):
+        def __init__(self, stream, more=0):
+            self.more, self.of = more, getattr(stream, "name", None)
+            super().__init__(stream)
+
+        def construct_mapping(self, node, deep=False):
+            return {"more": self.more, "of": self.of, **super().construct_mapping(node, deep)}
+
+        def compose_node(self, parent, index):
+            node = super().compose_node(parent, index)
+            return yaml.SequenceNode("tag:yaml.org,2002:seq", []) if node.tag == "!empty" else node
+
+    Own.add_implicit_resolver("!twice", re.compile(r"\d+\*2$"), list("0123456789"))
+    like = pyyaml.loader_like(Own)
+    Own.add_constructor("!twice", lambda loader, node: 2 * int(node.value[:-2]))
+    return Own, like
+
+
+def try_likes():
+    """Constructors that are added to `yaml.SafeLoader` and to loaders of one's own: who knows them."""
+    own, like = own_loaders()
+    text = "a: 4*2\nb: {c: !empty [d]}\n"
+    inputs = [text, text.encode(), text.encode("utf-16"), Slow(text), Slow(text.encode())]
+    again = [text, text.encode(), text.encode("utf-16"), Slow(text), Slow(text.encode())]
+    loaded_by = [[yaml.load(given, Loader=loader) for given in all_of] for loader, all_of in ((own, inputs), (like, again))]
+
+    class Changed(yaml.SafeLoader):
+        pass
+
+    Changed.add_constructor("!x", lambda loader, node: node.start_mark.line)
+    both, before = pyyaml.loader_like(Changed), yaml.SafeLoader.yaml_constructors.keys()
+    yaml.SafeLoader.add_constructor("!added", lambda loader, node: "added")
+    added = told_by("!added a", pyyaml.loader_like(yaml.SafeLoader)), told_by("!added a", pyyaml.SafeLoader) is None
+    del yaml.SafeLoader.yaml_constructors["!added"]
+    tuples = [yaml.load("!!python/tuple [a]", Loader=loader) for loader in (pyyaml.FullLoader, pyyaml.UnsafeLoader, pyyaml.Loader)]
+    calls = [loaded("!!python/object/apply:len [[a]]", loader) for loader in (pyyaml.UnsafeLoader, pyyaml.Loader, pyyaml.FullLoader)]
+    checks = [
+        loaded_by[0] == loaded_by[1] and loaded_by[1][3]["of"] == "slow" and loaded_by[1][0]["a"] == 8,
+        like("a", more=3).more == like("a", 3).more == 3 and like.__name__ == "Own" and issubclass(like, own),
+        yaml.load("\n!x a", Loader=both) == 1 and told_by("a: b: c", both) == told_by("a: b: c", pyyaml.SafeLoader),
+        added == (None, False) and "!added" not in before,
+        tuples == [("a",)] * 3 and calls == [["1"], ["1"], "ConstructorError"],
+        all(refuses(TypeError, pyyaml.loader_like, kind) for kind in (yaml.CSafeLoader, pyyaml.SafeLoader, str, None)),
+        listed_version("1.3") == ["same", "ParserError"] and listed_version("1.2")[1] != "ParserError",
+    ]
+    wrong = [number for number, good in enumerate(checks) if not good] + wrong_stub(pyyaml)
+    print(f"python: loaders like others, {len(wrong)} of {len(checks)} checks wrong {wrong or ''}")
+    return not wrong
+
+
+def listed_version(version):
+    """What is made of a document of a version: whether it is as by PyYAML's own loader, and what its C loader makes of it."""
+    ours, own, their = (loaded(f"%YAML {version}\n--- a", kind) for kind in (pyyaml.SafeLoader, yaml.SafeLoader, yaml.CSafeLoader))
+    return ["same" if ours == own == ["'a'"] else "other", their]
 
 
 def try_errors():
@@ -619,7 +808,7 @@ def try_pyyaml():
 
     every = list(every_input())
     some = every[:100] + every[100::6]
-    return all([try_tokens(every), try_own_scanner(some), try_events(some), try_values(some), try_errors()])
+    return all([try_tokens(every), try_own_scanner(some), try_events(some), try_values(some), try_errors(), try_likes()])
 
 
 def main():
@@ -638,12 +827,14 @@ def main():
     with tempfile.TemporaryDirectory() as room:
         good = [
             try_listings(sys.argv[1] if len(sys.argv) > 1 else None),
+            try_statuses(sys.argv[1] if len(sys.argv) > 1 else None),
             try_faults(),
             try_settings(),
             try_ends(),
             try_memory(),
             try_threads(),
             try_places(room),
+            try_installed(room),
             try_example(),
             try_pyyaml(),
             try_yamllint(list(every_input()), room),

@@ -9,7 +9,7 @@ runs yamllint over this scanner, and `python3 -m bogzhami` lists tokens.
 
 from typing import Iterator, Union
 
-from .held import Batch, Held, Refusal, bytes_of
+from .held import Batch, Held, Readable, Refusal, bytes_of, read_all
 from .tokens import Encoding, Fault, Mark, ScalarStyle, Text, Token, TokenType, fault_of
 
 __version__ = "1.0.0"
@@ -23,21 +23,23 @@ _ENCODINGS = tuple(Encoding)
 
 
 def scan(
-    data: Union[str, bytes, bytearray, memoryview],
+    data: Union[str, bytes, bytearray, memoryview, Readable],
     encoding: Encoding = Encoding.ANY,
     key_limit: int = 1024,
 ) -> Iterator[Token]:
     """Yields the tokens of an input, up to the stream end or the fault, which is raised after the tokens before it.
 
     The input is scanned as its tokens are taken, 256 at a time, so what is not asked for is not scanned. A `str` is scanned
-    as UTF-8, whatever encoding is set, and may begin with U+FEFF as a file does; bytes that can change are copied first. The
-    key limit is how many bytes a simple key may have, 1 to 65536. Whoever stops early need not do anything: the scanner is
-    freed with the generator, or when that is closed. Several threads may scan at once, each with a generator of its own.
+    as UTF-8, whatever encoding is set, and may begin with U+FEFF as a file does; bytes that can change are copied first. A
+    file is read to its end at once, and is not closed. The key limit is how many bytes a simple key may have, 1 to 65536.
+    Whoever stops early need not do anything: the scanner is freed with the generator, or when that is closed. Several
+    threads may scan at once, each with a generator of its own.
 
     Raises Fault; ValueError, at once, for wrong settings; MemoryError if memory is refused.
     """
-    setting = Encoding.ANY if isinstance(data, str) else Encoding(encoding)
-    given = bytes_of(data)
+    text = read_all(data) if hasattr(data, "read") else data
+    setting = Encoding.ANY if isinstance(text, str) else Encoding(encoding)
+    given = bytes_of(text)
     return _tokens(Held(given, setting, key_limit), given, setting)
 
 

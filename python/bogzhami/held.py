@@ -3,13 +3,14 @@
 import ctypes
 import struct
 import threading
-from typing import Iterator, NamedTuple, Optional, Tuple, Union
+from typing import Iterator, NamedTuple, Optional, Protocol, Tuple, Union
 
 from .library import FAULT, LIBRARY, MEMORY_ERROR, NO_MEMORY, NO_ROOM, READER_ERROR, WRONG
 from .library import Answer, Handle, Place, Record
 
 BATCH = 256
 TEXT_ROOM = 1 << 14
+PIECE = 1 << 16
 
 # Parts of a record: what every token has, its texts, and the version of a directive.
 SIZE = ctypes.sizeof(Record)
@@ -51,6 +52,23 @@ class Batch(NamedTuple):
     def version_of(self, number: int) -> Tuple[int, int]:
         """The version in the record of that number."""
         return VERSION.unpack_from(self.records, SIZE * number)
+
+
+class Readable(Protocol):
+    """An open file, or what has a `read` as a file has."""
+
+    def read(self, size: int, /) -> Union[str, bytes]:
+        ...
+
+
+def read_all(stream: Readable) -> Union[str, bytes]:
+    """All that is read from a file, up to its end."""
+    piece = stream.read(PIECE)
+    pieces = [piece]
+    while piece:
+        piece = stream.read(PIECE)
+        pieces.append(piece)
+    return pieces[-1].join(pieces)
 
 
 def bytes_of(data: Union[str, bytes, bytearray, memoryview]) -> bytes:

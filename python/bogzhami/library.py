@@ -1,12 +1,12 @@
 """The shared library `libbogzhami`: where it is found, its calls and its records.
 
-`BOGZHAMI_LIBRARY` in the environment names the file, if it is set. Otherwise the library is looked for beside this file, and
-then by its name where the system keeps its libraries.
+`BOGZHAMI_LIBRARY` in the environment names the file, if it is set. Otherwise the library is looked for beside this file, then,
+in a checkout, where `ffi/build` puts it, and then by its name where the system keeps its libraries.
 """
 
 import ctypes
 import os
-from typing import Iterator
+from typing import Iterator, List
 
 NAMES = ("libbogzhami.so.1", "libbogzhami.so")
 
@@ -69,8 +69,15 @@ def paths() -> Iterator[str]:
         yield named
         return
     here = os.path.dirname(os.path.abspath(__file__))
-    yield from (os.path.join(here, name) for name in NAMES if os.path.exists(os.path.join(here, name)))
+    places = [os.path.join(folder, name) for folder in (here, *made_in_checkout(here)) for name in NAMES]
+    yield from filter(os.path.exists, places)
     yield from NAMES
+
+
+def made_in_checkout(here: str) -> List[str]:
+    """The folder where `ffi/build` puts the library, if this is the package of a checkout."""
+    ffi = os.path.join(os.path.dirname(os.path.dirname(here)), "ffi")
+    return [os.path.join(ffi, "out")] if os.path.exists(os.path.join(ffi, "bogzhami.h")) else []
 
 
 def load() -> ctypes.CDLL:
@@ -81,7 +88,8 @@ def load() -> ctypes.CDLL:
             return declared(ctypes.CDLL(path))
         except (OSError, AttributeError) as reason:
             reasons.append(f"{path}: {reason}")
-    raise ImportError("no libbogzhami; BOGZHAMI_LIBRARY may name its file\n" + "\n".join(reasons))
+    words = "no libbogzhami: in a checkout ffi/build makes it, and BOGZHAMI_LIBRARY may name its file"
+    raise ImportError("\n".join([words, *reasons]))
 
 
 def declared(library: ctypes.CDLL) -> ctypes.CDLL:

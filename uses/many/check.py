@@ -9,6 +9,7 @@ and column, or `-`. The exit status is 0, 1 if a file has a fault, 2 if a file w
 import argparse
 import collections
 import contextlib
+import errno
 import hashlib
 import itertools
 import logging
@@ -16,10 +17,12 @@ import math
 import os
 import pickle
 import queue
+import signal
 import sys
 import tarfile
 import time
 from concurrent.futures import CancelledError
+from multiprocessing import resource_tracker
 
 HERE = os.path.dirname(os.path.abspath(__file__))
 sys.path.insert(0, HERE)
@@ -27,6 +30,7 @@ sys.dont_write_bytecode = True
 import count
 from count import FILE_WEIGHT, Entry, Part, joined, member_name, scan_part, unread_line
 
+UNWRITTEN, INTERRUPTED = 3, 130  # exit statuses
 try:
     import dask.config
     from distributed import Client, KilledWorker, LocalCluster, WorkerPlugin, get_worker
@@ -34,6 +38,8 @@ try:
 except ImportError as lacking:
     sys.stderr.write(f"check: {lacking}: dask.distributed is needed (Debian: python3-distributed, for /usr/bin/python3)\n")
     sys.exit(2)
+except KeyboardInterrupt:
+    sys.exit(INTERRUPTED)
 
 LIBRARY = os.path.join(HERE, "..", "..", "ffi", "out", "libbogzhami.so")
 ARCHIVES = (b".tar", b".tar.gz", b".tgz", b".tar.bz2", b".tbz2", b".tar.xz", b".txz")
@@ -74,11 +80,8 @@ def scan_on_worker(packed):
 
 def read_list(name):
     """The lines of the list, without the empty ones."""
-    if name == "-":
-        data = sys.stdin.buffer.read()
-    else:
-        with open(name, "rb") as file:
-            data = file.read()
+    with open(0 if name == "-" else name, "rb", closefd=name != "-") as file:
+        data = file.read()
     return [line for line in data.split(b"\n") if line]
 
 
@@ -263,7 +266,21 @@ class Scan:
             yield self.order.pop(0)
 
 
-# What is shown
+# What is written and shown
+
+
+class Unwritten(Exception):
+    """A failed write of lines, with the system's error."""
+
+
+def write_out(data):
+    """Writes to standard output at once, so that nothing is left to be written if it fails."""
+    try:
+        left = memoryview(data)
+        while left:
+            left = left[os.write(1, left) :]
+    except OSError as reason:
+        raise Unwritten(reason) from None
 
 
 class Bar:
@@ -291,28 +308,40 @@ class Bar:
 
 def write_all(scan, cut, processors, bar):
     """Writes the lines of all parts in the order of the list, and returns their counts."""
-    found, behind, out = Part(b"", 0, 0, 0, 0, 0), 0, sys.stdout.buffer
+    found, behind = Part(b"", 0, 0, 0, 0, 0), 0
     for part in scan.parts(cut.jobs(processors)):
         for job in scan.ready():
-            out.write(job.lines)
+            write_out(job.lines)
             behind += job.weight
-        out.flush()
         found = joined([found, part])
         bar.show(behind / cut.total, found)
     return found
 
 
 @contextlib.contextmanager
-def open_client(words):
-    """A client of the scheduler that is named, or of a cluster on this machine."""
+def uninterrupted():
+    """Keeps an interrupt from the keyboard waiting. Threads that begin meanwhile, and what they begin, never get any."""
+    came = []
+    resource_tracker.ensure_running()  # else a thread that makes a process begins it, and gets interrupts after that
+    handler = signal.signal(signal.SIGINT, lambda *_: came.append(True))
+    mask = signal.pthread_sigmask(signal.SIG_BLOCK, {signal.SIGINT})
+    try:
+        yield
+    finally:
+        signal.pthread_sigmask(signal.SIG_SETMASK, mask)
+        signal.signal(signal.SIGINT, handler)
+    if came and handler is not signal.SIG_IGN:
+        raise KeyboardInterrupt
+
+
+def begin_client(words, begun):
+    """A client of the scheduler that is named, or of a cluster on this machine. It is closed with what has begun."""
     if words.scheduler:
-        with Client(words.scheduler) as client:
-            yield client
-        return
+        return begun.enter_context(Client(words.scheduler))
     workers = words.workers or len(os.sched_getaffinity(0))
     settings = {"threads_per_worker": 1, "dashboard_address": None, "silence_logs": logging.CRITICAL}
-    with LocalCluster(n_workers=workers, **settings) as cluster, Client(cluster) as client:
-        yield client
+    cluster = begun.enter_context(LocalCluster(n_workers=workers, **settings))
+    return begun.enter_context(Client(cluster))
 
 
 def arguments():
@@ -330,7 +359,9 @@ def arguments():
 
 def scan_list(words, cut):
     """Scans what a list names, and returns the exit status."""
-    with open_client(words) as client:
+    with contextlib.ExitStack() as begun:
+        with uninterrupted():
+            client = begin_client(words, begun)
         client.wait_for_workers(1)
         scan = Scan(client, words.library, os.fsencode(os.getcwd()))
         processors, bar = scan.processors, Bar()
@@ -344,10 +375,18 @@ def main():
     logging.disable(logging.CRITICAL)  # what dask.distributed would say of workers and schedulers that end
     dask.config.set(NO_CHARTS)
     try:
+        if sys.stdout is None:  # another file might have its number
+            raise Unwritten(OSError(errno.EBADF, os.strerror(errno.EBADF)))
         count.Counter(words.library)
         return scan_list(words, Cut(read_list(words.list), max(1, round(words.part * MEGABYTE))))
     except (CancelledError, CommClosedError):
         sys.stderr.write("check: the scheduler is gone\n")
+    except Unwritten as wrong:
+        if wrong.args[0].errno != errno.EPIPE:
+            sys.stderr.write(f"check: write failed: {wrong.args[0].strerror}\n")
+        return UNWRITTEN
+    except KeyboardInterrupt:
+        return INTERRUPTED
     except OSError as wrong:
         sys.stderr.write(f"check: {wrong}\n")
     return 2

@@ -1,32 +1,22 @@
 """The loaders, and the scanner that PyYAML's parser asks for tokens."""
 
-from typing import Any, List, Optional, Type, Union
+from typing import Any, List, Optional, Type, TypeVar
 
-from yaml.constructor import BaseConstructor, FullConstructor, SafeConstructor
+from yaml.constructor import BaseConstructor, Constructor, FullConstructor, SafeConstructor, UnsafeConstructor
 from yaml.error import YAMLError
-from yaml.reader import ReaderError
+from yaml.reader import Reader, ReaderError
 from yaml.resolver import BaseResolver, Resolver
-from yaml.scanner import ScannerError
+from yaml.scanner import Scanner, ScannerError
 from yaml.tokens import ScalarToken, Token
 
-from ..held import Batch, Held, Refusal, bytes_of
+from ..held import Batch, Held, Refusal, bytes_of, read_all
 from ..text import CODECS
 from .marks import Source
 from .shortcuts import QuickComposer, QuickParser
 from .tokens import Maker
 
 ANY = 0
-PIECE = 1 << 16
-
-
-def read_all(stream: Any) -> Union[str, bytes]:
-    """All that is read from a file, or from what has a `read` as a file has."""
-    piece = stream.read(PIECE)
-    pieces = [piece]
-    while piece:
-        piece = stream.read(PIECE)
-        pieces.append(piece)
-    return pieces[-1].join(pieces)
+Kind = TypeVar("Kind")
 
 
 class Scanning:
@@ -146,3 +136,56 @@ class FullLoader(Scanning, QuickParser, QuickComposer, FullConstructor, Resolver
         QuickComposer.__init__(self)
         FullConstructor.__init__(self)
         Resolver.__init__(self)
+
+
+class UnsafeLoader(Scanning, QuickParser, QuickComposer, UnsafeConstructor, Resolver):
+    """As `yaml.UnsafeLoader`: any object of Python, so an input can do anything that Python can."""
+
+    def __init__(self, stream: Any) -> None:
+        Scanning.__init__(self, stream)
+        QuickParser.__init__(self)
+        QuickComposer.__init__(self)
+        UnsafeConstructor.__init__(self)
+        Resolver.__init__(self)
+
+
+class Loader(Scanning, QuickParser, QuickComposer, Constructor, Resolver):
+    """As `yaml.Loader`, which is `yaml.UnsafeLoader` by its older name."""
+
+    def __init__(self, stream: Any) -> None:
+        Scanning.__init__(self, stream)
+        QuickParser.__init__(self)
+        QuickComposer.__init__(self)
+        Constructor.__init__(self)
+        Resolver.__init__(self)
+
+
+class Replacing(Scanning, Reader, Scanner, QuickParser, QuickComposer):
+    """What stands before PyYAML's reader and scanner in a class that has them: they are made, and read nothing."""
+
+    def check_printable(self, data: str) -> None:
+        pass
+
+    def determine_encoding(self) -> None:
+        pass
+
+    def fetch_stream_start(self) -> None:
+        pass
+
+
+def loader_like(kind: Type[Kind]) -> Type[Kind]:
+    """A class of loaders that is derived from another one, and scans as those of this module do.
+
+    It has what that class has: constructors and resolvers, also those that are added to it later, and methods of its own. It
+    may be any class with PyYAML's reader and scanner in Python, such as `yaml.SafeLoader` or what is derived from it.
+    """
+    if not (isinstance(kind, type) and issubclass(kind, Reader) and issubclass(kind, Scanner)):
+        raise TypeError(f"{kind!r} has not PyYAML's reader and scanner in Python, as yaml.SafeLoader has")
+
+    class Like(kind, Replacing):  # type: ignore[misc, valid-type]
+        def __init__(self, stream: Any, *words: Any, **named: Any) -> None:
+            Scanning.__init__(self, stream)
+            super().__init__(stream, *words, **named)
+
+    Like.__name__, Like.__qualname__, Like.__doc__ = kind.__name__, kind.__qualname__, kind.__doc__
+    return Like

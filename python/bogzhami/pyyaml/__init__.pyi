@@ -1,0 +1,38 @@
+from typing import IO, Any, List, Optional, Type, TypeVar, Union
+
+from yaml.composer import Composer
+from yaml.constructor import BaseConstructor, Constructor, FullConstructor, SafeConstructor, UnsafeConstructor
+from yaml.parser import Parser
+from yaml.resolver import BaseResolver, Resolver
+from yaml.tokens import Token
+
+_Kind = TypeVar("_Kind")
+_Stream = Union[str, bytes, IO[str], IO[bytes]]
+
+__all__ = ["BaseLoader", "FullLoader", "Loader", "SafeLoader", "Scanning", "UnsafeLoader", "loader_like"]
+
+class Scanning:
+    key_limit: int
+    name: str
+    def __init__(self, stream: _Stream) -> None: ...
+    def check_token(self, *choices: Type[Token]) -> bool: ...
+    def peek_token(self) -> Optional[Token]: ...
+    def get_token(self) -> Optional[Token]: ...
+    def dispose(self) -> None: ...
+
+class BaseLoader(Scanning, Parser, Composer, BaseConstructor, BaseResolver):
+    def __init__(self, stream: _Stream) -> None: ...
+
+class SafeLoader(Scanning, Parser, Composer, SafeConstructor, Resolver):
+    def __init__(self, stream: _Stream) -> None: ...
+
+class FullLoader(Scanning, Parser, Composer, FullConstructor, Resolver):
+    def __init__(self, stream: _Stream) -> None: ...
+
+class UnsafeLoader(Scanning, Parser, Composer, UnsafeConstructor, Resolver):
+    def __init__(self, stream: _Stream) -> None: ...
+
+class Loader(Scanning, Parser, Composer, Constructor, Resolver):
+    def __init__(self, stream: _Stream) -> None: ...
+
+def loader_like(kind: Type[_Kind]) -> Type[_Kind]: ...
