@@ -311,7 +311,7 @@ def check_kits():
 def check_versions():
     version = read("VERSION").strip()
     places = {
-        "CHANGELOG.md": r"^## (\S+)$",
+        "CHANGELOG.md": r"^## (\S+), \d{4}-\d\d-\d\d$",
         "ffi/bogzhami.h": r'^#define BOGZHAMI_VERSION "(.*)"$',
         "rust/Cargo.toml": r'^version = "(.*)"$',
         "python/bogzhami/__init__.py": r'^__version__ = "(.*)"$',

@@ -25,6 +25,7 @@ from concurrent.futures import ThreadPoolExecutor
 HERE = os.path.dirname(os.path.abspath(__file__))
 sys.path.insert(0, os.path.join(HERE, "lib"))
 sys.dont_write_bytecode = True
+import debian
 from library import TOP, VERSION
 from places import NoRoot, make_folder, make_root
 from worked import rows
@@ -92,6 +93,14 @@ def append(path, data):
         out.write(data)
 
 
+def change(path, pattern, text):
+    """Replaces the first place of a pattern."""
+    with open(path, encoding="utf-8") as old:
+        changed = re.sub(pattern, text, old.read(), count=1, flags=re.M)
+    with open(path, "w", encoding="utf-8") as out:
+        out.write(changed)
+
+
 def machine_files(folder, names):
     """What a copy of the repository leaves out of a folder."""
     return (MACHINE_FILES | MACHINE_FILES_IN.get(os.path.relpath(folder, TOP), set())).intersection(names)
@@ -131,6 +140,11 @@ def refusals(top):
     commit_all(top)
     yield "what ./test has proved is not these sources", package(top)
     git(top, "reset", "-q", "--hard", "HEAD~")
+    for wanted, pattern, text in [("has no date", r", \d{4}-\d\d-\d\d$", ""), ("its newest version is not", "^## 1", "## 31")]:
+        change(os.path.join(top, "CHANGELOG.md"), pattern, text)
+        commit_all(top)
+        yield f"CHANGELOG.md: .*{wanted}", package(top)
+        git(top, "reset", "-q", "--hard", "HEAD~")
 
 
 def digests(folder):
@@ -145,7 +159,7 @@ def try_refusals(room):
     top = os.path.join(room, "copy")
     shutil.copytree(TOP, top, symlinks=True, ignore=machine_files)
     found = [(wanted, status, told) for wanted, (status, told) in refusals(top)]
-    wrong = [one for one in found if one[1] != 1 or not one[2].startswith("package: " + one[0])]
+    wrong = [one for one in found if one[1] != 1 or not re.match("package: " + one[0], one[2])]
     say(not wrong, f"{len(found)} states refused, {len(wrong)} not as they should be {shown(wrong)}")
     good, told = not wrong, package(top)
     if told[0] and "install " in told[1]:
@@ -155,7 +169,22 @@ def try_refusals(room):
     first = digests(top)
     again = package(top)[0] == 0 and digests(top) == first
     git_is_clean = not subprocess.run(["git", "-C", top, "status", "--porcelain"], capture_output=True).stdout
-    return say(again and git_is_clean, f"{len(first.splitlines())} files made of a commit, the same bytes twice") and good
+    good = say(again and git_is_clean, f"{len(first.splitlines())} files made of a commit, the same bytes twice") and good
+    return try_unpacked(room, top) and good
+
+
+def try_unpacked(room, top):
+    """Makes the packages of the source package, which is unpacked where there is no checkout: they are those of the commit."""
+    if not glob.glob(os.path.join(top, "dist", "*.dsc")):
+        return skip("an unpacked source package: none was made")
+    folder = os.path.join(room, "unpacked")
+    debian.unpack_source(os.path.join(top, "dist"), folder)
+    copy_built(folder)
+    append(os.path.join(folder, "bin", "proved"), b"tests 2 passed, 0 failed\n")
+    status, told = package(folder)
+    wanted = [line for line in digests(top).splitlines() if not line.endswith((".dsc", ".tar.xz"))]
+    good = status == 0 and digests(folder).splitlines() == wanted
+    return say(good, f"{len(wanted)} files made of the source package, the same bytes as of the commit{'' if good else told[-600:]}")
 
 
 # WHAT IS IN THE PACKAGES
@@ -242,6 +271,42 @@ def try_manual(folder):
     manual = text_of(os.path.join(section, "bogzhami.3.gz"))
     wrong += [f"bogzhami(3) does not name {name}" for name in sorted(names) if not re.search(rf"\b{name}\b", manual)]
     return say(not wrong and len(names) > 14, f"{len(pages)} manual pages, {len(names)} names, {len(wrong)} wrong {shown(wrong)}")
+
+
+# THE DEBIAN PACKAGES AS FILES
+
+def try_lintian(made):
+    if shutil.which("lintian") is None:
+        return skip("lintian: there is none")
+    wrong = debian.lintian(made)
+    return say(not wrong, f"lintian: {len(wrong)} lines that no override explains {shown(wrong)}")
+
+
+def try_files(made, tarball, room):
+    """Looks into the Debian packages, the source package and the tarball: programs, symbols, changelogs, addresses and documents."""
+    if not glob.glob(os.path.join(made, "*.deb")):
+        return skip("the Debian packages as files: none were made")
+    folders = debian.unpack(made, os.path.join(room, "debs"))
+    every, library = [tarball, *folders.values()], os.path.join(TOP, PROVED[3])
+    wrong = [line for folder in every for line in debian.wrong_programs(folder)]
+    wrong += debian.wrong_symbols(folders, library) + debian.wrong_homepage(folders, tarball)
+    logs = [f"{folder}/usr/share/doc/{name}/changelog.gz" for name, folder in folders.items()]
+    wrong += [line for log in logs for line in debian.wrong_changelog(log, FULL)]
+    wrong += [] if debian.OF_V2.search(debian.disassembled(library)) else ["the library needs no x86-64-v2"]
+    good = say(not wrong, f"{len(every)} packages: programs, symbols, changes and addresses, {len(wrong)} wrong {shown(wrong)}")
+    return try_documents(made, folders, tarball) and good
+
+
+def try_documents(made, folders, tarball):
+    source_tarball = f"bogzhami_{FULL}.tar.xz"
+    if not os.path.exists(os.path.join(made, source_tarball)):
+        return skip("paths in documents, and the source package: it was not made")
+    sources = debian.source_names(os.path.join(made, source_tarball))
+    wrong = debian.wrong_source(sources)
+    good = say(not wrong, f"{len(sources)} files and folders in the source package, {len(wrong)} wrong {shown(wrong)}")
+    wrong = [line for folder in [tarball, *folders.values()]
+             for line in debian.wrong_paths(folder, folders.values(), sources, source_tarball)]
+    return say(not wrong, f"paths in the documents of the packages, {len(wrong)} lead nowhere {shown(wrong)}") and good
 
 
 # WHAT IS DONE WITH THEM
@@ -571,7 +636,7 @@ def main():
         with ThreadPoolExecutor(max_workers=1) as pool:
             place = pool.submit(make_place, room)
             folder = look_into(room, os.path.join(made, NAME + ".tar.gz"))
-            good = [try_contents(folder, told), try_manual(folder), try_refusals(room)]
+            good = [try_contents(folder, told), try_manual(folder), try_files(made, folder, room), try_lintian(made), try_refusals(room)]
             good.append(try_packages(made, place.result()))
     return 0 if all(good) else 1
 
