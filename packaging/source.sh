@@ -53,8 +53,8 @@ write_source_control() {
   for file in "$top"/packaging/debian/*; do
     ! grep -qs '^Package: ' "$file" || {
       echo
-      sed -E -e '/^(Source|Version|Maintainer|Installed-Size|Homepage|Priority|Section: libs$)/d' -e "s|@MAJOR@|$major|; s|@ARCHITECTURE@|any|" \
-        -e 's|^Depends: .*|Depends: ${shlibs:Depends}, ${misc:Depends}|' "$file"
+      sed -E -e '/^(Source|Version|Maintainer|Installed-Size|Homepage|Priority|Section: libs$)/d' \
+        -e "s|@MAJOR@|$major|; s|@ARCHITECTURE@|any|" -e 's|^Depends: .*|Depends: ${shlibs:Depends}, ${misc:Depends}|' "$file"
     }
   done
 }
@@ -70,7 +70,10 @@ write_source_copyright() {
 
 make_source_package() {
   local root=$work/bogzhami-$full
-  git -C "$top" rev-parse --verify -q HEAD > /dev/null 2>&1 || { echo "package: skipped the source package: this is no checkout"; return; }
+  if ! git -C "$top" rev-parse --verify -q HEAD > /dev/null 2>&1; then
+    echo "package: skipped the source package: this is no checkout"
+    return
+  fi
   mkdir -p "$root/debian/source"
   list_sources | tar -C "$top" --null -T - -c | tar -C "$root" -x
   install -m 755 "$top/packaging/debian/source/rules" "$root/debian/rules"
@@ -81,5 +84,5 @@ make_source_package() {
   write_changelog > "$root/debian/changelog"
   write_source_copyright > "$root/debian/copyright"
   { commit_of_tree; echo "$SOURCE_DATE_EPOCH"; } > "$root/debian/commit"
-  (cd "$dist" && dpkg-source -b "$root" > "$work/source.log" 2>&1) || { cat "$work/source.log" >&2; refuse "dpkg-source has failed"; }
+  (cd "$dist" && dpkg-source -b "$root" > "$work/source.log" 2>&1) || refuse "dpkg-source: $(tail -n 3 "$work/source.log")"
 }

@@ -26,6 +26,7 @@ sys.path.insert(0, os.path.join(HERE, "lib"))
 sys.dont_write_bytecode = True
 from library import TOP, VERSION, build_library
 from package import git, machine_files
+from places import make_kit
 from worked import rows
 
 PROGRAM = os.path.join("crates", "yamltok", "out", "yamltok")
@@ -67,25 +68,6 @@ def skip(text):
 
 
 # A COPY OF THE REPOSITORY, AND A KIT
-
-def make_kit(room, program):
-    """A kit that has the program, the testbench and the scanner of the library that are built."""
-    made, tools = os.path.join(room, "kit", "made"), os.path.join(room, "kit", "bin")
-    for folder in (made, tools, os.path.join(room, "kit", "c")):
-        os.makedirs(folder)
-    for name in ("rt", "rattle"):
-        shutil.copy(os.path.join(HERE, "lib", "kit.py"), os.path.join(tools, name))
-    with open(os.path.join(tools, "apt-get"), "w", encoding="ascii") as out:
-        out.write("#!/bin/sh\n")
-    os.chmod(os.path.join(tools, "apt-get"), 0o755)
-    testbench = os.path.join(os.path.dirname(program), "..", "..", "testbench", "out", "testbench")
-    shutil.copy(program, os.path.join(made, "yamltok"))
-    shutil.copy(testbench if os.path.exists(testbench) else program, os.path.join(made, "testbench"))
-    archive = os.path.join(made, "libyaml_c.a")
-    shutil.copy(os.path.join(TOP, "ffi", "out", "libbogzhami.a"), archive)
-    subprocess.run(["ar", "d", archive, "version.o", "names.o"], check=True)
-    subprocess.run(["ar", "rcs", os.path.join(room, "kit", "c", "liblibc_c.a")], check=True)
-
 
 class Copy:
     """A copy of the repository, of a commit, in which nothing is built."""

@@ -5,8 +5,10 @@
 root, which debootstrap makes from the machine's own package source. There, programs in C and C++ are compiled by what pkg-config
 and CMake say, and the crate's tests are run. Each program, the crate's example, and the Python module if there is one, lists the worked
 rows of vectors/rows.txt as yamltok does. The tarball is unpacked in the same root, in a folder with a blank in its name, and the
-commands of its README are given. If no root can be made, the tarball is tried in an empty folder of this machine, with an environment that has no kit, and the Debian
-packages are skipped. What needs a tool that is not there is skipped, and says so.
+commands of its README are given; so are those of the repository's READMEs, in a checkout (lib/readmes.py). If no root can be made,
+the tarball is tried in an empty folder of this machine, with an environment that has no kit, and the Debian packages are skipped.
+
+The packages are looked into as well (lib/debian.py), and lintian is asked about them. What needs a tool that is not there is skipped, and says so.
 
 It needs the program and the library that ./test has built.
 """
@@ -26,6 +28,7 @@ HERE = os.path.dirname(os.path.abspath(__file__))
 sys.path.insert(0, os.path.join(HERE, "lib"))
 sys.dont_write_bytecode = True
 import debian
+import readmes
 from library import TOP, VERSION
 from places import NoRoot, make_folder, make_root
 from worked import rows
@@ -80,7 +83,7 @@ def package(top, *words):
 def git(top, *words):
     settings = ["user.name=tests", "user.email=tests@localhost", "commit.gpgsign=false", "core.hooksPath=/dev/null"]
     command = ["git", "-C", top, *[word for setting in settings for word in ("-c", setting)], *words]
-    subprocess.run(command, check=True, capture_output=True)
+    return subprocess.run(command, check=True, capture_output=True, text=True).stdout
 
 
 def commit_all(top):
@@ -104,6 +107,11 @@ def change(path, pattern, text):
 def machine_files(folder, names):
     """What a copy of the repository leaves out of a folder."""
     return (MACHINE_FILES | MACHINE_FILES_IN.get(os.path.relpath(folder, TOP), set())).intersection(names)
+
+
+def copy_sources(top):
+    """Copies the repository without what is built."""
+    shutil.copytree(TOP, top, symlinks=True, ignore=machine_files)
 
 
 def copy_built(top):
@@ -157,7 +165,7 @@ def try_refusals(room):
     if shutil.which("git") is None:
         return skip("states that are refused: no git")
     top = os.path.join(room, "copy")
-    shutil.copytree(TOP, top, symlinks=True, ignore=machine_files)
+    copy_sources(top)
     found = [(wanted, status, told) for wanted, (status, told) in refusals(top)]
     wrong = [one for one in found if one[1] != 1 or not re.match("package: " + one[0], one[2])]
     say(not wrong, f"{len(found)} states refused, {len(wrong)} not as they should be {shown(wrong)}")
@@ -184,7 +192,8 @@ def try_unpacked(room, top):
     status, told = package(folder)
     wanted = [line for line in digests(top).splitlines() if not line.endswith((".dsc", ".tar.xz"))]
     good = status == 0 and digests(folder).splitlines() == wanted
-    return say(good, f"{len(wanted)} files made of the source package, the same bytes as of the commit{'' if good else told[-600:]}")
+    what = f"{len(wanted)} files made of the source package, the same bytes as of the commit"
+    return say(good, what if good else what + told[-600:])
 
 
 # WHAT IS IN THE PACKAGES
@@ -283,7 +292,7 @@ def try_lintian(made):
 
 
 def try_files(made, tarball, room):
-    """Looks into the Debian packages, the source package and the tarball: programs, symbols, changelogs, addresses and documents."""
+    """Looks into the Debian packages, their source package and the tarball."""
     if not glob.glob(os.path.join(made, "*.deb")):
         return skip("the Debian packages as files: none were made")
     folders = debian.unpack(made, os.path.join(room, "debs"))
@@ -536,6 +545,7 @@ def try_debian(place, folder):
         try_rust_programs(place, f"{lib}/libbogzhami.a"),
         try_module(place),
         try_libyaml(place, f"{lib}/bogzhami"),
+        try_sections(place, "the Debian packages", ["Debian packages"], place.folder),
     ]
     packages = [name.split("_")[0] for name in names]
     good.append(try_command(place, "the Debian packages removed", ["dpkg", "-P", *packages]))
@@ -550,13 +560,24 @@ def said_by(place, words):
 
 # THE TARBALL
 
+def sections():
+    """The parts of the README of the tarball by their headings; the first has the title."""
+    with open(os.path.join(TOP, "packaging", "README.md"), encoding="utf-8") as text:
+        return {part.partition("\n")[0]: part for part in re.split(r"^## ", text.read(), flags=re.M)}
+
+
 def blocks(heading):
     """The commands that the README of the tarball gives under a heading, block by block."""
-    with open(os.path.join(TOP, "packaging", "README.md"), encoding="utf-8") as text:
-        sections = re.split(r"^## ", text.read(), flags=re.M)
-    section = next(part for part in sections if part.startswith(heading + "\n"))
-    found = re.findall(r"(?:^    .*\n)+", section, re.M)
+    found = re.findall(r"(?:^    .*\n)+", sections()[heading], re.M)
     return [[line[4:] for line in block.splitlines()] for block in found]
+
+
+def try_sections(place, where, headings, folder):
+    """The commands under some headings of the README of the tarball, as they stand there."""
+    wrong, count, left = readmes.try_readme(place, "README.md", "\n".join(sections()[name] for name in headings), folder)
+    for line, why in left.items():
+        skip(f"README of the tarball: {line}: {why}")
+    return say(not wrong, f"README of the tarball, {where}: {count} commands {wrong or ''}")
 
 
 def try_block(place, what, lines, folder, **how):
@@ -570,6 +591,8 @@ def try_tarball(place, packed):
     subprocess.run(["tar", "-xf", packed, "-C", place.outer(above)], check=True)
     folder = f"{above}/{NAME}"
     good = [try_tools(place, "of the tarball", f"{folder}/bin"), try_libyaml(place, f"{folder}/libyaml")]
+    rest = [name for name in sections() if name not in ("C and C++", "Rust", "Python", "Debian packages")]
+    good.append(try_sections(place, "what is under no heading of a language", rest, folder))
     static, shared = blocks("C and C++")
     if not (place.has("cc") and place.has("c++")):
         good.append(skip("C and C++ from the tarball: no compiler"))
@@ -618,10 +641,21 @@ def make_place(room):
     return place
 
 
+def try_readmes(place):
+    """The READMEs of the repository in the root, with a kit that proves nothing. Without a root commands.py does the same."""
+    wrong, count, left = readmes.try_checkout(place, copy_sources, os.path.join(TOP, PROVED[1]), git)
+    for line in left:
+        skip(line)
+    return say(not wrong and count > 15, f"{count} commands of the READMEs in the root, in a checkout {wrong or ''}")
+
+
 def try_packages(made, place):
     good = [say(not place.has("rt"), "the kit is not there")]
-    good.append(try_debian(place, made) if place.root else skip("the Debian packages: they need a root"))
-    good.append(try_tarball(place, os.path.join(made, NAME + ".tar.gz")))
+    with ThreadPoolExecutor(max_workers=1) as pool:
+        beside = pool.submit(try_readmes, place) if place.root else None
+        good.append(try_debian(place, made) if place.root else skip("the Debian packages: they need a root"))
+        good.append(try_tarball(place, os.path.join(made, NAME + ".tar.gz")))
+        good.append(beside.result() if beside else True)
     return all(good)
 
 
@@ -636,7 +670,8 @@ def main():
         with ThreadPoolExecutor(max_workers=1) as pool:
             place = pool.submit(make_place, room)
             folder = look_into(room, os.path.join(made, NAME + ".tar.gz"))
-            good = [try_contents(folder, told), try_manual(folder), try_files(made, folder, room), try_lintian(made), try_refusals(room)]
+            good = [try_contents(folder, told), try_manual(folder), try_files(made, folder, room), try_lintian(made)]
+            good.append(try_refusals(room))
             good.append(try_packages(made, place.result()))
     return 0 if all(good) else 1
 

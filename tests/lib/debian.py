@@ -17,7 +17,8 @@ ELF = b"\x7fELF"
 
 # Instructions that only x86-64-v2 has, and those that are of a later level. The disassembler calls an old instruction tzcnt.
 OF_V2 = re.compile(r"\t(popcnt|pshufb|palignr|ptest|pblendvb|pmov[sz]x\w+|pinsr[bdq]|pextr[bdq]|pcmpgtq)\b")
-LATER = re.compile(r"\t(?:v\w+\s.*%[xyz]mm|(?:andn|bextr|blsi|blsr|blsmsk|bzhi|mulx|pdep|pext|rorx|sarx|shlx|shrx|lzcnt|movbe)\w?\s)")
+LATER = re.compile(r"\t(?:v\w+\s.*%[xyz]mm|(?:andn|bextr|blsi|blsr|blsmsk|bzhi|mulx|pdep|pext|rorx|sarx|shlx|shrx|lzcnt|movbe)"
+                   r"\w?\s)")
 
 
 def said(words, **how):
@@ -127,7 +128,8 @@ def wrong_homepage(folders, tarball):
 # DOCUMENTS
 
 # Placeholders that a reader fills in, and what is made by commands of the documents.
-NO_PATHS = re.compile(r"(.*/)?(FILE|LIST|NAME|PROGRAM)\b.*|/path/to/.*|(.*/)?(out|target)(/.*)?|bin/(list-c|list-rust|lint|highlight)|CMakeLists.txt|/")
+NO_PATHS = re.compile(r"(.*/)?(FILE|LIST|NAME|PROGRAM)\b.*|/path/to/.*|(.*/)?(out|target)(/.*)?|CMakeLists.txt|/|"
+                      r"bin/(list-c|list-rust|lint|highlight)")
 KNOWN_ENDINGS = r"\.(antt|c|cc|h|html|md|png|py|rs|rt|toml|txt|yaml|gz|xz|pc|cmake)$"
 
 
@@ -140,7 +142,7 @@ def paths_of(text):
 
 
 def is_in(names, word, folder):
-    """Whether files or folders of these names have a path that is seen from the root or from a folder; a bare name may be anywhere."""
+    """Whether one of these names has a path that is seen from the root or from a folder; a word without a slash may be anywhere."""
     plain = re.sub(r"^\./", "", word).rstrip("/").lstrip("/")
     near = os.path.normpath(os.path.join(folder, plain))
     every = [plain, near] if "/" in word else [plain, near, f"*/{plain}"]
@@ -191,8 +193,8 @@ def source_names(tarball):
 
 
 def wrong_source(names):
-    """Files of this checkout, of a commit or new, that the source package has not, and others that it has. It has what Debian adds, and
-    dpkg-source leaves out files that are for git."""
+    """Files of this checkout, of a commit or new, that the source package has not, and others that it has, but for debian/ and for
+    files of git, which dpkg-source leaves out."""
     words = ["git", "-C", TOP, "ls-files", "-z", "--cached", "--others", "--exclude-standard"]
     wanted = {name for name in said(words).split("\0") if name and os.path.lexists(os.path.join(TOP, name))}
     wanted = with_folders(name for name in wanted if os.path.basename(name) != ".gitignore")
