@@ -8,7 +8,8 @@ rows of vectors/rows.txt as yamltok does. The tarball is unpacked in the same ro
 commands of its README are given; so are those of the repository's READMEs, in a checkout (lib/readmes.py). If no root can be made,
 the tarball is tried in an empty folder of this machine, with an environment that has no kit, and the Debian packages are skipped.
 
-The packages are looked into as well (lib/debian.py), and lintian is asked about them. What needs a tool that is not there is skipped, and says so.
+The packages are looked into as well (lib/debian.py), and lintian is asked about them. What needs a tool that is not there is
+skipped, and says so.
 
 It needs the program and the library that ./test has built.
 """
