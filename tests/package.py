@@ -3,8 +3,8 @@
 
 ./package refuses what it has to refuse, says why, and makes the same bytes twice. The Debian packages are installed in a new
 root, which debootstrap makes from the machine's own package source. There, programs in C and C++ are compiled by what pkg-config
-and CMake say, and the crate's tests are run. Each program, the crate's example, and the Python module if there is one, lists the worked
-rows of vectors/rows.txt as yamltok does. The tarball is unpacked in the same root, in a folder with a blank in its name, and the
+and CMake say, and the crate's tests are run. Each program, the crate's example, and the Python module if there is one, lists the
+worked rows of vectors/rows.txt as yamltok does. The tarball is unpacked in the same root, in a folder with a blank in its name, and the
 commands of its README are given; so are those of the repository's READMEs, in a checkout (lib/readmes.py). If no root can be made,
 the tarball is tried in an empty folder of this machine, with an environment that has no kit, and the Debian packages are skipped.
 
