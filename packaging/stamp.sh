@@ -25,9 +25,16 @@ write_stamp() {
   } > "$top/bin/proved"
 }
 
+# Whether this folder is a source package that was unpacked, and no checkout. Its debian/commit has the words of commit_of_tree
+# and the time of that commit.
+is_unpacked() {
+  [ ! -e "$top/.git" ] && [ -f "$top/debian/commit" ]
+}
+
 # The commit that the tree is of, and whether it has changes.
 commit_of_tree() {
   local changes=""
+  ! is_unpacked || { head -n 1 "$top/debian/commit"; return; }
   git -C "$top" rev-parse --verify -q HEAD > /dev/null 2>&1 || { echo none; return; }
   [ -z "$(git -C "$top" status --porcelain)" ] || changes=", with changes"
   git -C "$top" log -1 --format="%H of %cs$changes"

@@ -1,10 +1,12 @@
 #!/usr/bin/env python3
-"""Runs the commands of CONTRIBUTING.md as they stand there, where they are cheap: commands.py [PROGRAM].
+"""Runs the commands of CONTRIBUTING.md and of the READMEs as they stand there, where they are cheap: commands.py [PROGRAM].
 
 A command is a line of a code block, without its comment. Each is run, and its status and what it prints are compared, or it is
 left out for a reason that is printed; its names are then compared to those that ./dev lists. Names that are missing or wrong are
 tried for each command of ./dev. Each script of tests/ that needs a program says so if it is called without one.
-What needs the built programs is left out if they are not there or older than the sources. Takes some ten seconds.
+What needs the built programs is left out if they are not there or older than the sources. Takes a minute.
+
+The commands of each README are run in a checkout of a commit, with a kit that proves nothing (lib/readmes.py).
 """
 
 import importlib.machinery
@@ -13,8 +15,10 @@ import os
 import re
 import subprocess
 import sys
+import tempfile
 from concurrent.futures import ThreadPoolExecutor
 
+sys.path.insert(0, os.path.join(os.path.dirname(os.path.abspath(__file__)), "lib"))
 TOP = os.path.dirname(os.path.dirname(os.path.abspath(__file__)))
 sys.dont_write_bytecode = True
 DOCUMENT = "CONTRIBUTING.md"
@@ -152,9 +156,23 @@ def try_usages(dev):
     return not wrong and len(needing) > 10
 
 
+def try_readmes(dev):
+    """The READMEs of the repository, in a checkout on this machine, with a kit that proves nothing."""
+    import readmes
+    from package import PROVED, copy_sources, git
+    from places import make_folder
+    if not dev.is_built() or not os.path.exists(os.path.join(TOP, PROVED[2])):
+        print("commands: the READMEs: left out, since no program or no library is built of these sources")
+        return True
+    with tempfile.TemporaryDirectory() as room:
+        wrong, count, left = readmes.try_checkout(make_folder(room), copy_sources, os.path.join(TOP, PROVED[1]), git)
+    print("".join(f"commands: {line}\n" for line in left) + f"commands: {count} of the READMEs, {wrong or '0 wrong'}")
+    return not wrong and count > 15
+
+
 def main():
     dev = load_dev()
-    return 0 if all([try_commands(dev), try_wrong_names(), try_table(dev), try_usages(dev)]) else 1
+    return 0 if all([try_readmes(dev), try_commands(dev), try_wrong_names(), try_table(dev), try_usages(dev)]) else 1
 
 
 if __name__ == "__main__":

@@ -24,7 +24,10 @@ One line of output for each check; what is wrong is printed before it. The check
   file.
 - lines: no line of the code or of a definition is longer than 120 characters.
 - kits: README.md names the kit that `rt version` names, among those that the proofs were made with, in one place.
-- versions: the header, the Rust crate, the Python module and the newest entry of CHANGELOG.md have the version of VERSION.
+- versions: the header, the Rust crate, the Python module and the newest entry of CHANGELOG.md have the version of VERSION; each
+  entry there has a date, and none is of a day before the one below it.
+- machines: where a document says x86-64, it says x86-64-v2, which is what the kit compiles for.
+- crates: docs/RATTLE.md has the lines of crates.txt of all crates that its own crate needs.
 - folders: a folder with more than eight files has a README.md, but for proofs. That of a folder of code or of definitions is
   the one that `./dev folders` writes, from the first sentence of each file.
 - picture: that of docs/ARCHITECTURE.md is the one that `./dev folders` draws, and each module that it is to show is in it.
@@ -311,14 +314,47 @@ def check_kits():
 def check_versions():
     version = read("VERSION").strip()
     places = {
-        "CHANGELOG.md": r"^## (\S+)$",
+        "CHANGELOG.md": r"^## (\S+), \d{4}-\d\d-\d\d$",
         "ffi/bogzhami.h": r'^#define BOGZHAMI_VERSION "(.*)"$',
         "rust/Cargo.toml": r'^version = "(.*)"$',
         "python/bogzhami/__init__.py": r'^__version__ = "(.*)"$',
     }
     said = {path: re.search(pattern, read(path), re.M) for path, pattern in places.items() if found(path)}
     wrong = [f"{path}: the version is not {version}" for path, word in said.items() if not word or word[1] != version]
+    headings = re.findall(r"^## (.*)$", read("CHANGELOG.md"), re.M)
+    dates = re.findall(r"^## \d+\.\d+\.\d+, (\d{4}-\d\d-\d\d)$", read("CHANGELOG.md"), re.M)
+    if len(dates) != len(headings) or dates != sorted(dates, reverse=True):
+        wrong.append(f"CHANGELOG.md: not each version has a date, or they are in another order: {headings}")
     return len(said), wrong
+
+
+# MACHINES
+
+def check_machines():
+    count, wrong = 0, []
+    for path in (path for pattern in [*DOCUMENTS, "packaging/README.md", "packaging/debian/source/README.source"]
+                 for path in found(pattern)):
+        for number, line in enumerate(read(path).split("\n"), 1):
+            count += line.count("x86-64")
+            wrong += [f"{path}:{number}: it is x86-64-v2"] if re.search(r"x86-64(?!-v2)", line) else []
+    return count, wrong
+
+
+# CRATES OF A USER
+
+def check_crates():
+    def lines_of(text):
+        return dict(re.findall(r"^ *(\w+): ((?:\w+ ?)+)$", text, re.M))
+    listed, crates = lines_of(re.search(r"^    yaml_text: (?:.*\n)+?\n", read("docs/RATTLE.md"), re.M)[0]), lines_of(read("crates.txt"))
+    own = [name for name in listed if name not in crates]
+    needed, left = set(), [name for crate in own for name in listed[crate].split()]
+    while left:
+        name = left.pop()
+        if name in crates and name not in needed:
+            needed.add(name)
+            left += crates[name].split()
+    wrong = [f"docs/RATTLE.md: {name}: {listed.get(name)}" for name in sorted(needed) if listed.get(name) != crates[name]]
+    return len(needed), wrong
 
 
 # FOLDERS
@@ -364,7 +400,8 @@ def check_scripts():
 
 CHECKS = {"paths": check_paths, "rules": check_rules, "topics": check_topics,
           "laws, functions and lemma files": check_proofs, "lemma files": check_lemmas, "edits": check_edits,
-          "lines": check_lines, "kits": check_kits, "versions": check_versions, "folders": check_folders,
+          "lines": check_lines, "kits": check_kits, "versions": check_versions, "machines": check_machines,
+          "crates of a user": check_crates, "folders": check_folders,
           "lines of the picture": check_picture, "files that the headline stands on": check_headline,
           "scripts": check_scripts}
 

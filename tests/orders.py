@@ -6,12 +6,15 @@ A copy of the repository is a checkout of a commit, and its tests/ has scripts t
 library. Instead of the Rattle kit, lib/kit.py is on the path: it leaves what the kit leaves, out of the program and the library
 that are built, and like the kit it refuses links and removes what was built. Each command follows each, and itself. All succeed,
 and what was built before is there whenever the kit is called, and at the end. The same holds if the gate fails or is broken off,
-and then ./package refuses what was not tested. .ci/run in a new clone has the gate prove the clone itself.
+and then ./package refuses what was not tested. .ci/run in a new clone has the gate prove the clone itself. Debian's tools make the
+same packages of the source package.
 
 Without the kit, or without a program that is needed, each command says so in one line before anything is proved. The progress
 is that of the log. What needs a C compiler or git is skipped, and says so, if there is none.
 """
 
+import filecmp
+import glob
 import os
 import re
 import shutil
@@ -24,8 +27,10 @@ import time
 HERE = os.path.dirname(os.path.abspath(__file__))
 sys.path.insert(0, os.path.join(HERE, "lib"))
 sys.dont_write_bytecode = True
+from debian import unpack_source
 from library import TOP, VERSION, build_library
 from package import git, machine_files
+from places import make_kit
 from worked import rows
 
 PROGRAM = os.path.join("crates", "yamltok", "out", "yamltok")
@@ -43,7 +48,8 @@ sys.exit(done.stdout != {LISTED.encode()!r} or not os.path.exists({LIBRARY!r}))
 """
 
 # What makes packages. On a machine without all that they need a test build is made, outside of the checkout.
-HAS_ALL = os.path.exists("/usr/include/yaml.h") and all(shutil.which(tool) for tool in ("rustc", "dpkg-deb", "objdump"))
+TOOLS = ("rustc", "dpkg-deb", "dpkg-source", "objdump")
+HAS_ALL = os.path.exists("/usr/include/yaml.h") and all(shutil.which(tool) for tool in TOOLS)
 PACKAGE = "./package" if HAS_ALL else "./package --for-test ../made"
 
 # The commands, and what they print.
@@ -67,25 +73,6 @@ def skip(text):
 
 
 # A COPY OF THE REPOSITORY, AND A KIT
-
-def make_kit(room, program):
-    """A kit that has the program, the testbench and the scanner of the library that are built."""
-    made, tools = os.path.join(room, "kit", "made"), os.path.join(room, "kit", "bin")
-    for folder in (made, tools, os.path.join(room, "kit", "c")):
-        os.makedirs(folder)
-    for name in ("rt", "rattle"):
-        shutil.copy(os.path.join(HERE, "lib", "kit.py"), os.path.join(tools, name))
-    with open(os.path.join(tools, "apt-get"), "w", encoding="ascii") as out:
-        out.write("#!/bin/sh\n")
-    os.chmod(os.path.join(tools, "apt-get"), 0o755)
-    testbench = os.path.join(os.path.dirname(program), "..", "..", "testbench", "out", "testbench")
-    shutil.copy(program, os.path.join(made, "yamltok"))
-    shutil.copy(testbench if os.path.exists(testbench) else program, os.path.join(made, "testbench"))
-    archive = os.path.join(made, "libyaml_c.a")
-    shutil.copy(os.path.join(TOP, "ffi", "out", "libbogzhami.a"), archive)
-    subprocess.run(["ar", "d", archive, "version.o", "names.o"], check=True)
-    subprocess.run(["ar", "rcs", os.path.join(room, "kit", "c", "liblibc_c.a")], check=True)
-
 
 class Copy:
     """A copy of the repository, of a commit, in which nothing is built."""
@@ -240,6 +227,29 @@ def try_clone(copy):
     return say(good and not again, f".ci/run in a new clone, and again{'' if good else told[-600:]} {again or ''}")
 
 
+# THE SOURCE PACKAGE
+
+def try_source(copy):
+    """The source package of the copy, as Debian's tools unpack and build it: the Debian packages are those of the copy."""
+    if not HAS_ALL or shutil.which("dpkg-buildpackage") is None:
+        return skip("the source package is built: it takes all that ./package needs, and dpkg-buildpackage")
+    status, told = copy.run("./package")
+    dist, folder = os.path.join(copy.top, "dist"), os.path.join(copy.room, "source", "unpacked")
+    os.makedirs(os.path.dirname(folder))
+    unpack_source(dist, folder)
+    done = subprocess.run(["dpkg-buildpackage", "-b", "-us", "-uc", "-d"], cwd=folder, stdin=subprocess.DEVNULL,
+                          env=copy.environment(KIT_TOP=folder), stdout=subprocess.PIPE, stderr=subprocess.STDOUT, timeout=200)
+    names = [os.path.basename(path) for path in glob.glob(os.path.join(dist, "*.deb"))]
+    others = [name for name in names if not is_same(os.path.join(dist, name), os.path.join(folder, "..", name))]
+    good = status == 0 and done.returncode == 0 and len(names) > 2 and not others
+    told = "" if good else told[-300:] + done.stdout.decode("utf-8", "replace")[-600:]
+    return say(good, f"dpkg-buildpackage makes {len(names)} packages of the source package, {len(others)} of other bytes {told}")
+
+
+def is_same(one, other):
+    return os.path.exists(other) and filecmp.cmp(one, other, shallow=False)
+
+
 # WHAT IS NOT THERE
 
 def try_no_kit(copy):
@@ -301,7 +311,7 @@ def main():
         make_kit(room, program)
         copy, clone = Copy(room, "copy"), Copy(room, "clone")
         good = [try_no_kit(copy), try_words(copy), try_progress(room), try_before(copy), try_orders(copy)]
-        good += [try_broken_compiler(copy), try_broken_off(copy), try_failing_gate(copy), try_clone(clone)]
+        good += [try_source(copy), try_broken_compiler(copy), try_broken_off(copy), try_failing_gate(copy), try_clone(clone)]
     return 0 if all(good) else 1
 
 

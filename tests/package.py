@@ -3,10 +3,13 @@
 
 ./package refuses what it has to refuse, says why, and makes the same bytes twice. The Debian packages are installed in a new
 root, which debootstrap makes from the machine's own package source. There, programs in C and C++ are compiled by what pkg-config
-and CMake say, and the crate's tests are run. Each program, the crate's example, and the Python module if there is one, lists the worked
-rows of vectors/rows.txt as yamltok does. The tarball is unpacked in the same root, in a folder with a blank in its name, and the
-commands of its README are given. If no root can be made, the tarball is tried in an empty folder of this machine, with an environment that has no kit, and the Debian
-packages are skipped. What needs a tool that is not there is skipped, and says so.
+and CMake say, and the crate's tests are run. Each program, the crate's example, and the Python module if there is one, lists the
+worked rows of vectors/rows.txt as yamltok does. The tarball is unpacked in the same root, in a folder with a blank in its name, and the
+commands of its README are given; so are those of the repository's READMEs, in a checkout (lib/readmes.py). If no root can be made,
+the tarball is tried in an empty folder of this machine, with an environment that has no kit, and the Debian packages are skipped.
+
+The packages are looked into as well (lib/debian.py), and lintian is asked about them. What needs a tool that is not there is
+skipped, and says so.
 
 It needs the program and the library that ./test has built.
 """
@@ -25,6 +28,8 @@ from concurrent.futures import ThreadPoolExecutor
 HERE = os.path.dirname(os.path.abspath(__file__))
 sys.path.insert(0, os.path.join(HERE, "lib"))
 sys.dont_write_bytecode = True
+import debian
+import readmes
 from library import TOP, VERSION
 from places import NoRoot, make_folder, make_root
 from worked import rows
@@ -79,7 +84,7 @@ def package(top, *words):
 def git(top, *words):
     settings = ["user.name=tests", "user.email=tests@localhost", "commit.gpgsign=false", "core.hooksPath=/dev/null"]
     command = ["git", "-C", top, *[word for setting in settings for word in ("-c", setting)], *words]
-    subprocess.run(command, check=True, capture_output=True)
+    return subprocess.run(command, check=True, capture_output=True, text=True).stdout
 
 
 def commit_all(top):
@@ -92,9 +97,22 @@ def append(path, data):
         out.write(data)
 
 
+def change(path, pattern, text):
+    """Replaces the first place of a pattern."""
+    with open(path, encoding="utf-8") as old:
+        changed = re.sub(pattern, text, old.read(), count=1, flags=re.M)
+    with open(path, "w", encoding="utf-8") as out:
+        out.write(changed)
+
+
 def machine_files(folder, names):
     """What a copy of the repository leaves out of a folder."""
     return (MACHINE_FILES | MACHINE_FILES_IN.get(os.path.relpath(folder, TOP), set())).intersection(names)
+
+
+def copy_sources(top):
+    """Copies the repository without what is built."""
+    shutil.copytree(TOP, top, symlinks=True, ignore=machine_files)
 
 
 def copy_built(top):
@@ -131,6 +149,11 @@ def refusals(top):
     commit_all(top)
     yield "what ./test has proved is not these sources", package(top)
     git(top, "reset", "-q", "--hard", "HEAD~")
+    for wanted, pattern, text in [("has no date", r", \d{4}-\d\d-\d\d$", ""), ("its newest version is not", "^## 1", "## 31")]:
+        change(os.path.join(top, "CHANGELOG.md"), pattern, text)
+        commit_all(top)
+        yield f"CHANGELOG.md: .*{wanted}", package(top)
+        git(top, "reset", "-q", "--hard", "HEAD~")
 
 
 def digests(folder):
@@ -143,9 +166,9 @@ def try_refusals(room):
     if shutil.which("git") is None:
         return skip("states that are refused: no git")
     top = os.path.join(room, "copy")
-    shutil.copytree(TOP, top, symlinks=True, ignore=machine_files)
+    copy_sources(top)
     found = [(wanted, status, told) for wanted, (status, told) in refusals(top)]
-    wrong = [one for one in found if one[1] != 1 or not one[2].startswith("package: " + one[0])]
+    wrong = [one for one in found if one[1] != 1 or not re.match("package: " + one[0], one[2])]
     say(not wrong, f"{len(found)} states refused, {len(wrong)} not as they should be {shown(wrong)}")
     good, told = not wrong, package(top)
     if told[0] and "install " in told[1]:
@@ -155,7 +178,23 @@ def try_refusals(room):
     first = digests(top)
     again = package(top)[0] == 0 and digests(top) == first
     git_is_clean = not subprocess.run(["git", "-C", top, "status", "--porcelain"], capture_output=True).stdout
-    return say(again and git_is_clean, f"{len(first.splitlines())} files made of a commit, the same bytes twice") and good
+    good = say(again and git_is_clean, f"{len(first.splitlines())} files made of a commit, the same bytes twice") and good
+    return try_unpacked(room, top) and good
+
+
+def try_unpacked(room, top):
+    """Makes the packages of the source package, which is unpacked where there is no checkout: they are those of the commit."""
+    if not glob.glob(os.path.join(top, "dist", "*.dsc")):
+        return skip("an unpacked source package: none was made")
+    folder = os.path.join(room, "unpacked")
+    debian.unpack_source(os.path.join(top, "dist"), folder)
+    copy_built(folder)
+    append(os.path.join(folder, "bin", "proved"), b"tests 2 passed, 0 failed\n")
+    status, told = package(folder)
+    wanted = [line for line in digests(top).splitlines() if not line.endswith((".dsc", ".tar.xz"))]
+    good = status == 0 and digests(folder).splitlines() == wanted
+    what = f"{len(wanted)} files made of the source package, the same bytes as of the commit"
+    return say(good, what if good else what + told[-600:])
 
 
 # WHAT IS IN THE PACKAGES
@@ -242,6 +281,42 @@ def try_manual(folder):
     manual = text_of(os.path.join(section, "bogzhami.3.gz"))
     wrong += [f"bogzhami(3) does not name {name}" for name in sorted(names) if not re.search(rf"\b{name}\b", manual)]
     return say(not wrong and len(names) > 14, f"{len(pages)} manual pages, {len(names)} names, {len(wrong)} wrong {shown(wrong)}")
+
+
+# THE DEBIAN PACKAGES AS FILES
+
+def try_lintian(made):
+    if shutil.which("lintian") is None:
+        return skip("lintian: there is none")
+    wrong = debian.lintian(made)
+    return say(not wrong, f"lintian: {len(wrong)} lines that no override explains {shown(wrong)}")
+
+
+def try_files(made, tarball, room):
+    """Looks into the Debian packages, their source package and the tarball."""
+    if not glob.glob(os.path.join(made, "*.deb")):
+        return skip("the Debian packages as files: none were made")
+    folders = debian.unpack(made, os.path.join(room, "debs"))
+    every, library = [tarball, *folders.values()], os.path.join(TOP, PROVED[3])
+    wrong = [line for folder in every for line in debian.wrong_programs(folder)]
+    wrong += debian.wrong_symbols(folders, library) + debian.wrong_homepage(folders, tarball)
+    logs = [f"{folder}/usr/share/doc/{name}/changelog.gz" for name, folder in folders.items()]
+    wrong += [line for log in logs for line in debian.wrong_changelog(log, FULL)]
+    wrong += [] if debian.OF_V2.search(debian.disassembled(library)) else ["the library needs no x86-64-v2"]
+    good = say(not wrong, f"{len(every)} packages: programs, symbols, changes and addresses, {len(wrong)} wrong {shown(wrong)}")
+    return try_documents(made, folders, tarball) and good
+
+
+def try_documents(made, folders, tarball):
+    source_tarball = f"bogzhami_{FULL}.tar.xz"
+    if not os.path.exists(os.path.join(made, source_tarball)):
+        return skip("paths in documents, and the source package: it was not made")
+    sources = debian.source_names(os.path.join(made, source_tarball))
+    wrong = debian.wrong_source(sources)
+    good = say(not wrong, f"{len(sources)} files and folders in the source package, {len(wrong)} wrong {shown(wrong)}")
+    wrong = [line for folder in [tarball, *folders.values()]
+             for line in debian.wrong_paths(folder, folders.values(), sources, source_tarball)]
+    return say(not wrong, f"paths in the documents of the packages, {len(wrong)} lead nowhere {shown(wrong)}") and good
 
 
 # WHAT IS DONE WITH THEM
@@ -471,6 +546,7 @@ def try_debian(place, folder):
         try_rust_programs(place, f"{lib}/libbogzhami.a"),
         try_module(place),
         try_libyaml(place, f"{lib}/bogzhami"),
+        try_sections(place, "the Debian packages", ["Debian packages"], place.folder),
     ]
     packages = [name.split("_")[0] for name in names]
     good.append(try_command(place, "the Debian packages removed", ["dpkg", "-P", *packages]))
@@ -485,13 +561,24 @@ def said_by(place, words):
 
 # THE TARBALL
 
+def sections():
+    """The parts of the README of the tarball by their headings; the first has the title."""
+    with open(os.path.join(TOP, "packaging", "README.md"), encoding="utf-8") as text:
+        return {part.partition("\n")[0]: part for part in re.split(r"^## ", text.read(), flags=re.M)}
+
+
 def blocks(heading):
     """The commands that the README of the tarball gives under a heading, block by block."""
-    with open(os.path.join(TOP, "packaging", "README.md"), encoding="utf-8") as text:
-        sections = re.split(r"^## ", text.read(), flags=re.M)
-    section = next(part for part in sections if part.startswith(heading + "\n"))
-    found = re.findall(r"(?:^    .*\n)+", section, re.M)
+    found = re.findall(r"(?:^    .*\n)+", sections()[heading], re.M)
     return [[line[4:] for line in block.splitlines()] for block in found]
+
+
+def try_sections(place, where, headings, folder):
+    """The commands under some headings of the README of the tarball, as they stand there."""
+    wrong, count, left = readmes.try_readme(place, "README.md", "\n".join(sections()[name] for name in headings), folder)
+    for line, why in left.items():
+        skip(f"README of the tarball: {line}: {why}")
+    return say(not wrong, f"README of the tarball, {where}: {count} commands {wrong or ''}")
 
 
 def try_block(place, what, lines, folder, **how):
@@ -505,6 +592,8 @@ def try_tarball(place, packed):
     subprocess.run(["tar", "-xf", packed, "-C", place.outer(above)], check=True)
     folder = f"{above}/{NAME}"
     good = [try_tools(place, "of the tarball", f"{folder}/bin"), try_libyaml(place, f"{folder}/libyaml")]
+    rest = [name for name in sections() if name not in ("C and C++", "Rust", "Python", "Debian packages")]
+    good.append(try_sections(place, "what is under no heading of a language", rest, folder))
     static, shared = blocks("C and C++")
     if not (place.has("cc") and place.has("c++")):
         good.append(skip("C and C++ from the tarball: no compiler"))
@@ -553,10 +642,21 @@ def make_place(room):
     return place
 
 
+def try_readmes(place):
+    """The READMEs of the repository in the root, with a kit that proves nothing. Without a root commands.py does the same."""
+    wrong, count, left = readmes.try_checkout(place, copy_sources, os.path.join(TOP, PROVED[1]), git)
+    for line in left:
+        skip(line)
+    return say(not wrong and count > 15, f"{count} commands of the READMEs in the root, in a checkout {wrong or ''}")
+
+
 def try_packages(made, place):
     good = [say(not place.has("rt"), "the kit is not there")]
-    good.append(try_debian(place, made) if place.root else skip("the Debian packages: they need a root"))
-    good.append(try_tarball(place, os.path.join(made, NAME + ".tar.gz")))
+    with ThreadPoolExecutor(max_workers=1) as pool:
+        beside = pool.submit(try_readmes, place) if place.root else None
+        good.append(try_debian(place, made) if place.root else skip("the Debian packages: they need a root"))
+        good.append(try_tarball(place, os.path.join(made, NAME + ".tar.gz")))
+        good.append(beside.result() if beside else True)
     return all(good)
 
 
@@ -571,7 +671,8 @@ def main():
         with ThreadPoolExecutor(max_workers=1) as pool:
             place = pool.submit(make_place, room)
             folder = look_into(room, os.path.join(made, NAME + ".tar.gz"))
-            good = [try_contents(folder, told), try_manual(folder), try_refusals(room)]
+            good = [try_contents(folder, told), try_manual(folder), try_files(made, folder, room), try_lintian(made)]
+            good.append(try_refusals(room))
             good.append(try_packages(made, place.result()))
     return 0 if all(good) else 1
 

@@ -1,4 +1,5 @@
-"""Places without the kit, in which packages are tried: a new root of the system that this machine runs, or only a folder.
+"""Places in which packages and documents are tried: a new root of the system that this machine runs, or only a folder; and a kit
+that proves nothing, for what asks for one.
 
 The root is made by debootstrap and apt from the package source that this machine's own configuration names.
 """
@@ -9,6 +10,9 @@ import shutil
 import subprocess
 import urllib.request
 
+from library import TOP
+
+HERE = os.path.dirname(os.path.abspath(__file__))
 PATH = "/usr/sbin:/usr/bin:/sbin:/bin"
 SECONDS = 300  # for a command
 ROOM = 3 << 30  # bytes of disk that a root may take
@@ -134,3 +138,22 @@ def make_folder(room):
     """A folder of this machine, with the paths of the system, of cargo and of nothing else."""
     paths = [PATH, *{os.path.dirname(path) for path in [shutil.which("cargo")] if path}]
     return Place("", os.path.join(room, "folder"), {"PATH": ":".join(paths), "HOME": os.path.expanduser("~")})
+
+
+def make_kit(room, program):
+    """A kit that proves nothing (kit.py): it has the program, the testbench and the scanner of the library that are built."""
+    made, tools = os.path.join(room, "kit", "made"), os.path.join(room, "kit", "bin")
+    for folder in (made, tools, os.path.join(room, "kit", "c")):
+        os.makedirs(folder)
+    for name in ("rt", "rattle"):
+        shutil.copy(os.path.join(HERE, "kit.py"), os.path.join(tools, name))
+    with open(os.path.join(tools, "apt-get"), "w", encoding="ascii") as out:
+        out.write("#!/bin/sh\n")
+    os.chmod(os.path.join(tools, "apt-get"), 0o755)
+    testbench = os.path.join(os.path.dirname(program), "..", "..", "testbench", "out", "testbench")
+    shutil.copy(program, os.path.join(made, "yamltok"))
+    shutil.copy(testbench if os.path.exists(testbench) else program, os.path.join(made, "testbench"))
+    archive = os.path.join(made, "libyaml_c.a")
+    shutil.copy(os.path.join(TOP, "ffi", "out", "libbogzhami.a"), archive)
+    subprocess.run(["ar", "d", archive, "version.o", "names.o"], check=True)
+    subprocess.run(["ar", "rcs", os.path.join(room, "kit", "c", "liblibc_c.a")], check=True)
