@@ -50,7 +50,7 @@ HAS_MODULE = os.path.exists(os.path.join(TOP, "python", "bogzhami", "__init__.py
 FILES = """BUILT CHANGELOG.md LICENSE PROMISES.md README.md VERSION bin/yamltok bin/bogzhami-lint examples/list.c examples/list.cc
 examples/mistakes.yaml include/bogzhami.h lib/libbogzhami.a lib/libbogzhami.so lib/libbogzhami.so.MAJOR lib/libbogzhami.so.VERSION
 lib/pkgconfig/bogzhami.pc lib/cmake/bogzhami/bogzhami-config.cmake lib/cmake/bogzhami/bogzhami-config-version.cmake rust/Cargo.toml rust/LICENSE rust/README.md rust/build.rs rust/src/lib.rs rust/src/scanner.rs
-rust/examples/list/main.rs rust/examples/list/listing.rs rust/tests/rows.rs rust/tests/rows.txt share/man/man1/yamltok.1.gz
+rust/examples/list/main.rs rust/examples/list/listing.rs rust/examples/list/command.rs rust/tests/rows.rs rust/tests/rows.txt share/man/man1/yamltok.1.gz
 share/man/man1/bogzhami-lint.1.gz share/man/man1/bogzhami-highlight.1.gz share/man/man3/bogzhami.3.gz"""
 
 
