@@ -1,0 +1,177 @@
+#!/usr/bin/env python3
+"""What the tools say of themselves, and of wrong words, input and output: tools.py [PROGRAM].
+
+The programs of uses/ are built under the names that they are installed by. `--help` and `--version` write to standard output and
+end with 0, whatever other words there are; wrong words are named, with the line of the usage, and end with 2. `-` is standard
+input, `--` ends the options, and an option may stand after a file. An input that can not be read is told with the reason. A
+closed pipe ends a tool without a word, whether or not the tool gets the signal. What needs a C compiler or rustc (1.63 or later)
+is skipped if there is none.
+"""
+
+import os
+import re
+import shutil
+import signal
+import subprocess
+import sys
+import tempfile
+
+HERE = os.path.dirname(os.path.abspath(__file__))
+sys.path[:0] = [HERE, os.path.join(HERE, "lib")]
+sys.dont_write_bytecode = True
+from ffi import FFI, build_rust, has_rust
+from library import TOP, VERSION, build_library
+
+SMALL = b"a: 1\na: 2\n"
+FILES = {"small": SMALL, "-w": SMALL, "--help": SMALL, "wide": b"x" * 81}
+SAME = '2:1: duplicate key "a", first at line 1\n'
+HTML = "<!DOCTYPE html>"
+NOBODY = 65534
+LINT, HIGHLIGHT = "bogzhami-lint", "bogzhami-highlight"
+USAGE = {LINT: "usage: bogzhami-lint [-w WIDTH] FILE ..", HIGHLIGHT: "usage: bogzhami-highlight [--html] [FILE ..]"}
+OPTIONS = {LINT: ["-w, --width WIDTH", "-h, --help", "--version"], HIGHLIGHT: ["--html", "-h, --help", "--version"]}
+
+# Wrong words, and what is said of them.
+WRONG_WORDS = {
+    LINT: {
+        "": "no file is named", "--": "no file is named", "-w 9": "no file is named", "-w": "option requires an argument -- 'w'",
+        "-w 0 small": "'0' is no width", "small -w 1x": "'1x' is no width", "-w -1 small": "'-1' is no width",
+        "small --jsn": "unrecognized option '--jsn'", "-x small": "invalid option -- 'x'",
+    },
+    HIGHLIGHT: {"--jsn": "unrecognized option '--jsn'", "small --jsn": "unrecognized option '--jsn'", "-x": "unrecognized option '-x'"},
+}
+
+# Right words, the input that they are called with, the status, and how standard output begins.
+RIGHT_WORDS = {
+    LINT: [
+        ("small", b"", 1, "small:" + SAME), ("-", SMALL, 1, "standard input:" + SAME), ("- small", b"a: 3", 1, "small:" + SAME),
+        ("-- -w", b"", 1, "-w:" + SAME), ("-- --help", b"", 1, "--help:" + SAME), ("wide -w 81", b"", 0, ""),
+        ("--width=80 wide", b"", 1, "wide:1:81: line of 81 characters, more than 80\n"), ("-w80 -- wide", b"", 1, "wide:1:81: "),
+    ],
+    HIGHLIGHT: [
+        ("small", b"", 0, "a: 1\n"), ("", b"b: 1\n", 0, "b: 1\n"), ("-", b"b: 1\n", 0, "b: 1\n"), ("small -", b"b: 1\n", 0, "a: 1\na: 2\nb: 1\n"),
+        ("-- --help", b"", 0, "a: 1\n"), ("small --html", b"", 0, HTML), ("--html -- -w", b"", 0, HTML), ("--html", b"b", 0, HTML),
+    ],
+}
+
+
+def say(what, count, wrong):
+    print(f"tools: {what}: {count} calls, {len(wrong)} wrong {wrong[:3] or ''}", flush=True)
+    return not wrong and count > 0
+
+
+def build(room):
+    """Builds the programs in a folder, under their installed names, and returns their paths."""
+    archive, made = os.path.join(FFI, "out", "libbogzhami.a"), {}
+    flags = ["-std=c11", "-Wall", "-Wextra", "-pedantic", "-Werror", "-O2", "-I", FFI]
+    made[LINT] = os.path.join(room, LINT)
+    subprocess.run(["cc", *flags, os.path.join(TOP, "uses", "lint", "lint.c"), archive, "-o", made[LINT]], check=True)
+    if has_rust():
+        made[HIGHLIGHT] = os.path.join(room, HIGHLIGHT)
+        build_rust(os.path.join(TOP, "uses", "highlight", "highlight.rs"), made[HIGHLIGHT])
+    else:
+        print("tools: highlight skipped: no rustc of 1.63 or later")
+    return made
+
+
+def open_room():
+    """A new folder in which whoever runs the tools may look."""
+    room = tempfile.TemporaryDirectory()
+    os.chmod(room.name, 0o755)
+    return room
+
+
+def call(path, words, room, data=b"", **how):
+    """The status of a program, and what it writes to standard error and standard output."""
+    if "stdin" not in how:
+        how["input"] = data
+    how = {"stdout": subprocess.PIPE, "env": {**os.environ, "NO_COLOR": "1"}, **how}
+    done = subprocess.run([path, *words.split()], cwd=room, stderr=subprocess.PIPE, timeout=60, **how)
+    return done.returncode, done.stderr.decode(), (done.stdout or b"").decode()
+
+
+def unread_pipe():
+    """The end of a pipe to write to whose other end is closed."""
+    reading, writing = os.pipe()
+    os.close(reading)
+    return writing
+
+
+def told_wrong(name, path, room):
+    """Wrong words, what came of them, and what should have come."""
+    for words, wrong in WRONG_WORDS[name].items():
+        yield words, call(path, words, room), (2, f"{name}: {wrong}\n{USAGE[name]}\n", "")
+
+
+def said_of_itself(name, path, room):
+    for words in ("--help", "-h", "small --help", "--help --jsn"):
+        status, told, said = call(path, words, room)
+        lines = said.splitlines()
+        named = [option for option in OPTIONS[name] if not any(line.strip().startswith(option) for line in lines)]
+        yield words, (status, told, lines[:1], named, "exit status" in said), (0, "", [USAGE[name]], [], True)
+    for words in ("--version", "small --version"):
+        yield words, call(path, words, room), (0, "", f"{name} (Bogzhami) {VERSION}\n")
+    with open("/dev/full", "wb") as full:
+        lost = (2, f"{name}: standard output: No space left on device\n", "")
+        yield "--version, a full disk", call(path, "--version", room, stdout=full), lost
+
+
+def right(name, path, room):
+    for words, data, status, begins in RIGHT_WORDS[name]:
+        found, told, said = call(path, words, room, data)
+        yield words, (found, told, said.startswith(begins) if begins else not said), (status, "", True)
+
+
+def not_read(name, path, room):
+    """Inputs that can not be read."""
+    folder = os.open(room, os.O_RDONLY)
+    yield "a folder", call(path, ".", room), (2, f"{name}: .: Is a directory\n", "")
+    yield "standard input, a folder", call(path, "-", room, stdin=folder), (2, f"{name}: standard input: Is a directory\n", "")
+    os.close(folder)
+    yield "none", call(path, "none", room), (2, f"{name}: none: No such file or directory\n", "")
+    how = {"user": NOBODY} if os.geteuid() == 0 else {}
+    yield "no permission", call(path, "secret", room, **how), (2, f"{name}: secret: Permission denied\n", "")
+
+
+def not_written(name, path, room):
+    """Outputs that can not be written."""
+    with open("/dev/full", "wb") as full:
+        lost = f"{name}: standard output: No space left on device\n"
+        yield "a full disk", call(path, "small", room, stdout=full), (2, lost, "")
+    pipe = unread_pipe()
+    for words in ("small", "small small", "--help", "--version"):
+        status, told, _ = call(path, words, room, stdout=pipe)
+        yield f"{words}, a closed pipe", (status in (2, -signal.SIGPIPE), told), (True, "")
+        unsignalled = call(path, words, room, stdout=pipe, restore_signals=False)
+        yield f"{words}, a closed pipe, no signal", unsignalled, (2, "", "")
+    os.close(pipe)
+
+
+def try_tools(programs):
+    wrong, count = [], 0
+    with open_room() as room:
+        for name, data in {**FILES, "secret": b""}.items():
+            with open(os.path.join(room, name), "wb") as out:
+                out.write(data)
+        os.chmod(os.path.join(room, "secret"), 0)
+        for name, path in programs.items():
+            for kind in (told_wrong, said_of_itself, right, not_read, not_written):
+                found = list(kind(name, path, room))
+                count += len(found)
+                wrong += [(name, what, got) for what, got, wanted in found if got != wanted]
+    return say("lint and highlight", count, wrong)
+
+
+def main():
+    if shutil.which("cc") is None:
+        print("tools: skipped: no C compiler")
+        return 0
+    build_library()
+    with open_room() as room:
+        programs = build(room)
+        good = [try_tools(programs)]
+    return 0 if all(good) else 1
+
+
+if __name__ == "__main__":
+    sys.exit(main())
