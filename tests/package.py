@@ -110,7 +110,6 @@ def copy_built(top):
 
 def refusals(top):
     """Brings a copy of the repository from one state that is refused to the next: what has to be said, and what is."""
-    yield "the words are: ", package(top, "--for-test")
     yield "this is no checkout of a commit", package(top)
     git(top, "init", "-q")
     commit_all(top)
