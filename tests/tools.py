@@ -6,7 +6,7 @@ end with 0, whatever other words there are; wrong words are named, with the line
 input, `--` ends the options, and an option may stand after a file. An input that can not be read is told with the reason. A
 closed pipe ends a tool without a word, whether or not the tool gets the signal. The shell scripts answer in the same way before
 anything is proved, and ./run and ./try refuse the words that the program refuses. Each line of json is an object with the members
-that docs/COMMANDS.md names, and stands for the line that `scan` has to give (lib/json_lines.py). What needs a C compiler or rustc (1.63 or later)
+that docs/COMMANDS.md names, and stands for the line that `scan` has to give (lib/json_lines.py). bash, zsh and fish complete the words of the tools. What needs a C compiler or rustc (1.63 or later)
 is skipped if there is none.
 """
 
@@ -21,6 +21,7 @@ import tempfile
 HERE = os.path.dirname(os.path.abspath(__file__))
 sys.path[:0] = [HERE, os.path.join(HERE, "lib")]
 sys.dont_write_bytecode = True
+from completing import try_completions
 from ffi import FFI, build_rust, has_rust
 from json_lines import try_lines, try_memory
 from library import TOP, VERSION, build_library
@@ -142,8 +143,8 @@ def said_of_itself(name, path, room):
     for words in ("--help", "-h", "small --help", "--help --jsn"):
         status, told, said = call(path, words, room)
         lines = said.splitlines()
-        named = [option for option in OPTIONS[name] if not any(line.strip().startswith(option) for line in lines)]
-        yield words, (status, told, lines[:1], named, "exit status" in said), (0, "", [USAGE[name]], [], True)
+        named = [line.strip().split("  ")[0] for line in lines if line.strip().startswith("-")]
+        yield words, (status, told, lines[:1], named, "exit status" in said), (0, "", [USAGE[name]], OPTIONS[name], True)
     for words in ("--version", "small --version"):
         yield words, call(path, words, room), (0, "", f"{name} (Bogzhami) {VERSION}\n")
     with open("/dev/full", "wb") as full:
@@ -269,6 +270,8 @@ def main():
         programs = build(room)
         good += [try_tools(programs), try_lines(programs[JSON], program if os.path.exists(program) else None)]
         good.append(try_memory(programs[JSON], room))
+    with open_room() as room:
+        good.append(try_completions(room, OPTIONS))
     return 0 if all(good) else 1
 
 
