@@ -4,6 +4,7 @@
 #include "bogzhami.h"
 
 #include <errno.h>
+#include <getopt.h>
 #include <inttypes.h>
 #include <stdio.h>
 #include <stdlib.h>
@@ -21,10 +22,19 @@ struct rooms {
     struct bogzhami_answer answer;
 };
 
+static const char *program = "list"; /* what it was called by */
+
 /* Says that something failed, and why; returns the exit status for that. */
 static int fail(const char *what, const char *why) {
-    fprintf(stderr, "list: %s%s\n", what, why);
+    fprintf(stderr, "%s: %s%s\n", program, what, why);
     return 3;
+}
+
+/* Sees that all is written, and returns the exit status that this asks for. A pipe that no one reads any more is not told. */
+static int flush(void) {
+    if (!fflush(stdout) && !ferror(stdout))
+        return 0;
+    return errno == EPIPE ? 3 : fail("standard output: ", strerror(errno));
 }
 
 /* Reads standard input to its end. NULL if memory is refused, or if reading fails, which ferror then says. */
@@ -129,7 +139,7 @@ static void list_batch(const struct rooms *r) {
 /* Lists all tokens of a scanner, and returns the status after them. */
 static uint32_t list_tokens(struct bogzhami_handle *handle, const uint8_t *input, size_t len, struct rooms *r) {
     uint32_t status = make_texts(r, FIRST_TEXTS) ? BOGZHAMI_DONE : BOGZHAMI_NO_MEMORY;
-    while (status == BOGZHAMI_DONE) {
+    while (status == BOGZHAMI_DONE && !ferror(stdout)) {
         status = next_batch(handle, input, len, r);
         if (status == BOGZHAMI_DONE || status == BOGZHAMI_FAULT)
             list_batch(r);
@@ -146,10 +156,11 @@ static int list(const uint8_t *input, size_t len, uint32_t setting, uint32_t lim
     uint32_t status = bogzhami_open(&handle, input, len, setting, limit);
     if (status == BOGZHAMI_DONE)
         status = list_tokens(&handle, input, len, &rooms);
+    int written = flush();
     bogzhami_close(&handle);
     free(rooms.texts);
-    if (fflush(stdout) || ferror(stdout))
-        return fail("standard output: ", strerror(errno));
+    if (written)
+        return written;
     if (status != BOGZHAMI_OVER && status != BOGZHAMI_FAULT)
         return fail("", bogzhami_status_text(status));
     return status == BOGZHAMI_FAULT;
@@ -171,17 +182,69 @@ static bool read_limit(const char *word, uint32_t *limit) {
     return *word >= '0' && *word <= '9' && !*end && number >= 1 && number <= 65536;
 }
 
+static int refuse_words(const char *what, const char *word) {
+    if (word)
+        fprintf(stderr, "%s: %s '%s'\n", program, what, word);
+    fprintf(stderr, "usage: %s [any|utf8|utf16le|utf16be [LIMIT]] < FILE    (LIMIT is 1 to 65536)\n", program);
+    return 2;
+}
+
+static int print_help(void) {
+    printf("usage: %s [ENC [LIMIT]] < FILE\n\nLists the tokens of a file, one a line.\n\n", program);
+    printf("  ENC            any, utf8, utf16le or utf16be; any without it\n");
+    printf("  LIMIT          the key limit, 1 to 65536; 1024 without it\n");
+    printf("  -h, --help     print this\n      --version  print the version\n\n");
+    printf("The exit status is 0; 1 if there is a fault; 2 for wrong words; 3 if reading, writing or a request for memory fails.\n");
+    return flush();
+}
+
+static int print_version(void) {
+    printf("%s (Bogzhami) %s\n", program, bogzhami_version());
+    return flush();
+}
+
+/* Takes the option that comes first. Returns the exit status, or -1 if there is none. */
+static int take_option(int argc, char **argv) {
+    enum { VERSION = 256 };
+    static const struct option options[] = {{"help", no_argument, NULL, 'h'}, {"version", no_argument, NULL, VERSION}, {0}};
+    switch (getopt_long(argc, argv, "h", options, NULL)) {
+    case -1:
+        return -1;
+    case 'h':
+        return print_help();
+    case VERSION:
+        return print_version();
+    default: /* getopt_long has said what is wrong */
+        return refuse_words("", NULL);
+    }
+}
+
+/* Reads the words ENC and LIMIT. Returns the exit status if they are wrong, or -1. */
+static int take_words(char **words, int count, uint32_t *setting, uint32_t *limit) {
+    if (count > 0 && !find_setting(words[0], setting))
+        return refuse_words("there is no encoding", words[0]);
+    if (count > 1 && !read_limit(words[1], limit))
+        return refuse_words("there is no key limit", words[1]);
+    return count > 2 ? refuse_words("there is no use for", words[2]) : -1;
+}
+
 int main(int argc, char **argv) {
     uint32_t setting = BOGZHAMI_ANY_ENCODING, limit = 1024;
-    if (argc > 3 || (argc > 1 && !find_setting(argv[1], &setting)) || (argc > 2 && !read_limit(argv[2], &limit))) {
-        fprintf(stderr, "usage: list [any|utf8|utf16le|utf16be [LIMIT]] < FILE    (LIMIT is 1 to 65536)\n");
-        return 2;
+    if (argc > 0) {
+        char *slash = strrchr(argv[0], '/');
+        argv[0] = slash ? slash + 1 : argv[0]; /* getopt_long names it */
+        program = argv[0];
     }
+    int status = take_option(argc, argv);
+    if (status < 0)
+        status = take_words(argv + optind, argc - optind, &setting, &limit);
+    if (status >= 0)
+        return status;
     size_t len;
     uint8_t *input = read_all(&len);
     if (!input)
         return ferror(stdin) ? fail("standard input: ", strerror(errno)) : fail("", "out of memory");
-    int status = list(input, len, setting, limit);
+    status = list(input, len, setting, limit);
     free(input);
     return status;
 }

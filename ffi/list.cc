@@ -9,6 +9,7 @@
 #include <charconv>
 #include <cstdint>
 #include <cstdio>
+#include <getopt.h>
 #include <iostream>
 #include <iterator>
 #include <new>
@@ -21,6 +22,13 @@
 namespace {
 
 constexpr std::array<std::string_view, 4> settings{"any", "utf8", "utf16le", "utf16be"};
+constexpr std::string_view help =
+    "Lists the tokens of a file, one a line.\n\n"
+    "  ENC            any, utf8, utf16le or utf16be; any without it\n"
+    "  LIMIT          the key limit, 1 to 65536; 1024 without it\n"
+    "  -h, --help     print this\n"
+    "      --version  print the version\n\n"
+    "The exit status is 0; 1 if there is a fault; 2 for wrong words; 3 if reading, writing or a request for memory fails.\n";
 
 // A scanner of an input, which has to outlive it. It is closed when it goes out of scope, and is not copied.
 class Scanner {
@@ -122,7 +130,7 @@ void list_fault(const Scanner &scanner) {
 // Lists all tokens and the fault after them, and returns whether there is one.
 bool list(std::string_view input, std::uint32_t encoding, std::uint32_t key_limit) {
     Scanner scanner{input, encoding, key_limit};
-    for (;;) {
+    while (std::cout) {
         std::uint32_t status = scanner.next();
         for (std::uint64_t i = 0; i < scanner.answer.token_count; i++)
             list_token(scanner, scanner.tokens[i]);
@@ -131,27 +139,47 @@ bool list(std::string_view input, std::uint32_t encoding, std::uint32_t key_limi
         if (status != BOGZHAMI_DONE)
             return status == BOGZHAMI_FAULT;
     }
+    return false;
 }
 
-// The words of the command, which are wrong if this throws.
+// The words of the command. Wrong ones are thrown as what is wrong with them, which is empty if getopt_long has said it.
 struct Words {
     std::uint32_t encoding = BOGZHAMI_ANY_ENCODING;
     std::uint32_t key_limit = 1024;
+    int option; // the option that comes first, or -1
 
-    Words(int argc, char **argv) {
-        if (argc > 1)
-            encoding = static_cast<std::uint32_t>(std::find(settings.begin(), settings.end(), argv[1]) - settings.begin());
-        if (argc > 2)
-            key_limit = limit_of(argv[2]);
-        if (argc > 3 || encoding == settings.size())
-            throw std::invalid_argument{"words"};
+    Words(int argc, char **argv) : option{option_of(argc, argv)} {
+        if (option != -1)
+            return;
+        const char *const *words = argv + optind;
+        if (optind < argc)
+            encoding = encoding_of(words[0]);
+        if (optind + 1 < argc)
+            key_limit = limit_of(words[1]);
+        if (optind + 2 < argc)
+            throw std::invalid_argument{"there is no use for '" + std::string{words[2]} + "'"};
+    }
+
+    static int option_of(int argc, char **argv) {
+        static const ::option options[] = {{"help", no_argument, nullptr, 'h'}, {"version", no_argument, nullptr, 'v'}, {}};
+        int found = getopt_long(argc, argv, "h", options, nullptr);
+        if (found == '?')
+            throw std::invalid_argument{""};
+        return found;
+    }
+
+    static std::uint32_t encoding_of(std::string_view word) {
+        auto found = std::find(settings.begin(), settings.end(), word);
+        if (found == settings.end())
+            throw std::invalid_argument{"there is no encoding '" + std::string{word} + "'"};
+        return static_cast<std::uint32_t>(found - settings.begin());
     }
 
     static std::uint32_t limit_of(std::string_view word) {
         std::uint32_t limit = 0;
         auto [end, error] = std::from_chars(word.data(), word.data() + word.size(), limit);
-        if (error != std::errc{} || end != word.data() + word.size())
-            throw std::invalid_argument{"key limit"};
+        if (error != std::errc{} || end != word.data() + word.size() || limit < 1 || limit > 65536)
+            throw std::invalid_argument{"there is no key limit '" + std::string{word} + "'"};
         return limit;
     }
 };
@@ -168,20 +196,46 @@ void flush() {
         throw std::system_error{errno, std::generic_category(), "standard output"};
 }
 
+// What the program was called by.
+std::string program = "list";
+
+int fail(const char *what) {
+    std::cerr << program << ": " << what << '\n';
+    return 3;
+}
+
+int refuse_words(std::string_view what) {
+    if (!what.empty())
+        std::cerr << program << ": " << what << '\n';
+    std::cerr << "usage: " << program << " [any|utf8|utf16le|utf16be [LIMIT]] < FILE    (LIMIT is 1 to 65536)\n";
+    return 2;
+}
+
+// Does what the words say, and returns whether there is a fault.
+bool obey(const Words &words) {
+    if (words.option == 'h')
+        std::cout << "usage: " << program << " [ENC [LIMIT]] < FILE\n\n" << help;
+    else if (words.option == 'v')
+        std::cout << program << " (Bogzhami) " << bogzhami_version() << '\n';
+    else
+        return list(read_all(), words.encoding, words.key_limit);
+    return false;
+}
+
 } // namespace
 
 int main(int argc, char **argv) try {
-    Words words{argc, argv};
-    bool has_fault = list(read_all(), words.encoding, words.key_limit);
+    if (argc > 0) {
+        program = std::string_view{argv[0]}.substr(std::string_view{argv[0]}.rfind('/') + 1);
+        argv[0] = program.data(); // getopt_long names it
+    }
+    bool has_fault = obey(Words{argc, argv});
     flush();
     return has_fault;
-} catch (const std::invalid_argument &) {
-    std::cerr << "usage: list [any|utf8|utf16le|utf16be [LIMIT]] < FILE    (LIMIT is 1 to 65536)\n";
-    return 2;
+} catch (const std::invalid_argument &error) {
+    return refuse_words(error.what());
 } catch (const std::system_error &error) {
-    std::cerr << "list: " << error.what() << '\n';
-    return 3;
+    return error.code() == std::errc::broken_pipe ? 3 : fail(error.what());
 } catch (const std::bad_alloc &) {
-    std::cerr << "list: out of memory\n";
-    return 3;
+    return fail("out of memory");
 }

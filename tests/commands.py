@@ -45,7 +45,10 @@ LEFT_OUT = {
 WRONG_NAMES = {
     "": (2, r"\./dev COMMAND \[NAME\]"),
     "help": (0, r"\./dev COMMAND \[NAME\]"),
-    "chek": (2, r"no command chek\. Near it:\n  check\n$"),
+    "--help": (0, r"\./dev COMMAND \[NAME\]"),
+    "--version": (0, r"^dev \(Bogzhami\) [\d.]+\n$"),
+    "chek": (2, r"no command chek\. Near it:\n  check\nusage: \./dev COMMAND \[NAME\] .*\n$"),
+    "--jsn": (2, r"no command --jsn\. There are:\n(  \w+\n)*usage: \./dev COMMAND \[NAME\] .*\n$"),
     "check": (2, r"Which crate\?\n(  \w+\n)*  yaml_text\n"),
     "check yaml_txt": (2, r"no crate yaml_txt\. Near it:\n(  \w+\n)*  yaml_text\n"),
     "check yaml_text IS_ALPH": (2, r"Near it:\n  classes::IS_ALPHA\n"),
@@ -56,7 +59,7 @@ WRONG_NAMES = {
     "edit bom_of_three_bytes": (2, r"Near it:\n(  [\w/]+\n)*  yaml_text/bom_of_two_bytes\n"),
     "vector": (2, r"Which input\? Its bytes in hexadecimal"),
     "vector 6": (2, r"Which input\? Its bytes in hexadecimal"),
-    "docs more": (2, r"takes 0 names at most"),
+    "docs more": (2, r"takes 0 names at most\.\nusage: \./dev COMMAND"),
     "check yaml_text IS_ALPHA more": (2, r"takes 2 names at most"),
 }
 

@@ -5,8 +5,8 @@ All inputs of vectors/scan.txt.gz are scanned at once through the shared library
 needed and with about half of it; the tokens and the fault are the expected ones, each record says where the input has the
 token's text, and nothing else in a room has changed. Wrong settings and limits touch nothing but the answer. The records have
 the same sizes and places in C, in Rust and in the crate, and the header's numbers are the crate's. The examples list.c, list.cc
-and list.rs list what is expected, and list.c frees all that it took; list.c and list.cc say what is wrong with their words, their
-input and their output. The examples in ffi/README.md, the header and the manual page are compiled as they stand there, and give
+and list.rs list what is expected, and list.c frees all that it took; all three say what they are, and what is wrong with their
+words, their input and their output. The examples in ffi/README.md, the header and the manual page are compiled as they stand there, and give
 the expected tokens, also of a text of 50 MB (lib/pages.py). The library exports the names of the header, with the version that
 VERSION has, and names their numbers. Each request for memory of list.c is refused in turn.
 
@@ -456,7 +456,7 @@ def main():
             try_records(room, rust),
             try_examples(programs, every[::40]),
             try_pages(room, rust),
-            try_wrong_uses(programs[: 2 if shutil.which("c++") else 1]),
+            try_wrong_uses(programs),
             try_memory(programs[0], every[::2000]),
             try_held(room, every, rust),
         ]

@@ -264,17 +264,19 @@ def try_no_kit(copy):
 
 
 def try_words(copy):
-    """ffi/build says what it lacks, and which words it takes, before anything is proved."""
+    """The scripts say what they lack, and which words they take, before anything is proved."""
     tried = [("ffi/build", {"CC": "no-compiler"}, 3, r"^There is no no-compiler: install gcc\.\n$"),
+             ("./run scan any 0", {}, 2, r"^run: there is no key limit '0'\n"), ("./try scna any", {}, 2, r"^try: there is no command 'scna'\n"),
+             ("./test all", {}, 2, r"^test: there is no use for 'all'\n"), ("./run --help", {}, 0, r"^usage: \./run COMMAND"),
              ("ffi/build --help", {"PATH": PLAIN}, 0, r"^usage: ffi/build \[--jobs N\]\n"),
-             ("ffi/build --job 1", {}, 2, r"^ffi/build: there is no option --job; ffi/build --help says"),
-             ("ffi/build --jobs", {}, 2, r"^ffi/build: --jobs needs a word after it\n$")]
+             ("ffi/build --job 1", {}, 2, r"^ffi/build: unrecognized option '--job'\nusage: ffi/build"),
+             ("ffi/build --jobs", {}, 2, r"^ffi/build: --jobs needs a word after it\nusage: ffi/build")]
     wrong = []
     for command, more, wanted, pattern in tried:
         status, told = copy.run(command, **more)
         if status != wanted or not re.search(pattern, told) or copy.calls():
             wrong.append((command, status, told[-300:]))
-    return say(not wrong, f"{len(tried)} calls of ffi/build that prove nothing, {len(wrong)} wrong {wrong or ''}")
+    return say(not wrong, f"{len(tried)} calls that prove nothing, {len(wrong)} wrong {wrong or ''}")
 
 
 # What rt prints, and what is shown of it.

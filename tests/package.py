@@ -52,11 +52,12 @@ OF_THIS_MACHINE = re.compile(rb"(?:(?<![\w.}-])|(?<=-[IL]))" + re.escape(TOP.enc
 HAS_MODULE = os.path.exists(os.path.join(TOP, "python", "bogzhami", "__init__.py"))
 
 # What has to be in the tarball; what needs a tool that may be missing is added by `wanted_files`.
-FILES = """BUILT CHANGELOG.md LICENSE PROMISES.md README.md VERSION bin/yamltok bin/bogzhami-lint examples/list.c examples/list.cc
+FILES = """BUILT CHANGELOG.md LICENSE PROMISES.md README.md VERSION bin/yamltok bin/bogzhami-lint bin/bogzhami-json examples/list.c examples/list.cc
 examples/mistakes.yaml include/bogzhami.h lib/libbogzhami.a lib/libbogzhami.so lib/libbogzhami.so.MAJOR lib/libbogzhami.so.VERSION
 lib/pkgconfig/bogzhami.pc lib/cmake/bogzhami/bogzhami-config.cmake lib/cmake/bogzhami/bogzhami-config-version.cmake rust/Cargo.toml rust/LICENSE rust/README.md rust/build.rs rust/src/lib.rs rust/src/scanner.rs
-rust/examples/list/main.rs rust/examples/list/listing.rs rust/tests/rows.rs rust/tests/rows.txt share/man/man1/yamltok.1.gz
-share/man/man1/bogzhami-lint.1.gz share/man/man1/bogzhami-highlight.1.gz share/man/man3/bogzhami.3.gz"""
+rust/examples/list/main.rs rust/examples/list/listing.rs rust/examples/list/command.rs rust/tests/rows.rs rust/tests/rows.txt share/man/man1/yamltok.1.gz
+share/man/man1/bogzhami-json.1.gz share/man/man1/bogzhami-lint.1.gz share/man/man1/bogzhami-highlight.1.gz share/man/man3/bogzhami.3.gz
+share/bash-completion/completions/bogzhami-json share/zsh/site-functions/_yamltok share/fish/vendor_completions.d/bogzhami-json.fish"""
 
 
 def say(good, text):
@@ -128,7 +129,6 @@ def copy_built(top):
 
 def refusals(top):
     """Brings a copy of the repository from one state that is refused to the next: what has to be said, and what is."""
-    yield "the words are: ", package(top, "--for-test")
     yield "this is no checkout of a commit", package(top)
     git(top, "init", "-q")
     commit_all(top)
@@ -377,8 +377,9 @@ def try_shell(place, what, lines, wanted="", **how):
 
 
 def try_tools(place, where, folder):
-    """The three programs in a folder, over the example with mistakes."""
+    """The programs in a folder, over the example with mistakes."""
     good = [try_rows(place, f"yamltok {where}", [f"{folder}/yamltok", "scan"])]
+    good.append(try_command(place, f"bogzhami-json {where}", [f"{folder}/bogzhami-json"], '"type":"STREAM-END"', data=SMALL))
     example = os.path.join(TOP, "uses", "lint", "mistakes.yaml")
     shutil.copy(example, place.outer(place.folder))
     done = place.run([f"{folder}/bogzhami-lint", "mistakes.yaml"])

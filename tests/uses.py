@@ -3,8 +3,8 @@
 
 lint: small inputs of each kind of message, whose whole output and exit status are compared; inputs of vectors/, which must end
 with status 0 or 1, thirty of them under valgrind; each request for memory is refused in turn. highlight: on inputs of vectors/
-the terminal's output without the escape sequences, and the page without tags and entities, are the input byte for byte; on the
-page each token that the vectors name has the colour of its kind and nothing else has one, but for comments; for some inputs the
+the terminal's output without the escape sequences, where what a terminal would act on stands as its bytes, and the page without
+tags and entities, are the input byte for byte; with NO_COLOR there are no sequences; on the page each token that the vectors name has the colour of its kind and nothing else has one, but for comments; for some inputs the
 colours are written down here. Both: inputs of 100,000 openers, keys or anchors end in a few seconds. What needs a C compiler,
 rustc (1.63 or later) or valgrind is skipped when there is none.
 """
@@ -78,7 +78,10 @@ COLOURS = {
     "90": "comment", "94": "directive", "1": "document", "91": "indicator", "31": "flow", "36": "key", "32": "quoted",
     "33": "literal", "35": "anchor", "4;35": "alias", "95": "tag", "97;41": "fault",
 }
-SEQUENCE = re.compile(rb"\x1b\[(?:K|0m|(" + b"|".join(word.encode() for word in COLOURS) + rb")m)")
+COLOUR = "|".join(COLOURS).encode()
+SEQUENCE = re.compile(rb"\x1b\[(?:K|0m|(?P<colour>%s)m|(?:(?P<reversed>%s);)?(?P<reverse>7)m)" % (COLOUR, COLOUR))
+# What a terminal would act on: it is shown as its bytes, and so are bytes that are no text.
+ACTED_ON = re.compile("[\0-\x08\x0b-\x0c\x0e-\x1f\x7f-\x9f\udc80-\udcff]|\r(?!\n)")
 
 # The classes of the vectors' tokens; all others that have a length are of the class flow.
 TOKENS = {
@@ -108,8 +111,19 @@ PIECES = [
     (b"\xff\xfe-\0 \0\xe9\0\n\0", ["indicator -", "plain \xc3\xa9"]),
     (b"\xff\xfe#\0\0\xd8a\0", ["comment #", "fault \xef\xbf\xbd"]),
     (b"- |\r\n a\r\n", ["indicator -", "literal | a"]),
+    (b"- a\r- b\xc2\x85- c", ["indicator -", "plain a", "indicator -", "plain b", "indicator -", "plain c"]),
+    (b"- a\n#bcdefghij \x1b[0m\r\x7f\xc2\x9b", ["indicator -", "plain a", "comment #bcdefghij ", "fault \x1b"]),
     (b"%YAML\n", ["fault "]),
     (b"{a: 1\n---\n,b", ["flow {", "key a", "indicator :", "plain 1", "document ---", "flow ,", "plain b"]),
+]
+
+# Inputs of highlight, a value of NO_COLOR, and what the terminal shows.
+SHOWN = [
+    (b"- a\r\r\n- b\r\n", "1", b"- a\\x0d\r\n- b\r\n"),
+    (b"- a\r\r\n", "", b"\x1b[91m-\x1b[0m a\x1b[7m\\x0d\x1b[0m\r\n"),
+    (b"- 'a\x1b[2J\tb", "yes", b"- 'a\\x1b[2J\tb"),
+    (b"- 'a\x1b[2J", "", b"- 'a\x1b[97;41;7m\\x1b\x1b[0m[2J"),
+    (b"- 'a\xff\xc2\x9b", "0", b"- 'a\\xff\\xc2\\x9b"),
 ]
 
 
@@ -135,8 +149,9 @@ def write_files(room, inputs):
     return names
 
 
-def call(room, words):
-    return subprocess.run(words, cwd=room, capture_output=True, timeout=300)
+def call(room, words, **variables):
+    environment = {**{name: value for name, value in os.environ.items() if name != "NO_COLOR"}, **variables}
+    return subprocess.run(words, cwd=room, capture_output=True, timeout=300, env=environment)
 
 
 def every(function, items):
@@ -169,9 +184,6 @@ def try_messages(lint):
         wrong = sum(lint_wrong(lint, room, name) for name in LINTS)
         os.mkdir(os.path.join(room, "folder"))
         statuses = [
-            ([], 2, "", "usage: lint [-w WIDTH] FILE ..\n"),
-            (["-w", "0", "clean"], 2, "", "usage: lint [-w WIDTH] FILE ..\n"),
-            (["-w", "1x", "clean"], 2, "", "usage: lint [-w WIDTH] FILE ..\n"),
             (["none"], 2, "", "lint: none: No such file or directory\n"),
             (["folder"], 2, "", "lint: folder: Is a directory\n"),
             (["none", "no key", "not open"], 2, f"not open:3:1: {SAME_A}\n", "lint: none: No such file or directory\n"),
@@ -301,18 +313,28 @@ class Page(html.parser.HTMLParser):
 
 
 def terminal_pieces(shown):
-    """The pieces of what the terminal shows."""
-    pieces, at, name = [], 0, ""
+    """The pieces of what the terminal shows. What is in reverse stands for bytes."""
+    pieces, at, name, is_reverse = [], 0, "", False
     for found in SEQUENCE.finditer(shown):
-        pieces.append((name, shown[at : found.start()]))
-        if found[1]:
-            name = COLOURS[found[1].decode()]
+        text = shown[at : found.start()]
+        pieces.append((name, bytes.fromhex(text.decode().replace("\\x", "")) if is_reverse else text))
+        is_reverse = bool(found["reverse"])
+        colour = found["colour"] or found["reversed"]
+        if colour or is_reverse:
+            name = COLOURS[colour.decode()] if colour else ""
         elif found[0] == b"\x1b[0m":
             name = ""
         else:
             pieces.append((name, b""))
         at = found.end()
     return pieces + [(name, shown[at:])]
+
+
+def plain_text(text):
+    """What the terminal shows of a text, without colours."""
+    given = text.decode("utf-8", "surrogateescape")
+    shown = ACTED_ON.sub(lambda found: "".join(f"\\x{byte:02x}" for byte in found[0].encode("utf-8", "surrogateescape")), given)
+    return shown.encode()
 
 
 def joined(pieces):
@@ -387,9 +409,13 @@ def try_pieces(highlight):
         write_files(room, [b"<&>\"'\r\n"])
         page = call(room, [highlight, "--html", "0.yaml"]).stdout
         wrong += b"&lt;&amp;&gt;&quot;'</span>\r\n</span>" not in page or not page.startswith(b"<!DOCTYPE html>\n")
+        for data, no_color, wanted in SHOWN:
+            write_files(room, [data])
+            wrong += call(room, [highlight, "0.yaml"], NO_COLOR=no_color).stdout != wanted
+        write_files(room, [b"<&>\"'\r\n"])
         done = call(room, [highlight, "none", "0.yaml"])
-        wrong += (done.returncode, done.stderr[:17]) != (2, b"highlight: none: ") or done.stdout != b"<&>\"'\r\n"
-    print(f"uses: highlight: {len(PIECES) + len(files) + 2} outputs compared, {wrong} wrong")
+        wrong += (done.returncode, done.stderr) != (2, b"highlight: none: No such file or directory\n") or done.stdout != b"<&>\"'\r\n"
+    print(f"uses: highlight: {len(PIECES) + len(SHOWN) + len(files) + 2} outputs compared, {wrong} wrong")
     return not wrong
 
 
@@ -474,8 +500,12 @@ def batch_wrong(highlight, room, batch):
     terminal, page = call(room, [highlight, *names]), call(room, [highlight, "--html", *names])
     faulty = any(lines[-1].startswith("FAULT") for _, _, lines in batch)
     bad = []
-    if joined(terminal_pieces(terminal.stdout)) != b"".join(shown_text(data) for _, data, _ in batch):
+    texts = [shown_text(data) for _, data, _ in batch]
+    if joined(terminal_pieces(terminal.stdout)) != b"".join(texts):
         bad.append(f"the terminal's output is another text: {names}")
+    plain = call(room, [highlight, *names], NO_COLOR="1").stdout
+    if plain != b"".join(map(plain_text, texts)) or plain != SEQUENCE.sub(b"", terminal.stdout):
+        bad.append(f"without colours the terminal's output is another text: {names}")
     told = [line.split(":", 1) for line in terminal.stderr.decode().split("\n")[:-1]]
     wanted = [(name, fault_message(lines[-1])) for name, _, lines in batch if lines[-1].startswith("FAULT")]
     same = all(one[0] == name and one[1].endswith(text) for one, (name, text) in zip(told, wanted))

@@ -76,23 +76,6 @@ mod scanner;
 
 pub use scanner::*;
 
-use std::ffi::CStr;
-use std::os::raw::c_char;
-
-extern "C" {
-    fn bogzhami_version() -> *const c_char;
-}
-
-/// The version of the library that is linked.
-///
-/// ```
-/// assert_eq!(bogzhami::library_version().split('.').count(), 3);
-/// ```
-pub fn library_version() -> &'static str {
-    // SAFETY: the text is a constant of the library, and ends with a 0.
-    unsafe { CStr::from_ptr(bogzhami_version()) }.to_str().unwrap_or_default()
-}
-
 /// The examples of README.md, which run with the others.
 #[cfg(doctest)]
 #[doc = include_str!("../README.md")]

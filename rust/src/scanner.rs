@@ -14,10 +14,11 @@
 
 use std::borrow::Cow;
 use std::error::Error;
-use std::ffi::c_void;
+use std::ffi::{c_void, CStr};
 use std::fmt;
 use std::iter::FusedIterator;
 use std::ops::Deref;
+use std::os::raw::c_char;
 
 /// A place in the text. The index counts bytes of the text in UTF-8.
 #[repr(C)]
@@ -95,6 +96,17 @@ extern "C" {
     fn bogzhami_reach(handle: *mut Handle, mark: *mut Mark) -> u32;
     fn bogzhami_encoding(handle: *mut Handle) -> u32;
     fn bogzhami_close(handle: *mut Handle) -> u32;
+    fn bogzhami_version() -> *const c_char;
+}
+
+/// The version of the library that is linked.
+///
+/// ```
+/// assert_eq!(bogzhami::library_version().split('.').count(), 3);
+/// ```
+pub fn library_version() -> &'static str {
+    // SAFETY: the text is a constant of the library, and ends with a 0.
+    unsafe { CStr::from_ptr(bogzhami_version()) }.to_str().unwrap_or_default()
 }
 
 /// How bytes spell a text. `Any` is for a setting only: a byte order mark decides; without one it is UTF-8.

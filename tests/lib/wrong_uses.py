@@ -1,12 +1,14 @@
-"""The calls of bogzhami.h for names, and what the examples list.c and list.cc say if they are used wrongly."""
+"""The calls of bogzhami.h for names, and what the examples list.c, list.cc and list.rs say of themselves and of wrong uses."""
 
 import ctypes as c
 import os
 import re
+import signal
 import subprocess
 import tempfile
 
 from held import FFI
+from library import VERSION
 
 # The calls for names, the enumeration that each is for, and how a name of the header becomes what the call returns.
 NAMES = {
@@ -19,8 +21,21 @@ FIRST_TOKEN = {"NO": "NO-TOKEN"}
 STATUSES = ["done", "the input has a fault", "no such encoding or key limit", "out of memory", "all tokens were given",
             "a text is longer than the room for texts", "the handle holds no scanner", "unknown"]
 
-USAGE = "usage: list [any|utf8|utf16le|utf16be [LIMIT]] < FILE    (LIMIT is 1 to 65536)\n"
-WRONG_WORDS = ["utf9", "any 0", "any 65537", "any 1x", "any -1", "any 4294968320", "any 1024 more"]
+USAGE = "usage: {0} [any|utf8|utf16le|utf16be [LIMIT]] < FILE    (LIMIT is 1 to 65536)\n"
+
+# Wrong words, and what is said of them before the line of the usage.
+WRONG_WORDS = {
+    "utf9": "there is no encoding 'utf9'",
+    "any 0": "there is no key limit '0'",
+    "any 65537": "there is no key limit '65537'",
+    "any 1x": "there is no key limit '1x'",
+    "any -- -1": "there is no key limit '-1'",
+    "any 4294968320": "there is no key limit '4294968320'",
+    "any 1024 more": "there is no use for 'more'",
+    "--jsn": "unrecognized option '--jsn'",
+    "any --jsn": "unrecognized option '--jsn'",
+    "-- --help": "there is no encoding '--help'",
+}
 
 
 def numbers(header, name):
@@ -54,21 +69,42 @@ def try_name_calls():
 
 
 def call(program, words="", **streams):
+    """The status of a program, and what it says on standard error and, if that is a pipe, on standard output."""
     how = {"stdin": subprocess.DEVNULL, "stdout": subprocess.PIPE, **streams}
     done = subprocess.run([program, *words.split()], stderr=subprocess.PIPE, timeout=60, text=True, **how)
-    return done.returncode, done.stderr
+    return done.returncode, done.stderr, done.stdout
+
+
+def unread_pipe():
+    """The end of a pipe to write to whose other end is closed."""
+    reading, writing = os.pipe()
+    os.close(reading)
+    return writing
 
 
 def ends(program, room):
-    """Wrong uses of an example: its status and what it says, and what these should be."""
-    for words in WRONG_WORDS:
-        yield words, call(program, words), (2, USAGE)
+    """Uses of an example: its status and what it says, and what these should be."""
+    name = os.path.basename(program)
+    for words, wrong in WRONG_WORDS.items():
+        yield words, call(program, words), (2, f"{name}: {wrong}\n{USAGE.format(name)}", "")
     folder = os.open(room, os.O_RDONLY)
-    yield "a folder", call(program, stdin=folder), (3, "list: standard input: Is a directory\n")
+    yield "a folder", call(program, stdin=folder), (3, f"{name}: standard input: Is a directory\n", "")
     os.close(folder)
     with open("/dev/full", "wb") as full:
-        yield "a full disk", call(program, stdout=full), (3, "list: standard output: No space left on device\n")
-    yield "all right", call(program, "any 65536"), (0, "")
+        yield "a full disk", call(program, stdout=full), (3, f"{name}: standard output: No space left on device\n", None)
+    # whoever started it may have it ignore the signal of a closed pipe, or may not
+    pipe = unread_pipe()
+    status, *told = call(program, stdout=pipe)
+    yield "a closed pipe", (status in (3, -signal.SIGPIPE), *told), (True, "", None)
+    yield "a closed pipe, no signal", call(program, stdout=pipe, restore_signals=False), (3, "", None)
+    os.close(pipe)
+    for words in ("--help", "-h", "any 9 --help"):
+        status, told, said = call(program, words)
+        is_whole = re.match(rf"usage: {name} \[ENC \[LIMIT\]\] < FILE\n\nLists .*  -h, --help .* --version .*status", said, re.S)
+        yield words, (status, told, bool(is_whole)), (0, "", True)
+    yield "--version", call(program, "any --version"), (0, "", f"{name} (Bogzhami) {VERSION}\n")
+    listed = "STREAM-START 0:0:0 0:0:0 UTF8\nSTREAM-END 0:0:0 0:0:0\n"
+    yield "all right", call(program, "any -- 65536"), (0, "", listed)
 
 
 def try_wrong_uses(programs):

@@ -1,86 +1,151 @@
-//! highlight [--html] [FILE ..]: shows YAML files in colours, in the terminal or as a page of HTML. Without a file it reads
-//! standard input. The exit status is 0, 1 when a file has a fault, 2 when a file can not be read or the output not be written.
+//! highlight [--html] [FILE ..]: shows YAML files in colours, in the terminal or as a page of HTML. Without a file, or for the file
+//! `-`, it reads standard input. The exit status is 0; 1 when a file has a fault; 2 when a file can not be read, the output can
+//! not be written, memory is refused or the words are wrong.
 mod page;
 mod pieces;
 #[path = "../../rust/src/scanner.rs"]
 mod scanner;
 mod terminal;
 mod text;
+mod words;
 
 use pieces::Cutter;
-use scanner::{Fault, Scanner};
+use scanner::{library_version, Fault, Scanner};
 use std::ffi::{OsStr, OsString};
-use std::io::{self, BufWriter, Read, Write};
+use std::io::{self, BufWriter, ErrorKind, Read, Write};
+use std::path::Path;
 use std::process::ExitCode;
 use text::Text;
+use words::Asked;
 
-/// Shows an input, and returns the exit status that it asks for.
-fn show(out: &mut dyn Write, title: &str, input: &[u8], is_page: bool) -> io::Result<u8> {
-    let text = Text::new(input);
-    let mut cutter = Cutter::new(&text.bytes);
-    let fault = cutter.tokens(Scanner::new(input));
-    if fault == Some(Fault::Memory) {
-        eprintln!("highlight: {title}: out of memory");
-        return Ok(2);
-    }
-    let problem = fault.map(|fault| text.problem(input, &fault));
-    let pieces = cutter.finish(problem.as_ref());
-    if is_page {
-        page::write(out, title, &text, &pieces, problem.as_ref())?;
-    } else {
-        terminal::write(out, &text, &pieces)?;
-    }
-    let problem = match problem {
-        Some(problem) => problem,
-        None => return Ok(0),
-    };
-    out.flush()?;
-    eprintln!("{title}:{}:{}: {}", problem.line, problem.column, problem.message);
-    Ok(1)
+/// How texts are shown.
+#[derive(Clone, Copy, PartialEq, Eq)]
+enum Form {
+    Page,
+    Colours,
+    /// In the terminal, without colours.
+    Plain,
 }
 
-fn show_file(out: &mut dyn Write, name: &OsStr, is_page: bool) -> io::Result<u8> {
-    let title = name.to_string_lossy();
-    match std::fs::read(name) {
-        Ok(input) => show(out, &title, &input, is_page),
-        Err(error) => {
-            eprintln!("highlight: {title}: {error}");
-            Ok(2)
+/// The command as it was called.
+struct Command {
+    program: String,
+    form: Form,
+}
+
+/// Why reading or writing failed, without a number.
+fn reason(error: &io::Error) -> String {
+    error.to_string().split(" (os error").next().unwrap_or_default().to_string()
+}
+
+impl Command {
+    fn fail(&self, what: &str, why: &str) -> u8 {
+        eprintln!("{}: {what}: {why}", self.program);
+        2
+    }
+
+    /// Shows an input, and returns the exit status that it asks for.
+    fn show(&self, out: &mut dyn Write, title: &str, input: &[u8]) -> io::Result<u8> {
+        let text = Text::new(input);
+        let mut cutter = Cutter::new(&text.bytes);
+        let fault = cutter.tokens(Scanner::new(input));
+        if fault == Some(Fault::Memory) {
+            return Ok(self.fail(title, "out of memory"));
+        }
+        let problem = fault.map(|fault| text.problem(input, &fault));
+        let pieces = cutter.finish(problem.as_ref());
+        match self.form {
+            Form::Page => page::write(out, title, &text, &pieces, problem.as_ref())?,
+            form => terminal::write(out, &text, &pieces, form == Form::Colours)?,
+        }
+        let problem = match problem {
+            Some(problem) => problem,
+            None => return Ok(0),
+        };
+        out.flush()?;
+        eprintln!("{title}:{}:{}: {}", problem.line, problem.column, problem.message);
+        Ok(1)
+    }
+
+    fn show_file(&self, out: &mut dyn Write, name: &OsStr) -> io::Result<u8> {
+        let title = title(name);
+        match read(name) {
+            Ok(input) => self.show(out, &title, &input),
+            Err(error) => Ok(self.fail(&title, &reason(&error))),
         }
     }
+
+    /// Shows all files, and returns the exit status.
+    fn show_all(&self, out: &mut dyn Write, names: &[OsString]) -> io::Result<u8> {
+        if self.form == Form::Page {
+            page::begin(out, &title(&names[0]))?;
+        }
+        let mut status = 0;
+        for name in names {
+            status = status.max(self.show_file(out, name)?);
+        }
+        if self.form == Form::Page {
+            page::end(out)?;
+        }
+        out.flush()?;
+        Ok(status)
+    }
 }
 
-/// Shows all files, and returns the exit status.
-fn show_all(names: &[OsString], is_page: bool) -> io::Result<u8> {
+/// What a file is called.
+fn title(name: &OsStr) -> String {
+    if name == "-" {
+        return "standard input".into();
+    }
+    name.to_string_lossy().into_owned()
+}
+
+fn read(name: &OsStr) -> io::Result<Vec<u8>> {
+    if name != "-" {
+        return std::fs::read(name);
+    }
+    let mut input = Vec::new();
+    io::stdin().read_to_end(&mut input)?;
+    Ok(input)
+}
+
+fn form(is_page: bool) -> Form {
+    let no_colours = std::env::var_os("NO_COLOR").map_or(false, |value| !value.is_empty());
+    match (is_page, no_colours) {
+        (true, _) => Form::Page,
+        (false, true) => Form::Plain,
+        (false, false) => Form::Colours,
+    }
+}
+
+/// Does what the words ask for, and returns the exit status.
+fn obey(asked: Asked, program: &str) -> io::Result<u8> {
     let mut out = BufWriter::new(io::stdout().lock());
-    if is_page {
-        page::begin(&mut out, &names.first().map_or("standard input".into(), |name| name.to_string_lossy()))?;
-    }
-    let mut status = 0;
-    if names.is_empty() {
-        let mut input = Vec::new();
-        io::stdin().read_to_end(&mut input)?;
-        status = show(&mut out, "standard input", &input, is_page)?;
-    }
-    for name in names {
-        status = status.max(show_file(&mut out, name, is_page)?);
-    }
-    if is_page {
-        page::end(&mut out)?;
+    match asked {
+        Asked::Help => write!(out, "usage: {program} [--html] [FILE ..]\n\n{}", words::HELP)?,
+        Asked::Version => writeln!(out, "{program} (Bogzhami) {}", library_version())?,
+        Asked::Show { mut names, is_page } => {
+            if names.is_empty() {
+                names.push("-".into());
+            }
+            return Command { program: program.into(), form: form(is_page) }.show_all(&mut out, &names);
+        }
     }
     out.flush()?;
-    Ok(status)
+    Ok(0)
 }
 
 fn main() -> ExitCode {
-    let mut names: Vec<OsString> = std::env::args_os().skip(1).collect();
-    let is_page = matches!(names.first(), Some(name) if name == "--html");
-    if is_page {
-        names.remove(0);
-    }
-    let status = show_all(&names, is_page).unwrap_or_else(|error| {
-        eprintln!("highlight: {error}");
-        2
-    });
-    ExitCode::from(status)
+    let mut words = std::env::args_os();
+    let path = words.next().unwrap_or_else(|| "highlight".into());
+    let program = Path::new(&path).file_name().unwrap_or(&path).to_string_lossy();
+    let asked = words::asked(words).map_err(|wrong| format!("{wrong}\nusage: {program} [--html] [FILE ..]"));
+    let told = match asked.map(|asked| obey(asked, &program)) {
+        Ok(Ok(status)) => return ExitCode::from(status),
+        Ok(Err(error)) if error.kind() == ErrorKind::BrokenPipe => return ExitCode::from(2), // no one reads any more
+        Ok(Err(error)) => format!("standard output: {}", reason(&error)),
+        Err(wrong) => wrong,
+    };
+    eprintln!("{program}: {told}");
+    ExitCode::from(2)
 }

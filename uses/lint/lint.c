@@ -1,5 +1,6 @@
-/* lint [-w WIDTH] FILE ..: looks for likely mistakes in YAML files, and prints each as file:line:column: message.
- * The exit status is 0, 1 when there is a message, 2 when a file can not be read, memory is refused or the words are wrong.
+/* lint [-w WIDTH] FILE ..: looks for likely mistakes in YAML files, and prints each as file:line:column: message. The file - is
+ * standard input. The exit status is 0; 1 when there is a message; 2 when a file can not be read, the output can not be written,
+ * memory is refused or the words are wrong.
  *
  * A file is scanned in batches, into rooms that are used again. Of the tokens only the keys, the anchors and aliases, and
  * the lines that hold a key are kept. Each list is sorted, so that what belongs together is side by side. The time is that
@@ -7,6 +8,7 @@
 #include "bogzhami.h"
 
 #include <errno.h>
+#include <getopt.h>
 #include <inttypes.h>
 #include <stdbool.h>
 #include <stdio.h>
@@ -578,10 +580,19 @@ static void print_message(const struct file *f, const char *name, const struct m
     putchar('\n');
 }
 
+static const char *program = "lint"; /* what it was called by */
+
 static int fail(const char *name, const char *problem) {
     fflush(stdout);
-    fprintf(stderr, "lint: %s: %s\n", name, problem);
+    fprintf(stderr, "%s: %s: %s\n", program, name, problem);
     return 2;
+}
+
+/* Sees that all is written, and returns the exit status that this asks for. A pipe that no one reads any more is not told. */
+static int flush(void) {
+    if (!fflush(stdout) && !ferror(stdout))
+        return 0;
+    return errno == EPIPE ? 2 : fail("standard output", strerror(errno));
 }
 
 static int lint_read(struct file *f, const char *name, uint64_t width) {
@@ -589,25 +600,21 @@ static int lint_read(struct file *f, const char *name, uint64_t width) {
         return fail(name, "out of memory");
     if (f->message_count)
         qsort(f->messages, f->message_count, sizeof *f->messages, compare_messages);
-    for (size_t i = 0; i < f->message_count; i++)
+    for (size_t i = 0; i < f->message_count && !ferror(stdout); i++)
         print_message(f, name, &f->messages[i], width);
-    return f->message_count ? 1 : 0;
+    int status = flush();
+    return status || !f->message_count ? status : 1;
 }
 
-/* Prints the messages of one file, and returns the exit status that they ask for. */
-static int lint(const char *name, uint64_t width) {
+/* Prints the messages of one file that is open, and returns the exit status that they ask for. */
+static int lint_open(FILE *from, const char *name, uint64_t width) {
     struct file f = {.scanner = BOGZHAMI_CLOSED};
-    FILE *from = fopen(name, "rb");
-    if (!from)
-        return fail(name, strerror(errno));
     errno = 0;
     bool has_room = read_all(&f, from);
-    bool is_broken = ferror(from);
     int status, reason = errno;
-    fclose(from);
     if (!has_room)
         status = fail(name, "out of memory");
-    else if (is_broken)
+    else if (ferror(from))
         status = fail(name, strerror(reason));
     else
         status = lint_read(&f, name, width);
@@ -615,28 +622,104 @@ static int lint(const char *name, uint64_t width) {
     return status;
 }
 
+static int lint(const char *name, uint64_t width) {
+    if (!strcmp(name, "-"))
+        return lint_open(stdin, "standard input", width);
+    FILE *from = fopen(name, "rb");
+    if (!from)
+        return fail(name, strerror(errno));
+    int status = lint_open(from, name, width);
+    fclose(from);
+    return status;
+}
+
+static int lint_all(char **names, uint64_t width) {
+    int status = 0;
+    for (; *names && !ferror(stdout); names++) {
+        int one = lint(*names, width);
+        if (one > status)
+            status = one;
+    }
+    return status;
+}
+
+/* The words of the command. */
+
+static const char options_help[] =
+    "Looks for likely mistakes in YAML files, and prints each as file:line:column: message.\n"
+    "The file - is standard input.\n\n"
+    "  -w, --width WIDTH  lines may have that many characters; without it 80\n"
+    "  -h, --help         print this\n"
+    "      --version      print the version\n\n"
+    "The exit status is 0; 1 when there is a message; 2 when a file can not be read, the output\n"
+    "can not be written, memory is refused or the words are wrong.\n";
+
+static void print_usage(FILE *to) { fprintf(to, "usage: %s [-w WIDTH] FILE ..\n", program); }
+
+static int print_help(void) {
+    print_usage(stdout);
+    printf("\n%s", options_help);
+    return flush();
+}
+
+static int print_version(void) {
+    printf("%s (Bogzhami) %s\n", program, bogzhami_version());
+    return flush();
+}
+
+static int refuse_words(void) {
+    print_usage(stderr);
+    return 2;
+}
+
 /* The width that a word gives, or 0 when it gives none. */
 static uint64_t width_of(const char *word) {
     char *end;
     errno = 0;
     unsigned long long width = strtoull(word, &end, 10);
-    return *end || errno || *word < '0' || *word > '9' ? 0 : width;
+    if (*end || errno || *word < '0' || *word > '9' || !width) {
+        fprintf(stderr, "%s: '%s' is no width\n", program, word);
+        return 0;
+    }
+    return width;
+}
+
+/* Reads the options. Returns the exit status if nothing is left to be done, and otherwise -1. */
+static int read_options(int argc, char **argv, uint64_t *width) {
+    enum { VERSION = 256 };
+    static const struct option options[] = {
+        {"width", required_argument, NULL, 'w'}, {"help", no_argument, NULL, 'h'}, {"version", no_argument, NULL, VERSION}, {0}};
+    for (int option; (option = getopt_long(argc, argv, "w:h", options, NULL)) != -1;) {
+        switch (option) {
+        case 'w':
+            *width = width_of(optarg);
+            if (!*width)
+                return refuse_words();
+            break;
+        case 'h':
+            return print_help();
+        case VERSION:
+            return print_version();
+        default: /* getopt_long has said what is wrong */
+            return refuse_words();
+        }
+    }
+    return -1;
 }
 
 int main(int argc, char **argv) {
-    bool has_width = argc > 2 && !strcmp(argv[1], "-w");
-    uint64_t width = has_width ? width_of(argv[2]) : DEFAULT_WIDTH;
-    int first = has_width ? 3 : 1, status = 0;
-    if (first >= argc || !width) {
-        fprintf(stderr, "usage: lint [-w WIDTH] FILE ..\n");
-        return 2;
+    uint64_t width = DEFAULT_WIDTH;
+    if (argc > 0) {
+        char *slash = strrchr(argv[0], '/');
+        argv[0] = slash ? slash + 1 : argv[0]; /* getopt_long names it */
+        program = argv[0];
     }
-    for (int i = first; i < argc; i++) {
-        int one = lint(argv[i], width);
-        if (one > status)
-            status = one;
+    int status = read_options(argc, argv, &width);
+    if (status >= 0)
+        return status;
+    if (optind == argc) {
+        fprintf(stderr, "%s: no file is named\n", program);
+        return refuse_words();
     }
-    if (fflush(stdout) || ferror(stdout))
-        return fail("standard output", strerror(errno));
-    return status;
+    return lint_all(argv + optind, width);
 }

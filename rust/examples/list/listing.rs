@@ -71,17 +71,26 @@ fn fault_line(fault: &Fault) -> String {
     }
 }
 
-/// The settings that the words ENC and LIMIT name, or `None` for wrong words.
-pub fn settings(words: &[String]) -> Option<Settings> {
+/// The settings that the words ENC and LIMIT name, or what is wrong with them.
+pub fn settings(words: &[String]) -> Result<Settings, String> {
     let encoding = match words.first().map_or("any", String::as_str) {
         "any" => Encoding::Any,
         "utf8" => Encoding::Utf8,
         "utf16le" => Encoding::Utf16Le,
         "utf16be" => Encoding::Utf16Be,
-        _ => return None,
+        word => return Err(format!("there is no encoding '{word}'")),
     };
-    let key_limit = words.get(1).map_or(Some(1024), |word| word.parse().ok())?;
-    Some(Settings { encoding, key_limit, ..Settings::default() })
+    let key_limit = words.get(1).map_or(Some(1024), |word| key_limit(word));
+    match (key_limit, words.get(2)) {
+        (_, Some(word)) => Err(format!("there is no use for '{word}'")),
+        (None, _) => Err(format!("there is no key limit '{}'", words[1])),
+        (Some(key_limit), None) => Ok(Settings { encoding, key_limit, ..Settings::default() }),
+    }
+}
+
+fn key_limit(word: &str) -> Option<u32> {
+    let is_number = word.bytes().all(|byte| byte.is_ascii_digit());
+    word.parse().ok().filter(|limit| is_number && (1..=65536).contains(limit))
 }
 
 /// Lists all tokens, a batch at a time, and the fault after them, which it returns.

@@ -1,22 +1,11 @@
 //! list [ENC [LIMIT]] < FILE: lists the tokens of a file, one a line, as `yamltok scan ENC LIMIT` does.
-//! The exit status is 0, 1 if there is a fault, 2 for wrong words.
+//! The exit status is 0; 1 if there is a fault; 2 for wrong words; 3 if reading or writing fails.
+mod command;
 mod listing;
 
-use bogzhami as scanner; // by this name listing.rs calls the crate
-use scanner::Scanner;
-use std::error::Error;
-use std::io::{self, Read};
+use bogzhami as scanner; // by this name the two modules call the crate
 use std::process::ExitCode;
 
-fn main() -> Result<ExitCode, Box<dyn Error>> {
-    let words: Vec<String> = std::env::args().skip(1).collect();
-    let mut input = Vec::new();
-    io::stdin().read_to_end(&mut input)?;
-    let settings = listing::settings(&words);
-    let mut scanner = match settings.map(|settings| Scanner::with_settings(&input, settings)) {
-        Some(Ok(scanner)) => scanner,
-        _ => return Ok(ExitCode::from(2)),
-    };
-    let fault = listing::list(&mut io::stdout().lock(), &mut scanner)?;
-    Ok(ExitCode::from(u8::from(fault.is_some())))
+fn main() -> ExitCode {
+    command::run()
 }
