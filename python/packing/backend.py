@@ -85,7 +85,7 @@ def about() -> Files:
     """What an installed package says of itself."""
     folder = f"bogzhami-{version()}.dist-info"
     wheel = f"Wheel-Version: 1.0\nGenerator: bogzhami\nRoot-Is-Purelib: false\nTag: {TAG}\n"
-    metadata = read("packing", "METADATA").replace(b"@VERSION@", version().encode())
+    metadata = read("packing", "METADATA").replace(b"{version}", version().encode())
     return [
         (f"{folder}/METADATA", metadata + read("README.md")),
         (f"{folder}/WHEEL", wheel.encode()),
