@@ -30,6 +30,7 @@ sys.path.insert(0, os.path.join(HERE, "lib"))
 sys.dont_write_bytecode = True
 import debian
 import readmes
+from installing import make_virtual, wrong_installed
 from library import TOP, VERSION
 from places import NoRoot, make_folder, make_root
 from worked import rows
@@ -58,6 +59,10 @@ lib/pkgconfig/bogzhami.pc lib/cmake/bogzhami/bogzhami-config.cmake lib/cmake/bog
 rust/examples/list/main.rs rust/examples/list/listing.rs rust/examples/list/command.rs rust/tests/rows.rs rust/tests/rows.txt share/man/man1/yamltok.1.gz
 share/man/man1/bogzhami-json.1.gz share/man/man1/bogzhami-lint.1.gz share/man/man1/bogzhami-highlight.1.gz share/man/man3/bogzhami.3.gz
 share/bash-completion/completions/bogzhami-json share/zsh/site-functions/_yamltok share/fish/vendor_completions.d/bogzhami-json.fish"""
+MODULE = """LICENSE README.md pyproject.toml packing/backend.py packing/METADATA bogzhami/__init__.py bogzhami/__init__.pyi
+bogzhami/py.typed bogzhami/libbogzhami.so.MAJOR"""
+TOLD = ["/usr/share/doc/python3-bogzhami/README.md", "/usr/share/man/man7/python3-bogzhami.7.gz"]
+VERSIONS = "import importlib.metadata, bogzhami; print(importlib.metadata.version('bogzhami'), bogzhami.__version__)"
 
 
 def say(good, text):
@@ -206,7 +211,8 @@ def wanted_files(told):
     if "needs libyaml.a" not in told:
         names += ["libyaml/libyaml-0.so.2", "libyaml/README.md", "libyaml/COPYRIGHT.libyaml"]
     if HAS_MODULE:
-        names += ["python/bogzhami/__init__.py", "python/bogzhami/libbogzhami.so." + VERSION.split(".")[0]]
+        names += ["python/" + name.replace("MAJOR", VERSION.split(".")[0]) for name in MODULE.split()]
+        names += [f"python/bogzhami-{VERSION}.dist-info/METADATA", "share/man/man7/python3-bogzhami.7.gz"]
     return set(names)
 
 
@@ -317,6 +323,17 @@ def try_documents(made, folders, tarball):
     wrong = [line for folder in [tarball, *folders.values()]
              for line in debian.wrong_paths(folder, folders.values(), sources, source_tarball)]
     return say(not wrong, f"paths in the documents of the packages, {len(wrong)} lead nowhere {shown(wrong)}") and good
+
+
+def try_pip(folder, room):
+    """The Python module of the tarball, as pip installs it with nothing fetched."""
+    if not HAS_MODULE:
+        return skip("pip: the Python module is not there")
+    own = make_virtual(sys.executable, os.path.join(room, "virtual"))
+    if own is None:
+        return skip("pip: this Python makes no virtual environment")
+    wrong = wrong_installed(own, os.path.join(folder, "python"), room)
+    return say(not wrong, f"pip installs the Python module of the tarball {shown(wrong)}")
 
 
 # WHAT IS DONE WITH THEM
@@ -498,6 +515,8 @@ def try_module(place, **how):
     if not place.has("python3"):
         return skip("the Python module: no python3")
     good = try_rows(place, "the Python module", ["/usr/bin/python3", "-m", "bogzhami"], **how)
+    words = ["/usr/bin/python3", "-c", VERSIONS]
+    good = try_command(place, "the version of the Python module", words, f"{VERSION} {VERSION}", **how) and good
     code = 'import bogzhami.pyyaml, yaml\nprint(yaml.load("a: [1, 2]", bogzhami.pyyaml.SafeLoader))'
     if place.run(["/usr/bin/python3", "-c", "import yaml"]).returncode:
         return good and skip("PyYAML over the Python module: there is none")
@@ -546,6 +565,7 @@ def try_debian(place, folder):
         try_dependent(place, "/usr/share/bogzhami/rust"),
         try_rust_programs(place, f"{lib}/libbogzhami.a"),
         try_module(place),
+        try_command(place, "what the Python module is told by", ["ls", *TOLD]) if HAS_MODULE else True,
         try_libyaml(place, f"{lib}/bogzhami"),
         try_sections(place, "the Debian packages", ["Debian packages"], place.folder),
     ]
@@ -672,8 +692,8 @@ def main():
         with ThreadPoolExecutor(max_workers=1) as pool:
             place = pool.submit(make_place, room)
             folder = look_into(room, os.path.join(made, NAME + ".tar.gz"))
-            good = [try_contents(folder, told), try_manual(folder), try_files(made, folder, room), try_lintian(made)]
-            good.append(try_refusals(room))
+            good = [try_contents(folder, told), try_manual(folder), try_pip(folder, room), try_files(made, folder, room)]
+            good += [try_lintian(made), try_refusals(room)]
             good.append(try_packages(made, place.result()))
     return 0 if all(good) else 1
 

@@ -720,11 +720,26 @@ def try_likes():
         added == (None, False) and "!added" not in before,
         tuples == [("a",)] * 3 and calls == [["1"], ["1"], "ConstructorError"],
         all(refuses(TypeError, pyyaml.loader_like, kind) for kind in (yaml.CSafeLoader, pyyaml.SafeLoader, str, None)),
-        listed_version("1.3") == ["same", "ParserError"] and listed_version("1.2")[1] != "ParserError",
+        [listed_version(version) for version in ("1.0", "1.3", "1.10")] == [["same", "ParserError"]] * 3,
+        [listed_version(version) for version in ("1.1", "1.2")] == [["same", ["'a'"]]] * 2,
+        object_of("!one a: 1") == {"a": 1},
     ]
     wrong = [number for number, good in enumerate(checks) if not good] + wrong_stub(pyyaml)
     print(f"python: loaders like others, {len(wrong)} of {len(checks)} checks wrong {wrong or ''}")
     return not wrong
+
+
+def object_of(text):
+    """What a class of objects, that names its loader, has of a text."""
+
+    class Loader(pyyaml.SafeLoader):
+        pass
+
+    class One(yaml.YAMLObject):
+        yaml_tag, yaml_loader = "!one", [Loader]
+
+    made = yaml.load(text.replace(" ", "\n", 1), Loader=Loader)
+    return vars(made) if isinstance(made, One) else made
 
 
 def listed_version(version):

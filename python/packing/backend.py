@@ -59,12 +59,12 @@ Files = List[Tuple[str, bytes]]
 
 
 def module_files() -> Iterator[Tuple[str, bytes]]:
-    """The files of the package, without libraries and what Python has compiled."""
+    """The files of the package, without libraries, what Python has compiled, and what is for readers of the sources."""
     for folder, folders, names in os.walk(PACKAGE):
         folders[:] = sorted(name for name in folders if name != "__pycache__")
         for name in sorted(names):
             path = os.path.relpath(os.path.join(folder, name), FOLDER)
-            if not LIBRARY.fullmatch(name):
+            if name != "README.md" and not LIBRARY.fullmatch(name):
                 yield path, read(path)
 
 
@@ -85,7 +85,7 @@ def about() -> Files:
     """What an installed package says of itself."""
     folder = f"bogzhami-{version()}.dist-info"
     wheel = f"Wheel-Version: 1.0\nGenerator: bogzhami\nRoot-Is-Purelib: false\nTag: {TAG}\n"
-    metadata = read("packing", "METADATA").replace(b"@VERSION@", version().encode())
+    metadata = read("packing", "METADATA").replace(b"{version}", version().encode())
     return [
         (f"{folder}/METADATA", metadata + read("README.md")),
         (f"{folder}/WHEEL", wheel.encode()),
