@@ -84,5 +84,5 @@ make_source_package() {
   write_changelog > "$root/debian/changelog"
   write_source_copyright > "$root/debian/copyright"
   { commit_of_tree; echo "$SOURCE_DATE_EPOCH"; } > "$root/debian/commit"
-  (cd "$dist" && dpkg-source -b "$root" > "$work/source.log" 2>&1) || refuse "dpkg-source: $(tail -n 3 "$work/source.log")"
+  (cd "$dist" && dpkg-source -z2 -b "$root" > "$work/source.log" 2>&1) || refuse "dpkg-source: $(tail -n 3 "$work/source.log")"
 }

@@ -16,7 +16,8 @@ HERE = os.path.dirname(os.path.abspath(__file__))
 PATH = "/usr/sbin:/usr/bin:/sbin:/bin"
 SECONDS = 300  # for a command
 ROOM = 3 << 30  # bytes of disk that a root may take
-TOOLS = ["gcc", "g++", "libc6-dev", "pkg-config", "cmake", "make", "rustc", "cargo", "python3", "python3-yaml"]
+TOOLS = ["gcc", "g++", "libc6-dev", "pkg-config", "cmake", "make", "rustc", "cargo", "python3", "python3-yaml", "libyaml-dev",
+         "yamllint"]
 
 
 # What a command mounts goes with it, and so does what it has started, also if it is killed.
