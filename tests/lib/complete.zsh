@@ -4,8 +4,8 @@ zpty z zsh -f -i
 zpty -w z "PROMPT= RPROMPT=; stty -echo; unsetopt zle_bracketed_paste; fpath=(${(q)1} \$fpath); autoload -Uz compinit; compinit -u -D"
 zpty -w z 'compadd() { case " ${@[1,(i)(-|--)]}" in *" -"[OAD]" "*) builtin compadd "$@"; return ;; esac
 typeset -a found; builtin compadd -A found "$@"; print -l -- "FOUND "$^found; builtin compadd "$@" }'
-zpty -w z "zstyle ':completion:*' list-prompt ''; LISTMAX=1000; setopt no_list_beep; echo READY"
+zpty -w z "zstyle ':completion:*' list-prompt ''; LISTMAX=1000; setopt no_list_beep; echo REA''DY"
 zpty -r -m z line '*READY*'
-zpty -n -w z "$2"$'\t\x15'"echo DONE"$'\n'
+zpty -n -w z "$2"$'\t\x15'"echo DO''NE"$'\n'
 zpty -r -m z line '*DONE*'
 print -r -- "$line" | tr -d '\r' | grep -o 'FOUND [^ ]*' | cut -c 7- | sort -u
