@@ -400,6 +400,8 @@ def interrupt_in_the_middle(program):
 
 def interrupted_after(seconds):
     def wait(program):
+        with_imports = f"/proc/{program.pid}/maps"
+        wait_for(lambda: "lib-dynload" in open(with_imports, encoding="utf-8").read())  # no longer Python's own beginning
         time.sleep(seconds)
         interrupt(program)
 
@@ -410,7 +412,7 @@ def try_broken_off(python, room, *more):
     """Writes that fail, a pipe that is closed, and interrupts at several times, from the keyboard: to all processes at once."""
     write(room, "absent", b"".join(b"none%d\n" % number for number in range(60_000)))
     ways = {"interrupted in the middle": interrupt_in_the_middle, "closed pipe": close_pipe}
-    ways.update((f"interrupted after {seconds} s", interrupted_after(seconds)) for seconds in (0.2, 0.7, 1.2, 1.7))
+    ways.update((f"interrupted after {seconds} s", interrupted_after(seconds)) for seconds in (0, 0.5, 1, 1.5))
     wanted = {name: (3 if name == "closed pipe" else 130, "") for name in ways}
     found = {name: ended(python, room, how, more) for name, how in ways.items()}
     for target, words in (("/dev/full", "No space left on device"), ("&-", "Bad file descriptor")):

@@ -14,6 +14,7 @@ What needs PyYAML's C loader or yamllint is skipped if there is none.
 """
 
 import collections
+import fcntl
 import gc
 import io
 import itertools
@@ -23,9 +24,11 @@ import pickle
 import re
 import shutil
 import signal
+import struct
 import subprocess
 import sys
 import tempfile
+import termios
 import threading
 import time
 import tracemalloc
@@ -188,12 +191,11 @@ def close_pipe(program):
     program.stdout.close()
 
 
-def interrupt(program):
-    """Interrupts a program until it ends: what comes just before a read begins is told only after that."""
-    for _ in range(100):
-        if program.poll() is None:
-            program.send_signal(signal.SIGINT)
-            time.sleep(0.1)
+def is_waiting(program):
+    """Whether a program has read all that it was given, and waits for more."""
+    left = struct.unpack("i", fcntl.ioctl(program.stdin, termios.FIONREAD, b"\0" * 4))[0]
+    with open(f"/proc/{program.pid}/stat", encoding="utf-8") as text:
+        return left == 0 and text.read().rpartition(")")[2].split()[0] == "S"
 
 
 def interrupt_writing(program):
@@ -205,7 +207,11 @@ def interrupt_writing(program):
 def interrupt_reading(program):
     program.stdin.write(b"- a\n" * 100_000)  # more than a pipe has room for, so it is reading
     program.stdin.flush()
-    interrupt(program)
+    for _ in range(3):
+        while program.poll() is None and not is_waiting(program):
+            time.sleep(0.05)
+        time.sleep(0.05)
+    program.send_signal(signal.SIGINT)
 
 
 def try_statuses(program):

@@ -6,6 +6,14 @@ file there is one line of output, in the order of the list, with tabs in it: pat
 and column, or `-`. The exit status is 0, 1 if a file has a fault, 2 if a file was not read or the call is wrong.
 """
 
+import os
+import signal
+
+UNWRITTEN, INTERRUPTED = 3, 130  # exit statuses
+HANDLER = signal.getsignal(signal.SIGINT)
+if __name__ == "__main__" and HANDLER is signal.default_int_handler:
+    signal.signal(signal.SIGINT, lambda *_: os._exit(INTERRUPTED))  # what is imported takes a while
+
 import argparse
 import collections
 import contextlib
@@ -14,10 +22,8 @@ import hashlib
 import itertools
 import logging
 import math
-import os
 import pickle
 import queue
-import signal
 import sys
 import tarfile
 import time
@@ -30,7 +36,6 @@ sys.dont_write_bytecode = True
 import count
 from count import FILE_WEIGHT, Entry, Part, joined, member_name, scan_part, unread_line
 
-UNWRITTEN, INTERRUPTED = 3, 130  # exit statuses
 try:
     import dask.config
     from distributed import Client, KilledWorker, LocalCluster, WorkerPlugin, get_worker
@@ -38,8 +43,6 @@ try:
 except ImportError as lacking:
     sys.stderr.write(f"check: {lacking}: dask.distributed is needed (Debian: python3-distributed, for /usr/bin/python3)\n")
     sys.exit(2)
-except KeyboardInterrupt:
-    sys.exit(INTERRUPTED)
 
 LIBRARY = os.path.join(HERE, "..", "..", "ffi", "out", "libbogzhami.so")
 ARCHIVES = (b".tar", b".tar.gz", b".tgz", b".tar.bz2", b".tbz2", b".tar.xz", b".txz")
@@ -375,6 +378,7 @@ def main():
     logging.disable(logging.CRITICAL)  # what dask.distributed would say of workers and schedulers that end
     dask.config.set(NO_CHARTS)
     try:
+        signal.signal(signal.SIGINT, HANDLER)
         if sys.stdout is None:  # another file might have its number
             raise Unwritten(OSError(errno.EBADF, os.strerror(errno.EBADF)))
         count.Counter(words.library)
