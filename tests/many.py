@@ -426,6 +426,8 @@ def try_broken_off(python, room, *more):
 
 
 def main():
+    # a program in the background ignores interrupts, and so do those that it starts, unless it does not ignore them itself
+    signal.signal(signal.SIGINT, signal.default_int_handler)
     python = python_with_dask()
     if shutil.which("cc") is None or python is None:
         print("many: skipped: no C compiler" if python else "many: skipped: no dask.distributed (Debian: python3-distributed)")

@@ -834,6 +834,8 @@ def try_pyyaml():
 
 def main():
     global bogzhami, held, main_module
+    # a program in the background ignores interrupts, and so do those that it starts, unless it does not ignore them itself
+    signal.signal(signal.SIGINT, signal.default_int_handler)
     if shutil.which("cc") is None:
         print("python: skipped: no C compiler")
         return 0
