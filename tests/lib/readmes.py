@@ -44,7 +44,7 @@ NEEDS = {
     "./package": "command -v git && command -v dpkg-source && command -v rustc && test -f /usr/include/yaml.h",
     "python3 ": "command -v python3", "libbogzhami-dev/": "test -d /usr/share/doc/libbogzhami-dev",
     "man ": "command -v man", "cmake ": "command -v cmake", "python3 -m venv": "python3 -c 'import ensurepip'",
-    "bin/env/": "test -x bin/env/bin/pip",
+    "bin/env/": "python3 -c 'import ensurepip'",
 }
 LISTS = "printf 'a: 1' | "
 SMALL = "".join(line + "\n" for words, data, lines in rows() if (words, data) == (["scan", "any"], b"a: 1") for line in lines)
