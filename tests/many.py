@@ -426,7 +426,7 @@ def try_broken_off(python, room, *more):
 
 
 def main():
-    # a program in the background ignores interrupts, and so do those that it starts, unless it does not ignore them itself
+    # A program that a script starts in the background ignores interrupts, and so would those that are started here.
     signal.signal(signal.SIGINT, signal.default_int_handler)
     python = python_with_dask()
     if shutil.which("cc") is None or python is None:

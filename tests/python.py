@@ -834,7 +834,7 @@ def try_pyyaml():
 
 def main():
     global bogzhami, held, main_module
-    # a program in the background ignores interrupts, and so do those that it starts, unless it does not ignore them itself
+    # A program that a script starts in the background ignores interrupts, and so would those that are started here.
     signal.signal(signal.SIGINT, signal.default_int_handler)
     if shutil.which("cc") is None:
         print("python: skipped: no C compiler")
