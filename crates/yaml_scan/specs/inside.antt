@@ -4,6 +4,7 @@ pub mod Opened
 pub mod TextReads
 pub mod Stop
 pub mod Queue
+pub mod Scanner
 pub mod StepFaults
 pub mod StepParts
 pub mod NearFault

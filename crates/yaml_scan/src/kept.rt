@@ -7,19 +7,12 @@ ghost use Rattle.yaml_scan.specs.Sessions.{session_reach};
 ghost use Rattle.yaml_scan.specs.Parser.{Parser};
 ghost use Rattle.yaml_scan.specs.inside.Kept.{IsKept};
 
-use crate::fault::make_memory_fault;
-use crate::groups::queue_t;
-use crate::levels::layout_t;
 use crate::parser::{empty_text, yaml_parser_t};
-use crate::scanner::scanner_t;
 use crate::session::session_t;
-use crate::slots::slots_t;
+use crate::state::state_t;
 use std::alloc::Global;
-use std::collections::VecDeque;
 use std::mem::replace;
-use yaml_text::{
-    yaml_encoding_t, yaml_fault_t, yaml_kept_text_t, yaml_mark_t, yaml_text_t, yaml_token_t,
-};
+use yaml_text::{yaml_encoding_t, yaml_kept_text_t, yaml_mark_t, yaml_text_t, yaml_token_t};
 
 /// What is kept of a parser when its input is let go: all that it holds, and of its text what the input does not have.
 #[derive(Drop)]
@@ -27,15 +20,7 @@ pub struct yaml_kept_parser_t {
     setting: yaml_encoding_t,
     /// What is kept of its text. It is `None` only while the parser is taken.
     text: Option<yaml_kept_text_t>,
-    refusal: Option<yaml_fault_t>,
-    near: u64,
-    limit: u64,
-    slots: slots_t,
-    allowed: bool,
-    layout: layout_t,
-    reach: yaml_mark_t,
-    taken: u128,
-    made: u64,
+    state: state_t,
     session: session_t,
     lead: yaml_token_t,
 }
@@ -59,61 +44,27 @@ fn text_again<'a>(
     empty_text(alloc)
 }
 
-/// No candidates.
-fn no_slots(alloc: Global) -> slots_t {
-    slots_t {
-        outer: Vec::new(alloc),
-        not_simple_keys: 0,
-        top: None,
-        awaited: 0,
-    }
-}
-
-/// No levels, and an empty queue.
-fn no_layout(alloc: Global, mark: yaml_mark_t) -> layout_t {
-    layout_t {
-        levels: Vec::new(alloc),
-        queue: queue_t {
-            groups: VecDeque::new(alloc),
-            done: 0,
-            early: 0,
-            front: mark,
-        },
-    }
-}
-
 impl yaml_kept_parser_t {
-    /// What is of no parser yet.
-    fn nothing(alloc: Global, setting: yaml_encoding_t, mark: yaml_mark_t) -> yaml_kept_parser_t {
-        yaml_kept_parser_t {
-            setting,
-            text: None,
-            refusal: None,
-            near: 0,
-            limit: 0,
-            slots: no_slots(alloc),
-            allowed: false,
-            layout: no_layout(alloc, mark),
-            reach: mark,
-            taken: 0,
-            made: 0,
-            session: session_t {
-                peeked: false,
-                over: true,
-                fault: None,
-            },
-            lead: yaml_token_t::empty(),
-        }
-    }
-
     /// What is kept of a parser. It takes no memory, and copies no text.
     pub fn new(parser: yaml_parser_t) -> yaml_kept_parser_t
         ensures { IsKept parser.entry result }
     {
-        let scanner = &parser.scanner;
-        let mut kept = yaml_kept_parser_t::nothing(scanner.alloc, parser.setting, scanner.reach);
-        kept.keep(parser);
-        kept
+        let yaml_parser_t {
+            input,
+            setting,
+            text,
+            state,
+            session,
+            empty: _,
+            lead,
+        } = parser;
+        yaml_kept_parser_t {
+            setting,
+            text: Some(yaml_kept_text_t::new(text, input, setting)),
+            state,
+            session,
+            lead,
+        }
     }
 
     /// Takes the parser out, over the same input. What is left here is of no parser. It takes no memory.
@@ -124,27 +75,13 @@ impl yaml_kept_parser_t {
     {
         let kept = self;
         let over = kept.session.over;
-        let under_way = kept.made > 0 && !over;
+        let under_way = kept.state.made > 0 && !over;
         let text = text_again(alloc, kept.text.take(), input, under_way);
         yaml_parser_t {
             input,
             setting: kept.setting,
-            scanner: scanner_t {
-                alloc,
-                text,
-                refusal: kept.refusal,
-                near: kept.near,
-                limit: kept.limit,
-                slots: replace(&mut kept.slots, no_slots(alloc)),
-                allowed: kept.allowed,
-                layout: replace(&mut kept.layout, no_layout(alloc, kept.reach)),
-                reach: kept.reach,
-                front: kept.reach,
-                there: kept.reach,
-                kept: make_memory_fault(),
-                taken: kept.taken,
-                made: kept.made,
-            },
+            text,
+            state: kept.state.take(alloc),
             session: session_t {
                 peeked: kept.session.peeked,
                 over,
@@ -160,50 +97,26 @@ impl yaml_kept_parser_t {
     pub fn keep(&mut self, parser: yaml_parser_t)
         ensures { IsKept parser.entry self.new }
     {
-        let kept = self;
         let yaml_parser_t {
             input,
             setting,
-            scanner,
+            text,
+            state,
             session,
             empty: _,
             lead,
         } = parser;
-        let scanner_t {
-            alloc: _,
-            text,
-            refusal,
-            near,
-            limit,
-            slots,
-            allowed,
-            layout,
-            reach,
-            front: _,
-            there: _,
-            kept: _,
-            taken,
-            made,
-        } = scanner;
-        kept.setting = setting;
-        kept.text = Some(yaml_kept_text_t::new(text, input, setting));
-        kept.refusal = refusal;
-        kept.near = near;
-        kept.limit = limit;
-        kept.slots = slots;
-        kept.allowed = allowed;
-        kept.layout = layout;
-        kept.reach = reach;
-        kept.taken = taken;
-        kept.made = made;
-        kept.session = session;
-        kept.lead = lead;
+        self.setting = setting;
+        self.text = Some(yaml_kept_text_t::new(text, input, setting));
+        self.state = state;
+        self.session = session;
+        self.lead = lead;
     }
 
     /// How far the last step without a fault was read, as [`yaml_parser_mark`](crate::yaml_parser_mark) says it.
     pub fn mark(&self) -> yaml_mark_t
         ensures { (p : Parser) → IsKept p self.now → result ≡ session_reach (course_read p) p.session }
     {
-        self.reach
+        self.state.reach
     }
 }

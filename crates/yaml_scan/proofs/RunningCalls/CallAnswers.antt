@@ -6,7 +6,7 @@ use Rattle.yaml_text.specs.declared.types.yaml_encoding_t.{yaml_encoding_t}
 use Rattle.yaml_text.specs.declared.fault.yaml_fault_t.{yaml_fault_t}
 use Rattle.yaml_text.specs.Fault.{Fault, fault_of, memory_fault}
 use Rattle.yaml_scan.specs.Course.{ended, Input, Course, course}
-use Rattle.yaml_scan.specs.declared.scanner.scanner_t.{scanner_t}
+use Rattle.yaml_scan.specs.inside.Scanner.{Scanner}
 use Rattle.yaml_scan.specs.Token.{yaml_token_t, empty, type_of}
 use Rattle.yaml_scan.specs.TokenTypes.{is_last_type}
 use Rattle.yaml_scan.specs.Laid.{Laid, reach}
@@ -87,7 +87,7 @@ same_stopped : (input : List ℕ) (setting : yaml_encoding_t) (l l' n n' m m' : 
 same_stopped input setting l l' n n' m m' f f' a b c d = λ k. record { input = input; setting = setting; limit = a k; session = record { taken = b k; steps = c k; peeked = false; over = true; fault = d k } }
 
 -- A TOKEN THAT IS TAKEN
-module _ (setting : yaml_encoding_t) (input : List ℕ) (s t u : scanner_t) (x : yaml_token_t) (k : IsSettled setting input s t) (p : Pops t u x) where
+module _ (setting : yaml_encoding_t) (input : List ℕ) (s t u : Scanner) (x : yaml_token_t) (k : IsSettled setting input s t) (p : Pops t u x) where
   abbrev C : Course
   C = course_in s.limit setting input
 
@@ -166,7 +166,7 @@ module _ (setting : yaml_encoding_t) (input : List ℕ) (s t u : scanner_t) (x :
     take_left_of q r o e = take_left o e ∙ ap (λ (z : Parser). after_call z SKIP) (sym r)
 
 -- the next token was shown: no step is made for it
-pub shown_settled : (setting : yaml_encoding_t) (input : List ℕ) (s : scanner_t) → IsShown setting input s → IsSettled setting input s s
+pub shown_settled : (setting : yaml_encoding_t) (input : List ℕ) (s : Scanner) → IsShown setting input s → IsSettled setting input s s
 unfolding pace
 shown_settled setting input s k =
     let e = enough_made s k.stands.runs k.settled in
@@ -183,7 +183,7 @@ get_some (x ∷ xs) zero l = (x, refl)
 get_some (x ∷ xs) (suc n) l = get_some xs n (omega arith)
 
 -- A TOKEN THAT IS SHOWN
-module _ (setting : yaml_encoding_t) (input : List ℕ) (s t : scanner_t) (k : IsSettled setting input s t) where
+module _ (setting : yaml_encoding_t) (input : List ℕ) (s t : Scanner) (k : IsSettled setting input s t) where
   abbrev D : Course
   D = course_in s.limit setting input
 
@@ -239,7 +239,7 @@ module _ (setting : yaml_encoding_t) (input : List ℕ) (s t : scanner_t) (k : I
         (subst (λ (z : Parser). Shows z true now_shown) (sym r) (inl (ap PEEKED shown_is ∙ sym answer_is, show_left)))
 
 -- it is the first one that the queue hands out
-module _ (setting : yaml_encoding_t) (input : List ℕ) (s : scanner_t) (k : IsShown setting input s) (x : yaml_token_t) (f : IsFirst s.text.encoding (drop s.taken (offline (history s))) x) where
+module _ (setting : yaml_encoding_t) (input : List ℕ) (s : Scanner) (k : IsShown setting input s) (x : yaml_token_t) (f : IsFirst s.text.encoding (drop s.taken (offline (history s))) x) where
   next_is : slice_get (tokens_of s.limit (course_in s.limit setting input)) s.taken ≡ Some f.0
   next_is =
       let c = course_is setting input s k.stands.reads in
@@ -351,7 +351,7 @@ get_none [] n l = refl
 get_none (x ∷ xs) zero l = absurd (omega arith)
 get_none (x ∷ xs) (suc n) l = get_none xs n (omega arith)
 
-module _ (setting : yaml_encoding_t) (input : List ℕ) (s t : scanner_t) (peeked : Bool) (fault : Option Fault) (f : yaml_fault_t) (z : IsStopped setting input s t) where
+module _ (setting : yaml_encoding_t) (input : List ℕ) (s t : Scanner) (peeked : Bool) (fault : Option Fault) (f : yaml_fault_t) (z : IsStopped setting input s t) where
   abbrev before_fault : Session
   before_fault = record { taken = s.taken; steps = s.made; peeked = peeked; over = false; fault = fault }
 

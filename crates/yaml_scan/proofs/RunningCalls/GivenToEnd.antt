@@ -10,7 +10,7 @@ use Rattle.yaml_text.specs.Text.{Text}
 use Rattle.yaml_scan.specs.Course.{oldest, ended, Course, Input, course}
 use Rattle.yaml_scan.specs.declared.fault.stop_t.{stop_t}
 use Rattle.yaml_scan.specs.declared.fault.stop_t.TheVariants.{SINK}
-use Rattle.yaml_scan.specs.declared.scanner.scanner_t.{scanner_t}
+use Rattle.yaml_scan.specs.inside.Scanner.{Scanner}
 use Rattle.yaml_scan.specs.All.{AllOf, AreSettled, ReadsAll}
 use Rattle.yaml_scan.specs.Answers.{answers}
 use Rattle.yaml_scan.specs.Begins.{Begins}
@@ -54,7 +54,7 @@ words_at e (y ∷ xs) zero x w q = let p : y ≡ x = cc in subst (λ (z : Token)
 words_at e (y ∷ xs) (suc n) x w q = words_at e xs n x w.1 q
 
 -- THE HEAD OF THE QUEUE IS GIVEN
-module _ (s t : scanner_t) (x : yaml_token_t) (r : IsRunning s) (p : Pops s t x) where
+module _ (s t : Scanner) (x : yaml_token_t) (r : IsRunning s) (p : Pops s t x) where
   abbrev h : Token → yaml_token_t
   h y = handed_out s.text.encoding y
 
@@ -117,7 +117,7 @@ module _ (s t : scanner_t) (x : yaml_token_t) (r : IsRunning s) (p : Pops s t x)
       )
 
 -- after others
-module _ (s u t : scanner_t) (zs : List yaml_token_t) (x : yaml_token_t) (g : HasGiven s u zs) (p : Pops u t x) where
+module _ (s u t : Scanner) (zs : List yaml_token_t) (x : yaml_token_t) (g : HasGiven s u zs) (p : Pops u t x) where
   pub given_on : is_last_type (type_of x.token_data) ≡ false → HasGiven s t (zs ++ x ∷ [])
   given_on n = more_given s u t zs (x ∷ []) g (head_given u t x g.runs p n)
 
@@ -150,7 +150,7 @@ none_is_end e (x ∷ xs) a f = neither (is_end (handed_out e x)) (list_any is_en
     neither a b p q = rw (p, q) refl
 
 -- a scanner that is stuck has handed out what its steps settle
-module _ (m : scanner_t) (r : IsRunning m) (o : IsOpen m) (l : length (before m.limit (history m)) ≤ m.taken) where
+module _ (m : Scanner) (r : IsRunning m) (o : IsOpen m) (l : length (before m.limit (history m)) ≤ m.taken) where
   stuck_at : take m.taken (all_in m) ≡ before m.limit (history m)
   stuck_at =
       let b = settled_begins m r in
@@ -164,7 +164,7 @@ module _ (m : scanner_t) (r : IsRunning m) (o : IsOpen m) (l : length (before m.
   stuck_on : list_any is_end (told_taken m) ≡ false
   stuck_on = rw stuck_at (none_is_end m.text.encoding (before m.limit (history m)) (settled_on m.limit (history m) r.holds.is_history (still_running m r o l)) stuck_fit)
 
-module _ (limit : ℕ) (setting : yaml_encoding_t) (input : List ℕ) (s : scanner_t) (k : IsIn setting input s) (L : s.limit ≡ limit) where
+module _ (limit : ℕ) (setting : yaml_encoding_t) (input : List ℕ) (s : Scanner) (k : IsIn setting input s) (L : s.limit ≡ limit) where
   abbrev I : Input
   I = decoded_input setting input
 
@@ -213,7 +213,7 @@ module _ (limit : ℕ) (setting : yaml_encoding_t) (input : List ℕ) (s : scann
           (subst (λ (y : List yaml_token_t). Begins (y ++ (c.front ++ c.next ∷ [])) (told_all s)) none_taken c.begins);
     }
 
-    module _ (m : scanner_t) (tokens : List yaml_token_t) (g : HasGiven s m tokens) (u : length (before m.limit (history m)) ≤ m.taken) where
+    module _ (m : Scanner) (tokens : List yaml_token_t) (g : HasGiven s m tokens) (u : length (before m.limit (history m)) ≤ m.taken) where
       tokens_then : tokens ≡ told_taken m
       tokens_then = sym (g.given ∙ ap (λ (y : List yaml_token_t). y ++ tokens) none_taken)
 
@@ -267,7 +267,7 @@ begins_none : (xs : List Token) → length xs ≤ 0 → xs ≡ []
 begins_none [] l = refl
 begins_none (x ∷ xs) l = absurd (omega arith)
 
-pub none_made : (setting : yaml_encoding_t) (input : List ℕ) (s t : scanner_t) (f : Fault) → s.taken ≡ 0 → IsShort setting input s f ⊎ IsEnded setting input s t f → ReadsAll s.limit setting input [] (Some f)
+pub none_made : (setting : yaml_encoding_t) (input : List ℕ) (s t : Scanner) (f : Fault) → s.taken ≡ 0 → IsShort setting input s f ⊎ IsEnded setting input s t f → ReadsAll s.limit setting input [] (Some f)
 unfolding answers_to answers
 none_made setting input s t f z (inl k) = inr (
   record {

@@ -3,7 +3,7 @@ use Rattle.std.proofs.Common.{◌≡◌, ℕ, ◌+◌, ◌-◌, ◌≤◌, ◌<�
 use Rattle.yaml_text.specs.declared.types.yaml_encoding_t.{yaml_encoding_t}
 use Rattle.yaml_text.specs.Fault.{Fault}
 use Rattle.yaml_scan.specs.Course.{Input, Course, course}
-use Rattle.yaml_scan.specs.declared.scanner.scanner_t.{scanner_t}
+use Rattle.yaml_scan.specs.inside.Scanner.{Scanner}
 use Rattle.yaml_scan.specs.Laid.{reach}
 use Rattle.yaml_scan.specs.Settled.{before}
 use Rattle.yaml_scan.specs.Settled.{settled, steps_for, pace, first_steps, tokens_of}
@@ -21,22 +21,22 @@ both_false : (a b : Bool) → b ≡ false → (a && b) ≡ false
 both_false true b e = e
 both_false false b e = refl
 
-pub started_new : (setting : yaml_encoding_t) (input : List ℕ) (s t : scanner_t) → Begins setting input s t → s.made ≡ 0 → IsStarted setting input s t
+pub started_new : (setting : yaml_encoding_t) (input : List ℕ) (s t : Scanner) → Begins setting input s t → s.made ≡ 0 → IsStarted setting input s t
 started_new setting input s t b z = let m = b.made in record { stands = b.stands; still_open = b.still_open; made = omega arith; limit = b.limit; taken = b.taken; done = b.done }
 
-pub started_before : (setting : yaml_encoding_t) (input : List ℕ) (s : scanner_t) → IsReady setting input s → 0 < s.made → IsStarted setting input s s
+pub started_before : (setting : yaml_encoding_t) (input : List ℕ) (s : Scanner) → IsReady setting input s → 0 < s.made → IsStarted setting input s s
 started_before setting input s (inl n) z = let m = n.made in absurd (omega arith)
 started_before setting input s (inr r) z = record { stands = r.0; still_open = r.1; made = omega arith; limit = refl; taken = refl; done = refl }
 
-pub ready_new : (setting : yaml_encoding_t) (input : List ℕ) (s : scanner_t) → IsReady setting input s → s.made ≤ 0 → IsNew s
+pub ready_new : (setting : yaml_encoding_t) (input : List ℕ) (s : Scanner) → IsReady setting input s → s.made ≤ 0 → IsNew s
 ready_new setting input s (inl n) z = n
 ready_new setting input s (inr r) z = let b = r.0.runs.begun in absurd (omega arith)
 
-pub course_is : (setting : yaml_encoding_t) (input : List ℕ) (s : scanner_t) → input_of s ≡ decoded_input setting input → course_of s ≡ course_in s.limit setting input
+pub course_is : (setting : yaml_encoding_t) (input : List ℕ) (s : Scanner) → input_of s ≡ decoded_input setting input → course_of s ≡ course_in s.limit setting input
 unfolding course_of
 course_is setting input s e = ap (λ (i : Input). course s.limit i) e
 
-module _ (setting : yaml_encoding_t) (input : List ℕ) (s t u : scanner_t) (b : IsStarted setting input s t) where
+module _ (setting : yaml_encoding_t) (input : List ℕ) (s t u : Scanner) (b : IsStarted setting input s t) where
   course_t : course_of t ≡ course_in s.limit setting input
   course_t = course_is setting input t b.stands.reads ∙ ap (λ (n : ℕ). course_in n setting input) b.limit
 

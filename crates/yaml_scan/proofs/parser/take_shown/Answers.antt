@@ -6,7 +6,8 @@ use Rattle.yaml_text.specs.Token.{token_of}
 use Rattle.yaml_scan.specs.Token.{type_of}
 use Rattle.yaml_scan.specs.TokenTypes.{is_last_type}
 use Rattle.yaml_scan.specs.Parser.{Parser}
-use Rattle.yaml_scan.specs.inside.Ready.{parser_of}
+use Rattle.yaml_scan.specs.inside.Scanner.{scanner_of}
+use Rattle.yaml_scan.specs.inside.Ready.{parser_of, scanner_in}
 use Rattle.yaml_scan.proofs.RunningCalls.CallAnswers.{shown_settled, stands_u, open_u, last_is, take_told_of, take_left_of, shown_session}
 use Rattle.yaml_scan.proofs.RunningCalls.ParserInvariant.{keeps_taken, reach_in}
 use Rattle.yaml_scan.proofs.RunningQueue.StepsWaiting.{done_is}
@@ -14,7 +15,7 @@ use Rattle.yaml_scan.proofs.parser.take_shown.Goals as goal
 
 pub invariant_of-parser : goal.invariant_of-parser
 invariant_of-parser c = let i = c.parser.inside in let v = c.parser.invariant in
-    let s = i.scanner in let u = c.take_head-token.new.scanner in let x = token_of c.take_head-token.result in let p = c.take_head-token.ensures in
+    let s = (scanner_in i) in let u = (scanner_of i.text c.take_head-token.new.state) in let x = token_of c.take_head-token.result in let p = c.take_head-token.ensures in
     let k = shown_settled i.setting i.input.now s (v.peeked (ap (λ (z : Parser). z.session.peeked) c.parser.view_is ∙ c.requires)).1 in
     let t = stands_u i.setting i.input.now s s u x k p in
     let w = keeps_taken i.setting i.input.now s u x p t u.layout.queue.done s.layout.queue.done (record { queued = v.queued; few = v.few }) (done_is u p.runs) in
@@ -31,7 +32,7 @@ invariant_of-parser c = let i = c.parser.inside in let v = c.parser.invariant in
 
 pub returns-clause-token : goal.returns-clause-token
 returns-clause-token c = let i = c.parser.inside in let v = c.parser.invariant in
-    let s = i.scanner in let u = c.take_head-token.new.scanner in let x = token_of c.take_head-token.result in let p = c.take_head-token.ensures in
+    let s = (scanner_in i) in let u = (scanner_of i.text c.take_head-token.new.state) in let x = token_of c.take_head-token.result in let p = c.take_head-token.ensures in
     let r = ap (λ (z : Parser). z.session.peeked) c.parser.view_is ∙ c.requires in
     let h = v.peeked r in
     let e : c.args.parser.now ≡ parser_of i = sym c.parser.view_is in
@@ -39,7 +40,7 @@ returns-clause-token c = let i = c.parser.inside in let v = c.parser.invariant i
 
 pub returns-clause-left : goal.returns-clause-left
 returns-clause-left c = let i = c.parser.inside in let v = c.parser.invariant in
-    let s = i.scanner in let u = c.take_head-token.new.scanner in let x = token_of c.take_head-token.result in let p = c.take_head-token.ensures in
+    let s = (scanner_in i) in let u = (scanner_of i.text c.take_head-token.new.state) in let x = token_of c.take_head-token.result in let p = c.take_head-token.ensures in
     let r = ap (λ (z : Parser). z.session.peeked) c.parser.view_is ∙ c.requires in
     let h = v.peeked r in
     let e : c.args.parser.now ≡ parser_of i = sym c.parser.view_is in
