@@ -5,7 +5,8 @@ use std::test::Fail;
 use yaml_lexeme::{
     yaml_context_t, yaml_decider_at, yaml_gap, yaml_lexeme_at, yaml_lexeme_fault, yaml_lexeme_kind,
     yaml_lexeme_kind_t, yaml_lexeme_t, yaml_read_block, yaml_read_character, yaml_read_lexeme,
-    yaml_read_name, yaml_read_plain, yaml_read_quoted, yaml_read_tag, yaml_refusal_t, yaml_spot_t,
+    yaml_read_name, yaml_read_plain, yaml_read_quoted, yaml_read_stream_end, yaml_read_tag,
+    yaml_refusal_t, yaml_spot_t,
 };
 use yaml_text::{
     unnamed_yaml_token_t_data, yaml_decode, yaml_encoding_t, yaml_error_type_t, yaml_fault_t,
@@ -297,6 +298,20 @@ fn character_read(alloc: Global, bytes: &[u8], in_flow: bool) -> Result<String, 
         }
         _ => Ok(String::from_str(alloc, "no character")?),
     }
+}
+
+/// The stream end after the first bytes of a text.
+fn stream_end_read(alloc: Global, bytes: &[u8], index: usize) -> Result<String, Fail> {
+    let Ok(text) = yaml_decode(alloc, bytes, ANY) else {
+        return Err("refused".into());
+    };
+    if !yaml_is_place(&text, index) {
+        return Err("no place".into());
+    }
+    show_lexeme(
+        alloc,
+        &yaml_read_stream_end(&text, yaml_mark_at(&text, index)),
+    )
 }
 
 /// The kind at the front of a text, if it may decide there whether a scalar before it is a key.
@@ -1242,6 +1257,22 @@ fn refusal_of_memory(rt: HostRuntime) -> Result<(), Fail> {
     let memory = yaml_refusal_t::MEMORY;
     let fault = yaml_lexeme_fault(memory, yaml_lexeme_kind_t::PLAIN, FRONT, FRONT);
     assert!(rt; fault.error == yaml_error_type_t::YAML_MEMORY_ERROR);
+    Ok(())
+}
+
+/// The stream end is at the start of a line: that of the end, or the next one.
+#[test]
+fn stream_ends_read(rt: HostRuntime) -> Result<(), Fail> {
+    let alloc = rt.alloc();
+    let rows: [(&str, usize, &str); 3] = [
+        ("", 0, "end 0:0:0 0:0:0 0:0:0 false"),
+        ("a", 1, "end 1:1:0 1:1:0 1:1:0 false"),
+        ("a\n", 2, "end 2:1:0 2:1:0 2:1:0 false"),
+    ];
+    for (text, index, want) in rows {
+        let shown = stream_end_read(alloc, text.as_bytes(), index)?;
+        assert_eq!(rt; shown.as_str(), want, "{text}");
+    }
     Ok(())
 }
 
