@@ -9,7 +9,6 @@ ghost use Rattle.yaml_c.specs.Held.{Scan, Stands, IsAt, IsNext, Shows};
 ghost use Rattle.yaml_c.specs.inside.Batch.{GivesNext, GoesOn, KeepsAhead, KeepsSizes, Ends, ReadsOn};
 ghost use Rattle.yaml_c.specs.Held.{opened, looked};
 ghost use Rattle.yaml_c.specs.inside.Batch.{rooms_of};
-ghost use Rattle.yaml_text.specs.Decode.{encoding_of};
 ghost use Rattle.yaml_scan.specs.Parser.{Parser};
 ghost use Rattle.yaml_c.specs.Answer.{most_key_limit};
 ghost use Rattle.yaml_scan.specs.inside.Kept.{IsKept};
@@ -25,8 +24,8 @@ use crate::spelled::{skipped_of, spelled_t};
 use crate::status::{DONE, FAULT, NO_ROOM, OVER};
 use std::alloc::{AllocError, Global};
 use yaml_scan::{
-    unnamed_yaml_token_t_data, yaml_decode_front, yaml_encoding_t, yaml_fault_t,
-    yaml_kept_parser_t, yaml_parser_t, yaml_scan_next, yaml_scan_next_to, yaml_token_t,
+    unnamed_yaml_token_t_data, yaml_encoding_of, yaml_encoding_t, yaml_fault_t, yaml_kept_parser_t,
+    yaml_parser_t, yaml_scan_next, yaml_scan_next_to, yaml_token_t,
 };
 
 /// What was read ahead of the tokens that were given.
@@ -251,21 +250,6 @@ pub(crate) fn next_batch(held: &mut held_t, rooms: &mut token_rooms_t) -> (bogzh
     (answer, status)
 }
 
-/// The encoding of an input: the one that is set, or that of the byte order mark, which is in its first three bytes.
-fn found_encoding(
-    alloc: Global,
-    input: &[u8],
-    setting: yaml_encoding_t,
-) -> Result<yaml_encoding_t, AllocError>
-    ensures { IfOk result (λ e. e ≡ encoding_of setting input.now) }
-{
-    let front = &input[..input.len().min(3)];
-    match yaml_decode_front(alloc, front, setting) {
-        Ok((text, _)) => Ok(text.encoding()),
-        Err(_) => Err(AllocError),
-    }
-}
-
 /// A scanner of an input, with a key limit in bytes.
 ///
 /// # Errors
@@ -280,7 +264,7 @@ pub(crate) fn open(
     requires most { limit ≤ most_key_limit }
     ensures { IfOk result (λ held. IsAt (opened input.now setting limit) held.value) }
 {
-    let encoding = encoding_number(found_encoding(alloc, input, setting)?);
+    let encoding = encoding_number(yaml_encoding_of(setting, input));
     let parser = yaml_parser_t::with_key_limit(alloc, input, setting, limit);
     let held = held_t {
         parser: Some(yaml_kept_parser_t::new(parser)),

@@ -227,8 +227,8 @@ pub fn yaml_scan_next_to<S: yaml_token_sink_t>(
     ) {
         Ok(settled) => settled,
         Err(stop) => {
-            let fault = fault_at(stop, &parser.state.kept);
-            end(&mut parser.session, fault);
+            let fault = fault_at(stop, &parser.state.fault);
+            end(&mut parser.session, &mut parser.state.fault, fault);
             return Err(fault);
         }
     };

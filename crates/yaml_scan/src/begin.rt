@@ -34,7 +34,7 @@ fn has_room(state: &state_t, in_flow: bool, kind: yaml_lexeme_kind_t) -> bool
 fn make_room(state: &mut state_t, in_flow: bool, kind: yaml_lexeme_kind_t) -> Result<(), stop_t>
     ensures { (text : Text) → MatchResult result (λ _. HasRoom (scanner_of text state.new) in_flow kind
         × Beside (scanner_of text state.old) (scanner_of text state.new))
-        (λ stop. (fault_at stop state.new.kept ≡ memory_fault) × Stays (scanner_of text state.old)
+        (λ stop. (fault_at stop state.new.fault ≡ memory_fault) × Stays (scanner_of text state.old)
         (scanner_of text state.new)) }
 {
     if is_flow_start(kind) {
@@ -52,7 +52,7 @@ fn make_room(state: &mut state_t, in_flow: bool, kind: yaml_lexeme_kind_t) -> Re
 fn ensure_room(state: &mut state_t, in_flow: bool, kind: yaml_lexeme_kind_t) -> Result<(), stop_t>
     ensures { (text : Text) → MatchResult result (λ _. HasRoom (scanner_of text state.new) in_flow kind
         × Beside (scanner_of text state.old) (scanner_of text state.new))
-        (λ stop. (fault_at stop state.new.kept ≡ memory_fault) × Stays (scanner_of text state.old)
+        (λ stop. (fault_at stop state.new.fault ≡ memory_fault) × Stays (scanner_of text state.old)
         (scanner_of text state.new)) }
 {
     if has_room(state, in_flow, kind) {

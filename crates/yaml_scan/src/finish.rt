@@ -366,3 +366,20 @@ pub(crate) fn end_laid_queued(
 {
     end_laid::<false, no_sink_t>(state, &mut no_sink_t {}, laid, token)
 }
+
+/// Ends a step with a lexeme that was read and that needs nothing of what comes after it. Its group goes into the queue.
+#[inline(always)]
+pub(crate) fn end_queued(
+    text: &yaml_text_t,
+    state: &mut state_t,
+    step: step_t,
+    lexeme: yaml_lexeme_t,
+) -> Result<(), stop_t>
+    ghost before: { List Laid }
+    requires { CanRead before (scanner_of text.now state.old) step
+        × ((p : ℕ) → IsMarkOf text.now.chars state.old.front p
+        → IsRead text.now.chars step.kind step.context.depth step.context.level p (lexeme_of lexeme)) }
+    ensures { IsStep before (scanner_of text.now state.old) (scanner_of text.now state.new) result }
+{
+    end_character::<false, no_sink_t>(text, state, &mut no_sink_t {}, step, lexeme)
+}

@@ -85,7 +85,7 @@ impl yaml_kept_parser_t {
             session: session_t {
                 peeked: kept.session.peeked,
                 over,
-                fault: kept.session.fault,
+                failed: kept.session.failed,
             },
             empty: yaml_token_t::empty(),
             lead: replace(&mut kept.lead, yaml_token_t::empty()),

@@ -53,8 +53,9 @@ pub use yaml_lexeme::{
 pub use yaml_text::{
     AS_DIGIT, AS_HEX, IS_ALPHA, IS_ASCII, IS_BLANK, IS_BLANKZ, IS_BOM, IS_BREAK, IS_BREAKZ,
     IS_CRLF, IS_DIGIT, IS_HEX, IS_PRINTABLE, IS_SPACE, IS_TAB, IS_Z, WIDTH,
-    unnamed_yaml_token_t_data, yaml_break_t, yaml_decode, yaml_decode_front, yaml_encoding_t,
-    yaml_error_type_t, yaml_fault_t, yaml_index_from_end, yaml_is_place, yaml_mapping_style_t,
-    yaml_mark_at, yaml_mark_t, yaml_scalar_style_t, yaml_sequence_style_t, yaml_simple_key_t,
-    yaml_tag_directive_t, yaml_text_t, yaml_token_t, yaml_token_type_t, yaml_version_directive_t,
+    unnamed_yaml_token_t_data, yaml_break_t, yaml_decode, yaml_decode_front, yaml_encoding_of,
+    yaml_encoding_t, yaml_error_type_t, yaml_fault_t, yaml_index_from_end, yaml_is_place,
+    yaml_mapping_style_t, yaml_mark_at, yaml_mark_t, yaml_scalar_style_t, yaml_sequence_style_t,
+    yaml_simple_key_t, yaml_tag_directive_t, yaml_text_t, yaml_token_t, yaml_token_type_t,
+    yaml_version_directive_t,
 };

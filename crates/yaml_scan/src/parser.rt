@@ -25,7 +25,7 @@ ghost use Rattle.yaml_scan.specs.Peek.{OnceLetGo};
 ghost use Rattle.yaml_scan.specs.Puts.{HasNext, IsAnsweredAlike};
 ghost use Rattle.yaml_scan.specs.inside.Stop.{fault_at};
 
-use crate::fault::{fault_at, make_memory_fault, stop_t};
+use crate::fault::{fault_at, stop_t};
 use crate::groups::{has_lead, put_stream_start, queue_t, show_lead, take_next};
 use crate::keys::KEY_LIMIT;
 use crate::levels::layout_t;
@@ -85,7 +85,7 @@ pub(crate) fn new_state(alloc: Global, limit: u64) -> state_t
     };
     state_t {
         alloc,
-        refusal: None,
+        fault: None,
         near: 0,
         limit,
         slots: slots_t {
@@ -107,7 +107,6 @@ pub(crate) fn new_state(alloc: Global, limit: u64) -> state_t
         reach: zero,
         front: zero,
         there: zero,
-        kept: make_memory_fault(),
         taken: 0,
         made: 0,
     }
@@ -123,25 +122,25 @@ pub(crate) fn begin<'a>(
     requires { (text : Text) → IsNew (scanner_of text state.old) }
     ensures { (text : Text) → MatchResult result
         (λ front. Begins setting input.now (scanner_of text state.old) (scanner_of front state.new)) (λ s.
-        (IsShort setting input.now (scanner_of text state.old) (fault_at s state.new.kept)
-        ⊎ IsEnded setting input.now (scanner_of text state.old) (scanner_of text state.new) (fault_at s state.new.kept))
+        (IsShort setting input.now (scanner_of text state.old) (fault_at s state.new.fault)
+        ⊎ IsEnded setting input.now (scanner_of text state.old) (scanner_of text state.new) (fault_at s state.new.fault))
         × IsStopped setting input.now (scanner_of text state.old) (scanner_of text state.new)) }
 {
     let (text, refusal) = match yaml_decode_front(state.alloc, input, setting) {
         Ok(front) => front,
         Err(fault) => {
-            state.kept = fault;
+            state.fault = Some(fault);
             return Err(stop_t::FAULT);
         }
     };
     let encoding = text.encoding();
     let near = near_of(&text, refusal);
     if let Some(fault) = near_start(refusal, near) {
-        state.kept = fault;
+        state.fault = Some(fault);
         return Err(stop_t::FAULT);
     }
     put_stream_start(&mut state.layout.queue, encoding, text.bytes().len())?;
-    state.refusal = refusal;
+    state.fault = refusal;
     state.near = near;
     state.made = 1;
     Ok(text)
@@ -158,9 +157,9 @@ fn begin_text<'a>(
     requires { IsNew (scanner_of text.old state.old) }
     ensures { MatchResult result
         (λ _. Begins setting input.now (scanner_of text.old state.old) (scanner_of text.new state.new)) (λ s.
-        (IsShort setting input.now (scanner_of text.old state.old) (fault_at s state.new.kept)
+        (IsShort setting input.now (scanner_of text.old state.old) (fault_at s state.new.fault)
         ⊎ IsEnded setting input.now (scanner_of text.old state.old) (scanner_of text.new state.new)
-        (fault_at s state.new.kept))
+        (fault_at s state.new.fault))
         × IsStopped setting input.now (scanner_of text.old state.old) (scanner_of text.new state.new)) }
 {
     *text = begin(state, input, setting)?;
@@ -178,9 +177,9 @@ pub(crate) fn start<'a>(
     requires { IsReady setting input.now (scanner_of text.old state.old) }
     ensures { MatchResult result (λ _. IsStarted setting input.now (scanner_of text.old state.old)
         (scanner_of text.new state.new)) (λ s.
-        (IsShort setting input.now (scanner_of text.old state.old) (fault_at s state.new.kept)
+        (IsShort setting input.now (scanner_of text.old state.old) (fault_at s state.new.fault)
         ⊎ IsEnded setting input.now (scanner_of text.old state.old) (scanner_of text.new state.new)
-        (fault_at s state.new.kept))
+        (fault_at s state.new.fault))
         × IsStopped setting input.now (scanner_of text.old state.old) (scanner_of text.new state.new)) }
 {
     if state.made > 0 {
@@ -202,9 +201,9 @@ fn settle<'a>(
     requires shown { peeked ≡ true → IsShown setting input.now (scanner_of text.old state.old) }
     ensures { MatchResult result (λ _. IsSettled setting input.now (scanner_of text.old state.old)
         (scanner_of text.new state.new))
-        (λ s. (IsShort setting input.now (scanner_of text.old state.old) (fault_at s state.new.kept)
+        (λ s. (IsShort setting input.now (scanner_of text.old state.old) (fault_at s state.new.fault)
         ⊎ IsEnded setting input.now (scanner_of text.old state.old) (scanner_of text.new state.new)
-        (fault_at s state.new.kept))
+        (fault_at s state.new.fault))
         × IsStopped setting input.now (scanner_of text.old state.old) (scanner_of text.new state.new)
         × (peeked ≡ false)) }
 {
@@ -253,7 +252,7 @@ impl<'a> yaml_parser_t<'a> {
             session: session_t {
                 peeked: false,
                 over: false,
-                fault: None,
+                failed: false,
             },
             empty: yaml_token_t::empty(),
             lead: yaml_token_t::empty(),
@@ -294,7 +293,8 @@ pub(crate) fn show(parser: &mut yaml_parser_t) -> bool
             true
         }
         Err(stop) => {
-            end(&mut parser.session, fault_at(stop, &parser.state.kept));
+            let fault = fault_at(stop, &parser.state.fault);
+            end(&mut parser.session, &mut parser.state.fault, fault);
             false
         }
     }
@@ -305,7 +305,10 @@ fn last_fault(parser: &yaml_parser_t) -> yaml_fault_t
     requires { (f : Fault) × (parser.now.session.fault ≡ Some f) }
     ensures { parser.now.session.fault ≡ Some (fault_of result) }
 {
-    match parser.session.fault {
+    if !parser.session.failed {
+        unreachable!();
+    }
+    match parser.state.fault {
         Some(fault) => fault,
         None => unreachable!(),
     }
@@ -355,8 +358,8 @@ pub fn yaml_parser_scan(parser: &mut yaml_parser_t) -> Result<yaml_token_t, yaml
             Ok(token)
         }
         Err(stop) => {
-            let fault = fault_at(stop, &parser.state.kept);
-            end(&mut parser.session, fault);
+            let fault = fault_at(stop, &parser.state.fault);
+            end(&mut parser.session, &mut parser.state.fault, fault);
             Err(fault)
         }
     }
@@ -406,7 +409,11 @@ pub fn yaml_parser_has_token(parser: &yaml_parser_t) -> bool
 pub fn yaml_parser_fault<'s>(parser: &'s yaml_parser_t<'_>) -> Option<&'s yaml_fault_t>
     ensures { option_map (λ f. fault_of f.now) result ≡ parser.now.session.fault }
 {
-    parser.session.fault.as_ref()
+    if parser.session.failed {
+        parser.state.fault.as_ref()
+    } else {
+        None
+    }
 }
 
 /// How many steps have a token that was made and not taken: at most one more than the key limit. STREAM-START is a

@@ -7,7 +7,7 @@ ghost use Rattle.yaml_scan.specs.inside.Queue.{begins_with_end, pending};
 ghost use Rattle.yaml_scan.specs.Settled.{before};
 ghost use Rattle.yaml_scan.specs.inside.Stop.{fault_at};
 ghost use Rattle.yaml_scan.specs.inside.Scanner.{scanner_of};
-ghost use Rattle.yaml_scan.specs.inside.Scanning.{IsRunning, StepsOn, IsLast, Stays, IsOpen};
+ghost use Rattle.yaml_scan.specs.inside.Scanning.{IsRunning, StepsOn, IsLast, Halts, IsOpen};
 ghost use Rattle.yaml_scan.specs.inside.Scanning.{Fails, Settles};
 ghost use Rattle.yaml_scan.specs.inside.Scanning.{Stops, history};
 
@@ -33,9 +33,9 @@ fn advance(text: &yaml_text_t, state: &mut state_t) -> Result<(), stop_t>
     requires runs { IsRunning (scanner_of text.now state.old) }
     requires running { ended (history (scanner_of text.now state.old)) ≡ false }
     ensures { MatchResult result (λ _. StepsOn (scanner_of text.now state.old) (scanner_of text.now state.new)) (λ s.
-        ((fault_at s state.new.kept ≡ memory_fault) ⊎ IsLast (scanner_of text.now state.old)
-        (fault_at s state.new.kept))
-        × Stays (scanner_of text.now state.old) (scanner_of text.now state.new)) }
+        ((fault_at s state.new.fault ≡ memory_fault) ⊎ IsLast (scanner_of text.now state.old)
+        (fault_at s state.new.fault))
+        × Halts (scanner_of text.now state.old) (scanner_of text.now state.new)) }
 {
     step(text, state)
 }
@@ -46,8 +46,8 @@ pub(crate) fn settle_head(text: &yaml_text_t, state: &mut state_t) -> Result<(),
     requires runs { IsRunning (scanner_of text.now state.old) }
     requires not_ended { IsOpen (scanner_of text.now state.old) }
     ensures { MatchResult result (λ _. Settles (scanner_of text.now state.old) (scanner_of text.now state.new)) (λ s.
-        ((fault_at s state.new.kept ≡ memory_fault)
-        ⊎ Fails (scanner_of text.now state.old) (scanner_of text.now state.new) (fault_at s state.new.kept))
+        ((fault_at s state.new.fault ≡ memory_fault)
+        ⊎ Fails (scanner_of text.now state.old) (scanner_of text.now state.new) (fault_at s state.new.fault))
         × Stops (scanner_of text.now state.old) (scanner_of text.now state.new)) }
 {
     'steps: while !is_settled(text, state) {

@@ -35,7 +35,7 @@ fn settle_to<S: yaml_token_sink_t>(
     ensures { MatchResult result
         (λ _. IsSettledTo (scanner_of text.now state.old) (scanner_of text.now state.new)
         (λ tokens. S.took sink.old tokens sink.new))
-        (λ stop. StopsGiving (scanner_of text.now state.old) state.new.kept stop
+        (λ stop. StopsGiving (scanner_of text.now state.old) state.new.fault stop
         (λ tokens. S.took sink.old tokens sink.new)
         S.may_refuse) }
 {
@@ -93,7 +93,7 @@ fn give_rest<S: yaml_token_sink_t>(
     requires words { HaveWords (told_all (scanner_of text.now state.old)) }
     ensures { MatchResult result (λ _. GaveRest (scanner_of text.now state.old)
         (λ tokens. S.took sink.old tokens sink.new))
-        (λ stop. StopsGiving (scanner_of text.now state.old) state.new.kept stop
+        (λ stop. StopsGiving (scanner_of text.now state.old) state.new.fault stop
         (λ tokens. S.took sink.old tokens sink.new)
         S.may_refuse) }
 {
@@ -117,7 +117,7 @@ fn give_all<S: yaml_token_sink_t>(
 ) -> Result<(), stop_t>
     requires { (text : Text) → IsNew (scanner_of text state.old) }
     ensures { GivesAll (λ tokens. S.took sink.old tokens sink.new) S.may_refuse state.old.limit setting input.now
-        state.new.kept result }
+        state.new.fault result }
 {
     let text = begin(state, input, setting)?;
     give_rest(&text, state, sink)
@@ -151,7 +151,7 @@ pub fn yaml_scan_to<S: yaml_token_sink_t>(
         Ok(_) => Ok(None),
         Err(stop) => match stop {
             stop_t::SINK => Err(AllocError),
-            _ => Ok(Some(fault_at(stop, &state.kept))),
+            _ => Ok(Some(fault_at(stop, &state.fault))),
         },
     }
 }

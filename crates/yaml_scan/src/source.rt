@@ -4,7 +4,7 @@ ghost use Rattle.yaml_lexeme.specs.KindSets.{block_kind, is_character, name_kind
 ghost use Rattle.yaml_lexeme.specs.LexemeOf.{lexeme_of};
 ghost use Rattle.yaml_lexeme.specs.Counted.{IsMarkOf};
 ghost use Rattle.yaml_lexeme.specs.Decider.{one_on};
-ghost use Rattle.yaml_lexeme.specs.declared.kind.yaml_lexeme_kind_t.TheVariants.{PLAIN, TAG};
+ghost use Rattle.yaml_lexeme.specs.declared.kind.yaml_lexeme_kind_t.TheVariants.{PLAIN, STREAM_END, TAG};
 ghost use Rattle.yaml_scan.specs.SourceOf.{source_of};
 ghost use Rattle.yaml_scan.specs.inside.Scanner.{scanner_of};
 ghost use Rattle.yaml_scan.specs.inside.Scanning.{HasRead};
@@ -14,7 +14,7 @@ use crate::state::state_t;
 use yaml_lexeme::{
     yaml_context_t, yaml_decider_at, yaml_gap, yaml_lexeme_kind, yaml_lexeme_kind_t, yaml_lexeme_t,
     yaml_read_block, yaml_read_character, yaml_read_lexeme, yaml_read_name, yaml_read_plain,
-    yaml_read_quoted, yaml_read_tag, yaml_refusal_t, yaml_spot_t,
+    yaml_read_quoted, yaml_read_stream_end, yaml_read_tag, yaml_refusal_t, yaml_spot_t,
 };
 use yaml_text::{yaml_mark_t, yaml_text_t};
 
@@ -202,6 +202,16 @@ pub(crate) fn read_character(
         → IsRead text.now.chars kind depth level p (lexeme_of result) }
 {
     yaml_read_character(text, state.front, kind)
+}
+
+/// The stream end after the gap.
+#[inline(always)]
+pub(crate) fn read_stream_end(text: &yaml_text_t, state: &state_t) -> yaml_lexeme_t
+    requires { (p : ℕ) × IsMarkOf text.now.chars state.now.front p }
+    ensures { (p depth : ℕ) (level : Option ℕ) → IsMarkOf text.now.chars state.now.front p
+        → IsRead text.now.chars STREAM_END depth level p (lexeme_of result) }
+{
+    yaml_read_stream_end(text, state.front)
 }
 
 /// The lexeme of a kind after the gap, or why it is refused.

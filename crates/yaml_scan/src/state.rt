@@ -13,8 +13,9 @@ use yaml_text::{yaml_fault_t, yaml_mark_t};
 #[derive(Drop)]
 pub(crate) struct state_t {
     pub alloc: Global,
-    /// The reader's fault after the text, if that is the front of a refused input.
-    pub refusal: Option<yaml_fault_t>,
+    /// The reader's fault after the text, if that is the front of a refused input. Once a step has stopped for a fault,
+    /// or the session has ended with one, it is that fault.
+    pub fault: Option<yaml_fault_t>,
     /// The index from which on a step is near the end of the text of a refused input. For another input it is greater
     /// than all indexes.
     pub near: u64,
@@ -29,8 +30,6 @@ pub(crate) struct state_t {
     pub front: yaml_mark_t,
     /// Where a lexeme stops a step.
     pub there: yaml_mark_t,
-    /// The fault of a step that stopped.
-    pub kept: yaml_fault_t,
     /// How many tokens were taken.
     pub taken: u128,
     /// How many steps were made.
@@ -72,7 +71,7 @@ impl state_t {
         let reach = self.reach;
         state_t {
             alloc: self.alloc,
-            refusal: self.refusal,
+            fault: self.fault,
             near: self.near,
             limit: self.limit,
             slots: replace(&mut self.slots, no_slots(alloc)),
@@ -81,7 +80,6 @@ impl state_t {
             reach,
             front: self.front,
             there: self.there,
-            kept: self.kept,
             taken: self.taken,
             made: self.made,
         }

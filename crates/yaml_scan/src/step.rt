@@ -1,7 +1,7 @@
 //! A step: the gap, the kind of the next lexeme, the lexeme, and what the layout makes of it.
 ghost use Rattle.std.specs.Prelude.{List, ◌≡◌, ◌<◌, true, false, nat_lt, vec_len, OnOk};
 ghost use Rattle.yaml_lexeme.specs.KindSets.{block_kind, is_character, name_kind, quoted_kind};
-ghost use Rattle.yaml_lexeme.specs.declared.kind.yaml_lexeme_kind_t.TheVariants.{PLAIN, TAG};
+ghost use Rattle.yaml_lexeme.specs.declared.kind.yaml_lexeme_kind_t.TheVariants.{PLAIN, STREAM_END, TAG};
 ghost use Rattle.yaml_scan.specs.Laid.{Laid};
 ghost use Rattle.yaml_scan.specs.inside.Handed.{StepsTo};
 ghost use Rattle.yaml_scan.specs.inside.Scanner.{scanner_of};
@@ -9,11 +9,11 @@ ghost use Rattle.yaml_scan.specs.inside.Scanning.{CanStep, Comes, IsStep};
 
 use crate::begin::begin_step;
 use crate::fault::{stop_t, stopped};
-use crate::finish::{end_character, end_laid, end_laid_queued, lay_queued, lay_read};
+use crate::finish::{end_character, end_laid, end_laid_queued, end_queued, lay_queued, lay_read};
 use crate::keys::{is_lost, root_at};
 use crate::source::{
     gap_end, kind_at, read_block, read_character, read_name, read_other, read_plain, read_quoted,
-    read_tag,
+    read_stream_end, read_tag,
 };
 use crate::state::state_t;
 use crate::stop::{stop_in_gap, stop_without_kind};
@@ -193,6 +193,25 @@ fn step_character<const DIRECT: bool, S: yaml_token_sink_t>(
     }
 }
 
+/// Makes the step of the stream end. Its group goes into the queue, so one function serves every sink.
+#[inline(never)]
+fn step_stream_end<const IN_FLOW: bool>(
+    text: &yaml_text_t,
+    state: &mut state_t,
+) -> Result<(), stop_t>
+    ghost before: { List Laid }
+    requires { Comes before (scanner_of text.now state.old) IN_FLOW STREAM_END }
+    ensures { IsStep before (scanner_of text.now state.old) (scanner_of text.now state.new) result }
+{
+    match begin_step(text, state, IN_FLOW, yaml_lexeme_kind_t::STREAM_END) {
+        Ok(step) => {
+            let lexeme = read_stream_end(text, state);
+            end_queued(text, state, step, lexeme)
+        }
+        Err(stop) => Err(stopped(stop)),
+    }
+}
+
 /// Makes the step of a lexeme of any kind. Those that come here are rare, so their groups always go into the queue, and
 /// one function serves every sink.
 #[inline(never)]
@@ -245,6 +264,7 @@ fn step_kind<const IN_FLOW: bool, const DIRECT: bool, S: yaml_token_sink_t>(
         yaml_lexeme_kind_t::ALIAS => step_name::<IN_FLOW, false>(text, state),
         yaml_lexeme_kind_t::ANCHOR => step_name::<IN_FLOW, true>(text, state),
         yaml_lexeme_kind_t::TAG => step_tag::<IN_FLOW>(text, state),
+        yaml_lexeme_kind_t::STREAM_END => step_stream_end::<IN_FLOW>(text, state),
         yaml_lexeme_kind_t::VALUE => step_character::<DIRECT, S>(
             text,
             state,

@@ -32,7 +32,7 @@ fn nearest(_text: &yaml_text_t, state: &state_t, fault: yaml_fault_t) -> yaml_fa
     requires offends { Offends before (scanner_of _text.now state.now) (fault_of fault) }
     ensures { Ends before (scanner_of _text.now state.now) (fault_of result) }
 {
-    match state.refusal {
+    match state.fault {
         Some(refused) => if state.near <= fault.problem_mark.index {
             refused
         } else {
@@ -49,22 +49,19 @@ fn keep_nearest(text: &yaml_text_t, state: &mut state_t, fault: yaml_fault_t) ->
     requires offends { Offends before (scanner_of text.now state.old) (fault_of fault) }
     ensures { Refuses before (scanner_of text.now state.old) (scanner_of text.now state.new) result }
 {
-    state.kept = nearest(text, state, fault);
+    state.fault = Some(nearest(text, state, fault));
     stop_t::FAULT
 }
 
 /// Stops near the reader's fault.
-fn stop_near(_text: &yaml_text_t, state: &mut state_t) -> stop_t
+fn stop_near(_text: &yaml_text_t, state: &state_t) -> stop_t
     ghost before: { List Laid }
-    requires { (f : Fault) × (refusal_seen state.old.refusal ≡ Some f) × Ends before
-        (scanner_of _text.now state.old) f }
-    ensures { Refuses before (scanner_of _text.now state.old) (scanner_of _text.now state.new) result }
+    requires { (f : Fault) × (refusal_seen state.now.fault ≡ Some f) × Ends before
+        (scanner_of _text.now state.now) f }
+    ensures { Refuses before (scanner_of _text.now state.now) (scanner_of _text.now state.now) result }
 {
-    match state.refusal {
-        Some(refused) => {
-            state.kept = refused;
-            stop_t::FAULT
-        }
+    match state.fault {
+        Some(_) => stop_t::FAULT,
         None => unreachable!(),
     }
 }

@@ -21,7 +21,7 @@ use Rattle.yaml_scan.specs.Session.Call.{SCAN, PEEK, SKIP}
 use Rattle.yaml_scan.specs.Session.Answer.{TOKEN, PEEKED, FAULT}
 use Rattle.yaml_scan.specs.Decoded.{decoded_input}
 use Rattle.yaml_scan.specs.inside.Scanning.{IsOpen, history, course_of, input_of}
-use Rattle.yaml_scan.specs.inside.Ready.{IsIn, IsShown, IsSettled, IsStopped, IsShort, IsEnded, Pops, course_in}
+use Rattle.yaml_scan.specs.inside.Ready.{IsIn, IsShown, IsSettled, IsStopped, IsShort, IsEnded, Pops, course_in, fault_in}
 use Rattle.yaml_scan.specs.Parser.{Parser, course_by}
 use Rattle.yaml_scan.specs.ParserCalls.{scan_result, IsThere, IsRefusedEarly, input_read, course_read, answered, after_call}
 use Rattle.yaml_scan.specs.Headline.{Calls, WantsMemory}
@@ -400,6 +400,17 @@ module _ (setting : yaml_encoding_t) (input : List ℕ) (s t : Scanner) (peeked 
 
 pub open_session : (p : Parser) → p.session.over ≡ false → p ≡ record { input = p.input; setting = p.setting; limit = p.limit; session = record { taken = p.session.taken; steps = p.session.steps; peeked = p.session.peeked; over = false; fault = p.session.fault } }
 open_session p o = λ k. record { input = p.input; setting = p.setting; limit = p.limit; session = record { taken = p.session.taken; steps = p.session.steps; peeked = p.session.peeked; over = o k; fault = p.session.fault } }
+
+pub open_as : (p : Parser) (f : Option Fault) → p.session.over ≡ false → p.session.fault ≡ f → p ≡ record { input = p.input; setting = p.setting; limit = p.limit; session = record { taken = p.session.taken; steps = p.session.steps; peeked = p.session.peeked; over = false; fault = f } }
+open_as p f o g = λ k. record { input = p.input; setting = p.setting; limit = p.limit; session = record { taken = p.session.taken; steps = p.session.steps; peeked = p.session.peeked; over = o k; fault = g k } }
+
+pub shown_as : (p : Parser) (f : Option Fault) → p.session.over ≡ false → p.session.peeked ≡ true → p.session.fault ≡ f → p ≡ record { input = p.input; setting = p.setting; limit = p.limit; session = record { taken = p.session.taken; steps = p.session.steps; peeked = true; over = false; fault = f } }
+shown_as p f o k g = λ i. record { input = p.input; setting = p.setting; limit = p.limit; session = record { taken = p.session.taken; steps = p.session.steps; peeked = k i; over = o i; fault = g i } }
+
+-- what is kept is no fault of a session that did not fail
+pub none_failed : (failed : Bool) (a b : Option yaml_fault_t) → failed ≡ false → fault_in failed a ≡ fault_in failed b
+none_failed false a b e = refl
+none_failed true a b e = absurd (false≢true (sym e))
 
 pub shown_session : (p : Parser) → p.session.over ≡ false → p.session.peeked ≡ true → p ≡ record { input = p.input; setting = p.setting; limit = p.limit; session = record { taken = p.session.taken; steps = p.session.steps; peeked = true; over = false; fault = p.session.fault } }
 shown_session p o k = λ i. record { input = p.input; setting = p.setting; limit = p.limit; session = record { taken = p.session.taken; steps = p.session.steps; peeked = k i; over = o i; fault = p.session.fault } }

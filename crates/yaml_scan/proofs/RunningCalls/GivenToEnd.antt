@@ -1,6 +1,6 @@
 -- A sink is given all tokens of an input, or those before its fault, or those that some of the steps settle.
 use Rattle.std.proofs.Common.{◌≡◌, ℕ, zero, suc, ◌+◌, ◌-◌, ◌≤◌, ◌<◌, ◌||◌, Bool, true, false, List, [], ◌∷◌, ◌++◌, map, take, length, slice_get, Some, None, append_assoc, refl, ap, sym, ◌∙◌, subst, arith, inl, inr, lt-ltb}
-use Rattle.std.specs.Prelude.{◌⊎◌, Result, Ok, Err, MatchResult}
+use Rattle.std.specs.Prelude.{◌⊎◌, Option, Result, Ok, Err, MatchResult}
 use Rattle.std.specs.List.{list_any}
 use Rattle.std.proofs.lemmas.List.{take_all, take-append-le}
 use Rattle.yaml_text.specs.declared.fault.yaml_fault_t.{yaml_fault_t}
@@ -252,13 +252,13 @@ module _ (limit : ℕ) (setting : yaml_encoding_t) (input : List ℕ) (s : Scann
       reads_then f (inl e) = inr (are_settled, ap Some e)
       reads_then f (inr i) = inl (all_then f i)
 
-    pub stopped_then : (kept : yaml_fault_t) (stop : stop_t) (refuses : Type 0) → StopsGiving s kept stop took refuses
+    pub stopped_then : (kept : Option yaml_fault_t) (stop : stop_t) (refuses : Type 0) → StopsGiving s kept stop took refuses
         → IsGivenAll took limit setting input (Some (fault_at stop kept)) ⊎ ((stop ≡ SINK) × IsGivenFront took limit setting input × refuses)
     stopped_then kept stop refuses (inl w) = let g = w.2 in let i = w.3 in inl (record { tokens = w.0; given = w.4; reads = reads_then w.1 w.0 g i.unsettled (fault_at stop kept) i.fault })
     stopped_then kept stop refuses (inr w) = inr (w.0, front_given w.1, w.2)
 
     -- the rest was given, or it has stopped
-    pub finished : (kept : yaml_fault_t) (refuses : Type 0) (out : Result (Unit {0}) stop_t) → MatchResult out (λ _. GaveRest s took) (λ stop. StopsGiving s kept stop took refuses) → GivesAll took refuses limit setting input kept out
+    pub finished : (kept : Option yaml_fault_t) (refuses : Type 0) (out : Result (Unit {0}) stop_t) → MatchResult out (λ _. GaveRest s took) (λ stop. StopsGiving s kept stop took refuses) → GivesAll took refuses limit setting input kept out
     finished kept refuses (Ok x) w = all_given w
     finished kept refuses (Err stop) w = stopped_then kept stop refuses w
 
@@ -286,7 +286,7 @@ none_made setting input s t f z (inr k) =
     inl (ap (λ (y : List Token). map (handed_out (decoded_input setting input).encoding) y) (sym e), sym k.fault)
 
 -- why it gives no more: the sink refused a token, which is no fault, or there is a fault
-module _ (took : List yaml_token_t → Type 0) (refuses : Type 0) (n limit : ℕ) (l : n ≡ limit) (setting : yaml_encoding_t) (input : List ℕ) (kept : yaml_fault_t) (stop : stop_t) where
+module _ (took : List yaml_token_t → Type 0) (refuses : Type 0) (n limit : ℕ) (l : n ≡ limit) (setting : yaml_encoding_t) (input : List ℕ) (kept : Option yaml_fault_t) (stop : stop_t) where
   no_sink_fault : stop ≡ SINK → IsGivenAll took n setting input (Some (fault_at stop kept)) → ⊥
   no_sink_fault e w =
       let v : IsGivenAll took n setting input (Some no_fault) = subst (λ (x : stop_t). IsGivenAll took n setting input (Some (fault_at x kept))) e w in

@@ -1,6 +1,6 @@
 -- What a running scanner has given to a sink is what was taken of its input, step after step.
 use Rattle.std.proofs.Common.{◌≡◌, ℕ, ◌+◌, ◌-◌, ◌≤◌, ◌<◌, ◌||◌, Bool, true, false, List, [], ◌∷◌, ◌++◌, map, take, drop, take-append-drop, length, length-append, length-drop, append-nil, append_assoc, refl, ap, sym, ◌∙◌, subst, arith, inl, inr}
-use Rattle.std.specs.Prelude.{Result, Ok, Err, MatchResult}
+use Rattle.std.specs.Prelude.{Option, Result, Ok, Err, MatchResult}
 use Rattle.std.specs.List.{list_any}
 use Rattle.std.proofs.lemmas.Bool.{cases_Bool, cases_lt, false≢true}
 use Rattle.std.proofs.lemmas.List.{map-append, length-map, take_all, take-append-le, drop-append-le, drop_all}
@@ -100,7 +100,7 @@ module _ (s t : Scanner) (xs : List yaml_token_t) (g : HasGiven s t xs) (took to
         given = m c.front c.given;
       }
 
-  pub stops_on : (kept : yaml_fault_t) (stop : stop_t) (refuses : Type 0) → StopsGiving t kept stop took' refuses → StopsGiving s kept stop took refuses
+  pub stops_on : (kept : Option yaml_fault_t) (stop : stop_t) (refuses : Type 0) → StopsGiving t kept stop took' refuses → StopsGiving s kept stop took refuses
   stops_on kept stop refuses (inl w) = inl (xs ++ w.0, w.1, more_given s t w.1 xs w.0 g w.2, w.3, m w.0 w.4)
   stops_on kept stop refuses (inr w) = inr (w.0, cut_on w.1, w.2)
 
@@ -354,7 +354,7 @@ module _ (s : Scanner) (r : IsRunning s) (o : IsOpen s) (l : length (before s.li
 
   -- so it goes on, or stops
   pub steps_to : (t : Scanner) (took : List yaml_token_t → Type 0) (refuses : Type 0) (out : Result (Unit {0}) stop_t) → StepsTo (history s) s t true took refuses out
-      → MatchResult out (λ _. (tokens : List yaml_token_t) × HasGiven s t tokens × (s.made < t.made) × took tokens) (λ stop. StopsGiving s t.kept stop took refuses)
+      → MatchResult out (λ _. (tokens : List yaml_token_t) × HasGiven s t tokens × (s.made < t.made) × took tokens) (λ stop. StopsGiving s t.refusal stop took refuses)
   steps_to t took refuses (Ok x) w = let p = handed w.1 w.2 w.3 w.4 w.3 t w.0 w.5 in (w.0, p.0, p.1, w.6)
   steps_to t took refuses (Err stop) (inl w) = inl (
     [],

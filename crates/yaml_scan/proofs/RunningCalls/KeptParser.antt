@@ -39,6 +39,7 @@ module _ (P : Inside) (i : Sound P) (x : Text) (same : P.session.over ≡ false 
     ready = goes_ready;
     peeked = λ k. ((i.peeked k).0, goes_shown k);
     reach = subst (λ (z : List ℕ). P.state.reach ≡ reach (first_steps P.state.made (course_in P.state.limit P.setting z).read)) (sym e) i.reach;
+    failed = i.failed;
     empty = f;
     lead = λ k. let q = i.peeked k in subst (λ (z : Text). IsLead z.encoding P.state.layout.queue (token_of P.lead)) (sym (same q.0 q.1.stands.runs.begun)) (i.lead k);
     limit = i.limit;

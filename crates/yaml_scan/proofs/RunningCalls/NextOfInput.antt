@@ -19,7 +19,7 @@ use Rattle.yaml_scan.specs.Step.Outcome.{Reads, Faults}
 use Rattle.yaml_scan.specs.Cut.{IsRun, EndsWith}
 use Rattle.yaml_scan.specs.Near.{unless_near, is_near, place_of, starts_near}
 use Rattle.yaml_scan.specs.Settled.{before}
-use Rattle.yaml_scan.specs.inside.Scanning.{HoldsWith, AdvancesWith, AdvancesTwice, Ends, Makes, Needs, Offends, IsRunning, Steps, StepsOn, IsLast, groups_in, Same, IsNearFrom, IsNearOf, IsStep, Stays, counted, history}
+use Rattle.yaml_scan.specs.inside.Scanning.{HoldsWith, AdvancesWith, AdvancesTwice, Ends, Makes, Needs, Offends, IsRunning, Steps, StepsOn, IsLast, groups_in, Same, IsNearFrom, IsNearOf, IsStep, Halts, counted, history}
 use Rattle.yaml_scan.specs.inside.Scanning.{course_of, input_of}
 use Rattle.yaml_scan.proofs.Course.LongestCut.{IsHistory-from_run, run_short}
 use Rattle.yaml_scan.proofs.Course.CourseSteps.{next_orderly, steps_are}
@@ -319,9 +319,9 @@ steps_on s u r e (inr m) =
 
 -- or the last one of its input
 pub step_on : (s t : Scanner) (o : Result (Unit {0}) stop_t) → IsRunning s → ended (history s) ≡ false → IsStep (history s) s t o
-    → MatchResult o (λ _. StepsOn s t) (λ stop. ((fault_at stop t.kept ≡ memory_fault) ⊎ IsLast s (fault_at stop t.kept)) × Stays s t)
+    → MatchResult o (λ _. StepsOn s t) (λ stop. ((fault_at stop t.refusal ≡ memory_fault) ⊎ IsLast s (fault_at stop t.refusal)) × Halts s t)
 step_on s t (Ok x) r e w = steps_on s t r e w
-step_on s t (Err stop) r e w = (elim w.0 [ inl m ↦ inl m | inr f ↦ inr (ends_last s r e (fault_at stop t.kept) f) ], w.1)
+step_on s t (Err stop) r e w = (elim w.0 [ inl m ↦ inl m | inr f ↦ inr (ends_last s r e (fault_at stop t.refusal) f) ], w.1)
 
 -- FEW TOKENS, AND FEW STEPS
 pub few_made : (s : Scanner) → IsRunning s → s.made + 2 < 2 ^ 64

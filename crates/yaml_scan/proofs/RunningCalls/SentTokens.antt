@@ -176,7 +176,7 @@ module _ (a s : Scanner) (g : Goes a s) (o : IsOpen a) (l : length (before s.lim
         }
 
   -- it stopped
-  pub stopped : (t : Scanner) (stop : stop_t) → Refuses (history s) s t stop → ((fault_at stop t.kept ≡ memory_fault) ⊎ Fails a t (fault_at stop t.kept)) × Stops a t
+  pub stopped : (t : Scanner) (stop : stop_t) → Refuses (history s) s t stop → ((fault_at stop t.refusal ≡ memory_fault) ⊎ Fails a t (fault_at stop t.refusal)) × Stops a t
   stopped t stop w = (
     elim w.0 [ inl m ↦ inl m | inr f ↦ inr (fails a s g.runs g.same t _ w.1 (ends_last s g.runs running _ f) l) ],
     stops a s g.runs g.same t w.1 g.least g.most l,
@@ -194,6 +194,6 @@ module _ (a s : Scanner) (g : Goes a s) (o : IsOpen a) (l : length (before s.lim
 
   -- or stops
   pub halts : (t : Scanner) (took : List yaml_token_t → Type 0) (refuses : Type 0) (stop : stop_t) → StepsTo (history s) s t true took refuses (Err stop)
-      → (((fault_at stop t.kept ≡ memory_fault) ⊎ Fails a t (fault_at stop t.kept)) × Stops a t × took []) ⊎ refuses
+      → (((fault_at stop t.refusal ≡ memory_fault) ⊎ Fails a t (fault_at stop t.refusal)) × Stops a t × took []) ⊎ refuses
   halts t took refuses stop (inl w) = let q = stopped t stop w.0 in inl (q.0, q.1, w.1)
   halts t took refuses stop (inr w) = inr w.2

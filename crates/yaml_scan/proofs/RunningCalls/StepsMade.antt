@@ -9,8 +9,8 @@ use Rattle.yaml_scan.specs.Settled.{before}
 use Rattle.yaml_scan.specs.Groups.{offline}
 use Rattle.yaml_scan.specs.Step.{Outcome}
 use Rattle.yaml_scan.specs.Cut.{IsRun}
-use Rattle.yaml_scan.specs.Settled.{steps_for, pace}
-use Rattle.yaml_scan.specs.inside.Scanning.{IsRunning, Steps, StepsOn, StepsTwice, IsLast, Stays, Same, IsOpen, Fails, Stops, history, course_of}
+use Rattle.yaml_scan.specs.Settled.{first_steps, steps_for, pace}
+use Rattle.yaml_scan.specs.inside.Scanning.{IsRunning, Steps, StepsOn, StepsTwice, IsLast, Same, IsOpen, Fails, Halts, Stops, history, course_of}
 use Rattle.yaml_scan.specs.inside.Scanning.{input_of}
 use Rattle.yaml_scan.proofs.TokenList.OneLexemeMore.{all_is_handed_out}
 use Rattle.yaml_scan.proofs.Course.NextStep.{oldest_all, oldest_tail}
@@ -67,7 +67,7 @@ module _ (s t : Scanner) (r : IsRunning t) (S : Same s t) where
   pub open_too : IsOpen s → IsOpen t
   open_too o = λ e. let f : ended (course_of s).read ≡ true = sym (ap (λ (c : Course). ended c.read) course_is) ∙ e in let a = o f in let b = ap (λ (c : Course). length (offline c.read)) course_is in let d = S.taken in omega arith
 
-  pub fails : (u : Scanner) (f : Fault) → Stays t u → IsLast t f → length (before t.limit (history t)) ≤ t.taken → Fails s u f
+  pub fails : (u : Scanner) (f : Fault) → Halts t u → IsLast t f → length (before t.limit (history t)) ≤ t.taken → Fails s u f
   unfolding history
   fails u f z i l =
       let k : t.made - 1 ≡ length (course_of t).read = (let m = i.made in omega arith) in
@@ -95,14 +95,20 @@ module _ (s t : Scanner) (r : IsRunning t) (S : Same s t) where
       let d = steps_is in
       omega arith
 
-  pub stops : (u : Scanner) → Stays t u → s.made ≤ t.made → t.made ≤ pace s.limit (course_of s).read s.taken s.made → length (before t.limit (history t)) ≤ t.taken → Stops s u
-  stops u k a b l = let h = history_same t u k.same k.made in record {
-    same = same_trans s t u S k.same;
-    least = (let m = k.made in omega arith);
-    most = (let m = k.made in omega arith);
-    unsettled = (let m = ap (λ (n : ℕ). length (before n (history u))) (let e = k.same in e.limit) in let n = ap (λ (X : List Laid). length (before t.limit X)) h in let e = k.same in let v = e.taken in omega arith);
-    reach = k.reach ∙ r.holds.reach ∙ ap reach (sym h);
-  }
+  pub stops : (u : Scanner) → Halts t u → s.made ≤ t.made → t.made ≤ pace s.limit (course_of s).read s.taken s.made → length (before t.limit (history t)) ≤ t.taken → Stops s u
+  unfolding history
+  stops u k a b l =
+      let h : first_steps u.made (course_of s).read ≡ first_steps t.made (course_of t).read =
+      ap (λ (n : ℕ). first_steps n (course_of s).read) k.made ∙ ap (λ (c : Course). first_steps t.made c.read) (sym course_is) in
+      record {
+        limit = k.limit ∙ S.limit;
+        taken = k.taken ∙ S.taken;
+        done = k.done ∙ S.done;
+        least = (let m = k.made in omega arith);
+        most = (let m = k.made in omega arith);
+        unsettled = (let m = ap (λ (n : ℕ). length (before n (first_steps t.made (course_of t).read))) S.limit in let n = ap (λ (X : List Laid). length (before s.limit X)) h in let v = S.taken in omega arith);
+        reach = k.reach ∙ r.holds.reach ∙ ap reach (sym h);
+      }
 
 pub least_pace : (s : Scanner) → s.made ≤ pace s.limit (course_of s).read s.taken s.made
 unfolding pace

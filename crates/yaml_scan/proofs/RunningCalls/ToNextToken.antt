@@ -61,25 +61,16 @@ module _ (setting : yaml_encoding_t) (input : List ℕ) (s t u : Scanner) (b : I
     done = (let e = k.same in e.done ∙ b.done);
   }
 
-  history_is : Same t u → reach (history u) ≡ reach (first_steps u.made (course_in s.limit setting input).read)
-  unfolding history
-  history_is e =
-      let c : course_of u ≡ course_in s.limit setting input = course_is setting input u (input_same e ∙ b.stands.reads) ∙ ap (λ (n : ℕ). course_in n setting input) (e.limit ∙ b.limit) in
-      ap (λ (x : Course). reach (first_steps u.made x.read)) c
-
   unsettled_in : Stops t u → settled s.limit (course_in s.limit setting input).read s.taken u.made ≡ false
-  unfolding history
   unsettled_in k =
-      let e = k.same in
-      let c : course_of u ≡ course_in s.limit setting input = course_is setting input u (input_same e ∙ b.stands.reads) ∙ ap (λ (n : ℕ). course_in n setting input) (e.limit ∙ b.limit) in
-      let v = ap (λ (x : Course). length (before u.limit (first_steps u.made x.read))) c in
-      let w = ap (λ (n : ℕ). length (before n (first_steps u.made (course_in s.limit setting input).read))) (e.limit ∙ b.limit) in
-      let x = e.taken ∙ b.taken in
+      let v = ap (λ (x : Course). length (before t.limit (first_steps u.made x.read))) course_t in
+      let w = ap (λ (n : ℕ). length (before n (first_steps u.made (course_in s.limit setting input).read))) b.limit in
+      let x = b.taken in
       let l = k.unsettled in
       both_false _ _ (le-ltb s.taken (length (before s.limit (first_steps u.made (course_in s.limit setting input).read))) (omega arith))
 
   pub stopped_in : Stops t u → IsStopped setting input s u
-  stopped_in k = let e = k.same in let p = pace_is in let m = b.made in let l = k.least in let n = k.most in record { limit = e.limit ∙ b.limit; taken = e.taken ∙ b.taken; done = e.done ∙ b.done; least = omega arith; most = omega arith; unsettled = unsettled_in k; reach = k.reach ∙ history_is e }
+  stopped_in k = let p = pace_is in let m = b.made in let l = k.least in let n = k.most in record { limit = k.limit ∙ b.limit; taken = k.taken ∙ b.taken; done = k.done ∙ b.done; least = omega arith; most = omega arith; unsettled = unsettled_in k; reach = k.reach ∙ ap (λ (x : Course). reach (first_steps u.made x.read)) course_t }
 
   pub begun_is : (course_in s.limit setting input).begun ≡ true
   begun_is = sym (ap (λ (c : Course). c.begun) course_t) ∙ b.stands.runs.start

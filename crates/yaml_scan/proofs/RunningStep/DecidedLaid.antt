@@ -221,7 +221,7 @@ module _ (H : List Laid) (s : Scanner) (r : step_t) (x : yaml_lexeme_t) (c : Can
     then_allowed = is_plain r.kind && x.passed_break
 
     abbrev pub between : Scanner
-    between = record { alloc = s.alloc; text = s.text; refusal = s.refusal; near = s.near; limit = s.limit; slots = slots; allowed = then_allowed; layout = layout; reach = x.reach; front = s.front; there = s.there; kept = s.kept; taken = s.taken; made = s.made }
+    between = record { alloc = s.alloc; text = s.text; refusal = s.refusal; near = s.near; limit = s.limit; slots = slots; allowed = then_allowed; layout = layout; reach = x.reach; front = s.front; there = s.there; taken = s.taken; made = s.made }
 
     early : s.layout.queue.early ≡ 0
     early = h.early c.can.can.running
@@ -355,7 +355,7 @@ module _ (H : List Laid) (s : Scanner) (r : step_t) (x : yaml_lexeme_t) (c : Can
         (S : slots_t) (OUTER : S.outer.items ≡ nested_outer k outer None) (TOP : S.top ≡ nested_top k outer None) (EMPTY : S.not_simple_keys ≡ vec_len S.outer) (AWAITED : S.awaited ≡ 0)
         (a : Bool) (ALLOWED : (n : ℕ) → r.in_flow ≡ nat_lt 0 n → a ≡ allows k n (not key) false) where
       abbrev pub after : Scanner
-      after = record { alloc = s.alloc; text = s.text; refusal = s.refusal; near = s.near; limit = s.limit; slots = S; allowed = a; layout = record { levels = V; queue = s.layout.queue }; reach = y.reach; front = s.front; there = s.there; kept = s.kept; taken = s.taken; made = s.made + 1 }
+      after = record { alloc = s.alloc; text = s.text; refusal = s.refusal; near = s.near; limit = s.limit; slots = S; allowed = a; layout = record { levels = V; queue = s.layout.queue }; reach = y.reach; front = s.front; there = s.there; taken = s.taken; made = s.made + 1 }
 
       -- its group, once it is decided
       abbrev pub keyed_group : group_t

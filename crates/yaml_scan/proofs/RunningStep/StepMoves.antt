@@ -17,7 +17,7 @@ use Rattle.yaml_scan.specs.Laid.{Laid}
 use Rattle.yaml_scan.specs.Levels.{greatest_level, laid, stays}
 use Rattle.yaml_scan.specs.Settled.{before}
 use Rattle.yaml_scan.specs.inside.TextReads.{IsRead}
-use Rattle.yaml_scan.specs.inside.Scanning.{AdvancesTwice, AdvancesWith, Beside, CanRead, CanStep, Comes, Ends, HasRead, HasRoom, Holds, IsLaidBy, IsMet, IsNewHeld, IsReadIn, IsStep, Makes, Needs, Refuses, Same, Stays}
+use Rattle.yaml_scan.specs.inside.Scanning.{AdvancesTwice, AdvancesWith, Beside, CanRead, CanStep, Comes, Ends, Halts, HasRead, HasRoom, Holds, IsLaidBy, IsMet, IsNewHeld, IsReadIn, IsStep, Makes, Needs, Refuses, Same, Stays}
 use Rattle.yaml_scan.specs.inside.Scanning.{allowed_in, at_there, counted, groups_in, met_in}
 use Rattle.yaml_scan.specs.Token.{yaml_token_t}
 use Rattle.yaml_scan.specs.inside.Handed.{HandsOut, LaysTo, StepsTo}
@@ -28,6 +28,12 @@ use Rattle.yaml_scan.proofs.RunningStep.StepLaid.{kind_there, level_within}
 
 pub stays_same : (s t : Scanner) → Beside s t → Stays s t
 stays_same s t b = record { same = record { text = b.text; refusal = b.refusal; near = b.near; limit = b.limit; taken = b.taken; done = b.done }; made = b.made; reach = b.reach }
+
+pub halts_stays : (s t : Scanner) → Stays s t → Halts s t
+halts_stays s t e = let p = e.same in record { limit = p.limit; taken = p.taken; done = p.done; made = e.made; reach = e.reach }
+
+halts_on : (s t u : Scanner) → Stays s t → Halts t u → Halts s u
+halts_on s t u e h = let p = e.same in record { limit = h.limit ∙ p.limit; taken = h.taken ∙ p.taken; done = h.done ∙ p.done; made = h.made ∙ e.made; reach = h.reach ∙ e.reach }
 
 pub stays_on : (s t u : Scanner) → Stays s t → Stays t u → Stays s u
 stays_on s t u a b = let p = a.same in let q = b.same in record {
@@ -72,7 +78,7 @@ ends_from : (H : List Laid) (s t : Scanner) → Stays s t → (f : Fault) → En
 ends_from H s t e f w = let q = e.same in (w.0, rw (← q.text, ← q.refusal, ← q.limit) w.1, w.2)
 
 refuses_from : (H : List Laid) (s t u : Scanner) (stop : stop_t) → Stays s t → Refuses H t u stop → Refuses H s u stop
-refuses_from H s t u stop e w = (elim w.0 [ inl m ↦ inl m | inr v ↦ inr (ends_from H s t e _ v) ], stays_on s t u e w.1)
+refuses_from H s t u stop e w = (elim w.0 [ inl m ↦ inl m | inr v ↦ inr (ends_from H s t e _ v) ], halts_on s t u e w.1)
 
 same_from : (s t u : Scanner) → Stays s t → Same t u → Same s u
 same_from s t u e q = let p = e.same in record { text = q.text ∙ p.text; refusal = q.refusal ∙ p.refusal; near = q.near ∙ p.near; limit = q.limit ∙ p.limit; taken = q.taken ∙ p.taken; done = q.done ∙ p.done }
@@ -196,7 +202,6 @@ made_to s m = record {
   reach = s.reach;
   front = s.front;
   there = s.there;
-  kept = s.kept;
   taken = s.taken;
   made = m;
 }

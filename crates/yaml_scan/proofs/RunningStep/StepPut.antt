@@ -39,7 +39,6 @@ put_in s S a L reach = record {
   reach = reach;
   front = s.front;
   there = s.there;
-  kept = s.kept;
   taken = s.taken;
   made = s.made;
 }

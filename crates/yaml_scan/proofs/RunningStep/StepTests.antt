@@ -151,7 +151,6 @@ at_front s m = record {
   reach = s.reach;
   front = m;
   there = s.there;
-  kept = s.kept;
   taken = s.taken;
   made = s.made;
 }

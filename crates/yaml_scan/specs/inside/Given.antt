@@ -1,6 +1,6 @@
 -- What a running scanner has given to a sink: the tokens of its input that were taken, and why it gives no more.
 use Rattle.std.specs.Prelude.{◌≡◌, ◌⊎◌, ℕ, ◌≤◌, ◌<◌, List, [], ◌∷◌, ◌++◌, map, take, length, None, Some, Result}
-use Rattle.std.specs.Prelude.{MatchResult}
+use Rattle.std.specs.Prelude.{MatchResult, Option}
 use Rattle.yaml_text.specs.Fault.{memory_fault}
 use Rattle.yaml_text.specs.declared.fault.yaml_fault_t.{yaml_fault_t}
 use Rattle.yaml_text.specs.declared.types.yaml_encoding_t.{yaml_encoding_t}
@@ -44,12 +44,12 @@ pub record IsCutOff (s : Scanner) (took : List yaml_token_t → Type 0) : Type 0
   pub given : took front
 
 -- no step is made after s, though its next token needs one: memory was refused, or there is a fault
-pub record IsStuck (s : Scanner) (kept : yaml_fault_t) (stop : stop_t) : Type 0 where
+pub record IsStuck (s : Scanner) (kept : Option yaml_fault_t) (stop : stop_t) : Type 0 where
   pub unsettled : length (before s.limit (history s)) ≤ s.taken
   pub fault : (fault_at stop kept ≡ memory_fault) ⊎ IsLast s (fault_at stop kept)
 
 -- A scanner that has stopped: all that its steps settle was given, or the sink refused a token.
-abbrev pub StopsGiving : Scanner → yaml_fault_t → stop_t → (List yaml_token_t → Type 0) → Type 0 → Type 0
+abbrev pub StopsGiving : Scanner → Option yaml_fault_t → stop_t → (List yaml_token_t → Type 0) → Type 0 → Type 0
 StopsGiving s kept stop took refuses =
     ((tokens : List yaml_token_t) × (m : Scanner) × HasGiven s m tokens × IsStuck m kept stop × took tokens)
     ⊎ ((stop ≡ SINK) × IsCutOff s took × refuses)
@@ -66,7 +66,7 @@ GaveRest s took = (tokens : List yaml_token_t) × (told_all s ≡ told_taken s +
 
 -- What a sink was given of an input: all, or all that is settled, or, if it refused a token, those before that one.
 abbrev pub GivesAll
-    : (List yaml_token_t → Type 0) → Type 0 → ℕ → yaml_encoding_t → List ℕ → yaml_fault_t → Result (Unit {0}) stop_t
+    : (List yaml_token_t → Type 0) → Type 0 → ℕ → yaml_encoding_t → List ℕ → Option yaml_fault_t → Result (Unit {0}) stop_t
     → Type 0
 GivesAll took refuses limit setting input kept o = MatchResult o (λ _. IsGivenAll took limit setting input None)
     (λ stop. IsGivenAll took limit setting input (Some (fault_at stop kept))

@@ -96,7 +96,6 @@ set_queue s q n = record {
   reach = s.reach;
   front = s.front;
   there = s.there;
-  kept = s.kept;
   taken = n;
   made = s.made;
 }

@@ -1,9 +1,10 @@
 -- A scanner that is new, or in an input.
 use Rattle.std.specs.Prelude.{◌≡◌, ◌⊎◌, ℕ, ◌+◌, ◌≤◌, ◌<◌, max, true, false, List, [], length, slice_get, None, Some}
-use Rattle.std.specs.Prelude.{option_map}
+use Rattle.std.specs.Prelude.{Bool, Option, if◌then◌else◌, option_map}
 use Rattle.yaml_text.specs.declared.types.yaml_encoding_t.{yaml_encoding_t}
 use Rattle.yaml_text.specs.declared.types.yaml_encoding_t.TheVariants.{YAML_UTF8_ENCODING}
 use Rattle.yaml_text.specs.Decode.{front}
+use Rattle.yaml_text.specs.declared.fault.yaml_fault_t.{yaml_fault_t}
 use Rattle.yaml_text.specs.Fault.{Fault, memory_fault, zero_mark, fault_of}
 use Rattle.yaml_scan.specs.Course.{Course, course}
 use Rattle.yaml_scan.specs.inside.Scanner.{Scanner, scanner_of}
@@ -105,6 +106,10 @@ pub record Pops (s t : Scanner) (x : yaml_token_t) : Type 0 where
 abbrev pub scanner_in : Inside → Scanner
 scanner_in p = scanner_of p.text p.state
 
+-- the fault that ended its session, if one did
+abbrev pub fault_in : Bool → Option yaml_fault_t → Option Fault
+fault_in failed kept = if failed then option_map fault_of kept else None
+
 abbrev pub parser_of : Inside → Parser
 parser_of p = record {
   input = p.input.now;
@@ -115,13 +120,14 @@ parser_of p = record {
     steps = p.state.made;
     peeked = p.session.peeked;
     over = p.session.over;
-    fault = option_map fault_of p.session.fault;
+    fault = fault_in p.session.failed p.state.fault;
   };
 }
 
 pub record Sound (p : Inside) : Type 0 where
   pub ready : p.session.over ≡ false → IsReady p.setting p.input.now (scanner_in p)
   pub peeked : p.session.peeked ≡ true → (p.session.over ≡ false) × IsShown p.setting p.input.now (scanner_in p)
+  pub failed : p.session.over ≡ false → p.session.failed ≡ false
   pub reach : p.state.reach
       ≡ reach (first_steps p.state.made (course_in p.state.limit p.setting p.input.now).read)
   pub empty : token_of p.empty ≡ empty

@@ -11,6 +11,7 @@ use Rattle.yaml_scan.specs.declared.state.state_t.{state_t}
 pub record Scanner : Type 0 where
   pub alloc : Global
   pub text : Text
+  -- the reader's fault after the text, or the fault that stopped it
   pub refusal : Option yaml_fault_t
   pub near : ℕ
   pub limit : ℕ
@@ -20,7 +21,6 @@ pub record Scanner : Type 0 where
   pub reach : yaml_mark_t
   pub front : yaml_mark_t
   pub there : yaml_mark_t
-  pub kept : yaml_fault_t
   pub taken : ℕ
   pub made : ℕ
 
@@ -29,7 +29,7 @@ abbrev pub scanner_of : Text → state_t → Scanner
 scanner_of text s = record {
   alloc = s.alloc;
   text = text;
-  refusal = s.refusal;
+  refusal = s.fault;
   near = s.near;
   limit = s.limit;
   slots = s.slots;
@@ -38,7 +38,6 @@ scanner_of text s = record {
   reach = s.reach;
   front = s.front;
   there = s.there;
-  kept = s.kept;
   taken = s.taken;
   made = s.made;
 }

@@ -38,7 +38,7 @@ use Rattle.yaml_scan.specs.Levels.{laid, open_columns, greatest_level, stays}
 use Rattle.yaml_scan.specs.Falling.{AllLess}
 use Rattle.yaml_scan.specs.Order.{IsHistory}
 use Rattle.yaml_scan.specs.Groups.{offline}
-use Rattle.yaml_scan.specs.Settled.{before, pace}
+use Rattle.yaml_scan.specs.Settled.{before, first_steps, pace}
 use Rattle.yaml_scan.specs.inside.Slots.{Held, held, outer_to, empty_slots, lowest, step_of}
 use Rattle.yaml_scan.specs.inside.Slots.{completed_held, is_live, is_level, lost_held, needed}
 use Rattle.yaml_scan.specs.inside.Slots.{root_of, slot_after}
@@ -240,7 +240,6 @@ at_there s t = record {
   reach = s.reach;
   front = s.front;
   there = t.there;
-  kept = s.kept;
   taken = s.taken;
   made = s.made;
 }
@@ -341,7 +340,6 @@ counted s = record {
   reach = s.reach;
   front = s.front;
   there = s.there;
-  kept = s.kept;
   taken = s.taken;
   made = s.made + 1;
 }
@@ -386,15 +384,23 @@ pub record Offends (H : List Laid) (s : Scanner) (f : Fault) : Type 0 where
 abbrev pub Ends : List Laid → Scanner → Fault → Type 0
 Ends H s f = (o : Offence) × (next (input_of s) s.limit H ≡ Faults o) × (o.fault ≡ f)
 
--- a scanner that has stopped
+-- a scanner that has made no step
 pub record Stays (s t : Scanner) : Type 0 where
   pub same : Same s t
   pub made : t.made ≡ s.made
   pub reach : t.reach ≡ s.reach
 
+-- a scanner that has stopped
+pub record Halts (s t : Scanner) : Type 0 where
+  pub limit : t.limit ≡ s.limit
+  pub taken : t.taken ≡ s.taken
+  pub done : t.layout.queue.done ≡ s.layout.queue.done
+  pub made : t.made ≡ s.made
+  pub reach : t.reach ≡ s.reach
+
 -- what is left of a step that stopped, since memory was refused or there is a fault
 abbrev pub Refuses : List Laid → Scanner → Scanner → stop_t → Type 0
-Refuses H s t stop = ((fault_at stop t.kept ≡ memory_fault) ⊎ Ends H s (fault_at stop t.kept)) × Stays s t
+Refuses H s t stop = ((fault_at stop t.refusal ≡ memory_fault) ⊎ Ends H s (fault_at stop t.refusal)) × Halts s t
 
 -- a step was made, or two, or it stopped
 abbrev pub IsStep : List Laid → Scanner → Scanner → Result (Unit {0}) stop_t → Type 0
@@ -458,9 +464,11 @@ pub record Fails (s t : Scanner) (f : Fault) : Type 0 where
 
 -- what is left of a scanner that has stopped: how far the last step was read can still be seen
 pub record Stops (s t : Scanner) : Type 0 where
-  pub same : Same s t
+  pub limit : t.limit ≡ s.limit
+  pub taken : t.taken ≡ s.taken
+  pub done : t.layout.queue.done ≡ s.layout.queue.done
   pub least : s.made ≤ t.made
   pub most : t.made ≤ pace s.limit (course_of s).read s.taken s.made
   -- the head of the queue was not the next token, so a step was needed
-  pub unsettled : length (before t.limit (history t)) ≤ t.taken
-  pub reach : t.reach ≡ reach (history t)
+  pub unsettled : length (before s.limit (first_steps t.made (course_of s).read)) ≤ s.taken
+  pub reach : t.reach ≡ reach (first_steps t.made (course_of s).read)

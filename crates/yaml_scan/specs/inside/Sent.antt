@@ -38,8 +38,8 @@ abbrev pub SendsOrSettles
     : Scanner → Scanner → (List yaml_token_t → Type 0) → Type 0 → Result Bool stop_t → Type 0
 SendsOrSettles s t took refuses (Ok true) = Settles s t × took []
 SendsOrSettles s t took refuses (Ok false) = (tokens : List yaml_token_t) × Sends s t tokens × took tokens
-SendsOrSettles s t took refuses (Err stop) = (((fault_at stop t.kept ≡ memory_fault)
-    ⊎ Fails s t (fault_at stop t.kept)) × Stops s t × took []) ⊎ refuses
+SendsOrSettles s t took refuses (Err stop) = (((fault_at stop t.refusal ≡ memory_fault)
+    ⊎ Fails s t (fault_at stop t.refusal)) × Stops s t × took []) ⊎ refuses
 
 -- The group y is at the head of the queue, and none of its tokens waits: no block ends come before it that are not its
 -- own, it is not that of the candidate which is awaited, and its token is not the stream end.
@@ -81,8 +81,8 @@ abbrev pub HasSentOrSettled
 HasSentOrSettled setting input s t took refuses (Ok true) = IsSettled setting input s t × took []
 HasSentOrSettled setting input s t took refuses (Ok false) = (tokens : List yaml_token_t)
     × HasSent setting input s t tokens × took tokens
-HasSentOrSettled setting input s t took refuses (Err stop) = ((IsShort setting input s (fault_at stop t.kept)
-    ⊎ IsEnded setting input s t (fault_at stop t.kept)) × IsStopped setting input s t × took []) ⊎ refuses
+HasSentOrSettled setting input s t took refuses (Err stop) = ((IsShort setting input s (fault_at stop t.refusal)
+    ⊎ IsEnded setting input s t (fault_at stop t.refusal)) × IsStopped setting input s t × took []) ⊎ refuses
 
 -- A token that is not the stream end was given to a sink, which took it; or the token is returned, and the sink took
 -- none.

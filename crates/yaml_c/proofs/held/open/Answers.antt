@@ -14,6 +14,6 @@ returns-in-Ok c =
       kept = subst (λ (z : Parser). IsKept z c.new.result) c.with_key_limit-parser.ensures c.new.ensures;
       ahead = refl;
       stands = has_begun s.limit s.setting s.input s.parser refl refl refl refl;
-      encoding = c.encoding_number-encoding.ensures ∙ ap encoding_number c.in_ok-found_encoding.ensures;
+      encoding = c.encoding_number-encoding.ensures ∙ ap encoding_number c.yaml_encoding_of.ensures;
       skipped = c.skipped_of.ensures;
     })

@@ -13,10 +13,10 @@ use Rattle.yaml_scan.specs.Parser.{Parser}
 use Rattle.yaml_scan.specs.ParserCalls.{scan_result}
 use Rattle.yaml_scan.specs.Headline.{Calls}
 use Rattle.yaml_scan.specs.inside.Scanner.{scanner_of}
-use Rattle.yaml_scan.specs.inside.Ready.{parser_of, IsEnded, IsShort, IsShown, scanner_in}
+use Rattle.yaml_scan.specs.inside.Ready.{fault_in, parser_of, IsEnded, IsShort, IsShown, scanner_in}
 use Rattle.yaml_scan.specs.inside.Sent.{HasSentOrSettled, IsPutOrReturned}
 use Rattle.yaml_scan.specs.Session.Call.{SCAN}
-use Rattle.yaml_scan.proofs.RunningCalls.CallAnswers.{show_token, show_fault_on, open_session, shown_settled, stands_u, open_u, last_is, take_told_of, take_left_of, scan_shown, scan_not_shown}
+use Rattle.yaml_scan.proofs.RunningCalls.CallAnswers.{show_token, show_fault_on, open_session, open_as, none_failed, shown_settled, stands_u, open_u, last_is, take_told_of, take_left_of, scan_shown, scan_not_shown}
 use Rattle.yaml_scan.proofs.RunningCalls.ParserInvariant.{stands_ready, keeps_sent, keeps_settled, keeps_stopped, keeps_taken, reach_in, reach_stopped}
 use Rattle.yaml_scan.proofs.RunningCalls.ScansToTheEnd.{scans_fault, scans_on}
 use Rattle.yaml_scan.proofs.RunningCalls.SeveralScans.{several_scans}
@@ -39,6 +39,7 @@ invariant_of-parser-then-not-settled g c =
     record {
       ready = λ n. inr (k.stands, k.still_open);
       peeked = λ n. absurd (false≢true (sym peeked ∙ n));
+      failed = v.failed;
       lead = λ n. absurd (false≢true (sym peeked ∙ n));
       reach = reach_in i.setting i.input.now t k.stands;
       empty = v.empty;
@@ -57,10 +58,11 @@ returns-then-not-settled-clause-next g c =
     let w = subst (λ (b : Bool). HasSentOrSettled i.setting i.input.now (scanner_in i) t (λ ts. g.S.yaml_token_sink_t.took c.args.sink.now ts c.send.new.sink) g.S.yaml_token_sink_t.may_refuse (Ok b)) c.if-not-settled.true c.in-Ok-send.ensures.sends in
     let k = w.1 in
     let e : c.args.parser.now ≡ parser_of i = sym c.parser-2.view_is in
-    let fault = option_map fault_of i.session.fault in
+    let fault = fault_in i.session.failed i.state.fault in
     let q : Parser = record { input = i.input.now; setting = i.setting; limit = i.state.limit; session = record { taken = t.taken; steps = t.made; peeked = false; over = false; fault = fault } } in
-    let r : Parser = record { input = i.input.now; setting = i.setting; limit = t.limit; session = record { taken = t.taken; steps = t.made; peeked = i.session.peeked; over = i.session.over; fault = fault } } in
-    let same : q ≡ r = λ j. record { input = i.input.now; setting = i.setting; limit = (sym k.limit) j; session = record { taken = t.taken; steps = t.made; peeked = (sym peeked) j; over = (sym over) j; fault = fault } } in (
+    let r : Parser = record { input = i.input.now; setting = i.setting; limit = t.limit; session = record { taken = t.taken; steps = t.made; peeked = i.session.peeked; over = i.session.over; fault = fault_in i.session.failed t.refusal } } in
+    let none = none_failed i.session.failed i.state.fault t.refusal (c.parser-2.invariant.failed over) in
+    let same : q ≡ r = λ j. record { input = i.input.now; setting = i.setting; limit = (sym k.limit) j; session = record { taken = t.taken; steps = t.made; peeked = (sym peeked) j; over = (sym over) j; fault = none j } } in (
       w.0,
       k.some,
       w.2,
@@ -91,6 +93,7 @@ invariant_of-parser-2 g c = let i = c.parser-2.inside in
     rw c.pass.ensures (record {
       ready = λ n. inr (b, open_u i.setting i.input.now t t u x k p (sym (last_is i.setting i.input.now t t u x k p) ∙ n));
       peeked = λ n. absurd (false≢true n);
+      failed = λ n. v.failed over;
       lead = λ n. absurd (false≢true n);
       reach = reach_in i.setting i.input.now u b;
       empty = v.empty;
@@ -111,9 +114,10 @@ put_or_return-requires-clause-words g c = let i = c.parser-2.inside in
     let o = sym (ap (λ (p : Parser). p.session.over) c.parser-2.view_is) ∙ over in
     let h : IsShown i.setting i.input.now t = record { stands = n.stands; still_open = n.still_open; settled = n.settled } in
     let k = shown_settled i.setting i.input.now t h in
-    let fault = option_map fault_of i.session.fault in
+    let kept = c.take_head-token.new.state.fault in
+    let fault = fault_in i.session.failed kept in
     let q : Parser = record { input = i.input.now; setting = i.setting; limit = t.limit; session = record { taken = t.taken; steps = t.made; peeked = true; over = false; fault = fault } } in
-    let s = show_token i.setting i.input.now (scanner_in i) t n i.session.peeked fault c.args.parser.now (e ∙ open_session (parser_of i) over) false refl in
+    let s = show_token i.setting i.input.now (scanner_in i) t n i.session.peeked fault c.args.parser.now (e ∙ open_as (parser_of i) fault over (none_failed i.session.failed i.state.fault kept (c.parser-2.invariant.failed over))) false refl in
     let r : Parser = record { input = i.input.now; setting = i.setting; limit = u.limit; session = record { taken = u.taken; steps = u.made; peeked = false; over = is_last_type (type_of x.token_data); fault = fault } } in
     let a : Calls decoded_input SCAN c.args.parser.now (TOKEN x) r = scan_shown c.args.parser.now q o x r s (take_told_of i.setting i.input.now t t u x k p refl fault q refl) (take_left_of i.setting i.input.now t t u x k p refl fault q refl (is_last_type (type_of x.token_data)) refl) in
     scan_has_words c.args.parser.now x r a
@@ -130,9 +134,10 @@ returns-clause-next g c = let i = c.parser-2.inside in
     let o = sym (ap (λ (p : Parser). p.session.over) c.parser-2.view_is) ∙ over in
     let h : IsShown i.setting i.input.now t = record { stands = n.stands; still_open = n.still_open; settled = n.settled } in
     let k = shown_settled i.setting i.input.now t h in
-    let fault = option_map fault_of i.session.fault in
+    let kept = c.take_head-token.new.state.fault in
+    let fault = fault_in i.session.failed kept in
     let q : Parser = record { input = i.input.now; setting = i.setting; limit = t.limit; session = record { taken = t.taken; steps = t.made; peeked = true; over = false; fault = fault } } in
-    let s = show_token i.setting i.input.now (scanner_in i) t n i.session.peeked fault c.args.parser.now (e ∙ open_session (parser_of i) over) false refl in
+    let s = show_token i.setting i.input.now (scanner_in i) t n i.session.peeked fault c.args.parser.now (e ∙ open_as (parser_of i) fault over (none_failed i.session.failed i.state.fault kept (c.parser-2.invariant.failed over))) false refl in
     let r : Parser = record { input = i.input.now; setting = i.setting; limit = u.limit; session = record { taken = u.taken; steps = u.made; peeked = false; over = is_last_type (type_of x.token_data); fault = fault } } in
     let a : Calls decoded_input SCAN c.args.parser.now (TOKEN x) r = scan_shown c.args.parser.now q o x r s (take_told_of i.setting i.input.now t t u x k p refl fault q refl) (take_left_of i.setting i.input.now t t u x k p refl fault q refl (is_last_type (type_of x.token_data)) refl) in
     let d = c.args.parser.now in
@@ -153,9 +158,10 @@ invariant_of-parser g c = let i = c.parser-2.inside in
       | inr w ↦ absurd (c.requires w)
       | inl z ↦ (let k = z.1 in
           let w = keeps_stopped i.setting i.input.now (scanner_in i) (scanner_of c.send.new.text c.send.new.state) k (stands_ready i.setting i.input.now (scanner_in i) (v.ready over)) i.state.layout.queue.done (record { queued = v.queued; few = v.few }) in
-          rw c.end.ensures (record {
+          rw (c.end.ensures.session, c.end.ensures.kept) (record {
             ready = λ n. absurd (false≢true (sym n));
             peeked = λ n. absurd (false≢true n);
+            failed = λ n. absurd (false≢true (sym n));
             lead = λ n. absurd (false≢true n);
             reach = reach_stopped i.setting i.input.now (scanner_in i) (scanner_of c.send.new.text c.send.new.state) k;
             empty = v.empty;
@@ -176,7 +182,7 @@ returns-in-Err-send-clause-fault g c = λ given h. let i = c.parser-2.inside in
       | inl f ↦ (let e : c.args.parser.now ≡ parser_of i = sym c.parser-2.view_is in
           let o = sym (ap (λ (p : Parser). p.session.over) c.parser-2.view_is) ∙ over in
           let r : Parser = record { input = i.input.now; setting = i.setting; limit = t.limit; session = record { taken = t.taken; steps = t.made; peeked = false; over = true; fault = Some (fault_of w) } } in
-          let s = show_fault_on i.setting i.input.now (scanner_in i) t i.session.peeked (option_map fault_of i.session.fault) w f.1 c.args.parser.now (e ∙ open_session (parser_of i) over) (subst (λ (x : Fault). IsShort i.setting i.input.now (scanner_in i) x ⊎ IsEnded i.setting i.input.now (scanner_in i) t x) (sym c.fault_at-fault.ensures) f.0) peeked in
+          let s = show_fault_on i.setting i.input.now (scanner_in i) t i.session.peeked (fault_in i.session.failed i.state.fault) w f.1 c.args.parser.now (e ∙ open_session (parser_of i) over) (subst (λ (x : Fault). IsShort i.setting i.input.now (scanner_in i) x ⊎ IsEnded i.setting i.input.now (scanner_in i) t x) (sym c.fault_at-fault.ensures) f.0) peeked in
           let a : Calls decoded_input SCAN c.args.parser.now (scan_result (Err w)) r = scan_not_shown c.args.parser.now r o w s in
           let d = c.args.parser.now in
           scans_fault d.limit d.setting d.input d given h w r a)
@@ -194,7 +200,7 @@ returns-in-Err-send-clause-ended g c = let i = c.parser-2.inside in
       | inl f ↦ (let e : c.args.parser.now ≡ parser_of i = sym c.parser-2.view_is in
           let o = sym (ap (λ (p : Parser). p.session.over) c.parser-2.view_is) ∙ over in
           let r : Parser = record { input = i.input.now; setting = i.setting; limit = t.limit; session = record { taken = t.taken; steps = t.made; peeked = false; over = true; fault = Some (fault_of w) } } in
-          let s = show_fault_on i.setting i.input.now (scanner_in i) t i.session.peeked (option_map fault_of i.session.fault) w f.1 c.args.parser.now (e ∙ open_session (parser_of i) over) (subst (λ (x : Fault). IsShort i.setting i.input.now (scanner_in i) x ⊎ IsEnded i.setting i.input.now (scanner_in i) t x) (sym c.fault_at-fault.ensures) f.0) peeked in
+          let s = show_fault_on i.setting i.input.now (scanner_in i) t i.session.peeked (fault_in i.session.failed i.state.fault) w f.1 c.args.parser.now (e ∙ open_session (parser_of i) over) (subst (λ (x : Fault). IsShort i.setting i.input.now (scanner_in i) x ⊎ IsEnded i.setting i.input.now (scanner_in i) t x) (sym c.fault_at-fault.ensures) f.0) peeked in
           let a : Calls decoded_input SCAN c.args.parser.now (scan_result (Err w)) r = scan_not_shown c.args.parser.now r o w s in
-          rw c.end.ensures a)
+          rw (c.end.ensures.session, c.end.ensures.kept) a)
     ]

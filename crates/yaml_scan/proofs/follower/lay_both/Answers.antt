@@ -67,7 +67,6 @@ returns-clause-laid g c = λ X sparing d b e passed t z p F T Z.
             reach = y.reach;
             front = s.front;
             there = s.there;
-            kept = s.kept;
             taken = s.taken;
             made = s.made + 1;
           }))

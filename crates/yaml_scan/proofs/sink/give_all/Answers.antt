@@ -32,4 +32,4 @@ returns g c =
     let n = c.requires x in
     let k = c.in_ok-text.ensures x in
     finished c.args.state.now.limit c.args.setting c.args.input.now (scanner_of c.in_ok-text.text c.begin.new.state) k.stands k.limit (k.taken ∙ n.taken)
-    (λ tokens. g.S.yaml_token_sink_t.took c.args.sink.now tokens c.give_rest.new.sink) c.give_rest.new.state.kept g.S.yaml_token_sink_t.may_refuse c.give_rest.result c.give_rest.ensures
+    (λ tokens. g.S.yaml_token_sink_t.took c.args.sink.now tokens c.give_rest.new.sink) c.give_rest.new.state.fault g.S.yaml_token_sink_t.may_refuse c.give_rest.result c.give_rest.ensures

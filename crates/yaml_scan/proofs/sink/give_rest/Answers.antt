@@ -13,7 +13,7 @@ returns-in_err-settle_to g c =
     let i = c.tokens.invariant.0 c.tokens-test.true in
     let p = err_from_is_err_and c.from_residual.result c.from_residual.ensures.1 in
     rw (p.1, p.2) (stops_on a s i.0 i.1 (λ ys. g.S.yaml_token_sink_t.took c.args.sink.now ys c.settle_to.new.sink) (λ ys. g.S.yaml_token_sink_t.took c.tokens.sink ys c.settle_to.new.sink)
-    (λ ys w. g.met.S.yaml_token_sink_t.took_more c.args.sink.now c.tokens.sink c.settle_to.new.sink i.0 ys i.2 w) c.settle_to.new.state.kept c.in_err-settle_to.field-0.0 g.S.yaml_token_sink_t.may_refuse c.in_err-settle_to.ensures)
+    (λ ys w. g.met.S.yaml_token_sink_t.took_more c.args.sink.now c.tokens.sink c.settle_to.new.sink i.0 ys i.2 w) c.settle_to.new.state.fault c.in_err-settle_to.field-0.0 g.S.yaml_token_sink_t.may_refuse c.in_err-settle_to.ensures)
 
 pub give_next-requires-clause-words : goal.give_next-requires-clause-words
 give_next-requires-clause-words g c =

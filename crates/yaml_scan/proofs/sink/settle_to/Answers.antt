@@ -42,4 +42,4 @@ returns-in_err-step_to g c =
     let p = err_from_is_err_and c.from_residual.result c.from_residual.ensures.1 in
     let q = steps_to s h.runs h.still_open (ltb-false _ _ (sym c.is_settled.ensures ∙ c.steps-test.true)) t (λ tokens. g.S.yaml_token_sink_t.took c.steps.sink tokens c.step_to.new.sink) refuses (Err stop) c.in_err-step_to.ensures.steps in
     rw (p.1, p.2) (stops_on a s i.0 h (λ ys. g.S.yaml_token_sink_t.took c.args.sink.now ys c.step_to.new.sink) (λ ys. g.S.yaml_token_sink_t.took c.steps.sink ys c.step_to.new.sink)
-    (λ ys w. g.met.S.yaml_token_sink_t.took_more c.args.sink.now c.steps.sink c.step_to.new.sink i.0 ys i.2 w) t.kept stop refuses q)
+    (λ ys w. g.met.S.yaml_token_sink_t.took_more c.args.sink.now c.steps.sink c.step_to.new.sink i.0 ys i.2 w) t.refusal stop refuses q)

@@ -14,6 +14,9 @@ returns-in-ANCHOR-clause-steps g c = queued_step g.before (scanner_of c.args.tex
 pub returns-in-TAG-clause-steps : goal.returns-in-TAG-clause-steps
 returns-in-TAG-clause-steps g c = queued_step g.before (scanner_of c.args.text.now c.args.state.now) (scanner_of c.args.text.now c.step_tag.new.state) _ _ _ c.step_tag.result (g.met.S.yaml_token_sink_t.took_none c.args.sink.now) c.step_tag.ensures
 
+pub returns-in-STREAM_END-clause-steps : goal.returns-in-STREAM_END-clause-steps
+returns-in-STREAM_END-clause-steps g c = queued_step g.before (scanner_of c.args.text.now c.args.state.now) (scanner_of c.args.text.now c.step_stream_end.new.state) _ _ _ c.step_stream_end.result (g.met.S.yaml_token_sink_t.took_none c.args.sink.now) c.step_stream_end.ensures
+
 pub returns-in_default-clause-within : goal.returns-in_default-clause-within
 returns-in_default-clause-within g c = on_ok_same (g.S.yaml_token_sink_t.within c.args.sink.now) c.step_other.result
 
@@ -25,3 +28,6 @@ returns-in-ANCHOR-clause-within g c = on_ok_same (g.S.yaml_token_sink_t.within c
 
 pub returns-in-TAG-clause-within : goal.returns-in-TAG-clause-within
 returns-in-TAG-clause-within g c = on_ok_same (g.S.yaml_token_sink_t.within c.args.sink.now) c.step_tag.result
+
+pub returns-in-STREAM_END-clause-within : goal.returns-in-STREAM_END-clause-within
+returns-in-STREAM_END-clause-within g c = on_ok_same (g.S.yaml_token_sink_t.within c.args.sink.now) c.step_stream_end.result

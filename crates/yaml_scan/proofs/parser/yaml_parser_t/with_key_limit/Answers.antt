@@ -11,6 +11,7 @@ invariant_of-result c =
     let s = c.new_state.result in record {
       ready = λ o. inl n;
       peeked = λ p. absurd (false≢true p);
+      failed = λ o. refl;
       reach = new_reach (scanner_of c.empty_text.result s) n (course_in s.limit c.args.setting c.args.input.now).read;
       empty = c.empty.ensures;
       lead = λ p. absurd (false≢true p);
