@@ -169,7 +169,7 @@ impl<'a> token_rooms_t<'a> {
 }
 
 impl yaml_token_sink_t for token_rooms_t<'_> {
-    ghost use Rattle.yaml_c.specs.inside.Sink.{ArePut, IsWithin};
+    ghost use Rattle.yaml_c.specs.inside.Sink.{ArePut, IsWithin, Lacks};
     ghost use Rattle.yaml_c.specs.inside.MorePut.{more_put, none_put, within_none};
 
     ghost took = { ArePut };
@@ -177,6 +177,8 @@ impl yaml_token_sink_t for token_rooms_t<'_> {
     ghost may_refuse = { ⊥ };
 
     ghost within = { IsWithin };
+
+    ghost lacks = { Lacks };
 
     #[inline(always)]
     fn put(&mut self, token: yaml_token_t) -> Result<(), AllocError> {

@@ -1,5 +1,5 @@
 //! Where the group of a step goes: into the queue, or straight to a sink if nothing of it has to wait.
-ghost use Rattle.std.specs.Prelude.{◌≡◌, ◌+◌, ◌<◌, ◌≤◌, ◌^◌, List, [], ◌∷◌, ◌++◌, ◌⊎◌, true, false, length};
+ghost use Rattle.std.specs.Prelude.{◌≡◌, ℕ, ◌+◌, ◌<◌, ◌≤◌, ◌^◌, List, [], ◌∷◌, ◌++◌, ◌⊎◌, true, false, length};
 ghost use Rattle.std.specs.Prelude.{MatchResult};
 ghost use Rattle.std.specs.Prelude.{if◌then◌else◌, OnErr, OnOk};
 ghost use Rattle.std.specs.VecDeque.{deque_capacity};
@@ -30,6 +30,9 @@ pub trait yaml_token_sink_t {
     // It has taken no more than it has room for.
     ghost within: { Self → Type 0 };
 
+    // What is known if it says that so many more tokens, whose texts have so many bytes, find no room.
+    ghost lacks: { Self → ℕ → ℕ → Type 0 };
+
     /// Takes a token. `AllocError` if it found no memory; then nothing was taken.
     fn put(&mut self, token: yaml_token_t) -> Result<(), AllocError>
         requires { HasWords (token_of token).token_data }
@@ -43,8 +46,9 @@ pub trait yaml_token_sink_t {
 
     /// Whether so many more tokens find room, whose texts have so many bytes.
     fn has_room(&self, count: u128, texts: u128) -> bool
-        ensures { result ≡ true → within self.now → (tokens : List Token) (after : Self) → length tokens ≤ count
-            → texts_len tokens ≤ texts → took self.now tokens after → within after };
+        ensures room { result ≡ true → within self.now → (tokens : List Token) (after : Self) → length tokens ≤ count
+            → texts_len tokens ≤ texts → took self.now tokens after → within after }
+        ensures lack { result ≡ false → lacks self.now count texts };
 
     ghost took_none: { (s : Self) → took s [] s };
 
@@ -63,6 +67,8 @@ impl yaml_token_sink_t for no_sink_t {
     ghost may_refuse = { Unit {0} };
 
     ghost within = { λ s. Unit {0} };
+
+    ghost lacks = { λ s count texts. Unit {0} };
 
     fn put(&mut self, _token: yaml_token_t) -> Result<(), AllocError> {
         Ok(())

@@ -1,5 +1,5 @@
 -- Tokens that are put into a caller's two rooms.
-use Rattle.std.specs.Prelude.{◌≡◌, ◌+◌, ◌≤◌, [], ◌∷◌, List, length}
+use Rattle.std.specs.Prelude.{◌≡◌, ◌⊎◌, ℕ, ◌+◌, ◌≤◌, ◌<◌, [], ◌∷◌, List, length}
 use Rattle.yaml_text.specs.Token.{Token}
 use Rattle.yaml_c.specs.Room.{covered_from}
 use Rattle.yaml_c.specs.Record.{held, record_of, texts_of}
@@ -35,3 +35,7 @@ ArePut a (token ∷ more) b = (between : token_rooms_t) × IsPut a token between
 pub record IsWithin (a : token_rooms_t) : Type 0 where
   pub few : a.token_count ≤ length a.tokens.now
   pub fit : a.text_len ≤ length a.texts.now
+
+-- so many more tokens, whose texts have so many bytes, find no room
+abbrev pub Lacks : token_rooms_t → ℕ → ℕ → Type 0
+Lacks a count texts = (length a.tokens.now < a.token_count + count) ⊎ (length a.texts.now < a.text_len + texts)
