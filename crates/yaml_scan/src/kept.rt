@@ -221,11 +221,11 @@ fn show_kept(kept: &mut yaml_kept_parser_t, input: &[u8]) -> Result<(), stop_t>
 /// Ends the session of a kept parser with the fault of a stop, and returns that.
 #[cold]
 fn end_kept(kept: &mut yaml_kept_parser_t, stop: stop_t) -> yaml_fault_t
-    ensures fault { fault_of result ≡ fault_at stop kept.old.state.kept }
+    ensures fault { fault_of result ≡ fault_at stop kept.old.state.fault }
     ensures ended { kept.new ≡ ended_by kept.old result }
 {
-    let fault = fault_at(stop, &kept.state.kept);
-    end(&mut kept.session, fault);
+    let fault = fault_at(stop, &kept.state.fault);
+    end(&mut kept.session, &mut kept.state.fault, fault);
     fault
 }
 

@@ -32,7 +32,7 @@ use Rattle.yaml_scan.specs.inside.Scanning.{history}
 use Rattle.yaml_scan.specs.inside.Kept.{IsKept, kept_of}
 use Rattle.yaml_scan.specs.inside.KeptEnds.{EndsKept, GivesKept, KeepsOthers, ShowsKept, StartsKept, ended_by}
 use Rattle.yaml_scan.specs.inside.KeptParts.{GivesAllOn, GoesOnTo, HasBegun, ShowsNext, StopsAfter, with_parts}
-use Rattle.yaml_scan.specs.inside.Ready.{Begins, IsEnded, IsNew, IsShort, IsStopped, Sound, parser_of, scanner_in}
+use Rattle.yaml_scan.specs.inside.Ready.{Begins, IsEnded, IsNew, IsShort, IsStopped, Sound, fault_in, parser_of, scanner_in}
 use Rattle.yaml_scan.specs.inside.Scanner.{Scanner, scanner_of}
 use Rattle.yaml_scan.specs.inside.Stop.{fault_at}
 use Rattle.yaml_scan.proofs.RunningCalls.CallAnswers.{head_shown, open_session, scan_not_shown, show_fault_on}
@@ -84,16 +84,16 @@ module _ (i : Inside) (v : Sound i) (o : i.session.over ≡ false) where
 -- both
 pub starts_now : (i : Inside) → Sound i → i.session.over ≡ false → i.state.made ≡ 0 → (setting : yaml_encoding_t) (input : List ℕ) → setting ≡ i.setting → input ≡ i.input.now → (old new : yaml_kept_parser_t) → old.state ≡ i.state → new.setting ≡ i.setting
     → (left : KeptText) → new.text ≡ Some left → KeepsOthers old new → (r : Result Text stop_t)
-    → ((T : Text) → MatchResult r (λ text. Begins setting input (scanner_of T old.state) (scanner_of text new.state)) (λ s. (IsShort setting input (scanner_of T old.state) (fault_at s new.state.kept) ⊎ IsEnded setting input (scanner_of T old.state) (scanner_of T new.state) (fault_at s new.state.kept)) × IsStopped setting input (scanner_of T old.state) (scanner_of T new.state)))
+    → ((T : Text) → MatchResult r (λ text. Begins setting input (scanner_of T old.state) (scanner_of text new.state)) (λ s. (IsShort setting input (scanner_of T old.state) (fault_at s new.state.fault) ⊎ IsEnded setting input (scanner_of T old.state) (scanner_of T new.state) (fault_at s new.state.fault)) × IsStopped setting input (scanner_of T old.state) (scanner_of T new.state)))
     → StartsKept i old new r
 starts_now i v o m setting input a b old new e d left held others r h = go r (subst (λ (x : List ℕ). At i.setting x r) b (subst (λ (s : yaml_encoding_t). At s input r) a h))
   where
     At : yaml_encoding_t → List ℕ → Result Text stop_t → Type 0
-    At s x r = (T : Text) → MatchResult r (λ text. Begins s x (scanner_of T old.state) (scanner_of text new.state)) (λ z. (IsShort s x (scanner_of T old.state) (fault_at z new.state.kept) ⊎ IsEnded s x (scanner_of T old.state) (scanner_of T new.state) (fault_at z new.state.kept)) × IsStopped s x (scanner_of T old.state) (scanner_of T new.state))
+    At s x r = (T : Text) → MatchResult r (λ text. Begins s x (scanner_of T old.state) (scanner_of text new.state)) (λ z. (IsShort s x (scanner_of T old.state) (fault_at z new.state.fault) ⊎ IsEnded s x (scanner_of T old.state) (scanner_of T new.state) (fault_at z new.state.fault)) × IsStopped s x (scanner_of T old.state) (scanner_of T new.state))
 
     go : (r : Result Text stop_t) → At i.setting i.input.now r → StartsKept i old new r
     go (Ok text) h = (begins_now i v o m old.state e text new.state h, others)
-    go (Err stop) h = record { setting = d; left = left; held = held; text = i.text; tokens = []; given = refl; stops = stops_first i v o m old.state e new.state (fault_at stop new.state.kept) h }
+    go (Err stop) h = record { setting = d; left = left; held = held; text = i.text; tokens = []; given = refl; stops = stops_first i v o m old.state e new.state (fault_at stop new.state.fault) h }
 
 -- WHAT IS KEPT
 pub kept_after : (i j : Inside) (p : Parser) (tokens : List yaml_token_t) (took : List yaml_token_t → Type 0) → parser_of i ≡ p → GoesOnTo i j tokens → took tokens → GivesMore p (parser_of j) took
@@ -129,7 +129,7 @@ module _ (i : Inside) (p : Parser) (seen : parser_of i ≡ p) (setting : yaml_en
   is_left : Sound j → IsKept (parser_of j) left_kept
   is_left v = subst (λ (z : yaml_kept_parser_t). IsKept (parser_of j) z) (sym kept_is) (is_kept j left v (text_left v))
 
-  stops_left : (tokens : List yaml_token_t) (took : List yaml_token_t → Type 0) (stop : stop_t) → took tokens → StopsAfter i (scanner_in j) tokens (fault_at stop j.state.kept) → EndsKept i left_kept took stop
+  stops_left : (tokens : List yaml_token_t) (took : List yaml_token_t → Type 0) (stop : stop_t) → took tokens → StopsAfter i (scanner_in j) tokens (fault_at stop j.state.fault) → EndsKept i left_kept took stop
   stops_left tokens took stop w s = record { setting = a; left = left; held = refl; text = text; tokens = tokens; given = w; stops = s }
 
   pub gives_kept : (took : List yaml_token_t → Type 0) (lacks : ℕ → ℕ → Type 0) (r : Result (Unit {0}) stop_t) → GivesAllOn i j took lacks r → GivesKept p i left_kept took lacks r
@@ -156,7 +156,7 @@ module _ (i : Inside) (v : Sound i) (e : i.session.peeked ≡ true) where
   shown_some = let k = (v.peeked e).1 in groups_some s k.stands.runs k.settled
 
   first_is : (x : yaml_token_t) → IsFirst s.text.encoding (drop s.taken (offline (history s))) x → x ≡ token_shown (parser_of i)
-  first_is x f = head_shown i.setting i.input.now s (v.peeked e).1 x f i.session.peeked i.session.over (option_map fault_of i.session.fault) e (parser_of i) refl
+  first_is x f = head_shown i.setting i.input.now s (v.peeked e).1 x f i.session.peeked i.session.over (fault_in i.session.failed i.state.fault) e (parser_of i) refl
 
   pub lead_shown : 0 < length (pending s.layout.queue.early s.layout.queue.front s.layout.queue.groups.items) → token_of i.lead ≡ token_shown (parser_of i)
   lead_shown l = let k = (v.peeked e).1 in first_is (token_of i.lead) (lead_first s.text.encoding s.layout.queue (drop s.taken (offline (history s))) (token_of i.lead) k.stands.runs.holds.queue (v.lead e) l)
@@ -182,7 +182,7 @@ first_at_end None tokens m q n a = tt
 first_at_end (Some t) [] m q n a = absurd (let e : None ≡ Some t = (rw n at a) in cc)
 first_at_end (Some t) (x ∷ xs) m q n a = a
 
-module _ (i : Inside) (p : Parser) (seen : parser_of i ≡ p) (k : yaml_kept_parser_t) (took : List yaml_token_t → Type 0) (stop : stop_t) (e : EndsKept i k took stop) (w : yaml_fault_t) (f : fault_of w ≡ fault_at stop k.state.kept) where
+module _ (i : Inside) (p : Parser) (seen : parser_of i ≡ p) (k : yaml_kept_parser_t) (took : List yaml_token_t → Type 0) (stop : stop_t) (e : EndsKept i k took stop) (w : yaml_fault_t) (f : fault_of w ≡ fault_at stop k.state.fault) where
   abbrev last : Inside
   last = e.stops.last
 
@@ -190,7 +190,7 @@ module _ (i : Inside) (p : Parser) (seen : parser_of i ≡ p) (k : yaml_kept_par
   t = scanner_of e.text k.state
 
   abbrev J : Inside
-  J = with_parts last e.text k.state (record { peeked = false; over = true; fault = Some w }) k.lead
+  J = with_parts last e.text (record k.state { fault = Some w }) (record { peeked = false; over = true; failed = true }) k.lead
 
   abbrev pub ended : Parser
   ended = parser_of J
@@ -204,6 +204,7 @@ module _ (i : Inside) (p : Parser) (seen : parser_of i ≡ p) (k : yaml_kept_par
       record {
         ready = λ n. absurd (false≢true (sym n));
         peeked = λ n. absurd (false≢true n);
+        failed = λ n. absurd (false≢true (sym n));
         lead = λ n. absurd (false≢true n);
         reach = reach_stopped last.setting last.input.now (scanner_in last) t n;
         empty = v.empty;
@@ -221,14 +222,14 @@ module _ (i : Inside) (p : Parser) (seen : parser_of i ≡ p) (k : yaml_kept_par
     sound = ended_sound;
     seen_as = refl;
     left = e.left;
-    kept = λ n. record { setting = setting_is n; text = e.held n; state = k.state; session = record { peeked = false; over = true; fault = Some w }; lead = k.lead };
+    kept = λ n. record { setting = setting_is n; text = e.held n; state = record k.state { fault = Some w }; session = record { peeked = false; over = true; failed = true }; lead = k.lead };
     text = λ n. absurd (false≢true (sym n));
   }
 
   peek_ends : Calls decoded_input PEEK (parser_of last) (FAULT (fault_of w)) ended
   peek_ends =
       let s = e.stops in
-      show_fault_on last.setting last.input.now (scanner_in last) t last.session.peeked (option_map fault_of last.session.fault) w s.stopped (parser_of last) (open_session (parser_of last) s.still_open)
+      show_fault_on last.setting last.input.now (scanner_in last) t last.session.peeked (fault_in last.session.failed last.state.fault) w s.stopped (parser_of last) (open_session (parser_of last) s.still_open)
       (subst (λ (x : Fault). IsShort last.setting last.input.now (scanner_in last) x ⊎ IsEnded last.setting last.input.now (scanner_in last) t x) (sym f) s.why) s.not_peeked
 
   scan_ends : Calls decoded_input SCAN (parser_of last) (scan_result (Err w)) ended

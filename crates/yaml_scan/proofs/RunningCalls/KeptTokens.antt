@@ -29,13 +29,13 @@ use Rattle.yaml_scan.specs.TokenTypes.{is_last_type}
 use Rattle.yaml_scan.specs.inside.Given.{all_in}
 use Rattle.yaml_scan.specs.inside.KeptParts.{GoesOnTo, HasBegun, HasSettled, SettlesNext, ShowsTo, StopsAfter, shown_in, with_parts}
 use Rattle.yaml_scan.specs.inside.Queue.{IsLead}
-use Rattle.yaml_scan.specs.inside.Ready.{IsEnded, IsIn, IsSettled, IsShort, IsShown, IsStarted, IsStopped, Pops, Sound, course_in, parser_of, scanner_in}
+use Rattle.yaml_scan.specs.inside.Ready.{IsEnded, IsIn, IsSettled, IsShort, IsShown, IsStarted, IsStopped, Pops, Sound, course_in, fault_in, parser_of, scanner_in}
 use Rattle.yaml_scan.specs.inside.Scanner.{Scanner, scanner_of}
 use Rattle.yaml_scan.specs.inside.Scanning.{Fails, Settles, Stops, course_of, history}
 use Rattle.yaml_scan.specs.inside.Sent.{HasSent, HasSentOrSettled}
 use Rattle.yaml_scan.specs.inside.Stop.{fault_at}
 use Rattle.yaml_scan.specs.inside.Shown.{Shows}
-use Rattle.yaml_scan.proofs.RunningCalls.CallAnswers.{head_shown, last_is, open_session, open_u, scan_shown, show_token, shown_session, shown_settled, stands_u, take_left_of, take_told_of, token_some}
+use Rattle.yaml_scan.proofs.RunningCalls.CallAnswers.{head_shown, last_is, none_failed, open_as, open_u, scan_shown, show_token, shown_session, shown_settled, stands_u, take_left_of, take_told_of, token_some}
 use Rattle.yaml_scan.proofs.RunningCalls.ParserInvariant.{Keeps}
 use Rattle.yaml_scan.proofs.RunningCalls.KeptGoesOn.{first_more, first_unless, first_when, is_shown, left_by_peek, on_more, on_none, peeks_on}
 use Rattle.yaml_scan.proofs.RunningCalls.ParserInvariant.{keeps_sent, keeps_settled, keeps_taken, reach_in, stands_ready}
@@ -116,7 +116,7 @@ settled_before i text state k e =
 
 -- its next token is there after some steps, or there is a fault
 pub settles_next : (i : Inside) (text : Text) (state state' : state_t) → HasBegun i text state → i.session.peeked ≡ false → (result : Result (Unit {0}) stop_t)
-    → MatchResult result (λ _. Settles (scanner_of text state) (scanner_of text state')) (λ stop. ((fault_at stop state'.kept ≡ memory_fault) ⊎ Fails (scanner_of text state) (scanner_of text state') (fault_at stop state'.kept)) × Stops (scanner_of text state) (scanner_of text state'))
+    → MatchResult result (λ _. Settles (scanner_of text state) (scanner_of text state')) (λ stop. ((fault_at stop state'.fault ≡ memory_fault) ⊎ Fails (scanner_of text state) (scanner_of text state') (fault_at stop state'.fault)) × Stops (scanner_of text state) (scanner_of text state'))
     → SettlesNext i text state' result
 settles_next i text state state' b n (Ok x) w = record {
   sound = b.sound;
@@ -126,9 +126,9 @@ settles_next i text state state' b n (Ok x) w = record {
 settles_next i text state state' b n (Err stop) w =
     let s = scanner_of text state in
     let t = scanner_of text state' in
-    stops_now i t (fault_at stop state'.kept) b.sound b.still_open n (elim w.0 [
+    stops_now i t (fault_at stop state'.fault) b.sound b.still_open n (elim w.0 [
       | inl m ↦ inl (record { fault = m; in_utf8 = λ e. begun_is i.setting i.input.now (scanner_in i) s t b.started })
-      | inr f ↦ inr (ended_in i.setting i.input.now (scanner_in i) s t b.started (fault_at stop state'.kept) f)
+      | inr f ↦ inr (ended_in i.setting i.input.now (scanner_in i) s t b.started (fault_at stop state'.fault) f)
     ]) (stopped_in i.setting i.input.now (scanner_in i) s t b.started w.1)
 
 unless : (b : Bool) → (b ≡ true → ⊥) → b ≡ false
@@ -138,9 +138,9 @@ unless false f = refl
 -- no token came
 pub stops_turn : (i : Inside) (text : Text) (state state' : state_t) (took : List yaml_token_t → Type 0) (refuses : Type 0) (stop : stop_t) → HasBegun i text state → (refuses → ⊥)
     → HasSentOrSettled i.setting i.input.now (scanner_in i) (scanner_of text state') took refuses (Err stop) → (i.session.peeked ≡ true → (let r : Result Bool stop_t = Err stop in r ≡ Ok true))
-    → (tokens : List yaml_token_t) × took tokens × StopsAfter i (scanner_of text state') tokens (fault_at stop state'.kept)
+    → (tokens : List yaml_token_t) × took tokens × StopsAfter i (scanner_of text state') tokens (fault_at stop state'.fault)
 stops_turn i text state state' took refuses stop b never (inr r) f = absurd (never r)
-stops_turn i text state state' took refuses stop b never (inl w) f = ([], w.2, stops_now i (scanner_of text state') (fault_at stop state'.kept) b.sound b.still_open (unless i.session.peeked (λ e. let z = f e in cc)) w.0 w.1)
+stops_turn i text state state' took refuses stop b never (inl w) f = ([], w.2, stops_now i (scanner_of text state') (fault_at stop state'.fault) b.sound b.still_open (unless i.session.peeked (λ e. let z = f e in cc)) w.0 w.1)
 
 -- why no more go to a sink that has no room for a token
 pub no_more : (lacks : ℕ → ℕ → Type 0) (q : Parser) → (q.session.over ≡ true) ⊎ lacks 1 0 → HasNoMoreRoom lacks q
@@ -159,7 +159,7 @@ module _ (i : Inside) (text : Text) (state : state_t) (k : HasSettled i text sta
   P = parser_of i
 
   abbrev fault : Option Fault
-  fault = option_map fault_of i.session.fault
+  fault = fault_in i.session.failed state.fault
 
   there : IsShown i.setting i.input.now t
   there = let n = k.settled in record { stands = n.stands; still_open = n.still_open; settled = n.settled }
@@ -171,16 +171,17 @@ module _ (i : Inside) (text : Text) (state : state_t) (k : HasSettled i text sta
   -- a token that was shown before is the same
   shown_before : i.session.peeked ≡ true → token_shown (shown_in i state) ≡ token_shown P
   shown_before e = let n = k.settled in
-      shown_alike i.setting i.input.now state.limit i.state.limit state.taken i.state.taken state.made i.state.made false false fault fault n.limit n.taken
+      shown_alike i.setting i.input.now state.limit i.state.limit state.taken i.state.taken state.made i.state.made false false fault P.session.fault n.limit n.taken
       ∙ sym (ap (λ (p : Parser). token_shown p) (shown_session P k.still_open e))
 
   -- it is shown
-  pub shows : (lead : code_token_t) → IsLead text.encoding state.layout.queue (token_of lead) → ShowsTo i (with_parts i text state (record { peeked = true; over = i.session.over; fault = i.session.fault }) lead)
+  pub shows : (lead : code_token_t) → IsLead text.encoding state.layout.queue (token_of lead) → ShowsTo i (with_parts i text state (record { peeked = true; over = i.session.over; failed = i.session.failed }) lead)
   shows lead l = record {
     stands = record {
       sound = record {
         ready = λ e. inr (n.stands, n.still_open);
         peeked = λ e. (k.still_open, there);
+        failed = v.failed;
         lead = λ e. l;
         reach = reach_in i.setting i.input.now t n.stands;
         empty = v.empty;
@@ -205,18 +206,18 @@ module _ (i : Inside) (text : Text) (state : state_t) (k : HasSettled i text sta
       v = k.sound
 
       Q : Parser
-      Q = parser_of (with_parts i text state (record { peeked = true; over = i.session.over; fault = i.session.fault }) lead)
+      Q = parser_of (with_parts i text state (record { peeked = true; over = i.session.over; failed = i.session.failed }) lead)
 
       w : Keeps state.limit (course_in state.limit i.setting i.input.now).read state.made state.taken i.state.layout.queue.done
       w = keeps_settled i.setting i.input.now s t n (stands_ready i.setting i.input.now s (v.ready k.still_open)) i.state.layout.queue.done (record { queued = v.queued; few = v.few })
 
       call : Calls decoded_input PEEK P (PEEKED (token_shown Q)) Q
-      call = show_token i.setting i.input.now s t n i.session.peeked fault P (open_session P k.still_open) i.session.over k.still_open
+      call = show_token i.setting i.input.now s t n i.session.peeked fault P (open_as P fault k.still_open (none_failed i.session.failed i.state.fault state.fault (v.failed k.still_open))) i.session.over k.still_open
 
   pub shows_from : (session : session_t) (lead : code_token_t) → session ≡ i.session → IsLead text.encoding state.layout.queue (token_of lead)
-      → let j = with_parts i text state (record { peeked = true; over = session.over; fault = session.fault }) lead in ShowsTo i j × (parser_of j ≡ shown_in i state)
+      → let j = with_parts i text state (record { peeked = true; over = session.over; failed = session.failed }) lead in ShowsTo i j × (parser_of j ≡ shown_in i state)
   shows_from session lead e l =
-      let F : session_t → Inside = λ z. with_parts i text state (record { peeked = true; over = z.over; fault = z.fault }) lead in
+      let F : session_t → Inside = λ z. with_parts i text state (record { peeked = true; over = z.over; failed = z.failed }) lead in
       subst (λ (z : session_t). ShowsTo i (F z) × (parser_of (F z) ≡ shown_in i state)) (sym e) (
         shows lead l,
         λ n. record { input = i.input.now; setting = i.setting; limit = state.limit; session = record { taken = state.taken; steps = state.made; peeked = true; over = k.still_open n; fault = fault } },
@@ -236,11 +237,12 @@ module _ (i : Inside) (text : Text) (state : state_t) (k : HasSettled i text sta
     pub taken_shown : x ≡ token_shown (shown_in i state)
     taken_shown = take_told_of i.setting i.input.now t t u x settled_t p refl fault (shown_in i state) refl
 
-    pub gives_one : (lead : code_token_t) → GoesOnTo i (with_parts i text state' (record { peeked = false; over = over; fault = i.session.fault }) lead) (x ∷ [])
+    pub gives_one : (lead : code_token_t) → GoesOnTo i (with_parts i text state' (record { peeked = false; over = over; failed = i.session.failed }) lead) (x ∷ [])
     gives_one lead = record {
       sound = record {
         ready = λ e. inr (b, open_u i.setting i.input.now t t u x settled_t p (sym (last_is i.setting i.input.now t t u x settled_t p) ∙ e));
         peeked = λ e. absurd (false≢true e);
+        failed = λ e. v.failed k.still_open;
         lead = λ e. absurd (false≢true e);
         reach = reach_in i.setting i.input.now u b;
         empty = v.empty;
@@ -260,7 +262,7 @@ module _ (i : Inside) (text : Text) (state : state_t) (k : HasSettled i text sta
         v = k.sound
 
         R : Parser
-        R = parser_of (with_parts i text state' (record { peeked = false; over = over; fault = i.session.fault }) lead)
+        R = parser_of (with_parts i text state' (record { peeked = false; over = over; failed = i.session.failed }) lead)
 
         b : IsIn i.setting i.input.now u
         b = stands_u i.setting i.input.now t t u x settled_t p
@@ -270,11 +272,17 @@ module _ (i : Inside) (text : Text) (state : state_t) (k : HasSettled i text sta
             (keeps_settled i.setting i.input.now s t n (stands_ready i.setting i.input.now s (v.ready k.still_open)) i.state.layout.queue.done (record { queued = v.queued; few = v.few }))
             (done_is u p.runs)
 
-        shown : Shows P true (shown_in i state)
-        shown = show_token i.setting i.input.now s t n i.session.peeked fault P (open_session P k.still_open) false refl
+        left : Option Fault
+        left = fault_in i.session.failed state'.fault
+
+        Q : Parser
+        Q = record { input = i.input.now; setting = i.setting; limit = state.limit; session = record { taken = state.taken; steps = state.made; peeked = true; over = false; fault = left } }
+
+        shown : Shows P true Q
+        shown = show_token i.setting i.input.now s t n i.session.peeked left P (open_as P left k.still_open (none_failed i.session.failed i.state.fault state'.fault (v.failed k.still_open))) false refl
 
         call : Calls decoded_input SCAN P (TOKEN x) R
-        call = scan_shown P (shown_in i state) k.still_open x R shown taken_shown (take_left_of i.setting i.input.now t t u x settled_t p refl fault (shown_in i state) refl over refl)
+        call = scan_shown P Q k.still_open x R shown (take_told_of i.setting i.input.now t t u x settled_t p refl left Q refl) (take_left_of i.setting i.input.now t t u x settled_t p refl left Q refl over refl)
 
 -- THE TOKENS OF A STEP, OR OF GROUPS, WENT TO THE SINK
 pub gives_sent : (i : Inside) (text : Text) (state : state_t) (tokens : List yaml_token_t) (lead : code_token_t) → Sound i → i.session.over ≡ false → i.session.peeked ≡ false → HasSent i.setting i.input.now (scanner_in i) (scanner_of text state) tokens
@@ -283,13 +291,15 @@ gives_sent i text state tokens lead v o peeked k =
     let t = scanner_of text state in
     let s = scanner_in i in
     let n = keeps_sent i.setting i.input.now s t tokens k i.state.layout.queue.done (record { queued = v.queued; few = v.few }) (done_is t k.stands.runs) in
-    let fault = option_map fault_of i.session.fault in
+    let fault = fault_in i.session.failed i.state.fault in
+    let left = fault_in i.session.failed state.fault in
     let q : Parser = record { input = i.input.now; setting = i.setting; limit = i.state.limit; session = record { taken = t.taken; steps = t.made; peeked = false; over = false; fault = fault } } in
-    let r : Parser = record { input = i.input.now; setting = i.setting; limit = t.limit; session = record { taken = t.taken; steps = t.made; peeked = i.session.peeked; over = i.session.over; fault = fault } } in
-    let same : q ≡ r = λ j. record { input = i.input.now; setting = i.setting; limit = (sym k.limit) j; session = record { taken = t.taken; steps = t.made; peeked = (sym peeked) j; over = (sym o) j; fault = fault } } in
+    let r : Parser = record { input = i.input.now; setting = i.setting; limit = t.limit; session = record { taken = t.taken; steps = t.made; peeked = i.session.peeked; over = i.session.over; fault = left } } in
+    let same : q ≡ r = λ j. record { input = i.input.now; setting = i.setting; limit = (sym k.limit) j; session = record { taken = t.taken; steps = t.made; peeked = (sym peeked) j; over = (sym o) j; fault = (none_failed i.session.failed i.state.fault state.fault (v.failed o)) j } } in
     record {
       sound = record {
         ready = λ n. inr (k.stands, k.still_open);
+        failed = v.failed;
         peeked = λ n. absurd (false≢true (sym peeked ∙ n));
         lead = λ n. absurd (false≢true (sym peeked ∙ n));
         reach = reach_in i.setting i.input.now t k.stands;

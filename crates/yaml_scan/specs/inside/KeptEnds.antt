@@ -25,8 +25,8 @@ abbrev pub ended_by : yaml_kept_parser_t → yaml_fault_t → yaml_kept_parser_t
 ended_by k fault = record {
   setting = k.setting;
   text = k.text;
-  state = k.state;
-  session = record { peeked = false; over = true; fault = Some fault };
+  state = record k.state { fault = Some fault };
+  session = record { peeked = false; over = true; failed = true };
   lead = k.lead;
 }
 
@@ -45,7 +45,7 @@ pub record EndsKept (i : Inside) (k : yaml_kept_parser_t) (took : List yaml_toke
   pub text : Text
   pub tokens : List yaml_token_t
   pub given : took tokens
-  pub stops : StopsAfter i (scanner_of text k.state) tokens (fault_at stop k.state.kept)
+  pub stops : StopsAfter i (scanner_of text k.state) tokens (fault_at stop k.state.fault)
 
 -- The first step of the parser i was made, now or before, and this is its text; or it could not be made.
 abbrev pub StartsKept : Inside → yaml_kept_parser_t → yaml_kept_parser_t → Result Text stop_t → Type 0

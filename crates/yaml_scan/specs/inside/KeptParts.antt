@@ -1,6 +1,6 @@
 -- The calls of a kept parser, by the parts that it is scanned with.
-use Rattle.std.specs.Prelude.{◌≡◌, ◌⊎◌, ℕ, ◌<◌, Bool, true, false, List, [], option_map, MatchResult, Result}
-use Rattle.yaml_text.specs.Fault.{Fault, fault_of}
+use Rattle.std.specs.Prelude.{◌≡◌, ◌⊎◌, ℕ, ◌<◌, Bool, true, false, List, [], MatchResult, Result}
+use Rattle.yaml_text.specs.Fault.{Fault}
 use Rattle.yaml_text.specs.Text.{Text}
 use Rattle.yaml_text.specs.declared.token.yaml_token_t.{yaml_token_t as code_token_t}
 use Rattle.yaml_scan.specs.declared.fault.stop_t.{stop_t}
@@ -16,7 +16,7 @@ use Rattle.yaml_scan.specs.Scanned.{GoesOnBy}
 use Rattle.yaml_scan.specs.Session.Call.{PEEK}
 use Rattle.yaml_scan.specs.Session.Answer.{PEEKED}
 use Rattle.yaml_scan.specs.Token.{yaml_token_t}
-use Rattle.yaml_scan.specs.inside.Ready.{IsEnded, IsSettled, IsShort, IsShown, IsStarted, IsStopped, Sound, parser_of, scanner_in}
+use Rattle.yaml_scan.specs.inside.Ready.{IsEnded, IsSettled, IsShort, IsShown, IsStarted, IsStopped, Sound, fault_in, parser_of, scanner_in}
 use Rattle.yaml_scan.specs.inside.Scanner.{Scanner, scanner_of}
 use Rattle.yaml_scan.specs.inside.Stop.{fault_at}
 
@@ -43,7 +43,7 @@ shown_in i state = record {
     steps = state.made;
     peeked = true;
     over = false;
-    fault = option_map fault_of i.session.fault;
+    fault = fault_in i.session.failed state.fault;
   };
 }
 
@@ -95,7 +95,7 @@ GivesOn i j took lacks result = MatchResult result
     (λ more. (tokens : List yaml_token_t) × took tokens × GoesOnTo i j tokens
     × (more ≡ true → j.session.over ≡ false) × (more ≡ false → HasNoMoreRoom lacks (parser_of j)))
     (λ stop. (tokens : List yaml_token_t) × took tokens
-    × StopsAfter i (scanner_in j) tokens (fault_at stop j.state.kept))
+    × StopsAfter i (scanner_in j) tokens (fault_at stop j.state.fault))
 
 -- The same, to the end.
 abbrev pub GivesAllOn
@@ -103,14 +103,14 @@ abbrev pub GivesAllOn
 GivesAllOn i j took lacks result = MatchResult result
     (λ _. (tokens : List yaml_token_t) × took tokens × GoesOnTo i j tokens × HasNoMoreRoom lacks (parser_of j))
     (λ stop. (tokens : List yaml_token_t) × took tokens
-    × StopsAfter i (scanner_in j) tokens (fault_at stop j.state.kept))
+    × StopsAfter i (scanner_in j) tokens (fault_at stop j.state.fault))
 
 -- The parser i shows its next token, and is j then; or there is a fault.
 abbrev pub ShowsNext : Inside → Inside → Result (Unit {0}) stop_t → Type 0
 ShowsNext i j result = MatchResult result (λ _. ShowsTo i j)
-    (λ stop. StopsAfter i (scanner_in j) [] (fault_at stop j.state.kept))
+    (λ stop. StopsAfter i (scanner_in j) [] (fault_at stop j.state.fault))
 
 -- The next token of i is at the head of the queue; or there is a fault.
 abbrev pub SettlesNext : Inside → Text → state_t → Result (Unit {0}) stop_t → Type 0
 SettlesNext i text state result = MatchResult result (λ _. HasSettled i text state)
-    (λ stop. StopsAfter i (scanner_of text state) [] (fault_at stop state.kept))
+    (λ stop. StopsAfter i (scanner_of text state) [] (fault_at stop state.fault))

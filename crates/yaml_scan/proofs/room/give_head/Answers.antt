@@ -25,7 +25,7 @@ returns-clause-gives g c = λ i k e.
       n.2.1,
       taken_shown i text a k b x n.1,
       λ lead. subst (λ (z : session_t). GoesOnTo i (with_parts i text b z lead) (x ∷ []))
-          (λ j. record { peeked = false; over = (sym n.2.0) j; fault = (sym (ap (λ (z : session_t). z.fault) e)) j })
+          (λ j. record { peeked = false; over = (sym n.2.0) j; failed = (sym (ap (λ (z : session_t). z.failed) e)) j })
           (gives_one i text a k b x n.1 lead),
     )
 

@@ -26,11 +26,11 @@ returns-in_err-more-clause-gives g c = λ i b e.
   where
     stops : (i : Inside) → HasBegun i c.args.text.now c.args.state.now → c.args.session.now ≡ i.session
         → (tokens : List Token) × g.S.yaml_token_sink_t.took c.args.sink.now tokens c.give_or_show.new.sink
-        × StopsAfter i (scanner_of c.args.text.now c.give_or_show.new.state) tokens (fault_at c.in_err-more.field-0.0 c.give_or_show.new.state.kept)
+        × StopsAfter i (scanner_of c.args.text.now c.give_or_show.new.state) tokens (fault_at c.in_err-more.field-0.0 c.give_or_show.new.state.fault)
     stops i b e =
         let j = with_parts i c.args.text.now c.tokens.state c.tokens.session c.tokens.lead in
         let t = scanner_of c.args.text.now c.give_or_show.new.state in
-        let f = fault_at c.in_err-more.field-0.0 c.give_or_show.new.state.kept in
+        let f = fault_at c.in_err-more.field-0.0 c.give_or_show.new.state.fault in
         let more = g.met.S.yaml_token_sink_t.took_more c.args.sink.now c.tokens.sink c.give_or_show.new.sink in
         elim ((c.tokens.invariant.0 i b e).0 c.tokens-test.true) [
           | inl w ↦ (let n = c.in_err-more.ensures.gives i w.0 w.1 in (n.0, more [] n.0 w.2 n.1, n.2))
