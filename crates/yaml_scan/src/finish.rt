@@ -367,7 +367,7 @@ pub(crate) fn end_laid_queued(
     end_laid::<false, no_sink_t>(state, &mut no_sink_t {}, laid, token)
 }
 
-/// Ends a step with a lexeme that was read and that needs nothing of what comes after it. Its group goes into the queue.
+/// Ends a step with a lexeme that was read and needs nothing of what comes after it. Its group goes into the queue.
 #[inline(always)]
 pub(crate) fn end_queued(
     text: &yaml_text_t,

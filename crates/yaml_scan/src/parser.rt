@@ -123,7 +123,8 @@ pub(crate) fn begin<'a>(
     ensures { (text : Text) → MatchResult result
         (λ front. Begins setting input.now (scanner_of text state.old) (scanner_of front state.new)) (λ s.
         (IsShort setting input.now (scanner_of text state.old) (fault_at s state.new.fault)
-        ⊎ IsEnded setting input.now (scanner_of text state.old) (scanner_of text state.new) (fault_at s state.new.fault))
+        ⊎ IsEnded setting input.now (scanner_of text state.old) (scanner_of text state.new)
+        (fault_at s state.new.fault))
         × IsStopped setting input.now (scanner_of text state.old) (scanner_of text state.new)) }
 {
     let (text, refusal) = match yaml_decode_front(state.alloc, input, setting) {

@@ -83,7 +83,8 @@ pub(crate) fn find_encoding(setting: yaml_encoding_t, input: &[u8]) -> (yaml_enc
     }
 }
 
-/// The encoding of an input: the one that is set, or else that of the byte order mark, or else UTF-8. Nothing is decoded.
+/// The encoding of an input: the one that is set, or else that of the byte order mark, or else UTF-8. Nothing is
+/// decoded.
 pub fn yaml_encoding_of(setting: yaml_encoding_t, input: &[u8]) -> yaml_encoding_t
     ensures { result ≡ encoding_of setting input.now }
 {

@@ -66,8 +66,8 @@ GaveRest s took = (tokens : List yaml_token_t) × (told_all s ≡ told_taken s +
 
 -- What a sink was given of an input: all, or all that is settled, or, if it refused a token, those before that one.
 abbrev pub GivesAll
-    : (List yaml_token_t → Type 0) → Type 0 → ℕ → yaml_encoding_t → List ℕ → Option yaml_fault_t → Result (Unit {0}) stop_t
-    → Type 0
+    : (List yaml_token_t → Type 0) → Type 0 → ℕ → yaml_encoding_t → List ℕ → Option yaml_fault_t
+    → Result (Unit {0}) stop_t → Type 0
 GivesAll took refuses limit setting input kept o = MatchResult o (λ _. IsGivenAll took limit setting input None)
     (λ stop. IsGivenAll took limit setting input (Some (fault_at stop kept))
     ⊎ ((stop ≡ SINK) × IsGivenFront took limit setting input × refuses))
