@@ -160,7 +160,11 @@ fn tokens_go_on_while_there_is_room(rt: HostRuntime) -> Result<(), Fail> {
         let count = count_of(rt.alloc(), input)?;
         for room in [1, 2, 3, 7, 1000] {
             for texts in [0, 1, 2, 5, 1000] {
-                assert_eq!(rt; given(rt.alloc(), input, room, texts)?, count, "{room} {texts}");
+                assert_eq!(rt;
+                    given(rt.alloc(), input, room, texts)?,
+                    count,
+                    "{room} {texts}"
+                );
             }
         }
     }
@@ -227,7 +231,10 @@ fn nothing_comes_after_the_end(rt: HostRuntime) -> Result<(), Fail> {
 /// The tokens before a fault go to the sink, and then the fault is returned once.
 #[test]
 fn fault_comes_after_its_tokens(rt: HostRuntime) -> Result<(), Fail> {
-    for input in [b"a: b: c".as_slice(), b"\xFE\xFF\0a\0:\0 \0b\0:\0 \0c".as_slice()] {
+    for input in [
+        b"a: b: c".as_slice(),
+        b"\xFE\xFF\0a\0:\0 \0b\0:\0 \0c".as_slice(),
+    ] {
         for (room, calls) in [(1, 7), (3, 3), (100, 1)] {
             let mut kept = kept_of(rt.alloc(), input);
             let mut shelf = shelf_t::new(rt.alloc(), input);
