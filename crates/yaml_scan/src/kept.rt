@@ -164,10 +164,7 @@ impl yaml_kept_parser_t {
 /// Takes the text of a kept parser out, for the same input. Before the first step it decodes the input, and makes that
 /// step.
 #[inline(always)]
-fn start_kept<'a>(
-    kept: &mut yaml_kept_parser_t,
-    input: &'a [u8],
-) -> Result<yaml_text_t<'a>, stop_t>
+fn start_kept<'a>(kept: &mut yaml_kept_parser_t, input: &'a [u8]) -> Result<yaml_text_t<'a>, stop_t>
     requires { (p : Parser) × (p.input ≡ input.now) × (p.session.over ≡ false) × IsKept p kept.old }
     ensures { (p : Parser) → p.input ≡ input.now → p.session.over ≡ false → (k : IsKept p kept.old)
         → StartsKept k.parser kept.old kept.new result }
@@ -229,10 +226,10 @@ fn end_kept(kept: &mut yaml_kept_parser_t, stop: stop_t) -> yaml_fault_t
     fault
 }
 
-/// Gives the next tokens of a kept parser to a sink, over the same input, until the stream end was given or the sink has
-/// no room for the next token. The parser then stands before that token, and if it is the room for its texts that is
-/// lacking, the token is shown: [`yaml_kept_parser_t::peeked`] returns it. The parser stays in its place, and a text that
-/// was decoded is not moved.
+/// Gives the next tokens of a kept parser to a sink, over the same input, until the stream end was given or the sink
+/// has no room for the next token. The parser then stands before that token, and if it is the room for its texts that
+/// is lacking, the token is shown: [`yaml_kept_parser_t::peeked`] returns it. The parser stays in its place, and a text
+/// that was decoded is not moved.
 ///
 /// The sink has to be one that never refuses a token. After the end of the session it is given nothing.
 ///
@@ -263,8 +260,8 @@ pub fn yaml_kept_scan_to<S: yaml_token_sink_t>(
     }
 }
 
-/// Shows the next token of a kept parser, over the same input: [`yaml_kept_parser_t::peeked`] returns it. If the session
-/// is over, there is none. The parser stays in its place, and a text that was decoded is not moved.
+/// Shows the next token of a kept parser, over the same input: [`yaml_kept_parser_t::peeked`] returns it. If the
+/// session is over, there is none. The parser stays in its place, and a text that was decoded is not moved.
 ///
 /// # Errors
 /// The same as of [`yaml_parser_scan`](crate::yaml_parser_scan).

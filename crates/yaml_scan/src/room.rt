@@ -43,12 +43,7 @@ fn next_len(_text: &yaml_text_t, state: &state_t) -> u128
 
 /// Shows the next token, which is at the head of the queue.
 #[inline(always)]
-fn show_head(
-    _text: &yaml_text_t,
-    state: &state_t,
-    session: &mut session_t,
-    lead: &mut yaml_token_t,
-)
+fn show_head(_text: &yaml_text_t, state: &state_t, session: &mut session_t, lead: &mut yaml_token_t)
     ensures { (i : Inside) → HasSettled i _text.now state.now → session.old ≡ i.session
         → ShowsTo i (with_parts i _text.now state.now session.new lead.new)
         × (parser_of (with_parts i _text.now state.now session.new lead.new) ≡ shown_in i state.now) }
@@ -96,8 +91,8 @@ fn has_more<S: yaml_token_sink_t>(session: &session_t, sink: &S) -> bool
     !session.over && sink.has_room(1, 0)
 }
 
-/// Has tokens go to the sink, or makes the steps that the next token needs. A token that was shown is at the head of the
-/// queue already. Returns whether no token went there.
+/// Has tokens go to the sink, or makes the steps that the next token needs. A token that was shown is at the head of
+/// the queue already. Returns whether no token went there.
 #[inline(always)]
 fn send_or_wait<S: yaml_token_sink_t>(
     text: &yaml_text_t,
@@ -142,8 +137,8 @@ fn give_head<S: yaml_token_sink_t>(
     };
 }
 
-/// Gives the next tokens to a sink, those of a step or the next one alone. If the sink has no room for the texts of that
-/// one, it is shown instead. Returns whether more tokens may go there.
+/// Gives the next tokens to a sink, those of a step or the next one alone. If the sink has no room for the texts of
+/// that one, it is shown instead. Returns whether more tokens may go there.
 #[inline(always)]
 fn give_or_show<S: yaml_token_sink_t>(
     text: &yaml_text_t,

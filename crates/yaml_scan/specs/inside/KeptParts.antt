@@ -16,7 +16,8 @@ use Rattle.yaml_scan.specs.Scanned.{GoesOnBy}
 use Rattle.yaml_scan.specs.Session.Call.{PEEK}
 use Rattle.yaml_scan.specs.Session.Answer.{PEEKED}
 use Rattle.yaml_scan.specs.Token.{yaml_token_t}
-use Rattle.yaml_scan.specs.inside.Ready.{IsEnded, IsSettled, IsShort, IsShown, IsStarted, IsStopped, Sound, fault_in, parser_of, scanner_in}
+use Rattle.yaml_scan.specs.inside.Ready.{IsEnded, IsSettled, IsShort, IsShown, IsStarted, IsStopped, Sound}
+use Rattle.yaml_scan.specs.inside.Ready.{fault_in, parser_of, scanner_in}
 use Rattle.yaml_scan.specs.inside.Scanner.{Scanner, scanner_of}
 use Rattle.yaml_scan.specs.inside.Stop.{fault_at}
 

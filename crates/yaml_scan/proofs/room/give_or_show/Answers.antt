@@ -35,7 +35,7 @@ returns-then-not-branch-clause-fewer g c = λ q.
     let i = r.0 in
     let b = r.1 in
     let w = has_sent i c.args.text.now c.send_or_wait.new.state (λ ts. g.S.yaml_token_sink_t.took c.args.sink.now ts c.send_or_wait.new.sink) g.S.yaml_token_sink_t.may_refuse c.in_ok-send_or_wait.field-0 c.if-not-branch.true
-        (c.in_ok-send_or_wait.ensures.sends i b (ap (λ (z : session_t). z.peeked) r.2)) in
+    (c.in_ok-send_or_wait.ensures.sends i b (ap (λ (z : session_t). z.peeked) r.2)) in
     fewer_sent i.setting i.input.now (scanner_in i) (scanner_of c.args.text.now c.args.state.now) (scanner_of c.args.text.now c.send_or_wait.new.state) b.started w.0 w.1
 
 -- THE NEXT TOKEN IS SHOWN
@@ -44,13 +44,13 @@ next_len-requires g c =
     let r = c.requires.at in (
       r.0,
       (settled_turn r.0 c.args.text.now c.args.state.now c.send_or_wait.new.state (λ ts. g.S.yaml_token_sink_t.took c.args.sink.now ts c.send_or_wait.new.sink) g.S.yaml_token_sink_t.may_refuse r.1 c.in_ok-send_or_wait.field-0 c.if-not-branch.false
-      (c.in_ok-send_or_wait.ensures.sends r.0 r.1 (ap (λ (z : session_t). z.peeked) r.2))).0,
+          (c.in_ok-send_or_wait.ensures.sends r.0 r.1 (ap (λ (z : session_t). z.peeked) r.2))).0,
     )
 
 pub returns-then-not-has_room-clause-gives : goal.returns-then-not-has_room-clause-gives
 returns-then-not-has_room-clause-gives g c = λ i b e.
     let k = settled_turn i c.args.text.now c.args.state.now c.send_or_wait.new.state (λ ts. g.S.yaml_token_sink_t.took c.args.sink.now ts c.send_or_wait.new.sink) g.S.yaml_token_sink_t.may_refuse b c.in_ok-send_or_wait.field-0 c.if-not-branch.false
-        (c.in_ok-send_or_wait.ensures.sends i b (ap (λ (z : session_t). z.peeked) e)) in
+    (c.in_ok-send_or_wait.ensures.sends i b (ap (λ (z : session_t). z.peeked) e)) in
     let j = with_parts i c.args.text.now c.send_or_wait.new.state c.show_head.new.session c.show_head.new.lead in
     let z = c.show_head.ensures i k.0 e in (
       [],
@@ -66,13 +66,13 @@ give_head-requires-clause-at g c =
     let r = c.requires.at in (
       r.0,
       (settled_turn r.0 c.args.text.now c.args.state.now c.send_or_wait.new.state (λ ts. g.S.yaml_token_sink_t.took c.args.sink.now ts c.send_or_wait.new.sink) g.S.yaml_token_sink_t.may_refuse r.1 c.in_ok-send_or_wait.field-0 c.if-not-branch.false
-      (c.in_ok-send_or_wait.ensures.sends r.0 r.1 (ap (λ (z : session_t). z.peeked) r.2))).0,
+          (c.in_ok-send_or_wait.ensures.sends r.0 r.1 (ap (λ (z : session_t). z.peeked) r.2))).0,
     )
 
 pub returns-clause-gives : goal.returns-clause-gives
 returns-clause-gives g c = λ i b e.
     let k = settled_turn i c.args.text.now c.args.state.now c.send_or_wait.new.state (λ ts. g.S.yaml_token_sink_t.took c.args.sink.now ts c.send_or_wait.new.sink) g.S.yaml_token_sink_t.may_refuse b c.in_ok-send_or_wait.field-0 c.if-not-branch.false
-        (c.in_ok-send_or_wait.ensures.sends i b (ap (λ (z : session_t). z.peeked) e)) in
+    (c.in_ok-send_or_wait.ensures.sends i b (ap (λ (z : session_t). z.peeked) e)) in
     let n = c.give_head.ensures.gives i k.0 e in
     let j = with_parts i c.args.text.now c.give_head.new.state c.give_head.new.session c.args.lead.now in (
       n.0 ∷ [],
@@ -90,5 +90,5 @@ returns-clause-fewer g c = λ q.
     let t = scanner_of c.args.text.now c.send_or_wait.new.state in
     let u = scanner_of c.args.text.now c.give_head.new.state in
     let k = settled_turn i c.args.text.now c.args.state.now c.send_or_wait.new.state (λ ts. g.S.yaml_token_sink_t.took c.args.sink.now ts c.send_or_wait.new.sink) g.S.yaml_token_sink_t.may_refuse b c.in_ok-send_or_wait.field-0 c.if-not-branch.false
-        (c.in_ok-send_or_wait.ensures.sends i b (ap (λ (z : session_t). z.peeked) r.2)) in
+    (c.in_ok-send_or_wait.ensures.sends i b (ap (λ (z : session_t). z.peeked) r.2)) in
     fewer_then i.setting i.input.now (scanner_in i) (scanner_of c.args.text.now c.args.state.now) t b.started (length (all_in u) - u.taken) k.0.settled c.give_head.ensures.fewer

@@ -11,10 +11,10 @@ use Rattle.yaml_scan.proofs.room.give_while_room.Given as goal
 
 abbrev pub invariant-tokens : goal.invariant-tokens
 invariant-tokens g l = ((i : Inside) → HasBegun i l.fn.text l.fn.state → l.fn.session ≡ i.session
-        → (l.more ≡ true → (HasBegun i l.text l.state × (l.session ≡ i.session) × g.S.yaml_token_sink_t.took l.fn.sink [] l.sink)
-            ⊎ ((tokens : List Token) × g.S.yaml_token_sink_t.took l.fn.sink tokens l.sink × GoesOnTo i (with_parts i l.text l.state l.session l.lead) tokens × (l.session.over ≡ false)))
-        × (l.more ≡ false → (tokens : List Token) × g.S.yaml_token_sink_t.took l.fn.sink tokens l.sink × GoesOnTo i (with_parts i l.text l.state l.session l.lead) tokens
-            × HasNoMoreRoom (g.S.yaml_token_sink_t.lacks l.sink) (parser_of (with_parts i l.text l.state l.session l.lead))))
+    → (l.more ≡ true → (HasBegun i l.text l.state × (l.session ≡ i.session) × g.S.yaml_token_sink_t.took l.fn.sink [] l.sink)
+    ⊎ ((tokens : List Token) × g.S.yaml_token_sink_t.took l.fn.sink tokens l.sink × GoesOnTo i (with_parts i l.text l.state l.session l.lead) tokens × (l.session.over ≡ false)))
+    × (l.more ≡ false → (tokens : List Token) × g.S.yaml_token_sink_t.took l.fn.sink tokens l.sink × GoesOnTo i (with_parts i l.text l.state l.session l.lead) tokens
+    × HasNoMoreRoom (g.S.yaml_token_sink_t.lacks l.sink) (parser_of (with_parts i l.text l.state l.session l.lead))))
     × (g.S.yaml_token_sink_t.within l.fn.sink → g.S.yaml_token_sink_t.within l.sink)
 
 abbrev pub decreases-tokens : goal.decreases-tokens
