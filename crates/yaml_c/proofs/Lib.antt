@@ -1,6 +1,7 @@
 pub mod TokensPut
 pub mod Rooms
 pub mod Scanned
+pub mod ShownTokens
 pub mod Batches
 pub mod BatchEnds
 pub mod SameEnds

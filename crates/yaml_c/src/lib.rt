@@ -17,6 +17,7 @@ mod room;
 mod sink;
 mod spelled;
 mod status;
+mod stubs;
 #[cfg(test)]
 mod tests;
 
