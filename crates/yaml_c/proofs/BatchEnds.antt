@@ -12,7 +12,7 @@ use Rattle.yaml_scan.specs.inside.Kept.{IsKept}
 use Rattle.yaml_scan.specs.declared.kept.yaml_kept_parser_t.{yaml_kept_parser_t}
 use Rattle.yaml_c.specs.Ahead.{Ahead, ahead_of}
 use Rattle.yaml_c.specs.Ahead.Ahead.{NONE, READ_FAULT, ALL_GIVEN}
-use Rattle.yaml_c.specs.Answer.{answer_of, answer_with, fault_texts}
+use Rattle.yaml_c.specs.Answer.{Rooms, answer_of, answer_with, fault_texts}
 use Rattle.yaml_c.specs.Held.{Scan, IsEndedBy, Stands, IsAt, Why, Tells, ComesFirst, IsNext, comes}
 use Rattle.yaml_c.specs.Next.{Next, need, next_of, shown_next}
 use Rattle.yaml_c.specs.Next.Next.{UNKNOWN, TOKEN, FAULT, OVER}
@@ -34,8 +34,8 @@ use Rattle.yaml_c.proofs.Rooms.{covered_by_none, covered_held, length-covered_fr
 use Rattle.yaml_c.proofs.TokensPut.{Fits, HavePut, have_put}
 
 -- nothing is given
-pub nothing_given : (s : Scan) (old : token_rooms_t) (h : held_t) (answer : bogzhami_answer) (code : ℕ) → IsAt s h
-    → (s.ahead ≡ ALL_GIVEN → code ≡ status.over) → Tells s (rooms_of old) [] None (comes s) answer code → IsNext s (rooms_of old) (rooms_of old) h answer code
+pub nothing_given : (s : Scan) (old : Rooms) (h : held_t) (answer : bogzhami_answer) (code : ℕ) → IsAt s h
+    → (s.ahead ≡ ALL_GIVEN → code ≡ status.over) → Tells s old [] None (comes s) answer code → IsNext s old old h answer code
 nothing_given s old h answer code at over tells = record {
   parser = s.parser;
   list = [];
@@ -52,8 +52,8 @@ nothing_given s old h answer code at over tells = record {
   };
   few = omega arith;
   fit = omega arith;
-  records_are = sym (covered_by_none old.tokens.now);
-  texts_are = sym (covered_by_none old.texts.now);
+  records_are = sym (covered_by_none old.tokens);
+  texts_are = sym (covered_by_none old.texts);
   ends = λ f e. absurd (cc);
   first = still_first (comes s);
   last = λ n e. absurd (n e);
@@ -65,12 +65,6 @@ nothing_given s old h answer code at over tells = record {
 pub spelled_is : (s : Scan) (spelled : spelled_t) (h : held_t) → s.input ≡ spelled.input.now → IsAt s h
     → spelled.skipped ≡ h.skipped → spelled_of spelled ≡ spelled_in s.setting s.input
 spelled_is s spelled h same at is = λ i. record { input = sym same i; skipped = (is ∙ at.skipped) i }
-
--- what the code has read ahead is all, if it is so as the definitions see it
-pub over_is : (a : ahead_t) → ahead_of a ≡ ALL_GIVEN → a ≡ code.OVER
-over_is code.NONE e = absurd (cc)
-over_is (code.FAULT f) e = absurd (cc)
-over_is code.OVER e = refl
 
 -- a fault that comes next was read ahead
 no_fault_shown : (o : Option Token) (f : Fault) → shown_next o ≡ FAULT f → ⊥
@@ -111,8 +105,8 @@ too_long records bytes [] (FAULT f) tight none some stops = (let h = tight f ref
 too_long records bytes [] OVER tight none some stops = absurd (omega arith)
 
 -- what a call leaves that read on
-module _ (s : Scan) (old mid : token_rooms_t) (a : Ahead) (h : held_t) (fits : Fits old) (no_token : old.token_count ≡ 0) (no_text : old.text_len ≡ 0)
-    (some : 0 < length old.tokens.now) (more : s.ahead ≡ ALL_GIVEN → ⊥) (g : GivesNext s old mid h.parser a)
+module _ (s : Scan) (old mid : token_rooms_t) (a : Ahead) (h : held_t) (g : GivesNext s old mid h.parser a) (fits : Fits old) (no_token : old.token_count ≡ 0)
+    (no_text : old.text_len ≡ 0) (some : 0 < length old.tokens.now) (more : s.ahead ≡ ALL_GIVEN → ⊥)
     (encoding : h.encoding ≡ encoding_number (encoding_of s.setting s.input))
     (skipped : h.skipped ≡ skipped_of s.setting s.input) (spelled : spelled_of old.spelled ≡ spelled_in s.setting s.input) where
   put : HavePut old g.list mid
@@ -213,11 +207,3 @@ module _ (s : Scan) (old mid : token_rooms_t) (a : Ahead) (h : held_t) (fits : F
       → IsNext s (rooms_of old) (rooms_of new) h answer code
   batch_is new b answer code is (inl e) = given_fault new b answer code is e
   batch_is new b answer code is (inr e) = subst (λ (z : token_rooms_t). IsNext s (rooms_of old) (rooms_of z) h answer code) (sym e.same) (given_none b answer code is e.after e.tight e.tells)
-
--- the rooms are the same ones
-pub same_rooms : (s : Scan) (old mid new : token_rooms_t) (kept : yaml_kept_parser_t) (a b : Ahead) (answer : bogzhami_answer) (code : ℕ) → Fits old
-    → (g : GivesNext s old mid kept a) → Ends g.parser mid a new b answer code → (new.tokens.ghost_name ≡ old.tokens.ghost_name) × (new.texts.ghost_name ≡ old.texts.ghost_name)
-same_rooms s old mid new kept a b answer code fits g (inl e) = let put = have_put old mid g.list fits g.put in
-    (ap (λ (z : MutBor (List bogzhami_token)). z.ghost_name) e.tokens ∙ put.same_tokens, e.same_texts ∙ put.same_texts)
-same_rooms s old mid new kept a b answer code fits g (inr e) = let put = have_put old mid g.list fits g.put in
-    (ap (λ (z : token_rooms_t). z.tokens.ghost_name) e.same ∙ put.same_tokens, ap (λ (z : token_rooms_t). z.texts.ghost_name) e.same ∙ put.same_texts)

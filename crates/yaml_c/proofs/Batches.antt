@@ -14,14 +14,17 @@ use Rattle.yaml_scan.specs.Sink.{said_len}
 use Rattle.yaml_scan.specs.declared.kept.yaml_kept_parser_t.{yaml_kept_parser_t}
 use Rattle.yaml_scan.specs.inside.Kept.{IsKept}
 use Rattle.yaml_scan.proofs.RunningCalls.ScansToTheEnd.{scans_begin, scans_end}
-use Rattle.yaml_c.specs.Ahead.{Ahead}
+use Rattle.yaml_c.specs.Ahead.{Ahead, ahead_of}
 use Rattle.yaml_c.specs.Ahead.Ahead.{NONE, READ_FAULT, ALL_GIVEN}
-use Rattle.yaml_c.specs.Held.{ComesFirst, IsFirst, Scan, Stands, comes}
+use Rattle.yaml_c.specs.Held.{ComesFirst, IsFirst, IsKeptAt, Scan, Stands, comes}
 use Rattle.yaml_c.specs.Next.{Next, need, next_of, shown_next}
 use Rattle.yaml_c.specs.Next.Next.{UNKNOWN, TOKEN, FAULT, OVER}
 use Rattle.yaml_c.specs.Record.{all_texts, texts_of}
 use Rattle.yaml_c.specs.inside.Batch.{GivesNext, Stops}
+use Rattle.yaml_c.specs.inside.MorePut.{none_put}
 use Rattle.yaml_c.specs.inside.Sink.{ArePut, IsWithin, Lacks}
+use Rattle.yaml_c.specs.declared.held.ahead_t.{ahead_t}
+use Rattle.yaml_c.specs.declared.held.ahead_t.TheVariants as code
 use Rattle.yaml_c.specs.declared.sink.token_rooms_t.{token_rooms_t}
 use Rattle.yaml_c.proofs.ShownTokens.{ends_with_token, fault_hides, shown_begins}
 use Rattle.yaml_c.proofs.TokensPut.{Fits, HavePut, have_put, said_is, same_sizes}
@@ -203,18 +206,36 @@ module _ (s : Scan) (old new : token_rooms_t) (kept : yaml_kept_parser_t) (fits 
         last = λ z. absurd (cc);
       }
 
--- nothing is given, since the fault comes next
-pub gives_none : (s : Scan) (old : token_rooms_t) (kept : yaml_kept_parser_t) (f : Fault) → IsKept s.parser kept → s.ahead ≡ READ_FAULT f
-    → Stands s.limit s.setting s.input s.parser s.given (READ_FAULT f) → ArePut old [] old → GivesNext s old old kept (READ_FAULT f)
-gives_none s old kept f keeps e here put = record {
+-- nothing is given, since it was known what comes next: the fault
+pub gives_none : (s : Scan) (old : token_rooms_t) (kept : yaml_kept_parser_t) (a : Ahead) → IsKeptAt s kept a → (a ≡ NONE → ⊥) → (a ≡ ALL_GIVEN → ⊥)
+    → GivesNext s old old kept a
+gives_none s old kept NONE at known more = absurd (known refl)
+gives_none s old kept ALL_GIVEN at known more = absurd (more refl)
+gives_none s old kept (READ_FAULT f) at known more = record {
   parser = s.parser;
-  keeps = keeps;
+  keeps = at.kept;
   list = [];
-  put = put;
+  put = none_put old;
   few = omega arith;
   fit = omega arith;
-  stands = subst (λ (z : List Token). Stands s.limit s.setting s.input s.parser z (READ_FAULT f)) (sym (append-nil s.given)) here;
+  stands = subst (λ (z : List Token). Stands s.limit s.setting s.input s.parser z (READ_FAULT f)) (sym (append-nil s.given))
+      (subst (λ (z : Ahead). Stands s.limit s.setting s.input s.parser s.given z) (sym at.ahead) at.stands);
   stops = tt;
-  first = subst (λ (n : Next). ComesFirst n [] None (FAULT f)) (sym (ap (λ (a : Ahead). next_of s.parser a) e)) (refl, inr refl);
+  first = subst (λ (z : Ahead). ComesFirst (next_of s.parser z) [] None (FAULT f)) at.ahead (refl, inr refl);
   last = λ z. absurd (cc);
 }
+
+-- WHAT THE CODE HAS READ AHEAD
+-- only tokens were given, if nothing was read ahead
+pub scanned_so_far : (s : Scan) (kept : yaml_kept_parser_t) (a : Ahead) → IsKeptAt s kept a → a ≡ NONE → Scanned s.limit s.setting s.input s.parser s.given false
+scanned_so_far s kept a at e = subst (λ (z : Ahead). Stands s.limit s.setting s.input s.parser s.given z) (sym at.ahead ∙ e) at.stands
+
+pub none_is : (a : ahead_t) → ahead_of a ≡ NONE → a ≡ code.NONE
+none_is code.NONE e = refl
+none_is (code.FAULT f) e = absurd (cc)
+none_is code.OVER e = absurd (cc)
+
+pub over_is : (a : ahead_t) → ahead_of a ≡ ALL_GIVEN → a ≡ code.OVER
+over_is code.NONE e = absurd (cc)
+over_is (code.FAULT f) e = absurd (cc)
+over_is code.OVER e = refl

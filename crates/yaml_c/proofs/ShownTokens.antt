@@ -49,6 +49,10 @@ is_shown false x t e = absurd (cc)
 pub is_peeked_token : (p : Parser) → p.session.peeked ≡ true → token_peeked p ≡ Some (token_shown p)
 is_peeked_token p e = if_true p.session.peeked (Some (token_shown p)) None e
 
+-- and none before it
+pub hides : (p : Parser) → p.session.peeked ≡ false → token_peeked p ≡ None
+hides p e = if_false p.session.peeked (Some (token_shown p)) None e
+
 -- no token is shown after a fault
 scan_hides : (limit : ℕ) (c : Course) (s : Session) (o : Option ListToken) → (after_scan limit c s o).peeked ≡ false
 scan_hides limit c s None = refl
@@ -63,7 +67,7 @@ fault_not_peeked p q f o (inl a) =
     ∙ scan_hides p.limit (course_read p) p.session next
 
 pub fault_hides : (p q : Parser) (f : Fault) → p.session.over ≡ false → Calls decoded_input SCAN p (FAULT f) q → token_peeked q ≡ None
-fault_hides p q f o calls = if_false q.session.peeked (Some (token_shown q)) None (fault_not_peeked p q f o calls)
+fault_hides p q f o calls = hides q (fault_not_peeked p q f o calls)
 
 -- a second peek shows the same
 no_peek : (o : Option Fault) (x : Token) → PEEKED x ≡ why o → ⊥

@@ -84,7 +84,10 @@ fn give(parser: &mut yaml_kept_parser_t, ahead: &mut ahead_t, rooms: &mut token_
     requires none { rooms.old.token_count ≡ 0 }
     requires no_text { rooms.old.text_len ≡ 0 }
     requires some { 0 < length rooms.old.tokens.now }
-    ensures { (s : Scan) → s.input ≡ rooms.old.spelled.input.now → IsKeptAt s parser.old (ahead_of ahead.old)
+    ensures same_tokens { rooms.new.tokens.ghost_name ≡ rooms.old.tokens.ghost_name }
+    ensures same_texts { rooms.new.texts.ghost_name ≡ rooms.old.texts.ghost_name }
+    ensures same_spare { rooms.new.spare.ghost_name ≡ rooms.old.spare.ghost_name }
+    ensures next { (s : Scan) → s.input ≡ rooms.old.spelled.input.now → IsKeptAt s parser.old (ahead_of ahead.old)
         → GivesNext s rooms.old rooms.new parser.new (ahead_of ahead.new) }
 {
     if let ahead_t::NONE = ahead {
@@ -107,7 +110,10 @@ fn end_batch(
     rooms: &mut token_rooms_t,
     answer: &mut bogzhami_answer,
 ) -> u32
-    ensures { (p : Parser) → IsKept p parser.now
+    ensures same_tokens { rooms.new.tokens.ghost_name ≡ rooms.old.tokens.ghost_name }
+    ensures same_texts { rooms.new.texts.ghost_name ≡ rooms.old.texts.ghost_name }
+    ensures same_spare { rooms.new.spare.ghost_name ≡ rooms.old.spare.ghost_name }
+    ensures ends { (p : Parser) → IsKept p parser.now
         → Ends p rooms.old (ahead_of ahead.old) rooms.new (ahead_of ahead.new) answer.new result }
 {
     if let ahead_t::FAULT(fault) = ahead {

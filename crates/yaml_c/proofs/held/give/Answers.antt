@@ -1,0 +1,84 @@
+use Rattle.std.proofs.Common.{rules, ◌≡◌, ◌<◌, ◌^◌, length, refl, sym, ap, ◌∙◌, subst, arith}
+use Rattle.yaml_scan.specs.KeptCalls.{GivesMore, GivesToFault, HasNoMoreRoom}
+use Rattle.yaml_scan.specs.Parser.{Parser}
+use Rattle.yaml_c.specs.Ahead.{Ahead, ahead_of}
+use Rattle.yaml_c.specs.Held.{Scan, IsKeptAt}
+use Rattle.yaml_c.specs.inside.Batch.{GivesNext}
+use Rattle.yaml_c.proofs.Batches.{gives_more, gives_none, gives_rest, gives_to_fault, none_is, scanned_so_far}
+use Rattle.yaml_c.proofs.TokensPut.{Fits, same_rooms}
+use Rattle.yaml_c.proofs.held.give.Goals as goal
+
+-- the stream end was given
+pub returns-then-is_over : goal.returns-then-is_over
+returns-then-is_over c =
+    let a = c.args.rooms.now in
+    let few : length a.tokens.now < 2 ^ 63 = search rules in
+    let short : length a.texts.now < 2 ^ 63 = search rules in
+    let r = c.requires in
+    let fits : Fits a = record { tokens = few; texts = short; token_count = omega (arith, r.none); text_len = omega (arith, r.no_text) } in
+    let within = c.in-Ok.ensures.within (record { few = omega (arith, r.none); fit = omega (arith, r.no_text) }) in
+    let first = scanned_so_far r.at.0 _ _ r.at.2 (ap ahead_of c.in-NONE.is) in
+    let n = same_rooms _ _ _ (c.in-Ok.ensures.more r.at.0.parser (first.input_is ∙ r.at.1) r.at.2.kept).2.given in
+    record {
+      same_tokens = n.tokens;
+      same_texts = n.texts;
+      same_spare = n.spare;
+      next = λ s same at.
+          let here = scanned_so_far s _ _ at (ap ahead_of c.in-NONE.is) in
+          let w = c.in-Ok.ensures.more s.parser (here.input_is ∙ same) at.kept in
+          gives_rest s a _ _ fits r.none r.no_text within (sym at.ahead ∙ ap ahead_of c.in-NONE.is) here w.0 w.1
+          (sym (c.is_over.ensures w.0 w.1) ∙ c.if-is_over.true) w.2;
+    }
+
+-- a room is full
+pub returns-else-is_over : goal.returns-else-is_over
+returns-else-is_over c =
+    let a = c.args.rooms.now in
+    let few : length a.tokens.now < 2 ^ 63 = search rules in
+    let short : length a.texts.now < 2 ^ 63 = search rules in
+    let r = c.requires in
+    let fits : Fits a = record { tokens = few; texts = short; token_count = omega (arith, r.none); text_len = omega (arith, r.no_text) } in
+    let within = c.in-Ok.ensures.within (record { few = omega (arith, r.none); fit = omega (arith, r.no_text) }) in
+    let first = scanned_so_far r.at.0 _ _ r.at.2 (ap ahead_of c.in-NONE.is) in
+    let n = same_rooms _ _ _ (c.in-Ok.ensures.more r.at.0.parser (first.input_is ∙ r.at.1) r.at.2.kept).2.given in
+    record {
+      same_tokens = n.tokens;
+      same_texts = n.texts;
+      same_spare = n.spare;
+      next = λ s same at.
+          let here = scanned_so_far s _ _ at (ap ahead_of c.in-NONE.is) in
+          let w = c.in-Ok.ensures.more s.parser (here.input_is ∙ same) at.kept in
+          subst (λ (z : Ahead). GivesNext s a c.yaml_kept_scan_to.new.sink c.yaml_kept_scan_to.new.kept z) (sym (ap ahead_of c.in-NONE.is))
+          (gives_more s a _ _ fits r.none r.no_text within (sym at.ahead ∙ ap ahead_of c.in-NONE.is) here w.0 w.1
+          (sym (c.is_over.ensures w.0 w.1) ∙ c.if-is_over.false) w.2 w.3);
+    }
+
+-- the fault comes next
+pub returns-in-Err : goal.returns-in-Err
+returns-in-Err c =
+    let a = c.args.rooms.now in
+    let few : length a.tokens.now < 2 ^ 63 = search rules in
+    let short : length a.texts.now < 2 ^ 63 = search rules in
+    let r = c.requires in
+    let fits : Fits a = record { tokens = few; texts = short; token_count = omega (arith, r.none); text_len = omega (arith, r.no_text) } in
+    let within = c.in-Err.ensures.within (record { few = omega (arith, r.none); fit = omega (arith, r.no_text) }) in
+    let first = scanned_so_far r.at.0 _ _ r.at.2 (ap ahead_of c.in-NONE.is) in
+    let n = same_rooms _ _ _ (c.in-Err.ensures.fault r.at.0.parser (first.input_is ∙ r.at.1) r.at.2.kept).2.given in
+    record {
+      same_tokens = n.tokens;
+      same_texts = n.texts;
+      same_spare = n.spare;
+      next = λ s same at.
+          let here = scanned_so_far s _ _ at (ap ahead_of c.in-NONE.is) in
+          let w = c.in-Err.ensures.fault s.parser (here.input_is ∙ same) at.kept in
+          gives_to_fault s a _ _ fits r.none r.no_text within (sym at.ahead ∙ ap ahead_of c.in-NONE.is) here w.0 _ w.1 w.2;
+    }
+
+-- it was known that the fault comes next
+pub returns-in_default : goal.returns-in_default
+returns-in_default c = record {
+  same_tokens = refl;
+  same_texts = refl;
+  same_spare = refl;
+  next = λ s same at. gives_none s c.args.rooms.now _ _ at (λ e. c.in_default.not-NONE (none_is _ e)) c.requires.more;
+}
