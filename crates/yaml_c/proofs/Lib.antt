@@ -6,3 +6,4 @@ pub mod Batches
 pub mod Looks
 pub mod BatchEnds
 pub mod SameEnds
+pub mod NothingHeld
