@@ -24,11 +24,10 @@ use crate::room::put_bytes;
 use crate::sink::{texts_len, token_rooms_t};
 use crate::spelled::{skipped_of, spelled_t};
 use crate::status::{DONE, FAULT, NO_ROOM, OVER};
-use crate::stubs::{is_over, peeked, yaml_kept_peek, yaml_kept_scan_to};
 use std::alloc::{AllocError, Global};
 use yaml_scan::{
-    yaml_decode_front, yaml_encoding_t, yaml_fault_t, yaml_kept_parser_t, yaml_parser_t,
-    yaml_token_t,
+    yaml_decode_front, yaml_encoding_t, yaml_fault_t, yaml_kept_parser_t, yaml_kept_peek,
+    yaml_kept_scan_to, yaml_parser_t, yaml_token_t,
 };
 
 /// What was read ahead of the tokens that were given. A token that was read ahead stays in the parser, which shows it.
@@ -65,7 +64,7 @@ fn need(parser: &yaml_kept_parser_t, ahead: &ahead_t) -> u64
     ensures { (p : Parser) → IsKept p parser.now → result ≡ held (need (next_of p (ahead_of ahead.now))) }
 {
     match ahead {
-        ahead_t::NONE => match peeked(parser) {
+        ahead_t::NONE => match parser.peeked() {
             Some(token) => text_len(token),
             None => 0,
         },
@@ -93,7 +92,7 @@ fn give(parser: &mut yaml_kept_parser_t, ahead: &mut ahead_t, rooms: &mut token_
     if let ahead_t::NONE = ahead {
         match yaml_kept_scan_to(parser, rooms.spelled.input, rooms) {
             Ok(_) => {
-                if is_over(parser) {
+                if parser.is_over() {
                     *ahead = ahead_t::OVER;
                 }
             }
@@ -278,7 +277,7 @@ fn show(
         token.old texts.old token.new texts.new answer.new result }
 {
     match ahead {
-        ahead_t::NONE => match peeked(parser) {
+        ahead_t::NONE => match parser.peeked() {
             Some(shown) => show_token(spelled, shown, token, texts, answer),
             None => unreachable!(),
         },

@@ -17,7 +17,6 @@ mod room;
 mod sink;
 mod spelled;
 mod status;
-mod stubs;
 #[cfg(test)]
 mod tests;
 

@@ -1,19 +1,29 @@
 //! A parser whose input was let go, and taken up again.
-ghost use Rattle.std.specs.Prelude.{◌≡◌, Some, true};
+ghost use Rattle.std.specs.Prelude.{◌≡◌, Some, true, false, [], List, IfErr, IfOk, option_map};
 ghost use Rattle.yaml_text.specs.Text.{Text};
 ghost use Rattle.yaml_text.specs.Kept.{IsKeptOf, KeptText};
 ghost use Rattle.yaml_scan.specs.ParserCalls.{course_read};
 ghost use Rattle.yaml_scan.specs.Sessions.{session_reach};
 ghost use Rattle.yaml_scan.specs.Parser.{Parser};
 ghost use Rattle.yaml_scan.specs.inside.Kept.{IsKept};
+ghost use Rattle.yaml_text.specs.Fault.{fault_of};
+ghost use Rattle.yaml_text.specs.Token.{Token, token_of};
+ghost use Rattle.yaml_scan.specs.Decoded.{decoded_input};
+ghost use Rattle.yaml_scan.specs.Headline.{Calls};
+ghost use Rattle.yaml_scan.specs.KeptCalls.{GivesMore, GivesToFault, HasNoMoreRoom, token_peeked};
+ghost use Rattle.yaml_scan.specs.ParserCalls.{token_shown};
+ghost use Rattle.yaml_scan.specs.Scanned.{GoesOnBy};
+ghost use Rattle.yaml_scan.specs.Session.Call.{SCAN, PEEK};
+ghost use Rattle.yaml_scan.specs.Session.Answer.{PEEKED};
 
 use crate::parser::{empty_text, yaml_parser_t};
 use crate::session::session_t;
 use crate::state::state_t;
+use crate::target::yaml_token_sink_t;
 use std::alloc::Global;
 use std::mem::replace;
 use yaml_text::{
-    yaml_encoding_t, yaml_kept_text_t, yaml_mark_t, yaml_text_t, yaml_token_t,
+    yaml_encoding_t, yaml_fault_t, yaml_kept_text_t, yaml_mark_t, yaml_text_t, yaml_token_t,
 };
 
 /// What is kept of a parser when its input is let go: all that it holds, and of its text what the input does not have.
@@ -121,4 +131,63 @@ impl yaml_kept_parser_t {
     {
         self.state.reach
     }
+
+    /// Whether the session is over: the stream end was taken, or a fault was returned.
+    pub fn is_over(&self) -> bool
+        ensures { (p : Parser) → IsKept p self.now → result ≡ p.session.over }
+    {
+        self.session.over
+    }
+
+    /// The token that was shown and was not taken since, if one was.
+    pub fn peeked(&self) -> Option<&yaml_token_t>
+        ensures { (p : Parser) → IsKept p self.now → option_map (λ t. token_of t.now) result ≡ token_peeked p }
+    {
+        unreachable!();
+    }
+}
+
+/// Gives the next tokens of a kept parser to a sink, over the same input, until the stream end was given or the sink has
+/// no room for the next token. The parser then stands before that token, and if it is the room for its texts that is
+/// lacking, the token is shown: [`yaml_kept_parser_t::peeked`] returns it. The parser stays in its place, and a text that
+/// was decoded is not moved.
+///
+/// The sink has to be one that never refuses a token. After the end of the session it is given nothing.
+///
+/// # Errors
+/// The same as of [`yaml_parser_scan`](crate::yaml_parser_scan), after the tokens before the fault went to the sink.
+pub fn yaml_kept_scan_to<S: yaml_token_sink_t>(
+    kept: &mut yaml_kept_parser_t,
+    input: &[u8],
+    sink: &mut S,
+) -> Result<(), yaml_fault_t>
+    requires at { (p : Parser) × (p.input ≡ input.now) × IsKept p kept.old }
+    requires takes { S.may_refuse → ⊥ }
+    ensures more { IfOk result (λ _. (p : Parser) → p.input ≡ input.now → IsKept p kept.old
+        → (q : Parser) × IsKept q kept.new × GivesMore p q (λ tokens. S.took sink.old tokens sink.new)
+        × HasNoMoreRoom (S.lacks sink.new) q) }
+    ensures fault { IfErr result (λ fault. (p : Parser) → p.input ≡ input.now → IsKept p kept.old
+        → (q : Parser) × IsKept q kept.new
+        × GivesToFault SCAN p q (λ tokens. S.took sink.old tokens sink.new) (fault_of fault)) }
+    ensures within { S.within sink.old → S.within sink.new }
+{
+    unreachable!();
+}
+
+/// Shows the next token of a kept parser, over the same input: [`yaml_kept_parser_t::peeked`] returns it. If the session
+/// is over, there is none. The parser stays in its place, and a text that was decoded is not moved.
+///
+/// # Errors
+/// The same as of [`yaml_parser_scan`](crate::yaml_parser_scan).
+pub fn yaml_kept_peek(kept: &mut yaml_kept_parser_t, input: &[u8]) -> Result<(), yaml_fault_t>
+    requires { (p : Parser) × (p.input ≡ input.now) × IsKept p kept.old }
+    ensures shows { IfOk result (λ _. (p : Parser) → p.input ≡ input.now → IsKept p kept.old
+        → (q : Parser) × IsKept q kept.new × Calls decoded_input PEEK p (PEEKED (token_shown q)) q
+        × GoesOnBy p [] q p.session.over
+        × (p.session.over ≡ false → q.session.peeked ≡ true)) }
+    ensures fault { IfErr result (λ fault. (p : Parser) → p.input ≡ input.now → IsKept p kept.old
+        → (q : Parser) × IsKept q kept.new
+        × GivesToFault PEEK p q (λ tokens. tokens ≡ []) (fault_of fault)) }
+{
+    unreachable!();
 }

@@ -39,7 +39,7 @@ mod waiting;
 pub use all::{yaml_scan_all, yaml_scan_all_limit};
 pub use batch::yaml_scan_next_to;
 pub use calls::{yaml_answer_t, yaml_call_t, yaml_run};
-pub use kept::yaml_kept_parser_t;
+pub use kept::{yaml_kept_parser_t, yaml_kept_peek, yaml_kept_scan_to};
 pub use parser::{
     yaml_parser_fault, yaml_parser_has_token, yaml_parser_mark, yaml_parser_peek,
     yaml_parser_queued, yaml_parser_scan, yaml_parser_skip, yaml_parser_t,
