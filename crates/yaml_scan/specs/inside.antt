@@ -16,3 +16,5 @@ pub mod Ready
 pub mod Shown
 pub mod Kept
 pub mod Sent
+pub mod KeptParts
+pub mod KeptEnds

@@ -137,9 +137,31 @@ fn drain<S: yaml_token_sink_t>(text: &yaml_text_t, state: &mut state_t, sink: &m
     any
 }
 
-/// Makes the first step, if it was not made, and the steps that the next token needs, or has the tokens of a step go to
-/// the sink. Once the next token is in the queue, it goes there with all of its group, and so do those after it, if
-/// they need not wait either. Returns whether no token went there.
+/// Makes the steps that the next token needs, or has the tokens of a step go to the sink. Once the next token is in the
+/// queue, it goes there with all of its group, and so do those after it, if they need not wait either. Returns whether
+/// no token went there.
+#[inline(always)]
+pub(crate) fn send_on<S: yaml_token_sink_t>(
+    text: &yaml_text_t,
+    state: &mut state_t,
+    sink: &mut S,
+) -> Result<bool, stop_t>
+    requires runs { IsRunning (scanner_of text.now state.old) }
+    requires still_open { IsOpen (scanner_of text.now state.old) }
+    requires words { HaveWords (told_all (scanner_of text.now state.old)) }
+    requires takes { S.may_refuse → ⊥ }
+    ensures sends { SendsOrSettles (scanner_of text.now state.old) (scanner_of text.now state.new)
+        (λ tokens. S.took sink.old tokens sink.new) S.may_refuse result }
+    ensures within { IfOk result (λ _. S.within sink.old → S.within sink.new) }
+{
+    if !send_or_settle(text, state, sink)? {
+        return Ok(false);
+    }
+    Ok(!drain(text, state, sink))
+}
+
+/// Makes the first step, if it was not made, and then has tokens go to the sink, or makes the steps that the next token
+/// needs. Returns whether no token went there.
 #[inline(always)]
 fn send<'a, S: yaml_token_sink_t>(
     text: &mut yaml_text_t<'a>,
@@ -155,10 +177,7 @@ fn send<'a, S: yaml_token_sink_t>(
     ensures within { IfOk result (λ _. S.within sink.old → S.within sink.new) }
 {
     start(text, state, input, setting)?;
-    if !send_or_settle(text, state, sink)? {
-        return Ok(false);
-    }
-    Ok(!drain(text, state, sink))
+    send_on(text, state, sink)
 }
 
 /// A token that is returned. This is called and not inlined, since else what goes to the sink is put together a few

@@ -6,6 +6,8 @@ ghost use Rattle.yaml_scan.specs.ParserCalls.{course_read};
 ghost use Rattle.yaml_scan.specs.Sessions.{session_reach};
 ghost use Rattle.yaml_scan.specs.Parser.{Parser};
 ghost use Rattle.yaml_scan.specs.inside.Kept.{IsKept};
+ghost use Rattle.yaml_scan.specs.inside.KeptEnds.{GivesKept, ShowsKept, StartsKept, ended_by};
+ghost use Rattle.yaml_scan.specs.inside.Stop.{fault_at};
 ghost use Rattle.yaml_text.specs.Fault.{fault_of};
 ghost use Rattle.yaml_text.specs.Token.{Token, token_of};
 ghost use Rattle.yaml_scan.specs.Decoded.{decoded_input};
@@ -16,8 +18,11 @@ ghost use Rattle.yaml_scan.specs.Scanned.{GoesOnBy};
 ghost use Rattle.yaml_scan.specs.Session.Call.{SCAN, PEEK};
 ghost use Rattle.yaml_scan.specs.Session.Answer.{PEEKED};
 
-use crate::parser::{empty_text, yaml_parser_t};
-use crate::session::session_t;
+use crate::fault::{fault_at, stop_t};
+use crate::groups::has_lead;
+use crate::parser::{begin, empty_text, yaml_parser_t};
+use crate::room::{give_while_room, show_next};
+use crate::session::{end, session_t};
 use crate::state::state_t;
 use crate::target::yaml_token_sink_t;
 use std::alloc::Global;
@@ -143,8 +148,85 @@ impl yaml_kept_parser_t {
     pub fn peeked(&self) -> Option<&yaml_token_t>
         ensures { (p : Parser) → IsKept p self.now → option_map (λ t. token_of t.now) result ≡ token_peeked p }
     {
-        unreachable!();
+        if !self.session.peeked {
+            None
+        } else if has_lead(&self.state.layout.queue) {
+            Some(&self.lead)
+        } else {
+            match self.state.layout.queue.groups.front() {
+                Some(head) => Some(&head.token),
+                None => None,
+            }
+        }
     }
+}
+
+/// Takes the text of a kept parser out, for the same input. Before the first step it decodes the input, and makes that
+/// step.
+#[inline(always)]
+fn start_kept<'a>(
+    kept: &mut yaml_kept_parser_t,
+    input: &'a [u8],
+) -> Result<yaml_text_t<'a>, stop_t>
+    requires { (p : Parser) × (p.input ≡ input.now) × (p.session.over ≡ false) × IsKept p kept.old }
+    ensures { (p : Parser) → p.input ≡ input.now → p.session.over ≡ false → (k : IsKept p kept.old)
+        → StartsKept k.parser kept.old kept.new result }
+{
+    if kept.state.made == 0 {
+        return begin(&mut kept.state, input, kept.setting);
+    }
+    match kept.text.take() {
+        Some(text) => Ok(text.text(input)),
+        None => unreachable!(),
+    }
+}
+
+/// Gives the next tokens of a kept parser, whose session is not over, to a sink that has room for one.
+#[inline(always)]
+fn scan_kept<S: yaml_token_sink_t>(
+    kept: &mut yaml_kept_parser_t,
+    input: &[u8],
+    sink: &mut S,
+) -> Result<(), stop_t>
+    requires at { (p : Parser) × (p.input ≡ input.now) × (p.session.over ≡ false) × IsKept p kept.old }
+    requires takes { S.may_refuse → ⊥ }
+    ensures gives { (p : Parser) → p.input ≡ input.now → p.session.over ≡ false → (k : IsKept p kept.old)
+        → GivesKept p k.parser kept.new (λ tokens. S.took sink.old tokens sink.new) (S.lacks sink.new) result }
+    ensures within { S.within sink.old → S.within sink.new }
+{
+    let text = start_kept(kept, input)?;
+    let given = give_while_room(
+        &text,
+        &mut kept.state,
+        &mut kept.session,
+        &mut kept.lead,
+        sink,
+    );
+    kept.text = Some(yaml_kept_text_t::new(text, input, kept.setting));
+    given
+}
+
+/// Shows the next token of a kept parser, whose session is not over.
+fn show_kept(kept: &mut yaml_kept_parser_t, input: &[u8]) -> Result<(), stop_t>
+    requires { (p : Parser) × (p.input ≡ input.now) × (p.session.over ≡ false) × IsKept p kept.old }
+    ensures { (p : Parser) → p.input ≡ input.now → p.session.over ≡ false → (k : IsKept p kept.old)
+        → ShowsKept p k.parser kept.new result }
+{
+    let text = start_kept(kept, input)?;
+    let shown = show_next(&text, &mut kept.state, &mut kept.session, &mut kept.lead);
+    kept.text = Some(yaml_kept_text_t::new(text, input, kept.setting));
+    shown
+}
+
+/// Ends the session of a kept parser with the fault of a stop, and returns that.
+#[cold]
+fn end_kept(kept: &mut yaml_kept_parser_t, stop: stop_t) -> yaml_fault_t
+    ensures fault { fault_of result ≡ fault_at stop kept.old.state.kept }
+    ensures ended { kept.new ≡ ended_by kept.old result }
+{
+    let fault = fault_at(stop, &kept.state.kept);
+    end(&mut kept.session, fault);
+    fault
 }
 
 /// Gives the next tokens of a kept parser to a sink, over the same input, until the stream end was given or the sink has
@@ -156,6 +238,7 @@ impl yaml_kept_parser_t {
 ///
 /// # Errors
 /// The same as of [`yaml_parser_scan`](crate::yaml_parser_scan), after the tokens before the fault went to the sink.
+#[inline(always)]
 pub fn yaml_kept_scan_to<S: yaml_token_sink_t>(
     kept: &mut yaml_kept_parser_t,
     input: &[u8],
@@ -171,7 +254,13 @@ pub fn yaml_kept_scan_to<S: yaml_token_sink_t>(
         × GivesToFault SCAN p q (λ tokens. S.took sink.old tokens sink.new) (fault_of fault)) }
     ensures within { S.within sink.old → S.within sink.new }
 {
-    unreachable!();
+    if kept.session.over || !sink.has_room(1, 0) {
+        return Ok(());
+    }
+    match scan_kept(kept, input, sink) {
+        Ok(_) => Ok(()),
+        Err(stop) => Err(end_kept(kept, stop)),
+    }
 }
 
 /// Shows the next token of a kept parser, over the same input: [`yaml_kept_parser_t::peeked`] returns it. If the session
@@ -189,5 +278,11 @@ pub fn yaml_kept_peek(kept: &mut yaml_kept_parser_t, input: &[u8]) -> Result<(),
         → (q : Parser) × IsKept q kept.new
         × GivesToFault PEEK p q (λ tokens. tokens ≡ []) (fault_of fault)) }
 {
-    unreachable!();
+    if kept.session.over {
+        return Ok(());
+    }
+    match show_kept(kept, input) {
+        Ok(_) => Ok(()),
+        Err(stop) => Err(end_kept(kept, stop)),
+    }
 }

@@ -22,6 +22,7 @@ mod look;
 mod met;
 mod near;
 mod parser;
+mod room;
 mod scanned;
 mod session;
 mod settled;

@@ -59,7 +59,7 @@ fn give_taken<S: yaml_token_sink_t>(sink: &mut S, token: yaml_token_t) -> Result
 /// Takes the head of the queue, and gives it to a sink. Returns whether it is the stream end. Each way in which a token
 /// is taken gives it by itself, so that the compiler moves it once.
 #[inline(always)]
-fn give_next<S: yaml_token_sink_t>(
+pub(crate) fn give_next<S: yaml_token_sink_t>(
     _text: &yaml_text_t,
     state: &mut state_t,
     sink: &mut S,

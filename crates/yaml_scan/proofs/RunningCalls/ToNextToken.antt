@@ -12,7 +12,10 @@ use Rattle.yaml_scan.specs.Decoded.{decoded_input}
 use Rattle.yaml_scan.specs.inside.Scanning.{Settles, Fails, Stops, Same, history, course_of, input_of}
 use Rattle.yaml_scan.specs.inside.Ready.{IsNew, IsReady, Begins, IsStarted, IsSettled, IsStopped, IsEnded, course_in}
 use Rattle.yaml_scan.specs.Token.{yaml_token_t}
-use Rattle.yaml_scan.specs.inside.Sent.{HasSent, Sends}
+use Rattle.std.specs.Prelude.{Result, Ok, Err}
+use Rattle.yaml_scan.specs.declared.fault.stop_t.{stop_t}
+use Rattle.yaml_scan.specs.inside.Sent.{HasSent, HasSentOrSettled, Sends, SendsOrSettles}
+use Rattle.yaml_scan.specs.inside.Stop.{fault_at}
 use Rattle.yaml_scan.proofs.RunningCalls.GivenTokens.{taken_is}
 use Rattle.yaml_scan.proofs.Course.StepsNeeded.{at_least}
 use Rattle.yaml_scan.proofs.RunningCalls.StepsMade.{open_too}
@@ -115,3 +118,17 @@ module _ (setting : yaml_encoding_t) (input : List ℕ) (s t u : Scanner) (b : I
         omega arith);
     no_end = k.no_end;
   }
+
+  -- the same, whatever came
+  pub sent_or_settled_in : (took : List yaml_token_t → Type 0) (refuses : Type 0) (result : Result Bool stop_t) → SendsOrSettles t u took refuses result → HasSentOrSettled setting input s u took refuses result
+  sent_or_settled_in took refuses (Ok true) w = (settled_in w.0, w.1)
+  sent_or_settled_in took refuses (Ok false) w = (w.0, sent_in w.0 w.1, w.2)
+  sent_or_settled_in took refuses (Err stop) (inr w) = inr w
+  sent_or_settled_in took refuses (Err stop) (inl w) = inl (
+    elim w.0 [
+      | inl m ↦ inl (record { fault = m; in_utf8 = λ e. begun_is })
+      | inr f ↦ inr (ended_in (fault_at stop u.kept) f)
+    ],
+    stopped_in w.1,
+    w.2,
+  )
