@@ -112,14 +112,14 @@ module _ (limit : ℕ) (setting : yaml_encoding_t) (input : List ℕ) (p : Parse
   ends_with_token q tokens w = elim (cases_lt 0 (length tokens)) [
     | inl some ↦ some
     | inr none ↦ absurd (
-      let all = w.whole refl in
-      let a = count p given false h in
-      let b = count q (given ++ tokens) true w in
-      let l = length-append given tokens in
-      let e : next_token limit C p.session ≡ None = get_none L p.session.taken (omega (arith, a, b, l, none, all.0)) in
-      let f = none_is_stuck limit (decoded_input setting input) h.calls (inputs_keep_order setting input) (sym (ap (λ (z : Session). z.over) h.calls_are) ∙ h.over)
-      (subst (λ (z : Session). next_token limit C z ≡ None) h.calls_are e) in
-      no_fault f.0 C.fault f.1 all.1)
+        let all = w.whole refl in
+        let a = count p given false h in
+        let b = count q (given ++ tokens) true w in
+        let l = length-append given tokens in
+        let e : next_token limit C p.session ≡ None = get_none L p.session.taken (omega (arith, a, b, l, none, all.0)) in
+        let f = none_is_stuck limit (decoded_input setting input) h.calls (inputs_keep_order setting input) (sym (ap (λ (z : Session). z.over) h.calls_are) ∙ h.over)
+        (subst (λ (z : Session). next_token limit C z ≡ None) h.calls_are e) in
+        no_fault f.0 C.fault f.1 all.1)
   ]
 
   -- a token that was peeked is there
