@@ -289,8 +289,8 @@ fn show(
     }
 }
 
-/// Shows the token that the next batch begins with, or the fault that comes next. Nothing is taken. Puts the answer, and
-/// returns the status.
+/// Shows the token that the next batch begins with, or the fault that comes next. Nothing is taken. Puts the answer,
+/// and returns the status.
 pub(crate) fn peek(
     held: &mut held_t,
     input: &[u8],

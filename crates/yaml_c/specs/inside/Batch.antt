@@ -75,8 +75,8 @@ TellsCounts rooms next answer code =
 
 -- It gives no fault: none comes next, or it finds no room.
 pub record GivesNoFault
-    (p : Parser) (old : token_rooms_t) (a : Ahead) (new : token_rooms_t) (b : Ahead) (answer : bogzhami_answer) (code : ℕ)
-    : Type 0 where
+    (p : Parser) (old : token_rooms_t) (a : Ahead) (new : token_rooms_t) (b : Ahead) (answer : bogzhami_answer)
+    (code : ℕ) : Type 0 where
   pub same : new ≡ old
   pub after : b ≡ a
   pub tight : (f : Fault) → a ≡ READ_FAULT f → length old.texts.now < old.text_len + length (fault_texts (Some f))

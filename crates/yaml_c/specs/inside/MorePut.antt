@@ -6,7 +6,14 @@ use Rattle.yaml_c.specs.inside.Sink.{ArePut, IsBeside, IsPut, IsWithin}
 use Rattle.yaml_c.specs.declared.sink.token_rooms_t.{token_rooms_t}
 
 pub none_put : (a : token_rooms_t) → IsBeside a a
-none_put a = record { same_spare = refl; tokens = refl; texts = refl; spelled = refl; token_count = refl; text_len = refl }
+none_put a = record {
+  same_spare = refl;
+  tokens = refl;
+  texts = refl;
+  spelled = refl;
+  token_count = refl;
+  text_len = refl;
+}
 
 put_beside : (a b c : token_rooms_t) (t : Token) → IsBeside a b → IsPut b t c → IsPut a t c
 put_beside a b c t e p = record {
