@@ -11,6 +11,7 @@ use Rattle.yaml_c.specs.declared.sink.token_rooms_t.{token_rooms_t}
 pub record IsPut (a : token_rooms_t) (token : Token) (b : token_rooms_t) : Type 0 where
   pub same_tokens : b.tokens.ghost_name ≡ a.tokens.ghost_name
   pub same_texts : b.texts.ghost_name ≡ a.texts.ghost_name
+  pub same_spare : b.spare.ghost_name ≡ a.spare.ghost_name
   pub spelled : b.spelled ≡ a.spelled
   pub token_count : b.token_count ≡ held (a.token_count + 1)
   pub text_len : b.text_len ≡ held (a.text_len + length (texts_of token))
@@ -18,8 +19,9 @@ pub record IsPut (a : token_rooms_t) (token : Token) (b : token_rooms_t) : Type 
       (record_of (spelled_of a.spelled) a.text_len token ∷ []) a.tokens.now
   pub texts : b.texts.now ≡ covered_from a.text_len (texts_of token) a.texts.now
 
--- nothing is put, but the spare list may be another
+-- nothing is put, but what stands in the place of the spare list may be another list
 pub record IsBeside (a b : token_rooms_t) : Type 0 where
+  pub same_spare : b.spare.ghost_name ≡ a.spare.ghost_name
   pub tokens : b.tokens ≡ a.tokens
   pub texts : b.texts ≡ a.texts
   pub spelled : b.spelled ≡ a.spelled
