@@ -1,5 +1,5 @@
 -- A parser that was kept without its input goes on as if it had kept it.
-use Rattle.std.proofs.Common.{◌≡◌, ℕ, ◌+◌, ◌≤◌, ◌<◌, ◌⊎◌, true, List, sym, subst, arith, inl, inr}
+use Rattle.std.proofs.Common.{◌≡◌, ℕ, ◌+◌, ◌≤◌, ◌<◌, true, List, sym, subst, arith, inl, inr}
 use Rattle.std.specs.Prelude.{false}
 use Rattle.yaml_text.specs.Text.{Text}
 use Rattle.yaml_text.specs.Decode.{front}

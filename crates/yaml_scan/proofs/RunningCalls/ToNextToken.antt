@@ -118,7 +118,7 @@ module _ (setting : yaml_encoding_t) (input : List ℕ) (s t u : Scanner) (b : I
   sent_or_settled_in took refuses (Err stop) (inl w) = inl (
     elim w.0 [
       | inl m ↦ inl (record { fault = m; in_utf8 = λ e. begun_is })
-      | inr f ↦ inr (ended_in (fault_at stop u.kept) f)
+      | inr f ↦ inr (ended_in (fault_at stop u.refusal) f)
     ],
     stopped_in w.1,
     w.2,

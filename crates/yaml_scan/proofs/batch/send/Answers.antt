@@ -1,7 +1,5 @@
-use Rattle.std.proofs.Common.{Bool, true, false, Result, Ok, Err, inl, inr, List}
+use Rattle.std.proofs.Common.{inl}
 use Rattle.std.proofs.lemmas.Result.{err_from_is_err_and}
-use Rattle.yaml_scan.specs.declared.fault.stop_t.{stop_t}
-use Rattle.yaml_scan.specs.Token.{yaml_token_t}
 use Rattle.yaml_scan.specs.inside.Scanner.{scanner_of}
 use Rattle.yaml_scan.proofs.RunningCalls.GivenToEnd.{words_then}
 use Rattle.yaml_scan.proofs.RunningCalls.ToNextToken.{sent_or_settled_in}

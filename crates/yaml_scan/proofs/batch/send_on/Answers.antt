@@ -1,4 +1,4 @@
-use Rattle.std.proofs.Common.{Bool, true, false, not, [], List, Ok, subst, sym, inl, inr}
+use Rattle.std.proofs.Common.{Bool, true, false, not, [], List, Ok, subst, sym}
 use Rattle.std.proofs.lemmas.Result.{err_from_is_err_and}
 use Rattle.yaml_scan.specs.Token.{yaml_token_t}
 use Rattle.yaml_scan.specs.Words.{HaveWords}

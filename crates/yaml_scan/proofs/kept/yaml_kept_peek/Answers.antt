@@ -1,5 +1,4 @@
-use Rattle.std.proofs.Common.{◌≡◌, Bool, List, [], ap, sym, ◌∙◌, subst}
-use Rattle.yaml_scan.specs.Parser.{Parser}
+use Rattle.std.proofs.Common.{◌≡◌, Bool, List, [], sym, ◌∙◌, subst}
 use Rattle.yaml_scan.specs.Scanned.{GoesOnBy}
 use Rattle.yaml_scan.specs.Token.{yaml_token_t}
 use Rattle.yaml_scan.specs.declared.kept.yaml_kept_parser_t.{yaml_kept_parser_t}

@@ -1,5 +1,4 @@
-use Rattle.std.proofs.Common.{◌≡◌, List, ap, sym, ◌∙◌, subst, true, false, inl, inr}
-use Rattle.yaml_scan.specs.Parser.{Parser}
+use Rattle.std.proofs.Common.{List, sym, ◌∙◌, subst, inl, inr}
 use Rattle.yaml_scan.specs.Token.{yaml_token_t}
 use Rattle.yaml_scan.specs.declared.kept.yaml_kept_parser_t.{yaml_kept_parser_t}
 use Rattle.yaml_scan.specs.inside.Kept.{IsKept}

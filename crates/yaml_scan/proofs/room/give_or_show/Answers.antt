@@ -1,4 +1,4 @@
-use Rattle.std.proofs.Common.{◌≡◌, true, false, ◌∷◌, ◌-◌, [], length, ap, sym, ◌∙◌}
+use Rattle.std.proofs.Common.{◌∷◌, ◌-◌, [], length, ap, ◌∙◌}
 use Rattle.std.proofs.lemmas.Bool.{false≢true}
 use Rattle.std.proofs.lemmas.Result.{err_from_is_err_and}
 use Rattle.yaml_scan.specs.declared.session.session_t.{session_t}

@@ -1,4 +1,4 @@
-use Rattle.std.proofs.Common.{◌≡◌, ◌⊎◌, true, false, List, [], ◌++◌, refl, inl, inr}
+use Rattle.std.proofs.Common.{◌≡◌, true, false, List, [], ◌++◌, refl, inl, inr}
 use Rattle.std.proofs.lemmas.Result.{err_from_is_err_and}
 use Rattle.yaml_text.specs.Token.{Token}
 use Rattle.yaml_scan.specs.declared.parser.yaml_parser_t.TheInside.{Inside}

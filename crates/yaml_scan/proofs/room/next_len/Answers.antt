@@ -1,4 +1,4 @@
-use Rattle.std.proofs.Common.{◌≡◌, ◌<◌, ◌≤◌, drop, length, ap, sym, ◌∙◌, arith, ltb-true, ltb-false}
+use Rattle.std.proofs.Common.{◌<◌, ◌≤◌, drop, length, ap, sym, ◌∙◌, arith, ltb-true, ltb-false}
 use Rattle.std.proofs.lemmas.Bool.{false≢true}
 use Rattle.yaml_text.specs.Token.{token_of}
 use Rattle.yaml_scan.specs.Groups.{handed_out, offline}
