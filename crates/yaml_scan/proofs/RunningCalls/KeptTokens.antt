@@ -1,11 +1,10 @@
 -- The tokens of a kept parser, by the parts that it is scanned with.
-use Rattle.std.proofs.Common.{◌≡◌, ℕ, ◌+◌, ◌-◌, ◌≤◌, ◌<◌, Bool, true, false, List, [], ◌∷◌, ◌++◌, length, drop, slice_get, Option, Some, None, refl, ap, sym, ◌∙◌, subst, arith, inl, inr}
-use Rattle.std.specs.Prelude.{◌⊎◌, option_map, MatchResult, Result, Ok, Err}
+use Rattle.std.proofs.Common.{◌≡◌, ℕ, Bool, true, false, List, [], ◌∷◌, ◌++◌, drop, slice_get, Option, Some, refl, ap, sym, ◌∙◌, subst, arith, inl, inr}
+use Rattle.std.specs.Prelude.{◌⊎◌, MatchResult, Result, Ok, Err}
 use Rattle.std.proofs.lemmas.Bool.{false≢true}
-use Rattle.yaml_text.specs.Fault.{Fault, fault_of, memory_fault}
+use Rattle.yaml_text.specs.Fault.{Fault, memory_fault}
 use Rattle.yaml_text.specs.Text.{Text}
 use Rattle.yaml_text.specs.Token.{token_of}
-use Rattle.yaml_text.specs.declared.fault.yaml_fault_t.{yaml_fault_t}
 use Rattle.yaml_text.specs.declared.token.yaml_token_t.{yaml_token_t as code_token_t}
 use Rattle.yaml_text.specs.declared.types.yaml_encoding_t.{yaml_encoding_t}
 use Rattle.yaml_scan.specs.declared.fault.stop_t.{stop_t}
@@ -14,24 +13,23 @@ use Rattle.yaml_scan.specs.declared.session.session_t.{session_t}
 use Rattle.yaml_scan.specs.declared.state.state_t.{state_t}
 use Rattle.yaml_scan.specs.Course.{Course}
 use Rattle.yaml_scan.specs.Decoded.{decoded_input}
-use Rattle.yaml_scan.specs.Groups.{Token, handed_out, offline}
+use Rattle.yaml_scan.specs.Groups.{offline}
 use Rattle.yaml_scan.specs.Headline.{Calls}
-use Rattle.yaml_scan.specs.KeptCalls.{ComesFirst, HasNoMoreRoom, token_peeked}
+use Rattle.yaml_scan.specs.KeptCalls.{HasNoMoreRoom, token_peeked}
 use Rattle.yaml_scan.specs.Parser.{Parser, course_by}
-use Rattle.yaml_scan.specs.ParserCalls.{after_call, token_or_empty, token_shown}
+use Rattle.yaml_scan.specs.ParserCalls.{token_or_empty, token_shown}
 use Rattle.yaml_scan.specs.Scanned.{GoesOnBy, Scanned}
 use Rattle.yaml_scan.specs.Session.Call.{PEEK, SCAN}
 use Rattle.yaml_scan.specs.Session.Answer.{PEEKED, TOKEN}
-use Rattle.yaml_scan.specs.Settled.{before, pace, tokens_of}
+use Rattle.yaml_scan.specs.Settled.{pace, tokens_of}
 use Rattle.yaml_scan.specs.Sink.{said_len}
 use Rattle.yaml_scan.specs.Token.{yaml_token_t, type_of}
 use Rattle.yaml_scan.specs.TokenTypes.{is_last_type}
-use Rattle.yaml_scan.specs.inside.Given.{all_in}
 use Rattle.yaml_scan.specs.inside.KeptParts.{GoesOnTo, HasBegun, HasSettled, SettlesNext, ShowsTo, StopsAfter, shown_in, with_parts}
 use Rattle.yaml_scan.specs.inside.Queue.{IsLead}
-use Rattle.yaml_scan.specs.inside.Ready.{IsEnded, IsIn, IsSettled, IsShort, IsShown, IsStarted, IsStopped, Pops, Sound, course_in, fault_in, parser_of, scanner_in}
+use Rattle.yaml_scan.specs.inside.Ready.{IsEnded, IsIn, IsSettled, IsShort, IsShown, IsStopped, Pops, Sound, course_in, fault_in, parser_of, scanner_in}
 use Rattle.yaml_scan.specs.inside.Scanner.{Scanner, scanner_of}
-use Rattle.yaml_scan.specs.inside.Scanning.{Fails, Settles, Stops, course_of, history}
+use Rattle.yaml_scan.specs.inside.Scanning.{Fails, Settles, Stops, history}
 use Rattle.yaml_scan.specs.inside.Sent.{HasSent, HasSentOrSettled}
 use Rattle.yaml_scan.specs.inside.Stop.{fault_at}
 use Rattle.yaml_scan.specs.inside.Shown.{Shows}

@@ -9,7 +9,7 @@ use Rattle.yaml_scan.specs.Settled.{before}
 use Rattle.yaml_scan.specs.Settled.{settled, steps_for, pace, first_steps, tokens_of}
 use Rattle.yaml_scan.specs.Session.{all_steps}
 use Rattle.yaml_scan.specs.Decoded.{decoded_input}
-use Rattle.yaml_scan.specs.inside.Scanning.{Settles, Fails, Stops, Same, history, course_of, input_of}
+use Rattle.yaml_scan.specs.inside.Scanning.{Settles, Fails, Stops, Same, course_of, input_of}
 use Rattle.yaml_scan.specs.inside.Ready.{IsNew, IsReady, Begins, IsStarted, IsSettled, IsStopped, IsEnded, course_in}
 use Rattle.yaml_scan.specs.Token.{yaml_token_t}
 use Rattle.std.specs.Prelude.{Result, Ok, Err}

@@ -1,5 +1,5 @@
 use Rattle.std.proofs.Common.{◌≡◌, Bool, Err, Ok, Some, true, false, refl, sym, ap, ◌∙◌, inl, inr, subst, arith}
-use Rattle.std.specs.Prelude.{◌⊎◌, List, [], ◌∷◌, Option, None, option_map}
+use Rattle.std.specs.Prelude.{◌⊎◌, List, [], ◌∷◌, Option, None}
 use Rattle.std.proofs.lemmas.Bool.{false≢true}
 use Rattle.yaml_text.specs.Fault.{Fault, fault_of}
 use Rattle.yaml_text.specs.Token.{token_of}

@@ -1,7 +1,7 @@
 use Rattle.std.proofs.Common.{◌≡◌, sym, subst, ◌∙◌, inr, arith}
 use Rattle.std.specs.Prelude.{◌⊎◌}
 use Rattle.std.proofs.lemmas.Bool.{false≢true}
-use Rattle.yaml_text.specs.Fault.{Fault, fault_of}
+use Rattle.yaml_text.specs.Fault.{Fault}
 use Rattle.yaml_scan.specs.inside.Scanner.{scanner_of}
 use Rattle.yaml_scan.specs.inside.Ready.{fault_in, parser_of, IsShort, IsEnded, scanner_in}
 use Rattle.yaml_scan.proofs.RunningCalls.CallAnswers.{show_token, show_fault_of, open_session, open_as, none_failed}

@@ -1,5 +1,5 @@
 use Rattle.std.proofs.Common.{◌≡◌, Err, Some, true, false, refl, sym, ap, ◌∙◌, inr, subst, arith}
-use Rattle.std.specs.Prelude.{◌⊎◌, option_map}
+use Rattle.std.specs.Prelude.{◌⊎◌}
 use Rattle.std.proofs.lemmas.Bool.{false≢true}
 use Rattle.yaml_text.specs.Fault.{Fault, fault_of}
 use Rattle.yaml_text.specs.Token.{token_of}
