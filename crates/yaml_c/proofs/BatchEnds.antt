@@ -1,5 +1,5 @@
 -- The end of a batch: what a call leaves that gives the next tokens.
-use Rattle.std.proofs.Common.{◌≡◌, ◌++◌, ◌∷◌, [], ◌⊎◌, ℕ, ◌+◌, ◌<◌, ◌^◌, List, Option, Some, None, length, refl, sym, ap, ◌∙◌, subst, arith, inl, inr, length-append, append-nil, MutBor}
+use Rattle.std.proofs.Common.{◌≡◌, ◌++◌, ◌∷◌, [], ℕ, ◌+◌, ◌<◌, ◌^◌, List, Option, Some, None, length, refl, sym, ap, ◌∙◌, subst, arith, inl, inr, length-append, append-nil, MutBor}
 use Rattle.std.proofs.lemmas.List.{nil_from_length}
 use Rattle.yaml_text.specs.Decode.{encoding_of}
 use Rattle.yaml_text.specs.Fault.{Fault}
@@ -8,8 +8,6 @@ use Rattle.yaml_text.specs.Types.{encoding_number}
 use Rattle.yaml_scan.specs.All.{ReadsAll}
 use Rattle.yaml_scan.specs.KeptCalls.{token_peeked}
 use Rattle.yaml_scan.specs.Parser.{Parser}
-use Rattle.yaml_scan.specs.inside.Kept.{IsKept}
-use Rattle.yaml_scan.specs.declared.kept.yaml_kept_parser_t.{yaml_kept_parser_t}
 use Rattle.yaml_c.specs.Ahead.{Ahead, ahead_of}
 use Rattle.yaml_c.specs.Ahead.Ahead.{NONE, READ_FAULT, ALL_GIVEN}
 use Rattle.yaml_c.specs.Answer.{Rooms, answer_of, answer_with, fault_texts}
@@ -23,8 +21,6 @@ use Rattle.yaml_c.specs.Spelled.{Spelled, skipped_of, spelled_in}
 use Rattle.yaml_c.specs.inside.Spelled.{spelled_of}
 use Rattle.yaml_c.specs.Status as status
 use Rattle.yaml_c.specs.declared.answer.bogzhami_answer.{bogzhami_answer}
-use Rattle.yaml_c.specs.declared.held.ahead_t.{ahead_t}
-use Rattle.yaml_c.specs.declared.held.ahead_t.TheVariants as code
 use Rattle.yaml_c.specs.declared.held.held_t.{held_t}
 use Rattle.yaml_c.specs.declared.record.bogzhami_token.{bogzhami_token}
 use Rattle.yaml_c.specs.declared.spelled.spelled_t.{spelled_t}

@@ -1,5 +1,5 @@
 -- Tokens that are given to two rooms make a batch.
-use Rattle.std.proofs.Common.{◌≡◌, ◌++◌, ◌∷◌, [], ◌⊎◌, ℕ, ◌+◌, ◌≤◌, ◌<◌, ◌^◌, Bool, true, false, List, Option, Some, None, length, refl, ap, sym, ◌∙◌, subst, arith, inl, inr, append-nil}
+use Rattle.std.proofs.Common.{◌≡◌, ◌++◌, ◌∷◌, [], ◌⊎◌, ℕ, ◌+◌, ◌≤◌, ◌<◌, Bool, true, false, List, Option, Some, None, length, refl, ap, sym, ◌∙◌, subst, arith, inl, inr, append-nil}
 use Rattle.yaml_text.specs.declared.types.yaml_encoding_t.{yaml_encoding_t}
 use Rattle.yaml_text.specs.Fault.{Fault}
 use Rattle.yaml_text.specs.Token.{Token}
@@ -16,10 +16,10 @@ use Rattle.yaml_scan.specs.inside.Kept.{IsKept}
 use Rattle.yaml_scan.proofs.RunningCalls.ScansToTheEnd.{scans_begin, scans_end}
 use Rattle.yaml_c.specs.Ahead.{Ahead, ahead_of}
 use Rattle.yaml_c.specs.Ahead.Ahead.{NONE, READ_FAULT, ALL_GIVEN}
-use Rattle.yaml_c.specs.Held.{ComesFirst, IsFirst, IsKeptAt, Scan, Stands, comes}
+use Rattle.yaml_c.specs.Held.{ComesFirst, IsKeptAt, Scan, Stands, comes}
 use Rattle.yaml_c.specs.Next.{Next, need, next_of, shown_next}
 use Rattle.yaml_c.specs.Next.Next.{UNKNOWN, TOKEN, FAULT, OVER}
-use Rattle.yaml_c.specs.Record.{all_texts, texts_of}
+use Rattle.yaml_c.specs.Record.{all_texts}
 use Rattle.yaml_c.specs.inside.Batch.{GivesNext, Stops}
 use Rattle.yaml_c.specs.inside.MorePut.{none_put}
 use Rattle.yaml_c.specs.inside.Sink.{ArePut, IsWithin, Lacks}

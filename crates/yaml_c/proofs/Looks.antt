@@ -1,9 +1,8 @@
 -- A look at what comes next.
-use Rattle.std.proofs.Common.{◌≡◌, ◌++◌, ◌∷◌, [], ◌⊎◌, ℕ, Bool, true, false, List, Option, Some, None, refl, ap, sym, ◌∙◌, subst, inl, inr, append-nil}
+use Rattle.std.proofs.Common.{◌≡◌, ◌++◌, ◌∷◌, [], Bool, true, false, List, Option, Some, None, refl, ap, sym, ◌∙◌, subst, inl, inr, append-nil}
 use Rattle.std.proofs.lemmas.Bool.{cases_Bool}
 use Rattle.yaml_text.specs.declared.fault.yaml_fault_t.{yaml_fault_t}
-use Rattle.yaml_text.specs.declared.types.yaml_encoding_t.{yaml_encoding_t}
-use Rattle.yaml_text.specs.Fault.{Fault, fault_of}
+use Rattle.yaml_text.specs.Fault.{fault_of}
 use Rattle.yaml_text.specs.Token.{Token}
 use Rattle.yaml_scan.specs.All.{ReadsAll}
 use Rattle.yaml_scan.specs.Decoded.{decoded_input}
@@ -20,8 +19,8 @@ use Rattle.yaml_scan.proofs.RunningCalls.CallAnswers.{scan_not_shown}
 use Rattle.yaml_c.specs.Ahead.{Ahead}
 use Rattle.yaml_c.specs.Ahead.Ahead.{NONE, READ_FAULT, ALL_GIVEN}
 use Rattle.yaml_c.specs.Held.{IsKeptAt, Scan, Stands, comes}
-use Rattle.yaml_c.specs.Next.{Next, next_of, shown_next}
-use Rattle.yaml_c.specs.Next.Next.{UNKNOWN, TOKEN, FAULT, OVER}
+use Rattle.yaml_c.specs.Next.{next_of, shown_next}
+use Rattle.yaml_c.specs.Next.Next.{UNKNOWN, TOKEN}
 use Rattle.yaml_c.specs.inside.Batch.{Looks}
 use Rattle.yaml_c.proofs.Batches.{of_input, own}
 use Rattle.yaml_c.proofs.ShownTokens.{fault_hides, hides, is_peeked_token, shows_same}

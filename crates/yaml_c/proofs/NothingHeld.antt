@@ -1,26 +1,13 @@
 -- A value of the type of what is held. A handle that holds nothing knows of some such value, of which nothing is said.
-use Rattle.std.proofs.Common.{◌≤◌, ◌<◌, ◌^◌, [], None, false, refl, pos, lit<, lit≤}
+use Rattle.std.proofs.Common.{[], None, false, refl, lit<, lit≤}
 use denote.RawPtr.{null_ptr}
 use Rattle.std.specs.VecDeque.Ownership.{misplacement}
 use Rattle.yaml_text.specs.Fault.{zero_mark}
-use Rattle.yaml_text.specs.declared.fault.yaml_fault_t.{yaml_fault_t}
-use Rattle.yaml_text.specs.declared.types.yaml_error_type_t.TheVariants.{YAML_MEMORY_ERROR}
 use Rattle.yaml_text.specs.declared.types.yaml_encoding_t.TheVariants.{YAML_ANY_ENCODING}
 use Rattle.yaml_text.specs.declared.token.unnamed_yaml_token_t_data.TheVariants.{NO_TOKEN}
 use Rattle.yaml_scan.specs.declared.kept.yaml_kept_parser_t.{yaml_kept_parser_t}
 use Rattle.yaml_c.specs.Handle.{held, heap}
 use Rattle.yaml_c.specs.declared.held.ahead_t.TheVariants.{NONE}
-
-no_fault : yaml_fault_t
-no_fault = record {
-  error = YAML_MEMORY_ERROR;
-  problem = None;
-  problem_offset = 0;
-  problem_value = pos 0;
-  problem_mark = zero_mark;
-  context = None;
-  context_mark = zero_mark;
-}
 
 no_parser : yaml_kept_parser_t
 unfolding misplacement
@@ -29,7 +16,7 @@ no_parser = record {
   text = None;
   state = record {
     alloc = heap;
-    refusal = None;
+    fault = None;
     near = 0;
     limit = 0;
     slots = record {
@@ -62,11 +49,10 @@ no_parser = record {
     reach = zero_mark;
     front = zero_mark;
     there = zero_mark;
-    kept = no_fault;
     taken = 0;
     made = 0;
   };
-  session = record { peeked = false; over = false; fault = None };
+  session = record { peeked = false; over = false; failed = false };
   lead = record { token_data = NO_TOKEN; start_mark = zero_mark; end_mark = zero_mark };
 }
 

@@ -16,9 +16,9 @@ use Rattle.yaml_scan.specs.Headline.{Calls}
 use Rattle.yaml_scan.specs.Inputs.{answers_to}
 use Rattle.yaml_scan.specs.KeptCalls.{token_peeked}
 use Rattle.yaml_scan.specs.Parser.{Parser, course_by}
-use Rattle.yaml_scan.specs.ParserCalls.{course_read, input_read, answered, after_call, token_or_empty, token_shown}
+use Rattle.yaml_scan.specs.ParserCalls.{course_read, input_read, token_or_empty, token_shown}
 use Rattle.yaml_scan.specs.Scanned.{Scanned}
-use Rattle.yaml_scan.specs.Session.{Session, Call, Answer, after, next_token}
+use Rattle.yaml_scan.specs.Session.{Session, Call, after, next_token}
 use Rattle.yaml_scan.specs.Session.Answer.{PEEKED, FAULT}
 use Rattle.yaml_scan.specs.Session.Call.{SCAN, PEEK}
 use Rattle.yaml_scan.specs.Sessions.{after_all, new_session}

@@ -1,5 +1,5 @@
 -- A batch, as the code makes it in two rooms: the next tokens, and then the fault.
-use Rattle.std.specs.Prelude.{◌≡◌, ◌≢◌, ◌⊎◌, ◌++◌, ℕ, ◌+◌, ◌≤◌, ◌<◌, List, length, Option, Some, None}
+use Rattle.std.specs.Prelude.{◌≡◌, ◌≢◌, ◌⊎◌, ◌++◌, ℕ, ◌+◌, ◌≤◌, ◌<◌, List, length, Some, None}
 use Rattle.yaml_text.specs.Fault.{Fault}
 use Rattle.yaml_text.specs.Token.{Token}
 use Rattle.yaml_scan.specs.All.{ReadsAll}
@@ -7,7 +7,7 @@ use Rattle.yaml_scan.specs.Parser.{Parser}
 use Rattle.yaml_scan.specs.declared.kept.yaml_kept_parser_t.{yaml_kept_parser_t}
 use Rattle.yaml_scan.specs.inside.Kept.{IsKept}
 use Rattle.yaml_c.specs.Ahead.{Ahead}
-use Rattle.yaml_c.specs.Ahead.Ahead.{NONE, READ_FAULT, ALL_GIVEN}
+use Rattle.yaml_c.specs.Ahead.Ahead.{READ_FAULT, ALL_GIVEN}
 use Rattle.yaml_c.specs.Answer.{Rooms, answer_with, fault_texts}
 use Rattle.yaml_c.specs.Held.{Scan, ComesFirst, IsKeptAt, Stands, comes, looked}
 use Rattle.yaml_c.specs.Next.{Next, need, next_of}

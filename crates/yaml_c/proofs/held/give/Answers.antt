@@ -1,8 +1,5 @@
-use Rattle.std.proofs.Common.{rules, ◌≡◌, ◌<◌, ◌^◌, length, refl, sym, ap, ◌∙◌, subst, arith}
-use Rattle.yaml_scan.specs.KeptCalls.{GivesMore, GivesToFault, HasNoMoreRoom}
-use Rattle.yaml_scan.specs.Parser.{Parser}
+use Rattle.std.proofs.Common.{rules, ◌<◌, ◌^◌, length, refl, sym, ap, ◌∙◌, subst, arith}
 use Rattle.yaml_c.specs.Ahead.{Ahead, ahead_of}
-use Rattle.yaml_c.specs.Held.{Scan, IsKeptAt}
 use Rattle.yaml_c.specs.inside.Batch.{GivesNext}
 use Rattle.yaml_c.proofs.Batches.{gives_more, gives_none, gives_rest, gives_to_fault, none_is, scanned_so_far}
 use Rattle.yaml_c.proofs.TokensPut.{Fits, same_rooms}

@@ -1,9 +1,6 @@
 use Rattle.std.proofs.Common.{sym, ap, ◌∙◌, subst}
 use Rattle.yaml_c.specs.Ahead.{Ahead, ahead_of}
-use Rattle.yaml_c.specs.Ahead.Ahead.{NONE}
-use Rattle.yaml_c.specs.Held.{Scan, IsKeptAt, Stands}
 use Rattle.yaml_c.specs.inside.Batch.{Looks}
-use Rattle.yaml_scan.specs.Scanned.{Scanned}
 use Rattle.yaml_c.proofs.Batches.{none_is, scanned_so_far}
 use Rattle.yaml_c.proofs.Looks.{looks_again, looks_at_fault, looks_at_token}
 use Rattle.yaml_c.proofs.held.look.Goals as goal
