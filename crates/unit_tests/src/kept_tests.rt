@@ -140,7 +140,7 @@ fn given(alloc: Global, input: &[u8], room: u128, texts: u128) -> Result<usize, 
         shelf.room = room;
         let need = need_of(&kept, texts);
         shelf.texts = if need > texts { need } else { texts };
-        if yaml_kept_scan_to(&mut kept, input, &mut shelf).is_err() {
+        if yaml_kept_scan_to(&mut kept, input, &mut shelf) {
             return Err("a fault".into());
         }
         if !stops_rightly(&kept, &shelf) {
@@ -176,7 +176,7 @@ fn tokens_go_on_while_there_is_room(rt: HostRuntime) -> Result<(), Fail> {
 fn no_token_goes_where_there_is_no_room(rt: HostRuntime) -> Result<(), Fail> {
     let mut kept = kept_of(rt.alloc(), b"a");
     let mut shelf = shelf_t::new(rt.alloc(), b"a");
-    assert!(rt; yaml_kept_scan_to(&mut kept, b"a", &mut shelf).is_ok());
+    assert!(rt; !yaml_kept_scan_to(&mut kept, b"a", &mut shelf));
     assert_eq!(rt; shelf.tokens, 0);
     assert!(rt; kept.peeked().is_none());
     assert!(rt; !kept.is_over());
@@ -193,7 +193,7 @@ fn peeked_token_is_the_next(rt: HostRuntime) -> Result<(), Fail> {
         let count = count_of(rt.alloc(), input)?;
         'tokens: for _ in 0..count {
             for _ in 0..2 {
-                assert!(rt; yaml_kept_peek(&mut kept, input).is_ok());
+                assert!(rt; !yaml_kept_peek(&mut kept, input));
                 match (kept.peeked(), yaml_parser_peek(&mut right)) {
                     (Some(shown), Ok(want)) => assert!(rt; shown == want),
                     _ => return Err("no token".into()),
@@ -201,7 +201,7 @@ fn peeked_token_is_the_next(rt: HostRuntime) -> Result<(), Fail> {
             }
             shelf.room = 1;
             shelf.texts = 1000;
-            assert!(rt; yaml_kept_scan_to(&mut kept, input, &mut shelf).is_ok());
+            assert!(rt; !yaml_kept_scan_to(&mut kept, input, &mut shelf));
             assert!(rt; yaml_parser_scan(&mut right).is_ok());
         }
         assert!(rt; kept.is_over());
@@ -219,16 +219,16 @@ fn nothing_comes_after_the_end(rt: HostRuntime) -> Result<(), Fail> {
     for _ in 0..2 {
         shelf.room = 10;
         shelf.texts = 10;
-        assert!(rt; yaml_kept_scan_to(&mut kept, b"a", &mut shelf).is_ok());
+        assert!(rt; !yaml_kept_scan_to(&mut kept, b"a", &mut shelf));
         assert!(rt; kept.is_over());
         assert_eq!(rt; shelf.tokens, 3);
     }
-    assert!(rt; yaml_kept_peek(&mut kept, b"a").is_ok());
+    assert!(rt; !yaml_kept_peek(&mut kept, b"a"));
     assert!(rt; kept.peeked().is_none());
     Ok(())
 }
 
-/// The tokens before a fault go to the sink, and then the fault is returned once.
+/// The tokens before a fault go to the sink, and then the fault is told once, and kept.
 #[test]
 fn fault_comes_after_its_tokens(rt: HostRuntime) -> Result<(), Fail> {
     for input in [
@@ -241,9 +241,10 @@ fn fault_comes_after_its_tokens(rt: HostRuntime) -> Result<(), Fail> {
             'calls: for call in 1..10 {
                 shelf.room = room;
                 shelf.texts = 100;
-                let ends = yaml_kept_scan_to(&mut kept, input, &mut shelf).is_err();
+                let ends = yaml_kept_scan_to(&mut kept, input, &mut shelf);
                 assert_eq!(rt; ends, call == calls, "{room} {call}");
                 assert_eq!(rt; kept.is_over(), call >= calls);
+                assert_eq!(rt; kept.fault().is_some(), call >= calls);
             }
             assert_eq!(rt; shelf.tokens, 6, "{room}");
             assert_eq!(rt; shelf.wrong, 0);
@@ -252,15 +253,17 @@ fn fault_comes_after_its_tokens(rt: HostRuntime) -> Result<(), Fail> {
     Ok(())
 }
 
-/// A fault is returned to a peek once, and no token is shown then.
+/// A fault is told to a peek once, and no token is shown then.
 #[test]
 fn peek_finds_the_fault(rt: HostRuntime) -> Result<(), Fail> {
     let input = b"\xFF";
     let mut kept = kept_of(rt.alloc(), input);
-    assert!(rt; yaml_kept_peek(&mut kept, input).is_err());
+    assert!(rt; kept.fault().is_none());
+    assert!(rt; yaml_kept_peek(&mut kept, input));
     assert!(rt; kept.is_over());
+    assert!(rt; kept.fault().is_some());
     assert!(rt; kept.peeked().is_none());
-    assert!(rt; yaml_kept_peek(&mut kept, input).is_ok());
+    assert!(rt; !yaml_kept_peek(&mut kept, input));
     assert!(rt; kept.peeked().is_none());
     Ok(())
 }

@@ -1,5 +1,5 @@
 //! A parser whose input was let go, and taken up again.
-ghost use Rattle.std.specs.Prelude.{◌≡◌, Some, true, false, [], List, IfErr, IfOk, option_map};
+ghost use Rattle.std.specs.Prelude.{◌≡◌, Some, true, false, [], List, option_map};
 ghost use Rattle.yaml_text.specs.Text.{Text};
 ghost use Rattle.yaml_text.specs.Kept.{IsKeptOf, KeptText};
 ghost use Rattle.yaml_scan.specs.ParserCalls.{course_read};
@@ -8,7 +8,7 @@ ghost use Rattle.yaml_scan.specs.Parser.{Parser};
 ghost use Rattle.yaml_scan.specs.inside.Kept.{IsKept};
 ghost use Rattle.yaml_scan.specs.inside.KeptEnds.{GivesKept, ShowsKept, StartsKept, ended_by};
 ghost use Rattle.yaml_scan.specs.inside.Stop.{fault_at};
-ghost use Rattle.yaml_text.specs.Fault.{fault_of};
+ghost use Rattle.yaml_text.specs.Fault.{Fault, fault_of};
 ghost use Rattle.yaml_text.specs.Token.{Token, token_of};
 ghost use Rattle.yaml_scan.specs.Decoded.{decoded_input};
 ghost use Rattle.yaml_scan.specs.Headline.{Calls};
@@ -144,6 +144,19 @@ impl yaml_kept_parser_t {
         self.session.over
     }
 
+    /// The fault that ended the session, if one did.
+    pub fn fault(&self) -> Option<&yaml_fault_t>
+        ensures { (p : Parser) → IsKept p self.now → option_map (λ f. fault_of f.now) result ≡ p.session.fault }
+    {
+        if !self.session.failed {
+            return None;
+        }
+        match &self.state.fault {
+            Some(fault) => Some(fault),
+            None => None,
+        }
+    }
+
     /// The token that was shown and was not taken since, if one was.
     pub fn peeked(&self) -> Option<&yaml_token_t>
         ensures { (p : Parser) → IsKept p self.now → option_map (λ t. token_of t.now) result ≡ token_peeked p }
@@ -215,15 +228,14 @@ fn show_kept(kept: &mut yaml_kept_parser_t, input: &[u8]) -> Result<(), stop_t>
     shown
 }
 
-/// Ends the session of a kept parser with the fault of a stop, and returns that.
+/// Ends the session of a kept parser with the fault of a stop.
 #[cold]
-fn end_kept(kept: &mut yaml_kept_parser_t, stop: stop_t) -> yaml_fault_t
-    ensures fault { fault_of result ≡ fault_at stop kept.old.state.fault }
-    ensures ended { kept.new ≡ ended_by kept.old result }
+fn end_kept(kept: &mut yaml_kept_parser_t, stop: stop_t)
+    ensures { (fault : yaml_fault_t) × (fault_of fault ≡ fault_at stop kept.old.state.fault)
+        × (kept.new ≡ ended_by kept.old fault) }
 {
     let fault = fault_at(stop, &kept.state.fault);
     end(&mut kept.session, &mut kept.state.fault, fault);
-    fault
 }
 
 /// Gives the next tokens of a kept parser to a sink, over the same input, until the stream end was given or the sink
@@ -233,53 +245,59 @@ fn end_kept(kept: &mut yaml_kept_parser_t, stop: stop_t) -> yaml_fault_t
 ///
 /// The sink has to be one that never refuses a token. After the end of the session it is given nothing.
 ///
-/// # Errors
-/// The same as of [`yaml_parser_scan`](crate::yaml_parser_scan), after the tokens before the fault went to the sink.
+/// Returns whether there is a fault, the same as of [`yaml_parser_scan`](crate::yaml_parser_scan), after the tokens
+/// before it went to the sink. It ends the session, and [`yaml_kept_parser_t::fault`] returns it.
 #[inline(always)]
 pub fn yaml_kept_scan_to<S: yaml_token_sink_t>(
     kept: &mut yaml_kept_parser_t,
     input: &[u8],
     sink: &mut S,
-) -> Result<(), yaml_fault_t>
+) -> bool
     requires at { (p : Parser) × (p.input ≡ input.now) × IsKept p kept.old }
     requires takes { S.may_refuse → ⊥ }
-    ensures more { IfOk result (λ _. (p : Parser) → p.input ≡ input.now → IsKept p kept.old
+    ensures more { result ≡ false → (p : Parser) → p.input ≡ input.now → IsKept p kept.old
         → (q : Parser) × IsKept q kept.new × GivesMore p q (λ tokens. S.took sink.old tokens sink.new)
-        × HasNoMoreRoom (S.lacks sink.new) q) }
-    ensures fault { IfErr result (λ fault. (p : Parser) → p.input ≡ input.now → IsKept p kept.old
-        → (q : Parser) × IsKept q kept.new
-        × GivesToFault SCAN p q (λ tokens. S.took sink.old tokens sink.new) (fault_of fault)) }
+        × HasNoMoreRoom (S.lacks sink.new) q }
+    ensures fault { result ≡ true → (p : Parser) → p.input ≡ input.now → IsKept p kept.old
+        → (q : Parser) × IsKept q kept.new × (fault : Fault) × (q.session.fault ≡ Some fault)
+        × GivesToFault SCAN p q (λ tokens. S.took sink.old tokens sink.new) fault }
     ensures within { S.within sink.old → S.within sink.new }
 {
     if kept.session.over || !sink.has_room(1, 0) {
-        return Ok(());
+        return false;
     }
     match scan_kept(kept, input, sink) {
-        Ok(_) => Ok(()),
-        Err(stop) => Err(end_kept(kept, stop)),
+        Ok(_) => false,
+        Err(stop) => {
+            end_kept(kept, stop);
+            true
+        }
     }
 }
 
 /// Shows the next token of a kept parser, over the same input: [`yaml_kept_parser_t::peeked`] returns it. If the
 /// session is over, there is none. The parser stays in its place, and a text that was decoded is not moved.
 ///
-/// # Errors
-/// The same as of [`yaml_parser_scan`](crate::yaml_parser_scan).
-pub fn yaml_kept_peek(kept: &mut yaml_kept_parser_t, input: &[u8]) -> Result<(), yaml_fault_t>
+/// Returns whether there is a fault, the same as of [`yaml_parser_scan`](crate::yaml_parser_scan). It ends the session,
+/// and [`yaml_kept_parser_t::fault`] returns it.
+pub fn yaml_kept_peek(kept: &mut yaml_kept_parser_t, input: &[u8]) -> bool
     requires { (p : Parser) × (p.input ≡ input.now) × IsKept p kept.old }
-    ensures shows { IfOk result (λ _. (p : Parser) → p.input ≡ input.now → IsKept p kept.old
+    ensures shows { result ≡ false → (p : Parser) → p.input ≡ input.now → IsKept p kept.old
         → (q : Parser) × IsKept q kept.new × Calls decoded_input PEEK p (PEEKED (token_shown q)) q
         × GoesOnBy p [] q p.session.over
-        × (p.session.over ≡ false → q.session.peeked ≡ true)) }
-    ensures fault { IfErr result (λ fault. (p : Parser) → p.input ≡ input.now → IsKept p kept.old
-        → (q : Parser) × IsKept q kept.new
-        × GivesToFault PEEK p q (λ tokens. tokens ≡ []) (fault_of fault)) }
+        × (p.session.over ≡ false → q.session.peeked ≡ true) }
+    ensures fault { result ≡ true → (p : Parser) → p.input ≡ input.now → IsKept p kept.old
+        → (q : Parser) × IsKept q kept.new × (fault : Fault) × (q.session.fault ≡ Some fault)
+        × GivesToFault PEEK p q (λ tokens. tokens ≡ []) fault }
 {
     if kept.session.over {
-        return Ok(());
+        return false;
     }
     match show_kept(kept, input) {
-        Ok(_) => Ok(()),
-        Err(stop) => Err(end_kept(kept, stop)),
+        Ok(_) => false,
+        Err(stop) => {
+            end_kept(kept, stop);
+            true
+        }
     }
 }

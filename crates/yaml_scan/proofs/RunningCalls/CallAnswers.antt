@@ -335,9 +335,12 @@ module _ (p q : Parser) (o : p.session.over ≡ false) where
       (left_peek ∙ ap (λ (z : Option Token). after_peek p.limit (course_read p) p.session z) n
       ∙ sym (left_scan ∙ ap (λ (z : Option Token). after_scan p.limit (course_read p) p.session z) n))
 
+  pub scan_faulty : (f : Fault) → Calls decoded_input PEEK p (FAULT f) q → Calls decoded_input SCAN p (FAULT f) q
+  scan_faulty f (inr a) = inr (a.0, a.1, λ e. absurd (cc))
+  scan_faulty f (inl a) = (let n = no_token (input_read p).encoding (course_read p) next f (a.0 ∙ open_peek) in inl (a.0 ∙ same_answer n, a.1 ∙ same_left n))
+
   pub scan_not_shown : (f : yaml_fault_t) → Calls decoded_input PEEK p (FAULT (fault_of f)) q → Calls decoded_input SCAN p (scan_result (Err f)) q
-  scan_not_shown f (inr a) = inr (a.0, a.1, λ e. absurd (cc))
-  scan_not_shown f (inl a) = (let n = no_token (input_read p).encoding (course_read p) next (fault_of f) (a.0 ∙ open_peek) in inl (a.0 ∙ same_answer n, a.1 ∙ same_left n))
+  scan_not_shown f a = scan_faulty (fault_of f) a
 
 some_fault : (a b : Fault) → Some a ≡ Some b → a ≡ b
 some_fault a b e = cc
