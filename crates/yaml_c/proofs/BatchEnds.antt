@@ -8,7 +8,7 @@ use Rattle.yaml_text.specs.Types.{encoding_number}
 use Rattle.yaml_scan.specs.All.{ReadsAll}
 use Rattle.yaml_scan.specs.KeptCalls.{token_peeked}
 use Rattle.yaml_scan.specs.Parser.{Parser}
-use Rattle.yaml_c.specs.Ahead.{Ahead, ahead_of}
+use Rattle.yaml_c.specs.Ahead.{Ahead, IsAhead}
 use Rattle.yaml_c.specs.Ahead.Ahead.{NONE, READ_FAULT, ALL_GIVEN}
 use Rattle.yaml_c.specs.Answer.{Rooms, answer_of, answer_with, fault_texts}
 use Rattle.yaml_c.specs.Held.{Scan, IsEndedBy, Stands, IsAt, Why, Tells, ComesFirst, IsNext, comes}
@@ -21,6 +21,7 @@ use Rattle.yaml_c.specs.Spelled.{Spelled, skipped_of, spelled_in}
 use Rattle.yaml_c.specs.inside.Spelled.{spelled_of}
 use Rattle.yaml_c.specs.Status as status
 use Rattle.yaml_c.specs.declared.answer.bogzhami_answer.{bogzhami_answer}
+use Rattle.yaml_c.specs.declared.held.ahead_t.{ahead_t}
 use Rattle.yaml_c.specs.declared.held.held_t.{held_t}
 use Rattle.yaml_c.specs.declared.record.bogzhami_token.{bogzhami_token}
 use Rattle.yaml_c.specs.declared.spelled.spelled_t.{spelled_t}
@@ -101,7 +102,7 @@ too_long records bytes [] (FAULT f) tight none some stops = (let h = tight f ref
 too_long records bytes [] OVER tight none some stops = absurd (omega arith)
 
 -- what a call leaves that read on
-module _ (s : Scan) (old mid : token_rooms_t) (a : Ahead) (h : held_t) (g : GivesNext s old mid h.parser a) (fits : Fits old) (no_token : old.token_count ≡ 0)
+module _ (s : Scan) (old mid : token_rooms_t) (left : ahead_t) (h : held_t) (g : GivesNext s old mid h.parser left) (fits : Fits old) (no_token : old.token_count ≡ 0)
     (no_text : old.text_len ≡ 0) (some : 0 < length old.tokens.now) (more : s.ahead ≡ ALL_GIVEN → ⊥)
     (encoding : h.encoding ≡ encoding_number (encoding_of s.setting s.input))
     (skipped : h.skipped ≡ skipped_of s.setting s.input) (spelled : spelled_of old.spelled ≡ spelled_in s.setting s.input) where
@@ -130,7 +131,7 @@ module _ (s : Scan) (old mid : token_rooms_t) (a : Ahead) (h : held_t) (g : Give
       let held_size : mid.text_len ≡ held (length (all_texts g.list)) = omega (arith, size, g.fit, fits.texts) in
       λ i. answer_with (held_count i) (held_size i) f
 
-  given_fault : (new : token_rooms_t) (b : Ahead) (answer : bogzhami_answer) (code : ℕ) → ahead_of h.ahead ≡ b → GivesFault mid a new b answer code
+  given_fault : (new : token_rooms_t) (b : ahead_t) (answer : bogzhami_answer) (code : ℕ) → h.ahead ≡ b → GivesFault mid g.after new b answer code
       → IsNext s (rooms_of old) (rooms_of new) h answer code
   given_fault new b answer code is e =
       let f = e.fault in
@@ -145,7 +146,11 @@ module _ (s : Scan) (old mid : token_rooms_t) (a : Ahead) (h : held_t) (g : Give
         fault = Some f;
         after = ALL_GIVEN;
         at = record {
-          keeps = record { kept = g.keeps; ahead = is ∙ e.after; stands = inr (f, ended) };
+          keeps = record {
+            kept = g.keeps;
+            ahead = subst (λ (z : ahead_t). IsAhead z g.parser.session.fault ALL_GIVEN) (sym (is ∙ e.after)) refl;
+            stands = inr (f, ended);
+          };
           encoding = encoding;
           skipped = skipped;
         };
@@ -165,20 +170,24 @@ module _ (s : Scan) (old mid : token_rooms_t) (a : Ahead) (h : held_t) (g : Give
         tells = inr (inl (e.code_is, λ z. absurd (cc), e.answer_is ∙ told_by (Some f)));
       }
 
-  given_none : (b : Ahead) (answer : bogzhami_answer) (code : ℕ) → ahead_of h.ahead ≡ b → b ≡ a
-      → ((f : Fault) → a ≡ READ_FAULT f → length mid.texts.now < mid.text_len + length (fault_texts (Some f))) → TellsCounts mid (next_of g.parser a) answer code
+  given_none : (b : ahead_t) (answer : bogzhami_answer) (code : ℕ) → h.ahead ≡ b → b ≡ left
+      → ((f : Fault) → g.after ≡ READ_FAULT f → length mid.texts.now < mid.text_len + length (fault_texts (Some f))) → TellsCounts mid (next_of g.parser g.after) answer code
       → IsNext s (rooms_of old) (rooms_of mid) h answer code
   given_none b answer code is same tight tells =
       let bytes = length old.texts.now in
-      let next = next_of g.parser a in
-      let tight_here : (f : Fault) → next ≡ FAULT f → bytes < length (all_texts g.list) + need (FAULT f) = λ f e. (let t = tight f (fault_ahead g.parser a f e) in omega (arith, long, size)) in
+      let next = next_of g.parser g.after in
+      let tight_here : (f : Fault) → next ≡ FAULT f → bytes < length (all_texts g.list) + need (FAULT f) = λ f e. (let t = tight f (fault_ahead g.parser g.after f e) in omega (arith, long, size)) in
       record {
         parser = g.parser;
         list = g.list;
         fault = None;
-        after = a;
+        after = g.after;
         at = record {
-          keeps = record { kept = g.keeps; ahead = is ∙ same; stands = g.stands };
+          keeps = record {
+            kept = g.keeps;
+            ahead = subst (λ (z : ahead_t). IsAhead z g.parser.session.fault g.after) (sym (is ∙ same)) g.ahead;
+            stands = g.stands;
+          };
           encoding = encoding;
           skipped = skipped;
         };
@@ -199,7 +208,7 @@ module _ (s : Scan) (old mid : token_rooms_t) (a : Ahead) (h : held_t) (g : Give
         ];
       }
 
-  pub batch_is : (new : token_rooms_t) (b : Ahead) (answer : bogzhami_answer) (code : ℕ) → ahead_of h.ahead ≡ b → Ends g.parser mid a new b answer code
+  pub batch_is : (new : token_rooms_t) (b : ahead_t) (answer : bogzhami_answer) (code : ℕ) → h.ahead ≡ b → Ends g.parser mid g.after left new b answer code
       → IsNext s (rooms_of old) (rooms_of new) h answer code
   batch_is new b answer code is (inl e) = given_fault new b answer code is e
   batch_is new b answer code is (inr e) = subst (λ (z : token_rooms_t). IsNext s (rooms_of old) (rooms_of z) h answer code) (sym e.same) (given_none b answer code is e.after e.tight e.tells)

@@ -14,7 +14,7 @@ use Rattle.yaml_scan.specs.Sink.{said_len}
 use Rattle.yaml_scan.specs.declared.kept.yaml_kept_parser_t.{yaml_kept_parser_t}
 use Rattle.yaml_scan.specs.inside.Kept.{IsKept}
 use Rattle.yaml_scan.proofs.RunningCalls.ScansToTheEnd.{scans_begin, scans_end}
-use Rattle.yaml_c.specs.Ahead.{Ahead, ahead_of}
+use Rattle.yaml_c.specs.Ahead.{Ahead, IsAhead}
 use Rattle.yaml_c.specs.Ahead.Ahead.{NONE, READ_FAULT, ALL_GIVEN}
 use Rattle.yaml_c.specs.Held.{ComesFirst, IsKeptAt, Scan, Stands, comes}
 use Rattle.yaml_c.specs.Next.{Next, need, next_of, shown_next}
@@ -147,10 +147,12 @@ module _ (s : Scan) (old new : token_rooms_t) (kept : yaml_kept_parser_t) (fits 
 
   -- to the room's end
   pub gives_more : (q : Parser) → IsKept q kept → q.session.over ≡ false → GivesMore s.parser q (λ list. ArePut old list new)
-      → HasNoMoreRoom (Lacks new) q → GivesNext s old new kept NONE
+      → HasNoMoreRoom (Lacks new) q → GivesNext s old new kept code.NONE
   gives_more q keeps e g room = record {
     parser = q;
     keeps = keeps;
+    after = NONE;
+    ahead = refl;
     list = g.tokens;
     put = g.given;
     few = few old new fits no_token no_text g.tokens g.given within;
@@ -164,12 +166,14 @@ module _ (s : Scan) (old new : token_rooms_t) (kept : yaml_kept_parser_t) (fits 
 
   -- to the stream end
   pub gives_rest : (q : Parser) → IsKept q kept → q.session.over ≡ true → GivesMore s.parser q (λ list. ArePut old list new)
-      → GivesNext s old new kept ALL_GIVEN
+      → GivesNext s old new kept code.OVER
   gives_rest q keeps e g =
       let on : went_on q g.tokens true = subst (λ (b : Bool). went_on q g.tokens b) e (goes_on q g) in
       let some = ends_with_token s.limit s.setting s.input s.parser s.given here q g.tokens on in record {
         parser = q;
         keeps = keeps;
+        after = ALL_GIVEN;
+        ahead = refl;
         list = g.tokens;
         put = g.given;
         few = few old new fits no_token no_text g.tokens g.given within;
@@ -182,14 +186,16 @@ module _ (s : Scan) (old new : token_rooms_t) (kept : yaml_kept_parser_t) (fits 
       }
 
   -- to the fault
-  pub gives_to_fault : (q : Parser) (f : Fault) → IsKept q kept → GivesToFault SCAN s.parser q (λ list. ArePut old list new) f
-      → GivesNext s old new kept (READ_FAULT f)
-  gives_to_fault q f keeps g =
+  pub gives_to_fault : (q : Parser) (f : Fault) → IsKept q kept → q.session.fault ≡ Some f → GivesToFault SCAN s.parser q (λ list. ArePut old list new) f
+      → GivesNext s old new kept code.FAULT
+  gives_to_fault q f keeps kind g =
       let o = own s.limit s.setting s.input s.parser s.given here in
       let on : Scanned s.limit s.setting s.input g.last (s.given ++ g.tokens) false = of_input s.limit s.setting s.input s.parser s.given here
       (λ n x i. Scanned n x i g.last (s.given ++ g.tokens) false) (g.on s.given o) in record {
         parser = q;
         keeps = keeps;
+        after = READ_FAULT f;
+        ahead = (f, kind, refl);
         list = g.tokens;
         put = g.given;
         few = few old new fits no_token no_text g.tokens g.given within;
@@ -207,35 +213,40 @@ module _ (s : Scan) (old new : token_rooms_t) (kept : yaml_kept_parser_t) (fits 
       }
 
 -- nothing is given, since it was known what comes next: the fault
-pub gives_none : (s : Scan) (old : token_rooms_t) (kept : yaml_kept_parser_t) (a : Ahead) → IsKeptAt s kept a → (a ≡ NONE → ⊥) → (a ≡ ALL_GIVEN → ⊥)
-    → GivesNext s old old kept a
-gives_none s old kept NONE at known more = absurd (known refl)
-gives_none s old kept ALL_GIVEN at known more = absurd (more refl)
-gives_none s old kept (READ_FAULT f) at known more = record {
+pub gives_none : (s : Scan) (old : token_rooms_t) (kept : yaml_kept_parser_t) (read : ahead_t) → IsKeptAt s kept read → (read ≡ code.NONE → ⊥) → (read ≡ code.OVER → ⊥)
+    → GivesNext s old old kept read
+gives_none s old kept code.NONE at known more = absurd (known refl)
+gives_none s old kept code.OVER at known more = absurd (more refl)
+gives_none s old kept code.FAULT at known more = let f = at.ahead.0 in record {
   parser = s.parser;
   keeps = at.kept;
+  after = READ_FAULT f;
+  ahead = (f, at.ahead.1, refl);
   list = [];
   put = none_put old;
   few = omega arith;
   fit = omega arith;
   stands = subst (λ (z : List Token). Stands s.limit s.setting s.input s.parser z (READ_FAULT f)) (sym (append-nil s.given))
-      (subst (λ (z : Ahead). Stands s.limit s.setting s.input s.parser s.given z) (sym at.ahead) at.stands);
+      (subst (λ (z : Ahead). Stands s.limit s.setting s.input s.parser s.given z) at.ahead.2 at.stands);
   stops = tt;
-  first = subst (λ (z : Ahead). ComesFirst (next_of s.parser z) [] None (FAULT f)) at.ahead (refl, inr refl);
+  first = subst (λ (z : Ahead). ComesFirst (next_of s.parser z) [] None (FAULT f)) (sym at.ahead.2) (refl, inr refl);
   last = λ z. absurd (cc);
 }
 
 -- WHAT THE CODE HAS READ AHEAD
+-- nothing
+pub none_ahead : (s : Scan) (kept : yaml_kept_parser_t) (read : ahead_t) → IsKeptAt s kept read → read ≡ code.NONE → s.ahead ≡ NONE
+none_ahead s kept read at e = subst (λ (z : ahead_t). IsAhead z s.parser.session.fault s.ahead) e at.ahead
+
+-- that nothing comes
+pub over_ahead : (s : Scan) (kept : yaml_kept_parser_t) (read : ahead_t) → IsKeptAt s kept read → read ≡ code.OVER → s.ahead ≡ ALL_GIVEN
+over_ahead s kept read at e = subst (λ (z : ahead_t). IsAhead z s.parser.session.fault s.ahead) e at.ahead
+
+pub over_is : (read : ahead_t) (fault : Option Fault) (a : Ahead) → IsAhead read fault a → a ≡ ALL_GIVEN → read ≡ code.OVER
+over_is code.NONE fault a h e = absurd (let k = sym h ∙ e in cc)
+over_is code.FAULT fault a h e = absurd (let k = sym h.2 ∙ e in cc)
+over_is code.OVER fault a h e = refl
+
 -- only tokens were given, if nothing was read ahead
-pub scanned_so_far : (s : Scan) (kept : yaml_kept_parser_t) (a : Ahead) → IsKeptAt s kept a → a ≡ NONE → Scanned s.limit s.setting s.input s.parser s.given false
-scanned_so_far s kept a at e = subst (λ (z : Ahead). Stands s.limit s.setting s.input s.parser s.given z) (sym at.ahead ∙ e) at.stands
-
-pub none_is : (a : ahead_t) → ahead_of a ≡ NONE → a ≡ code.NONE
-none_is code.NONE e = refl
-none_is (code.FAULT f) e = absurd (cc)
-none_is code.OVER e = absurd (cc)
-
-pub over_is : (a : ahead_t) → ahead_of a ≡ ALL_GIVEN → a ≡ code.OVER
-over_is code.NONE e = absurd (cc)
-over_is (code.FAULT f) e = absurd (cc)
-over_is code.OVER e = refl
+pub scanned_so_far : (s : Scan) (kept : yaml_kept_parser_t) (read : ahead_t) → IsKeptAt s kept read → read ≡ code.NONE → Scanned s.limit s.setting s.input s.parser s.given false
+scanned_so_far s kept read at e = subst (λ (z : Ahead). Stands s.limit s.setting s.input s.parser s.given z) (none_ahead s kept read at e) at.stands

@@ -1,8 +1,7 @@
 -- A look at what comes next.
 use Rattle.std.proofs.Common.{◌≡◌, ◌++◌, ◌∷◌, [], Bool, true, false, List, Option, Some, None, refl, ap, sym, ◌∙◌, subst, inl, inr, append-nil}
 use Rattle.std.proofs.lemmas.Bool.{cases_Bool}
-use Rattle.yaml_text.specs.declared.fault.yaml_fault_t.{yaml_fault_t}
-use Rattle.yaml_text.specs.Fault.{fault_of}
+use Rattle.yaml_text.specs.Fault.{Fault}
 use Rattle.yaml_text.specs.Token.{Token}
 use Rattle.yaml_scan.specs.All.{ReadsAll}
 use Rattle.yaml_scan.specs.Decoded.{decoded_input}
@@ -15,33 +14,33 @@ use Rattle.yaml_scan.specs.Session.Answer.{PEEKED, FAULT as FAULT_ANSWER}
 use Rattle.yaml_scan.specs.Session.Call.{PEEK, SCAN}
 use Rattle.yaml_scan.specs.declared.kept.yaml_kept_parser_t.{yaml_kept_parser_t}
 use Rattle.yaml_scan.specs.inside.Kept.{IsKept}
-use Rattle.yaml_scan.proofs.RunningCalls.CallAnswers.{scan_not_shown}
-use Rattle.yaml_c.specs.Ahead.{Ahead}
+use Rattle.yaml_scan.proofs.RunningCalls.CallAnswers.{scan_faulty}
+use Rattle.yaml_c.specs.Ahead.{Ahead, IsAhead}
 use Rattle.yaml_c.specs.Ahead.Ahead.{NONE, READ_FAULT, ALL_GIVEN}
 use Rattle.yaml_c.specs.Held.{IsKeptAt, Scan, Stands, comes}
 use Rattle.yaml_c.specs.Next.{next_of, shown_next}
-use Rattle.yaml_c.specs.Next.Next.{UNKNOWN, TOKEN}
+use Rattle.yaml_c.specs.Next.{Next}
+use Rattle.yaml_c.specs.Next.Next.{UNKNOWN, TOKEN, FAULT, OVER}
 use Rattle.yaml_c.specs.inside.Batch.{Looks}
+use Rattle.yaml_c.specs.declared.held.ahead_t.{ahead_t}
+use Rattle.yaml_c.specs.declared.held.ahead_t.TheVariants as code
 use Rattle.yaml_c.proofs.Batches.{of_input, own}
 use Rattle.yaml_c.proofs.ShownTokens.{fault_hides, hides, is_peeked_token, shows_same}
 
 -- what is known is shown again
-known_is : (p : Parser) (a : Ahead) → (a ≡ NONE → ⊥) → next_of p a ≡ UNKNOWN → ⊥
-known_is p NONE known e = known refl
-known_is p (READ_FAULT f) known e = absurd (cc)
-known_is p ALL_GIVEN known e = absurd (cc)
+known_is : (p : Parser) (read : ahead_t) (a : Ahead) → IsAhead read p.session.fault a → (read ≡ code.NONE → ⊥) → next_of p a ≡ UNKNOWN → ⊥
+known_is p code.NONE a h known e = known refl
+known_is p code.FAULT a h known e = (let k : FAULT h.0 ≡ UNKNOWN = sym (ap (λ (z : Ahead). next_of p z) h.2) ∙ e in absurd (cc))
+known_is p code.OVER a h known e = (let k : OVER ≡ UNKNOWN = sym (ap (λ (z : Ahead). next_of p z) h) ∙ e in absurd (cc))
 
-pub looks_again : (s : Scan) (kept : yaml_kept_parser_t) (a : Ahead) → IsKeptAt s kept a → (a ≡ NONE → ⊥) → Looks s kept a
-looks_again s kept a at known = record {
+pub looks_again : (s : Scan) (kept : yaml_kept_parser_t) (read : ahead_t) → IsKeptAt s kept read → (read ≡ code.NONE → ⊥) → Looks s kept read
+looks_again s kept read at known = record {
   parser = s.parser;
-  keeps = record {
-    kept = at.kept;
-    ahead = refl;
-    stands = subst (λ (z : Ahead). Stands s.limit s.setting s.input s.parser s.given z) (sym at.ahead) at.stands;
-  };
-  known = known_is s.parser a known;
-  stays = λ n. ap (λ (z : Ahead). next_of s.parser z) at.ahead;
-  over = λ e. sym at.ahead ∙ e;
+  after = s.ahead;
+  keeps = record { kept = at.kept; ahead = at.ahead; stands = at.stands };
+  known = known_is s.parser read s.ahead at.ahead known;
+  stays = λ n. refl;
+  over = λ e. e;
 }
 
 -- no token was shown if the fault comes next
@@ -55,7 +54,7 @@ module _ (s : Scan) (kept : yaml_kept_parser_t) (none : s.ahead ≡ NONE) (here 
   comes_shown = ap (λ (a : Ahead). next_of s.parser a) none
 
   -- the fault comes next
-  module _ (q : Parser) (f : yaml_fault_t) (keeps : IsKept q kept) (g : GivesToFault PEEK s.parser q (λ tokens. tokens ≡ []) (fault_of f)) where
+  module _ (q : Parser) (f : Fault) (keeps : IsKept q kept) (kind : q.session.fault ≡ Some f) (g : GivesToFault PEEK s.parser q (λ tokens. tokens ≡ []) f) where
     given_same : s.given ++ g.tokens ≡ s.given
     given_same = ap (λ (z : List Token). s.given ++ z) g.given ∙ append-nil s.given
 
@@ -64,23 +63,24 @@ module _ (s : Scan) (kept : yaml_kept_parser_t) (none : s.ahead ≡ NONE) (here 
         (of_input s.limit s.setting s.input s.parser s.given here (λ n x i. Scanned n x i g.last (s.given ++ g.tokens) false)
         (g.on s.given (own s.limit s.setting s.input s.parser s.given here)))
 
-    reads : ReadsAll s.limit s.setting s.input s.given (Some (fault_of f))
-    reads = subst (λ (z : List Token). ReadsAll s.limit s.setting s.input z (Some (fault_of f))) given_same
-        (of_input s.limit s.setting s.input s.parser s.given here (λ n x i. ReadsAll n x i (s.given ++ g.tokens) (Some (fault_of f)))
+    reads : ReadsAll s.limit s.setting s.input s.given (Some f)
+    reads = subst (λ (z : List Token). ReadsAll s.limit s.setting s.input z (Some f)) given_same
+        (of_input s.limit s.setting s.input s.parser s.given here (λ n x i. ReadsAll n x i (s.given ++ g.tokens) (Some f))
         (g.reads s.given (own s.limit s.setting s.input s.parser s.given here)))
 
-    ended : Calls decoded_input SCAN g.last (FAULT_ANSWER (fault_of f)) q
-    ended = scan_not_shown g.last q on.over f g.ended
+    ended : Calls decoded_input SCAN g.last (FAULT_ANSWER f) q
+    ended = scan_faulty g.last q on.over f g.ended
 
     not_shown : token_peeked s.parser ≡ None
-    not_shown = none_first (token_peeked s.parser) g.tokens q g.given (fault_hides g.last q (fault_of f) on.over ended) g.first
+    not_shown = none_first (token_peeked s.parser) g.tokens q g.given (fault_hides g.last q f on.over ended) g.first
 
-    pub looks_at_fault : Looks s kept (READ_FAULT (fault_of f))
+    pub looks_at_fault : Looks s kept code.FAULT
     looks_at_fault = record {
       parser = q;
+      after = READ_FAULT f;
       keeps = record {
         kept = keeps;
-        ahead = refl;
+        ahead = (f, kind, refl);
         stands = record { reads = reads; before = g.last; scanned = on; ended = ended };
       };
       known = λ e. absurd (cc);
@@ -109,9 +109,10 @@ module _ (s : Scan) (kept : yaml_kept_parser_t) (none : s.ahead ≡ NONE) (here 
     no_token : (t : Token) → TOKEN t ≡ UNKNOWN → ⊥
     no_token t e = absurd (cc)
 
-    pub looks_at_token : Looks s kept NONE
+    pub looks_at_token : Looks s kept code.NONE
     looks_at_token = record {
       parser = q;
+      after = NONE;
       keeps = record { kept = keeps; ahead = refl; stands = goes_on };
       known = λ e. no_token (token_shown q) (sym (ap shown_next shown) ∙ e);
       stays = λ n. elim (cases_Bool s.parser.session.peeked) [

@@ -16,7 +16,7 @@ use Rattle.yaml_scan.specs.Session.Call.{SCAN}
 use Rattle.yaml_scan.specs.Sessions.{new_session}
 use Rattle.yaml_scan.specs.declared.kept.yaml_kept_parser_t.{yaml_kept_parser_t}
 use Rattle.yaml_scan.specs.inside.Kept.{IsKept}
-use Rattle.yaml_c.specs.Ahead.{Ahead, ahead_of}
+use Rattle.yaml_c.specs.Ahead.{Ahead, IsAhead}
 use Rattle.yaml_c.specs.Ahead.Ahead.{NONE, READ_FAULT, ALL_GIVEN}
 use Rattle.yaml_c.specs.Answer.{Rooms, answer_of, answer_with, no_answer, fault_texts}
 use Rattle.yaml_c.specs.Next.{Next, next_of, need}
@@ -26,6 +26,7 @@ use Rattle.yaml_c.specs.Room.{covered}
 use Rattle.yaml_c.specs.Spelled.{Spelled, skipped_of, spelled_in}
 use Rattle.yaml_c.specs.Status as status
 use Rattle.yaml_c.specs.declared.answer.bogzhami_answer.{bogzhami_answer}
+use Rattle.yaml_c.specs.declared.held.ahead_t.{ahead_t}
 use Rattle.yaml_c.specs.declared.held.held_t.{held_t}
 use Rattle.yaml_c.specs.declared.record.bogzhami_token.{bogzhami_token}
 
@@ -71,14 +72,14 @@ opened input setting limit = record {
 }
 
 -- A parser that is kept, and what was read ahead, are those of a scanner that is at s.
-pub record IsKeptAt (s : Scan) (parser : yaml_kept_parser_t) (read : Ahead) : Type 0 where
+pub record IsKeptAt (s : Scan) (parser : yaml_kept_parser_t) (read : ahead_t) : Type 0 where
   pub kept : IsKept s.parser parser
-  pub ahead : read ≡ s.ahead
+  pub ahead : IsAhead read s.parser.session.fault s.ahead
   pub stands : Stands s.limit s.setting s.input s.parser s.given s.ahead
 
 -- What is held is a scanner that is at s.
 pub record IsAt (s : Scan) (h : held_t) : Type 0 where
-  pub keeps : IsKeptAt s h.parser (ahead_of h.ahead)
+  pub keeps : IsKeptAt s h.parser h.ahead
   pub encoding : h.encoding ≡ encoding_number (encoding_of s.setting s.input)
   pub skipped : h.skipped ≡ skipped_of s.setting s.input
 

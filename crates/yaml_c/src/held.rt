@@ -1,17 +1,17 @@
 //! A scanner that is held between two calls.
-ghost use Rattle.std.specs.Prelude.{◌≡◌, ◌≢◌, ◌≤◌, ◌<◌, length, Some, IfOk};
+ghost use Rattle.std.specs.Prelude.{◌≡◌, ◌≢◌, ◌≤◌, ◌<◌, length, Some, IfOk, option_map};
 ghost use Rattle.yaml_text.specs.Fault.{fault_of};
 ghost use Rattle.yaml_text.specs.Token.{token_of};
 ghost use Rattle.yaml_scan.specs.Parser.{Parser};
 ghost use Rattle.yaml_scan.specs.inside.Kept.{IsKept};
-ghost use Rattle.yaml_c.specs.Ahead.{ahead_of};
-ghost use Rattle.yaml_c.specs.Ahead.Ahead.{ALL_GIVEN};
+ghost use Rattle.yaml_c.specs.Ahead.{Ahead, IsAhead, read_fault};
 ghost use Rattle.yaml_c.specs.Answer.{most_key_limit, rooms};
 ghost use Rattle.yaml_c.specs.Held.{Scan, IsAt, IsKeptAt, IsNext, IsPeek, Shows, opened};
 ghost use Rattle.yaml_c.specs.Next.{need, next_of};
 ghost use Rattle.yaml_c.specs.Next.Next.{UNKNOWN, TOKEN, FAULT as FAULT_NEXT};
 ghost use Rattle.yaml_c.specs.Record.{held, texts_of};
 ghost use Rattle.yaml_c.specs.Spelled.{Spelled};
+ghost use Rattle.yaml_c.specs.declared.held.ahead_t.TheVariants as read;
 ghost use Rattle.yaml_c.specs.declared.record.bogzhami_token.{bogzhami_token};
 ghost use Rattle.yaml_c.specs.inside.Batch.{Ends, GivesNext, Looks};
 ghost use Rattle.yaml_c.specs.inside.Spelled.{spelled_of};
@@ -29,13 +29,14 @@ use yaml_scan::{
     yaml_kept_scan_to, yaml_parser_t, yaml_token_t,
 };
 
-/// What was read ahead of the tokens that were given. A token that was read ahead stays in the parser, which shows it.
+/// What was read ahead of the tokens that were given. A token that was read ahead stays in the parser, which shows it,
+/// and so does the fault, which ended the parser's session.
 #[derive(Drop)]
 pub enum ahead_t {
     /// Nothing.
     NONE,
     /// The fault that comes next.
-    FAULT(yaml_fault_t),
+    FAULT,
     /// Nothing comes: the stream end or the fault was given.
     OVER,
 }
@@ -58,16 +59,31 @@ fn text_len(token: &yaml_token_t) -> u64
     texts_len(&token.token_data)
 }
 
+/// The fault, if it is known that it comes next.
+fn fault_ahead<'a>(parser: &'a yaml_kept_parser_t, ahead: &ahead_t) -> Option<&'a yaml_fault_t>
+    ensures { (p : Parser) (a : Ahead) → IsKept p parser.now → IsAhead ahead.now p.session.fault a
+        → option_map (λ f. fault_of f.now) result ≡ read_fault a }
+{
+    match ahead {
+        ahead_t::FAULT => parser.fault(),
+        _ => None,
+    }
+}
+
 /// How many bytes of texts what comes next has, as far as it is known.
 fn need(parser: &yaml_kept_parser_t, ahead: &ahead_t) -> u64
-    ensures { (p : Parser) → IsKept p parser.now → result ≡ held (need (next_of p (ahead_of ahead.now))) }
+    ensures { (p : Parser) (a : Ahead) → IsKept p parser.now → IsAhead ahead.now p.session.fault a
+        → result ≡ held (need (next_of p a)) }
 {
     match ahead {
         ahead_t::NONE => match parser.peeked() {
             Some(token) => text_len(token),
             None => 0,
         },
-        ahead_t::FAULT(fault) => fault_len(*fault),
+        ahead_t::FAULT => match parser.fault() {
+            Some(fault) => fault_len(*fault),
+            None => 0,
+        },
         ahead_t::OVER => 0,
     }
 }
@@ -77,25 +93,22 @@ fn need(parser: &yaml_kept_parser_t, ahead: &ahead_t) -> u64
 #[inline(always)]
 fn give(parser: &mut yaml_kept_parser_t, ahead: &mut ahead_t, rooms: &mut token_rooms_t)
     requires at { (s : Scan) × (s.input ≡ rooms.old.spelled.input.now)
-        × IsKeptAt s parser.old (ahead_of ahead.old) }
-    requires more { ahead_of ahead.old ≢ ALL_GIVEN }
+        × IsKeptAt s parser.old ahead.old }
+    requires more { ahead.old ≢ read.OVER }
     requires none { rooms.old.token_count ≡ 0 }
     requires no_text { rooms.old.text_len ≡ 0 }
     requires some { 0 < length rooms.old.tokens.now }
     ensures same_tokens { rooms.new.tokens.ghost_name ≡ rooms.old.tokens.ghost_name }
     ensures same_texts { rooms.new.texts.ghost_name ≡ rooms.old.texts.ghost_name }
     ensures same_spare { rooms.new.spare.ghost_name ≡ rooms.old.spare.ghost_name }
-    ensures next { (s : Scan) → s.input ≡ rooms.old.spelled.input.now → IsKeptAt s parser.old (ahead_of ahead.old)
-        → GivesNext s rooms.old rooms.new parser.new (ahead_of ahead.new) }
+    ensures next { (s : Scan) → s.input ≡ rooms.old.spelled.input.now → IsKeptAt s parser.old ahead.old
+        → GivesNext s rooms.old rooms.new parser.new ahead.new }
 {
     if let ahead_t::NONE = ahead {
-        match yaml_kept_scan_to(parser, rooms.spelled.input, rooms) {
-            Ok(_) => {
-                if parser.is_over() {
-                    *ahead = ahead_t::OVER;
-                }
-            }
-            Err(fault) => *ahead = ahead_t::FAULT(fault),
+        if yaml_kept_scan_to(parser, rooms.spelled.input, rooms) {
+            *ahead = ahead_t::FAULT;
+        } else if parser.is_over() {
+            *ahead = ahead_t::OVER;
         }
     }
 }
@@ -111,14 +124,13 @@ fn end_batch(
     ensures same_tokens { rooms.new.tokens.ghost_name ≡ rooms.old.tokens.ghost_name }
     ensures same_texts { rooms.new.texts.ghost_name ≡ rooms.old.texts.ghost_name }
     ensures same_spare { rooms.new.spare.ghost_name ≡ rooms.old.spare.ghost_name }
-    ensures ends { (p : Parser) → IsKept p parser.now
-        → Ends p rooms.old (ahead_of ahead.old) rooms.new (ahead_of ahead.new) answer.new result }
+    ensures ends { (p : Parser) (a : Ahead) → IsKept p parser.now → IsAhead ahead.old p.session.fault a
+        → Ends p rooms.old a ahead.old rooms.new ahead.new answer.new result }
 {
-    if let ahead_t::FAULT(fault) = ahead {
-        let fault = *fault;
-        if rooms.has_text_room(fault_len(fault)) {
-            rooms.put_fault(fault);
-            *answer = counts_and_fault(rooms.token_count, rooms.text_len, fault);
+    if let Some(fault) = fault_ahead(parser, ahead) {
+        if rooms.has_text_room(fault_len(*fault)) {
+            rooms.put_fault(*fault);
+            *answer = counts_and_fault(rooms.token_count, rooms.text_len, *fault);
             *ahead = ahead_t::OVER;
             return FAULT;
         }
@@ -197,13 +209,12 @@ pub(crate) fn open(
 
 /// Reads on to what comes next, if that is not known yet.
 fn look(parser: &mut yaml_kept_parser_t, ahead: &mut ahead_t, input: &[u8])
-    requires { (s : Scan) × (s.input ≡ input.now) × IsKeptAt s parser.old (ahead_of ahead.old) }
-    ensures { (s : Scan) → s.input ≡ input.now → IsKeptAt s parser.old (ahead_of ahead.old)
-        → Looks s parser.new (ahead_of ahead.new) }
+    requires { (s : Scan) × (s.input ≡ input.now) × IsKeptAt s parser.old ahead.old }
+    ensures { (s : Scan) → s.input ≡ input.now → IsKeptAt s parser.old ahead.old → Looks s parser.new ahead.new }
 {
     if let ahead_t::NONE = ahead {
-        if let Err(fault) = yaml_kept_peek(parser, input) {
-            *ahead = ahead_t::FAULT(fault);
+        if yaml_kept_peek(parser, input) {
+            *ahead = ahead_t::FAULT;
         }
     }
 }
@@ -256,16 +267,20 @@ fn show(
     texts: &mut [u8],
     answer: &mut bogzhami_answer,
 ) -> u32
-    requires { (p : Parser) × IsKept p parser.now × (next_of p (ahead_of ahead.now) ≢ UNKNOWN) }
-    ensures { (p : Parser) → IsKept p parser.now → Shows (spelled_of spelled.entry) (next_of p (ahead_of ahead.now))
-        token.old texts.old token.new texts.new answer.new result }
+    requires { (p : Parser) × (a : Ahead) × IsKept p parser.now × IsAhead ahead.now p.session.fault a
+        × (next_of p a ≢ UNKNOWN) }
+    ensures { (p : Parser) (a : Ahead) → IsKept p parser.now → IsAhead ahead.now p.session.fault a
+        → Shows (spelled_of spelled.entry) (next_of p a) token.old texts.old token.new texts.new answer.new result }
 {
     match ahead {
         ahead_t::NONE => match parser.peeked() {
             Some(shown) => show_token(spelled, shown, token, texts, answer),
             None => unreachable!(),
         },
-        ahead_t::FAULT(fault) => show_fault(*fault, texts, answer),
+        ahead_t::FAULT => match parser.fault() {
+            Some(fault) => show_fault(*fault, texts, answer),
+            None => unreachable!(),
+        },
         ahead_t::OVER => {
             *answer = counts(0, 0);
             OVER

@@ -1,7 +1,7 @@
 use Rattle.std.proofs.Common.{rules, ◌<◌, ◌^◌, length, refl, sym, ap, ◌∙◌, subst, arith}
-use Rattle.yaml_c.specs.Ahead.{Ahead, ahead_of}
 use Rattle.yaml_c.specs.inside.Batch.{GivesNext}
-use Rattle.yaml_c.proofs.Batches.{gives_more, gives_none, gives_rest, gives_to_fault, none_is, scanned_so_far}
+use Rattle.yaml_c.specs.declared.held.ahead_t.{ahead_t}
+use Rattle.yaml_c.proofs.Batches.{gives_more, gives_none, gives_rest, gives_to_fault, none_ahead, scanned_so_far}
 use Rattle.yaml_c.proofs.TokensPut.{Fits, same_rooms}
 use Rattle.yaml_c.proofs.held.give.Goals as goal
 
@@ -13,17 +13,17 @@ returns-then-is_over c =
     let short : length a.texts.now < 2 ^ 63 = search rules in
     let r = c.requires in
     let fits : Fits a = record { tokens = few; texts = short; token_count = omega (arith, r.none); text_len = omega (arith, r.no_text) } in
-    let within = c.in-Ok.ensures.within (record { few = omega (arith, r.none); fit = omega (arith, r.no_text) }) in
-    let first = scanned_so_far r.at.0 _ _ r.at.2 (ap ahead_of c.in-NONE.is) in
-    let n = same_rooms _ _ _ (c.in-Ok.ensures.more r.at.0.parser (first.input_is ∙ r.at.1) r.at.2.kept).2.given in
+    let within = c.yaml_kept_scan_to.ensures.within (record { few = omega (arith, r.none); fit = omega (arith, r.no_text) }) in
+    let first = scanned_so_far r.at.0 _ _ r.at.2 c.in-NONE.is in
+    let n = same_rooms _ _ _ (c.yaml_kept_scan_to.ensures.more c.if-yaml_kept_scan_to.false r.at.0.parser (first.input_is ∙ r.at.1) r.at.2.kept).2.given in
     record {
       same_tokens = n.tokens;
       same_texts = n.texts;
       same_spare = n.spare;
       next = λ s same at.
-          let here = scanned_so_far s _ _ at (ap ahead_of c.in-NONE.is) in
-          let w = c.in-Ok.ensures.more s.parser (here.input_is ∙ same) at.kept in
-          gives_rest s a _ _ fits r.none r.no_text within (sym at.ahead ∙ ap ahead_of c.in-NONE.is) here w.0 w.1
+          let here = scanned_so_far s _ _ at c.in-NONE.is in
+          let w = c.yaml_kept_scan_to.ensures.more c.if-yaml_kept_scan_to.false s.parser (here.input_is ∙ same) at.kept in
+          gives_rest s a _ _ fits r.none r.no_text within (none_ahead s _ _ at c.in-NONE.is) here w.0 w.1
           (sym (c.is_over.ensures w.0 w.1) ∙ c.if-is_over.true) w.2;
     }
 
@@ -35,40 +35,40 @@ returns-else-is_over c =
     let short : length a.texts.now < 2 ^ 63 = search rules in
     let r = c.requires in
     let fits : Fits a = record { tokens = few; texts = short; token_count = omega (arith, r.none); text_len = omega (arith, r.no_text) } in
-    let within = c.in-Ok.ensures.within (record { few = omega (arith, r.none); fit = omega (arith, r.no_text) }) in
-    let first = scanned_so_far r.at.0 _ _ r.at.2 (ap ahead_of c.in-NONE.is) in
-    let n = same_rooms _ _ _ (c.in-Ok.ensures.more r.at.0.parser (first.input_is ∙ r.at.1) r.at.2.kept).2.given in
+    let within = c.yaml_kept_scan_to.ensures.within (record { few = omega (arith, r.none); fit = omega (arith, r.no_text) }) in
+    let first = scanned_so_far r.at.0 _ _ r.at.2 c.in-NONE.is in
+    let n = same_rooms _ _ _ (c.yaml_kept_scan_to.ensures.more c.if-yaml_kept_scan_to.false r.at.0.parser (first.input_is ∙ r.at.1) r.at.2.kept).2.given in
     record {
       same_tokens = n.tokens;
       same_texts = n.texts;
       same_spare = n.spare;
       next = λ s same at.
-          let here = scanned_so_far s _ _ at (ap ahead_of c.in-NONE.is) in
-          let w = c.in-Ok.ensures.more s.parser (here.input_is ∙ same) at.kept in
-          subst (λ (z : Ahead). GivesNext s a c.yaml_kept_scan_to.new.sink c.yaml_kept_scan_to.new.kept z) (sym (ap ahead_of c.in-NONE.is))
-          (gives_more s a _ _ fits r.none r.no_text within (sym at.ahead ∙ ap ahead_of c.in-NONE.is) here w.0 w.1
+          let here = scanned_so_far s _ _ at c.in-NONE.is in
+          let w = c.yaml_kept_scan_to.ensures.more c.if-yaml_kept_scan_to.false s.parser (here.input_is ∙ same) at.kept in
+          subst (λ (z : ahead_t). GivesNext s a c.yaml_kept_scan_to.new.sink c.yaml_kept_scan_to.new.kept z) (sym c.in-NONE.is)
+          (gives_more s a _ _ fits r.none r.no_text within (none_ahead s _ _ at c.in-NONE.is) here w.0 w.1
           (sym (c.is_over.ensures w.0 w.1) ∙ c.if-is_over.false) w.2 w.3);
     }
 
 -- the fault comes next
-pub returns-in-Err : goal.returns-in-Err
-returns-in-Err c =
+pub returns-then-yaml_kept_scan_to : goal.returns-then-yaml_kept_scan_to
+returns-then-yaml_kept_scan_to c =
     let a = c.args.rooms.now in
     let few : length a.tokens.now < 2 ^ 63 = search rules in
     let short : length a.texts.now < 2 ^ 63 = search rules in
     let r = c.requires in
     let fits : Fits a = record { tokens = few; texts = short; token_count = omega (arith, r.none); text_len = omega (arith, r.no_text) } in
-    let within = c.in-Err.ensures.within (record { few = omega (arith, r.none); fit = omega (arith, r.no_text) }) in
-    let first = scanned_so_far r.at.0 _ _ r.at.2 (ap ahead_of c.in-NONE.is) in
-    let n = same_rooms _ _ _ (c.in-Err.ensures.fault r.at.0.parser (first.input_is ∙ r.at.1) r.at.2.kept).2.given in
+    let within = c.yaml_kept_scan_to.ensures.within (record { few = omega (arith, r.none); fit = omega (arith, r.no_text) }) in
+    let first = scanned_so_far r.at.0 _ _ r.at.2 c.in-NONE.is in
+    let n = same_rooms _ _ _ (c.yaml_kept_scan_to.ensures.fault c.if-yaml_kept_scan_to.true r.at.0.parser (first.input_is ∙ r.at.1) r.at.2.kept).4.given in
     record {
       same_tokens = n.tokens;
       same_texts = n.texts;
       same_spare = n.spare;
       next = λ s same at.
-          let here = scanned_so_far s _ _ at (ap ahead_of c.in-NONE.is) in
-          let w = c.in-Err.ensures.fault s.parser (here.input_is ∙ same) at.kept in
-          gives_to_fault s a _ _ fits r.none r.no_text within (sym at.ahead ∙ ap ahead_of c.in-NONE.is) here w.0 _ w.1 w.2;
+          let here = scanned_so_far s _ _ at c.in-NONE.is in
+          let w = c.yaml_kept_scan_to.ensures.fault c.if-yaml_kept_scan_to.true s.parser (here.input_is ∙ same) at.kept in
+          gives_to_fault s a _ _ fits r.none r.no_text within (none_ahead s _ _ at c.in-NONE.is) here w.0 w.2 w.1 w.3 w.4;
     }
 
 -- it was known that the fault comes next
@@ -77,5 +77,5 @@ returns-in_default c = record {
   same_tokens = refl;
   same_texts = refl;
   same_spare = refl;
-  next = λ s same at. gives_none s c.args.rooms.now _ _ at (λ e. c.in_default.not-NONE (none_is _ e)) c.requires.more;
+  next = λ s same at. gives_none s c.args.rooms.now _ _ at c.in_default.not-NONE c.requires.more;
 }

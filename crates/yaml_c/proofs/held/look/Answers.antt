@@ -1,7 +1,7 @@
 use Rattle.std.proofs.Common.{sym, ap, ◌∙◌, subst}
-use Rattle.yaml_c.specs.Ahead.{Ahead, ahead_of}
 use Rattle.yaml_c.specs.inside.Batch.{Looks}
-use Rattle.yaml_c.proofs.Batches.{none_is, scanned_so_far}
+use Rattle.yaml_c.specs.declared.held.ahead_t.{ahead_t}
+use Rattle.yaml_c.proofs.Batches.{none_ahead, scanned_so_far}
 use Rattle.yaml_c.proofs.Looks.{looks_again, looks_at_fault, looks_at_token}
 use Rattle.yaml_c.proofs.held.look.Goals as goal
 
@@ -9,21 +9,21 @@ pub yaml_kept_peek-requires : goal.yaml_kept_peek-requires
 yaml_kept_peek-requires c =
     let s = c.requires.0 in
     let at = c.requires.2 in
-    let here = scanned_so_far s _ _ at (ap ahead_of c.in-NONE.is) in
+    let here = scanned_so_far s _ _ at c.in-NONE.is in
     (s.parser, here.input_is ∙ c.requires.1, at.kept)
 
-pub returns-in-Err : goal.returns-in-Err
-returns-in-Err c = λ s same at.
-    let here = scanned_so_far s _ _ at (ap ahead_of c.in-NONE.is) in
-    let w = c.in-Err.ensures.fault s.parser (here.input_is ∙ same) at.kept in
-    looks_at_fault s _ (sym at.ahead ∙ ap ahead_of c.in-NONE.is) here w.0 c.in-Err.fault w.1 w.2
+pub returns-then-yaml_kept_peek : goal.returns-then-yaml_kept_peek
+returns-then-yaml_kept_peek c = λ s same at.
+    let here = scanned_so_far s _ _ at c.in-NONE.is in
+    let w = c.yaml_kept_peek.ensures.fault c.if-yaml_kept_peek.true s.parser (here.input_is ∙ same) at.kept in
+    looks_at_fault s _ (none_ahead s _ _ at c.in-NONE.is) here w.0 w.2 w.1 w.3 w.4
 
-pub returns-in_default-yaml_kept_peek : goal.returns-in_default-yaml_kept_peek
-returns-in_default-yaml_kept_peek c = λ s same at.
-    let here = scanned_so_far s _ _ at (ap ahead_of c.in-NONE.is) in
-    let w = c.in_default-yaml_kept_peek.ensures.shows s.parser (here.input_is ∙ same) at.kept in
-    subst (λ (z : Ahead). Looks s c.yaml_kept_peek.new.kept z) (sym (ap ahead_of c.in-NONE.is))
-    (looks_at_token s _ (sym at.ahead ∙ ap ahead_of c.in-NONE.is) here w.0 w.1 w.2 w.3 w.4)
+pub returns-else-yaml_kept_peek : goal.returns-else-yaml_kept_peek
+returns-else-yaml_kept_peek c = λ s same at.
+    let here = scanned_so_far s _ _ at c.in-NONE.is in
+    let w = c.yaml_kept_peek.ensures.shows c.if-yaml_kept_peek.false s.parser (here.input_is ∙ same) at.kept in
+    subst (λ (z : ahead_t). Looks s c.yaml_kept_peek.new.kept z) (sym c.in-NONE.is)
+    (looks_at_token s _ (none_ahead s _ _ at c.in-NONE.is) here w.0 w.1 w.2 w.3 w.4)
 
 pub returns-in_default : goal.returns-in_default
-returns-in_default c = λ s same at. looks_again s _ _ at (λ e. c.in_default.not-NONE (none_is _ e))
+returns-in_default c = λ s same at. looks_again s _ _ at c.in_default.not-NONE
