@@ -268,9 +268,7 @@ static uint32_t next(struct run *r, size_t tokens_len, size_t texts_len) {
     return check_next(r, call_next(r, tokens_len, texts_len), tokens_len, texts_len);
 }
 
-static uint32_t peek(struct run *r, size_t texts_len) {
-    return check_peek(r, call_peek(r, texts_len), texts_len);
-}
+static uint32_t peek(struct run *r, size_t texts_len) { return check_peek(r, call_peek(r, texts_len), texts_len); }
 
 static uint32_t open_run(struct bogzhami_handle *handle, const struct input *i) {
     return bogzhami_open(handle, i->bytes, i->len, i->encoding, i->key_limit);
@@ -709,9 +707,8 @@ static uint32_t call_alone(struct run *r, size_t tokens_len, size_t texts_len) {
     struct bogzhami_token *own_tokens = copy_of(tokens, records * sizeof *tokens);
     uint8_t *own_texts = copy_of(texts, texts_len);
     uint32_t status =
-        tokens_len
-            ? bogzhami_next(&r->handle, i->bytes, i->len, own_tokens, tokens_len, own_texts, texts_len, &answer)
-            : bogzhami_peek(&r->handle, i->bytes, i->len, own_tokens, own_texts, texts_len, &answer);
+        tokens_len ? bogzhami_next(&r->handle, i->bytes, i->len, own_tokens, tokens_len, own_texts, texts_len, &answer)
+                   : bogzhami_peek(&r->handle, i->bytes, i->len, own_tokens, own_texts, texts_len, &answer);
     memcpy(tokens, own_tokens, records * sizeof *tokens);
     if (texts_len)
         memcpy(texts, own_texts, texts_len);
@@ -1039,13 +1036,20 @@ static const struct {
     const char *name;
     void (*test)(const struct input *, const struct whole *);
     bool (*tell)(void);
-} tests[] = {{"batches", try_batches, NULL},         {"rooms", try_rooms, NULL},
-             {"prefixes", try_prefixes, NULL},       {"peeks", try_peeks, NULL},
-             {"turns", try_turns, NULL},             {"threads", try_threads, NULL},
-             {"statuses", try_statuses, NULL},       {"nothing", try_nothing, NULL},
-             {"refused", try_refused, tell_refused}, {"refusals", try_refusals, tell_refusals},
-             {"sizes", try_sizes, NULL},             {"closes", try_closes, NULL},
-             {"pairs", try_pairs, NULL},             {"needs", try_needs, tell_needs}};
+} tests[] = {{"batches", try_batches, NULL},
+             {"rooms", try_rooms, NULL},
+             {"prefixes", try_prefixes, NULL},
+             {"peeks", try_peeks, NULL},
+             {"turns", try_turns, NULL},
+             {"threads", try_threads, NULL},
+             {"statuses", try_statuses, NULL},
+             {"nothing", try_nothing, NULL},
+             {"refused", try_refused, tell_refused},
+             {"refusals", try_refusals, tell_refusals},
+             {"sizes", try_sizes, NULL},
+             {"closes", try_closes, NULL},
+             {"pairs", try_pairs, NULL},
+             {"needs", try_needs, tell_needs}};
 
 /* Runs a test, and keeps the input as the one before. */
 static void try_input(void (*test)(const struct input *, const struct whole *), struct input i) {
