@@ -24,7 +24,7 @@ One line of output for each check; what is wrong is printed before it. The check
   file.
 - lines: no line of the code or of a definition is longer than 120 characters.
 - kits: README.md names the kit that `rt version` names, among those that the proofs were made with, in one place.
-- versions: the header, the Rust crate, the Python module and the newest entry of CHANGELOG.md have the version of VERSION; each
+- versions: the header, the program's definition, the Rust crate, the Python module and the newest entry of CHANGELOG.md have the version of VERSION; each
   entry there has a date, and none is of a day before the one below it.
 - machines: where a document says x86-64, it says x86-64-v2, which is what the kit compiles for.
 - crates: docs/RATTLE.md has the lines of crates.txt of all crates that its own crate needs.
@@ -316,6 +316,7 @@ def check_versions():
     places = {
         "CHANGELOG.md": r"^## (\S+), \d{4}-\d\d-\d\d$",
         "ffi/bogzhami.h": r'^#define BOGZHAMI_VERSION "(.*)"$',
+        "crates/yamltok/specs/Note.antt": r'^note_text Version = codes "yamltok \(Bogzhami\) (.*)\\n"$',
         "rust/Cargo.toml": r'^version = "(.*)"$',
         "python/bogzhami/__init__.py": r'^__version__ = "(.*)"$',
     }

@@ -21,9 +21,23 @@ GOOD = {
 READER_FAULT = b"FAULT reader 1 255 invalid leading UTF-8 octet\n"
 FAULTY = dict.fromkeys(COMMANDS, READER_FAULT)
 FAULTY["calls any spks"] = READER_FAULT + b"PEEK NO-TOKEN\nSKIP NOTHING\nNO-TOKEN\n"
+# What the program says of itself, whatever its input is.
+VERSION = b"yamltok (Bogzhami) " + open(os.path.join(os.path.dirname(HERE), "VERSION"), "rb").read()
+HELP = b"""usage: yamltok COMMAND ENC [WORD] < FILE
+
+  scan ENC [LIMIT]  list all tokens, with a key limit of 1 to 65536 bytes
+  calls ENC WORD    list the answers to calls: s (scan), p (peek), k (skip)
+  decode ENC        say what text the input is
+  -h, --help        print this
+  --version         print the version
+
+ENC is any, utf8, utf16le or utf16be. The exit status is 0; 1 if a line is a
+fault; 2 for wrong words; 3 if a read or a write fails or memory is refused.
+"""
+NOTES = {"--help": HELP, "-h": HELP, "--version": VERSION}
 WRONG = [b"", b"decode", b"scan", b"calls", b"decode latin1", b"decode any any", b"scan any 0", b"scan any 65537",
          b"scan any 07", b"scan any +1", b"scan any ", b"calls any", b"calls any x", b"calls any s s", b"list any",
-         b"\xff any", b"decode \xff", b"scan any \xff", b"calls any s\xff"]
+         b"--help any", b"-h --version", b"--versions", b"-", b"--", b"\xff any", b"decode \xff", b"scan any \xff", b"calls any s\xff"]
 ARGUMENTS, READ, WRITE = (b"yamltok: " + text + b"\n" for text in (b"wrong arguments", b"read failed", b"write failed"))
 
 
@@ -47,6 +61,11 @@ def ends(program):
     """What is checked: a name, what came, and what is expected: status, standard output, standard error."""
     for words in WRONG:
         yield words, run(program, words.split(b" ") if words else [], b"a"), (2, b"", ARGUMENTS)
+    for word, text in NOTES.items():
+        yield word, run(program, [word], b"a\xff"), (0, text, b"")
+        yield f"{word}, input closed", run(program, [word], stdin=None, before=lambda: os.close(0)), (0, text, b"")
+        with open("/dev/full", "wb") as full:
+            yield f"{word}, output full", run(program, [word], b"a", stdout=full), (3, b"", WRITE)
     with open(os.devnull, "rb") as unread:
         yield "wrong words, no input", run(program, ["scan", "any", "0"], stdin=unread), (2, b"", ARGUMENTS)
     folder = os.open(HERE, os.O_RDONLY)

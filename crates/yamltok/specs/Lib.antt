@@ -2,5 +2,6 @@ pub mod Devices
 pub mod Listing
 pub mod Args
 pub mod Outcome
+pub mod Note
 pub mod Run
 pub mod inside

@@ -10,6 +10,8 @@
 //!
 //! ENC is `any`, `utf8`, `utf16le` or `utf16be`.
 //!
+//! `yamltok --help` and `yamltok --version` read nothing: they write which words there are, and which version it is.
+//!
 //! The exit status is 0 if no line is that of a fault, 1 if one is, 2 for wrong arguments, and 3 if a read or a write
 //! failed or there was no memory for the input or the listing.
 #![tactic(auto)]
@@ -24,6 +26,9 @@ mod line;
 mod line_tests;
 mod listing;
 mod mark;
+mod note;
+#[cfg(test)]
+mod note_tests;
 mod outcome;
 mod put;
 #[cfg(test)]
@@ -36,6 +41,7 @@ mod tests;
 
 use args::parse_args;
 use devices::{yaml_sink_of_t, yaml_source_of_t};
+use note::{parse_note, tell};
 use outcome::{tool_fault_t, yaml_status};
 use std::env;
 use std::env::Env;
@@ -53,9 +59,13 @@ fn command_words<R: Env + AllocGlobal>(rt: &R) -> Result<Vec<String>, tool_fault
 
 fn outcome_of(rt: &HostRuntime) -> Result<bool, tool_fault_t> {
     let words = command_words(rt)?;
+    let mut writer = yaml_sink_of_t::new(rt.stdout());
+    if let Some(note) = parse_note(&words) {
+        tell(note, &mut writer)?;
+        return Ok(false);
+    }
     let command = parse_args(&words).ok_or(tool_fault_t::Args)?;
     let mut reader = yaml_source_of_t::new(rt.stdin());
-    let mut writer = yaml_sink_of_t::new(rt.stdout());
     run::run(rt.alloc(), &command, &mut reader, &mut writer)
 }
 

@@ -45,8 +45,8 @@ impl Read for slow_reader_t<'_> {
 
 /// Takes one byte a call, and after so many calls fails or takes none.
 #[derive(Drop)]
-struct slow_writer_t {
-    taken: Vec<u8>,
+pub(crate) struct slow_writer_t {
+    pub(crate) taken: Vec<u8>,
     calls: usize,
     fails: bool,
 }
@@ -70,7 +70,7 @@ impl Write for slow_writer_t {
 }
 
 /// A writer that has taken nothing yet.
-fn slow_writer(alloc: Global, calls: usize, fails: bool) -> slow_writer_t {
+pub(crate) fn slow_writer(alloc: Global, calls: usize, fails: bool) -> slow_writer_t {
     slow_writer_t {
         taken: Vec::new(alloc),
         calls,
