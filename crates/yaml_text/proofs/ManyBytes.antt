@@ -18,3 +18,5 @@ pub mod SlotRuns
 pub mod SlotLanes
 -- Vectors that are computed lane by lane from the halves of units are functions of the units.
 pub mod UnitLanes
+-- Sixteen units of UTF-16 that are cut at 7F, as bytes, and which of these are no characters by themselves.
+pub mod AsciiLanes

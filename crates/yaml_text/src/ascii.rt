@@ -1,7 +1,7 @@
 //! Runs of characters of one byte.
-ghost use Rattle.std.specs.Prelude.{◌≡◌, ◌+◌, ◌≤◌, true, length, drop, map};
+ghost use Rattle.std.specs.Prelude.{◌≡◌, ◌+◌, ◌<◌, ◌≤◌, true, length, drop, map};
 ghost use Rattle.std.specs.List.{prefix_len};
-ghost use Rattle.std.specs.Simd.Lanes.{mask_l};
+ghost use Rattle.std.specs.Simd.Lanes.{mask_l, Each1};
 ghost use Rattle.yaml_text.specs.inside.Singles.{is_single, is_other};
 
 use std::simd::prelude::*;
@@ -21,6 +21,22 @@ pub(crate) fn others(v: u8x16) -> u64
     ((v.simd_lt(u8x16::splat(0x20)) | v.simd_ge(u8x16::splat(0x7F)))
         & (v.simd_ne(u8x16::splat(b'\n'))
             & (v.simd_ne(u8x16::splat(b'\t')) & v.simd_ne(u8x16::splat(b'\r'))))).to_bitmask()
+}
+
+/// For each of the last four bits of an ASCII byte, the tab, line feed, carriage return or delete that has them.
+const EXCEPTIONS: [u8; 16] = [
+    0x80, 0x80, 0x80, 0x80, 0x80, 0x80, 0x80, 0x80, 0x80, b'\t', b'\n', 0x80, 0x80, b'\r', 0x80,
+    0x7F,
+];
+
+/// Which bytes of ASCII are no characters by themselves.
+#[inline(always)]
+pub(crate) fn ascii_others(v: u8x16) -> u64
+    requires { Each1 (λ b. b < 128) v }
+    ensures { result ≡ mask_l (map is_other v) }
+{
+    let exceptions = u8x16::from_array(EXCEPTIONS).swizzle_dyn(v & u8x16::splat(15));
+    (v.simd_lt(u8x16::splat(0x20)) ^ v.simd_eq(exceptions)).to_bitmask()
 }
 
 /// Which bytes are neither printable nor line feeds. If there are none, all are characters by themselves.

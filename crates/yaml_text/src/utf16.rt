@@ -2,6 +2,7 @@
 ghost use Rattle.std.specs.Prelude.{ℕ, ◌≡◌, ◌+◌, ◌-◌, ◌*◌, ◌<◌, ◌≤◌, List, ◌++◌};
 ghost use Rattle.std.specs.Prelude.{[], ◌∷◌, encode_utf8, length, take, drop, slice_index, true, IfOk, IfErr};
 ghost use Rattle.std.specs.Prelude.{OnErr, OnOk, IfSome, IsNone, vec_capacity};
+ghost use Rattle.std.specs.Simd.Lanes.{Each1};
 ghost use Rattle.yaml_text.specs.TextBytes.{IsChar};
 ghost use Rattle.yaml_text.specs.inside.Singles.{is_single};
 ghost use Rattle.yaml_text.specs.inside.Slots.{AreFew, IsSlotOf, Spells, packed};
@@ -9,7 +10,7 @@ ghost use Rattle.yaml_text.specs.Utf16.{unit_at, is_low, is_high, spelling16, of
 ghost use Rattle.yaml_text.specs.inside.Units.{Begins16, BeginsWithNone16};
 ghost use Rattle.yaml_text.specs.inside.Units.{Reads16};
 
-use crate::ascii::{others, rest};
+use crate::ascii::{ascii_others, others, rest};
 use crate::chars::is_char;
 use crate::offence::{offence_t, problem_t, refused};
 use crate::utf8::push_char;
@@ -89,17 +90,34 @@ fn halves(bytes: &[u8], big: bool) -> (u8x16, u8x16)
     if big { (odd, even) } else { (even, odd) }
 }
 
-/// Sixteen units as bytes. A byte that is a character by itself is the unit there.
+/// Where the bytes of 16 units are, if the low bytes come first and the high bytes after them.
+const BY_TURNS: [usize; 32] = [
+    0, 16, 1, 17, 2, 18, 3, 19, 4, 20, 5, 21, 6, 22, 7, 23, 8, 24, 9, 25, 10, 26, 11, 27, 12, 28,
+    13, 29, 14, 30, 15, 31,
+];
+
+/// The units of these low and high bytes.
+#[inline(always)]
+fn units(low: u8x16, high: u8x16) -> u16x16
+    ensures long { length result ≡ 16 }
+    ensures units { (k : ℕ) → k < 16
+        → slice_index result k ≡ slice_index high k * 256 + slice_index low k }
+{
+    u16x16::from_le_bytes(low.shuffle(high, BY_TURNS))
+}
+
+/// Sixteen units as bytes of ASCII. A byte that is a character by itself is the unit there: 7F, which is none, stands
+/// for every unit above it.
 #[inline(always)]
 fn narrow(bytes: &[u8], big: bool) -> u8x16
     requires { 32 ≤ length bytes.now }
     ensures long { length result ≡ 16 }
+    ensures ascii { Each1 (λ b. b < 128) result }
     ensures units { (k : ℕ) → k < 16 → is_single (slice_index result k) ≡ true
         → unit_at big bytes.now (2 * k) ≡ slice_index result k }
 {
     let (low, high) = halves(bytes, big);
-    high.simd_eq(u8x16::splat(0))
-        .select(low, u8x16::splat(0xFF))
+    units(low, high).simd_min(u16x16::splat(0x7F)).cast::<u8>()
 }
 
 /// Sixteen units as bytes. A unit below A0 is the byte itself. A surrogate, FFFE or FFFF is the byte 80. Every other
@@ -273,7 +291,7 @@ fn push_units(out: &mut Vec<u8>, bytes: &[u8], big: bool, at: usize) -> Result<u
     ensures most { IfOk result (λ n. n ≤ 16) }
 {
     let units = narrow(rest(bytes, at), big);
-    let found = others(units);
+    let found = ascii_others(units);
     let before = out.len();
     if found == 0 {
         out.extend_from_slice(&units.to_array())?;
@@ -301,8 +319,12 @@ fn push_run(out: &mut Vec<u8>, bytes: &[u8], big: bool, start: usize) -> Result<
     ensures read { IfOk result (λ at. Reads16 big bytes.now out.new.items at) }
     ensures forward { IfOk result (λ at. start ≤ at) }
 {
+    if bytes.len() < 32 {
+        return Ok(start);
+    }
+    let last = bytes.len() - 32;
     let mut at = start;
-    'units: while bytes.len() - at >= 32 {
+    'units: while at <= last {
         let count = push_units(out, bytes, big, at)?;
         at += 2 * count;
         if count < 16 {

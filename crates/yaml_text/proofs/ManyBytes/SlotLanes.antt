@@ -22,7 +22,7 @@ pub record ByTurns (from : ℕ) (x y v : List ℕ) : Type 0 where
   pub even : (k : ℕ) → k < 8 → get_or v (2 * k) 0 ≡ get_or x (from + k) 0
   pub odd : (k : ℕ) → k < 8 → get_or v (2 * k + 1) 0 ≡ get_or y (from + k) 0
 
-right_at : (x y : List ℕ) (k : ℕ) → length x ≡ 16 → get_or (x ++ y) (16 + k) 0 ≡ get_or y k 0
+pub right_at : (x y : List ℕ) (k : ℕ) → length x ≡ 16 → get_or (x ++ y) (16 + k) 0 ≡ get_or y k 0
 right_at x y k long = let e : 16 + k - 16 ≡ k = omega arith in get_or-append_right x y 16 (16 + k) 0 long (omega arith) ∙ ap (λ i. get_or y i 0) e
 
 pub by_turns : (x y : List ℕ) → length x ≡ 16 → ByTurns 0 x y (picked turns x y)

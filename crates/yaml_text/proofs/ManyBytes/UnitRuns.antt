@@ -1,15 +1,15 @@
 -- Units that are characters of one byte make what was read of UTF-16 grow by as many characters.
-use Rattle.std.proofs.Common.{◌≡◌, ℕ, zero, suc, ◌+◌, ◌*◌, ◌-◌, ◌<◌, ◌≤◌, inl, inr, Bool, true, false, cond, eqb, List, [], ◌∷◌, ◌++◌, length, get_or, take, drop, map, replicate, refl, sym, ap, ◌∙◌, subst, append_assoc, add-one, arith, w8, eqb→eq, eqb-true}
-use Rattle.std.proofs.lemmas.Bool.{cases_lt, true≢false}
+use Rattle.std.proofs.Common.{◌≡◌, ℕ, zero, suc, ◌+◌, ◌*◌, ◌-◌, ◌<◌, ◌≤◌, inl, inr, Bool, true, false, eqb, List, [], ◌∷◌, ◌++◌, length, get_or, take, drop, map, refl, sym, ap, ◌∙◌, subst, append_assoc, add-one, arith, eqb→eq}
+use Rattle.std.proofs.lemmas.Bool.{cases_lt}
 use Rattle.std.proofs.lemmas.List.{append-nil, length-drop, length-take, get_or-drop, get_or-take, get_or_append_left, get_or-append_right, get_or-map}
 use Rattle.std.proofs.lemmas.List.Sums.{prefix_len_passes, prefix_len-le-length}
-use Rattle.std.proofs.lemmas.Simd.{get_or-sel_l, length-sel_l, get_or-replicate, get_or-zip2, length-zip2, tops_compared, leading_from_mask_l, trailing_mask_l}
+use Rattle.std.proofs.lemmas.Simd.{leading_from_mask_l, trailing_mask_l}
 use Rattle.std.proofs.lemmas.Str.{encode_ascii}
 use Rattle.std.proofs.Math.Seq.{take-suc, take-suc-set}
 use Rattle.std.proofs.Math.ListN.{set, length-set}
 use Rattle.std.specs.List.{prefix_len}
 use lib.Count.{count_trailing_zeros}
-use lib.Lanes.{zip2, sel_l, mask_l, top}
+use lib.Lanes.{mask_l}
 use lib.Utf8.{encode}
 use Rattle.yaml_text.specs.Chars.{is_char}
 use Rattle.yaml_text.specs.inside.Singles.{is_single, is_other}
@@ -51,43 +51,6 @@ pub odd_at : (bytes : List ℕ) (k : ℕ) → 32 ≤ length bytes → k < 16 →
 odd_at bytes k long lt =
     let place : get_or odds k 0 ≡ 2 * k + 1 = eqb→eq _ _ (upto_sound (λ i. eqb (get_or odds i 0) (2 * i + 1)) 16 tt k lt) in
     get_or-map (λ j. get_or (joined bytes) j 0) odds k 0 0 lt ∙ ap (λ j. get_or (joined bytes) j 0) place ∙ joined_at bytes (2 * k + 1) long (omega arith)
-
--- ---- a unit whose high byte is 0, or a byte that is no character by itself
-
-abbrev pub is_zero : ℕ → ℕ → ℕ
-is_zero a b = cond (eqb a b) 255 0
-
-abbrev pub low_or_none : List ℕ → List ℕ → List ℕ
-low_or_none low high = sel_l (map (top 7) (zip2 is_zero high (replicate 16 0))) low (replicate 16 255)
-
-record Narrowed (low high z : ℕ) : Type 0 where
-  none : high ≡ 0
-  same : z ≡ low
-
-by_case : (low high z : ℕ) (b : Bool) → b ≡ eqb high 0 → z ≡ cond b low 255 → is_single z ≡ true → Narrowed low high z
-by_case low high z true is e s = record { none = eqb-true high 0 (sym is); same = e }
-by_case low high z false is e s = let no : false ≡ true = ap is_single (sym e) ∙ s in absurd (true≢false (sym no))
-
-narrowed : (low high : List ℕ) (k : ℕ) → length low ≡ 16 → length high ≡ 16 → k < 16 → is_single (get_or (low_or_none low high) k 0) ≡ true → Narrowed (get_or low k 0) (get_or high k 0) (get_or (low_or_none low high) k 0)
-narrowed low high k l h lt s =
-    let ms = map (top 7) (zip2 is_zero high (replicate 16 0)) in
-    let is : ms ≡ zip2 eqb high (replicate 16 0) = tops_compared w8 eqb high (replicate 16 0) in
-    let long : length ms ≡ 16 = ap length is ∙ length-zip2 eqb high (replicate 16 0) h ∙ h in
-    let bit : get_or ms k false ≡ eqb (get_or high k 0) 0 =
-    ap (λ m. get_or m k false) is ∙ get_or-zip2 eqb high (replicate 16 0) k 0 0 false (omega arith) lt ∙ ap (eqb (get_or high k 0)) (get_or-replicate 16 k 0 0 lt) in
-    let value : get_or (low_or_none low high) k 0 ≡ cond (get_or ms k false) (get_or low k 0) 255 =
-    get_or-sel_l ms low (replicate 16 255) k 0 (omega arith) (omega arith) lt ∙ ap (cond (get_or ms k false) (get_or low k 0)) (get_or-replicate 16 k 255 0 lt) in
-    by_case _ _ _ (get_or ms k false) bit value s
-
-pub length-narrowed : (low high : List ℕ) → length low ≡ 16 → length high ≡ 16 → length (low_or_none low high) ≡ 16
-length-narrowed low high l h =
-    let ms = map (top 7) (zip2 is_zero high (replicate 16 0)) in
-    let is : ms ≡ zip2 eqb high (replicate 16 0) = tops_compared w8 eqb high (replicate 16 0) in
-    let long : length ms ≡ 16 = ap length is ∙ length-zip2 eqb high (replicate 16 0) h ∙ h in
-    length-sel_l ms low (replicate 16 255) (omega arith) long ∙ long
-
-pub unit_narrowed : (unit : ℕ) (low high : List ℕ) (k : ℕ) → length low ≡ 16 → length high ≡ 16 → k < 16 → unit ≡ get_or high k 0 * 256 + get_or low k 0 → is_single (get_or (low_or_none low high) k 0) ≡ true → unit ≡ get_or (low_or_none low high) k 0
-unit_narrowed unit low high k l h lt is s = let n = narrowed low high k l h lt s in omega (arith, n.none, n.same)
 
 -- ---- how many bytes of a vector are characters by themselves
 

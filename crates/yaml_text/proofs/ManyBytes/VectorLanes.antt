@@ -1,6 +1,6 @@
 -- A mask that is computed lane by lane is held to a predicate at each of the 256 bytes.
 use Rattle.std.proofs.Common.{◌≡◌, ℕ, zero, suc, ◌%◌, ◌^◌, ◌<◌, ◌≤◌, ◌⊎◌, inl, inr, not, ◌&&◌, Bool, true, false, cond, eqb, ltb, leb, T, List, [], ◌∷◌, map, length, replicate, refl, sym, ap, ap₂, ◌∙◌, subst, arith, w8, Fits, not-suc-le-zero}
-use Rattle.std.proofs.lemmas.Simd.{zip2_of_maps, mask_l-mod}
+use Rattle.std.proofs.lemmas.Simd.{zip2_of_maps, mask_l-mod, below_from_Fits}
 use Rattle.std.proofs.lemmas.List.{length-map}
 use Rattle.std.proofs.lemmas.Bool.{cases_order}
 use lib.Bits.{bit_or, bit_and}
@@ -43,14 +43,18 @@ both_hit f g v p q = zip2_of_maps bit_and f g v p q
 pub either : (f g : ℕ → ℕ) (v : List ℕ) {a b : List ℕ} → a ≡ map f v → b ≡ map g v → zip2 bit_or a b ≡ map (λ x. bit_or (f x) (g x)) v
 either f g v p q = zip2_of_maps bit_or f g v p q
 
-each_byte : (f : ℕ → ℕ) (p : ℕ → Bool) → T (upto (λ x. same (top 7 (f x)) (p x)) 256) → (v : List ℕ) → Each1 (Fits w8) v → map (top 7) (map f v) ≡ map p v
-each_byte f p all [] fits = refl
-each_byte f p all (x ∷ xs) fits = ap₂ (λ a b. a ∷ b) (same_is _ _ (upto_sound (λ y. same (top 7 (f y)) (p y)) 256 all x fits.0.fits)) (each_byte f p all xs fits.1)
+each_below : (n : ℕ) (f : ℕ → ℕ) (p : ℕ → Bool) → T (upto (λ x. same (top 7 (f x)) (p x)) n) → (v : List ℕ) → Each1 (λ x. x < n) v → map (top 7) (map f v) ≡ map p v
+each_below n f p all [] fits = refl
+each_below n f p all (x ∷ xs) fits = ap₂ (λ a b. a ∷ b) (same_is _ _ (upto_sound (λ y. same (top 7 (f y)) (p y)) n all x fits.0)) (each_below n f p all xs fits.1)
+
+pub masked_below : (n : ℕ) (f : ℕ → ℕ) (p : ℕ → Bool) (v z : List ℕ) → length v ≤ 64 → Each1 (λ x. x < n) v → z ≡ map f v → T (upto (λ x. same (top 7 (f x)) (p x)) n)
+    → mask_l (map (top 7) z) % 2 ^ 64 ≡ mask_l (map p v)
+masked_below n f p v z short fits e all =
+    ap (λ l. mask_l l % 2 ^ 64) (ap (map (top 7)) e ∙ each_below n f p all v fits) ∙ mask_l-mod (map p v) 64 (omega (arith, length-map v p))
 
 pub masked : (f : ℕ → ℕ) (p : ℕ → Bool) (v z : List ℕ) → length v ≤ 64 → Each1 (Fits w8) v → z ≡ map f v → T (upto (λ x. same (top 7 (f x)) (p x)) 256)
     → mask_l (map (top 7) z) % 2 ^ 64 ≡ mask_l (map p v)
-masked f p v z short fits e all =
-    ap (λ l. mask_l l % 2 ^ 64) (ap (map (top 7)) e ∙ each_byte f p all v fits) ∙ mask_l-mod (map p v) 64 (omega (arith, length-map v p))
+masked f p v z short fits e all = masked_below 256 f p v z short (below_from_Fits w8 v fits) e all
 
 abbrev pub below : ℕ → ℕ → ℕ
 below a b = cond (ltb a b) 255 0

@@ -11,7 +11,7 @@ pub returns-then-found-eq0-clause-read : goal.returns-then-found-eq0-clause-read
 returns-then-found-eq0-clause-read c =
     let v = c.narrow-units.result in
     let long : length v ≡ 16 = c.narrow-units.ensures.long in
-    let some = all_single v c.others-found.result c.others-found.ensures c.if-found-eq0.true in
+    let some = all_single v c.ascii_others-found.result c.ascii_others-found.ensures c.if-found-eq0.true in
     let units : AreUnits c.args.big (drop c.args.at c.args.bytes.now) v = rw c.rest.ensures at c.narrow-units.ensures.units in
     let read = singles_read c.args.big c.args.bytes.now c.args.out.now.items v c.args.at 16 (λ i. omega (arith, c.type_inv.bytes i)) c.requires.read c.requires.room long (omega arith) units in
     let whole : take 16 v ≡ v = take_all 16 v (omega arith) in
@@ -20,17 +20,17 @@ returns-then-found-eq0-clause-read c =
 pub unit_at-requires : goal.unit_at-requires
 unit_at-requires c =
     let v = c.narrow-units.result in
-    let some = some_single v c.others-found.result (omega (arith, c.narrow-units.ensures.long)) c.others-found.ensures (omega arith) in
-    let few = not_all_single v c.others-found.result c.others-found.ensures (omega arith) in
+    let some = some_single v c.ascii_others-found.result (omega (arith, c.narrow-units.ensures.long)) c.ascii_others-found.ensures (omega arith) in
+    let few = not_all_single v c.ascii_others-found.result c.ascii_others-found.ensures (omega arith) in
     omega (arith, some, few, c.narrow-units.ensures.long)
 
 pub returns-clause-read : goal.returns-clause-read
 returns-clause-read c =
     let v = c.narrow-units.result in
     let text = c.args.out.now.items in
-    let n = count_trailing_zeros 64 c.others-found.result in
+    let n = count_trailing_zeros 64 c.ascii_others-found.result in
     let long : length v ≡ 16 = c.narrow-units.ensures.long in
-    let some = some_single v c.others-found.result (omega arith) c.others-found.ensures (omega arith) in
+    let some = some_single v c.ascii_others-found.result (omega arith) c.ascii_others-found.ensures (omega arith) in
     let units : AreUnits c.args.big (drop c.args.at c.args.bytes.now) v = rw c.rest.ensures at c.narrow-units.ensures.units in
     let read = singles_read c.args.big c.args.bytes.now text v c.args.at n (λ i. omega (arith, c.type_inv.bytes i)) c.requires.read c.requires.room long (omega (arith, some)) units in
     let size : c.len-before.result ≡ length text = search (rules, c.len-before.ensures) in
@@ -42,5 +42,5 @@ pub returns-clause-most : goal.returns-clause-most
 returns-clause-most c =
     let v = c.narrow-units.result in
     let long : length v ≡ 16 = c.narrow-units.ensures.long in
-    let some = some_single v c.others-found.result (omega arith) c.others-found.ensures (omega arith) in
+    let some = some_single v c.ascii_others-found.result (omega arith) c.ascii_others-found.ensures (omega arith) in
     omega (arith, some, prefix_len-le-length is_single v)
