@@ -319,12 +319,8 @@ fn push_run(out: &mut Vec<u8>, bytes: &[u8], big: bool, start: usize) -> Result<
     ensures read { IfOk result (λ at. Reads16 big bytes.now out.new.items at) }
     ensures forward { IfOk result (λ at. start ≤ at) }
 {
-    if bytes.len() < 32 {
-        return Ok(start);
-    }
-    let last = bytes.len() - 32;
     let mut at = start;
-    'units: while at <= last {
+    'units: while bytes.len() - at >= 32 {
         let count = push_units(out, bytes, big, at)?;
         at += 2 * count;
         if count < 16 {
