@@ -4,7 +4,8 @@
 The program testbench, which is beside the given one, answers the questions. The inputs are made from a fixed seed. Each is a
 run of characters of one kind that is longer than the program looks at at a time, with a few pieces put in at random places:
 characters at the ends of ranges, octets and units that may not stand there, halves of pairs, and characters that are cut.
-Many are cut at the end too. Needs a C compiler for the last part: with every request for memory refused, UTF-8 is decoded.
+Many are cut at the end too. Then each character at a border, and each unit with one octet of ASCII, is put at each place in
+ASCII of 15 to 33 units of UTF-16, since sixteen units are looked at at a time. Needs a C compiler for the last part: with every request for memory refused, UTF-8 is decoded.
 """
 
 import os
@@ -24,6 +25,8 @@ SEED = 27
 BORDERS = [0x00, 0x08, 0x09, 0x0A, 0x0B, 0x0D, 0x1F, 0x20, 0x7E, 0x7F, 0x80, 0x84, 0x85, 0x86, 0x9F, 0xA0, 0x7FF, 0x800, 0xFFF,
            0x1000, 0x2028, 0x2029, 0xCFFF, 0xD7FF, 0xD800, 0xDBFF, 0xDC00, 0xDFFF, 0xE000, 0xFEFF, 0xFFBF, 0xFFC0, 0xFFFD, 0xFFFE,
            0xFFFF, 0x10000, 0x1FFFE, 0x3FFFF, 0x40000, 0xFFFFF, 0x100000, 0x10FFFD, 0x10FFFF, 0x110000, 0x13FFFF, 0x1FFFFF]
+# units of which one octet is ASCII and the other is not 0
+MIXED = [0x10A, 0x120, 0x161, 0x6100, 0x6161, 0x7F61, 0x8061, 0xFF61]
 # what the runs are made of: the least and the greatest code point
 KINDS = [(0x61, 0x7A), (0x20, 0x7E), (0x410, 0x44F), (0xA0, 0x7FF), (0x4E00, 0x9FFF), (0x900, 0x97F), (0xE000, 0xFFBF),
          (0x1F300, 0x1F64F), (0x10000, 0xFFFFF)]
@@ -87,6 +90,18 @@ def make_input(r):
     return setting, data[: r.randint(0, len(data))] if r.random() < 0.3 else data
 
 
+def in_blocks():
+    """ASCII in UTF-16 with something at each place in it, whole and without its last octet."""
+    for setting in "utf16le", "utf16be":
+        for length in 15, 16, 17, 31, 32, 33:
+            run = [spelled(0x61 + k % 26, setting) for k in range(length)]
+            for place in range(length + 1):
+                for value in BORDERS + MIXED:
+                    data = b"".join([*run[:place], spelled(value, setting), *run[place:]])
+                    yield setting, data
+                    yield setting, data[:-1]
+
+
 def answers(program, inputs):
     lines = "".join(f"decode {setting} {data.hex() or '-'}\n" for setting, data in inputs)
     done = subprocess.run([program], input=lines.encode(), capture_output=True, check=True, timeout=600)
@@ -95,15 +110,15 @@ def answers(program, inputs):
 
 def compare(program):
     r = random.Random(SEED)
-    inputs = [make_input(r) for _ in range(COUNT)]
+    inputs = [make_input(r) for _ in range(COUNT)] + list(in_blocks())
     found = answers(program, inputs)
     wanted = [reading(setting, data) for setting, data in inputs]
     wrong = [it for it in zip(inputs, found, wanted) if it[1] != it[2]]
     for (setting, data), line, right in wrong[:10]:
         print(f"decode {setting} {data.hex()}: wanted {right}, got {line}")
     refused = sum(line.startswith("REFUSED") for line in wanted)
-    print(f"decodings: {COUNT} inputs, of which {refused} are refused: {len(wrong)} differ")
-    return len(found) == COUNT and not wrong
+    print(f"decodings: {len(inputs)} inputs, of which {refused} are refused: {len(wrong)} differ")
+    return len(found) == len(inputs) and not wrong
 
 
 def takes_no_memory(program):
