@@ -558,6 +558,22 @@ fn plain_scalars(rt: HostRuntime) -> Result<(), Fail> {
 }
 
 #[test]
+fn plain_scalars_before_lines(rt: HostRuntime) -> Result<(), Fail> {
+    let rows: [(&str, u64, Option<u64>, &str); 9] = [
+        ("a\n]", 1, None, "plain 61 0:0:0 1:0:1 2:1:0 true"),
+        ("a\n  }", 1, Some(3), "plain 61 0:0:0 1:0:1 4:1:2 true"),
+        ("a\n ,b", 1, None, "plain 61 0:0:0 1:0:1 3:1:1 true"),
+        ("a\n [b", 2, None, "plain 61 0:0:0 1:0:1 3:1:1 true"),
+        ("a\n\n ]", 1, None, "plain 61 0:0:0 1:0:1 4:2:1 true"),
+        ("a\nb]", 1, None, "plain 612062 0:0:0 3:1:1 3:1:1 false"),
+        ("a\n b", 0, Some(1), "plain 61 0:0:0 1:0:1 3:1:1 true"),
+        ("a\n  b", 0, Some(1), "plain 612062 0:0:0 5:1:3 5:1:3 false"),
+        ("a\n ]", 0, None, "plain 61205d 0:0:0 4:1:2 4:1:2 false"),
+    ];
+    expect_rows(&rt, rt.alloc(), &rows)
+}
+
+#[test]
 fn block_headers(rt: HostRuntime) -> Result<(), Fail> {
     let rows: [(&str, u64, Option<u64>, &str); 9] = [
         ("|", 0, None, "literal - 0:0:0 1:0:1 1:0:1 false"),

@@ -11,7 +11,7 @@ ghost use Rattle.yaml_lexeme.specs.inside.Words as words;
 ghost use Rattle.yaml_lexeme.specs.inside.Gives.{Gives, Appends};
 ghost use Rattle.yaml_lexeme.specs.LexemeOf.{scalar_of};
 ghost use Rattle.yaml_lexeme.specs.Reading.{with_front, over};
-ghost use Rattle.yaml_lexeme.specs.inside.Words.{links, words, plain_of, Goes, LeadsTo, Leaves, LeavesMore};
+ghost use Rattle.yaml_lexeme.specs.inside.Words.{links, words, plain_of, Ends, Goes, LeadsTo, Leaves, LeavesMore};
 
 use crate::classes::{ends, is_break, is_white};
 use crate::fold::{copied_front, push_separator};
@@ -213,9 +213,23 @@ fn take_link(
     Ok(true)
 }
 
-/// Takes the separator that is here, if a quick look shows that the scalar is over before it. Then it is
-/// empty, or is a line feed and spaces before a line that is not indented enough. Returns whether a break is
-/// in it.
+/// Whether the scalar is over before the line whose indentation ends here. It is if the line is not indented enough, or
+/// if it begins, in flow, with what ends an item.
+#[inline(always)]
+fn ends_before(cursor: &cursor_t, in_flow: bool, least: u64) -> bool
+    ensures { result ≡ true → Ends in_flow least cursor.now }
+{
+    let c = cursor.peek(0);
+    if in_flow {
+        c == ',' || c == ']' || c == '}'
+    } else {
+        cursor.mark().column < least && !is_white(c)
+    }
+}
+
+/// Takes the separator that is here, if a quick look shows that the scalar is over before it. Then it is empty, or is
+/// a line feed and spaces before a line that is not indented enough, or, in flow, before what ends an item. Returns
+/// whether a break is in it.
 #[inline(always)]
 fn ends_at_once(cursor: &mut cursor_t, in_flow: bool, least: u64) -> Option<bool>
     ensures over { IfSome result (λ b. spec.link in_flow least cursor.old ≡ over) }
@@ -227,13 +241,10 @@ fn ends_at_once(cursor: &mut cursor_t, in_flow: bool, least: u64) -> Option<bool
     if c != '\n' {
         return if is_white(c) { None } else { Some(false) };
     }
-    if in_flow {
-        return None;
-    }
     let mut next = cursor.again();
     next.pass_feed();
     next.skip_all_spaces();
-    if next.mark().column >= least || is_white(next.peek(0)) {
+    if !ends_before(&next, in_flow, least) {
         return None;
     }
     *cursor = next;

@@ -28,7 +28,7 @@ use Rattle.yaml_lexeme.specs.declared.runs.class_t.TheVariants.{SPACE}
 use Rattle.yaml_lexeme.specs.Plain.{is_bad_colon, is_chunk, chunk, separator, is_over, link, plain}
 use Rattle.yaml_lexeme.specs.Reading.{Offence, Read, found, refuse, Part, part, over, many, with_front, go_on, ◌>>=◌}
 use Rattle.yaml_lexeme.specs.inside.Runs.{class_test, trim, Stands}
-use Rattle.yaml_lexeme.specs.inside.Words.{links, words, plain_of, Goes, is_bad_tab, untabbed}
+use Rattle.yaml_lexeme.specs.inside.Words.{links, words, plain_of, Ends, Goes, is_bad_tab, untabbed}
 
 two_fronts : (a b : List ℕ) (r : Read (List ℕ)) → with_front a (with_front b r) ≡ with_front (a ++ b) r
 two_fronts a b (Ok f) = ap (λ (xs : List ℕ). found xs f.end) (sym (append_assoc a b f.value))
@@ -300,16 +300,29 @@ white_shorter p q w e =
 pub links_end : (flow : Bool) (least : ℕ) (p : Place) (out : List ℕ) → link flow least p ≡ over → with_front out (links flow least p) ≡ found out p
 links_end flow least p out h = links_over flow least p p out (same_none (link flow least p) out p p h refl)
 
--- a line feed and spaces, before a line that is not indented enough
-pub over_below : (flow : Bool) (least : ℕ) (p q : Place) → flow ≡ false → first p ≡ 10 → q ≡ after_run (class_test SPACE) (skip 1 p) → is_white (first q) ≡ false → q.mark.column < least → (link flow least p ≡ over) × (q ≡ after_run is_white p)
-over_below flow least p q block feed e stop low =
+over_if : (flow : Bool) (least : ℕ) (p q : Place) (o c b : Bool) → Gap flow least p q → is_over flow least q ≡ o → is_chunk flow (first q) (peek q 1) ≡ c → is_bad_colon flow (first q) (peek q 1) ≡ b → (o || not (c || b)) ≡ true → link flow least p ≡ over
+over_if flow least p q true c b g o h t e = at_gap flow least p q g ∙ rw o refl
+over_if flow least p q false true b g o h t e = absurd cc
+over_if flow least p q false false true g o h t e = absurd cc
+over_if flow least p q false false false g o h t e =
+    let c : chunk flow q ≡ found [] q = chunk_stop flow q h ∙ rw t refl in
+    at_gap flow least p q g ∙ rw (o, c) refl
+
+-- a separator that ends where no words follow
+pub over_after : (flow : Bool) (least : ℕ) (broken : Bool) (p q : Place) → is_white (first p) ≡ true → Passes least broken q p → Ends flow least q → (link flow least p ≡ over) × (q ≡ after_run is_white p)
+over_after flow least broken p q w s ends =
+    let t = passes_all least broken q p ends.0 s in
+    let gap : Gap flow least p q = record { space = w; read = t.0 ∙ ap (λ (r : Place). found (fold (run is_white p)) r) (sym t.1) } in
+    (over_if flow least p q (is_over flow least q) (is_chunk flow (first q) (peek q 1)) (is_bad_colon flow (first q) (peek q 1)) gap refl refl refl ends.1, t.1)
+
+-- a line feed and spaces, where no words follow
+pub over_below : (flow : Bool) (least : ℕ) (p q : Place) → first p ≡ 10 → q ≡ after_run (class_test SPACE) (skip 1 p) → Ends flow least q → (link flow least p ≡ over) × (q ≡ after_run is_white p)
+over_below flow least p q feed e ends =
     let w : is_white (first p) ≡ true = rw feed refl in
     let fine : is_bad_tab least false p ≡ false = rw feed refl in
     let broken = false || is_break (first p) in
     let next = passes_spaces least broken (skip 1 p) p (passes_more least false p p w fine (record { tab = refl; end = refl })) in
-    let t = passes_all least broken q p stop (subst (λ (r : Place). Passes least broken r p) (sym e) next) in
-    let o : is_over flow least q ≡ true = grind (arith, nat_tests) in
-    (at_gap flow least p q (record { space = w; read = t.0 ∙ ap (λ (r : Place). found (fold (run is_white p)) r) (sym t.1) }) ∙ rw o refl, t.1)
+    over_after flow least broken p q w (subst (λ (r : Place). Passes least broken r p) (sym e) next) ends
 
 -- a break is in it
 pub passed_feed : (p : Place) → first p ≡ 10 → list_any is_break (run is_white p) ≡ true
