@@ -106,6 +106,10 @@ fn long_gap(
         → result.1 ≡ (spec.gap in_flow allowed (place_at text.now.chars n)).1 }
 {
     let mut cursor = cursor_t::at(text, at);
+    let mut next = cursor.again();
+    if next.take_feed_and_spaces() && is_solid(&next, 0) {
+        return (next.mark(), true);
+    }
     let broken = skip_gap_lines(&mut cursor, in_flow, allowed);
     (cursor.mark(), broken)
 }

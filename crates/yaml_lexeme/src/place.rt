@@ -7,7 +7,7 @@ ghost use Rattle.yaml_text.specs.TextBytes.{IsText};
 ghost use Rattle.yaml_text.specs.Classes.{is_break};
 ghost use Rattle.yaml_text.specs.Utf8.{value_of};
 ghost use Rattle.yaml_lexeme.specs.Place.{peek, first, place_at, skip, after_run, run};
-ghost use Rattle.yaml_lexeme.specs.inside.Moves.{mark_after};
+ghost use Rattle.yaml_lexeme.specs.inside.Moves.{mark_after, is_feed};
 ghost use Rattle.yaml_lexeme.specs.Counted.{IsMarkOf};
 ghost use Rattle.yaml_lexeme.specs.Place.{run_len, break_len};
 ghost use Rattle.yaml_lexeme.specs.declared.runs.class_t.TheVariants.{BLANK, SPACE};
@@ -227,6 +227,21 @@ impl<'a> cursor_t<'a> {
         self.bytes = rest(self.bytes, 1);
     }
 
+    /// Takes a carriage return before a line feed.
+    #[inline(always)]
+    fn pass_return(&mut self)
+        requires here { first self.old ≡ 0x0D }
+        requires feed { peek self.old 1 ≡ 0x0A }
+        ensures { self.new ≡ skip 1 self.old }
+    {
+        self.mark = yaml_mark_t {
+            index: self.mark.index + 1,
+            line: self.mark.line,
+            column: self.mark.column + 1,
+        };
+        self.bytes = rest(self.bytes, 1);
+    }
+
     /// Takes a character of ASCII that is no break.
     #[inline(always)]
     pub fn pass(&mut self)
@@ -424,6 +439,24 @@ impl<'a> cursor_t<'a> {
         ensures { self.new ≡ after_run (class_test SPACE) self.old }
     {
         self.skip_spaces(u64::MAX);
+    }
+
+    /// Takes a line feed, alone or after a carriage return, and the spaces after it. Returns whether it was here.
+    #[inline(always)]
+    pub fn take_feed_and_spaces(&mut self) -> bool
+        ensures here { result ≡ is_feed (first self.old) (peek self.old 1) }
+        ensures taken { result ≡ true → self.new ≡ after_run (class_test SPACE) (skip (break_len self.old) self.old) }
+        ensures stays { result ≡ false → self.new ≡ self.old }
+    {
+        let c = self.peek(0);
+        if c == '\r' && check_at!(self, '\n', 1) {
+            self.pass_return();
+        } else if c != '\n' {
+            return false;
+        }
+        self.pass_feed();
+        self.skip_all_spaces();
+        true
     }
 
     /// Takes the blanks that are here, one by one, since mostly they are few.

@@ -1,5 +1,5 @@
 //! Plain scalars.
-ghost use Rattle.std.specs.Prelude.{◌≡◌, ◌+◌, ◌||◌, ◌<◌, ◌≤◌, [], None, true, false, nat_le, length};
+ghost use Rattle.std.specs.Prelude.{ℕ, Bool, ◌≡◌, ◌+◌, ◌||◌, ◌<◌, ◌≤◌, [], None, true, false, nat_le, length};
 ghost use Rattle.std.specs.Prelude.{OnOk, IfOk, IfSome, take};
 ghost use Rattle.std.specs.List.{list_any};
 ghost use Rattle.yaml_text.specs.Classes as classes;
@@ -251,6 +251,32 @@ fn ends_at_once(cursor: &mut cursor_t, in_flow: bool, least: u64) -> Option<bool
     Some(true)
 }
 
+/// Whether the scalar is over here, at whatever column: a comment or a `:` that makes it a key is here.
+fn ends_anywhere(cursor: &cursor_t) -> bool
+    ensures { (in_flow : Bool) (least : ℕ) → result ≡ true → Ends in_flow least cursor.now }
+{
+    let c = cursor.peek(0);
+    c == '#' || c == ':' && is_at!(cursor, ends, 1)
+}
+
+/// Takes the separator that is here, if a second look shows that the scalar is over before it. Then it is blanks, and
+/// after them nothing, or a line feed and spaces. Returns whether a break is in it.
+fn ends_soon(cursor: &mut cursor_t, in_flow: bool, least: u64) -> Option<bool>
+    ensures over { IfSome result (λ b. spec.link in_flow least cursor.old ≡ over) }
+    ensures end { IfSome result (λ b. cursor.new ≡ after_run sets.is_white cursor.old) }
+    ensures broken { IfSome result (λ b. b ≡ list_any classes.is_break (run sets.is_white cursor.old)) }
+    ensures stays { result ≡ None → cursor.new ≡ cursor.old }
+{
+    let mut next = cursor.again();
+    next.skip_run(class_t::BLANK);
+    let broken = next.take_feed_and_spaces();
+    if !(ends_before(&next, in_flow, least) || ends_anywhere(&next)) {
+        return None;
+    }
+    *cursor = next;
+    Some(broken)
+}
+
 /// Takes the separators and words after those of the first line, which are in `scalar`, and the separator after all.
 #[cold]
 fn take_links(
@@ -262,6 +288,11 @@ fn take_links(
     ensures { (p : Place) → LeadsTo in_flow least p scalar.old.value.items cursor.old
         → Gives (λ done. scalar_of scalar.new) result cursor.new (spec.plain in_flow least p) }
 {
+    scalar.end = cursor.mark();
+    if let Some(passed_break) = ends_soon(cursor, in_flow, least) {
+        scalar.passed_break = passed_break;
+        return Ok(());
+    }
     'links: while take_link(cursor, in_flow, least, &mut scalar.value)? {}
     scalar.end = cursor.mark();
     cursor.skip_run(class_t::BLANK);

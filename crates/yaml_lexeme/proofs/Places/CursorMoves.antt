@@ -16,7 +16,7 @@ use Rattle.yaml_text.specs.Classes.{is_break}
 use Rattle.yaml_text.proofs.Decodings.DecodeFronts.{chars-utf8, IsText-utf8}
 use Rattle.yaml_text.proofs.Marks.MarkMoves.{AreChars-parts}
 use Rattle.yaml_text.proofs.Characters.ClassTables.{Leads, leads}
-use Rattle.yaml_lexeme.specs.Place.{first, Place, place_at, skip, after_run, run, run_len}
+use Rattle.yaml_lexeme.specs.Place.{first, peek, Place, place_at, skip, after_run, run, run_len}
 use Rattle.yaml_lexeme.specs.inside.Moves.{ends_line, skip_from, mark_after}
 use Rattle.yaml_lexeme.specs.Counted.{IsMarkOf}
 use Rattle.yaml_lexeme.specs.declared.runs.class_t.{class_t}
@@ -231,6 +231,25 @@ pub feed_moves : (m : yaml_mark_t) (bytes : List ℕ) (p : Place) → IsText byt
 feed_moves m bytes p t view feed =
     let b = ascii_byte m bytes p t view (omega arith) (omega arith) in
     (b, line_feed_moves m bytes t b.some (b.same ∙ feed))
+
+return_mark : (m : yaml_mark_t) (c next : ℕ) → c ≡ 13 → next ≡ 10 → along m 1 1 ≡ mark_after m c next
+return_mark m c next e n = rw (e, n) refl
+
+-- after a carriage return that is here, before a line feed
+pub return_moves : (m : yaml_mark_t) (bytes : List ℕ) (p : Place) → IsText bytes → (let q : Place = record { mark = m; rest = chars bytes } in q ≡ p) → first p ≡ 13 → peek p 1 ≡ 10 → AsciiByte bytes (first p) × AsciiMove m bytes
+return_moves m bytes p t view e n =
+    let b = ascii_byte m bytes p t view (omega arith) (omega arith) in
+    let h = head bytes t b.some in
+    let k = past_ascii bytes t b.some (omega (arith, b.same)) in
+    let q : Place = record { mark = m; rest = chars bytes } in
+    let here : get_or (chars bytes) 0 0 ≡ 13 = ap (λ (x : Place). first x) view ∙ e in
+    let next : get_or (chars bytes) 1 0 ≡ 10 = ap (λ (x : Place). peek x 1) view ∙ n in (
+      b,
+      record {
+        text = k.text;
+        place = moved q m (along m 1 1) (chars bytes) (chars (drop 1 bytes)) (get_or q.rest 1 0) refl h.some refl (return_mark m (get_or (chars bytes) 0 0) (get_or q.rest 1 0) here next) k.rest;
+      },
+    )
 
 -- a text's front is a place of it
 pub at_front : (cs : List ℕ) → IsMarkOf cs (record { index = 0; line = 0; column = 0 }) 0

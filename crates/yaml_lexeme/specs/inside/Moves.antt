@@ -1,5 +1,5 @@
 -- How a mark moves over a character, by the one character after it.
-use Rattle.std.specs.Prelude.{ℕ, ◌+◌, Bool, not, ◌&&◌, if◌then◌else◌, List, drop}
+use Rattle.std.specs.Prelude.{ℕ, ◌+◌, Bool, not, ◌&&◌, ◌||◌, ◌==◌, if◌then◌else◌, List, drop}
 use Rattle.std.specs.Char.{len_utf8}
 use Rattle.yaml_text.specs.declared.types.yaml_mark_t.{yaml_mark_t}
 use Rattle.yaml_text.specs.Classes.{is_break, is_crlf}
@@ -9,6 +9,10 @@ use Rattle.yaml_lexeme.specs.Place.{Place}
 -- a break ends after c, which `next` follows: CR LF is one break
 abbrev pub ends_line : ℕ → ℕ → Bool
 ends_line c next = is_break c && not (is_crlf c next)
+
+-- the break that begins with c, which `next` follows, ends with a line feed
+abbrev pub is_feed : ℕ → ℕ → Bool
+is_feed c next = c == 0x0A || is_crlf c next
 
 -- the mark after c
 abbrev pub mark_after : yaml_mark_t → ℕ → ℕ → yaml_mark_t
