@@ -107,7 +107,7 @@ fn long_gap(
 {
     let mut cursor = cursor_t::at(text, at);
     let mut next = cursor.again();
-    if next.take_feed_and_spaces() && is_solid(&next, 0) {
+    if check_at!(next, '\r', 0) && next.take_feed_and_spaces() && is_solid(&next, 0) {
         return (next.mark(), true);
     }
     let broken = skip_gap_lines(&mut cursor, in_flow, allowed);

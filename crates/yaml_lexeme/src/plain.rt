@@ -260,13 +260,17 @@ fn ends_anywhere(cursor: &cursor_t) -> bool
 }
 
 /// Takes the separator that is here, if a second look shows that the scalar is over before it. Then it is blanks, and
-/// after them nothing, or a line feed and spaces. Returns whether a break is in it.
+/// after them nothing, or a line feed and spaces. It does not begin with a line feed, at which `ends_at_once` looks.
+/// Returns whether a break is in it.
 fn ends_soon(cursor: &mut cursor_t, in_flow: bool, least: u64) -> Option<bool>
     ensures over { IfSome result (λ b. spec.link in_flow least cursor.old ≡ over) }
     ensures end { IfSome result (λ b. cursor.new ≡ after_run sets.is_white cursor.old) }
     ensures broken { IfSome result (λ b. b ≡ list_any classes.is_break (run sets.is_white cursor.old)) }
     ensures stays { result ≡ None → cursor.new ≡ cursor.old }
 {
+    if check_at!(cursor, '\n', 0) {
+        return None;
+    }
     let mut next = cursor.again();
     next.skip_run(class_t::BLANK);
     let broken = next.take_feed_and_spaces();
