@@ -63,6 +63,12 @@ def short_entries(count=TIMES):
     return "".join(f"- {word(r)}{word(r)}\n" for _ in range(count))
 
 
+def entries(between, end, count=TIMES // 2):
+    """Keys and values, of which each ends with the same characters."""
+    r = random.Random(7)
+    return "".join(f"{word(r)}:{between}{word(r)}{end}" for _ in range(count))
+
+
 def json_value(r, depth):
     kind = r.random()
     if depth < 3 and kind < 0.35:
@@ -87,6 +93,9 @@ def scanned():
     yield "realistic, 10 MB", realistic(LARGE, 7)
     yield "dense, 10 MB", dense(LARGE, 7)
     yield f"{TIMES:,} short plain scalars, each an entry", short_entries()
+    yield f"{TIMES // 2:,} short values, each line ends with CR LF", entries(" ", "\r\n")
+    yield f"{TIMES // 2:,} short values, each line ends with two blanks", entries(" ", "  \n")
+    yield f"{TIMES // 2:,} short values in typographic quotes", entries(" \u201c", "\u201d\n")
     for piece in "- ", "? ":
         yield f"{TIMES:,} times `{piece}`", piece * TIMES
     for name, text in scalars():

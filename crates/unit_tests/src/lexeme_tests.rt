@@ -327,7 +327,11 @@ fn expect_rows(
 #[test]
 fn gaps(rt: HostRuntime) -> Result<(), Fail> {
     let alloc = rt.alloc();
-    let gaps: [(&str, bool, bool, &str); 5] = [
+    let gaps: [(&str, bool, bool, &str); 9] = [
+        ("\r\n  x", false, false, "4:1:2 true"),
+        ("\r\n\tx", false, false, "2:1:0 true"),
+        ("\r\n  #c\r\nx", false, false, "8:2:0 true"),
+        ("\r\n", true, true, "2:1:0 true"),
         ("\t#c\n  x", false, false, "6:1:2 true"),
         ("\t#c\n  x", false, true, "0:0:0 false"),
         ("\n\tx", false, false, "1:1:0 true"),
@@ -571,6 +575,89 @@ fn plain_scalars_before_lines(rt: HostRuntime) -> Result<(), Fail> {
         ("a\n ]", 0, None, "plain 61205d 0:0:0 4:1:2 4:1:2 false"),
     ];
     expect_rows(&rt, rt.alloc(), &rows)
+}
+
+#[test]
+fn plain_scalars_before_blanks(rt: HostRuntime) -> Result<(), Fail> {
+    let rows: [(&str, u64, Option<u64>, &str); 14] = [
+        ("a  # c", 0, None, "plain 61 0:0:0 1:0:1 3:0:3 false"),
+        ("a \t: b", 0, None, "plain 61 0:0:0 1:0:1 3:0:3 false"),
+        ("a :b", 0, None, "plain 61203a62 0:0:0 4:0:4 4:0:4 false"),
+        ("a - b", 0, None, "plain 61202d2062 0:0:0 5:0:5 5:0:5 false"),
+        ("a \t,b", 1, None, "plain 61 0:0:0 1:0:1 3:0:3 false"),
+        ("a  \nb", 0, Some(0), "plain 61 0:0:0 1:0:1 4:1:0 true"),
+        ("a \t\n# c", 0, None, "plain 61 0:0:0 1:0:1 4:1:0 true"),
+        ("a\r\nb", 0, Some(0), "plain 61 0:0:0 1:0:1 3:1:0 true"),
+        ("a \r\n ]", 1, None, "plain 61 0:0:0 1:0:1 5:1:1 true"),
+        ("a\rb", 0, Some(0), "plain 61 0:0:0 1:0:1 2:1:0 true"),
+        ("a\r\n", 0, None, "plain 61 0:0:0 1:0:1 3:1:0 true"),
+        ("a \r", 0, None, "plain 61 0:0:0 1:0:1 3:1:0 true"),
+        ("a \r\n  b", 0, Some(1), "plain 612062 0:0:0 7:1:3 7:1:3 false"),
+        ("a\r\n\r\n b", 0, None, "plain 610a62 0:0:0 7:2:2 7:2:2 false"),
+    ];
+    expect_rows(&rt, rt.alloc(), &rows)
+}
+
+/// So many times a letter.
+fn push_letters(text: &mut String, letter: &str, count: u64) -> Result<(), Fail> {
+    for _ in 0..count {
+        text.push_str(letter)?;
+    }
+    Ok(())
+}
+
+/// Compares a plain scalar of x, what is between, and y with what is wanted. `kept` is what the scalar keeps of what
+/// is between; that is a break, or one character.
+fn expect_between(
+    rt: &HostRuntime,
+    between: &str,
+    kept: &str,
+    broken: bool,
+    front: u64,
+    back: u64,
+) -> Result<(), Fail> {
+    let alloc = rt.alloc();
+    let (mut text, mut value) = (String::new(alloc), String::new(alloc));
+    push_letters(&mut text, "x", front)?;
+    push_letters(&mut value, "x", front)?;
+    text.push_str(between)?;
+    value.push_str(kept)?;
+    push_letters(&mut text, "y", back)?;
+    push_letters(&mut value, "y", back)?;
+    let shown = lexed(alloc, text.as_bytes(), 0, None)?;
+    let index = front + between.len() as u64 + back;
+    let (line, column) = if broken { (1, back) } else { (0, front + 1 + back) };
+    let bytes = show_bytes(alloc, value.as_bytes())?;
+    let bytes = bytes.as_str();
+    let end = format!(in alloc; "{index}:{line}:{column}")?;
+    let end = end.as_str();
+    let want = format!(in alloc; "plain {bytes} 0:0:0 {end} {end} false")?;
+    assert_eq!(rt; shown.as_str(), want.as_str(), "{front} {back}");
+    Ok(())
+}
+
+#[test]
+fn first_bytes_of_breaks_at_each_place(rt: HostRuntime) -> Result<(), Fail> {
+    let rows: [(&str, &str, bool); 10] = [
+        ("\n", " ", true),
+        ("\r", " ", true),
+        ("\r\n", " ", true),
+        ("\u{85}", " ", true),
+        ("\u{2028}", "\u{2028}", true),
+        ("\u{2029}", "\u{2029}", true),
+        ("\u{a9}", "\u{a9}", false),
+        ("\u{201c}", "\u{201c}", false),
+        ("\u{202a}", "\u{202a}", false),
+        ("\u{2128}", "\u{2128}", false),
+    ];
+    for (between, kept, broken) in rows {
+        for front in 1..36u64 {
+            for back in [1u64, 12, 13, 14, 15, 16, 17, 33] {
+                expect_between(&rt, between, kept, broken, front, back)?;
+            }
+        }
+    }
+    Ok(())
 }
 
 #[test]

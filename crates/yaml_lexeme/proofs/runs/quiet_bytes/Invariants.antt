@@ -1,7 +1,7 @@
 use Rattle.std.proofs.Common.{◌≡◌, ◌+◌, ◌-◌, ◌≤◌, length, take, drop}
 use Rattle.std.specs.List.{prefix_len, count_by}
 use Rattle.yaml_lexeme.specs.inside.Runs.{is_quiet, begins}
-use Rattle.yaml_lexeme.proofs.runs.quiet_line.Given as goal
+use Rattle.yaml_lexeme.proofs.runs.quiet_bytes.Given as goal
 
 abbrev pub invariant-wide : goal.invariant-wide
 invariant-wide l = record {
