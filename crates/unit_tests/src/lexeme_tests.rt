@@ -606,17 +606,16 @@ fn push_letters(text: &mut String, letter: &str, count: u64) -> Result<(), Fail>
     Ok(())
 }
 
-/// Compares a plain scalar of x, what is between, and y with what is wanted. `kept` is what the scalar keeps of what
-/// is between; that is a break, or one character.
+/// Compares a plain scalar of x, a break or one character, and y with what is wanted. `kept` is what the scalar keeps
+/// of what is between.
 fn expect_between(
-    rt: &HostRuntime,
-    between: &str,
-    kept: &str,
-    broken: bool,
-    front: u64,
-    back: u64,
+    rt: &impl Abort,
+    alloc: Global,
+    row: (&str, &str, bool),
+    sizes: (u64, u64),
 ) -> Result<(), Fail> {
-    let alloc = rt.alloc();
+    let (between, kept, broken) = row;
+    let (front, back) = sizes;
     let (mut text, mut value) = (String::new(alloc), String::new(alloc));
     push_letters(&mut text, "x", front)?;
     push_letters(&mut value, "x", front)?;
@@ -625,8 +624,12 @@ fn expect_between(
     push_letters(&mut text, "y", back)?;
     push_letters(&mut value, "y", back)?;
     let shown = lexed(alloc, text.as_bytes(), 0, None)?;
-    let index = front + between.len() as u64 + back;
-    let (line, column) = if broken { (1, back) } else { (0, front + 1 + back) };
+    let index = text.as_bytes().len();
+    let (line, column) = if broken {
+        (1, back)
+    } else {
+        (0, front.saturating_add(back).saturating_add(1))
+    };
     let bytes = show_bytes(alloc, value.as_bytes())?;
     let bytes = bytes.as_str();
     let end = format!(in alloc; "{index}:{line}:{column}")?;
@@ -650,10 +653,10 @@ fn first_bytes_of_breaks_at_each_place(rt: HostRuntime) -> Result<(), Fail> {
         ("\u{202a}", "\u{202a}", false),
         ("\u{2128}", "\u{2128}", false),
     ];
-    for (between, kept, broken) in rows {
+    for row in rows {
         for front in 1..36u64 {
             for back in [1u64, 12, 13, 14, 15, 16, 17, 33] {
-                expect_between(&rt, between, kept, broken, front, back)?;
+                expect_between(&rt, rt.alloc(), row, (front, back))?;
             }
         }
     }
