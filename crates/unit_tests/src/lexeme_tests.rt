@@ -592,8 +592,18 @@ fn plain_scalars_before_blanks(rt: HostRuntime) -> Result<(), Fail> {
         ("a\rb", 0, Some(0), "plain 61 0:0:0 1:0:1 2:1:0 true"),
         ("a\r\n", 0, None, "plain 61 0:0:0 1:0:1 3:1:0 true"),
         ("a \r", 0, None, "plain 61 0:0:0 1:0:1 3:1:0 true"),
-        ("a \r\n  b", 0, Some(1), "plain 612062 0:0:0 7:1:3 7:1:3 false"),
-        ("a\r\n\r\n b", 0, None, "plain 610a62 0:0:0 7:2:2 7:2:2 false"),
+        (
+            "a \r\n  b",
+            0,
+            Some(1),
+            "plain 612062 0:0:0 7:1:3 7:1:3 false",
+        ),
+        (
+            "a\r\n\r\n b",
+            0,
+            None,
+            "plain 610a62 0:0:0 7:2:2 7:2:2 false",
+        ),
     ];
     expect_rows(&rt, rt.alloc(), &rows)
 }

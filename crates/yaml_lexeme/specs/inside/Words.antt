@@ -1,5 +1,6 @@
 -- Parts of a quoted body, and words of a plain scalar, that are read at once.
-use Rattle.std.specs.Prelude.{◌≡◌, ℕ, Bool, true, false, List, [], take, Result, Ok, Err, ◌&&◌, ◌||◌, not, ◌==◌, nat_lt, Option}
+use Rattle.std.specs.Prelude.{◌≡◌, ℕ, Bool, true, false, List, [], take, Result, Ok, Err}
+use Rattle.std.specs.Prelude.{not, ◌&&◌, ◌||◌, ◌==◌, nat_lt, Option}
 use Rattle.std.specs.Prelude.{option_map, unwrap_or}
 use Rattle.yaml_text.specs.Chars.{utf8}
 use Rattle.yaml_lexeme.specs.declared.problem.yaml_refusal_t.{yaml_refusal_t}
@@ -61,8 +62,9 @@ LeavesMore (Err e) before after out q = Refuses e q before
 -- A plain scalar does not go on at q, where a separator ends.
 abbrev pub Ends : Bool → ℕ → Place → Type 0
 Ends flow least q =
-    (is_white (first q) ≡ false)
-    × ((is_over flow least q || not (is_chunk flow (first q) (peek q 1) || is_bad_colon flow (first q) (peek q 1))) ≡ true)
+    let c = first q in
+    let next = peek q 1 in
+    (is_white c ≡ false) × ((is_over flow least q || not (is_chunk flow c next || is_bad_colon flow c next)) ≡ true)
 
 -- a tab in indentation: at a column below `least`, in a separator with a break before it
 abbrev pub is_bad_tab : ℕ → Bool → Place → Bool

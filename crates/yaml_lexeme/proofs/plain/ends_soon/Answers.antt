@@ -1,4 +1,4 @@
-use Rattle.std.proofs.Common.{◌≡◌, ◌∙◌, true, false, ap, rules}
+use Rattle.std.proofs.Common.{◌≡◌, ◌∙◌, true, ap, rules}
 use Rattle.yaml_text.specs.Classes.{is_blank}
 use Rattle.yaml_lexeme.proofs.Readers.PlainLines.{soon}
 use Rattle.yaml_lexeme.specs.Place.{after_run}

@@ -1,4 +1,4 @@
-use Rattle.std.proofs.Common.{rules, length, ◌≡◌, ◌+◌, ◌-◌, ◌<◌, ◌^◌, true, arith, sym, ap, ◌∙◌, take, drop, ℕ, List}
+use Rattle.std.proofs.Common.{length, ◌≡◌, ◌+◌, ◌-◌, true, arith, sym, ap, ◌∙◌, take, drop, ℕ, List}
 use Rattle.std.proofs.lemmas.List.{take_all, length-drop}
 use Rattle.std.specs.List.{prefix_len, count_by}
 use Rattle.yaml_lexeme.specs.inside.Runs.{begins, is_quiet, is_false_lead_of}

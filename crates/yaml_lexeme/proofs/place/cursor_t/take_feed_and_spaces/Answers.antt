@@ -1,4 +1,4 @@
-use Rattle.std.proofs.Common.{◌≡◌, ◌∙◌, ap, arith, rules}
+use Rattle.std.proofs.Common.{◌≡◌, ◌∙◌, ap, arith}
 use Rattle.yaml_lexeme.specs.Place.{first, peek}
 use Rattle.yaml_lexeme.proofs.Places.PlaceMoves.{first_on, feed_and_spaces, return_and_spaces}
 use Rattle.yaml_lexeme.proofs.place.cursor_t.take_feed_and_spaces.Goals as goal
