@@ -16,7 +16,7 @@ fn main() {
         println!("cargo:rerun-if-env-changed={name}");
     }
     println!("cargo:rerun-if-changed=build.rs");
-    let linked = match env::var_os(FOLDER) {
+    let linked = match env::var_os(FOLDER).filter(|folder| !folder.is_empty()) {
         Some(folder) => link_named(&folder),
         None => link_found(),
     };
@@ -34,6 +34,7 @@ fn link_named(folder: &OsStr) -> Result<(), String> {
         println!("cargo:rerun-if-env-changed=PWD");
         tried.extend(env::var_os("PWD").map(|called_in| Path::new(&called_in).join(folder)));
         tried.extend(env::current_dir().map(|crate_folder| crate_folder.join(folder)));
+        tried.dedup();
     } else {
         tried.push(PathBuf::from(folder));
     }

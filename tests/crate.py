@@ -126,6 +126,8 @@ def try_messages(room, alone):
         (user, {"BOGZHAMI_LIB_DIR": "lib"}, [os.path.join(user, "lib"), "BOGZHAMI_LIB_DIR is lib", "ffi/build"]),
         (user, {"BOGZHAMI_LIB_DIR": room}, [room, "no libbogzhami.a", "ffi/build"]),
         (user, {}, ["BOGZHAMI_LIB_DIR is not set", "pkg-config finds no library"]),
+        (user, {"BOGZHAMI_LIB_DIR": ""}, ["BOGZHAMI_LIB_DIR is not set", "pkg-config finds no library"]),
+        (unbuilt, {"BOGZHAMI_LIB_DIR": "lib"}, [f"libbogzhami.so is in {os.path.join(unbuilt, 'lib')}. ffi/build"]),
         (unbuilt, {}, [os.path.join(room, "unbuilt", "ffi", "out"), "ffi/build", "pkg-config finds no library"]),
         (user, {"PKG_CONFIG": "no-pkg-config"}, ["no-pkg-config can't be run"]),
     ]
