@@ -17,8 +17,14 @@ LINES = {
     "bogzhami-json -e any he": {"here.yaml"}, "bogzhami-lint -w ": set(), "bogzhami-lint -w 9 he": {"here.yaml"},
     "bogzhami-highlight he": {"here.yaml"}, "bogzhami-highlight --html ": {"here.yaml", "other"},
 }
+# The same of bash, which takes a `=` for a word, and so completes what comes after it.
+BASH_LINES = {
+    "bogzhami-json --encoding=": ENCODINGS, "bogzhami-json --encoding=utf1": {"utf16le", "utf16be"},
+    "bogzhami-json --key-limit=": set(), "bogzhami-json --key-limit=he": set(), "bogzhami-lint --width=he": set(),
+    "bogzhami-lint --width=9 he": {"here.yaml"},
+}
 BASH = """. "$1"
-read -ra COMP_WORDS <<< "$2"
+read -ra COMP_WORDS <<< "${2//=/ = }"
 case $2 in *' ') COMP_WORDS+=("") ;; esac
 COMP_CWORD=$((${#COMP_WORDS[@]} - 1))
 $(complete -p "${COMP_WORDS[0]}" | sed -E 's/.* -F ([^ ]+) .*/\\1/')
@@ -64,7 +70,8 @@ def try_completions(room, options):
         if shutil.which(shell.__name__) is None:
             print(f"tools: completions of {shell.__name__} skipped: it is not there")
             continue
-        found = [(line, completed(shell(line), room), wanted) for line, wanted in lines(options)]
+        more = BASH_LINES if shell is bash else {}
+        found = [(line, completed(shell(line), room), wanted) for line, wanted in [*lines(options), *more.items()]]
         wrong = [(line, got) for line, got, wanted in found if got != wanted]
         print(f"tools: completions of {shell.__name__}: {len(found)} lines, {len(wrong)} wrong {wrong[:3] or ''}", flush=True)
         good = good and not wrong and len(found) > 10
