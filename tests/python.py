@@ -818,6 +818,14 @@ def try_yamllint(every, room):
     return not wrong and is_same and len(answers) == len(texts) and same_tokens > 500
 
 
+def try_no_yamllint():
+    """A Python without yamllint: what is said names the packages that are needed. With -S it finds none."""
+    done = subprocess.run([sys.executable, "-S", "-m", "bogzhami.yamllint", "x"], env=ENVIRONMENT, capture_output=True, text=True, timeout=60)
+    is_told = "Traceback" not in done.stderr and "Debian: yamllint" in done.stderr
+    print(f"python: yamllint that is not there{'' if is_told else f', WRONG: {done.stderr[-300:]}'}")
+    return is_told and done.returncode == 1
+
+
 def try_pyyaml():
     if not can(sys.executable, C_LOADER):
         print("python: PyYAML skipped: there is none with its C loader")
@@ -860,6 +868,7 @@ def main():
             try_installed(room),
             try_example(),
             try_pyyaml(),
+            try_no_yamllint(),
             try_yamllint(list(every_input()), room),
         ]
     return 0 if all(good) else 1

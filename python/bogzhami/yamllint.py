@@ -12,7 +12,7 @@ def main() -> None:
         import yaml
         from yamllint import cli
     except ImportError as reason:
-        sys.exit(f"bogzhami.yamllint: {reason}")
+        sys.exit(f"bogzhami.yamllint: {reason}: yamllint and PyYAML are needed (Debian: yamllint, which brings both)")
     from .pyyaml import BaseLoader
 
     yaml.BaseLoader = BaseLoader
