@@ -20,6 +20,7 @@ import functools
 import os
 import random
 import re
+import signal
 import sys
 
 sys.path.insert(0, os.path.join(os.path.dirname(os.path.abspath(__file__)), "lib"))
@@ -149,6 +150,7 @@ def hops_of(walk):
 
 
 def main():
+    signal.signal(signal.SIGPIPE, signal.SIG_DFL)  # as with head: who reads the lines may have ended
     words = argparse.ArgumentParser(usage="walks.py [PROGRAM] [--seed N]")
     words.add_argument("program", nargs="?")
     words.add_argument("--seed", type=int)
