@@ -137,6 +137,14 @@ def try_wrong_names():
     return not wrong
 
 
+def try_uses_of_docs():
+    """./dev docs without the kit, and where who reads the lines ends after the first."""
+    lines = [f"PATH={os.path.dirname(sys.executable)}:/usr/bin:/bin ./dev docs", "./dev docs | head -n 1", "python3 tests/walks.py | head -n 1"]
+    wrong = [(line, said[-300:]) for line, (status, said) in zip(lines, call_all(lines)) if status or "Traceback" in said]
+    print(f"commands: {len(lines)} other uses of ./dev docs and walks, {len(wrong)} wrong {wrong or ''}")
+    return not wrong
+
+
 def try_table(dev):
     """Each line of the table of tests/README.md is a script that ./dev lists, and each script has a line."""
     with open(os.path.join(TOP, "tests", "README.md"), encoding="utf-8") as text:
@@ -175,7 +183,7 @@ def try_readmes(dev):
 
 def main():
     dev = load_dev()
-    return 0 if all([try_readmes(dev), try_commands(dev), try_wrong_names(), try_table(dev), try_usages(dev)]) else 1
+    return 0 if all([try_readmes(dev), try_commands(dev), try_wrong_names(), try_uses_of_docs(), try_table(dev), try_usages(dev)]) else 1
 
 
 if __name__ == "__main__":
