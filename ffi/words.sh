@@ -45,12 +45,12 @@ check_command() {
   [ $# -gt 0 ] || refuse_words "a command is missing"
   case $1 in
     scan | calls | decode) ;;
-    *) refuse_words "there is no command '$1'" ;;
+    *) refuse_words "there is no command '$1'$(hint_at_input "$1")" ;;
   esac
   [ $# -gt 1 ] || refuse_words "$1 needs an encoding"
   case $2 in
     any | utf8 | utf16le | utf16be) ;;
-    *) refuse_words "there is no encoding '$2'" ;;
+    *) refuse_words "there is no encoding '$2'$(hint_at_input "$2")" ;;
   esac
   check_last_words "$1" "${@:3}"
 }
@@ -60,13 +60,18 @@ check_last_words() {
   local most=1
   case $1 in
     decode) most=0 ;;
-    scan) [ $# -eq 1 ] || is_key_limit "$2" || refuse_words "there is no key limit '$2'" ;;
+    scan) [ $# -eq 1 ] || is_key_limit "$2" || refuse_words "there is no key limit '$2'$(hint_at_input "$2")" ;;
     calls)
       [ $# -gt 1 ] || refuse_words "calls needs a word of s, p and k"
       [[ $2 =~ ^[spk]*$ ]] || refuse_words "there is no list of calls '$2'"
       ;;
   esac
   [ $# -le $((most + 1)) ] || refuse_words "there is no use for '${*:$((most + 2)):1}'; the input is standard input"
+}
+
+# What is said besides of a wrong word that is the name of a file.
+hint_at_input() {
+  [ ! -e "$1" ] || echo "; the input is standard input"
 }
 
 is_key_limit() {

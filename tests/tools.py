@@ -86,6 +86,9 @@ PROGRAM_WORDS = {
     "scan any 9 FILE": "there is no use for 'FILE'; the input is standard input",
     "decode any FILE": "there is no use for 'FILE'; the input is standard input", "calls any": "calls needs a word of s, p and k",
     "calls any spx": "there is no list of calls 'spx'", "--jsn": "there is no command '--jsn'",
+    "README.md": "there is no command 'README.md'; the input is standard input",
+    "scan README.md": "there is no encoding 'README.md'; the input is standard input",
+    "scan any README.md": "there is no key limit 'README.md'; the input is standard input",
 }
 
 
