@@ -9,8 +9,9 @@ and what was built before is there whenever the kit is called, and at the end. T
 and then ./package refuses what was not tested. .ci/run in a new clone has the gate prove the clone itself. Debian's tools make the
 same packages of the source package.
 
-Without the kit, or without a program that is needed, each command says so in one line before anything is proved. The progress
-is that of the log. What needs a C compiler or git is skipped, and says so, if there is none.
+Without the kit, without a program that is needed, or in a checkout that can not be written to, each command says so in one line
+before anything is proved, and .ci/run before anything is installed. CDPATH makes no difference. The progress is
+that of the log. What needs a C compiler or git is skipped, and says so, if there is none.
 """
 
 import filecmp
@@ -37,6 +38,8 @@ PROGRAM = os.path.join("crates", "yamltok", "out", "yamltok")
 LIBRARY = f"ffi/out/libbogzhami.so.{VERSION}"
 LIBYAML = "uses/libyaml/out/libyaml-0.so.2"
 WATCHED = [PROGRAM, "ffi/out/libbogzhami.a", LIBRARY, LIBYAML, "bin/proved", "dist/SHA256SUMS"]
+NO_KIT = "The command rt is not on the path: this needs the Rattle kit.\n"
+NOBODY = 65534
 PLAIN = "/usr/sbin:/usr/bin:/sbin:/bin"
 SMALL = b"a: 1"
 LISTED = "".join(line + "\n" for words, data, lines in rows() if (words, data) == (["scan", "any"], SMALL) for line in lines)
@@ -94,6 +97,8 @@ class Copy:
         """The environment of a command, with the kit first on the path."""
         kit = os.path.join(self.room, "kit")
         dropped = ("LIBRARY_IS_BUILT", "IN_PLACE", "CC", "RT_JOBS")
+        # a path that cd searches, as some have it in their shell
+        more = {"CDPATH": self.top, **more}
         kept = {name: value for name, value in os.environ.items() if name not in dropped}
         return {**kept, "PATH": f"{kit}/bin:{os.environ['PATH']}", "KIT_MADE": f"{kit}/made", "KIT_LOG": self.log,
                 "KIT_TOP": self.top, "KIT_WATCHED": " ".join(WATCHED), **more}
@@ -258,15 +263,48 @@ def try_no_kit(copy):
     wrong = []
     for command in ("./run scan any", "./try scan any", "./test", "ffi/build"):
         status, told = copy.run(command, PATH=PLAIN)
-        if (status, told) != (3, "The command rt is not on the path: this needs the Rattle kit.\n"):
+        if (status, told) != (3, NO_KIT):
             wrong.append((command, status, told[-300:]))
     return say(not wrong and not copy.built(), f"4 commands without the kit, {len(wrong)} wrong {wrong or ''}")
+
+
+def try_clone_without_kit(copy):
+    """.ci/run installs nothing on a machine without the kit. What stands for apt-get here only leaves a file."""
+    if shutil.which("rt", path=PLAIN):
+        return skip(".ci/run without the kit: it is on the system's own path")
+    tools, called = os.path.join(copy.room, "no kit"), os.path.join(copy.room, "called")
+    os.makedirs(tools)
+    with open(os.path.join(tools, "apt-get"), "w", encoding="ascii") as out:
+        out.write(f"#!/bin/sh\n: > '{called}'\n")
+    os.chmod(os.path.join(tools, "apt-get"), 0o755)
+    status, told = copy.run("bash .ci/run", PATH=f"{tools}:{PLAIN}")
+    good = (status, told) == (3, NO_KIT) and not os.path.exists(called)
+    return say(good, f".ci/run without the kit installs nothing{'' if good else told[-300:]}")
+
+
+def try_not_writable(copy):
+    """A checkout that can not be written to: each command says so before anything is proved."""
+    user = {"user": NOBODY} if os.geteuid() == 0 else {}
+    for folder in (copy.room, os.path.join(copy.room, "kit")):
+        os.chmod(folder, 0o755)
+    os.chmod(copy.top, 0o555)
+    wanted = (3, f"The folder {copy.top} can not be written to: call this in a copy of it that can.\n")
+    wrong = []
+    for command in ("./run scan any", "./test", "ffi/build"):
+        done = subprocess.run(command.split(), cwd=copy.top, env=copy.environment(), stdin=subprocess.DEVNULL, stdout=subprocess.PIPE,
+                              stderr=subprocess.STDOUT, timeout=100, **user)
+        if (done.returncode, done.stdout.decode("utf-8", "replace")) != wanted:
+            wrong.append((command, done.returncode, done.stdout.decode("utf-8", "replace")[-300:]))
+    os.chmod(copy.top, 0o755)
+    return say(not wrong and not copy.calls(), f"3 commands in a checkout that can not be written, {len(wrong)} wrong {wrong or ''}")
 
 
 def try_words(copy):
     """The scripts say what they lack, and which words they take, before anything is proved."""
     tried = [("ffi/build", {"CC": "no-compiler"}, 3, r"^There is no no-compiler: install gcc\.\n$"),
              ("./run scan any 0", {}, 2, r"^run: there is no key limit '0'\n"), ("./try scna any", {}, 2, r"^try: there is no command 'scna'\n"),
+             ("ffi/build --version", {"CDPATH": "."}, 0, r"^ffi/build \(Bogzhami\) [\d.]+\n$"),
+             ("uses/libyaml/build --version", {"CDPATH": "."}, 0, r"^uses/libyaml/build \(Bogzhami\) [\d.]+\n$"),
              ("./test all", {}, 2, r"^test: there is no use for 'all'\n"), ("./run --help", {}, 0, r"^usage: \./run COMMAND"),
              ("ffi/build --help", {"PATH": PLAIN}, 0, r"^usage: ffi/build \[--jobs N\]\n"),
              ("ffi/build --job 1", {}, 2, r"^ffi/build: unrecognized option '--job'\nusage: ffi/build"),
@@ -280,7 +318,10 @@ def try_words(copy):
 
 
 # What rt prints, and what is shown of it.
-LOG = [("rt: chose --jobs 4 for yaml_text", "yaml_text: begun"),
+LOG = [("so far: 3 of 114 functions checked", "3 of 114 functions checked"),
+       ("so far: 1 of 87 functions checked", "1 of 87 functions checked"),
+       ("rt: yaml_text: another run on this machine is proving the same; waiting for it", "waits for another run on this machine"),
+       ("rt: chose --jobs 4 for yaml_text", "yaml_text: begun"),
        ("so far: 0 of 114 functions checked; the verdict comes last", "yaml_text: 0 of 114 functions checked"),
        ("checked yaml_text::utf8::len_of, 57 of 114", "yaml_text: 57 of 114 functions checked"),
        ("so far: 9 of 114 functions checked", "yaml_text: 57 of 114 functions checked"),
@@ -312,7 +353,8 @@ def main():
     with tempfile.TemporaryDirectory() as room:
         make_kit(room, program)
         copy, clone = Copy(room, "copy"), Copy(room, "clone")
-        good = [try_no_kit(copy), try_words(copy), try_progress(room), try_before(copy), try_orders(copy)]
+        good = [try_no_kit(copy), try_clone_without_kit(clone), try_words(copy), try_not_writable(copy), try_progress(room)]
+        good += [try_before(copy), try_orders(copy)]
         good += [try_source(copy), try_broken_compiler(copy), try_broken_off(copy), try_failing_gate(copy), try_clone(clone)]
     return 0 if all(good) else 1
 
