@@ -178,6 +178,16 @@ def try_before(copy):
     return say(not wrong and not copy.built(), f"{len(found)} commands before anything is built, {len(wrong)} wrong {wrong or ''}")
 
 
+def try_blank(copy):
+    """In a folder with a blank in its name, the line for the shared library that ffi/build prints does what it says."""
+    status, told = copy.run("ffi/build")
+    line = re.search(r"^ *(cc .* -Wl,-rpath,.*?)    \(the shared library\)$", told, re.M)
+    compiled = line[1].replace("FILE.c", "ffi/list.c -o bin/list") if line else "false"
+    done = subprocess.run(["bash", "-c", f"{compiled} && bin/list"], cwd=copy.top, input=SMALL, capture_output=True, timeout=60)
+    good = status == 0 and done.stdout.decode() == LISTED
+    return say(good, f"the line that ffi/build prints, in a folder with a blank{'' if good else told[-300:] + done.stderr.decode()[-300:]}")
+
+
 # THE GATE FAILS, OR IS BROKEN OFF
 
 def try_failing_gate(copy):
@@ -354,7 +364,7 @@ def main():
         make_kit(room, program)
         copy, clone = Copy(room, "copy"), Copy(room, "clone")
         good = [try_no_kit(copy), try_clone_without_kit(clone), try_words(copy), try_not_writable(copy), try_progress(room)]
-        good += [try_before(copy), try_orders(copy)]
+        good += [try_blank(Copy(room, "a copy")), try_before(copy), try_orders(copy)]
         good += [try_source(copy), try_broken_compiler(copy), try_broken_off(copy), try_failing_gate(copy), try_clone(clone)]
     return 0 if all(good) else 1
 
