@@ -336,13 +336,14 @@ impl<'a> cursor_t<'a> {
         self.bytes
     }
 
-    /// Takes characters of a run, up to a byte at which it may end.
+    /// Takes characters of a run, up to a byte at which it may end. The flag says whether what only looks like a break
+    /// is taken as well.
     #[inline(always)]
-    fn skip_quiet(&mut self, class: class_t)
+    fn skip_quiet(&mut self, class: class_t, passes: bool)
         ensures goes { after_run (class_test class) self.new ≡ after_run (class_test class) self.old }
         ensures shorter { length self.new.rest ≤ length self.old.rest }
     {
-        let (n, count) = quiet_len(class, self.bytes);
+        let (n, count) = quiet_len(class, self.bytes, passes);
         self.mark = yaml_mark_t {
             index: self.mark.index + n as u64,
             line: self.mark.line,
@@ -358,10 +359,10 @@ impl<'a> cursor_t<'a> {
         ensures end { self.new ≡ after_run (class_test class) self.old }
     {
         let start = self.left();
-        self.skip_quiet(class);
+        self.skip_quiet(class, false);
         'run: while is_in(class, self.peek(0)) {
             self.advance();
-            self.skip_quiet(class);
+            self.skip_quiet(class, true);
         }
         let left = self.left();
         front(start, start.len() - left.len())
@@ -395,7 +396,7 @@ impl<'a> cursor_t<'a> {
         ensures end { self.new ≡ after_run (class_test class) self.old }
     {
         let start = self.left();
-        self.skip_quiet(class);
+        self.skip_quiet(class, false);
         self.skip_rest(class);
         let left = self.left();
         front(start, start.len() - left.len())
@@ -408,7 +409,7 @@ impl<'a> cursor_t<'a> {
         requires { is_line class ≡ true }
         ensures { Stands (class_test class) self.old self.new }
     {
-        let (n, count) = quiet_len(class, self.bytes);
+        let (n, count) = quiet_len(class, self.bytes, true);
         let kept = trimmed(front(self.bytes, n)).len();
         self.mark = yaml_mark_t {
             index: self.mark.index + kept as u64,

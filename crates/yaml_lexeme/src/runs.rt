@@ -280,15 +280,16 @@ fn past_leads(class: class_t, text: &[u8], from: usize, before: usize) -> (usize
 }
 
 /// How many of a line's first bytes end no run, and how many of them begin a character. The byte after them begins one.
+/// The flag says whether what only looks like a break is passed. Without it less is asked at the end of a line.
 #[inline(always)]
-fn quiet_line(class: class_t, text: &[u8]) -> (usize, usize)
+fn quiet_line(class: class_t, text: &[u8], passes: bool) -> (usize, usize)
     requires { spec.is_line class ≡ true }
     ensures clear { spec.Clear class text.now result.0 }
     ensures chars { result.1 ≡ count_by spec.begins (take result.0 text.now) }
     ensures bound { result.0 ≤ length text.now }
 {
     let (n, count, there) = quiet_bytes(class, text);
-    if there && text[n] >= 0x80 {
+    if passes && there && text[n] >= 0x80 {
         return past_leads(class, text, n, count);
     }
     (n, count)
@@ -414,15 +415,16 @@ fn narrow_len(class: class_t, text: &[u8]) -> usize
 }
 
 /// How many of the first bytes end no run, or need no closer look for that, and how many of them begin a character.
+/// The flag says whether what only looks like a break is passed.
 #[inline(always)]
-pub(crate) fn quiet_len(class: class_t, text: &[u8]) -> (usize, usize)
+pub(crate) fn quiet_len(class: class_t, text: &[u8], passes: bool) -> (usize, usize)
     ensures line { spec.is_line class ≡ true → spec.Clear class text.now result.0 }
     ensures narrow { spec.is_line class ≡ false → result.0 ≡ prefix_len (spec.is_quiet class) text.now }
     ensures chars { result.1 ≡ count_by spec.begins (take result.0 text.now) }
     ensures bound { result.0 ≤ length text.now }
 {
     if is_line(class) {
-        return quiet_line(class, text);
+        return quiet_line(class, text, passes);
     }
     let n = narrow_len(class, text);
     (n, n)
