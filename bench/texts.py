@@ -78,14 +78,35 @@ def json_value(r, depth):
     return r.choice([r.randrange(100_000), r.randrange(100_000) / 1000, True, False, None, words(r, r.randrange(1, 20))])
 
 
-def json_text(size):
-    """A JSON text of about so many bytes, indented by two."""
+def json_text(size, indent=2):
+    """A JSON text, of about so many bytes if it is indented by two; on one line if the indent is None."""
     r = random.Random(7)
     made, count = [], 0
     while count < size:
         made.append({word(r): json_value(r, 0) for _ in range(3)})
         count += len(json.dumps(made[-1], indent=2))
-    return json.dumps(made, indent=2) + "\n"
+    return json.dumps(made, indent=indent) + "\n"
+
+
+def manifest(r, size=3_000):
+    """A text of about so many bytes as those that say what a cluster runs."""
+    made = f"# {words(r, 40)}\napiVersion: apps/v1\nkind: Deployment\nmetadata:\n  name: {word(r)}-{word(r)}\n  labels:\n"
+    made += f"    app: {word(r)}\n    tier: \"{word(r)}\"\nspec:\n  replicas: {r.randrange(9)}\n  containers:\n"
+    while len(made) < size:
+        made += f"  - name: {word(r)}-{word(r)}\n    image: \"{word(r)}/{word(r)}:{r.randrange(99)}\"\n    # {words(r, 30)}\n"
+        made += f"    ports:\n    - containerPort: {r.randrange(9999)}\n      protocol: TCP\n    resources: {{cpu: {r.randrange(900)}m}}\n"
+        made += f"    command: [\"{word(r)}\", '-{word(r)}', --{word(r)}={word(r)}]\n    script: |\n      {words(r, 40)}\n      {words(r, 30)}\n"
+    return made
+
+
+def from_c():
+    """Lists of texts that are opened, scanned and closed one after the other through the interface for C."""
+    r = random.Random(7)
+    yield "manifests, 3 KB each", [manifest(r) for _ in range(100)]
+    yield "JSON on one line", [json_text(SIZE, None)]
+    yield "JSON in lines", [json_text(SIZE)]
+    yield "an empty text", [""]
+    yield "`a: 1`", ["a: 1"]
 
 
 def scanned():
