@@ -69,7 +69,7 @@ check_last_words() {
   [ $# -le $((most + 1)) ] || refuse_words "there is no use for '${*:$((most + 2)):1}'; the input is standard input"
 }
 
-# What is said besides of a wrong word that is the name of a file.
+# What is added to the message on a wrong word if a file has that name.
 hint_at_input() {
   [ ! -e "$1" ] || echo "; the input is standard input"
 }

@@ -138,7 +138,7 @@ def try_wrong_names():
 
 
 def try_uses_of_docs():
-    """./dev docs without the kit, and where who reads the lines ends after the first."""
+    """./dev docs without the kit, and when the reader of its lines ends after the first."""
     lines = [f"PATH={os.path.dirname(sys.executable)}:/usr/bin:/bin ./dev docs", "./dev docs | head -n 1", "python3 tests/walks.py | head -n 1"]
     wrong = [(line, said[-300:]) for line, (status, said) in zip(lines, call_all(lines)) if status or "Traceback" in said]
     print(f"commands: {len(lines)} other uses of ./dev docs and walks, {len(wrong)} wrong {wrong or ''}")

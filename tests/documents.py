@@ -414,7 +414,7 @@ CHECKS = {"paths": check_paths, "rules": check_rules, "topics": check_topics,
 
 
 def main():
-    signal.signal(signal.SIGPIPE, signal.SIG_DFL)  # as with head: who reads the lines may have ended
+    signal.signal(signal.SIGPIPE, signal.SIG_DFL)  # the reader of the lines may end early, as head does
     failed = False
     for what, check in CHECKS.items():
         count, wrong = check()

@@ -150,7 +150,7 @@ def hops_of(walk):
 
 
 def main():
-    signal.signal(signal.SIGPIPE, signal.SIG_DFL)  # as with head: who reads the lines may have ended
+    signal.signal(signal.SIGPIPE, signal.SIG_DFL)  # the reader of the lines may end early, as head does
     words = argparse.ArgumentParser(usage="walks.py [PROGRAM] [--seed N]")
     words.add_argument("program", nargs="?")
     words.add_argument("--seed", type=int)
