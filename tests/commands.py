@@ -59,8 +59,11 @@ WRONG_NAMES = {
     "edit bom_of_three_bytes": (2, r"Near it:\n(  [\w/]+\n)*  yaml_text/bom_of_two_bytes\n"),
     "vector": (2, r"Which input\? Its bytes in hexadecimal"),
     "vector 6": (2, r"Which input\? Its bytes in hexadecimal"),
-    "docs more": (2, r"takes 0 names at most\.\nusage: \./dev COMMAND"),
-    "check yaml_text IS_ALPHA more": (2, r"takes 2 names at most"),
+    "docs more": (2, r"^There is no use for more\.\nusage: \./dev docs\n$"),
+    "quick x y": (2, r"^There is no use for x\.\nusage: \./dev quick\n$"),
+    "check yaml_text IS_ALPHA more": (2, r"^There is no use for more\.\nusage: \./dev check CRATE \[FUNCTION\]\n$"),
+    "quick --help": (0, r"\./dev COMMAND \[NAME\]"),
+    "check yaml_text --version": (0, r"^dev \(Bogzhami\) [\d.]+\n$"),
 }
 
 
