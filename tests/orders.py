@@ -10,8 +10,9 @@ and then ./package refuses what was not tested. .ci/run in a new clone has the g
 same packages of the source package.
 
 Without the kit, without a program that is needed, or in a checkout that can not be written to, each command says so in one line
-before anything is proved, and .ci/run before anything is installed. CDPATH makes no difference. The progress is
-that of the log. What needs a C compiler or git is skipped, and says so, if there is none.
+before anything is proved, and .ci/run before anything is installed. What .ci/run installs is what is lacking, and no package that
+is only recommended. CDPATH makes no difference. The progress is that of the log. What needs a C compiler or git is skipped, and
+says so, if there is none.
 """
 
 import filecmp
@@ -292,6 +293,29 @@ def try_clone_without_kit(copy):
     return say(good, f".ci/run without the kit installs nothing{'' if good else told[-300:]}")
 
 
+# What .ci/run installs of Debian's packages that have a command of their own.
+PACKAGES = "gcc libc6-dev g++ git rustc cargo cmake valgrind debootstrap dpkg-dev lintian zsh fish".split()
+
+
+def try_lacking(clone):
+    """.ci/run where nothing is but the kit: it installs each package that is lacking, and none that is only recommended. What
+    stands for apt-get here installs nothing, so it ends with 1."""
+    tools, called = os.path.join(clone.room, "lacking"), os.path.join(clone.room, "installed")
+    os.makedirs(tools)
+    for name in ("bash", "dirname"):
+        os.symlink(shutil.which(name), os.path.join(tools, name))
+    for name, line in (("rt", ""), ("apt-get", f"echo \"$@\" >> '{called}'; [ \"$1\" = update ]")):
+        with open(os.path.join(tools, name), "w", encoding="ascii") as out:
+            out.write(f"#!/bin/sh\n{line}\n")
+        os.chmod(os.path.join(tools, name), 0o755)
+    status, told = clone.run("bash .ci/run", PATH=tools)
+    with open(called, encoding="ascii") as lines:
+        calls = [line.split() for line in lines]
+    wanted, names = [["update", "-q"], ["install", "-y", "-q", "--no-install-recommends"]], calls[-1][4:]
+    good = status == 1 and [words[:4] for words in calls] == wanted and set(PACKAGES) <= set(names)
+    return say(good, f".ci/run installs the {len(names)} packages that are lacking, and no recommended ones{'' if good else told}")
+
+
 def try_not_writable(copy):
     """A checkout that can not be written to: each command says so before anything is proved."""
     user = {"user": NOBODY} if os.geteuid() == 0 else {}
@@ -363,7 +387,7 @@ def main():
     with tempfile.TemporaryDirectory() as room:
         make_kit(room, program)
         copy, clone = Copy(room, "copy"), Copy(room, "clone")
-        good = [try_no_kit(copy), try_clone_without_kit(clone), try_words(copy), try_not_writable(copy), try_progress(room)]
+        good = [try_no_kit(copy), try_clone_without_kit(clone), try_lacking(clone), try_words(copy), try_not_writable(copy), try_progress(room)]
         good += [try_blank(Copy(room, "a copy")), try_before(copy), try_orders(copy)]
         good += [try_source(copy), try_broken_compiler(copy), try_broken_off(copy), try_failing_gate(copy), try_clone(clone)]
     return 0 if all(good) else 1
