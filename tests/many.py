@@ -35,7 +35,7 @@ sys.path[:0] = [HERE, os.path.join(HERE, "lib"), MANY, os.path.join(TOP, "bench"
 sys.dont_write_bytecode = True
 from count import Counter
 from ffi import FFI, vectors
-from library import build_library
+from library import VERSION, build_library
 from realistic import realistic
 from uses import LINTS, fault_message
 from worked import rows
@@ -425,16 +425,32 @@ def try_broken_off(python, room, *more):
     return not wrong
 
 
+def try_no_dask():
+    """A Python without dask.distributed: help, version and wrong words need none, and all else says that it is needed. With -E
+    and -S Python finds none."""
+    wrong = []
+    for words, status, wanted in (
+        ("--help", 0, "usage: check "), ("--version", 0, f"check (Bogzhami) {VERSION}\n"), ("", 2, "usage: check "),
+        ("--part 0 list", 2, "usage: check "), ("list", 2, "check: No module named 'dask': dask.distributed is needed "),
+    ):
+        done = subprocess.run([sys.executable, "-E", "-S", CHECK, *words.split()], capture_output=True, text=True, timeout=PATIENCE)
+        told = done.stderr if status else done.stdout
+        if done.returncode != status or not told.startswith(wanted) or "Traceback" in told:
+            wrong.append((words, done.returncode, told[-300:]))
+    print(f"many: 5 calls without dask.distributed, {len(wrong)} wrong {wrong or ''}")
+    return not wrong
+
+
 def main():
     # A program that a script starts in the background ignores interrupts, and so would those that are started here.
     signal.signal(signal.SIGINT, signal.default_int_handler)
-    python = python_with_dask()
+    good, python = [try_no_dask()], python_with_dask()
     if shutil.which("cc") is None or python is None:
         print("many: skipped: no C compiler" if python else "many: skipped: no dask.distributed (Debian: python3-distributed)")
-        return 0
+        return 0 if all(good) else 1
     build_library()
     counter = Counter(LIBRARY)
-    good = [try_faults(counter)]
+    good.append(try_faults(counter))
     with tempfile.TemporaryDirectory() as room:
         with Machines(python, room) as machines:
             good += [
