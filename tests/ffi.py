@@ -36,7 +36,7 @@ from held import try_rust, try_sanitized, try_tests, try_valgrind
 from library import VERSION, build_library
 from pages import try_pages
 from worked import MEMORY, build_refuser, run
-from wrong_uses import try_name_calls, try_wrong_uses
+from wrong_uses import RUST, try_name_calls, try_wrong_uses
 
 PLAIN = {"u32": c.c_uint32, "i32": c.c_int32, "u64": c.c_uint64}
 RECORDS = ["mark", "token", "answer"]
@@ -448,7 +448,7 @@ def main():
         if shutil.which("c++"):
             programs.append(build_cplusplus(room))
         if rust:
-            programs.append(os.path.join(room, "list_rs"))
+            programs.append(os.path.join(room, RUST))
             build_rust(os.path.join(FFI, "list.rs"), programs[-1])
         good = [
             try_library(every),
