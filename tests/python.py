@@ -243,6 +243,9 @@ def try_statuses(program):
         scan = [program, "scan", "any"]
         for key, line, words, data in (("full", '"$@" > /dev/full', scan, b"a: 1"), ("utf9", '"$@"', [program, "scan", "utf9"], b"")):
             found[f"{key} as yamltok"] = in_shell(line, *words, data=data)[0], found[key][1][0]
+    # Python itself refuses a folder, before the package begins
+    status, told = in_shell('"$@" < /', *own)
+    found["a folder"] = status in (1, 3) and "is a directory" in told.lower(), True
     wrong = {key: told for key, (told, wanted) in found.items() if told != wanted}
     print(f"python: {len(found)} exit statuses, {len(wrong)} wrong {wrong or ''}")
     return not wrong
