@@ -25,6 +25,20 @@ take_no_words() {
   [ $# -eq 0 ] || refuse_words "there is no use for '$1'"
 }
 
+# Puts into the variable `jobs` the words by which rt proves as many functions at once as RT_JOBS says, if that is set. rt ci reads
+# the variable itself. Ends a script if it is no number.
+take_jobs() {
+  jobs=()
+  [ -n "${RT_JOBS:-}" ] || return 0
+  [[ $RT_JOBS =~ ^[1-9][0-9]*$ ]] || refuse_words "RT_JOBS is no number of jobs: '$RT_JOBS'"
+  jobs=(--jobs "$RT_JOBS")
+}
+
+# What that variable does, for the usage of the scripts that prove.
+print_jobs() {
+  echo "The variable RT_JOBS says how many functions are proved at once. Without it that depends on processors and memory."
+}
+
 # What the words of the program may be, for the usage of the scripts that run it.
 print_commands() {
   cat << END

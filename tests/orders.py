@@ -340,15 +340,32 @@ def try_words(copy):
              ("ffi/build --version", {"CDPATH": "."}, 0, r"^ffi/build \(Bogzhami\) [\d.]+\n$"),
              ("uses/libyaml/build --version", {"CDPATH": "."}, 0, r"^uses/libyaml/build \(Bogzhami\) [\d.]+\n$"),
              ("./test all", {}, 2, r"^test: there is no use for 'all'\n"), ("./run --help", {}, 0, r"^usage: \./run COMMAND"),
-             ("ffi/build --help", {"PATH": PLAIN}, 0, r"^usage: ffi/build \[--jobs N\]\n"),
-             ("ffi/build --job 1", {}, 2, r"^ffi/build: unrecognized option '--job'\nusage: ffi/build"),
-             ("ffi/build --jobs", {}, 2, r"^ffi/build: --jobs needs a word after it\nusage: ffi/build")]
+             ("ffi/build --help", {"PATH": PLAIN}, 0, r"^usage: ffi/build\n"),
+             ("ffi/build --jobs 1", {}, 2, r"^ffi/build: there is no use for '--jobs'\nusage: ffi/build"),
+             ("ffi/build --over", {}, 2, r"^ffi/build: --over needs a word after it\nusage: ffi/build"),
+             ("./run scan any", {"RT_JOBS": "0"}, 2, r"^run: RT_JOBS is no number of jobs: '0'\nusage: \./run"),
+             ("./test", {"RT_JOBS": "all"}, 2, r"^test: RT_JOBS is no number of jobs: 'all'\nusage: \./test\n"),
+             ("ffi/build", {"RT_JOBS": "-1"}, 2, r"^ffi/build: RT_JOBS is no number of jobs: '-1'\nusage: ffi/build\n"),
+             ("./dev check yaml_text", {"RT_JOBS": "1 2"}, 2, r"^RT_JOBS is no number of jobs: '1 2'\n$")]
     wrong = []
     for command, more, wanted, pattern in tried:
         status, told = copy.run(command, **more)
         if status != wanted or not re.search(pattern, told) or copy.calls():
             wrong.append((command, status, told[-300:]))
     return say(not wrong, f"{len(tried)} calls that prove nothing, {len(wrong)} wrong {wrong or ''}")
+
+
+def try_jobs(copy):
+    """How many functions are proved at once, by a variable that each command that proves reads, and by none."""
+    tried = {"./run scan any": ["check"] * 4 + ["run"], "ffi/build": ["lib"], "./dev check yaml_text": ["check"]}
+    wrong = []
+    for more, jobs in (({}, []), ({"RT_JOBS": "3"}, ["--jobs", "3"])):
+        for command, verbs in tried.items():
+            shutil.rmtree(os.path.join(copy.top, "crates", "yamltok", "out"), ignore_errors=True)
+            status, told = copy.run(command, **more)
+            called = [words.split(" -- ")[0].split() for words, _ in copy.calls()]
+            wrong += [] if status == 0 and called == [[verb, *jobs] for verb in verbs] else [(command, more, called, told[-300:])]
+    return say(not wrong, f"{len(tried)} commands with RT_JOBS and without, {len(wrong)} wrong {wrong or ''}")
 
 
 # What rt prints, and what is shown of it.
@@ -388,7 +405,7 @@ def main():
         make_kit(room, program)
         copy, clone = Copy(room, "copy"), Copy(room, "clone")
         good = [try_no_kit(copy), try_clone_without_kit(clone), try_lacking(clone), try_words(copy), try_not_writable(copy), try_progress(room)]
-        good += [try_blank(Copy(room, "a copy")), try_before(copy), try_orders(copy)]
+        good += [try_blank(Copy(room, "a copy")), try_jobs(Copy(room, "jobs")), try_before(copy), try_orders(copy)]
         good += [try_source(copy), try_broken_compiler(copy), try_broken_off(copy), try_failing_gate(copy), try_clone(clone)]
     return 0 if all(good) else 1
 

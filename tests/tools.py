@@ -214,9 +214,9 @@ SCRIPTS = {
         "all": "there is no use for 'all'", "--for-test": "--for-test needs a folder after it",
         "--for-test /dev/null more": "there is no use for 'more'",
     }),
-    "ffi/build": ("ffi/build [--jobs N]", {
-        "all": "there is no use for 'all'", "--job 1": "unrecognized option '--job'", "--jobs": "--jobs needs a word after it",
-        "--jobs all": "there is no number of jobs 'all'",
+    "ffi/build": ("ffi/build", {
+        "all": "there is no use for 'all'", "--jsn": "there is no use for '--jsn'", "--over": "--over needs a word after it",
+        "--over /dev/null more": "there is no use for 'more'",
     }),
     "uses/libyaml/build": ("uses/libyaml/build", {"all": "there is no use for 'all'"}),
 }
