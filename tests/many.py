@@ -367,9 +367,14 @@ def try_alone(python, room):
     os.close(main)
     wrong = differences("alone", done.stdout.decode().split("\n"), ["good\t8\t4\t-", "good\t8\t4\t-", ""])
     wrong += done.returncode != 0 or "#] 100%  2 files, 0 with a fault" not in shown
-    for more in (["none"], ["--library", "none", "good"], ["--workers", "0", "good"]):
-        done = subprocess.run([*words, *more], cwd=room, capture_output=True, timeout=PATIENCE)
-        wrong += done.returncode != 2 or done.stdout != b"" or not done.stderr or b"Traceback" in done.stderr
+    for more, wanted in (
+        ("none", "check: none: No such file or directory\n"), (".", "check: .: Is a directory\n"), ("- <&-", "check: Bad file descriptor\n"),
+        ("--library none good", "check: .*none: cannot open shared object file: No such file or directory\n"),
+        ("--workers 0 good", "usage: check (?s:.*)\ncheck: error: .*\n"),
+    ):
+        line = ["sh", "-c", f'"$@" {more}', "sh", *words]
+        done = subprocess.run(line, cwd=room, stdin=subprocess.DEVNULL, capture_output=True, text=True, timeout=PATIENCE)
+        wrong += (done.returncode, done.stdout) != (2, "") or not re.fullmatch(wanted, done.stderr)
     print(f"many: a cluster of its own and wrong calls, {wrong} wrong")
     return not wrong
 

@@ -389,6 +389,11 @@ def scan_list(words, cut):
     return 2 if found.unread else 1 if found.faults else 0
 
 
+def told_of(wrong):
+    """What an error of the system is about, if that has a name, and what it is."""
+    return f"{wrong.filename}: {wrong.strerror}" if isinstance(wrong.filename, str) else wrong.strerror or wrong
+
+
 def main(words):
     logging.disable(logging.CRITICAL)  # what dask.distributed would say of workers and schedulers that end
     dask.config.set(NO_CHARTS)
@@ -407,7 +412,7 @@ def main(words):
     except KeyboardInterrupt:
         return INTERRUPTED
     except OSError as wrong:
-        sys.stderr.write(f"check: {wrong}\n")
+        sys.stderr.write(f"check: {told_of(wrong)}\n")
     return 2
 
 
