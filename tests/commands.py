@@ -3,7 +3,8 @@
 
 A command is a line of a code block, without its comment. Each is run, and its status and what it prints are compared, or it is
 left out for a reason that is printed; its names are then compared to those that ./dev lists. Names that are missing or wrong are
-tried for each command of ./dev. Each script of tests/ that needs a program says so if it is called without one.
+tried for each command of ./dev. Each script of tests/ that needs a program says so if it is called without one, and all of them
+say what they do.
 What needs the built programs is left out if they are not there or older than the sources. Takes a minute.
 
 The commands of each README are run in a checkout of a commit, with a kit that proves nothing (lib/readmes.py).
@@ -170,6 +171,18 @@ def try_usages(dev):
     return not wrong and len(needing) > 10
 
 
+def try_helps(dev):
+    """Each script that is asked what it does says it, and one that is given an option that it has not says how it is called:
+    nothing is built or run for that."""
+    asked = [(name, status, f"tests/{name}.py {word}") for name in dev.scripts() for word, status in (("--help", 0), ("--jsn", 2))]
+    wrong = []
+    for (name, wanted, words), (status, said) in zip(asked, call_all(f"{sys.executable} {words}" for _, _, words in asked)):
+        if status != wanted or not re.match(rf"usage: (tests/)?{name}\.py ", said):
+            wrong.append((words, status, said[-200:]))
+    print(f"commands: {len(asked)} scripts that are asked for help, or given an option, {len(wrong)} wrong {wrong or ''}")
+    return not wrong and len(asked) > 20
+
+
 def try_readmes(dev):
     """The READMEs of the repository, in a checkout on this machine, with a kit that proves nothing."""
     import readmes
@@ -186,8 +199,12 @@ def try_readmes(dev):
 
 def main():
     dev = load_dev()
-    return 0 if all([try_readmes(dev), try_commands(dev), try_wrong_names(), try_uses_of_docs(), try_table(dev), try_usages(dev)]) else 1
+    good = [try_readmes(dev), try_commands(dev), try_wrong_names(), try_uses_of_docs(), try_table(dev), try_usages(dev)]
+    return 0 if all([*good, try_helps(dev)]) else 1
 
 
 if __name__ == "__main__":
+    from lib.usage import answer_questions
+
+    answer_questions()
     sys.exit(main())
