@@ -69,6 +69,14 @@ check_command() {
   check_last_words "$1" "${@:3}"
 }
 
+# Ends a script whose standard input is closed or a folder, which the program would refuse too.
+check_input() {
+  local why
+  if [ ! -e /dev/fd/0 ]; then why="Bad file descriptor"; elif [ -d /dev/fd/0 ]; then why="Is a directory"; else return 0; fi
+  echo "$script: standard input: $why" >&2
+  exit 3
+}
+
 # Ends a script if what follows the encoding does not belong to this command.
 check_last_words() {
   local most=1
