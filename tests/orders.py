@@ -173,9 +173,9 @@ def try_orders(copy):
 
 def try_before(copy):
     """What needs something that is not built says what to call."""
-    found = [(copy.run("./package"), "there is no proved build: run ./test"),
-             (copy.run("uses/libyaml/build"), "run ffi/build")]
-    wrong = [told for (status, told), wanted in found if status == 0 or wanted not in told]
+    lacking = r"^There is no (ffi/out/libbogzhami\.a: run ffi/build|libyaml\.a: install libyaml-dev)\.\n$"
+    found = [(copy.run("./package"), 1, r"there is no proved build: run \./test"), (copy.run("uses/libyaml/build"), 3, lacking)]
+    wrong = [told for (status, told), wanted, pattern in found if status != wanted or not re.search(pattern, told)]
     return say(not wrong and not copy.built(), f"{len(found)} commands before anything is built, {len(wrong)} wrong {wrong or ''}")
 
 
@@ -313,7 +313,8 @@ def try_lacking(clone):
         calls = [line.split() for line in lines]
     wanted, names = [["update", "-q"], ["install", "-y", "-q", "--no-install-recommends"]], calls[-1][4:]
     good = status == 1 and [words[:4] for words in calls] == wanted and set(PACKAGES) <= set(names)
-    return say(good, f".ci/run installs the {len(names)} packages that are lacking, and no recommended ones{'' if good else told}")
+    told = "" if good else told
+    return say(good, f".ci/run installs the {len(names)} packages that are lacking, and no recommended ones{told}")
 
 
 def try_not_writable(copy):
@@ -364,7 +365,8 @@ def try_jobs(copy):
             shutil.rmtree(os.path.join(copy.top, "crates", "yamltok", "out"), ignore_errors=True)
             status, told = copy.run(command, **more)
             called = [words.split(" -- ")[0].split() for words, _ in copy.calls()]
-            wrong += [] if status == 0 and called == [[verb, *jobs] for verb in verbs] else [(command, more, called, told[-300:])]
+            if status or called != [[verb, *jobs] for verb in verbs]:
+                wrong.append((command, more, called, told[-300:]))
     return say(not wrong, f"{len(tried)} commands with RT_JOBS and without, {len(wrong)} wrong {wrong or ''}")
 
 
