@@ -113,8 +113,9 @@ def run(words: List[str]) -> int:
     """Does what the words ask for, and returns the exit status."""
     asked = {"-h": HELP, "--help": HELP, "--version": f"bogzhami {__version__}"}
     try:
-        for word in filter(asked.get, words):
-            return write_lines([(asked[word], 0)])
+        told = [asked[word] for word in words if word in asked]
+        if told:
+            return write_lines([(told[0], 0)])
         settings = settings_of(words)
     except ValueError as reason:
         return refuse(2, f"{PROGRAM}: {reason}", USAGE)
