@@ -1,12 +1,13 @@
 //! A parser whose input was let go, and taken up again.
 ghost use Rattle.std.specs.Prelude.{◌≡◌, Some, true, false, [], List, option_map};
+ghost use Rattle.yaml_text.specs.Decode.{front};
 ghost use Rattle.yaml_text.specs.Text.{Text};
 ghost use Rattle.yaml_text.specs.Kept.{IsKeptOf, KeptText};
 ghost use Rattle.yaml_scan.specs.ParserCalls.{course_read};
 ghost use Rattle.yaml_scan.specs.Sessions.{session_reach};
 ghost use Rattle.yaml_scan.specs.Parser.{Parser};
 ghost use Rattle.yaml_scan.specs.inside.Kept.{IsKept};
-ghost use Rattle.yaml_scan.specs.inside.KeptEnds.{GivesKept, ShowsKept, StartsKept, ended_by};
+ghost use Rattle.yaml_scan.specs.inside.KeptEnds.{GivesKept, IsLent, ShowsKept, StartsKept, ended_by};
 ghost use Rattle.yaml_scan.specs.inside.Stop.{fault_at};
 ghost use Rattle.yaml_text.specs.Fault.{Fault, fault_of};
 ghost use Rattle.yaml_text.specs.Token.{Token, token_of};
@@ -174,7 +175,42 @@ impl yaml_kept_parser_t {
     }
 }
 
-/// Takes the text of a kept parser out, for the same input. Before the first step it decodes the input, and makes that
+/// The text that was kept, over the same input. If it has bytes of its own they go with it, and nothing is left here.
+#[inline(always)]
+fn lend<'a>(kept: &mut Option<yaml_kept_text_t>, input: &'a [u8]) -> yaml_text_t<'a>
+    requires { (x : Text) × (k : KeptText) × (kept.old ≡ Some k) × IsKeptOf x input.now k }
+    ensures text { (x : Text) (k : KeptText) → kept.old ≡ Some k → IsKeptOf x input.now k → result ≡ x }
+    ensures lent { (x : Text) (k : KeptText) → kept.old ≡ Some k → IsKeptOf x input.now k
+        → IsLent result input.now kept.new }
+{
+    if let Some(text) = kept {
+        if let Some(text) = text.borrowed(input) {
+            return text;
+        }
+    }
+    match kept.take() {
+        Some(text) => text.text(input),
+        None => unreachable!(),
+    }
+}
+
+/// Takes a text back that was lent.
+#[inline(always)]
+fn give_back(
+    kept: &mut Option<yaml_kept_text_t>,
+    text: yaml_text_t,
+    input: &[u8],
+    setting: yaml_encoding_t,
+)
+    ensures { IsLent text.entry input.now kept.old → (k : KeptText) × (kept.new ≡ Some k)
+        × (text.entry ≡ front setting input.now → IsKeptOf text.entry input.now k) }
+{
+    if kept.is_none() {
+        *kept = Some(yaml_kept_text_t::new(text, input, setting));
+    }
+}
+
+/// Lends the text of a kept parser, for the same input. Before the first step it decodes the input, and makes that
 /// step.
 #[inline(always)]
 fn start_kept<'a>(kept: &mut yaml_kept_parser_t, input: &'a [u8]) -> Result<yaml_text_t<'a>, stop_t>
@@ -182,13 +218,12 @@ fn start_kept<'a>(kept: &mut yaml_kept_parser_t, input: &'a [u8]) -> Result<yaml
     ensures { (p : Parser) → p.input ≡ input.now → p.session.over ≡ false → (k : IsKept p kept.old)
         → StartsKept k.parser kept.old kept.new result }
 {
-    if kept.state.made == 0 {
-        return begin(&mut kept.state, input, kept.setting);
+    if kept.state.made > 0 {
+        return Ok(lend(&mut kept.text, input));
     }
-    match kept.text.take() {
-        Some(text) => Ok(text.text(input)),
-        None => unreachable!(),
-    }
+    let text = begin(&mut kept.state, input, kept.setting)?;
+    kept.text = None;
+    Ok(text)
 }
 
 /// Gives the next tokens of a kept parser, whose session is not over, to a sink that has room for one.
@@ -212,7 +247,7 @@ fn scan_kept<S: yaml_token_sink_t>(
         &mut kept.lead,
         sink,
     );
-    kept.text = Some(yaml_kept_text_t::new(text, input, kept.setting));
+    give_back(&mut kept.text, text, input, kept.setting);
     given
 }
 
@@ -224,7 +259,7 @@ fn show_kept(kept: &mut yaml_kept_parser_t, input: &[u8]) -> Result<(), stop_t>
 {
     let text = start_kept(kept, input)?;
     let shown = show_next(&text, &mut kept.state, &mut kept.session, &mut kept.lead);
-    kept.text = Some(yaml_kept_text_t::new(text, input, kept.setting));
+    give_back(&mut kept.text, text, input, kept.setting);
     shown
 }
 

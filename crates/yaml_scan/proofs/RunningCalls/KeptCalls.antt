@@ -81,19 +81,29 @@ module _ (i : Inside) (v : Sound i) (o : i.session.over ≡ false) where
     shown = λ p. (v.peeked p).1;
   }))
 
--- both
-pub starts_now : (i : Inside) → Sound i → i.session.over ≡ false → i.state.made ≡ 0 → (setting : yaml_encoding_t) (input : List ℕ) → setting ≡ i.setting → input ≡ i.input.now → (old new : yaml_kept_parser_t) → old.state ≡ i.state → new.setting ≡ i.setting
-    → (left : KeptText) → new.text ≡ Some left → KeepsOthers old new → (r : Result Text stop_t)
-    → ((T : Text) → MatchResult r (λ text. Begins setting input (scanner_of T old.state) (scanner_of text new.state)) (λ s. (IsShort setting input (scanner_of T old.state) (fault_at s new.state.fault) ⊎ IsEnded setting input (scanner_of T old.state) (scanner_of T new.state) (fault_at s new.state.fault)) × IsStopped setting input (scanner_of T old.state) (scanner_of T new.state)))
-    → StartsKept i old new r
-starts_now i v o m setting input a b old new e d left held others r h = go r (subst (λ (x : List ℕ). At i.setting x r) b (subst (λ (s : yaml_encoding_t). At s input r) a h))
-  where
-    At : yaml_encoding_t → List ℕ → Result Text stop_t → Type 0
-    At s x r = (T : Text) → MatchResult r (λ text. Begins s x (scanner_of T old.state) (scanner_of text new.state)) (λ z. (IsShort s x (scanner_of T old.state) (fault_at z new.state.fault) ⊎ IsEnded s x (scanner_of T old.state) (scanner_of T new.state) (fault_at z new.state.fault)) × IsStopped s x (scanner_of T old.state) (scanner_of T new.state))
+-- the first step, over this input
+module _ (i : Inside) (v : Sound i) (o : i.session.over ≡ false) (m : i.state.made ≡ 0) (setting : yaml_encoding_t) (input : List ℕ) (a : setting ≡ i.setting) (b : input ≡ i.input.now) (old new : state_t) (e : old ≡ i.state) where
+  pub starts_text : (text : Text) → ((T : Text) → Begins setting input (scanner_of T old) (scanner_of text new)) → HasBegun i text new
+  starts_text text h = begins_now i v o m old e text new (subst (λ (x : List ℕ). (T : Text) → Begins i.setting x (scanner_of T old) (scanner_of text new)) b
+      (subst (λ (s : yaml_encoding_t). (T : Text) → Begins s input (scanner_of T old) (scanner_of text new)) a h))
 
-    go : (r : Result Text stop_t) → At i.setting i.input.now r → StartsKept i old new r
-    go (Ok text) h = (begins_now i v o m old.state e text new.state h, others)
-    go (Err stop) h = record { setting = d; left = left; held = held; text = i.text; tokens = []; given = refl; stops = stops_first i v o m old.state e new.state (fault_at stop new.state.fault) h }
+-- it could not be made
+pub stops_text : (i : Inside) → Sound i → i.session.over ≡ false → i.state.made ≡ 0 → (setting : yaml_encoding_t) (input : List ℕ) → setting ≡ i.setting → input ≡ i.input.now → (old : state_t) (new : yaml_kept_parser_t) → old ≡ i.state → new.setting ≡ i.setting
+    → (left : KeptText) → new.text ≡ Some left → (stop : stop_t)
+    → ((T : Text) → (IsShort setting input (scanner_of T old) (fault_at stop new.state.fault) ⊎ IsEnded setting input (scanner_of T old) (scanner_of T new.state) (fault_at stop new.state.fault)) × IsStopped setting input (scanner_of T old) (scanner_of T new.state))
+    → EndsKept i new (λ tokens. tokens ≡ []) stop
+stops_text i v o m setting input a b old new e d left held stop h = record {
+  setting = d;
+  left = left;
+  held = held;
+  text = i.text;
+  tokens = [];
+  given = refl;
+  stops = stops_first i v o m old e new.state (fault_at stop new.state.fault) (subst (λ (x : List ℕ). At i.setting x) b (subst (λ (s : yaml_encoding_t). At s input) a h));
+}
+  where
+    At : yaml_encoding_t → List ℕ → Type 0
+    At s x = (T : Text) → (IsShort s x (scanner_of T old) (fault_at stop new.state.fault) ⊎ IsEnded s x (scanner_of T old) (scanner_of T new.state) (fault_at stop new.state.fault)) × IsStopped s x (scanner_of T old) (scanner_of T new.state)
 
 -- WHAT IS KEPT
 pub kept_after : (i j : Inside) (p : Parser) (tokens : List yaml_token_t) (took : List yaml_token_t → Type 0) → parser_of i ≡ p → GoesOnTo i j tokens → took tokens → GivesMore p (parser_of j) took

@@ -1,6 +1,6 @@
 -- The calls of a kept parser: how they begin and end.
-use Rattle.std.specs.Prelude.{◌≡◌, ℕ, true, false, List, [], Some, MatchResult, Result}
-use Rattle.yaml_text.specs.Kept.{KeptText}
+use Rattle.std.specs.Prelude.{◌≡◌, ◌⊎◌, ℕ, true, false, List, [], Option, None, Some, MatchResult, Result}
+use Rattle.yaml_text.specs.Kept.{IsKeptOf, KeptText}
 use Rattle.yaml_text.specs.Text.{Text}
 use Rattle.yaml_text.specs.declared.fault.yaml_fault_t.{yaml_fault_t}
 use Rattle.yaml_scan.specs.declared.fault.stop_t.{stop_t}
@@ -36,6 +36,10 @@ pub record KeepsOthers (old new : yaml_kept_parser_t) : Type 0 where
   pub session : new.session ≡ old.session
   pub lead : new.lead ≡ old.lead
 
+-- A text of this input was lent: what is kept of it is still there, or was taken out with it.
+abbrev pub IsLent : Text → List ℕ → Option KeptText → Type 0
+IsLent text input kept = (kept ≡ None) ⊎ ((k : KeptText) × (kept ≡ Some k) × IsKeptOf text input k)
+
 -- A call that ends the session finds this fault, after a sink took some tokens.
 pub record EndsKept (i : Inside) (k : yaml_kept_parser_t) (took : List yaml_token_t → Type 0) (stop : stop_t)
     : Type 0 where
@@ -47,9 +51,9 @@ pub record EndsKept (i : Inside) (k : yaml_kept_parser_t) (took : List yaml_toke
   pub given : took tokens
   pub stops : StopsAfter i (scanner_of text k.state) tokens (fault_at stop k.state.fault)
 
--- The first step of the parser i was made, now or before, and this is its text; or it could not be made.
+-- The first step of the parser i was made, now or before, and its text is lent; or it could not be made.
 abbrev pub StartsKept : Inside → yaml_kept_parser_t → yaml_kept_parser_t → Result Text stop_t → Type 0
-StartsKept i old new result = MatchResult result (λ text. HasBegun i text new.state × KeepsOthers old new)
+StartsKept i old new result = MatchResult result (λ text. HasBegun i text new.state × KeepsOthers old new × IsLent text i.input.now new.text)
     (λ stop. EndsKept i new (λ tokens. tokens ≡ []) stop)
 
 -- A sink took the next tokens of the parser p, and there is a reason why no more go there; or there is a fault.

@@ -1,4 +1,6 @@
-use Rattle.std.proofs.Common.{ap, sym, ◌∙◌}
+use Rattle.std.proofs.Common.{List, ℕ, Option, ap, sym, ◌∙◌, subst}
+use Rattle.yaml_text.specs.Kept.{KeptText}
+use Rattle.yaml_scan.specs.inside.KeptEnds.{IsLent, ShowsKept}
 use Rattle.std.proofs.lemmas.Result.{err_from_is_err_and}
 use Rattle.yaml_scan.specs.Parser.{Parser}
 use Rattle.yaml_scan.specs.declared.kept.yaml_kept_parser_t.{yaml_kept_parser_t}
@@ -22,5 +24,6 @@ returns c = λ p e o k.
     let w = c.in_ok-text.ensures p e o k in
     let a = w.1.setting ∙ ap (λ (z : yaml_kept_parser_t). z.setting) k.kept in
     let x = sym e ∙ sym (ap (λ (z : Parser). z.input) k.seen_as) in
-    shows_kept k.parser p k.seen_as _ c.args.input.now a x c.in_ok-text.text c.show_next-shown.new.state c.show_next-shown.new.session c.show_next-shown.new.lead c.new.result c.new.ensures c.show_next-shown.result
-    (c.show_next-shown.ensures k.parser w.0 (w.1.session ∙ ap (λ (z : yaml_kept_parser_t). z.session) k.kept))
+    let b = c.give_back.ensures (subst (λ (z : List ℕ). IsLent c.in_ok-text.text z c.start_kept.new.kept.text) (sym x) w.2) in
+    subst (λ (h : Option KeptText). ShowsKept p k.parser (record { setting = c.start_kept.new.kept.setting; text = h; state = c.show_next-shown.new.state; session = c.show_next-shown.new.session; lead = c.show_next-shown.new.lead }) c.show_next-shown.result) (sym b.1) (shows_kept k.parser p k.seen_as _ c.args.input.now a x c.in_ok-text.text c.show_next-shown.new.state c.show_next-shown.new.session c.show_next-shown.new.lead b.0 b.2 c.show_next-shown.result
+    (c.show_next-shown.ensures k.parser w.0 (w.1.session ∙ ap (λ (z : yaml_kept_parser_t). z.session) k.kept)))
