@@ -16,6 +16,7 @@ import subprocess
 import sys
 import tempfile
 
+from common import answer_help
 from dense import dense
 from realistic import realistic
 from texts import from_c
@@ -117,4 +118,5 @@ def main():
 
 
 if __name__ == "__main__":
+    answer_help()
     main()

@@ -67,6 +67,9 @@ WRONG_NAMES = {
     "check yaml_text --version": (0, r"^dev \(Bogzhami\) [\d.]+\n$"),
 }
 
+# files of bench/ that are no measure by themselves
+PARTS_OF_BENCH = ["child.py", "common.py", "texts.py"]
+
 
 def load_dev():
     """The functions of ./dev."""
@@ -183,6 +186,15 @@ def try_helps(dev):
     return not wrong and len(asked) > 20
 
 
+def try_measures():
+    """Each script of bench/ that is asked what it does says it, and measures nothing."""
+    asked = [name for name in sorted(os.listdir(os.path.join(TOP, "bench"))) if name.endswith(".py") and name not in PARTS_OF_BENCH]
+    answers = call_all(f"{sys.executable} bench/{name} --help" for name in asked)
+    wrong = [(name, said[-200:]) for name, (status, said) in zip(asked, answers) if status or name not in said or "Traceback" in said]
+    print(f"commands: {len(asked)} scripts of bench/ that are asked for help, {len(wrong)} wrong {wrong or ''}")
+    return not wrong and len(asked) > 10
+
+
 def try_readmes(dev):
     """The READMEs of the repository, in a checkout on this machine, with a kit that proves nothing."""
     import readmes
@@ -200,7 +212,7 @@ def try_readmes(dev):
 def main():
     dev = load_dev()
     good = [try_readmes(dev), try_commands(dev), try_wrong_names(), try_uses_of_docs(), try_table(dev), try_usages(dev)]
-    return 0 if all([*good, try_helps(dev)]) else 1
+    return 0 if all([*good, try_helps(dev), try_measures()]) else 1
 
 
 if __name__ == "__main__":
