@@ -279,6 +279,23 @@ fn push_text(out: &mut Vec<u8>, bytes: &[u8], n: usize) -> Result<(), AllocError
     Ok(())
 }
 
+/// Takes what is left of a line and its break, and appends the text to `out`. Returns the break as it is written.
+#[inline(always)]
+fn take_text(cursor: &mut cursor_t, out: &mut Vec<u8>) -> Result<Option<char>, AllocError>
+    ensures text { OnOk result (out.new.items ≡ out.old.items ++ utf8 (run is_in_line cursor.old)) }
+    ensures lead { IfOk result (λ c. c ≡ spec.break_at (after_run is_in_line cursor.old)) }
+    ensures end { OnOk result (cursor.new ≡ spec.next_line cursor.old) }
+{
+    let left = cursor.left();
+    if let Some(n) = cursor.take_fed_line() {
+        push_text(out, left, n)?;
+        return Ok(Some('\n'));
+    }
+    let text = cursor.run(class_t::IN_LINE);
+    out.extend_from_slice(text)?;
+    Ok(take_break(cursor))
+}
+
 /// Takes a text line after its indentation, appends its text to `out`, and sets what is kept of it.
 #[inline(always)]
 fn take_line(
@@ -290,10 +307,7 @@ fn take_line(
     ensures { TakesLine result out.old.items out.new.items tail.new cursor.new (ahead.line_at indent cursor.old) }
 {
     tail.indented = is_at!(cursor, is_blank, 0);
-    let left = cursor.left();
-    let text = cursor.run(class_t::IN_LINE);
-    push_text(out, left, text.len())?;
-    tail.lead = take_break(cursor);
+    tail.lead = take_text(cursor, out)?;
     clear_empties(&mut tail.empties);
     take_blank_lines(cursor, Some(indent), &mut tail.empties, &mut tail.end)?;
     Ok(())

@@ -14,7 +14,7 @@ ghost use Rattle.yaml_lexeme.specs.declared.runs.class_t.TheVariants.{BLANK, SPA
 ghost use Rattle.yaml_lexeme.specs.inside.Runs.{class_test, is_line, Stands};
 
 use crate::classes::is_break;
-use crate::runs::{class_t, is_in, quiet_len, spaces_len, trimmed};
+use crate::runs::{class_t, is_in, line_len, quiet_len, spaces_len, trimmed};
 use std::marker::Model;
 use yaml_text::{WIDTH, yaml_mark_t, yaml_text_t};
 
@@ -71,6 +71,21 @@ fn rest(bytes: &[u8], n: usize) -> &[u8]
     ensures { result.now ≡ drop n bytes.now }
 {
     &bytes[n..]
+}
+
+/// How many bytes the line feed that is here takes, alone or after a carriage return, or 0 if there is none.
+#[inline(always)]
+fn feed_width(bytes: &[u8]) -> usize
+    ensures { result ≡ feed_width bytes.now }
+{
+    if bytes.is_empty() {
+        return 0;
+    }
+    match bytes[0] {
+        b'\n' => 1,
+        b'\r' if bytes.len() > 1 && bytes[1] == b'\n' => 2,
+        _ => 0,
+    }
 }
 
 /// The code point that a lead byte and those after it spell.
@@ -366,6 +381,28 @@ impl<'a> cursor_t<'a> {
         }
         let left = self.left();
         front(start, start.len() - left.len())
+    }
+
+    /// Takes what is left of a line and the line feed that ends it, alone or after a carriage return. Returns how many
+    /// bytes come before that break. If the line ends otherwise, nothing is taken.
+    #[inline(always)]
+    pub fn take_fed_line(&mut self) -> Option<usize>
+        ensures taken { IfSome result (λ n. FedLine n self.old self.new) }
+        ensures stays { result ≡ None → self.new ≡ self.old }
+    {
+        let n = line_len(self.bytes);
+        let left = rest(self.bytes, n);
+        let width = feed_width(left);
+        if width == 0 {
+            return None;
+        }
+        self.mark = yaml_mark_t {
+            index: self.mark.index + (n + width) as u64,
+            line: self.mark.line + 1,
+            column: 0,
+        };
+        self.bytes = rest(left, width);
+        Some(n)
     }
 
     /// The place after the run of the class that is here.
