@@ -5,4 +5,5 @@ pub mod PlaceMoves
 -- A cursor that moves on bytes moves as a place does on characters.
 pub mod CursorMoves
 -- What the first bytes of a text say of its first character.
+pub mod FedLines
 pub mod FirstCharacters

@@ -1,12 +1,13 @@
 //! Literal and folded scalars.
-ghost use Rattle.std.specs.Prelude.{◌≡◌, ◌+◌, ◌++◌, ◌<◌, ◌≤◌, ◌^◌, OnOk, IfOk, IfSome, [], length, take, replicate};
+ghost use Rattle.std.specs.Prelude.{◌≡◌, ◌+◌, ◌++◌, ◌<◌, ◌^◌, OnOk, IfOk, IfSome, [], length, replicate};
 ghost use Rattle.std.specs.Prelude.{true, false, encode_utf8};
 ghost use Rattle.yaml_text.specs.Chars.{utf8};
 ghost use Rattle.yaml_lexeme.specs.Block as spec;
 ghost use Rattle.yaml_lexeme.specs.inside.BlockAhead as ahead;
 ghost use Rattle.yaml_lexeme.specs.LexemeOf.{scalar_of};
 ghost use Rattle.yaml_lexeme.specs.inside.Gives.{Gives, Moves};
-ghost use Rattle.yaml_lexeme.specs.Place.{skip, break_len};
+ghost use Rattle.yaml_lexeme.specs.Classes.{is_in_line};
+ghost use Rattle.yaml_lexeme.specs.Place.{skip, break_len, run, after_run};
 ghost use Rattle.yaml_lexeme.specs.inside.Tails.{breaks_in, TakesBlanks, TakesLine, between_tail, chomped_tail};
 
 use crate::classes::{is_blank, is_break};
@@ -21,9 +22,6 @@ use yaml_text::yaml_mark_t;
 
 /// How many bytes a block scalar first gets room for.
 const ROOM: usize = 256;
-
-/// So many bytes of a line are copied as one.
-const STAGE: usize = 64;
 
 /// What is kept after the last text line.
 #[derive(Clone, Copy)]
@@ -263,22 +261,6 @@ fn take_break(cursor: &mut cursor_t) -> Option<char>
     if n == 0 { None } else { Some(written(c)) }
 }
 
-/// Appends the first `n` bytes to `out`. If they are few, and there is room, a stage of bytes is copied as one, and
-/// what is too much of it is cut off.
-#[inline(always)]
-fn push_text(out: &mut Vec<u8>, bytes: &[u8], n: usize) -> Result<(), AllocError>
-    requires { n ≤ length bytes.now }
-    ensures { OnOk result (out.new.items ≡ out.old.items ++ take n bytes.now) }
-{
-    let old = out.len();
-    if n > STAGE || bytes.len() < STAGE || out.capacity() - old < STAGE {
-        return out.extend_from_slice(&bytes[..n]);
-    }
-    out.extend_from_slice(&bytes[..STAGE])?;
-    out.truncate(old + n);
-    Ok(())
-}
-
 /// Takes what is left of a line and its break, and appends the text to `out`. Returns the break as it is written.
 #[inline(always)]
 fn take_text(cursor: &mut cursor_t, out: &mut Vec<u8>) -> Result<Option<char>, AllocError>
@@ -288,7 +270,7 @@ fn take_text(cursor: &mut cursor_t, out: &mut Vec<u8>) -> Result<Option<char>, A
 {
     let left = cursor.left();
     if let Some(n) = cursor.take_fed_line() {
-        push_text(out, left, n)?;
+        out.extend_from_slice(&left[..n])?;
         return Ok(Some('\n'));
     }
     let text = cursor.run(class_t::IN_LINE);

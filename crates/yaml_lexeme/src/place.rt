@@ -1,5 +1,6 @@
 //! A place that moves through a text.
 ghost use Rattle.std.specs.Prelude.{ℕ, min, ◌≡◌, ◌+◌, ◌^◌, ◌<◌, ◌≤◌, length, slice_index, take, drop, false, true};
+ghost use Rattle.std.specs.Prelude.{IfSome, None};
 ghost use Rattle.std.specs.Char.{len_utf8};
 ghost use Rattle.std.specs.Str.{chars};
 ghost use Rattle.yaml_text.specs.Chars.{utf8};
@@ -7,7 +8,7 @@ ghost use Rattle.yaml_text.specs.TextBytes.{IsText};
 ghost use Rattle.yaml_text.specs.Classes.{is_break};
 ghost use Rattle.yaml_text.specs.Utf8.{value_of};
 ghost use Rattle.yaml_lexeme.specs.Place.{peek, first, place_at, skip, after_run, run};
-ghost use Rattle.yaml_lexeme.specs.inside.Moves.{mark_after, is_feed};
+ghost use Rattle.yaml_lexeme.specs.inside.Moves.{mark_after, is_feed, feed_width, FedLine};
 ghost use Rattle.yaml_lexeme.specs.Counted.{IsMarkOf};
 ghost use Rattle.yaml_lexeme.specs.Place.{run_len, break_len};
 ghost use Rattle.yaml_lexeme.specs.declared.runs.class_t.TheVariants.{BLANK, SPACE};
