@@ -273,7 +273,7 @@ fn take_text(cursor: &mut cursor_t, out: &mut Vec<u8>) -> Result<Option<char>, A
         out.extend_from_slice(&left[..n])?;
         return Ok(Some('\n'));
     }
-    let text = cursor.run(class_t::IN_LINE);
+    let text = cursor.rare_run(class_t::IN_LINE);
     out.extend_from_slice(text)?;
     Ok(take_break(cursor))
 }

@@ -440,6 +440,19 @@ impl<'a> cursor_t<'a> {
         front(start, start.len() - left.len())
     }
 
+    /// Takes the longest run of characters of the class, and returns its bytes, as `run` does, where that is rare: a
+    /// function of its own takes it.
+    #[inline(always)]
+    pub fn rare_run(&mut self, class: class_t) -> &'a [u8]
+        ensures value { result.now ≡ utf8 (run (class_test class) self.old) }
+        ensures end { self.new ≡ after_run (class_test class) self.old }
+    {
+        let start = self.left();
+        *self = self.again().past_run(class);
+        let left = self.left();
+        front(start, start.len() - left.len())
+    }
+
     /// Takes characters of a class of a line, up to a byte at which their run may end, except the blanks
     /// before that byte.
     #[inline(always)]
