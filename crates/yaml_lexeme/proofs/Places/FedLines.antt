@@ -1,5 +1,5 @@
 -- A line that ends with a line feed is taken without a count of its characters.
-use Rattle.std.proofs.Common.{◌≡◌, ℕ, ◌+◌, ◌-◌, ◌<◌, ◌≤◌, Bool, true, false, ◌==◌, List, length, get_or, take, drop, refl, sym, ap, ◌∙◌, subst, arith, inl, inr}
+use Rattle.std.proofs.Common.{◌≡◌, ℕ, ◌+◌, ◌-◌, ◌<◌, ◌≤◌, true, false, ◌==◌, List, length, get_or, take, drop, refl, sym, ap, ◌∙◌, subst, arith, inl, inr}
 use Rattle.std.specs.List.{count_by}
 use Rattle.std.specs.Str.{chars}
 use Rattle.std.proofs.lemmas.Bool.{cases_Bool, cases_lt}
@@ -9,9 +9,8 @@ use Rattle.yaml_text.specs.declared.types.yaml_mark_t.{yaml_mark_t}
 use Rattle.yaml_text.specs.Chars.{utf8}
 use Rattle.yaml_text.specs.Classes.{is_crlf}
 use Rattle.yaml_text.specs.TextBytes.{IsText}
-use Rattle.yaml_lexeme.specs.Block.{next_line}
 use Rattle.yaml_lexeme.specs.Classes.{is_in_line}
-use Rattle.yaml_lexeme.specs.Place.{Place, first, peek, skip, run, after_run, break_len}
+use Rattle.yaml_lexeme.specs.Place.{Place, first, peek, skip, after_run, break_len}
 use Rattle.yaml_lexeme.specs.declared.runs.class_t.TheVariants.{IN_LINE}
 use Rattle.yaml_lexeme.specs.inside.Moves.{is_feed, feed_width, FedLine}
 use Rattle.yaml_lexeme.specs.inside.Runs.{begins, Clear}

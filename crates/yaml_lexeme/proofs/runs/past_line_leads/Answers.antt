@@ -1,4 +1,4 @@
-use Rattle.std.proofs.Common.{rules, length, ◌≡◌, ◌<◌, ◌+◌, ◌-◌, ◌^◌, true, arith, sym, ap, ◌∙◌, refl, take, drop, ℕ, List}
+use Rattle.std.proofs.Common.{rules, length, ◌≡◌, ◌<◌, ◌+◌, ◌-◌, ◌^◌, true, arith, sym, ap, ◌∙◌, refl, take, drop}
 use Rattle.std.proofs.lemmas.List.{take_all, length-drop}
 use Rattle.std.specs.List.{prefix_len, count_by}
 use Rattle.yaml_lexeme.specs.declared.runs.class_t.TheVariants.{IN_LINE}

@@ -1,4 +1,4 @@
-use Rattle.std.proofs.Common.{◌≡◌, ◌-◌, ◌≤◌, length}
+use Rattle.std.proofs.Common.{◌-◌, ◌≤◌, length}
 use Rattle.yaml_lexeme.specs.declared.runs.class_t.TheVariants.{IN_LINE}
 use Rattle.yaml_lexeme.specs.inside.Runs.{Clear}
 use Rattle.yaml_lexeme.proofs.runs.past_line_leads.Given as goal

@@ -1,4 +1,4 @@
-use Rattle.std.proofs.Common.{◌≡◌, ◌<◌, ◌∙◌, ap, arith, length, drop}
+use Rattle.std.proofs.Common.{◌<◌, ◌∙◌, ap, arith, drop}
 use Rattle.std.proofs.lemmas.List.{length-drop}
 use Rattle.yaml_lexeme.specs.inside.Moves.{feed_width}
 use Rattle.yaml_lexeme.proofs.Places.FedLines.{FedMove, fed_moves}
