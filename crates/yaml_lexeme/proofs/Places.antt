@@ -5,5 +5,6 @@ pub mod PlaceMoves
 -- A cursor that moves on bytes moves as a place does on characters.
 pub mod CursorMoves
 -- What the first bytes of a text say of its first character.
-pub mod FedLines
 pub mod FirstCharacters
+-- A line that ends with a line feed is taken without a count of its characters.
+pub mod FedLines
