@@ -805,6 +805,83 @@ fn block_values(rt: HostRuntime) -> Result<(), Fail> {
 }
 
 /// Anchors and aliases.
+/// Compares a literal and a folded scalar with what is wanted: a line of x, then what is between, then y up to a line
+/// feed. Of what is between the literal one keeps `kept`, and the folded one `folded`.
+fn expect_lines(
+    rt: &impl Abort,
+    alloc: Global,
+    row: (&str, &str, &str, u64),
+    sizes: (u64, u64),
+) -> Result<(), Fail> {
+    let (between, kept, folded, line) = row;
+    let (front, back) = sizes;
+    for (sign, name, kept) in [("|", "literal", kept), (">", "folded", folded)] {
+        let (mut text, mut value) = (String::new(alloc), String::new(alloc));
+        text.push_str(sign)?;
+        text.push_str("\n ")?;
+        push_letters(&mut text, "x", front)?;
+        push_letters(&mut value, "x", front)?;
+        text.push_str(between)?;
+        value.push_str(kept)?;
+        push_letters(&mut text, "y", back)?;
+        push_letters(&mut value, "y", back)?;
+        text.push_str("\n")?;
+        value.push_str("\n")?;
+        let shown = lexed(alloc, text.as_bytes(), 0, None)?;
+        let index = text.as_bytes().len();
+        let bytes = show_bytes(alloc, value.as_bytes())?;
+        let bytes = bytes.as_str();
+        let end = format!(in alloc; "{index}:{line}:0")?;
+        let end = end.as_str();
+        let want = format!(in alloc; "{name} {bytes} 0:0:0 {end} {end} false")?;
+        assert_eq!(rt; shown.as_str(), want.as_str(), "{front} {back}");
+    }
+    Ok(())
+}
+
+#[test]
+fn block_lines_of_each_length(rt: HostRuntime) -> Result<(), Fail> {
+    let rows: [(&str, &str, &str, u64); 13] = [
+        ("\n ", "\n", " ", 3),
+        ("\r ", "\n", " ", 3),
+        ("\r\n ", "\n", " ", 3),
+        ("\u{85} ", "\n", " ", 3),
+        ("\u{2028} ", "\u{2028}", "\u{2028}", 3),
+        ("\u{2029} ", "\u{2029}", "\u{2029}", 3),
+        ("\n\n ", "\n\n", "\n", 4),
+        ("\r\n\r\n ", "\n\n", "\n", 4),
+        ("\n\u{2028}\n ", "\n\u{2028}\n", "\u{2028}\n", 5),
+        ("\u{a9}", "\u{a9}", "\u{a9}", 2),
+        ("\u{201c}", "\u{201c}", "\u{201c}", 2),
+        ("\u{202a}", "\u{202a}", "\u{202a}", 2),
+        ("\u{2128}", "\u{2128}", "\u{2128}", 2),
+    ];
+    for row in rows {
+        for front in 1..67u64 {
+            for back in [1u64, 15, 16, 17, 64] {
+                expect_lines(&rt, rt.alloc(), row, (front, back))?;
+            }
+        }
+    }
+    Ok(())
+}
+
+#[test]
+fn ends_of_block_scalars(rt: HostRuntime) -> Result<(), Fail> {
+    let rows: [(&str, u64, Option<u64>, &str); 9] = [
+        ("|+\n a", 0, None, "literal 61 0:0:0 5:1:2 5:1:2 false"),
+        ("|+\n a\r", 0, None, "literal 610a 0:0:0 6:2:0 6:2:0 false"),
+        ("|+\n a\r\n", 0, None, "literal 610a 0:0:0 7:2:0 7:2:0 false"),
+        ("|+\n a\u{85}", 0, None, "literal 610a 0:0:0 7:2:0 7:2:0 false"),
+        ("|+\n a\u{2028}", 0, None, "literal 61e280a8 0:0:0 8:2:0 8:2:0 false"),
+        ("|+\n a\r\n\r\n", 0, None, "literal 610a0a 0:0:0 9:3:0 9:3:0 false"),
+        ("|+\n a\n\u{2028}\n", 0, None, "literal 610ae280a80a 0:0:0 10:4:0 10:4:0 false"),
+        ("|-\n a\n\n", 0, None, "literal 61 0:0:0 7:3:0 7:3:0 false"),
+        (">\n a\r\n\n", 0, None, "folded 610a 0:0:0 7:3:0 7:3:0 false"),
+    ];
+    expect_rows(&rt, rt.alloc(), &rows)
+}
+
 #[test]
 fn names(rt: HostRuntime) -> Result<(), Fail> {
     let rows: [(&str, u64, Option<u64>, &str); 11] = [

@@ -342,33 +342,63 @@ fn no_spaces(v: u8x16) -> u64
     (lanes_are_not!(v, b' ')).to_bitmask()
 }
 
-/// The lanes at which a run of a narrow class ends.
+/// The lanes at which a run of the class may end.
 #[inline(always)]
-fn narrow_stops(class: class_t, v: u8x16) -> u64
-    requires { spec.is_narrow class ≡ true }
+fn lanes_that_stop(class: class_t, v: u8x16) -> u64
+    requires { spec.is_wide class ≡ true }
     ensures { result ≡ mask_l (map (spec.is_stop class) v) }
 {
     match class {
         class_t::ALPHA => no_letters(v),
-        _ => no_uri(v),
+        class_t::URI(_) => no_uri(v),
+        _ => stops(class, v),
     }
 }
 
-/// How many of the first bytes a run of a narrow class has.
+/// How many of the first bytes need no closer look.
 #[inline(always)]
-fn narrow_run(class: class_t, text: &[u8]) -> usize
-    requires { spec.is_narrow class ≡ true }
+fn wide_run(class: class_t, text: &[u8]) -> usize
+    requires { spec.is_wide class ≡ true }
     ensures { result ≡ prefix_len (spec.is_quiet class) text.now }
 {
     let mut i: usize = 0;
     'wide: while text.len() - i >= 16 {
-        let found = narrow_stops(class, u8x16::from_slice(&text[i..]));
+        let found = lanes_that_stop(class, u8x16::from_slice(&text[i..]));
         if found != 0 {
             return i + found.trailing_zeros() as usize;
         }
         i += 16;
     }
     slow_end(class, text, i)
+}
+
+/// The same as `line_len`, from a place on up to which all is found out.
+#[inline(never)]
+fn past_line_leads(text: &[u8], from: usize) -> usize
+    requires clear { spec.Clear IN_LINE text.now from }
+    requires within { from ≤ length text.now }
+    ensures clear { spec.Clear IN_LINE text.now result }
+    ensures bound { result ≤ length text.now }
+{
+    let mut i = from;
+    'leads: while is_false_lead(text, i) {
+        i += 1 + wide_run(class_t::IN_LINE, &text[i + 1..]);
+    }
+    i
+}
+
+/// How many of the first bytes are in this line, or need no closer look for that. The byte after them begins a
+/// character.
+#[inline(always)]
+pub(crate) fn line_len(text: &[u8]) -> usize
+    ensures clear { spec.Clear IN_LINE text.now result }
+    ensures bound { result ≤ length text.now }
+{
+    let n = wide_run(class_t::IN_LINE, text);
+    if n < text.len() && text[n] >= 0x80 {
+        return past_line_leads(text, n);
+    }
+    n
 }
 
 /// How many spaces the text begins with, which are many.
@@ -409,7 +439,7 @@ fn narrow_len(class: class_t, text: &[u8]) -> usize
 {
     match class {
         class_t::SPACE => spaces_len(text),
-        class_t::ALPHA | class_t::URI(false) => narrow_run(class, text),
+        class_t::ALPHA | class_t::URI(false) => wide_run(class, text),
         _ => end_from(class, text, 0),
     }
 }

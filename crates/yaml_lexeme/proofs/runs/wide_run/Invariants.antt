@@ -1,7 +1,7 @@
 use Rattle.std.proofs.Common.{◌≡◌, ◌+◌, ◌-◌, ◌≤◌, length, drop}
 use Rattle.std.specs.List.{prefix_len}
 use Rattle.yaml_lexeme.specs.inside.Runs.{is_quiet}
-use Rattle.yaml_lexeme.proofs.runs.narrow_run.Given as goal
+use Rattle.yaml_lexeme.proofs.runs.wide_run.Given as goal
 
 abbrev pub invariant-wide : goal.invariant-wide
 invariant-wide l = (prefix_len (is_quiet l.class) l.text ≡ l.i + prefix_len (is_quiet l.class) (drop l.i l.text)) × (l.i ≤ length l.text)
