@@ -99,16 +99,17 @@ impl yaml_token_sink_t for shelf_t<'_> {
     ghost within_none = { λ _ _ _ _. tt };
 }
 
-/// A kept parser beside its input, so that each call has the input that the parser was kept of.
+/// A kept parser beside its input.
 #[derive(Drop)]
 struct held_t<'a> {
     kept: yaml_kept_parser_t,
     input: &'a [u8],
-    ghost is_kept: { (p : Parser) × (p.input ≡ input.now) × IsKept p kept },
 }
 
 impl<'a> held_t<'a> {
-    fn new(alloc: Global, input: &'a [u8]) -> held_t<'a> {
+    fn new(alloc: Global, input: &'a [u8]) -> held_t<'a>
+        ensures { (p : Parser) × (p.input ≡ result.input.now) × IsKept p result.kept }
+    {
         held_t {
             kept: yaml_kept_parser_t::new(yaml_parser_t::new(alloc, input, ANY)),
             input,
@@ -116,12 +117,18 @@ impl<'a> held_t<'a> {
     }
 
     /// Gives tokens to a sink. Returns whether there is a fault.
-    fn scan_to(&mut self, shelf: &mut shelf_t) -> bool {
+    fn scan_to(&mut self, shelf: &mut shelf_t) -> bool
+        requires { (p : Parser) × (p.input ≡ self.old.input.now) × IsKept p self.old.kept }
+        ensures { (p : Parser) × (p.input ≡ self.new.input.now) × IsKept p self.new.kept }
+    {
         yaml_kept_scan_to(&mut self.kept, self.input, shelf)
     }
 
     /// Shows the next token. Returns whether there is a fault.
-    fn peek(&mut self) -> bool {
+    fn peek(&mut self) -> bool
+        requires { (p : Parser) × (p.input ≡ self.old.input.now) × IsKept p self.old.kept }
+        ensures { (p : Parser) × (p.input ≡ self.new.input.now) × IsKept p self.new.kept }
+    {
         yaml_kept_peek(&mut self.kept, self.input)
     }
 }
@@ -163,7 +170,7 @@ fn stops_rightly(kept: &yaml_kept_parser_t, shelf: &shelf_t) -> bool {
 fn given(alloc: Global, input: &[u8], room: u128, texts: u128) -> Result<usize, Fail> {
     let mut held = held_t::new(alloc, input);
     let mut shelf = shelf_t::new(alloc, input);
-    for _ in 0..300 {
+    'calls: for _ in 0..300 {
         shelf.room = room;
         let need = need_of(&held.kept, texts);
         shelf.texts = if need > texts { need } else { texts };
@@ -218,8 +225,8 @@ fn peeked_token_is_the_next(rt: HostRuntime) -> Result<(), Fail> {
         let mut right = yaml_parser_t::new(rt.alloc(), input, ANY);
         let mut shelf = shelf_t::new(rt.alloc(), input);
         let count = count_of(rt.alloc(), input)?;
-        for _ in 0..count {
-            for _ in 0..2 {
+        'tokens: for _ in 0..count {
+            'peeks: for _ in 0..2 {
                 assert!(rt; !held.peek());
                 match (held.kept.peeked(), yaml_parser_peek(&mut right)) {
                     (Some(shown), Ok(want)) => assert!(rt; shown == want),
@@ -243,7 +250,7 @@ fn peeked_token_is_the_next(rt: HostRuntime) -> Result<(), Fail> {
 fn nothing_comes_after_the_end(rt: HostRuntime) -> Result<(), Fail> {
     let mut held = held_t::new(rt.alloc(), b"a");
     let mut shelf = shelf_t::new(rt.alloc(), b"a");
-    for _ in 0..2 {
+    'calls: for _ in 0..2 {
         shelf.room = 10;
         shelf.texts = 10;
         assert!(rt; !held.scan_to(&mut shelf));
@@ -265,7 +272,7 @@ fn fault_comes_after_its_tokens(rt: HostRuntime) -> Result<(), Fail> {
         for (room, calls) in [(1, 7), (3, 3), (100, 1)] {
             let mut held = held_t::new(rt.alloc(), input);
             let mut shelf = shelf_t::new(rt.alloc(), input);
-            for call in 1..10 {
+            'calls: for call in 1..10 {
                 shelf.room = room;
                 shelf.texts = 100;
                 let ends = held.scan_to(&mut shelf);
