@@ -1,4 +1,8 @@
 //! Calls of a kept parser, which stays in its place.
+ghost use Rattle.std.specs.Prelude.{◌≡◌};
+ghost use Rattle.yaml_scan.specs.Parser.{Parser};
+ghost use Rattle.yaml_scan.specs.inside.Kept.{IsKept};
+
 use std::alloc::{AllocError, Global};
 use std::test::Fail;
 use yaml_scan::{
@@ -95,8 +99,38 @@ impl yaml_token_sink_t for shelf_t<'_> {
     ghost within_none = { λ _ _ _ _. tt };
 }
 
-fn kept_of(alloc: Global, input: &[u8]) -> yaml_kept_parser_t {
-    yaml_kept_parser_t::new(yaml_parser_t::new(alloc, input, ANY))
+/// A kept parser beside its input.
+#[derive(Drop)]
+struct held_t<'a> {
+    kept: yaml_kept_parser_t,
+    input: &'a [u8],
+}
+
+impl<'a> held_t<'a> {
+    fn new(alloc: Global, input: &'a [u8]) -> held_t<'a>
+        ensures { (p : Parser) × (p.input ≡ result.input.now) × IsKept p result.kept }
+    {
+        held_t {
+            kept: yaml_kept_parser_t::new(yaml_parser_t::new(alloc, input, ANY)),
+            input,
+        }
+    }
+
+    /// Gives tokens to a sink. Returns whether there is a fault.
+    fn scan_to(&mut self, shelf: &mut shelf_t) -> bool
+        requires { (p : Parser) × (p.input ≡ self.old.input.now) × IsKept p self.old.kept }
+        ensures { (p : Parser) × (p.input ≡ self.new.input.now) × IsKept p self.new.kept }
+    {
+        yaml_kept_scan_to(&mut self.kept, self.input, shelf)
+    }
+
+    /// Shows the next token. Returns whether there is a fault.
+    fn peek(&mut self) -> bool
+        requires { (p : Parser) × (p.input ≡ self.old.input.now) × IsKept p self.old.kept }
+        ensures { (p : Parser) × (p.input ≡ self.new.input.now) × IsKept p self.new.kept }
+    {
+        yaml_kept_peek(&mut self.kept, self.input)
+    }
 }
 
 /// How many tokens an input has.
@@ -134,20 +168,20 @@ fn stops_rightly(kept: &yaml_kept_parser_t, shelf: &shelf_t) -> bool {
 /// Gives all tokens of an input to a sink, in calls that have room for so many tokens, and bytes, or as many bytes as
 /// the next token needs. Returns how many it got if all are right.
 fn given(alloc: Global, input: &[u8], room: u128, texts: u128) -> Result<usize, Fail> {
-    let mut kept = kept_of(alloc, input);
+    let mut held = held_t::new(alloc, input);
     let mut shelf = shelf_t::new(alloc, input);
     'calls: for _ in 0..300 {
         shelf.room = room;
-        let need = need_of(&kept, texts);
+        let need = need_of(&held.kept, texts);
         shelf.texts = if need > texts { need } else { texts };
-        if yaml_kept_scan_to(&mut kept, input, &mut shelf) {
+        if held.scan_to(&mut shelf) {
             return Err("a fault".into());
         }
-        if !stops_rightly(&kept, &shelf) {
+        if !stops_rightly(&held.kept, &shelf) {
             return Err("stops at a wrong place".into());
         }
     }
-    if shelf.wrong > 0 || !kept.is_over() {
+    if shelf.wrong > 0 || !held.kept.is_over() {
         return Err("a wrong token, or no end".into());
     }
     Ok(shelf.tokens)
@@ -174,12 +208,12 @@ fn tokens_go_on_while_there_is_room(rt: HostRuntime) -> Result<(), Fail> {
 /// A sink without room gets no token, and none is shown to it.
 #[test]
 fn no_token_goes_where_there_is_no_room(rt: HostRuntime) -> Result<(), Fail> {
-    let mut kept = kept_of(rt.alloc(), b"a");
+    let mut held = held_t::new(rt.alloc(), b"a");
     let mut shelf = shelf_t::new(rt.alloc(), b"a");
-    assert!(rt; !yaml_kept_scan_to(&mut kept, b"a", &mut shelf));
+    assert!(rt; !held.scan_to(&mut shelf));
     assert_eq!(rt; shelf.tokens, 0);
-    assert!(rt; kept.peeked().is_none());
-    assert!(rt; !kept.is_over());
+    assert!(rt; held.kept.peeked().is_none());
+    assert!(rt; !held.kept.is_over());
     Ok(())
 }
 
@@ -187,24 +221,24 @@ fn no_token_goes_where_there_is_no_room(rt: HostRuntime) -> Result<(), Fail> {
 #[test]
 fn peeked_token_is_the_next(rt: HostRuntime) -> Result<(), Fail> {
     for input in INPUTS {
-        let mut kept = kept_of(rt.alloc(), input);
+        let mut held = held_t::new(rt.alloc(), input);
         let mut right = yaml_parser_t::new(rt.alloc(), input, ANY);
         let mut shelf = shelf_t::new(rt.alloc(), input);
         let count = count_of(rt.alloc(), input)?;
         'tokens: for _ in 0..count {
-            for _ in 0..2 {
-                assert!(rt; !yaml_kept_peek(&mut kept, input));
-                match (kept.peeked(), yaml_parser_peek(&mut right)) {
+            'peeks: for _ in 0..2 {
+                assert!(rt; !held.peek());
+                match (held.kept.peeked(), yaml_parser_peek(&mut right)) {
                     (Some(shown), Ok(want)) => assert!(rt; shown == want),
                     _ => return Err("no token".into()),
                 }
             }
             shelf.room = 1;
             shelf.texts = 1000;
-            assert!(rt; !yaml_kept_scan_to(&mut kept, input, &mut shelf));
+            assert!(rt; !held.scan_to(&mut shelf));
             assert!(rt; yaml_parser_scan(&mut right).is_ok());
         }
-        assert!(rt; kept.is_over());
+        assert!(rt; held.kept.is_over());
         assert_eq!(rt; shelf.tokens, count);
         assert_eq!(rt; shelf.wrong, 0);
     }
@@ -214,17 +248,17 @@ fn peeked_token_is_the_next(rt: HostRuntime) -> Result<(), Fail> {
 /// After the end a sink gets nothing, and nothing is shown.
 #[test]
 fn nothing_comes_after_the_end(rt: HostRuntime) -> Result<(), Fail> {
-    let mut kept = kept_of(rt.alloc(), b"a");
+    let mut held = held_t::new(rt.alloc(), b"a");
     let mut shelf = shelf_t::new(rt.alloc(), b"a");
-    for _ in 0..2 {
+    'calls: for _ in 0..2 {
         shelf.room = 10;
         shelf.texts = 10;
-        assert!(rt; !yaml_kept_scan_to(&mut kept, b"a", &mut shelf));
-        assert!(rt; kept.is_over());
+        assert!(rt; !held.scan_to(&mut shelf));
+        assert!(rt; held.kept.is_over());
         assert_eq!(rt; shelf.tokens, 3);
     }
-    assert!(rt; !yaml_kept_peek(&mut kept, b"a"));
-    assert!(rt; kept.peeked().is_none());
+    assert!(rt; !held.peek());
+    assert!(rt; held.kept.peeked().is_none());
     Ok(())
 }
 
@@ -236,15 +270,15 @@ fn fault_comes_after_its_tokens(rt: HostRuntime) -> Result<(), Fail> {
         b"\xFE\xFF\0a\0:\0 \0b\0:\0 \0c".as_slice(),
     ] {
         for (room, calls) in [(1, 7), (3, 3), (100, 1)] {
-            let mut kept = kept_of(rt.alloc(), input);
+            let mut held = held_t::new(rt.alloc(), input);
             let mut shelf = shelf_t::new(rt.alloc(), input);
             'calls: for call in 1..10 {
                 shelf.room = room;
                 shelf.texts = 100;
-                let ends = yaml_kept_scan_to(&mut kept, input, &mut shelf);
+                let ends = held.scan_to(&mut shelf);
                 assert_eq!(rt; ends, call == calls, "{room} {call}");
-                assert_eq!(rt; kept.is_over(), call >= calls);
-                assert_eq!(rt; kept.fault().is_some(), call >= calls);
+                assert_eq!(rt; held.kept.is_over(), call >= calls);
+                assert_eq!(rt; held.kept.fault().is_some(), call >= calls);
             }
             assert_eq!(rt; shelf.tokens, 6, "{room}");
             assert_eq!(rt; shelf.wrong, 0);
@@ -257,14 +291,14 @@ fn fault_comes_after_its_tokens(rt: HostRuntime) -> Result<(), Fail> {
 #[test]
 fn peek_finds_the_fault(rt: HostRuntime) -> Result<(), Fail> {
     let input = b"\xFF";
-    let mut kept = kept_of(rt.alloc(), input);
-    assert!(rt; kept.fault().is_none());
-    assert!(rt; yaml_kept_peek(&mut kept, input));
-    assert!(rt; kept.is_over());
-    assert!(rt; kept.fault().is_some());
-    assert!(rt; kept.peeked().is_none());
-    assert!(rt; !yaml_kept_peek(&mut kept, input));
-    assert!(rt; kept.peeked().is_none());
+    let mut held = held_t::new(rt.alloc(), input);
+    assert!(rt; held.kept.fault().is_none());
+    assert!(rt; held.peek());
+    assert!(rt; held.kept.is_over());
+    assert!(rt; held.kept.fault().is_some());
+    assert!(rt; held.kept.peeked().is_none());
+    assert!(rt; !held.peek());
+    assert!(rt; held.kept.peeked().is_none());
     Ok(())
 }
 

@@ -247,6 +247,17 @@ over_is code.NONE fault a h e = absurd (let k = sym h ∙ e in cc)
 over_is code.FAULT fault a h e = absurd (let k = sym h.2 ∙ e in cc)
 over_is code.OVER fault a h e = refl
 
+-- the fault, which the parser keeps
+pub fault_ahead : (read : ahead_t) (fault : Option Fault) (a : Ahead) → IsAhead read fault a → read ≡ code.FAULT → (f : Fault) × (fault ≡ Some f) × (a ≡ READ_FAULT f)
+fault_ahead read fault a h e = subst (λ (z : ahead_t). IsAhead z fault a) e h
+
+pub next_is_fault : (p : Parser) (read : ahead_t) (a : Ahead) (f : Fault) → IsAhead read p.session.fault a → read ≡ code.FAULT → Some f ≡ p.session.fault → next_of p a ≡ FAULT f
+next_is_fault p read a f h e is = let w = fault_ahead read p.session.fault a h e in let k : Some f ≡ Some w.0 = is ∙ w.1 in
+    ap (λ (z : Ahead). next_of p z) w.2 ∙ cc
+
+pub fault_is_kept : (p : Parser) (read : ahead_t) (a : Ahead) → IsAhead read p.session.fault a → read ≡ code.FAULT → None ≡ p.session.fault → ⊥
+fault_is_kept p read a h e is = let w = fault_ahead read p.session.fault a h e in let k : None ≡ Some w.0 = is ∙ w.1 in absurd (cc)
+
 -- only tokens were given, if nothing was read ahead
 pub scanned_so_far : (s : Scan) (kept : yaml_kept_parser_t) (read : ahead_t) → IsKeptAt s kept read → read ≡ code.NONE → Scanned s.limit s.setting s.input s.parser s.given false
 scanned_so_far s kept read at e = subst (λ (z : Ahead). Stands s.limit s.setting s.input s.parser s.given z) (none_ahead s kept read at e) at.stands

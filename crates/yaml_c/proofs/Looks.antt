@@ -16,10 +16,9 @@ use Rattle.yaml_scan.specs.declared.kept.yaml_kept_parser_t.{yaml_kept_parser_t}
 use Rattle.yaml_scan.specs.inside.Kept.{IsKept}
 use Rattle.yaml_scan.proofs.RunningCalls.CallAnswers.{scan_faulty}
 use Rattle.yaml_c.specs.Ahead.{Ahead, IsAhead}
-use Rattle.yaml_c.specs.Ahead.Ahead.{NONE, READ_FAULT, ALL_GIVEN}
-use Rattle.yaml_c.specs.Held.{IsKeptAt, Scan, Stands, comes}
+use Rattle.yaml_c.specs.Ahead.Ahead.{NONE, READ_FAULT}
+use Rattle.yaml_c.specs.Held.{IsKeptAt, Scan, comes}
 use Rattle.yaml_c.specs.Next.{next_of, shown_next}
-use Rattle.yaml_c.specs.Next.{Next}
 use Rattle.yaml_c.specs.Next.Next.{UNKNOWN, TOKEN, FAULT, OVER}
 use Rattle.yaml_c.specs.inside.Batch.{Looks}
 use Rattle.yaml_c.specs.declared.held.ahead_t.{ahead_t}

@@ -106,8 +106,9 @@ stops_text i v o m setting input a b old new e d left held stop h = record {
     At s x = (T : Text) → (IsShort s x (scanner_of T old) (fault_at stop new.state.fault) ⊎ IsEnded s x (scanner_of T old) (scanner_of T new.state) (fault_at stop new.state.fault)) × IsStopped s x (scanner_of T old) (scanner_of T new.state)
 
 -- WHAT IS KEPT
-pub kept_after : (i j : Inside) (p : Parser) (tokens : List yaml_token_t) (took : List yaml_token_t → Type 0) → parser_of i ≡ p → GoesOnTo i j tokens → took tokens → GivesMore p (parser_of j) took
-kept_after i j p tokens took e g w = record {
+pub kept_after : (i j : Inside) (p : Parser) (tokens : List yaml_token_t) (took : List yaml_token_t → Type 0) → parser_of i ≡ p → j.input.now ≡ i.input.now → GoesOnTo i j tokens → took tokens → GivesMore p (parser_of j) took
+kept_after i j p tokens took e same g w = record {
+  input = same ∙ ap (λ (z : Parser). z.input) e;
   tokens = tokens;
   given = w;
   on = subst (λ (z : Parser). GoesOnBy z tokens (parser_of j) j.session.over) e g.on;
@@ -143,7 +144,7 @@ module _ (i : Inside) (p : Parser) (seen : parser_of i ≡ p) (setting : yaml_en
   stops_left tokens took stop w s = record { setting = a; left = left; held = refl; text = text; tokens = tokens; given = w; stops = s }
 
   pub gives_kept : (took : List yaml_token_t → Type 0) (lacks : ℕ → ℕ → Type 0) (r : Result (Unit {0}) stop_t) → GivesAllOn i j took lacks r → GivesKept p i left_kept took lacks r
-  gives_kept took lacks (Ok x) w = (parser_of j, is_left (let g = w.2 in g.sound), kept_after i j p w.0 took seen w.2 w.1, w.3)
+  gives_kept took lacks (Ok x) w = (parser_of j, is_left (let g = w.2 in g.sound), kept_after i j p w.0 took seen refl w.2 w.1, w.3)
   gives_kept took lacks (Err stop) w = stops_left w.0 took stop w.1 w.2
 
   pub shows_kept : (r : Result (Unit {0}) stop_t) → ShowsNext i j r → ShowsKept p i left_kept r
@@ -180,6 +181,7 @@ over_is p k w = ap (λ (z : yaml_kept_parser_t). z.session.over) w.kept ∙ ap (
 -- NO TOKEN WENT TO THE SINK
 pub gives_none : (p : Parser) (took : List yaml_token_t → Type 0) → took [] → GivesMore p p took
 gives_none p took w = record {
+  input = refl;
   tokens = [];
   given = w;
   on = λ given h. subst (λ (o : Bool). Scanned p.limit p.setting p.input p (given ++ []) o) (sym h.over) (on_none p given h);
@@ -247,6 +249,7 @@ module _ (i : Inside) (p : Parser) (seen : parser_of i ≡ p) (k : yaml_kept_par
 
   for_this : (call : Call) → Calls decoded_input call (parser_of last) (FAULT (fault_of w)) ended → GivesToFault call (parser_of i) ended took (fault_of w)
   for_this call c = let P = parser_of i in let s = e.stops in record {
+    input = ap (λ (z : Inside). z.input.now) s.rest;
     tokens = e.tokens;
     given = e.given;
     last = parser_of last;

@@ -1,4 +1,4 @@
-use Rattle.std.proofs.Common.{rules, ◌<◌, ◌^◌, length, refl, sym, ap, ◌∙◌, subst, arith}
+use Rattle.std.proofs.Common.{rules, ◌<◌, ◌^◌, length, refl, sym, ◌∙◌, subst, arith}
 use Rattle.yaml_c.specs.inside.Batch.{GivesNext}
 use Rattle.yaml_c.specs.declared.held.ahead_t.{ahead_t}
 use Rattle.yaml_c.proofs.Batches.{gives_more, gives_none, gives_rest, gives_to_fault, none_ahead, scanned_so_far}

@@ -1,4 +1,4 @@
-use Rattle.std.proofs.Common.{sym, ap, ◌∙◌, subst}
+use Rattle.std.proofs.Common.{sym, ◌∙◌, subst}
 use Rattle.yaml_c.specs.inside.Batch.{Looks}
 use Rattle.yaml_c.specs.declared.held.ahead_t.{ahead_t}
 use Rattle.yaml_c.proofs.Batches.{none_ahead, scanned_so_far}

@@ -1,4 +1,4 @@
-use Rattle.std.proofs.Common.{rules, ◌<◌, ◌^◌, length, refl, sym, ap, ◌∙◌, arith, inl, inr}
+use Rattle.std.proofs.Common.{rules, ◌<◌, ◌^◌, length, refl, sym, ap, arith, inl, inr}
 use Rattle.yaml_c.specs.Ahead.{Ahead}
 use Rattle.yaml_c.specs.Answer.{rooms}
 use Rattle.yaml_c.specs.Next.{next_of}
