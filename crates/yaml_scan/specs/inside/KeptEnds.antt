@@ -53,7 +53,8 @@ pub record EndsKept (i : Inside) (k : yaml_kept_parser_t) (took : List yaml_toke
 
 -- The first step of the parser i was made, now or before, and its text is lent; or it could not be made.
 abbrev pub StartsKept : Inside → yaml_kept_parser_t → yaml_kept_parser_t → Result Text stop_t → Type 0
-StartsKept i old new result = MatchResult result (λ text. HasBegun i text new.state × KeepsOthers old new × IsLent text i.input.now new.text)
+StartsKept i old new result =
+    MatchResult result (λ text. HasBegun i text new.state × KeepsOthers old new × IsLent text i.input.now new.text)
     (λ stop. EndsKept i new (λ tokens. tokens ≡ []) stop)
 
 -- A sink took the next tokens of the parser p, and there is a reason why no more go there; or there is a fault.
