@@ -1,6 +1,6 @@
 -- The calls of a kept parser: how they begin, and what they leave.
 use Rattle.std.proofs.Common.{◌≡◌, ℕ, ◌≤◌, ◌<◌, Bool, true, false, List, [], ◌∷◌, ◌++◌, length, drop, get_or, Option, Some, None, Err, refl, ap, sym, ◌∙◌, subst, arith}
-use Rattle.std.specs.Prelude.{◌⊎◌, MatchResult, Result, Ok}
+use Rattle.std.specs.Prelude.{◌⊎◌, Result, Ok}
 use Rattle.std.proofs.lemmas.Bool.{false≢true}
 use Rattle.yaml_text.specs.Fault.{Fault, fault_of}
 use Rattle.yaml_text.specs.Decode.{front}
@@ -30,7 +30,7 @@ use Rattle.yaml_scan.specs.Groups.{offline}
 use Rattle.yaml_scan.specs.inside.Queue.{pending}
 use Rattle.yaml_scan.specs.inside.Scanning.{history}
 use Rattle.yaml_scan.specs.inside.Kept.{IsKept, kept_of}
-use Rattle.yaml_scan.specs.inside.KeptEnds.{EndsKept, GivesKept, KeepsOthers, ShowsKept, StartsKept, ended_by}
+use Rattle.yaml_scan.specs.inside.KeptEnds.{EndsKept, GivesKept, ShowsKept, ended_by}
 use Rattle.yaml_scan.specs.inside.KeptParts.{GivesAllOn, GoesOnTo, HasBegun, ShowsNext, StopsAfter, with_parts}
 use Rattle.yaml_scan.specs.inside.Ready.{Begins, IsEnded, IsNew, IsShort, IsStopped, Sound, fault_in, parser_of, scanner_in}
 use Rattle.yaml_scan.specs.inside.Scanner.{Scanner, scanner_of}

@@ -1,4 +1,4 @@
-use Rattle.std.proofs.Common.{◌≡◌, ◌<◌, List, ℕ, ap, sym, ◌∙◌, refl, subst, arith}
+use Rattle.std.proofs.Common.{◌<◌, List, ℕ, ap, sym, ◌∙◌, refl, subst, arith}
 use Rattle.std.proofs.Common.{inl}
 use Rattle.std.proofs.lemmas.Result.{err_from_is_err_and}
 use Rattle.yaml_text.specs.Kept.{IsKeptOf}
