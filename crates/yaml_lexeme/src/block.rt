@@ -316,12 +316,15 @@ fn push_feeds(out: &mut Vec<u8>, n: usize) -> Result<(), AllocError>
     Ok(())
 }
 
-/// Appends the breaks of empty lines.
+/// Appends the breaks of empty lines. Room for all of them is requested at once.
 #[inline(always)]
 fn push_empties(out: &mut Vec<u8>, empties: &empties_t) -> Result<(), AllocError>
     ensures { OnOk result (out.new.items ≡ out.old.items ++ breaks_in empties.now) }
 {
-    push_feeds(out, empties.feeds)?;
+    if empties.feeds > 0 {
+        out.reserve(empties.feeds.saturating_add(empties.others.len()))?;
+        push_feeds(out, empties.feeds)?;
+    }
     if !empties.others.is_empty() {
         out.extend_from_slice(&empties.others)?;
     }
