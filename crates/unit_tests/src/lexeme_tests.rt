@@ -871,13 +871,43 @@ fn ends_of_block_scalars(rt: HostRuntime) -> Result<(), Fail> {
     let rows: [(&str, u64, Option<u64>, &str); 9] = [
         ("|+\n a", 0, None, "literal 61 0:0:0 5:1:2 5:1:2 false"),
         ("|+\n a\r", 0, None, "literal 610a 0:0:0 6:2:0 6:2:0 false"),
-        ("|+\n a\r\n", 0, None, "literal 610a 0:0:0 7:2:0 7:2:0 false"),
-        ("|+\n a\u{85}", 0, None, "literal 610a 0:0:0 7:2:0 7:2:0 false"),
-        ("|+\n a\u{2028}", 0, None, "literal 61e280a8 0:0:0 8:2:0 8:2:0 false"),
-        ("|+\n a\r\n\r\n", 0, None, "literal 610a0a 0:0:0 9:3:0 9:3:0 false"),
-        ("|+\n a\n\u{2028}\n", 0, None, "literal 610ae280a80a 0:0:0 10:4:0 10:4:0 false"),
+        (
+            "|+\n a\r\n",
+            0,
+            None,
+            "literal 610a 0:0:0 7:2:0 7:2:0 false",
+        ),
+        (
+            "|+\n a\u{85}",
+            0,
+            None,
+            "literal 610a 0:0:0 7:2:0 7:2:0 false",
+        ),
+        (
+            "|+\n a\u{2028}",
+            0,
+            None,
+            "literal 61e280a8 0:0:0 8:2:0 8:2:0 false",
+        ),
+        (
+            "|+\n a\r\n\r\n",
+            0,
+            None,
+            "literal 610a0a 0:0:0 9:3:0 9:3:0 false",
+        ),
+        (
+            "|+\n a\n\u{2028}\n",
+            0,
+            None,
+            "literal 610ae280a80a 0:0:0 10:4:0 10:4:0 false",
+        ),
         ("|-\n a\n\n", 0, None, "literal 61 0:0:0 7:3:0 7:3:0 false"),
-        (">\n a\r\n\n", 0, None, "folded 610a 0:0:0 7:3:0 7:3:0 false"),
+        (
+            ">\n a\r\n\n",
+            0,
+            None,
+            "folded 610a 0:0:0 7:3:0 7:3:0 false",
+        ),
     ];
     expect_rows(&rt, rt.alloc(), &rows)
 }
