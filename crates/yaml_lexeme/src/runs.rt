@@ -342,34 +342,49 @@ fn no_spaces(v: u8x16) -> u64
     (lanes_are_not!(v, b' ')).to_bitmask()
 }
 
-/// The lanes at which a run of the class may end.
+/// The lanes at which a run of a narrow class ends.
 #[inline(always)]
-fn lanes_that_stop(class: class_t, v: u8x16) -> u64
-    requires { spec.is_wide class ≡ true }
+fn narrow_stops(class: class_t, v: u8x16) -> u64
+    requires { spec.is_narrow class ≡ true }
     ensures { result ≡ mask_l (map (spec.is_stop class) v) }
 {
     match class {
         class_t::ALPHA => no_letters(v),
-        class_t::URI(_) => no_uri(v),
-        _ => stops(class, v),
+        _ => no_uri(v),
     }
 }
 
-/// How many of the first bytes need no closer look.
+/// How many of the first bytes a run of a narrow class has.
 #[inline(always)]
-fn wide_run(class: class_t, text: &[u8]) -> usize
-    requires { spec.is_wide class ≡ true }
+fn narrow_run(class: class_t, text: &[u8]) -> usize
+    requires { spec.is_narrow class ≡ true }
     ensures { result ≡ prefix_len (spec.is_quiet class) text.now }
 {
     let mut i: usize = 0;
     'wide: while text.len() - i >= 16 {
-        let found = lanes_that_stop(class, u8x16::from_slice(&text[i..]));
+        let found = narrow_stops(class, u8x16::from_slice(&text[i..]));
         if found != 0 {
             return i + found.trailing_zeros() as usize;
         }
         i += 16;
     }
     slow_end(class, text, i)
+}
+
+/// How many of a line's first bytes need no closer look.
+#[inline(always)]
+fn line_run(text: &[u8]) -> usize
+    ensures { result ≡ prefix_len (spec.is_quiet IN_LINE) text.now }
+{
+    let mut i: usize = 0;
+    'wide: while text.len() - i >= 16 {
+        let found = stops(class_t::IN_LINE, u8x16::from_slice(&text[i..]));
+        if found != 0 {
+            return i + found.trailing_zeros() as usize;
+        }
+        i += 16;
+    }
+    slow_end(class_t::IN_LINE, text, i)
 }
 
 /// The same as `line_len`, from a place on up to which all is found out.
@@ -382,7 +397,7 @@ fn past_line_leads(text: &[u8], from: usize) -> usize
 {
     let mut i = from;
     'leads: while is_false_lead(text, i) {
-        i += 1 + wide_run(class_t::IN_LINE, &text[i + 1..]);
+        i += 1 + line_run(&text[i + 1..]);
     }
     i
 }
@@ -394,7 +409,7 @@ pub(crate) fn line_len(text: &[u8]) -> usize
     ensures clear { spec.Clear IN_LINE text.now result }
     ensures bound { result ≤ length text.now }
 {
-    let n = wide_run(class_t::IN_LINE, text);
+    let n = line_run(text);
     if n < text.len() && text[n] >= 0x80 {
         return past_line_leads(text, n);
     }
@@ -439,7 +454,7 @@ fn narrow_len(class: class_t, text: &[u8]) -> usize
 {
     match class {
         class_t::SPACE => spaces_len(text),
-        class_t::ALPHA | class_t::URI(false) => wide_run(class, text),
+        class_t::ALPHA | class_t::URI(false) => narrow_run(class, text),
         _ => end_from(class, text, 0),
     }
 }

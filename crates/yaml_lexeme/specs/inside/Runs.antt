@@ -96,11 +96,11 @@ trim (c ∷ cs) = if list_all is_blank (c ∷ cs) then [] else c ∷ trim cs
 abbrev pub Stands : (ℕ → Bool) → Place → Place → Type 0
 Stands test p q = (n : ℕ) × ((n ≤ run_len test p) × (q ≡ skip (length (trim (take n p.rest))) p))
 
--- runs of the class are taken sixteen bytes at a time
-abbrev pub is_wide : class_t → Bool
-is_wide ALPHA = true
-is_wide (URI listed) = not listed
-is_wide class = is_line class
+-- runs of the class are taken sixteen bytes at a time, though it is not that of a line
+abbrev pub is_narrow : class_t → Bool
+is_narrow ALPHA = true
+is_narrow (URI listed) = not listed
+is_narrow other = false
 
 -- characters that belong to no gap, and are no break
 abbrev pub is_solid : ℕ → Bool

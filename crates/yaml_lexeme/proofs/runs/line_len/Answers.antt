@@ -6,10 +6,10 @@ use Rattle.yaml_lexeme.proofs.ManyBytes.ClearRuns.{quiet_is_clear}
 use Rattle.yaml_lexeme.proofs.runs.line_len.Goals as goal
 
 pub past_line_leads-requires-clause-clear : goal.past_line_leads-requires-clause-clear
-past_line_leads-requires-clause-clear c = quiet_is_clear IN_LINE c.args.text.now c.wide_run-n.result refl c.wide_run-n.ensures
+past_line_leads-requires-clause-clear c = quiet_is_clear IN_LINE c.args.text.now c.line_run-n.result refl c.line_run-n.ensures
 
 pub returns-clause-clear : goal.returns-clause-clear
-returns-clause-clear c = quiet_is_clear IN_LINE c.args.text.now c.wide_run-n.result refl c.wide_run-n.ensures
+returns-clause-clear c = quiet_is_clear IN_LINE c.args.text.now c.line_run-n.result refl c.line_run-n.ensures
 
 pub returns-clause-bound : goal.returns-clause-bound
-returns-clause-bound c = omega (arith, c.wide_run-n.ensures, prefix_len-le-length (is_quiet IN_LINE) c.args.text.now)
+returns-clause-bound c = omega (arith, c.line_run-n.ensures, prefix_len-le-length (is_quiet IN_LINE) c.args.text.now)

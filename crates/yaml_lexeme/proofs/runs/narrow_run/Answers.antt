@@ -2,15 +2,15 @@ use Rattle.std.proofs.Common.{sym, ap, ◌∙◌, refl, arith}
 use lib.Count.{count_trailing_zeros}
 use Rattle.yaml_lexeme.specs.inside.Runs.{is_stop, is_quiet}
 use Rattle.yaml_text.proofs.ManyBytes.VectorRuns.{run_through, run_stops}
-use Rattle.yaml_lexeme.proofs.runs.wide_run.Goals as goal
+use Rattle.yaml_lexeme.proofs.runs.narrow_run.Goals as goal
 
 pub returns-then-found-ne0 : goal.returns-then-found-ne0
 returns-then-found-ne0 c =
-    let found = c.lanes_that_stop-found in
+    let found = c.narrow_stops-found in
     let run = run_stops (is_stop c.args.class) (is_quiet c.args.class) (λ x. refl) c.args.text.now c.wide.i 16 (omega arith) (omega arith) (omega (arith, found.ensures)) ∙ ap (count_trailing_zeros 64) (sym found.ensures) in
     omega (arith, run, c.wide.invariant.0)
 
 pub wide-preserved : goal.wide-preserved
 wide-preserved c =
-    let run = run_through (is_stop c.args.class) (is_quiet c.args.class) (λ x. refl) c.args.text.now c.wide.i 16 (omega arith) (omega (arith, c.lanes_that_stop-found.ensures)) in
+    let run = run_through (is_stop c.args.class) (is_quiet c.args.class) (λ x. refl) c.args.text.now c.wide.i 16 (omega arith) (omega (arith, c.narrow_stops-found.ensures)) in
     (omega (arith, run, c.wide.invariant.0), omega arith)
